@@ -29,7 +29,7 @@ build:
 	cd crates/aprsbook && rt run --jobs 1 -- check ../../examples/sample.log > /dev/null
 	cd crates/aprsbook_history && rt run --jobs 1 -- ../../examples/sample.log > /dev/null
 
-LIBRARIES := $(shell sed -n '/_tests:/d; /^aprs_arena:/d; s/^\(aprs_[a-z0-9]*\):.*/\1/p' crates.txt)
+LIBRARIES := $(shell sed -n '/_tests:/d; /^aprs_arena:/d; /^aprs_example:/d; s/^\(aprs_[a-z0-9]*\):.*/\1/p' crates.txt)
 $(foreach it,$(LIBRARIES),$(eval $(it): $(filter $(LIBRARIES),$(shell sed -n 's/^$(it)://p' crates.txt))))
 .PHONY: $(LIBRARIES)
 libraries: $(LIBRARIES)
@@ -72,7 +72,7 @@ words:
 
 # the map in docs/architecture.md, drawn anew
 map:
-	build/map.sh > docs/architecture.new
+	build/map.py > docs/architecture.new
 	mv docs/architecture.new docs/architecture.md
 
 # the pages of docs/reading and the sums in docs/proved.md, written anew of the clauses and definitions
@@ -80,10 +80,10 @@ reading:
 	build/reading.py
 
 # what is tried with the program: the README's example, the old club's book, gaps, outputs that take
-# nothing, what happens to logs and books, the units, each awk, the packages, and the same program on
-# other machines; and with both programs: what they complain of, and the history
-TRIED = readme old_book gaps full_output logs books units awks version packages everywhere
-TRIED_BOTH = complaints history
+# nothing, what happens to logs and books, the units, and each awk; and with both programs: what they
+# complain of, the history, the version, the packages, and the same programs on other machines
+TRIED = readme old_book gaps full_output logs books units awks
+TRIED_BOTH = complaints history version packages everywhere
 tried = $(foreach it,$(TRIED),tests/$(it).sh $(PROGRAM) &&) \
     $(foreach it,$(TRIED_BOTH),tests/$(it).sh $(PROGRAM) $(HISTORY) &&)
 

@@ -1,11 +1,16 @@
 #!/usr/bin/env python3
 """Merges of logs, and of the book files of their days, by one process and by merge-tree with one to
-four processors: seconds, beside the one process, and the greatest memory of a process.
+four processors, and every-place of the logs: seconds, beside the one process, and the greatest memory
+of a process.
 
-usage: engines.py PROGRAM LINES..    needs taskset, and what merge-tree needs
+usage: engines.py PROGRAM HISTORY FOLDER LINES..    needs taskset, and what merge-tree needs. The inputs
+                                                    of so many lines stay in FOLDER, and aren't made
+                                                    again
+       engines.py --inputs PROGRAM FOLDER LINES..   makes the inputs alone
 """
 import os
 import pathlib
+import shutil
 import subprocess
 import sys
 import tempfile
@@ -19,7 +24,10 @@ def run(*command, to=None):
     """Seconds, and MiB of the greatest process that it starts."""
     begin = time.monotonic()
     with open(to or os.devnull, "wb") as out:
-        _, status, used = os.wait4(subprocess.Popen(list(map(str, command)), stdout=out).pid, 0)
+        # held, since what nobody holds is waited for by itself
+        started = subprocess.Popen(list(map(str, command)), stdout=out)
+        _, status, used = os.wait4(started.pid, 0)
+        started.returncode = status
     if status:
         sys.exit(f"engines.py: {command[:4]} failed")
     return time.monotonic() - begin, used.ru_maxrss / 1024
@@ -37,13 +45,19 @@ def days_of(folder, lines):
         log.unlink()
 
 
-def measure(program, folder, lines):
-    (folder / "bin").mkdir()
-    (folder / "bin/aprsbook").symlink_to(program.resolve())
-    os.environ["PATH"] = f"{folder}/bin:{HERE.parent}/examples/recipes:" + os.environ["PATH"]
-    (folder / "books").mkdir()
-    for day in (folder / "logs").iterdir():
-        run("aprsbook", "merge", *sorted(day.iterdir()), to=folder / "books" / (day.name + ".book"))
+def make_inputs(program, folder, lines):
+    if folder.is_dir():
+        return
+    new = folder.with_name(folder.name + ".new")
+    shutil.rmtree(new, ignore_errors=True)
+    (new / "books").mkdir(parents=True)
+    days_of(new, lines)
+    for day in (new / "logs").iterdir():
+        run(program, "merge", *sorted(day.iterdir()), to=new / "books" / (day.name + ".book"))
+    new.rename(folder)
+
+
+def measure(folder, lines):
     for kind in "logs", "books":
         inputs = sorted(path for path in (folder / kind).rglob("*") if path.is_file())
         one, memory = run("aprsbook", "merge", *inputs, to=folder / "one")
@@ -54,9 +68,22 @@ def measure(program, folder, lines):
             subprocess.run(["cmp", folder / "one", folder / "tree"], check=True)
             print(f"    {n} processors: {took:.1f} s ({one / took:.2f} times as fast), {most:.0f} MiB",
                   flush=True)
+        if kind == "logs":
+            took, most = run("every-place", *inputs)
+            print(f"    every-place: {took:.1f} s ({took / one:.2f} of the merge), {most:.0f} MiB", flush=True)
 
 
-for text in sys.argv[2:]:
-    with tempfile.TemporaryDirectory(dir="/var/tmp") as name:
-        days_of(pathlib.Path(name), int(text))
-        measure(pathlib.Path(sys.argv[1]), pathlib.Path(name), int(text))
+def main():
+    made_alone = sys.argv[1] == "--inputs"
+    *programs, folder = map(pathlib.Path, sys.argv[2:4] if made_alone else sys.argv[1:4])
+    with tempfile.TemporaryDirectory() as name:
+        for path, program in zip(programs, ("aprsbook", "aprsbook-history")):
+            pathlib.Path(name, program).symlink_to(path.resolve())
+        os.environ["PATH"] = f"{name}:{HERE.parent}/examples/recipes:" + os.environ["PATH"]
+        for text in sys.argv[4:]:
+            make_inputs(programs[0], folder / text, int(text))
+            if not made_alone:
+                measure(folder / text, int(text))
+
+
+main()

@@ -1,7 +1,8 @@
 #!/usr/bin/env bash
-# Measures a call of the library that no command makes: `Book::merge` of two books in memory, as a ratio to
-# what it takes to make these of logs. Proves the program that makes the calls over the libraries of
-# `make build`, in out/ of the repository.
+# Measures calls of the library that no command makes: `Book::merge` of two books in memory, as a ratio to
+# what it takes to make these of logs; and `Book::take`, in the orders that cost most, as a ratio to as many
+# transmissions of one key, the earliest first. Proves the program that makes the calls over the libraries
+# of `make build`, in out/ of the repository.
 # usage: bench/library.sh [ROWS]...    two books of 20,000 rows where none are asked for
 # environment: RUNS                    of how many runs the best counts (5)
 set -euo pipefail
@@ -19,7 +20,7 @@ build_caller() {
     rm -rf "$view"
     mkdir -p "$view/crates/bench_library/src"
     cp "$here/library.main" "$view/crates/bench_library/src/main.rt"
-    grep '^aprs_[a-z_]*:' "$root/crates.txt" | grep -v '_tests:' > "$view/crates.txt"
+    grep '^aprs_[a-z0-9_]*:' "$root/crates.txt" | grep -v '_tests:' > "$view/crates.txt"
     while IFS=: read -r crate _; do
         mkdir -p "$view/crates/$crate/out"
         for part in src specs proofs out/rlib; do
@@ -28,7 +29,7 @@ build_caller() {
             fi
         done
     done < "$view/crates.txt"
-    echo 'bench_library: aprs_book aprs_log aprs_io' >> "$view/crates.txt"
+    echo 'bench_library: aprs_ax25 aprs_book aprs_log aprs_io' >> "$view/crates.txt"
     (cd "$view/crates/bench_library" && rt run --jobs 1 -- 0 /dev/null /dev/null) > "$work/proof" 2>&1 || {
         cat "$work/proof" >&2
         exit 1
@@ -53,6 +54,22 @@ measure_call() {
     memory_row 'Book::merge of two books / the two: peak memory' "$1" 1.85 merge_once merge_none
 }
 
+fill() { "${@:3}" ./caller "$1" "$2"; }
+take_rows() { fill rows 200000 "$@"; }
+take_rows_back() { fill rows-back 200000 "$@"; }
+take_rows_mixed() { fill rows-mixed 200000 "$@"; }
+take_keys_back() { fill keys-back 200000 "$@"; }
+take_receivers() { fill receivers 80000 "$@"; }
+
+# `Book::take` in the orders that cost most
+measure_takes() {
+    take_turns take_rows take_rows_back take_rows_mixed take_keys_back take_receivers
+    time_row 'Book::take: latest first / earliest first' 200000 1.5 take_rows_back take_rows
+    time_row 'the same in no order' 200000 12 take_rows_mixed take_rows
+    time_row 'keys of one beginning, the last first' 200000 1.5 take_keys_back take_rows
+    time_row 'receivers of one transmission, ascending' 80000 1 take_receivers take_rows
+}
+
 build_caller
 cd "$work"
 mkdir plain
@@ -61,5 +78,6 @@ show_load 'before'
 echo
 ratio_head
 for rows; do measure_call "$rows"; done
+measure_takes
 echo
 show_load 'after'

@@ -1,47 +1,20 @@
 """The statement of the crates: their public clauses, and the definitions that these cite.
 
-Reads crates/*/specs/*.antt, crates/*/src/*.rt and crates.txt as text and proves nothing; the tools
-of Rattle are not asked. `Statement()` holds it all. Lines of a definition are counted without
-comments, imports and operators' precedences.
+Reads crates/*/specs/*.antt, crates/*/src/*.rt and crates.txt by rattle_text.py. `Statement()` holds
+it all. Lines of a definition are counted without comments, imports and operators' precedences.
 """
-import collections
 import glob
 import re
 from typing import NamedTuple
 
-# where a word of specs/ stands: its crate, its module, and its name; a module itself has no name
-Key = collections.namedtuple("Key", "crate module name")
+from rattle_text import (
+    START, Key, blocks, clauses_after, closing, dedented, doc_before, imports, masked, module_of, read
+)
 
 WORD = re.compile(r"[A-Za-z_◌][\w'\-◌]*")
 SYMBOL = re.compile(r"[^\w\s(){}\[\].,;'\"]+|[A-Za-z_]\w*")
-IMPORT = r"\s+Rattle\.(\w+)\.(?:specs\.)?(\w+(?:\.\w+)*)(?:\.\{([^}]*)\}|\s+as\s+(\w+))?"
-START = re.compile(
-    r"(?: *(?:abbrev|unfoldable|record|data|inductive) pub| *pub (?:record|data|inductive)"
-    r"|abbrev|unfoldable|record|data)\s+([^\s:({]+)"
-)
 # of the kit's trait Model a caller sees what the value is; how it is kept, and laws, he doesn't
 UNSEEN = ("view", "invariant", "inverse", "laws", "total", "matches_partial_cmp", "matches_eq")
-
-
-class Definition(NamedTuple):
-    """One of specs/: the comment before it, and its lines, those of comments in it too."""
-
-    key: Key
-    sentence: list
-    text: list
-
-    @property
-    def size(self):
-        """How many lines it has to read."""
-        return sum(not re.match(r"\s*(--|infix)", line) for line in self.text)
-
-
-class Module(NamedTuple):
-    """A file of specs/: what it says of itself, what can be named in it, what it gives on."""
-
-    about: str
-    scope: dict
-    names: list
 
 
 class Item(NamedTuple):
@@ -67,98 +40,7 @@ class Call(NamedTuple):
     scope: dict
 
 
-# ---- texts
-
-
-def read(path):
-    """The text of a file."""
-    with open(path, encoding="utf8") as file:
-        return file.read()
-
-
-def imports(text, keyword):
-    """What can be named through the imports of a file: the name in it, and where it stands."""
-    found = {}
-    for crate, module, listed, alias in re.findall(keyword + IMPORT, text):
-        for part in listed.split(","):
-            there, _, here = part.strip().partition(" as ")
-            if there:
-                found[here or there] = Key(crate, module, there)
-        if not listed:
-            found[alias or module.split(".")[-1]] = Key(crate, module, "")
-    return found
-
-
-def masked(text):
-    """The text of code with blanks in place of comments, strings and characters."""
-    pattern = r"//[^\n]*|\"(?:\\[\s\S]|[^\"\\])*\"|b?'(?:\\.|[^\\'\n])'"
-    return re.sub(pattern, lambda m: re.sub(r"[^\n]", " ", m.group()), text)
-
-
-def closing(text, at):
-    """Where the bracket that opens at this place is closed."""
-    depth = 0
-    for i in range(at, len(text)):
-        depth += (text[i] in "([{") - (text[i] in ")]}")
-        if depth == 0:
-            return i
-    raise ValueError("a bracket stays open")
-
-
-def dedented(text):
-    """The lines of a text without what all of them begin with, as their first one does."""
-    lines = text.rstrip().split("\n")
-    margin = len(lines[0]) - len(lines[0].lstrip())
-    return [line[margin:] if not line[:margin].strip() else line for line in lines]
-
-
-def doc_before(text, at):
-    """The doc comment of the item that begins at this place, and where its attributes begin."""
-    doc, lines = [], text[:at].split("\n")[:-1]
-    while lines and re.match(r"\s*(///|#\[)", lines[-1]):
-        line = lines.pop().strip()
-        if line.startswith("///"):
-            doc.insert(0, line[3:].strip())
-    return doc
-
-
-# ---- definitions
-
-
-def module_of(path):
-    """The module of a file of specs/, and its definitions."""
-    _, crate, _, file = path.split("/")
-    name, text = file[: -len(".antt")], read(path)
-    lines = text.split("\n")
-    head = [line[2:].strip() for line in lines[: next_code(lines)] if line.startswith("--")]
-    found, comment, precedence = [], [], []
-    for line in lines[next_code(lines) :]:
-        start = START.match(line)
-        if start:
-            key = Key(crate, name, start.group(1))
-            sentence = [c.strip()[2:].strip() for c in comment]
-            found.append(Definition(key, sentence, precedence + [line]))
-        if line.lstrip().startswith("--"):
-            comment.append(line)
-        elif re.match(r"infix", line):
-            precedence = [line]
-        else:
-            if found and not start and re.match(r"\s*\S", line) and not is_outside(line):
-                found[-1].text.extend(comment + [line])
-            comment, precedence = [], []
-    scope = imports(text, r"use")
-    scope.update({d.key.name: d.key for d in found})
-    return Module(" ".join(head), scope, [d.key for d in found]), found
-
-
-def next_code(lines):
-    """The first line that is no comment."""
-    return next((i for i, line in enumerate(lines) if not line.startswith("--")), len(lines))
-
-
-def is_outside(line):
-    """Whether the line belongs to no definition."""
-    return re.match(r"(pub )?(use|mod|module) ", line)
+# ---- what a text cites
 
 
 def statements(text):
@@ -171,9 +53,6 @@ def statements(text):
             found.append([])
         found[-1].append(line)
     return ["\n".join(part) for part in found]
-
-
-# ---- what a text cites
 
 
 def bound_in(text):
@@ -224,33 +103,6 @@ def given_on(path):
     return modules, used
 
 
-def blocks(code):
-    """The blocks `impl` and `trait` of a file: where they stand, of what, and of which trait."""
-    found = []
-    for start in re.finditer(r"^(?:pub )?(impl|trait)\b", code, re.M):
-        brace = code.index("{", start.end())
-        head = re.sub(r"^\s*<.*?>(?= \w)", "", code[start.end() : brace].replace("->", "")).strip()
-        of_trait, _, rest = head.rpartition(" for ")
-        owner = re.match(r"\W*(?:'\w+ )?([\w]+)", rest).group(1)
-        found.append((start.start(), closing(code, brace), owner, start.group(1), of_trait))
-    return found
-
-
-def clauses_after(text, code, at):
-    """The clauses of the function whose name ends at this place, and where they end."""
-    found, i = [], at
-    while i < len(code) and code[i] not in ";{":
-        word = re.compile(r"(requires|ensures)\b\*? *(\w*) *").match(code, i)
-        if word and not code[i - 1].isalnum():
-            end = closing(code, word.end()) + 1
-            named = word.group(1) == "ensures" and word.group(2)
-            found.append((named or word.group(1), text[word.end() : end]))
-            i = end
-        else:
-            i = closing(code, i) + 1 if code[i] in "([" else i + 1
-    return found, i
-
-
 def functions_of(path, is_public):
     """The public functions of a file, with their clauses."""
     text, crate = read(path), path.split("/")[1]
@@ -262,7 +114,8 @@ def functions_of(path, is_public):
         seen = head.group(1) == "pub " or kind == "trait" or trait
         if not seen or not is_public(path, owner, head.group(2)):
             continue
-        clauses, end = clauses_after(text, code, head.end())
+        given, end = clauses_after(text, code, head.end())
+        clauses = [(word == "ensures" and named or word, said) for word, named, said in given]
         name = (owner + "::" if owner else "") + head.group(2)
         doc, whole = doc_before(text, head.start()), dedented(text[head.start() : end])
         found.append(Call(crate, name, path, doc, whole, clauses, scope))

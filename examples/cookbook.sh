@@ -37,7 +37,7 @@ mkdir -p "$work/logs/2024-06-21" "$work/output" "$scratch/bin" "$scratch/blocks"
 work=$(realpath "$work")
 ln -s "$program" "$scratch/bin/aprsbook"
 # the program for histories, beside the other or in its own crate
-for it in "${program%/*}/aprsbook-history" "$here/../crates/aprsbook_history/out/aprsbook_history"; do
+for it in "${program%/*}/aprsbook-history" "${program%/*/out/*}/aprsbook_history/out/aprsbook_history"; do
     if [ -x "$it" ]; then ln -sf "$(realpath "$it")" "$scratch/bin/aprsbook-history"; fi
 done
 export PATH="$scratch/bin:$here/recipes:$PATH"

@@ -1,7 +1,7 @@
 #!/bin/sh
-# Tries what happens to books: put-whole, gap-of, fold-in, days.mk, the crontab line, the units,
-# merge-driver, book-to-sqlite and merge-tree. Needs a POSIX system and mktemp, and says what it leaves out
-# because a tool isn't there.
+# Tries what happens to books: put-whole, gap-of, fold-in, days.mk, the crontab line, merge-driver,
+# book-to-sqlite, merge-tree, and empty ones. Needs a POSIX system and mktemp, and says what it leaves
+# out because a tool isn't there.
 # usage: tests/books.sh PROGRAM
 # shellcheck source=program.sh
 . "$(dirname "$0")/program.sh"
@@ -17,7 +17,13 @@ head -c 2000 north.30 > cut.30
 same() { cmp "$1" "$2" || fail "$1 isn't $2"; }
 # says WORDS: the last run said so on standard error
 says() { grep -q -- "$1" said || fail "it doesn't say '$1', but: $(cat said)"; }
-
+# refused WORDS COMMAND..: it ends with a fault, and says so
+refused() {
+    words=$1
+    shift
+    if "$@" > out 2> said; then fail "$* isn't refused"; fi
+    says "$words"
+}
 # left NAME: nothing but NAME is there that begins so
 left() { [ "$(echo "$1"*)" = "$1" ] || fail "left behind: $(echo "$1"*)"; }
 # as_nobody COMMAND..: of one who may not read all that root reads
@@ -47,9 +53,8 @@ for wrong in false 'yes' 'kill 0'; do
     same whole/new was
     left whole/new
 done
-if put-whole whole echo new 2> said || put-whole whole/no/file echo new 2> said; then
-    fail 'put-whole writes to a folder'
-fi
+refused "'whole' is no file" put-whole whole echo new
+refused "'whole/no/file' is no file" put-whole whole/no/file echo new
 # what a killed run has left goes after a day, and what another run writes stays
 : > whole/new.new.AAAAAA
 touch -d '2 days ago' whole/new.new.AAAAAA
@@ -67,16 +72,17 @@ gaps() { for it; do gap-of "$it"; done | tr '\n' ' '; }
 : > empty
 told=$(gaps hill.60 hill.30 hill.log empty "$repository/examples/old-book.txt")
 [ "$told" = '60 30 30 30 30 ' ] || fail "gap-of tells: $told"
-if gap-of nowhere 2> said; then fail 'gap-of tells of nothing'; fi
+refused nowhere gap-of nowhere
 if [ -c /dev/full ] && gap-of hill.60 2> said > /dev/full; then fail 'gap-of writes to a full disk'; fi
 
 # ---- fold-in ----
 
-# club: a folder with a book of its own and nothing else
+# club BOOK..: a folder with a book of its own, into which these came
 club() {
     rm -rf club
     mkdir -p club/in
     cp hill.60 club/own.book
+    for it; do cp "$it" "club/in/$it.book"; done
 }
 club
 fold-in club 2> said || fail "fold-in: $(cat said)"
@@ -91,19 +97,13 @@ same club/own.book all.60
 
 # a bad book, one of another gap and one that isn't a file are passed over, and the others are
 # folded
-club
-cp coast.60 club/in/coast.book
-cp cut.30 club/in/cut.book
-cp north.30 club/in/gap.book
+club coast.60 cut.30 north.30 north.60
 mkdir club/in/folder.book
 mkfifo club/in/pipe.book
 ln -s nowhere club/in/link.book
 : > club/in/empty.book
 cp coast.60 club/in/closed.book
-chmod 000 club/in/closed.book
-cp north.60 club/in/north.book
 mv club/own.book club/kept
-chmod 640 club/kept
 ln -s kept club/own.book
 chmod -R a+rwX . && chmod 000 club/in/closed.book && chmod 640 club/kept
 chown -R 65534 club 2> said || true
@@ -113,30 +113,27 @@ same club/own.book all.60
 [ "$(stat -c %a club/kept)" = 640 ] || fail 'fold-in changes the mode of a book'
 for it in 'empty.book is passed over: empty' 'link.book is passed over: no file' \
     'closed.book is passed over: no leave to read it'; do says "^fold-in: in/$it\$"; done
-says '^fold-in: in/cut.book is passed over: line [0-9]*: Ending$'
-says '^fold-in: in/gap.book is passed over: other gap$'
+says '^fold-in: in/cut.30.book is passed over: line [0-9]*: Ending$'
+says '^fold-in: in/north.30.book is passed over: other gap$'
 [ "$(wc -l < said)" = 7 ] || fail "fold-in says: $(cat said)"
 # a full disk (a limit stands for it) isn't a book's fault
-club
-cp coast.60 club/in/coast.book
+club coast.60
 if (trap '' XFSZ; ulimit -f 1; fold-in club) 2> said; then fail 'fold-in passes over a full disk'; fi
 same club/own.book hill.60
 # its own book is empty, faulty, or isn't there: nothing changes
 : > club/own.book
 cp north.60 club/in/north.book
-if fold-in club 2> said; then fail 'fold-in takes an empty file for its own book'; fi
+refused 'own.book is empty' fold-in club
 [ ! -s club/own.book ] || fail 'fold-in makes an empty book of what others sent'
 cp cut.30 club/own.book
 cp north.30 club/in/north.book
-if fold-in club 2> said; then fail 'fold-in merges into a book that was cut short'; fi
-says 'own.book: line [0-9]*: Ending'
+refused 'own.book: line [0-9]*: Ending' fold-in club
 same club/own.book cut.30
-if fold-in nowhere 2> said; then fail 'fold-in folds into nothing'; fi
+refused usage fold-in nowhere
 left club/own.book
 
 # two runs at once, the first of which merges slowly
-club
-cp coast.60 club/in/coast.book
+club coast.60
 mkdir slow
 printf '#!/bin/sh\nsleep 0.3\nexec "%s" "$@"\n' "$program" > slow/aprsbook
 chmod +x slow/aprsbook
@@ -160,6 +157,12 @@ days() {
 # good, bad: how the last run ended
 good() { [ "$status $(cat said)" = '0 ' ] || fail "make ended with $status: $(cat said)"; }
 bad() { [ $status = 2 ] || fail "make ended with $status: $(cat said)"; }
+# all [GAP=SECONDS]: a run that ends well, and the book is that of all logs under the gap
+all() {
+    days "$@" && good
+    gap=${1-GAP=30}
+    same net/net.book "all.${gap#GAP=}"
+}
 if has days.mk make timeout; then
     mkfifo endless
     exec 3<> endless
@@ -190,23 +193,19 @@ if has days.mk make timeout; then
     for book in net.book days/2024-06-22.book; do
         for bytes in 0 300; do
             head -c $bytes all.30 > net/$book
-            days && good
-            same net/net.book all.30
+            all
             same net/days/2024-06-22.book north.30
         done
     done
     # another gap makes all again, and back
-    days GAP=60 && good
-    same net/net.book all.60
+    all GAP=60
     same net/days/2024-06-22.book north.60
-    days && good
-    same net/net.book all.30
+    all
 
     # books that another program made, of which nobody knows of what
     rm net/days/*.of
     cp hill.60 net/days/2024-06-22.book
-    days && good
-    same net/net.book all.30
+    all
 
     # a log that was cut short: its day and the book of all stay, and the other day is made
     cp -R net/logs kept
@@ -225,8 +224,7 @@ if has days.mk make timeout; then
     # mended by a log that is older than the book, as rsync may put it there
     cp hill.log net/logs/2024-06-21/HILL.log
     touch -t 202301010000 net/logs/2024-06-21/HILL.log
-    days && good
-    same net/net.book all.30
+    all
     # a changed log of the same size
     sed 's/HILL/TILL/' hill.log > net/logs/2024-06-21/HILL.log
     days && good
@@ -235,8 +233,7 @@ if has days.mk make timeout; then
     rm -r net/logs
     mv kept net/logs
     rm -r net/logs/2024-06-22
-    days && good
-    same net/net.book all.30
+    all
     # unless it is empty or cut: then it is named, and the book of all stays
     for bytes in 0 300; do
         head -c $bytes north.30 > net/days/2024-06-22.book
@@ -260,8 +257,7 @@ if has days.mk make timeout; then
         aprsbook merge net/net.book > again || fail 'two runs at once harm the book'
     done
     wait
-    days && good
-    same net/net.book all.30
+    all
 
     # the line for a crontab, with cron's environment, and the program where it was installed
     path=$(sed -n 's/^PATH=//p' "$repository/docs/cookbook.md")
@@ -342,8 +338,8 @@ if has book-to-sqlite sqlite3; then
     done
     # one is faulty: what was there stays
     before=$(counts)
-    if book-to-sqlite cut.30 net.db 2> said; then fail 'book-to-sqlite takes a book cut short'; fi
-    if book-to-sqlite empty net.db 2> said; then fail 'book-to-sqlite takes an empty file'; fi
+    refused 'line [0-9]*: Ending' book-to-sqlite cut.30 net.db
+    refused 'empty is empty' book-to-sqlite empty net.db
     [ "$(counts)" = "$before" ] || fail 'a faulty book changed the database'
     printf 'APRSBOOK 3 30\nEND 0\n' > nothing
     book-to-sqlite nothing net.db
@@ -382,24 +378,26 @@ if has merge-tree bash; then
     cp coast.60 "tree/it's/coast.book"
     merge-tree --gap 60 tree tree.book
     same tree.book all.60
+    mkdir shelf
+    for name in hill coast north; do cp $name.30 "shelf/a $name.book"; done
+    merge-tree shelf tree.book
+    same tree.book all.30
+    merge-tree --gap 60 tree tree.book
     # another gap, an empty folder, an empty book and a link to nothing leave the book as it was
-    if merge-tree tree tree.book 2> said; then fail 'merge-tree takes a book of another gap'; fi
+    refused 'other gap' merge-tree tree tree.book
     mkdir none
-    if merge-tree none tree.book 2> said; then fail 'merge-tree makes a book of nothing'; fi
-    says 'no logs and no books are in none'
+    refused 'no logs and no books are in none' merge-tree none tree.book
     cp hill.log none
     : > none/empty.book
-    if merge-tree none tree.book 2> said; then fail 'merge-tree takes an empty file for a book'; fi
+    refused 'none/empty.book is empty' merge-tree none tree.book
     rm none/empty.book
     ln -s nowhere none/coast.log
-    if merge-tree none tree.book 2> said; then fail 'merge-tree leaves out a link to nothing'; fi
+    refused 'none/coast.log: cannot open' merge-tree none tree.book
     same tree.book all.60
     # parts: twenty days of two receivers, each day whole, in sixteen parts or more; beyond 64 logs
-    for day in 1 2; do
-        for number in 0 1 2 3 4 5 6 7 8 9; do
-            mkdir -p many/2024-06-$day$number
-            cp hill.log coast.log many/2024-06-$day$number
-        done
+    for day in $(seq 10 29); do
+        mkdir -p "many/2024-06-$day"
+        cp hill.log coast.log "many/2024-06-$day"
     done
     mkdir -p slow
     printf '#!/bin/sh\necho "$*" >> %s/runs\nexec %s "$@"\n' "$scratch" "$program" > slow/aprsbook
@@ -417,4 +415,20 @@ if has merge-tree bash; then
     left many.book
     left tree.book
 fi
+
+# ---- a book by its name that is empty ----
+
+cp empty empty.book
+for recipe in gap-of every-place history-rows last-heard ics-309 'tracks csv' 'roster hill.log' \
+    'passed /dev/null' event-page 'put-whole empty.book aprsbook merge'; do
+    case $recipe in event-page) has event-page python3 || continue ;; esac
+    # shellcheck disable=SC2086 # words
+    refused 'empty.book is empty, which no book is' $recipe empty.book hill.log
+done
+[ ! -s empty.book ] || fail 'an empty book was made anew of logs'
+# an input that could be an option isn't one, and --help is
+cp hill.log ./-h.log
+refused 'write ./-h.log' every-place -h.log
+[ "$(tracks csv -- -h.log)" = "$(tracks csv hill.log)" ] || fail "a name after -- is another input"
+[ "$(roster --help | head -n 1)" = "roster FILE [--gap SECONDS] INPUT.." ] || fail "roster --help says nothing"
 echo 'books survive what happens to them'

@@ -36,6 +36,13 @@ if has 'the example in C' cc; then
         [ "$(cat said)" = 'bad.log:1: Moment' ] || fail "$merge says: $(cat said)"
     done
 fi
+if has 'the commands of library.md' cc python3; then
+    ln -s "$folder" out
+    ln -s "$repository/examples" examples
+    awk '/^make clib$/ { open = 1; next } /^```$/ { open = 0 } open' "$repository/docs/library.md" > block
+    aprsbook show "$evening"/*.log > wanted
+    same 0 sh -e block
+fi
 if has 'the example in Python, and each function' python3; then
     show=$repository/examples/clib/show.py
     aprsbook show "$evening"/*.log > wanted

@@ -1,73 +1,87 @@
 #!/bin/sh
 # Tries the programs for other machines that `make arm64` and `make static` made: what the tests of
-# the program try, and that each answers as PROGRAM does on the examples and on 300 logs, books and
-# damaged ones. ARM is that of a Raspberry Pi 3, whose processor qemu plays. Then what becomes of
-# runs that get little memory. Says what it leaves out because a program or a tool isn't there.
-# usage: tests/everywhere.sh PROGRAM
+# the programs try, and that each answers as PROGRAM and HISTORY do on the examples and on 300 logs,
+# books and damaged ones. ARM is that of a Raspberry Pi 3, whose processor qemu plays. Then what becomes
+# of runs that get little memory. Says what it leaves out because a program or a tool isn't there.
+# usage: tests/everywhere.sh PROGRAM HISTORY
 # shellcheck source=program.sh
 . "$(dirname "$0")/program.sh"
+[ -n "$history" ] || fail "there is no program of histories"
 made=$repository/out
 cd "$scratch"
+# tests/books.sh, run as root, runs a program as another user
+umask 022
+chmod 755 .
 mkdir inputs programs
 
-# ---- the programs, each in a folder of its own by the name aprsbook ----
+# ---- the programs, those of one machine in a folder of their own by their names ----
 
-# here NAME FILE WHAT: runs on this processor
+# here NAME FOLDER WHAT: its programs run on this processor
 here() {
-    if [ ! -x "$2" ]; then
-        echo "left out: $1 (no program is built: make $3)"
-        return
-    fi
+    for it in aprsbook aprsbook-history; do
+        if [ ! -x "$2/$it" ]; then
+            echo "left out: $1 (no program $it is built: make $3)"
+            return
+        fi
+    done
     mkdir "programs/$1"
-    ln -s "$2" "programs/$1/aprsbook"
+    ln -s "$2/aprsbook" "$2/aprsbook-history" "programs/$1"
 }
-# there NAME FILE WHAT: runs on an ARM processor
+# there NAME FOLDER WHAT: they run on an ARM processor
 there() {
     has "$1" qemu-aarch64-static || return 0
-    here "$1" "$2" "$3"
+    here "$@"
     [ -d "programs/$1" ] || return 0
-    rm "programs/$1/aprsbook"
-    printf '#!/bin/sh\nexec qemu-aarch64-static -cpu cortex-a53 -L /usr/aarch64-linux-gnu "%s" "$@"\n' \
-        "$2" > "programs/$1/aprsbook"
-    chmod +x "programs/$1/aprsbook"
+    for it in aprsbook aprsbook-history; do
+        rm "programs/$1/$it"
+        printf '#!/bin/sh\nexec qemu-aarch64-static -cpu cortex-a53 -L %s "%s" "$@"\n' \
+            /usr/aarch64-linux-gnu "$2/$it" > "programs/$1/$it"
+        chmod +x "programs/$1/$it"
+    done
 }
 if [ "$(uname -m)" = x86_64 ]; then
-    here static-amd64 "$made/static/amd64/aprsbook" static
+    here static-amd64 "$made/static/amd64" static
 fi
 if [ -e /usr/aarch64-linux-gnu/lib/libc.so.6 ]; then
-    there arm64 "$made/arm64/aprsbook" arm64
+    there arm64 "$made/arm64" arm64
 else
     echo 'left out: arm64 (needs libc6-arm64-cross)'
 fi
-there static-arm64 "$made/static/arm64/aprsbook" static
+there static-arm64 "$made/static/arm64" static
 
-# ---- the tests of the program, and the same answers ----
+# ---- the tests of the programs, and the same answers ----
 
 if has 'random inputs' python3; then
     python3 "$repository/tests/make_inputs.py" 300 inputs "$program"
 fi
 cp "$repository"/examples/*.log "$repository"/examples/evening/*.log \
     "$repository/examples/old-book.txt" inputs
-# answers PROGRAM: what it answers to each input, with complaints and statuses, and to all
+# answers FOLDER: what its programs answer to each input, with complaints and statuses, and to all
 answers() {
     for input in inputs/*; do
-        for words in check 'convert kind' merge show; do
-            echo "$input: $words"
+        for words in 'aprsbook check' 'aprsbook convert kind' 'aprsbook merge' 'aprsbook show' \
+            aprsbook-history; do
+            echo "$words $input"
             # shellcheck disable=SC2086 # one word each
-            "$1" $words "$input" 2>&1 || echo "status $?"
+            "$1"/$words "$input" 2>&1 || echo "status $?"
         done
     done
-    "$1" widen 60 inputs/old-book.txt
-    "$1" merge inputs/hill.log inputs/coast.log inputs/north.log
-    "$1" convert kiss inputs/hill.log
-    "$1" --help
+    "$1/aprsbook" widen 60 inputs/old-book.txt
+    "$1/aprsbook" merge inputs/hill.log inputs/coast.log inputs/north.log
+    "$1/aprsbook" convert kiss inputs/hill.log
+    "$1/aprsbook-history" --gap 60 inputs/hill.log inputs/coast.log inputs/north.log
+    "$1/aprsbook" --help
+    "$1/aprsbook-history" --help
 }
-# tried NAME: the tests with its program, and its answers
+# tried NAME: the tests with its programs, and their answers
 tried() {
     for test in readme old_book gaps full_output logs books; do
         "$repository/tests/$test.sh" "programs/$1/aprsbook" || return 1
     done
-    answers "$PWD/programs/$1/aprsbook" > "$1.answers"
+    for test in complaints history; do
+        "$repository/tests/$test.sh" "programs/$1/aprsbook" "programs/$1/aprsbook-history" || return 1
+    done
+    answers "programs/$1" > "$1.answers"
 }
 running=''
 for it in programs/*; do
@@ -76,10 +90,11 @@ for it in programs/*; do
     tried "$name" > "$name.said" 2>&1 &
     running="$running $name:$!"
 done
-answers "$scratch/bin/aprsbook" > expected
+answers bin > expected
 for it in $running; do
     name=${it%:*}
     wait "${it#*:}" || fail "$name: $(cat "$name.said")"
+    sed -n "s/^left out: /left out of $name: /p" "$name.said"
     cmp expected "$name.answers" || fail "$name answers something else"
 done
 
@@ -90,28 +105,34 @@ awk 'BEGIN {
         printf "2024-05-%02dT%02d:%02d:%02dZ RX1 %s\n", 1 + int(i / 86400), i / 3600 % 24, i / 60 % 60,
             i % 60, "c00082a0a4a64040e09c60868298986f03f03e4869c0"
 }' > long.log
-# short KILOBYTES STATUSES PROGRAM WORD..: with so little it ends with one of the statuses
+# short LIMIT STATUSES PROGRAM WORD..: with so little it ends with one of the statuses
 short() {
-    limit=$1 wanted=$2 status=0
+    limit=$1 wanted=$2 status=0 name=${3##*/}
     shift 2
-    # shellcheck disable=SC3045 # not of POSIX, but of each shell of Debian
-    (ulimit -v "$limit" && exec "$@" long.log) > short.out 2> short.said || status=$?
+    ($limit && exec "$@" long.log) > short.out 2> short.said || status=$?
     case $status in
     [$wanted]) ;;
-    *) fail "$* in $limit kB ended with $status: $(cat short.said)" ;;
+    *) fail "$* under $limit ended with $status: $(cat short.said)" ;;
     esac
-    [ $status = 0 ] || [ "$(cat short.said)" = 'aprsbook: out of memory' ] ||
-        fail "$* in $limit kB says: $(cat short.said)"
+    [ $status = 0 ] || [ "$(cat short.said)" = "$name: out of memory" ] ||
+        fail "$* under $limit says: $(cat short.said)"
 }
-for it in "$program" programs/static-amd64/aprsbook; do
-    [ -x "$it" ] || continue
-    short 20000 0 "$it" check
-    short 20000 0 "$it" convert kind
-    for words in merge show 'widen 60'; do
+for it in bin programs/static-amd64; do
+    [ -d "$it" ] || continue
+    short 'ulimit -v 20000' 0 "$it/aprsbook" check
+    short 'ulimit -v 20000' 0 "$it/aprsbook" convert kind
+    for words in 'aprsbook merge' 'aprsbook show' 'aprsbook widen 60' aprsbook-history; do
         # shellcheck disable=SC2086 # one word each
-        short 20000 4 "$it" $words
+        short 'ulimit -v 20000' 4 "$it"/$words
         # shellcheck disable=SC2086 # one word each
-        short 100000 04 "$it" $words
+        short 'ulimit -v 100000' 04 "$it"/$words
     done
 done
+# qemu itself needs more, and gives what it plays no more than 96 MiB
+if [ -d programs/static-arm64 ]; then
+    for words in 'aprsbook merge' aprsbook-history; do
+        # shellcheck disable=SC2086 # one word each
+        short 'export QEMU_RESERVED_VA=0x6000000' 04 programs/static-arm64/$words
+    done
+fi
 if [ -n "$running" ]; then echo 'the programs for other machines answer as this one'; fi

@@ -1,7 +1,8 @@
 #!/bin/sh
 # Tries the history of the example logs: the lines of the README's log, worked out by hand; one line
-# for each row of the book, with the row's moments and receivers, in the book's order; and the same
-# bytes of the same receptions. Needs a POSIX system alone.
+# for each row of the book, with the row's moments and receivers, in the book's order; the same bytes
+# of the same receptions; and the places that Dire Wolf reads. Needs a POSIX system, and Dire Wolf's
+# decode_aprs for the last.
 # usage: tests/history.sh PROGRAM HISTORY
 # shellcheck source=program.sh
 . "$(dirname "$0")/program.sh"
@@ -68,4 +69,26 @@ awk '$1 == "position" || $1 == "status" {
 }
 END { for (it in last) print it, last[it] }' "$scratch/evening" | sort | cmp -s - "$scratch/last" ||
     fail 'the last positions and statuses differ from those of show'
+
+# ---- each place, and what has none, as Dire Wolf reads it ----
+
+if has "Dire Wolf's places" decode_aprs; then
+    awk -f "$repository/examples/recipes/log.awk" "$scratch/all.book" | aprsbook convert text |
+        sed 's/\\x\(..\)/<0x\1>/g' | while IFS= read -r text; do
+        place=$(printf '%s\n' "$text" | decode_aprs | grep -ao '[NS] [0-9]* [0-9.]*, [EW] [0-9]* [0-9.]*' || true)
+        echo "${place:-none}"
+    done > "$scratch/wolf"
+    awk '
+        # degrees and minutes, as Dire Wolf prints them
+        function of(fraction, digits, plus, minus,   part) {
+            split(fraction, part, "/")
+            part[1] *= 600000 / part[2]
+            minus = part[1] < 0 ? minus : plus
+            part[1] = int((part[1] < 0 ? -part[1] : part[1]) + 0.5)
+            return sprintf("%s %0*d %07.4f", minus, digits, int(part[1] / 600000), part[1] % 600000 / 10000)
+        }
+        { n = $1 == "position" ? 8 : $1 == "mic-e" ? 11 : $1 == "object" || $1 == "item" ? 10 : 0 }
+        { print n ? of($n, 2, "N", "S") ", " of($(n + 1), 3, "E", "W") : "none" }' "$scratch/evening" > "$scratch/places"
+    diff "$scratch/places" "$scratch/wolf" >&2 || fail 'Dire Wolf reads other places'
+fi
 echo 'a history has one line for each row, whatever the inputs are called and how they come'

@@ -1,8 +1,9 @@
 #!/bin/sh
-# Checks that the map in docs/architecture.md is what crates.txt and the crates say. Needs a POSIX system alone.
+# Checks that the map in docs/architecture.md is what crates.txt and the crates say. Needs a POSIX
+# system and Python 3.
 set -eu
 cd "$(dirname "$0")/.."
-if ! build/map.sh | cmp -s - docs/architecture.md; then
+if ! build/map.py | cmp -s - docs/architecture.md; then
     echo 'tests/map.sh: the map in docs/architecture.md is another one: make map' >&2
     exit 1
 fi

@@ -6,8 +6,9 @@
 #
 # In `x.y`, y is a clause of the function x, a field of the record x, or a word of the module x; in
 # `x::y`, y belongs to the type x. `.y` goes on with the x before it in its line. A function without
-# a clause, in the second column of a table in docs/promises.md and out of brackets, has a clause
-# without a name. A file is named with as much of its path as is wanted. Needs a POSIX system alone.
+# a clause, in the last column of a table in docs/promises.md and out of brackets, has a clause
+# without a name. A file is named with as much of its path as is wanted. Needs a POSIX system and
+# Python 3.
 set -eu
 export LC_ALL=C
 cd "$(dirname "$0")/.."
@@ -16,11 +17,11 @@ trap 'rm -rf "$scratch"' EXIT
 
 # what is no name of this repository
 cat > "$scratch/others" << 'end'
-tools: awk callgrind cat ctypes decode_aprs direwolf gcc gen_packets grep nc nice od ogr2ogr rsync
+tools: awk callgrind cat ctypes decode_aprs direwolf gcc gen_packets git grep nc nice od ogr2ogr python3 rsync
 shellcheck sort stdbuf stdin stdout text2pcap valgrind zcat
 Rattle: rattle rt contents remaining ensures requires proves file old std Proof.decls out/incremental x.old x.new x.now x.entry
 std: Box BufWriter Copy Drop Ok Option PartialEq Result u64::MAX
-standards: DDMM.hh DDDMM.hh atest f0 rust
+standards: DDMM.hh DDDMM.hh atest f0 rust loop use
 commands of make: arm64 deb install release static tarball try
 processors and users of Debian: amd64 aprs
 states of messages and objects: acknowledged rejected unanswered unnumbered tracks
@@ -34,108 +35,7 @@ end
 
 # ---- what is there: `x`, `x::y`, `x.y`, and `x.` where a function has a clause without a name ----
 
-awk '
-    function there(name) { print name }
-    # owned NAME: an item that is asked for by its own name, or by that of what it belongs to
-    function owned(name) {
-        there(name)
-        if (owner != "") there(owner "::" name)
-    }
-    # clause NAME: of the function that was begun last, or else of its type or trait
-    function clause(name) {
-        if (name != "") there(name)
-        if (within != "") there(within "." name)
-        if (within != "" && owner != "") there(owner "::" within "." name)
-        if (within == "" && owner != "") there(owner "." name)
-        if (within == "" && bound != "") there(bound "." name)
-    }
-    # first TEXT: the word that the text begins with
-    function first(text) {
-        match(text, /^[A-Za-z_][A-Za-z0-9_]*/)
-        return RLENGTH > 0 ? substr(text, 1, RLENGTH) : ""
-    }
-    FNR == 1 {
-        owner = within = bound = record = ""
-        module = FILENAME
-        sub(/.*\//, "", module)
-        there(module)
-        code = sub(/\.rt$/, "", module)
-        sub(/\.antt$/, "", module)
-        there(module)
-    }
-    # ---- code
-    code && /^}/ { owner = within = bound = "" }
-    code && /^ *(pub(\([a-z]*\))? )?((const|extern "C") )?(fn|struct|enum|trait|const|type) [A-Za-z_]/ {
-        item = $0
-        sub(/^ *(pub(\([a-z]*\))? )?(extern "C" )?/, "", item)
-        kind = item
-        sub(/ .*/, "", kind)
-        if (item ~ /^const fn/) { kind = "fn"; sub(/^const /, "", item) }
-        sub(/^[a-z]* /, "", item)
-        name = first(item)
-        if ($0 !~ /^ /) owner = ""
-        owned(name)
-        if (kind == "fn") { within = name; there(module "::" name) }
-        else if (kind == "struct" || kind == "enum" || kind == "trait") { owner = name; within = bound = "" }
-    }
-    code && /^impl/ {
-        item = $0
-        sub(/^impl/, "", item)
-        while (item ~ /^</) {
-            depth = 0
-            for (i = 1; i <= length(item); i++) {
-                c = substr(item, i, 1)
-                if (c == "<") depth++
-                if (c == ">" && substr(item, i - 1, 1) != "-") depth--
-                if (depth == 0) break
-            }
-            item = substr(item, i + 1)
-        }
-        sub(/^ */, "", item)
-        bound = ""
-        if (item ~ / for /) {
-            bound = first(item)
-            sub(/.* for &?/, "", item)
-        }
-        owner = first(item)
-        within = ""
-    }
-    code && /^ *(ensures|requires)/ {
-        item = $0
-        sub(/^ *[a-z]*\*? */, "", item)
-        clause(first(item))
-    }
-    code && /^    ghost [a-z_]*( =|:)/ {
-        within = ""
-        item = $0
-        sub(/^    ghost /, "", item)
-        clause(first(item))
-    }
-    # variants and fields
-    code && owner != "" && /^    (pub(\([a-z]*\))? )?[A-Za-z_][A-Za-z0-9_]*(,|:|\(| \{|$)/ {
-        item = $0
-        sub(/^ *(pub(\([a-z]*\))? )?/, "", item)
-        owned(first(item))
-    }
-    # ---- definitions
-    !code && /^(abbrev|unfoldable|record|data|pub|inductive) / {
-        item = $0
-        while (item ~ /^(abbrev|unfoldable|record|data|pub|inductive) /) sub(/^[a-z]* /, "", item)
-        if (item !~ /^(use|mod) /) {
-            record = item
-            sub(/[ :({].*/, "", record)
-            there(record)
-            there(module "." record)
-        }
-    }
-    !code && record != "" && /^ +(pub )?[A-Za-z_][A-Za-z0-9_]* :/ {
-        item = $0
-        sub(/^ +(pub )?/, "", item)
-        there(first(item))
-        there(record "." first(item))
-    }
-' crates/*/src/*.rt crates/*/src/*/*.rt crates/*/specs/*.antt > "$scratch/there"
-awk -F '[: ]+' '/^[a-z]/ { for (i = 1; i <= NF; i++) print $i }' crates.txt >> "$scratch/there"
+build/rattle_text.py --names > "$scratch/there"
 # files and folders, each with as much of its path as is wanted, and definitions also without .antt
 find . -name .git -prune -o -name out -prune -o -print | awk '
     {
@@ -165,6 +65,7 @@ awk -v failed=0 '
         n = split($0, part, "`")
         before = ""
         bars = inside = 0
+        most = gsub(/\|/, "|")
         for (i = 1; i <= n; i++) {
             name = part[i]
             if (i % 2) {
@@ -177,7 +78,7 @@ awk -v failed=0 '
             else { before = name; sub(/\.[a-z_]*$/, "", before) }
             # a function and no clause
             wanted = name
-            if (FILENAME ~ /promises/ && bars == 2 && !inside && name ~ /(^|::)[a-z_]+$/)
+            if (FILENAME ~ /promises/ && bars == most - 1 && !inside && name ~ /(^|::)[a-z_]+$/)
                 wanted = name "."
             if (wanted in there) continue
             printf "tests/names.sh: %s, line %d: there is no %s\n", FILENAME, FNR, \

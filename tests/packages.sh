@@ -2,9 +2,10 @@
 # Tries make install, uninstall, deb and tarball: what each puts into an empty folder runs there, and
 # is the same bytes when it is made of another folder on another day. Needs a POSIX system, mktemp,
 # GNU make, install, tar and git, and says what it leaves out because a tool isn't there.
-# usage: tests/packages.sh PROGRAM
+# usage: tests/packages.sh PROGRAM HISTORY
 # shellcheck source=program.sh
 . "$(dirname "$0")/program.sh"
+[ -n "$history" ] || fail "there is no program of histories"
 has 'make install, tarball and deb' make git || exit 0
 if ! SOURCE_DATE_EPOCH=$(git -C "$repository" log -1 --format=%ct 2> "$scratch/said"); then
     echo 'left out: make install, tarball and deb (no commit is there)'
@@ -16,17 +17,21 @@ cd "$scratch"
 printf '#!/bin/sh\n: > "%s/built"\nexit 1\n' "$scratch" > bin/rt
 chmod +x bin/rt
 aprsbook convert text "$repository/examples/sample.log" > expected
+aprsbook-history "$repository/examples/sample.log" > expected.history
 version=$("$repository/packaging/version")
 # make_it TARGET ARGUMENT..: builds nothing
 make_it() {
-    make -s -C "$repository" BUILT="$program" "$@" > said 2>&1 || fail "make $*: $(cat said)"
+    make -s -C "$repository" BUILT="$program $history" "$@" > said 2>&1 || fail "make $*: $(cat said)"
     [ ! -e built ] || fail "make $* builds"
 }
 # runs PREFIX: what was put there runs, its links lead somewhere, and nobody else may write there
 runs() {
     "$1/bin/aprsbook" convert text "$1/share/aprsbook/examples/sample.log" | cmp - expected ||
         fail "$1: the sample is another"
-    [ "$("$1/bin/aprsbook" --version)" = "aprsbook $version" ] || fail "$1 isn't version $version"
+    "$1/bin/aprsbook-history" "$1/share/aprsbook/examples/sample.log" | cmp - expected.history ||
+        fail "$1: the history of the sample is another"
+    "$repository/tests/version.sh" "$1/bin/aprsbook" "$1/bin/aprsbook-history" > said 2>&1 ||
+        fail "$1: $(cat said)"
     [ -z "$(find "$1" -perm -2 ! -type l)" ] || fail "$1 may be written by others"
     [ -z "$(find "$1" -type l ! -exec test -e {} \; -print)" ] || fail "$1 has links to nothing"
     find "$1/share/aprsbook" -name '*.md' | while read -r page; do
@@ -78,7 +83,7 @@ rm installed/bin/other
 mkdir copy
 (cd "$repository" && git ls-files | tar -cf - -T -) | tar -xf - -C copy
 find copy -exec touch -h -t 202001020304 {} +
-# twice WORD..: packs the program here, and in another folder, day, umask and time zone
+# twice WORD..: packs the programs here, and in another folder, day, umask and time zone
 twice() {
     script=$1 architecture=$2
     shift 2
@@ -90,7 +95,7 @@ twice() {
     rm -r again
 }
 if has 'make tarball' tar; then
-    twice make-tarball amd64 "$program"
+    twice make-tarball amd64 "$program" "$history"
     tar -xzf make-tarball-amd64/*.tar.gz
     # and again, over itself
     "aprsbook-$version/install.sh" prefix
@@ -101,13 +106,16 @@ if has 'make tarball' tar; then
     prefix/share/aprsbook/examples/cookbook.sh --posix prefix/bin/aprsbook > said 2>&1 ||
         fail "unpacked: $(cat said)"
 fi
-# deb ARCHITECTURE PROGRAM: lintian has nothing to say of it
+# deb ARCHITECTURE PROGRAM..: lintian has nothing to say of it
 deb() {
     twice make-deb "$@"
     dpkg-deb -x make-deb-"$1"/*.deb "package-$1"
     diff -r -x '*.service' installed/share/aprsbook "package-$1/usr/share/aprsbook" ||
         fail 'the deb has other files'
-    gzip -dc "package-$1/usr/share/man/man1/aprsbook.1.gz" | cmp - "$repository/man/aprsbook.1"
+    for page in aprsbook.1 aprsbook-history.1; do
+        gzip -dc "package-$1/usr/share/man/man1/$page.gz" | cmp - "$repository/man/$page" ||
+            fail "the deb has another $page"
+    done
     if has "lintian of the package for $1" lintian; then
         lintian --allow-root --fail-on none make-deb-"$1"/*.deb > said 2>&1 || fail "$(cat said)"
         sed '/^N:/d; /^warning: /d' said > complaints
@@ -115,13 +123,13 @@ deb() {
     fi
 }
 if has 'make deb' dpkg-deb strip readelf; then
-    deb amd64 "$program"
+    deb amd64 "$program" "$history"
     runs package-amd64/usr
-    arm=$repository/out/arm64/aprsbook
-    if [ ! -x "$arm" ]; then
+    arm=$repository/out/arm64
+    if [ ! -x "$arm/aprsbook" ] || [ ! -x "$arm/aprsbook-history" ]; then
         echo 'left out: make deb ARCH=arm64 (no program is built: make arm64)'
     elif has 'make deb ARCH=arm64' aarch64-linux-gnu-strip; then
-        deb arm64 "$arm"
+        deb arm64 "$arm/aprsbook" "$arm/aprsbook-history"
     fi
 fi
 echo 'what is installed, packed and unpacked runs'

@@ -1,7 +1,7 @@
 #!/bin/sh
-# Read by the tests of this folder, whose first argument is the program, and the second, where a test
-# has one, that of histories: finds them, makes a folder that is thrown away, and puts the programs and
-# the recipes into PATH. Needs a POSIX system and mktemp.
+# Read by the tests of this folder and of net, whose first argument is the program, and the second,
+# where a test has one, that of histories: finds them, makes a folder that is thrown away, and puts the
+# programs and the recipes into PATH. Needs a POSIX system and mktemp.
 set -eu
 export LC_ALL=C
 # a make that a test runs is none of the make that runs the test
@@ -22,7 +22,7 @@ path_of() {
 program=$(path_of "${1-}")
 history=
 if [ $# -gt 1 ]; then history=$(path_of "$2"); fi
-repository=$(cd "$(dirname "$0")/.." && pwd)
+repository=$(cd "$(dirname "$0")" && cd "$(pwd | sed 's,/tests.*,,')" && pwd)
 scratch=$(mktemp -d)
 trap 'rm -rf "$scratch"' EXIT
 mkdir "$scratch/bin"
@@ -32,6 +32,7 @@ for it in "$history" "${program%/*}/aprsbook-history" "${program%/aprsbook/out/*
     if [ -x "$it" ]; then ln -sf "$it" "$scratch/bin/aprsbook-history" && break; fi
 done
 PATH=$scratch/bin:$repository/examples/recipes:$PATH
+export PATH PYTHONDONTWRITEBYTECODE=1
 # has WHAT TOOL..: the tools are there; where they aren't, it is said what is left out
 has() {
     what=$1

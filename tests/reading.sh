@@ -38,5 +38,11 @@ while IFS= read -r line; do
     fail "a definition stands there twice: $line"
 done < "$scratch/twice"
 
+# what the documents say that it lists
+for asked in '--calls aprs_book' '--page read_line' '--of merge_run.writes'; do
+    # shellcheck disable=SC2086 # two words
+    [ "$(build/reading.py $asked | wc -l)" -gt 40 ] || fail "build/reading.py $asked lists little"
+done
+
 [ $failed = 0 ] && echo 'the reading list is what the sources say'
 exit $failed

@@ -31,51 +31,25 @@ settings() {
     sed -n 's/^Environment=PATH=[^ ]* //p' "$recipes/$1" | tr -d '"' | sed 's/\([A-Z_]*=--.*\)/"\1"/'
 }
 
-# ---- aprs-log and aprs-listen: name and port ----
+# ---- aprs-log: name and port ----
 
-# stand-ins that say how they were called
-for tool in nc aprs-log aprs-listen; do
-    printf '#!/bin/sh\necho "%s $*" >> "%s/called"\n' $tool "$scratch" > "bin/$tool"
-    chmod +x "bin/$tool"
-done
-# calls UNIT INSTANCE LINE..: so it calls other programs, in any order
+# a stand-in that says how it was called
+printf '#!/bin/sh\necho "$*"\n' > bin/aprs-log
+chmod +x bin/aprs-log
+# calls INSTANCE LINE: so the unit calls aprs-log
 calls() {
-    unit=$1 instance=$2
-    shift 2
-    rm -f called
     # shellcheck disable=SC2046 # one setting a word
-    env $(settings "$unit") sh -c "$(command_of "$unit")" "$instance" < /dev/null
-    printf '%s\n' "$@" | sort > expected
-    sort called | cmp - expected || fail "$unit as $instance calls: $(cat called)"
+    called=$(env $(settings aprs-log@.service) sh -c "$(command_of aprs-log@.service)" "$1")
+    [ "$called" = "$2" ] || fail "aprs-log@$1 calls: $called"
 }
-calls aprs-log@.service RX1 'nc -d -w 900 localhost 8001' 'aprs-log RX1 logs'
-calls aprs-log@.service RX-2:8002 'nc -d -w 900 localhost 8002' 'aprs-log RX-2 logs'
-calls aprs-listen@.service RX1 'aprs-listen --connect localhost:8001 RX1 logs'
-calls aprs-listen@.service RX-2:8002 'aprs-listen --connect localhost:8002 RX-2 logs'
+calls RX1 '--connect localhost:8001 RX1 logs'
+calls RX-2:8002 '--connect localhost:8002 RX-2 logs'
 # the file below /etc says what the units say where it isn't there
-for unit in aprs-log@.service aprs-listen@.service net-page.service; do
+for unit in aprs-log@.service net-page.service; do
     settings $unit | tr ' ' '\n' | sed -n 's/^"*\([A-Z_]*=[^"]*\).*/\1/p' | while read -r setting; do
         grep -q "^$setting" "$recipes/aprsbook.default" || fail "$unit: $setting isn't the file's"
     done
 done
-rm bin/nc bin/aprs-log bin/aprs-listen
-
-# ---- frames of a port, and the end of a connection on which nothing comes ----
-
-if has 'what aprs-log@.service runs' nc stdbuf timeout; then
-    aprsbook convert kiss hill.log > heard.kiss
-    run=$(command_of aprs-log@.service | sed 's/-w 900/-w 1/')
-    (cat heard.kiss; sleep 8) | nc -l 127.0.0.1 8127 > sent & other=$!
-    # until the other end listens
-    until cat logs/*/RX1.log > said 2>&1; do
-        kill -0 $other 2> /dev/null || fail 'nobody listens on port 8127'
-        sleep 0.2
-        KISS_HOST=localhost timeout 6 sh -c "$run" RX1:8127 || fail "a dead connection isn't ended"
-    done
-    kill $other 2> /dev/null || true
-    aprsbook convert text hill.log > heard.txt
-    cat logs/*/RX1.log | aprsbook convert text | cmp - heard.txt || fail 'a frame is lost'
-fi
 
 # ---- net-page ----
 

@@ -1,8 +1,8 @@
 #!/bin/sh
 # Checks that the version, which is set in the sources of the program's help, is that of the manual
 # pages, of the newest part of CHANGELOG.md and of the test of the program's words, and that the day
-# there is the manual pages'. With the program, that it says so too. Needs a POSIX system alone.
-# usage: tests/version.sh [PROGRAM]
+# there is the manual pages'. With programs, that each says so too. Needs a POSIX system alone.
+# usage: tests/version.sh [PROGRAM..]
 set -eu
 export LC_ALL=C
 repository=$(cd "$(dirname "$0")/.." && pwd)
@@ -13,12 +13,16 @@ is() {
     echo "tests/version.sh: $1 says '$3', not '$2'" >&2
     failed=1
 }
-if [ $# -gt 0 ] && { [ ! -f "$1" ] || [ ! -x "$1" ]; }; then
-    echo "tests/version.sh: there is no program '$1'" >&2
-    exit 1
-fi
 version=$("$repository/packaging/version")
-[ $# = 0 ] || is "$1 --version" "aprsbook $version" "$("$1" --version)"
+for program; do
+    if [ ! -f "$program" ] || [ ! -x "$program" ]; then
+        echo "tests/version.sh: there is no program '$program'" >&2
+        exit 1
+    fi
+    # a crate has _ where its program has -
+    name=$(basename "$program" | tr _ -)
+    is "$program --version" "$name $version" "$("$program" --version)"
+done
 cd "$repository"
 newest=$(sed -n 's/^## //p' CHANGELOG.md | sed 1q)
 is CHANGELOG.md "$version" "${newest%, *}"

@@ -3,8 +3,8 @@
 # both ways, that the manual pages and the completions name the words that the programs have: their
 # commands, forms, options, kinds of reports, lines of a listing and of a history, states, exit
 # statuses and messages, the causes of faults, and the reasons for which a line is passed over. These
-# words are read from the sources. Needs a POSIX system alone; where mandoc, bash, zsh or fish is
-# there, it also looks at its file.
+# words are read from the sources. Needs a POSIX system and Python 3; where mandoc, bash, zsh or fish
+# is there, it also looks at its file.
 set -eu
 export LC_ALL=C
 cd "$(dirname "$0")/.."
@@ -19,33 +19,33 @@ fail() {
 
 # ---- the program: a file of each kind of words ----
 
-# arms FILE BEGINNING: the texts that a match gives, from the line that begins so to the next }
-arms() {
-    awk -v beginning="$2" '
-        index($0, beginning) == 1 { open = 1 }
-        /^}/ { open = 0 }
-        open && /=> b?"/ { sub(/^[^"]*"/, ""); sub(/".*/, ""); print }
-    ' "$1"
-}
-cd crates
+# calls FILE NAME: the texts that calls are given; arms FILE ITEM: those of the arms of a match
+calls() { build/rattle_text.py --calls "crates/$1" "$2"; }
+arms() { build/rattle_text.py --arms "crates/$1" "$2"; }
 # clap adds help to the commands, and help and the version to the options
-words=aprs_command/src/arguments.rt
+arguments=aprs_command/src/arguments.rt
 {
-    sed -n 's/.*[cC]ommand\(::new\)*(alloc, "\([a-z]*\)".*/\2/p' $words | sed '/^aprsbook$/d'
+    calls $arguments '\w*[cC]ommand(?:::new)?' | sed '/^aprsbook$/d'
     echo help
 } > "$scratch/program/commands"
-sed -n 's/.*PossibleValue::new("\([a-z]*\)").*/\1/p' $words > "$scratch/program/forms"
-{
-    sed -n 's/.*option_arg(alloc, "\([a-z]*\)".*/--\1/p' $words
+calls $arguments PossibleValue::new > "$scratch/program/forms"
+# options FILE: those that clap adds
+options() {
     printf '%s\n' -h --help
-    grep -q '\.version(' $words && printf '%s\n' -V --version
+    grep -q '\.version(' "crates/$1" && printf '%s\n' -V --version
+}
+{
+    calls $arguments option_arg | sed 's/^/--/'
+    options $arguments
 } > "$scratch/program/options"
-sed '/^-.$/d' "$scratch/program/options" > "$scratch/program/long_options"
 arms aprs_report/src/report.rt 'impl<' > "$scratch/program/kinds"
-sed -n 's/.*put_[a-z_]*(out, b"\([a-z]*\)".*/\1/p' aprs_listing/src/views.rt \
-    aprs_listing/src/heard_line.rt > "$scratch/program/listed"
-sed -n 's/.*if live { b"\([a-z]*\)" } else { b"\([a-z]*\)" }.*/\1 \2/p' \
-    aprs_listing/src/heard_line.rt | tr ' ' '\n' > "$scratch/program/object_states"
+heard=aprs_listing/src/heard_line.rt
+{
+    calls aprs_listing/src/views.rt 'put_\w+'
+    calls $heard 'put_\w+'
+} > "$scratch/program/listed"
+sed -n 's/.*if live { b"\([a-z]*\)" } else { b"\([a-z]*\)" }.*/\1 \2/p' "crates/$heard" |
+    tr ' ' '\n' > "$scratch/program/object_states"
 arms aprs_listing/src/views.rt 'fn state_text' > "$scratch/program/message_states"
 arms aprs_log/src/fault.rt 'impl Reason {' > "$scratch/program/reasons"
 # a failed allocation is reported by a message of its own
@@ -54,28 +54,27 @@ arms aprs_booktext/src/fault.rt 'impl BookCause {' | sed '/^Memory$/d' \
     > "$scratch/program/book_causes"
 {
     echo 0
-    sed -n 's/^\(pub \)*const [A-Z_]*: u8 = \([0-9]*\);/\2/p' aprs_program/src/complaint.rt
+    sed -n 's/^\(pub \)*const [A-Z_]*: u8 = \([0-9]*\);/\2/p' \
+        crates/aprs_program/src/complaint.rt
 } > "$scratch/program/statuses"
 # the words of a complaint, as their definition has them, but for those that clap would say too
 awk '/^words_of / && !/UTF-8/ && match($0, /codes ".*"$/) {
     print "aprsbook: " ($0 ~ /\.now/ ? "PLACE" : "") substr($0, RSTART + 7, RLENGTH - 8)
-}' aprs_program/specs/Complaint.antt > "$scratch/program/messages"
+}' crates/aprs_program/specs/Complaint.antt > "$scratch/program/messages"
 echo 'aprsbook: PLACE: line N: CAUSE' >> "$scratch/program/messages"
 # those of the program of histories, which has no capture and widens nothing
 history=aprs_command/src/history.rt
 {
-    sed -n 's/.*inputs_arg(alloc).*/INPUT/p; s/.*gap_arg(alloc).*/--gap/p' $history |
-        sed '/^INPUT$/d'
-    printf '%s\n' -h --help
-    grep -q '\.version(' $history && printf '%s\n' -V --version
+    grep -q 'gap_arg(alloc)' crates/$history && echo --gap
+    options $history
 } > "$scratch/program/history_options"
-sed '/^-.$/d' "$scratch/program/history_options" > "$scratch/program/history_long_options"
-sed -n 's/.*put_[a-z]*_line(out, b"\([a-z-]*\)".*/\1/p; s/^ *b"\([a-z-]*\)",$/\1/p' \
-    aprs_listing/src/history.rt > "$scratch/program/history_lines"
+calls aprs_listing/src/history.rt 'put_[a-z]*_line' > "$scratch/program/history_lines"
+for options in options history_options; do
+    sed '/^-.$/d' "$scratch/program/$options" > "$scratch/program/${options%options}long_options"
+done
 sed '/: narrower$/d; /capture/d; s/^aprsbook/aprsbook-history/' "$scratch/program/messages" \
     > "$scratch/program/history_messages"
 cp "$scratch/program/statuses" "$scratch/program/history_statuses"
-cd ..
 
 # ---- the manual pages: the tags below each heading ----
 
@@ -186,6 +185,12 @@ sed 's/^aprsbook: //; s/^PLACE: //; /^line N/d' "$scratch/program/messages" |
     grep -qwF -- "$words" "$scratch/table" || echo "$words"
 done > "$scratch/lacks"
 [ ! -s "$scratch/lacks" ] || fail "the cookbook's table lacks: $(cat "$scratch/lacks")"
+
+# ---- the documents: all of them can be read, and the first at once ----
+
+[ "$(cat README.md CONTRIBUTING.md CHANGELOG.md docs/*.md | wc -w)" -le 24000 ] ||
+    fail 'the documents have more than 24,000 words'
+[ "$(wc -l < README.md)" -le 120 ] || fail 'README.md has more than 120 lines'
 
 # ---- each file by its own reader ----
 

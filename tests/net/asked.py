@@ -5,26 +5,8 @@ frames that are made here.
 usage: asked.py EXAMPLES    aprsbook, aprsbook-history and the recipes in the PATH; needs Python 3
 """
 import csv
-import io
-import pathlib
-import subprocess
-import sys
-import tempfile
 
-import hostile
-
-EVENING = sorted(map(str, pathlib.Path(sys.argv[1]).glob("evening/*.log")))
-
-
-def run(*command, given="", status=0):
-    done = subprocess.run(command, input=given.encode(), capture_output=True)
-    assert done.returncode == status, (command, done)
-    return done.stdout.decode("ascii").splitlines()
-
-
-def line(clock, source, text, receiver="RX1"):
-    frame = hostile.address("APRS", 0xE0) + hostile.address(source, 0x60, 1) + b"\x03\xf0"
-    return f"2024-06-21T{clock}Z {receiver} c000{(frame + text.encode()).hex()}c0\n"
+from trying import EVENING, each, line, run
 
 
 def test_last_heard(_):
@@ -46,7 +28,7 @@ def test_last_heard(_):
 def test_roster(folder):
     heard = (line("18:00:00", "Q1RUN-7", ">a") + line("18:05:00", "Q1RUN", ">b", "RX2")
              + line("18:01:00", "Q1RUN-70"[:7], ">c") + line("18:02:00", "Q1RUNS", ">d"))
-    roster = folder / "roster"
+    roster = folder / "net=1"
     roster.write_text("# who should be there\nQ1RUNS the other\r\n\nq1run-* sweepers, 2\nQ1GONE gone\n"
                       "Q1RUN\n")
     assert run("roster", roster, given=heard) == [
@@ -89,7 +71,7 @@ def test_ics_309(_):
             _, source, to, number, state, first, tail = shown.split(" ", 6)
             wanted.append([f"{first[:10]} {first[11:19]}", source, "" if number == "-" else number,
                            to, answers[state], tail.partition("Z:")[2]])
-    rows = list(csv.reader(io.StringIO("\n".join(run("ics-309", "--csv", *EVENING)))))
+    rows = list(csv.reader(run("ics-309", "--csv", *EVENING)))
     assert rows[0] == ["time (UTC)", "from", "number", "to", "answer", "message"]
     assert rows[1:] == sorted(wanted) and len(wanted) > 5, rows
     call = wanted[0][1]
@@ -110,7 +92,5 @@ def test_ics_309(_):
     assert run("ics-309", given="2024", status=1) == [] == run("ics-309", "--from", status=2)
 
 
-for test in test_last_heard, test_roster, test_passed, test_ics_309:
-    with tempfile.TemporaryDirectory() as name:
-        test(pathlib.Path(name))
+each(test_last_heard, test_roster, test_passed, test_ics_309)
 print("last-heard, roster, passed, ics-309: who, where, when and what")

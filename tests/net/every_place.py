@@ -2,7 +2,7 @@
 """Holds every-place, places.awk and places.jq to aprsbook itself: each row of a book, alone in a log,
 through `show`, and the listing of all. Then their places in Mic-E, of lines that are written here.
 
-usage: every_place.py [SEED [FRAMES]]    aprsbook and the recipes in the PATH; needs Python 3
+usage: every_place.py EXAMPLES [SEED [FRAMES]]    aprsbook and the recipes in the PATH; needs Python 3
 
 The frames are made at random, with the same seed the same ones: positions plain and compressed,
 with digits left out, stamped or not; objects and items, also killed, with odd names; reports that
@@ -11,13 +11,12 @@ are none of these; frames of 256 bytes; up to eight digipeaters.
 import collections
 import datetime
 import json
-import os
-import pathlib
 import random
 import shutil
-import subprocess
 import sys
-import tempfile
+
+import hostile
+from trying import EXAMPLES, run
 
 SOURCES = ["Q1A", "Q1A-7", "Q1BBBB-15", "000001", "ZZZZZZ-3", "9"]
 HOPS = ["WIDE1-1", "Q1DIG", "WIDE2-2"]
@@ -28,13 +27,8 @@ COMMENTS = [b"", b"ok", b"tab\there", b"\xc0\xdb\xdc\xdd", b"</script>\"'&amp;\\
             b" lead", "v\u00e4r \u2602".encode(), b"a:b:c \\", b"/A=001234 foo", b"!_!"]
 OTHERS = [b">status", b":Q1AAA    :hi{1", b"`mic-e", b";short", b")ab", b"!!",
           b")toolongname!5432.58N/00327.36W-", b";\xc0name    *123456z5432.58N/00327.36W-"]
-some = random.Random(int(sys.argv[1]) if len(sys.argv) > 1 else 1)
-frames = int(sys.argv[2]) if len(sys.argv) > 2 else 200
-
-
-def run(*command, given=""):
-    done = subprocess.run(command, input=given.encode(), stdout=subprocess.PIPE, check=True)
-    return done.stdout.decode("ascii").splitlines()
+some = random.Random(int(sys.argv[2]) if len(sys.argv) > 2 else 1)
+frames = int(sys.argv[3]) if len(sys.argv) > 3 else 200
 
 
 def plain():
@@ -69,9 +63,7 @@ def frame(source):
     calls = [some.choice(["APRS", "APDW17"]), source] + some.choices(HOPS, k=some.randrange(9))
     octets = b""
     for n, call in enumerate(calls):
-        name, _, ssid = call.partition("-")
-        flags = some.choice([0x60, 0xE0, 0x80]) + int(n == len(calls) - 1)
-        octets += bytes(2 * b for b in name.ljust(6).encode()) + bytes([flags + 2 * int(ssid or 0)])
+        octets += hostile.address(call, some.choice([0x60, 0xE0, 0x80]), n == len(calls) - 1)
     return octets + b"\x03\xf0" + information()
 
 
@@ -167,7 +159,7 @@ def same(what, wanted, got):
     return sum(got.values())
 
 
-PLACES = str(pathlib.Path(shutil.which("every-place")).parent / "places.")
+PLACES = str(EXAMPLES / "recipes/places.")
 log = "".join(heard())
 book = run("aprsbook", "merge", given=log)[1:-1]
 rows = "\n".join(run("history-rows", given=log)) + "\n"
@@ -181,20 +173,15 @@ if shutil.which("jq"):
 mic_e = ("mic-e 2024-06-21T18:00:00.000Z 2024-06-21T18:00:01.000Z RX1,RX2 Q1CAR-9 Q1DIG*,WIDE2-1 "
          "88 36 en-route - 294350/6000 -432175/6000 0 /::in the valley")
 after = "49.0583333\t-72.0291667\t0\t/:\t088/036 en-route in the valley"
-with tempfile.TemporaryDirectory() as folder:
-    history = pathlib.Path(folder) / "aprsbook-history"
-    history.write_text(f"#!/bin/sh\necho '{mic_e}'\n")
-    history.chmod(0o755)
-    os.environ["PATH"] = folder + ":" + os.environ["PATH"]
-    [got] = run("every-place")
-    heard = "\t".join(mic_e.split(" ")[1:5])
-    assert got == f"station\tQ1CAR-9\tmic-e\t{heard}\t{after}", got
-    given = f"RX2 00 {mic_e}\nRX1 01 {mic_e}\n"
-    _, got = run("awk", "-f", PLACES + "awk", given=given)
-    heard = "2024-06-21\t18:00:01.000\tRX2\tQ1CAR-9"
-    assert got == f"station\tQ1CAR-9\tmic-e\t{heard}\t{after}", got
-    if shutil.which("jq"):
-        [got] = features(given)
-        for part in '"says": "en-route"', '"course": "88"', '"state": "mic-e"', '"receiver": "RX2"':
-            assert part in got, got
+heard = "\t".join(mic_e.split(" ")[1:5])
+got = run("awk", "-v", "every=1", "-f", PLACES + "awk", given=mic_e + "\n")
+assert got == [f"station\tQ1CAR-9\tmic-e\t{heard}\t{after}"], got
+given = f"RX2 00 {mic_e}\nRX1 01 {mic_e}\n"
+heard = "2024-06-21\t18:00:01.000\tRX2\tQ1CAR-9"
+got = run("awk", "-f", PLACES + "awk", given=given)[1:]
+assert got == [f"station\tQ1CAR-9\tmic-e\t{heard}\t{after}"], got
+if shutil.which("jq"):
+    [got] = features(given)
+    for part in '"says": "en-route"', '"course": "88"', '"state": "mic-e"', '"receiver": "RX2"':
+        assert part in got, got
 print("every-place: %d rows, all %d places; places: the last of each; Mic-E" % (len(book), count))

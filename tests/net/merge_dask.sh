@@ -1,65 +1,54 @@
 #!/bin/sh
 # Tests merge-dask on the loopback: a scheduler and four workers, two of which are killed in the
 # middle.
-# usage: merge_dask.sh EXAMPLES    aprsbook and the recipes in the PATH; needs python3-distributed
-set -eu
-export LC_ALL=C
-examples=$(cd "$1" && pwd)
-scratch=$(mktemp -d)
+# usage: merge_dask.sh PROGRAM    needs python3-distributed
+# shellcheck source=../program.sh
+. "$(dirname "$0")/../program.sh"
+examples=$repository/examples
 started=
 # workers don't always end on a polite signal
 trap 'kill -9 $started 2> "$scratch/kill.txt" || true; wait; rm -rf "$scratch"' EXIT
 cd "$scratch"
-fail() {
-    echo "tests/net/merge_dask.sh: $*" >&2
-    cat ./*.txt >&2
-    exit 1
-}
-# until_there N FOLDER: waits until so many files are in the folder
-until_there() {
+# wait_until COMMAND..: waits until it succeeds
+wait_until() {
     tries=0
-    while [ "$(find "$2" -type f | wc -l)" -lt "$1" ]; do
+    until "$@"; do
         tries=$((tries + 1))
-        [ $tries -lt 300 ] || fail "waited too long for $2"
+        [ $tries -lt 300 ] || fail "waited too long: $*"
         sleep 0.1
     done
 }
+six_begun() { [ "$(find begun -type f | wc -l)" -ge 6 ]; }
 
 # the workers' aprsbook says when it begins, and takes its time
-mkdir bin begun part
-program=$(command -v aprsbook)
-cat > bin/aprsbook << END
+mkdir slow begun part
+cat > slow/aprsbook << END
 #!/bin/sh
 mktemp $scratch/begun/XXXXXX > $scratch/begun.txt
 sleep 0.3
 exec $program "\$@"
 END
-chmod +x bin/aprsbook
+chmod +x slow/aprsbook
 cat "$examples"/evening/*.log | split -l 6 - part/
 aprsbook merge "$examples"/evening/*.log > wanted.book
 
 dask-scheduler --host 127.0.0.1 --port 0 --no-dashboard --scheduler-file scheduler.json \
     > scheduler.txt 2>&1 &
 started=$!
-tries=0
-until [ -s scheduler.json ]; do
-    tries=$((tries + 1))
-    [ $tries -lt 300 ] || fail 'no scheduler'
-    sleep 0.1
-done
+wait_until test -s scheduler.json
 address=$(sed -n 's/.*"address": "\(tcp:[^"]*\)".*/\1/p' scheduler.json)
 for n in 1 2 3 4; do
-    PATH="$scratch/bin:$PATH" dask-worker "$address" --host 127.0.0.1 --nthreads 1 --no-nanny \
+    PATH="$scratch/slow:$PATH" dask-worker "$address" --host 127.0.0.1 --nthreads 1 --no-nanny \
         --no-dashboard --local-directory "$scratch/worker.$n" > "worker.$n.txt" 2>&1 &
     started="$started $!"
 done
 merge-dask --fan 2 "$address" net.book part/* > client.txt 2>&1 &
 client=$!
-until_there 6 begun
+wait_until six_begun
 # shellcheck disable=SC2086 # the numbers are words
 set -- $started
 kill -9 "$2" "$3"
-wait $client || fail 'merge-dask ended with a fault'
+wait $client || fail "merge-dask ended with a fault: $(cat ./*.txt)"
 cmp net.book wanted.book || fail 'the book is another'
 
 # a log with a fault is said, and no book is made; the inputs of one host go to its workers

@@ -1,19 +1,13 @@
 #!/bin/sh
 # Tests net-now: the days that it takes, torn lines, logs from Windows and compressed ones, a second
 # round, two at once, a round that fails, and one without logs.
-# usage: net_now.sh EXAMPLES    aprsbook and the recipes in the PATH; needs Python 3
-set -eu
-export LC_ALL=C
-examples=$(cd "$1" && pwd)
-scratch=$(mktemp -d)
-trap 'rm -r "$scratch"' EXIT
+# usage: net_now.sh PROGRAM    needs Python 3
+# shellcheck source=../program.sh
+. "$(dirname "$0")/../program.sh"
+examples=$repository/examples
 cd "$scratch"
-fail() {
-    echo "tests/net/net_now.sh: $*" >&2
-    exit 1
-}
 
-# a day that is named; a torn line in the midst of a log, and one that is being written
+# a day that is named; a torn line in the midst of a log, and at the end of one
 mkdir -p logs/2024-06-21
 cp "$examples"/evening/*.log logs/2024-06-21
 aprsbook merge logs/2024-06-21/*.log > wanted.book
@@ -23,9 +17,12 @@ cp "$examples/evening/north.log" logs/2024-06-21/more.log
 head -c 1001 "$examples/evening/north.log" > logs/2024-06-21/north.log
 DAYS=2024-06-21 net-now logs page --title 'Fell race' 2> said
 cmp page/net.book wanted.book || fail 'the book is another'
-[ "$(cat said)" = 'net-now: logs/2024-06-21/hill.log: lines left out: 1' ] || fail "$(cat said)"
 grep -q '<h1 id="title">Fell race</h1>' page/index.html || fail 'the page has another title'
-grep -q 'hill.log: lines left out: 1' page/index.html || fail 'the page says nothing of a torn line'
+for name in hill north; do
+    grep -q "^net-now: logs/2024-06-21/$name.log: lines left out: 1\$" said || fail "$(cat said)"
+    grep -q "$name.log: lines left out: 1" page/index.html || fail 'the page says nothing of a torn line'
+done
+[ "$(wc -l < said)" = 2 ] || fail "$(cat said)"
 
 # a log with carriage returns and one that is compressed are read; one that was cut short, and one
 # that leads to nothing, are named on the page, and the status is 1
@@ -33,6 +30,7 @@ mkdir other
 cp -R logs/2024-06-21 other
 gzip other/2024-06-21/coast.log
 sed 's/$/\r/' "$examples/evening/hill.log" > other/2024-06-21/hill.log
+cp "$examples/evening/north.log" other/2024-06-21
 DAYS=2024-06-21 net-now other page 2> said
 cmp page/net.book wanted.book || fail 'a log from Windows or a compressed one is left out'
 [ ! -s said ] || fail "$(cat said)"
@@ -77,9 +75,11 @@ while
         mkdir -p "logs/$day"
         sed "s/^2024-05-01/$day/" "$examples/sample.log" > "logs/$day/RX1.log"
     done
-    net-now logs page
+    printf '%s' "$today" >> "logs/$today/RX1.log" # a line that is being written
+    net-now logs page 2> said
     [ "$today" != "$(date -u +%Y-%m-%d)" ]
 do :; done
+[ ! -s said ] || fail "$(cat said)"
 sed -n 's/^T \([^T]*\)T.*/\1/p' page/net.book | sort -u > days
 printf '%s\n' logs/* | sed '1d; s/.*\///' | cmp - days || fail "it took the days $(cat days)"
 

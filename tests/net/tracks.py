@@ -4,24 +4,19 @@
 usage: tracks.py EXAMPLES    aprsbook and the recipes in the PATH; needs Python 3
 """
 import csv
-import io
 import itertools
 import json
-import pathlib
-import subprocess
-import sys
 import xml.etree.ElementTree
 
 import hostile
+from trying import EXAMPLES, line, run
 
-EXAMPLES = pathlib.Path(sys.argv[1])
 COLUMNS = "kind name state first last receivers source lat lon ambiguity symbol comment".split()
 GPX = "{http://www.topografix.com/GPX/1/1}"
 
 
-def run(*command, given=b""):
-    done = subprocess.run(command, input=given, stdout=subprocess.PIPE, check=True)
-    return done.stdout.decode("ascii")
+def gpx(log):
+    return xml.etree.ElementTree.fromstringlist(run("tracks", "gpx", given=log))
 
 
 def segments(places):
@@ -37,17 +32,17 @@ def segments(places):
 
 
 def test(log):
-    listed = run("every-place", given=log).splitlines()
+    listed = run("every-place", given=log)
     places = [dict(zip(COLUMNS, line.split("\t"), strict=True)) for line in listed]
     assert places
-    rows = list(csv.DictReader(io.StringIO(run("tracks", "csv", given=log))))
+    rows = list(csv.DictReader(run("tracks", "csv", given=log)))
     assert [{name: text.removeprefix("'") for name, text in row.items()} for row in rows] \
         == [{name: text.removeprefix("'") for name, text in it.items()} for it in places]
     groups = itertools.groupby(places, lambda it: (it["kind"], it["name"]))
     things = [list(group) for _, group in groups]
     moved = [them for them in things if len({(it["lat"], it["lon"]) for it in them}) > 1]
 
-    collection = json.loads(run("tracks", "geojson", given=log))
+    collection = json.loads("".join(run("tracks", "geojson", given=log)))
     assert collection["type"] == "FeatureCollection"
     points = [it for it in collection["features"] if it["geometry"]["type"] == "Point"]
     lines = collection["features"][len(points):]
@@ -64,7 +59,7 @@ def test(log):
                            {"type": "MultiLineString", "coordinates": line}))
     assert [(it["properties"], it["geometry"]) for it in lines] == wanted
 
-    root = xml.etree.ElementTree.fromstring(run("tracks", "gpx", given=log))
+    root = gpx(log)
 
     def seen(point):
         return point.get("lat"), point.get("lon"), point.findtext(GPX + "time")
@@ -86,33 +81,25 @@ def test(log):
     return len(places), len(moved)
 
 
-evening = b"".join(path.read_bytes() for path in EXAMPLES.glob("evening/*.log"))
 # an object that is put, moved, killed, and put elsewhere; a station with a height
-more = []
-for minute, source, text in [
-        (0, "Q1NET", b";LEADER   *111111z5432.58N/00327.36W>"),
-        (1, "Q1NET", b";LEADER   *111111z5433.58N/00327.36W>"),
-        (2, "Q1NET", b";LEADER   _111111z5434.58N/00327.36W>"),
-        (3, "Q1NET", b";LEADER   *111111z5435.58N/00327.36W>"),
-        (4, "Q1FLY", b"!5432.58N/00327.36W'/A=001000 up"),
-        (5, "Q1FLY", b"!5432.  N/00327.  W'/A=00100x")]:
-    frame = hostile.address("APRS", 0xE0) + hostile.address(source, 0x60, 1) + b"\x03\xf0" + text
-    more.append(f"2024-06-21T21:{minute:02}:00Z RX1 c000{frame.hex()}c0\n")
-assert test("".join(more).encode()) == (6, 2)
-# what a spreadsheet would take for a formula is text, and numbers stay
-formulas = [b"=1+1", b"+1+1", b"-1+1", b"@SUM(1)"]
-heard = ""
-for n, text in enumerate(formulas):
-    frame = hostile.address("APRS", 0xE0) + hostile.address("Q1F", 0x60, 1) + b"\x03\xf0"
-    frame += b";%-9s*111111z0432.58S/00327.36W>%s" % (text, text)
-    heard += f"2024-06-21T21:0{n}:00Z RX1 c000{frame.hex()}c0\n"
-rows = list(csv.DictReader(io.StringIO(run("tracks", "csv", given=heard.encode()))))
-assert {row["comment"] for row in rows} == {"'" + it.decode() for it in formulas}, rows
-assert {row["name"] for row in rows} == {"'" + it.decode() for it in formulas}, rows
-assert {row["lat"][:3] + row["lon"][:3] for row in rows} == {"-4.-3."}, rows
-root = xml.etree.ElementTree.fromstring(run("tracks", "gpx", given="".join(more).encode()))
+more = "".join(line(f"21:0{minute}:00", source, text) for minute, (source, text) in enumerate([
+    ("Q1NET", ";LEADER   *111111z5432.58N/00327.36W>"),
+    ("Q1NET", ";LEADER   *111111z5433.58N/00327.36W>"),
+    ("Q1NET", ";LEADER   _111111z5434.58N/00327.36W>"),
+    ("Q1NET", ";LEADER   *111111z5435.58N/00327.36W>"),
+    ("Q1FLY", "!5432.58N/00327.36W'/A=001000 up"),
+    ("Q1FLY", "!5432.  N/00327.  W'/A=00100x")]))
+assert test(more) == (6, 2)
 # a point of the track alone: the last place has none
-assert [height.text for height in root.iter(GPX + "ele")] == ["304.8"]
-count, moved = test(evening)
-test("".join(hostile.log()).encode())
+assert [height.text for height in gpx(more).iter(GPX + "ele")] == ["304.8"]
+# what a spreadsheet would take for a formula is text, and numbers stay
+formulas = ["=1+1", "+1+1", "-1+1", "@SUM(1)"]
+heard = "".join(line(f"21:0{n}:00", "Q1F", f";{text:9}*111111z0432.58S/00327.36W>{text}")
+                for n, text in enumerate(formulas))
+rows = list(csv.DictReader(run("tracks", "csv", given=heard)))
+for name in "comment", "name":
+    assert {row[name] for row in rows} == {"'" + it for it in formulas}, rows
+assert {row["lat"][:3] + row["lon"][:3] for row in rows} == {"-4.-3."}, rows
+count, moved = test("".join(path.read_text() for path in EXAMPLES.glob("evening/*.log")))
+test("".join(hostile.log()))
 print(f"tracks: {count} places of the evening in CSV, GPX and GeoJSON, {moved} things that moved")

@@ -1,11 +1,17 @@
 -- Lemmas on the text of a callsign.
 use Rattle.std.proofs.Common.{◌≡◌, ◌⊎◌, ℕ, ◌+◌, ◌-◌, ◌%◌, ◌≤◌, ◌<◌, ◌==◌, inl, inr, List, [], ◌∷◌, ◌++◌, length, take, drop, Bool, true, false, not, cond, ◌&&◌, nat_le, None, Some, is_none, add-zero, arith, sym, ap, ◌∙◌, refl, slice_index, subst, take-append-drop}
+use Rattle.std.specs.Fmt.{decimal}
+use Rattle.std.specs.Str.{IsAscii}
 use Rattle.std.specs.List.{list_all, position_or_len, before_first}
+use Rattle.std.proofs.lemmas.Fmt.{IsAscii-decimal}
+use Rattle.std.proofs.lemmas.Str.{IsAscii-append}
+use Rattle.std.proofs.lemmas.Str.Ascii.{IsAscii-nil, IsAscii-cons}
+use Rattle.std.proofs.lemmas.Bool.Decides.{nat_tests}
 use Rattle.std.proofs.lemmas.List.{get_or-drop, take_at, drop_at, length-drop}
 use Rattle.std.proofs.lemmas.List.Folds.{length-prefix_len}
 use Rattle.std.proofs.lemmas.List.Sums.{passes_at_first}
 use Rattle.std.proofs.lemmas.Bool.{and_parts, and_from, leb-true, le-leb, eqb-true, ne_eqb, cases_lt}
-use Rattle.aprs_ax25.specs.Callsign.{Call, is_callsign_byte, ssid_text}
+use Rattle.aprs_ax25.specs.Callsign.{Call, IsCall, is_callsign_byte, call_text, ssid_text}
 use Rattle.aprs_ax25.specs.CallText.{CallText, SsidText, IsWrongCall, FirstCallFault, is_dash, before_dash, from_dash}
 use Rattle.aprs_ax25.specs.Scan.{ssid_of, is_wrong_call, call_fault}
 use Rattle.aprs_ax25.specs.Fault.{call_fault_number}
@@ -143,7 +149,7 @@ no_dash (b ∷ letters) d h =
 
 ssid_dash : (s : ℕ) → position_or_len is_dash (ssid_text s) ≡ 0
 ssid_dash s = elim (s == 0) as
-    (λ b. position_or_len is_dash (cond b [] (45 ∷ Rattle.std.specs.Fmt.decimal s)) ≡ 0)
+    (λ b. position_or_len is_dash (cond b [] (45 ∷ decimal s)) ≡ 0)
     [ true ↦ refl | false ↦ refl ]
 
 module _ (c : Call) (text : List ℕ) (h : CallText c text) where
@@ -255,3 +261,20 @@ module _ (text : List ℕ) where
 pub call_fault-FirstCallFault : (text : List ℕ) (fault : CallFault) → call_fault text ≡ Some fault
     → FirstCallFault text fault
 call_fault-FirstCallFault text fault h = found text fault _ _ _ refl refl refl h
+
+-- ---- the bytes of a callsign's text
+
+letters-ascii : (letters : List ℕ) → list_all is_callsign_byte letters ≡ true → IsAscii letters
+letters-ascii [] h = IsAscii-nil
+letters-ascii (b ∷ letters) h =
+    let p = and_parts _ _ h in
+    IsAscii-cons b letters (grind (arith, nat_tests)) (letters-ascii letters p.1)
+
+ssid_text-ascii : (s : ℕ) → s < 16 → IsAscii (ssid_text s)
+ssid_text-ascii s h = elim (s == 0) as (λ b. IsAscii (cond b [] (45 ∷ decimal s)))
+    [ true ↦ IsAscii-nil | false ↦ IsAscii-cons 45 _ (omega arith) (IsAscii-decimal s (omega arith)) ]
+
+-- it is ASCII
+pub IsAscii-call_text : (c : Call) → IsCall c → IsAscii (call_text c)
+IsAscii-call_text c h = IsAscii-append c.letters (ssid_text c.ssid) (letters-ascii c.letters h.bytes)
+    (ssid_text-ascii c.ssid h.ssid)

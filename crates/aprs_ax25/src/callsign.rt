@@ -1,5 +1,6 @@
 //! Callsigns.
 ghost use Rattle.std.specs.Prelude.{◌≡◌, ◌+◌, ◌<◌, ◌≤◌, ◌*◌, ◌/◌, ◌++◌, length, map, take, true, Ok, Some, IfOk, IfErr};
+ghost use Rattle.std.specs.Fmt.{styled_text};
 ghost use Rattle.std.specs.List.{list_all, position_or_len};
 ghost use Rattle.arrayvec.specs.ArrayVec.{array_vec_len};
 ghost use Rattle.aprs_ax25.specs.Address.{address_octets, letters_and_spaces};
@@ -17,6 +18,7 @@ use crate::scan::{MAX_UI_FRAME, is_callsign_byte};
 use aprs_io::{copy_bytes, push_all};
 use arrayvec::ArrayVec;
 use std::cmp::Ordering;
+use std::fmt;
 use std::marker::Model;
 
 /// A callsign of 1 to 6 capitals or digits, with an SSID of 0 to 15 (AX.25 2.2, section 3.12.2).
@@ -161,6 +163,20 @@ impl PartialOrd for Callsign {
 
     fn partial_cmp(&self, other: &Callsign) -> Option<Ordering> {
         Some(self.cmp(other))
+    }
+}
+
+/// Writes the callsign's text, padded as a text is, as `{:<9}` asks.
+impl fmt::Display for Callsign {
+    ghost output = { λ c. Some (Spec.call_text c) };
+
+    ghost styled_output = { λ c options. Some (styled_text options (Spec.call_text c)) };
+
+    fn fmt<W: fmt::Write>(&self, f: &mut fmt::Formatter<W>) -> fmt::Result {
+        match str::from_utf8(self.text().as_slice()) {
+            Ok(text) => f.pad(text),
+            Err(_) => unreachable!(),
+        }
     }
 }
 

@@ -1,8 +1,10 @@
-//! Laws on all byte lists. These functions do nothing: what they ensure is the law.
-ghost use Rattle.std.specs.Prelude.{ℕ, ◌≡◌, ◌<◌, ◌↔◌, ◌⊎◌, List, All, Ok};
+//! Laws on all byte lists and digipeaters: what these functions ensure is the law.
+ghost use Rattle.std.specs.Prelude.{ℕ, ◌≡◌, ◌<◌, ◌↔◌, ◌⊎◌, List, All, IsTrue, Ok};
 ghost use Rattle.aprs_ax25.specs.FrameFault.{frame_of};
 ghost use Rattle.aprs_ax25.specs.Laws.{IsFrame, IsNoFrame};
 ghost use Rattle.aprs_ax25.specs.UiFrame.{IsUiFrame};
+
+use crate::hop::Hop;
 
 /// Every byte list either is the frame of exactly one set of parts, or has exactly one first fault.
 pub fn each_is_a_frame_or_refused()
@@ -13,3 +15,11 @@ pub fn each_is_a_frame_or_refused()
 pub fn ui_frames_are_read()
     ensures { (bytes : List ℕ) → IsUiFrame bytes ↔ (frame_of bytes ≡ Ok bytes) }
 {}
+
+/// Digipeaters are equal exactly if they are the same: the same callsign, which has repeated the
+/// frame or not.
+pub fn equal_hops_are_the_same(a: &Hop, b: &Hop) -> bool
+    ensures { IsTrue result ↔ (a.now ≡ b.now) }
+{
+    a == b
+}

@@ -18,5 +18,5 @@ pub use examples::frames::{
 pub use fault::{CallFault, FrameFault, MakeFault};
 pub use frame::Frame;
 pub use hop::Hop;
-pub use laws::{each_is_a_frame_or_refused, ui_frames_are_read};
+pub use laws::{each_is_a_frame_or_refused, equal_hops_are_the_same, ui_frames_are_read};
 pub use scan::MAX_UI_FRAME;

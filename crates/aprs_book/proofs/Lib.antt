@@ -22,3 +22,4 @@ pub mod MessagesOfSets
 pub mod Things
 pub mod Noting
 pub mod Exchanges
+pub mod Worked

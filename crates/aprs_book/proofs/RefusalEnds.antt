@@ -1,5 +1,5 @@
 -- The end of rows refuses what the rows refuse.
-use Rattle.std.proofs.Common.{◌≡◌, ◌∙◌, ℕ, ◌==◌, false, not, ◌&&◌, ltb, List, [], ◌∷◌, ◌++◌, inl, inr, None, append_assoc, refl, sym, ap, subst, IfSome}
+use Rattle.std.proofs.Common.{◌≡◌, ◌∙◌, ℕ, ◌==◌, ◌<◌, false, not, ◌&&◌, ltb, List, [], ◌∷◌, ◌++◌, inl, inr, None, length, append_assoc, append-nil, arith, refl, sym, ap, subst, IfSome}
 use Rattle.std.specs.List.{last_or, list_any}
 use Rattle.std.specs.Option.{option_map_or}
 use Rattle.std.specs.Ordering.{is_lt, is_gt, ordering_then}
@@ -21,6 +21,27 @@ same_last end all e = elim (empty_or_last end) [
       (e.split ∙ ap (λ q. e.prefix ++ q) t.2 ∙ sym (append_assoc e.prefix t.0 (t.1 ∷ [])))
       ∙ last_after None (e.prefix ++ t.0) t.1)
 ]
+
+-- of two lists that are all rows the last one with rows is their end
+pub front_is_end : (a b all : List Row) → a ++ b ≡ all → length b ≡ 0 → IsEndOf a all
+front_is_end a [] all e n = record {
+  prefix = [];
+  split = sym e ∙ append-nil a;
+  none = λ m. sym e ∙ append-nil a ∙ m;
+}
+front_is_end a (x ∷ b) all e n = absurd (omega (arith, n))
+
+pub back_is_end : (a b all : List Row) → a ++ b ≡ all → 0 < length b → IsEndOf b all
+back_is_end a [] all e n = absurd (omega (arith, n))
+back_is_end a (x ∷ b) all e n = record { prefix = a; split = sym e; none = λ m. absurd (cc) }
+
+-- what rows end with that all rows end with
+pub end_of_end : (a b all : List Row) → IsEndOf a b → IsEndOf b all → IsEndOf a all
+end_of_end a b all e f = record {
+  prefix = f.prefix ++ e.prefix;
+  split = f.split ∙ ap (λ t. f.prefix ++ t) e.split ∙ sym (append_assoc f.prefix e.prefix a);
+  none = λ n. f.none (e.none n);
+}
 
 -- where the same row is the last, the same is refused
 pub refused_at_end : (gap : ℕ) (end all : List Row) (x : Row) → IsEndOf end all

@@ -1,4 +1,5 @@
 -- Definitions that contracts of the book cite.
+pub mod Examples
 pub mod Keyed
 pub mod Known
 pub mod Shown

@@ -219,7 +219,7 @@ impl<A: Allocator + Copy> Book<A> {
         book_of(alloc, self.gap, store)
     }
 
-    /// The book of the same set of receptions under a gap that is not less. `Narrower` comes exactly
+    /// The book of the same set of receptions under a gap that is not less. `Narrower` comes just
     /// where the gap is less, before any memory is taken: rows don't say what lies between their
     /// moments. Beside the new book it takes memory for a store of the rows, and gives that back.
     /// `Memory` comes as from `merge`. This book stays as it is.

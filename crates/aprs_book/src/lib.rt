@@ -2,6 +2,7 @@
 #![tactic(auto)]
 
 mod book;
+mod examples;
 mod from_parts;
 mod known;
 mod lists;
@@ -11,7 +12,7 @@ mod steps;
 mod stored;
 
 pub use aprs_laws::{Gap, MergeFault, RowCause, WidenFault};
-pub use aprs_rows::{Greatest, Join, Memory, ReceiverList, Receivers, all_fit, join_all};
+pub use aprs_rows::{Greatest, Join, Memory, Receivers, all_fit, join_all};
 pub use book::Book;
 pub use from_parts::{RowsFault, from_rows, rows_are_sound_or_have_one_fault};
 pub use known::heard::Heard;

@@ -74,10 +74,10 @@ pub fn read_book<R: Read, A: Allocator + Copy>(
 /// `source`, to the end. Puts them after those of a store, and returns the book's gap. The text is
 /// of version 1, 2 or 3. Reading takes at most `limit` bytes, the head among them, and one more at
 /// `TooLong`. Requires a limit of at most `MAX_INPUT` (1,073,741,824) and a head of at most 8 bytes
-/// and at most `limit`. A fault is the text's first, with the number of its line; `Memory` comes instead where an
-/// allocation failed before that fault, with the number of the line that was being read, and the
-/// rows of the lines before it are then in the store. After another fault anything may be there.
-/// Holds the store and one line.
+/// and at most `limit`. A fault is the text's first, with the number of its line; `Memory` comes
+/// instead where an allocation failed before that fault, with the number of the line that was being
+/// read, and the rows of the lines before it are then in the store. After another fault anything may
+/// be there. Holds the store and one line.
 pub fn read_rows<R: Read, A: Allocator + Copy>(
     alloc: A,
     limit: u64,

@@ -1,5 +1,4 @@
 -- Definitions that contracts of conversions and checks cite.
-pub mod Shown
 pub mod Monitor
 pub mod Conversion
 pub mod Check

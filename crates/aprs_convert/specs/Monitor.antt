@@ -1,17 +1,12 @@
 -- A frame as a monitor prints it.
-use Rattle.std.specs.Prelude.{ℕ, if◌then◌else◌, List, [], ◌∷◌, ◌++◌, map}
+use Rattle.std.specs.Prelude.{ℕ, List, ◌∷◌, ◌++◌, map}
 use Rattle.std.specs.List.{flat_map}
 use Rattle.aprs_ax25.specs.Callsign.{call_text}
-use Rattle.aprs_ax25.specs.Hop.{hop_of}
-use Rattle.aprs_ax25.specs.declared.hop.Hop.{Hop}
+use Rattle.aprs_ax25.specs.Hop.{hop_of, hop_text}
 use Rattle.aprs_ax25.specs.Frame.{Parts}
 use Rattle.aprs_report.specs.Reading.{kind_of}
 use Rattle.aprs_report.specs.Reader.{reading_of}
-use Rattle.aprs_convert.specs.Shown.{shown_text}
-
--- A comma, the digipeater, and a star where it has repeated the frame.
-abbrev pub hop_text : Hop → List ℕ
-hop_text hop = 44 ∷ call_text hop.call ++ (if hop.repeated then 42 ∷ [] else [])
+use Rattle.aprs_io.specs.Shown.{shown_text}
 
 -- SOURCE>DESTINATION,DIGIPEATER*,..:INFORMATION.
 abbrev pub monitor_text : Parts → List ℕ

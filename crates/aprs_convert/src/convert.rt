@@ -3,9 +3,9 @@ ghost use Rattle.std.specs.Prelude.{◌≤◌};
 ghost use Rattle.aprs_io.specs.Input.{most_input};
 ghost use Rattle.aprs_convert.specs.Plan.{RunsAsPlanned, lines_plan};
 
-use crate::answer::{Scratch, write_line_as};
 use crate::fault::ConvertFault;
 use crate::form::Form;
+use crate::write_line::{Scratch, write_line_as};
 use aprs_kiss::Counted;
 use aprs_log::LogReader;
 use std::alloc::Allocator;

@@ -1,7 +1,6 @@
 //! Logs and KISS streams, converted and checked as they are read.
 #![tactic(auto)]
 
-mod answer;
 mod capture;
 mod check;
 mod convert;
@@ -10,8 +9,10 @@ mod fault;
 mod form;
 mod laws;
 mod monitor;
+mod monitor_example;
 mod run;
 mod text;
+mod write_line;
 
 pub use check::check_log;
 pub use example::checks_count_lines;
@@ -19,4 +20,3 @@ pub use fault::ConvertFault;
 pub use form::Form;
 pub use laws::{one_text_is_checked, one_text_is_converted};
 pub use run::convert_input;
-pub use text::{are_shown, shown_byte};

@@ -3,9 +3,9 @@ ghost use Rattle.std.specs.Prelude.{◌≡◌, ◌+◌, ◌≤◌, ◌++◌, map
 ghost use Rattle.std.specs.List.{flat_map};
 ghost use Rattle.arrayvec.specs.ArrayVec.{array_vec_len};
 ghost use Rattle.aprs_ax25.specs.FrameFault.{parts_of};
-ghost use Rattle.aprs_ax25.specs.Hop.{hop_of};
+ghost use Rattle.aprs_ax25.specs.Hop.{hop_of, hop_text};
 ghost use Rattle.aprs_convert.specs.declared.text.TheConstants.{MAX_TEXT};
-ghost use Rattle.aprs_convert.specs.Monitor.{hop_text, monitor_text};
+ghost use Rattle.aprs_convert.specs.Monitor.{monitor_text};
 
 use crate::text::{Text, push_shown};
 use aprs_ax25::Frame;

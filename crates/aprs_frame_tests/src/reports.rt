@@ -309,6 +309,84 @@ fn acks_and_rejs(rt: HostRuntime) {
     assert!(rt; are_kind(&acks, "ack") && are_kind(&rejs, "rej"));
 }
 
+/// Fields at the ends of what may stand in a place: the letters of a table that lies over another, a
+/// code, a stamp by the hour, a name, an id, and what is cut off at the end of a message.
+const AT_THE_ENDS: &[(&[u8], Report<'static>)] = &[
+    (
+        b"!4903.50NZ07201.75W~",
+        Report::Position {
+            messaging: false,
+            stamp: None,
+            place: HERE,
+            symbol: Symbol {
+                table: b'Z',
+                code: b'~',
+            },
+            comment: b"",
+        },
+    ),
+    (b"!4903.50N[07201.75W-", Report::Raw),
+    (b"!4903.50N/07201.75W ", Report::Raw),
+    (b"!4903.50N/07201.75W\x7f", Report::Raw),
+    (
+        b"=j5L!!<*e7> sT",
+        Report::Position {
+            messaging: true,
+            stamp: None,
+            place: COMPRESSED,
+            symbol: Symbol {
+                table: b'9',
+                code: b'>',
+            },
+            comment: b"",
+        },
+    ),
+    (b"=k5L!!<*e7> sT", Report::Raw),
+    (
+        b"/092345h4903.50N/07201.75W>",
+        Report::Position {
+            messaging: false,
+            stamp: Some(Stamp {
+                digits: *b"092345",
+                mark: b'h',
+            }),
+            place: HERE,
+            symbol: CAR,
+            comment: b"",
+        },
+    ),
+    (b"/092345x4903.50N/07201.75W>", Report::Raw),
+    (
+        b">092345hNet",
+        Report::Status {
+            stamp: None,
+            text: b"092345hNet",
+        },
+    ),
+    (b")AI\x7f!4903.50N/07201.75WA", Report::Raw),
+    (
+        b":WU2Z     :Testing{aZ09b\r\n",
+        Report::Message {
+            addressee: b"WU2Z",
+            text: b"Testing",
+            id: Some(b"aZ09b"),
+        },
+    ),
+    (
+        b":WU2Z     :Testing{123456",
+        Report::Message {
+            addressee: b"WU2Z",
+            text: b"Testing{123456",
+            id: None,
+        },
+    ),
+];
+
+#[test]
+fn ends_of_ranges(rt: HostRuntime) {
+    assert!(rt; misread(AT_THE_ENDS) == None);
+}
+
 /// Mic-E, weather, telemetry, raw GPS, queries, capabilities, user-defined, third-party, grid
 /// locators, test data, no bytes, and a position after other text.
 #[test]

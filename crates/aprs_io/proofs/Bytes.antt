@@ -47,11 +47,6 @@ AppendsPrefix-after a b c bs rest part more p e q = (
   ),
 )
 
--- all of it went out
-pub Appends-from_all : (a b : Option (List ℕ)) (bs : List ℕ) → AppendsAllBut a b bs []
-    → Appends a b bs
-Appends-from_all a b bs p = subst (Appends a b) (sym (p.1 ∙ append-nil p.0)) p.2
-
 -- two texts, one after another
 pub AppendsPrefix-more : (a b : Option (List ℕ)) (bs more : List ℕ) → AppendsPrefix a b bs
     → AppendsPrefix a b (bs ++ more)

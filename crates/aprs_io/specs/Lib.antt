@@ -5,3 +5,4 @@ pub mod Hexadecimal
 pub mod Input
 pub mod InputSteps
 pub mod Outlet
+pub mod Shown

@@ -1,5 +1,5 @@
 //! Inputs under a limit and output through a buffer, over devices that count their failed calls;
-//! and bytes that are copied, cut, and read or written as hexadecimal digits.
+//! and bytes that are copied, cut, shown, and read or written as hexadecimal digits.
 #![tactic(auto)]
 
 mod byte_vectors;
@@ -9,6 +9,7 @@ mod hexadecimal;
 mod input;
 mod laws;
 mod outlet;
+mod shown;
 
 pub use byte_vectors::{copy_bytes, push_all, put};
 pub use cut::cut_at;
@@ -17,3 +18,4 @@ pub use hexadecimal::{decode_into, decode_lower_into, put_hex};
 pub use input::{Ending, MAX_INPUT, read_some};
 pub use laws::inputs_have_at_most_one_gibibyte;
 pub use outlet::{MAX_HELD, Outlet};
+pub use shown::{are_shown, shown_byte};

@@ -21,5 +21,5 @@ pub use laws::{
 };
 pub use listen::{Listener, feed_all, feed_in_parts};
 pub use reader::{Fed, KissReader, MAX_FRAME};
-pub use spelling::cut_plain;
+pub use spelling::{FEND, cut_plain};
 pub use write::{KissWriter, write_kiss};

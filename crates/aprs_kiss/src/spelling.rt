@@ -4,7 +4,7 @@ ghost use Rattle.aprs_kiss.specs.Plain.{CutsPlain, IsPlain, is_special};
 
 use memchr::memchr2;
 
-/// Stands before and after a frame.
+/// A frame end, which stands before and after a frame.
 pub const FEND: u8 = 0xC0;
 /// Begins an escape.
 pub const FESC: u8 = 0xDB;

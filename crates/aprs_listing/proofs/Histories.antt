@@ -10,7 +10,7 @@ use Rattle.aprs_ax25.specs.Callsign.{Call, call_text}
 use Rattle.aprs_ax25.specs.Frame.{Parts}
 use Rattle.aprs_ax25.specs.FrameFault.{parts_of}
 use Rattle.aprs_ax25.specs.Hop.{hop_of}
-use Rattle.aprs_convert.specs.Shown.{shown_text}
+use Rattle.aprs_io.specs.Shown.{shown_text}
 use Rattle.aprs_io.specs.Outlet.{Puts}
 use Rattle.aprs_io.specs.declared.device.WriteFault.{WriteFault}
 use Rattle.aprs_io.specs.declared.outlet.Outlet.{Outlet}

@@ -8,7 +8,7 @@ use Rattle.aprs_log.specs.Moment.{moment_text}
 use Rattle.aprs_log.specs.Reception.{Heard}
 use Rattle.aprs_listing.specs.Lines.{field_text, spaced_field}
 use Rattle.aprs_listing.specs.Listing.{after_space, heard_fields, live_text, name_fields, line_with_text, word}
-use Rattle.aprs_convert.specs.Shown.{shown_text}
+use Rattle.aprs_io.specs.Shown.{shown_text}
 use Rattle.aprs_listing.specs.declared.field.Field.{Field}
 
 pub spaced_fields : (xs : List Field) → flat_map spaced_field xs

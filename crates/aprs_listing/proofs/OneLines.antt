@@ -1,5 +1,5 @@
 -- No line of a history has an LF but at its end.
-use Rattle.std.proofs.Common.{◌≡◌, ◌≢◌, ◌∙◌, ℕ, zero, suc, ◌+◌, ◌/◌, ◌%◌, Bool, true, false, not, ◌&&◌, cond, nat_lt, ◌==◌, List, [], ◌∷◌, ◌++◌, map, get_or, Option, Some, None, pos, negsuc, ℤ, refl, ap, sym, append_assoc, arith, codes}
+use Rattle.std.proofs.Common.{All, ◌≡◌, ◌≢◌, ◌∙◌, ℕ, zero, suc, ◌+◌, ◌/◌, ◌%◌, Bool, true, false, not, ◌&&◌, cond, nat_lt, ◌==◌, List, [], ◌∷◌, ◌++◌, map, get_or, Option, Some, None, pos, negsuc, ℤ, refl, ap, sym, append_assoc, arith, codes}
 use Rattle.std.specs.List.{AllByRecursion, flat_map, join_with_byte, list_all}
 use Rattle.std.specs.Fmt.{decimal, digit_glyph, digits, digits_onto, signed_decimal}
 use Rattle.std.proofs.lemmas.Bool.{and_parts}
@@ -9,9 +9,8 @@ use Rattle.aprs_ax25.specs.Address.{Address, IsAddress, is_repeated}
 use Rattle.aprs_ax25.specs.Callsign.{Call, IsCall, call_text, is_callsign_byte}
 use Rattle.aprs_ax25.specs.Frame.{Parts, IsParts}
 use Rattle.aprs_ax25.specs.FrameFault.{parts_of}
-use Rattle.aprs_ax25.specs.Hop.{hop_of}
-use Rattle.aprs_convert.specs.Monitor.{hop_text}
-use Rattle.aprs_convert.specs.Shown.{is_shown, shown_byte, shown_text}
+use Rattle.aprs_ax25.specs.Hop.{hop_of, hop_text}
+use Rattle.aprs_io.specs.Shown.{is_shown, shown_byte, shown_text}
 use Rattle.aprs_log.specs.LogText.{HasNoLf}
 use Rattle.aprs_log.specs.Moment.{day_after, moment_text, moment_text_in, two_digits}
 use Rattle.aprs_log.specs.Receiver.{IsName, is_name_byte}
@@ -35,7 +34,7 @@ use Rattle.aprs_mice.specs.MicEMessage.{message_name}
 use Rattle.aprs_mice.specs.Reader.{mic_e_of}
 use Rattle.aprs_mice.specs.declared.mic_e_message.MicEMessage.{MicEMessage}
 use Rattle.aprs_mice.specs.declared.mic_e_message.MicEMessage.TheVariants as say
-use Rattle.aprs_listing.specs.History.{history_line, history_text, hop_word, id_word, other_line, row_fields, told_line, via_text}
+use Rattle.aprs_listing.specs.History.{history_line, history_text, id_word, other_line, row_fields, told_line, via_text}
 use Rattle.aprs_listing.specs.Listing.{after_space, ambiguity_text, degrees_text, line_with, line_with_text, live_text, place_fields, stamp_text, word, word_byte}
 use Rattle.aprs_rows.specs.Told.{IsTold}
 use Rattle.aprs_listing.specs.OneLine.{HasOneLineEach}
@@ -185,8 +184,9 @@ free_call call h = free_append call.letters _ (free_by is_callsign_byte refl cal
     go true = tt
     go false = (λ e. absurd cc, free_decimal call.ssid)
 
-free_hop : (a : Address) → IsAddress a → Free (hop_word (hop_of a))
-free_hop a h = free_append (call_text a.call) _ (free_call a.call h.call) (go (is_repeated a))
+free_hop : (a : Address) → IsAddress a → Free (hop_text (hop_of a))
+free_hop a h =
+    (λ e. absurd cc, free_append (call_text a.call) _ (free_call a.call h.call) (go (is_repeated a)))
   where
     go : (t : Bool) → Free (cond t (42 ∷ []) [])
     go true = (λ e. absurd cc, tt)
@@ -195,15 +195,11 @@ free_hop a h = free_append (call_text a.call) _ (free_call a.call h.call) (go (i
 free_hops : (all : List Address) → AllByRecursion IsAddress all
     → Free (flat_map hop_text (map hop_of all))
 free_hops [] h = tt
-free_hops (a ∷ all) h = (
-  λ e. absurd cc,
-  free_append (hop_word (hop_of a)) _ (free_hop a h.0)
-      (free_hops all h.1),
-)
+free_hops (a ∷ all) h = free_append (hop_text (hop_of a)) _ (free_hop a h.0) (free_hops all h.1)
 
 free_via : (all : List Address) → AllByRecursion IsAddress all → Free (via_text (map hop_of all))
 free_via [] h = (λ e. absurd cc, tt)
-free_via (a ∷ all) h = free_append (hop_word (hop_of a)) _ (free_hop a h.0) (free_hops all h.1)
+free_via (a ∷ all) h = (free_hops (a ∷ all) h).1
 
 -- ---- fields
 
@@ -388,18 +384,19 @@ row_line x h =
       ),
     ) p are (reading_of p.info) (reads_as p.info)
 
-pub one_line_each : (rows : List Row) → AllByRecursion IsTold rows → HasOneLineEach rows
-one_line_each [] h = record { lines = []; as_many = refl; whole = All-from_recursion HasNoLf [] tt; text_is = refl }
+one_line_each : (rows : List Row) → AllByRecursion IsTold rows → HasOneLineEach rows
+one_line_each [] h = ([], refl, All-from_recursion HasNoLf [] tt, refl)
 one_line_each (x ∷ rows) h =
     let line = row_line x h.0 in
-    let more = one_line_each rows h.1 in
-    record {
-      lines = line.body ∷ more.lines;
-      as_many = ap suc more.as_many;
-      whole = All-from_recursion HasNoLf (line.body ∷ more.lines) (
+    let more = one_line_each rows h.1 in (
+      line.body ∷ more.0,
+      ap suc more.1,
+      All-from_recursion HasNoLf (line.body ∷ more.0) (
         All-from_recursion (λ b. b ≢ 10) line.body line.free,
-        recursion_from_All HasNoLf more.lines more.whole,
-      );
-      text_is = ap (λ l. l ++ history_text rows) line.is
-          ∙ ap (λ l. (line.body ++ 10 ∷ []) ++ l) more.text_is;
-    }
+        recursion_from_All HasNoLf more.0 more.2,
+      ),
+      ap (λ l. l ++ history_text rows) line.is ∙ ap (λ l. (line.body ++ 10 ∷ []) ++ l) more.3,
+    )
+
+pub lines_of_told : (rows : List Row) → All IsTold rows → HasOneLineEach rows
+lines_of_told rows h = one_line_each rows (recursion_from_All IsTold rows h)

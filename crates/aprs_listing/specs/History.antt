@@ -1,11 +1,11 @@
 -- The history of a book: a line for each row, which says what the row's frame reports.
-use Rattle.std.specs.Prelude.{ℕ, if◌then◌else◌, List, [], ◌∷◌, ◌++◌, map, Option, None, Some, codes}
+use Rattle.std.specs.Prelude.{ℕ, List, [], ◌∷◌, ◌++◌, drop, map, Option, None, Some, codes}
 use Rattle.std.specs.Fmt.{decimal}
 use Rattle.std.specs.List.{flat_map, join_with_byte}
 use Rattle.aprs_ax25.specs.Callsign.{call_text}
 use Rattle.aprs_ax25.specs.Frame.{Parts}
 use Rattle.aprs_ax25.specs.FrameFault.{parts_of}
-use Rattle.aprs_ax25.specs.Hop.{hop_of}
+use Rattle.aprs_ax25.specs.Hop.{hop_of, hop_text}
 use Rattle.aprs_ax25.specs.declared.hop.Hop.{Hop}
 use Rattle.aprs_report.specs.Reading.{Value, position, object, item, message, ack, rej, status, raw}
 use Rattle.aprs_report.specs.Reader.{reading_of}
@@ -14,19 +14,15 @@ use Rattle.aprs_mice.specs.MicEMessage.{message_name}
 use Rattle.aprs_mice.specs.Reader.{mic_e_of}
 use Rattle.aprs_log.specs.Moment.{moment_text}
 use Rattle.aprs_laws.specs.Row.{Row, last_of}
-use Rattle.aprs_convert.specs.Monitor.{hop_text}
 use Rattle.aprs_listing.specs.Listing.{line_with, line_with_text, live_text, place_fields, stamp_text, word}
 
 -- ---- fields
 
--- A digipeater, and a star where it has repeated the frame.
-abbrev pub hop_word : Hop → List ℕ
-hop_word hop = call_text hop.call ++ (if hop.repeated then 42 ∷ [] else [])
-
--- The digipeaters with a comma between, or - where there are none.
+-- The digipeaters as a monitor prints them, without the comma before the first, or - where there
+-- are none.
 abbrev pub via_text : List Hop → List ℕ
 via_text [] = codes "-"
-via_text (hop ∷ more) = hop_word hop ++ flat_map hop_text more
+via_text (hop ∷ more) = drop 1 (flat_map hop_text (hop ∷ more))
 
 -- The id of a message, or - without one.
 abbrev pub id_word : Option (List ℕ) → List ℕ

@@ -3,3 +3,4 @@ pub mod Listing
 pub mod Lines
 pub mod History
 pub mod OneLine
+pub mod Examples

@@ -22,7 +22,7 @@ use Rattle.aprs_book.specs.declared.lists.message.MessageState.{MessageState}
 use Rattle.aprs_book.specs.declared.lists.message.MessageState.TheVariants.{Unnumbered, Unanswered, Acknowledged, Rejected}
 use Rattle.aprs_book.specs.declared.lists.named.Named.{Named}
 use Rattle.aprs_book.specs.declared.lists.station.Station.{Station}
-use Rattle.aprs_convert.specs.Shown.{shown_byte, shown_text}
+use Rattle.aprs_io.specs.Shown.{shown_byte, shown_text}
 
 -- ---- fields
 

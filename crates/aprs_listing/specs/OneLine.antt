@@ -6,11 +6,9 @@ use Rattle.aprs_rows.specs.Told.{IsTold}
 use Rattle.aprs_listing.specs.History.{history_text}
 
 -- The history is the text of as many lines as rows, in none of which an LF stands.
-pub record HasOneLineEach (rows : List Row) : Type 0 where
-  pub lines : List (List ℕ)
-  pub as_many : length lines ≡ length rows
-  pub whole : All HasNoLf lines
-  pub text_is : history_text rows ≡ text_of_lines lines
+abbrev pub HasOneLineEach : List Row → Type 0
+HasOneLineEach rows = (lines : List (List ℕ)) × (length lines ≡ length rows) × All HasNoLf lines
+    × (history_text rows ≡ text_of_lines lines)
 
 -- The history of such rows as a store has, has one line for each.
 abbrev pub HistoriesHaveOneLineEach : Type 0

@@ -3,11 +3,10 @@ ghost use Rattle.std.specs.Prelude.{◌≡◌};
 ghost use Rattle.aprs_io.specs.Outlet.{Puts};
 ghost use Rattle.aprs_listing.specs.Lines.{field_text};
 ghost use Rattle.aprs_listing.specs.Listing as Spec;
-ghost use Rattle.aprs_convert.specs.Shown.{shown_text};
+ghost use Rattle.aprs_io.specs.Shown.{shown_text};
 
 use aprs_ax25::Callsign;
-use aprs_convert::{are_shown, shown_byte};
-use aprs_io::{Outlet, WriteFault, push_all};
+use aprs_io::{Outlet, WriteFault, are_shown, push_all, shown_byte};
 use aprs_log::Moment;
 use aprs_report::{Fraction, Place, Stamp, Symbol};
 use arrayvec::ArrayVec;

@@ -1,5 +1,5 @@
 //! The history of a book.
-ghost use Rattle.std.specs.Prelude.{◌≡◌, ◌∷◌, [], map, None};
+ghost use Rattle.std.specs.Prelude.{◌≡◌, ◌∷◌, ◌++◌, [], map, None};
 ghost use Rattle.std.specs.Fmt.{decimal};
 ghost use Rattle.aprs_ax25.specs.Callsign.{call_text};
 ghost use Rattle.aprs_log.specs.Moment.{moment_text};
@@ -10,8 +10,9 @@ ghost use Rattle.aprs_report.specs.Reading.{view};
 ghost use Rattle.aprs_mice.specs.MicEMessage.{message_name};
 ghost use Rattle.aprs_mice.specs.Reader.{mic_e_of};
 ghost use Rattle.aprs_listing.specs.History.{history_line, history_text, other_line, told_line};
-ghost use Rattle.aprs_listing.specs.Lines.{field_text};
+ghost use Rattle.aprs_listing.specs.Lines.{field_text, told_named_line};
 ghost use Rattle.aprs_listing.specs.Listing as Spec;
+ghost use Rattle.aprs_listing.specs.OneLine.{HasOneLineEach};
 
 use crate::field::Field;
 use crate::heard_line::live_text;
@@ -27,13 +28,14 @@ use aprs_rows::{RowView, Transmissions};
 use std::alloc::Allocator;
 use std::io::Write;
 
-/// Writes the history of the rows: a line for each, in their order. At a fault a prefix of this
-/// went out. Takes no memory.
+/// Writes the history of the rows: exactly one line for each, in their order. At a fault a prefix
+/// of this went out. Takes no memory.
 pub fn write_history<W: Write, A: Allocator + Copy>(
     w: &mut Counted<W>,
     rows: &Transmissions<'_, A>,
 ) -> Result<(), WriteFault>
-    ensures { Sends W.contents result w.old w.new (history_text rows.now.rows) }
+    ensures sends { Sends W.contents result w.old w.new (history_text rows.now.rows) }
+    ensures lines { HasOneLineEach rows.now.rows }
 {
     let mut out = Outlet::new(w);
     put_history(&mut out, rows)?;
@@ -45,7 +47,8 @@ fn put_history<W: Write, A: Allocator + Copy>(
     out: &mut Outlet<'_, W>,
     rows: &Transmissions<'_, A>,
 ) -> Result<(), WriteFault>
-    ensures { Puts W.contents result out.old out.new (history_text rows.now.rows) }
+    ensures puts { Puts W.contents result out.old out.new (history_text rows.now.rows) }
+    ensures lines { HasOneLineEach rows.now.rows }
 {
     for row in rows.rows() {
         put_row_history(out, &row)?;
@@ -112,6 +115,36 @@ fn put_told<W: Write>(
             let fields = place_fields(stamp, place, symbol);
             put_text_line(out, b"position", told, &fields, comment)
         }
+        Report::Object { .. } => put_named(out, told, report),
+        Report::Item { .. } => put_named(out, told, report),
+        Report::Status { stamp, text } => {
+            put_text_line(out, b"status", told, &[Field::Stamp(stamp)], text)
+        }
+        Report::Message {
+            addressee,
+            text,
+            id,
+        } => {
+            let fields = [Field::Word(addressee), Field::Plain(id_text(id))];
+            put_text_line(out, b"message", told, &fields, text)
+        }
+        Report::Ack { addressee, id } => put_answer_line(out, b"ack", told, addressee, id),
+        Report::Rej { addressee, id } => put_answer_line(out, b"rej", told, addressee, id),
+        Report::Raw => put_other(out, told, frame),
+    }
+}
+
+/// Puts the line of an object or an item: its kind, the fields that are told, and those of the
+/// report. Of any other report nothing is put. Fails where the output is refused.
+fn put_named<W: Write>(
+    out: &mut Outlet<'_, W>,
+    told: &[Field<'_>],
+    report: Report<'_>,
+) -> Result<(), WriteFault>
+    ensures { Puts W.contents result out.old out.new
+        (told_named_line (map field_text told.now) (view report.entry)) }
+{
+    match report {
         Report::Object {
             name,
             live,
@@ -133,35 +166,25 @@ fn put_told<W: Write>(
             let fields = named_fields(name, live, None, place, symbol);
             put_text_line(out, b"item", told, &fields, comment)
         }
-        Report::Status { stamp, text } => {
-            put_text_line(out, b"status", told, &[Field::Stamp(stamp)], text)
-        }
-        Report::Message {
-            addressee,
-            text,
-            id,
-        } => {
-            let fields = [Field::Word(addressee), Field::Plain(id_text(id))];
-            put_text_line(out, b"message", told, &fields, text)
-        }
-        Report::Ack { addressee, id } => {
-            put_lists_line(
-                out,
-                b"ack",
-                told,
-                &[Field::Word(addressee), Field::Plain(id)],
-            )
-        }
-        Report::Rej { addressee, id } => {
-            put_lists_line(
-                out,
-                b"rej",
-                told,
-                &[Field::Word(addressee), Field::Plain(id)],
-            )
-        }
-        Report::Raw => put_other(out, told, frame),
+        Report::Position { .. } | Report::Status { .. } | Report::Message { .. } => Ok(()),
+        Report::Ack { .. } | Report::Rej { .. } | Report::Raw => Ok(()),
     }
+}
+
+/// Puts the line of an ack or a rej, as `kind` says: the fields that are told, to whom it is, and
+/// the id that it is for. Fails where the output is refused.
+fn put_answer_line<W: Write>(
+    out: &mut Outlet<'_, W>,
+    kind: &[u8],
+    told: &[Field<'_>],
+    addressee: &[u8],
+    id: &[u8],
+) -> Result<(), WriteFault>
+    ensures { Puts W.contents result out.old out.new
+        (Spec.line_with kind.now
+        (map field_text told.now ++ Spec.word addressee.now ∷ id.now ∷ [])) }
+{
+    put_lists_line(out, kind, told, &[Field::Word(addressee), Field::Plain(id)])
 }
 
 /// Puts the line of a frame that has no report: its kind, the fields that are told, and those of

@@ -2,6 +2,7 @@
 //! item and message.
 #![tactic(auto)]
 
+mod examples;
 mod field;
 mod heard_line;
 mod history;
@@ -10,6 +11,7 @@ mod line;
 mod via;
 mod views;
 
+pub use examples::{histories_tell_mic_e, histories_tell_reports, histories_tell_rows};
 pub use history::write_history;
 pub use laws::histories_have_one_line_each;
 pub use views::Views;

@@ -3,7 +3,7 @@ ghost use Rattle.std.specs.Prelude.{[], ◌∷◌, ◌++◌};
 ghost use Rattle.std.specs.List.{flat_map};
 ghost use Rattle.aprs_io.specs.Outlet.{Puts};
 ghost use Rattle.aprs_listing.specs.Lines.{spaced_field};
-ghost use Rattle.aprs_convert.specs.Shown.{shown_text};
+ghost use Rattle.aprs_io.specs.Shown.{shown_text};
 
 use crate::field::{Field, put_field, put_shown};
 use aprs_io::{Outlet, WriteFault};

@@ -3,10 +3,9 @@ ghost use Rattle.std.specs.Prelude.{◌≡◌, ◌+◌, ◌≤◌, ◌++◌, Lis
 ghost use Rattle.std.specs.List.{flat_map};
 ghost use Rattle.arrayvec.specs.ArrayVec.{array_vec_len};
 ghost use Rattle.aprs_ax25.specs.FrameFault.{parts_of};
-ghost use Rattle.aprs_ax25.specs.Hop.{hop_of};
+ghost use Rattle.aprs_ax25.specs.Hop.{hop_of, hop_text};
 ghost use Rattle.aprs_ax25.specs.declared.hop.Hop.{Hop};
 ghost use Rattle.aprs_listing.specs.declared.via.TheConstants.{MAX_HOPS};
-ghost use Rattle.aprs_convert.specs.Monitor.{hop_text};
 ghost use Rattle.aprs_listing.specs.History.{via_text};
 
 use aprs_ax25::Frame;

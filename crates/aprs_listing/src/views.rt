@@ -44,7 +44,7 @@ impl<'a, A: Allocator> Drop for Views<'a, A> {
 impl<'a, A: Allocator + Copy> Views<'a, A> {
     /// What is listed of rows in a store, from the overview of them: their stations, their
     /// objects and items, and their messages. `Memory` where an allocation failed for it.
-    pub fn of_rows(rows: &'a Overview<'_, '_, A>) -> Result<Views<'a, A>, Memory>
+    pub fn of(rows: &'a Overview<'_, '_, A>) -> Result<Views<'a, A>, Memory>
         ensures stations { IfOk result (λ v.
             ReportsStations (millis_of rows.now.gap) rows.now.rows v.stations.items) }
         ensures named { IfOk result (λ v.

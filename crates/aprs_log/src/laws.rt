@@ -1,6 +1,6 @@
-//! Laws of lines and logs: what is read is what the text says. These functions do nothing: what
-//! they ensure is the law.
-ghost use Rattle.std.specs.Prelude.{ℕ, ◌≡◌, ◌↔◌, List, None, Some, Ok, Err};
+//! Laws of lines and logs: what is read is what the text says, and which lines are equal. What
+//! these functions ensure is the law.
+ghost use Rattle.std.specs.Prelude.{ℕ, ◌≡◌, ◌↔◌, List, IsTrue, None, Some, Ok, Err};
 ghost use Rattle.aprs_io.specs.declared.input.Ending.{Ending};
 ghost use Rattle.aprs_log.specs.Fault.{log_cause_of};
 ghost use Rattle.aprs_log.specs.Line.{line_of};
@@ -13,6 +13,8 @@ ghost use Rattle.aprs_log.specs.declared.fault.LogCause.{LogCause};
 ghost use Rattle.aprs_log.specs.declared.fault.LogFault.{LogFault};
 ghost use Rattle.aprs_log.specs.declared.fault.Reason.{Reason};
 ghost use Rattle.aprs_log.specs.declared.line.Line.TheVariants as line;
+
+use crate::line::Line;
 
 /// A line is read as it says: what it reports is heard, a line that carries no frame is passed over
 /// for some reason, and a line that is wrong is refused for the same cause. `line_of` is the
@@ -35,3 +37,11 @@ pub fn logs_are_read_as_they_say()
     ensures fault { (text : List ℕ) (ending : Ending) (fault : LogFault)
         → HasLogFault text ending fault ↔ ((log_answers text ending).fault ≡ Some fault) }
 {}
+
+/// Lines are equal exactly if they are the same: the same reception was heard, or both are passed
+/// over for the same reason.
+pub fn equal_lines_are_the_same(a: &Line, b: &Line) -> bool
+    ensures { IsTrue result ↔ (a.now ≡ b.now) }
+{
+    a == b
+}

@@ -1,5 +1,6 @@
 //! Moments in milliseconds.
 ghost use Rattle.std.specs.Prelude.{◌≡◌, ◌↔◌, ℕ, ◌≤◌, ◌*◌, ◌/◌, Some, SomeIff};
+ghost use Rattle.std.specs.Fmt.{styled_text};
 ghost use Rattle.std.specs.Ordering.{nat_cmp, as_partial_cmp};
 ghost use Rattle.std.proofs.Common.{rules};
 ghost use Rattle.std.specs.Cmp.{partial_order_from_own_ties};
@@ -16,6 +17,7 @@ pub(crate) mod writer;
 use crate::MomentForm;
 use civil::{CivilTime, SECONDS_LEN};
 use std::cmp::Ordering;
+use std::fmt;
 use std::marker::Model;
 
 /// The last second of the year 2099, in seconds since 1970-01-01T00:00:00Z.
@@ -42,6 +44,9 @@ impl Model for Moment {
 }
 
 impl Moment {
+    /// The moment 1970-01-01T00:00:00Z.
+    pub(crate) const EPOCH: Moment = Moment { millis: 0 };
+
     /// The moment `seconds` seconds after 1970-01-01T00:00:00Z, or `None` where these are more than
     /// 4,102,444,799, the last second of 2099. Takes no memory.
     pub fn new(seconds: u64) -> Option<Moment>
@@ -66,13 +71,6 @@ impl Moment {
         } else {
             None
         }
-    }
-
-    /// The moment 1970-01-01T00:00:00Z.
-    pub(crate) fn first() -> Moment
-        ensures { result ≡ 0 }
-    {
-        Moment { millis: 0 }
     }
 
     /// The milliseconds since 1970-01-01T00:00:00Z. Takes no memory.
@@ -133,6 +131,20 @@ impl Moment {
         ensures { result ≡ self.now }
     {
         *self
+    }
+}
+
+/// Writes the moment's text to the millisecond, padded as a text is, as `{:>26}` asks.
+impl fmt::Display for Moment {
+    ghost output = { λ m. Some (moment_text m) };
+
+    ghost styled_output = { λ m options. Some (styled_text options (moment_text m)) };
+
+    fn fmt<W: fmt::Write>(&self, f: &mut fmt::Formatter<W>) -> fmt::Result {
+        match str::from_utf8(&self.text()) {
+            Ok(text) => f.pad(text),
+            Err(_) => unreachable!(),
+        }
     }
 }
 

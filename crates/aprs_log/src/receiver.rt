@@ -1,5 +1,6 @@
 //! Names of receivers.
-ghost use Rattle.std.specs.Prelude.{◌≡◌, List, ℕ, SomeIff};
+ghost use Rattle.std.specs.Prelude.{◌≡◌, List, ℕ, Some, SomeIff};
+ghost use Rattle.std.specs.Fmt.{styled_text};
 ghost use Rattle.std.specs.List.{list_all};
 ghost use Rattle.std.specs.Ordering.{as_partial_cmp};
 ghost use Rattle.std.proofs.Common.{rules};
@@ -11,6 +12,7 @@ ghost use Rattle.aprs_log.specs.Reception.{bytes_cmp};
 use aprs_io::copy_bytes;
 use arrayvec::ArrayVec;
 use std::cmp::Ordering;
+use std::fmt;
 use std::marker::Model;
 
 /// The most bytes of a receiver's name.
@@ -70,6 +72,20 @@ impl Receiver {
     {
         Receiver {
             bytes: copy_bytes(&self.bytes),
+        }
+    }
+}
+
+/// Writes the name, padded as a text is, as `{:<16}` asks.
+impl fmt::Display for Receiver {
+    ghost output = { λ name. Some name };
+
+    ghost styled_output = { λ name options. Some (styled_text options name) };
+
+    fn fmt<W: fmt::Write>(&self, f: &mut fmt::Formatter<W>) -> fmt::Result {
+        match str::from_utf8(self.as_bytes()) {
+            Ok(text) => f.pad(text),
+            Err(_) => unreachable!(),
         }
     }
 }

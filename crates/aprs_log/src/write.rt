@@ -14,7 +14,7 @@ use crate::moment::writer::MomentWriter;
 use crate::reception::Reception;
 use aprs_ax25::MAX_UI_FRAME;
 use aprs_io::{Counted, WriteFault, put, put_hex, send};
-use aprs_kiss::cut_plain;
+use aprs_kiss::{FEND, cut_plain};
 use std::io::Write;
 
 /// The most bytes that a frame is sent as: each byte as two, and three around them.
@@ -129,7 +129,7 @@ fn put_escape(out: &mut [u8], at: usize, byte: u8) -> usize
 
     ensures len { length out.new ≡ length out.old }
 {
-    if byte == 0xC0 {
+    if byte == FEND {
         put(out, at, b"dbdc")
     } else {
         put(out, at, b"dbdd")

@@ -1,5 +1,5 @@
 -- What an opener of inputs was asked for.
-use Rattle.std.specs.Prelude.{◌≡◌, ◌⊎◌, ℕ, ◌+◌, ⊤, List, ◌++◌, map, take, slice_get, string_bytes, codes, Option, None, Some}
+use Rattle.std.specs.Prelude.{◌≡◌, ◌⊎◌, ℕ, ◌+◌, ⊤, List, ◌++◌, map, take, slice_get, string_bytes, Option, None, Some}
 use Rattle.std.specs.declared.string.String.{String}
 use Rattle.std.specs.Borrow.{Bor}
 use Rattle.aprs_program.specs.declared.complaint.Complaint.{Complaint}

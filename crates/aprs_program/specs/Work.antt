@@ -9,7 +9,7 @@ use Rattle.aprs_convert.specs.Ends.{Runs}
 use Rattle.aprs_convert.specs.Got.{OfGot}
 use Rattle.aprs_command.specs.declared.jobs.Job.{Job}
 use Rattle.aprs_command.specs.declared.jobs.Job.TheVariants as job
-use Rattle.aprs_tool.specs.Devices.{AsksEach, CallsOutput}
+use Rattle.aprs_tool.specs.Devices.{AsksEach, AsksMerge, CallsOutput}
 use Rattle.aprs_tool.specs.HistoryOf.{IsHistoryOf}
 use Rattle.aprs_tool.specs.Merge.{IsTextOfBook}
 use Rattle.aprs_tool.specs.Outcome.{IsToldOf, RefusesFor, WritesFor}
@@ -37,6 +37,12 @@ abbrev pub IsOutputOf : Gathering → ℕ → List Heard → List ℕ → Type 0
 IsOutputOf gathering.Merge gap = IsTextOfBook gap
 IsOutputOf gathering.Show gap = IsListingOf gap
 IsOutputOf gathering.History gap = IsHistoryOf gap
+
+-- What the readers were asked: a merge may be refused memory after their ends as well.
+abbrev pub AsksAll : {R : Type 0} → Gathering → Result (Unit {0}) RunFault → List (Counted R)
+    → List (Counted R) → Type 0
+AsksAll gathering.Merge = AsksMerge
+AsksAll other = AsksEach
 
 -- The input was widened to this gap: what was written, why the input is refused, and what the
 -- devices were asked.

@@ -1,5 +1,5 @@
-//! What a program does beside its runs: it opens inputs, says what went wrong, and has an exit status
-//! for it.
+//! What a program does beside its runs: it opens inputs, says what went wrong, and has an exit
+//! status for it.
 #![tactic(auto)]
 
 mod complaint;

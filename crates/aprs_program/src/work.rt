@@ -2,7 +2,7 @@
 ghost use Rattle.std.specs.Prelude.{◌≡◌, ◌≤◌};
 ghost use Rattle.aprs_command.specs.Arguments.{inputs_of, paths_of};
 ghost use Rattle.aprs_io.specs.Input.{most_input};
-ghost use Rattle.aprs_tool.specs.Devices.{AsksEach, CallsOutput};
+ghost use Rattle.aprs_tool.specs.Devices.{CallsOutput};
 ghost use Rattle.aprs_tool.specs.Outcome.{IsToldOf, RefusesFor, WritesFor};
 ghost use Rattle.aprs_tool.specs.Several.{GiveUnion, IsFirstRefused, OfEach};
 ghost use Rattle.aprs_program.specs.Work as Spec;
@@ -98,7 +98,7 @@ pub fn run_gathering<R: Read, W: Write, A: Allocator + Copy>(
         w.old w.new) }
     ensures refuses { OfEach limit R.remaining inputs.old inputs.new (λ gots.
         RefusesFor (GiveUnion gap gots) (IsFirstRefused gap gots) result w.old w.new) }
-    ensures asks { AsksEach result inputs.old inputs.new }
+    ensures asks { Spec.AsksAll gathering result inputs.old inputs.new }
     ensures calls { CallsOutput result w.old w.new }
 {
     match gathering {

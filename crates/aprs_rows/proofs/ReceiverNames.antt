@@ -1,8 +1,12 @@
 -- Lists of names in order.
-use Rattle.std.proofs.Common.{◌⊎◌, inl, inr, append-nil, ◌≡◌, ℕ, ◌≤◌, List, [], ◌∷◌, ◌++◌, length, drop, Result, Ok, Err, OnOk, OnErr, refl, sym, ap, subst, ◌∙◌, arith}
+use Rattle.std.proofs.Common.{◌⊎◌, inl, inr, append-nil, ◌≡◌, ℕ, zero, suc, ◌<◌, ◌≤◌, get_or, List, [], ◌∷◌, ◌++◌, length, drop, Result, Ok, Err, OnOk, OnErr, MatchResult, refl, sym, ap, subst, ◌∙◌, arith}
 use Rattle.std.proofs.lemmas.List.{drop_all}
 use Rattle.std.proofs.lemmas.List.Edits.{length-insert}
-use Rattle.std.specs.List.{insert}
+use Rattle.std.specs.List.{insert, HoldsAt}
+use Rattle.std.specs.List.Sorted.{IsNonDecreasingBy, IsPartitionPoint, IsBinarySearchResult, IsSearchInRange}
+use Rattle.std.specs.Ordering.{ordering_index, ordering_reverse}
+use Rattle.std.specs.declared.cmp.Ordering.{Ordering}
+use Rattle.std.specs.declared.cmp.Ordering.TheVariants.{Less, Equal, Greater}
 use Rattle.aprs_log.specs.Reception.{bytes_cmp}
 use Rattle.aprs_laws.specs.Lists.{◌∈◌, Ordered}
 use Rattle.aprs_laws.specs.Order.{IsBelow}
@@ -12,6 +16,7 @@ use Rattle.aprs_laws.specs.Merged.{ascending_union}
 use Rattle.aprs_laws.proofs.Orders.{bytes_total, bytes_exact}
 use Rattle.aprs_laws.proofs.Choices.{add_listed, add_ordered}
 use Rattle.aprs_laws.proofs.Merges.{merged_is_united, merged_is_union}
+use Rattle.aprs_rows.proofs.Cases.{by_order}
 
 merged-nil : (xs : List (List ℕ)) → ascending_union bytes_cmp xs [] ≡ xs
 merged-nil [] = refl
@@ -57,3 +62,80 @@ pub inserted_joins : {U E : Type 0} (r : Result U E) (name : List ℕ)
 inserted_joins (Ok _) name names new i o e f =
     subst (IsUnited bytes_cmp (name ∷ []) names) (e ∙ sym f) (added_is_united name names o)
 inserted_joins (Err _) name names new i o e f = tt
+
+-- ---- a name looked for by halves
+
+index_bound : (o : Ordering) → ordering_index o ≤ 2
+index_bound Less = omega arith
+index_bound Equal = omega arith
+index_bound Greater = omega arith
+
+-- of two names in order the first lies no further after x than the second
+below_rises : (y z x : List ℕ) → bytes_cmp y z ≡ Less
+    → ordering_index (bytes_cmp y x) ≤ ordering_index (bytes_cmp z x)
+below_rises y z x l =
+    by_order (bytes_cmp z x)
+    (λ o. let first = bytes_total.trans y z x l o in rw (first, o) (omega arith))
+    (λ o.
+    let first : bytes_cmp y x ≡ Less =
+    subst (λ (t : List ℕ). bytes_cmp y t ≡ Less) (bytes_exact z x o) l in
+    rw (first, o) (omega arith))
+    (λ o. rw o (index_bound (bytes_cmp y x)))
+
+in_names : (ys : List (List ℕ)) (i : ℕ) (d : List ℕ) → i < length ys → get_or ys i d ∈ ys
+in_names [] i d h = absurd (omega (arith, h))
+in_names (y ∷ ys) zero d h = inl refl
+in_names (y ∷ ys) (suc i) d h = inr (in_names ys i d (omega (arith, h)))
+
+rises : (x : List ℕ) (ys : List (List ℕ)) → Ordered (IsBelow bytes_cmp) ys
+    → IsNonDecreasingBy (λ y. ordering_index (bytes_cmp y x)) ys
+rises x [] o i j d l w = absurd (omega (arith, w))
+rises x (y ∷ ys) o zero zero d l w = omega arith
+rises x (y ∷ ys) o zero (suc j) d l w =
+    below_rises y (get_or ys j d) x (o.0 _ (in_names ys j d (omega (arith, w))))
+rises x (y ∷ ys) o (suc i) zero d l w = absurd (omega (arith, l))
+rises x (y ∷ ys) o (suc i) (suc j) d l w =
+    rises x ys o.1 i j d (omega (arith, l)) (omega (arith, w))
+
+reversed : (x y : List ℕ) (o : Ordering) → bytes_cmp y x ≡ o → bytes_cmp x y ≡ ordering_reverse o
+reversed x y o e = bytes_total.antisymm x y ∙ ap ordering_reverse e
+
+-- x goes to the place before which all names are below it, and from which on all are above it
+goes_there : (x : List ℕ) (ys : List (List ℕ)) (i : ℕ) → i ≤ length ys
+    → ((k : ℕ) (d : List ℕ) → k < i → bytes_cmp (get_or ys k d) x ≡ Less)
+    → ((k : ℕ) (d : List ℕ) → i ≤ k → k < length ys → bytes_cmp (get_or ys k d) x ≡ Greater)
+    → add bytes_cmp x ys ≡ insert ys i x
+goes_there x [] zero w b a = refl
+goes_there x [] (suc i) w b a = absurd (omega (arith, w))
+goes_there x (y ∷ ys) zero w b a =
+    let o = reversed x y _ (a 0 y (omega arith) (omega arith)) in rw o refl
+goes_there x (y ∷ ys) (suc i) w b a =
+    let o = reversed x y _ (b 0 y (omega arith)) in
+    rw o (ap (λ t. y ∷ t) (goes_there x ys i (omega (arith, w))
+    (λ k d l. b (suc k) d (omega (arith, l)))
+    (λ k d l m. a (suc k) d (omega (arith, l)) (omega (arith, m)))))
+
+-- what a binary search finds
+found_name : (x : List ℕ) (ys : List (List ℕ)) (i : ℕ) → Ordered (IsBelow bytes_cmp) ys
+    → i < length ys → HoldsAt (λ y. bytes_cmp y x ≡ Equal) ys i → add bytes_cmp x ys ≡ ys
+found_name x ys i o w h =
+    let is : get_or ys i x ≡ x = bytes_exact _ x (h x) in
+    add_listed bytes_total bytes_exact x ys o
+    (subst (λ (t : List ℕ). t ∈ ys) is (in_names ys i x w))
+
+found_place : (x : List ℕ) (ys : List (List ℕ)) (i : ℕ) → Ordered (IsBelow bytes_cmp) ys
+    → i ≤ length ys
+    → (IsNonDecreasingBy (λ y. ordering_index (bytes_cmp y x)) ys
+    → IsPartitionPoint (λ y. bytes_cmp y x ≡ Less) (λ y. bytes_cmp y x ≡ Greater) ys i)
+    → add bytes_cmp x ys ≡ insert ys i x
+found_place x ys i o w p =
+    let at = p (rises x ys o) in
+    goes_there x ys i w (λ k d l. at.0 k d (omega arith) l) at.1
+
+pub searched_name : (r : Result ℕ ℕ) (x : List ℕ) (ys : List (List ℕ))
+    → Ordered (IsBelow bytes_cmp) ys → IsSearchInRange r (length ys)
+    → IsBinarySearchResult (λ y. bytes_cmp y x) ys r
+    → MatchResult r (λ _. add bytes_cmp x ys ≡ ys)
+    (λ i. (i ≤ length ys) × (add bytes_cmp x ys ≡ insert ys i x))
+searched_name (Ok i) x ys o w p = found_name x ys i o w p
+searched_name (Err i) x ys o w p = (w, found_place x ys i o w p)

@@ -1,4 +1,5 @@
 -- Definitions that contracts of rows cite.
+pub mod Examples
 pub mod Groups
 pub mod Head
 pub mod HeadSteps

@@ -3,5 +3,4 @@
 pub(crate) mod greatest;
 pub(crate) mod join;
 pub(crate) mod kept_names;
-pub(crate) mod receiver_list;
 pub(crate) mod receivers;

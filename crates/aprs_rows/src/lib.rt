@@ -2,6 +2,7 @@
 //! which may follow.
 #![tactic(auto)]
 
+mod examples;
 mod joining;
 mod memory;
 mod room;
@@ -10,7 +11,6 @@ mod store;
 
 pub use joining::greatest::{Greatest, keep_greater};
 pub use joining::join::{Join, all_fit, join_all};
-pub use joining::receiver_list::ReceiverList;
 pub use joining::receivers::Receivers;
 pub use memory::Memory;
 pub use room::reserve_one;

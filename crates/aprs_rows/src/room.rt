@@ -1,5 +1,5 @@
 //! Room for one more.
-ghost use Rattle.std.specs.Prelude.{◌≡◌, ◌<◌, OnOk, vec_len, vec_capacity};
+ghost use Rattle.std.specs.Prelude.{◌≡◌, ◌<◌, ◌≤◌, ◌+◌, ◌/◌, OnOk, vec_len, vec_capacity};
 
 use crate::Memory;
 use std::alloc::Allocator;
@@ -9,6 +9,7 @@ use std::alloc::Allocator;
 pub fn reserve_one<T, A: Allocator>(items: &mut Vec<T, A>) -> Result<(), Memory>
     ensures items { items.new.items ≡ items.old.items }
     ensures room { OnOk result (vec_len items.new < vec_capacity items.new) }
+    ensures bound { vec_capacity items.new ≤ vec_capacity items.old + vec_len items.old / 8 + 1 }
 {
     if items.len() < items.capacity() {
         return Ok(());

@@ -134,6 +134,33 @@ fn statuses_are_no_positions(rt: HostRuntime) -> Result<(), Fail> {
     Ok(())
 }
 
+/// Whether this is what was heard last of the station.
+fn is_heard_last<A: Allocator + Copy>(
+    book: &Book<A>,
+    station: &[u8],
+    x: &Reception,
+) -> Result<bool, Fail> {
+    Ok(match book.last_heard(&callsign(station)?) {
+        Some(heard) => heard.moment == x.moment() && heard.frame == x.frame(),
+        None => false,
+    })
+}
+
+// Whatever a station's last frame says, it counts. One that is sent to a station doesn't.
+#[test]
+fn any_frame_is_heard_last(rt: HostRuntime) -> Result<(), Fail> {
+    let position = sent(60, b"N0CALL-7", b"!4903.50N/07201.75W-")?;
+    let raw = sent(600, b"N0CALL-7", b"?")?;
+    let status = sent(0, b"N0CALL-7", b">Hi")?;
+    let other = sent(900, b"N0CALL-8", b":N0CALL-9 :Hi")?;
+    let book = book_of(rt.alloc(), &[&position, &raw, &status, &other])?;
+    assert!(rt; is_heard_last(&book, b"N0CALL-7", &raw)?);
+    assert!(rt; is_heard_last(&book, b"N0CALL-8", &other)?);
+    assert!(rt; book.last_heard(&callsign(b"N0CALL-9")?).is_none());
+    assert!(rt; book.last_heard(&callsign(b"APRS")?).is_none());
+    Ok(())
+}
+
 #[test]
 fn nothing_is_known_of_no_rows(rt: HostRuntime) -> Result<(), Fail> {
     let station = callsign(b"N0CALL-7")?;

@@ -46,6 +46,8 @@ mod pieces;
 #[cfg(test)]
 mod plain_book;
 #[cfg(test)]
+mod printed;
+#[cfg(test)]
 mod pushed_rows;
 #[cfg(test)]
 mod refused_calls;

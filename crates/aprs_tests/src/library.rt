@@ -1,5 +1,5 @@
-//! The examples of README.md and docs/library.md, which show these functions as they stand here.
-//! `tests/library.sh` compares them.
+//! Examples of a few calls each, most of which docs/library.md shows as they stand here:
+//! `tests/library.sh` compares these.
 
 use crate::vectors::{DIRECT, DIRECT_LINE, DIRECT_TEXT, NOON, ONE_LINE, receiver};
 use aprs_ax25::{Callsign, Frame, Hop};
@@ -72,10 +72,10 @@ fn take_line(book: &mut Book, line: &[u8]) -> Option<()> {
     }
 }
 
-/// When this station's last known position was heard, after two books are merged.
+/// When this station was heard last, after two books are merged.
 fn heard_last(one: &Book, other: &Book, station: &Callsign) -> Option<u64> {
     let book = one.merge(other).ok()?;
-    let heard = book.position(station)?;
+    let heard = book.last_heard(station)?;
     Some(heard.moment.seconds())
 }
 
@@ -159,7 +159,7 @@ fn books_are_taken_and_kept(rt: HostRuntime) -> Result<(), Fail> {
     let mut book = Book::new(rt.alloc());
     assert!(rt; take_line(&mut book, DIRECT_LINE).is_some());
     let station = Callsign::parse(b"N0CALL-7").ok().ok_or("callsign")?;
-    assert!(rt; heard_last(&book, &book, &station).is_none());
+    assert!(rt; heard_last(&book, &book, &station) == Some(NOON));
     assert!(rt; is_kept(rt.alloc(), &book)?);
     Ok(())
 }

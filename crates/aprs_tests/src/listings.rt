@@ -111,6 +111,33 @@ item LEADER live 2024-05-01T12:02:00.000Z RX1 N0CALL-7 - 294350/6000 -432175/600
     Ok(())
 }
 
+const LIVE: Sent = (NOON, FROM, b";LEADER   *092345z4903.50N/07201.75W>");
+
+const KILLED: Sent = (NOON, FROM, b";LEADER   _092345z4903.50N/07201.75W>");
+
+const LIVE_OF_EIGHTH: Sent = (NOON, "N0CALL-8", b";LEADER   *092345z4903.50N/07201.75W>");
+
+// Of reports at one moment by one receiver the one with the greater frame is listed: killed (_)
+// after live (*), and N0CALL-8 after N0CALL-7, whichever was taken last.
+#[test]
+fn objects_at_one_moment_go_by_frame(rt: HostRuntime) -> Result<(), Fail> {
+    const KILLED_LISTED: &str = "station N0CALL-7 2
+object LEADER killed 2024-05-01T12:00:00.000Z RX1 N0CALL-7 092345z 294350/6000 -432175/6000 0 />:
+";
+    const LIVE_LISTED: &str = "station N0CALL-7 1
+station N0CALL-8 1
+object LEADER live 2024-05-01T12:00:00.000Z RX1 N0CALL-8 092345z 294350/6000 -432175/6000 0 />:
+";
+    const CASES: &[(&[Sent], &str)] = &[
+        (&[KILLED, LIVE], KILLED_LISTED),
+        (&[LIVE, KILLED], KILLED_LISTED),
+        (&[LIVE_OF_EIGHTH, KILLED], LIVE_LISTED),
+        (&[KILLED, LIVE_OF_EIGHTH], LIVE_LISTED),
+    ];
+    assert!(rt; are_listed(rt.alloc(), CASES)?);
+    Ok(())
+}
+
 const TESTING: Sent = (NOON, FROM, b":WU2Z     :Testing{003");
 
 const BEFORE: Sent = ("2024-05-01T11:59:00Z", "WU2Z", b":N0CALL-7 :ack003");
@@ -158,6 +185,54 @@ message N0CALL-7 WU2Z 003 unanswered 2024-05-01T12:00:00.000Z 2024-05-01T12:00:4
             &[TESTING, OWN],
             "station N0CALL-7 2
 message N0CALL-7 WU2Z 003 unanswered 2024-05-01T12:00:00.000Z 2024-05-01T12:00:00.000Z:Testing
+",
+        ),
+    ];
+    assert!(rt; are_listed(rt.alloc(), CASES)?);
+    Ok(())
+}
+
+const AT_ONCE: Sent = (NOON, "WU2Z", b":N0CALL-7 :ack003");
+
+const OF_ANOTHER_ID: Sent = ("2024-05-01T12:00:10Z", "WU2Z", b":N0CALL-7 :ack004");
+
+const TO_ANOTHER: Sent = ("2024-05-01T12:00:10Z", "WU2Z", b":N0CALL-8 :ack003");
+
+// An ack of another id or to another station answers nothing, one at the message's very first
+// moment does, and a message that is sent again after it stays acknowledged. Addressees are in
+// order, whatever their texts and ids are.
+#[test]
+fn answers_are_for_one_message(rt: HostRuntime) -> Result<(), Fail> {
+    const CASES: &[(&[Sent], &str)] = &[
+        (
+            &[TESTING, OF_ANOTHER_ID, TO_ANOTHER],
+            "station N0CALL-7 1
+station WU2Z 2
+message N0CALL-7 WU2Z 003 unanswered 2024-05-01T12:00:00.000Z 2024-05-01T12:00:00.000Z:Testing
+",
+        ),
+        (
+            &[TESTING, AT_ONCE],
+            "station N0CALL-7 1
+station WU2Z 1
+message N0CALL-7 WU2Z 003 acknowledged 2024-05-01T12:00:00.000Z 2024-05-01T12:00:00.000Z:Testing
+",
+        ),
+        (
+            &[TESTING, AFTER, AGAIN],
+            "station N0CALL-7 2
+station WU2Z 1
+message N0CALL-7 WU2Z 003 acknowledged 2024-05-01T12:00:00.000Z 2024-05-01T12:00:40.000Z:Testing
+",
+        ),
+        (
+            &[
+                (NOON, FROM, b":WU2Z     :A{1"),
+                (NOON, FROM, b":N0CALL-9 :B{2"),
+            ],
+            "station N0CALL-7 2
+message N0CALL-7 N0CALL-9 2 unanswered 2024-05-01T12:00:00.000Z 2024-05-01T12:00:00.000Z:B
+message N0CALL-7 WU2Z 1 unanswered 2024-05-01T12:00:00.000Z 2024-05-01T12:00:00.000Z:A
 ",
         ),
     ];

@@ -4,10 +4,7 @@
 use crate::last_known::callsign;
 use crate::refused_calls::{SENT, book_of_sent, squeeze, store_of_sent};
 use crate::vectors::{DIRECT, heard, receiver};
-use aprs_book::{
-    Book, Gap, Join, MergeFault, ReceiverList, Receivers, RowCause, WidenFault, all_fit,
-};
-use aprs_log::Receiver;
+use aprs_book::{Book, Gap, Join, MergeFault, Receivers, RowCause, WidenFault, all_fit};
 use aprs_rows::{RowStore, RowsInOrder, Transmissions};
 use bumpalo::Bump;
 use std::alloc::{Allocator, Global};
@@ -49,6 +46,7 @@ enum Call {
     Status,
     Object,
     Item,
+    LastHeard,
 }
 
 const CALLS: &[Call] = &[
@@ -66,6 +64,7 @@ const CALLS: &[Call] = &[
     Call::Status,
     Call::Object,
     Call::Item,
+    Call::LastHeard,
 ];
 
 /// Whether what is new is empty.
@@ -98,6 +97,7 @@ fn is_known<A: Allocator + Copy>(call: Call, book: &Book<A>) -> Result<bool, Fai
         Call::Position => book.position(&sender).is_some(),
         Call::Status => book.status(&sender).is_none(),
         Call::Object => book.object(b"LEADER").is_some(),
+        Call::LastHeard => book.last_heard(&sender).is_some(),
         _ => book.item(b"LEADER   ").is_some(),
     })
 }
@@ -134,7 +134,7 @@ fn is_answered<A: Allocator + Copy>(alloc: A, call: Call, books: &[Book<A>]) -> 
         Call::Gap | Call::Rows | Call::Same | Call::Fits => Ok(is_seen(call, book, wide)),
         Call::AllFit => Ok(!all_fit(book, books)),
         Call::OtherGap | Call::Narrower => Ok(is_refused(call, book, wide)),
-        Call::Position | Call::Status | Call::Object | Call::Item => is_known(call, book),
+        _ => is_known(call, book),
     }
 }
 
@@ -224,24 +224,6 @@ fn listed_names_ask_for_none(rt: HostRuntime) -> Result<(), Fail> {
     Ok(())
 }
 
-/// How many names a list shows, and then gives back.
-fn shown_and_given<A: Allocator + Copy>(names: Vec<Receiver, A>) -> (usize, usize) {
-    let list = ReceiverList::new(names);
-    let shown = list.as_slice().len();
-    (shown, list.into_vec().len())
-}
-
-#[test]
-fn lists_of_names_ask_for_none(rt: HostRuntime) -> Result<(), Fail> {
-    let bump = Bump::try_with_capacity(rt.alloc(), 4096)?;
-    let mut names = Vec::new(&bump);
-    names.push(receiver(b"RX1")?)?;
-    let _filling = fill(&bump)?;
-    let size = bump.allocated_bytes();
-    assert!(rt; shown_and_given(names) == (1, 1) && bump.allocated_bytes() == size);
-    Ok(())
-}
-
 /// How many rows are shown that RX1 alone heard, at one moment.
 fn shown_transmissions<A: Allocator + Copy>(rows: &Transmissions<'_, A>) -> usize {
     let mut shown = 0usize;
@@ -304,5 +286,44 @@ fn calls_of_stores_ask_for_none(rt: HostRuntime) -> Result<(), Fail> {
     let order = store_asks_for_none(&bump, store_of_sent(&bump)?)?;
     let rows = order.transmissions(Gap::STANDARD).ok().ok_or("memory")?;
     assert!(rt; rows_ask_for_none(&bump, &rows)?);
+    Ok(())
+}
+
+/// Minutes of an hour, out of order and more than a sort puts in order without memory that takes
+/// some.
+const MINUTES: &[u64] = &[
+    11, 3, 20, 7, 15, 1, 18, 9, 13, 5, 0, 16, 2, 19, 8, 14, 4, 10, 17, 6, 12,
+];
+
+/// A store of what was heard at these minutes.
+fn store_of_minutes<A: Allocator + Copy>(alloc: A) -> Result<RowStore<A>, Fail> {
+    let mut store = RowStore::new(alloc);
+    for minute in MINUTES {
+        let x = heard(minute.saturating_mul(60), b"RX1", &DIRECT)?;
+        store.push_reception(&x).ok().ok_or("memory")?;
+    }
+    Ok(store)
+}
+
+#[test]
+fn many_receptions_are_put_in_order_with_none(rt: HostRuntime) -> Result<(), Fail> {
+    let bump = Bump::try_with_capacity(rt.alloc(), 65_536)?;
+    let store = store_of_minutes(&bump)?;
+    let _filling = fill(&bump)?;
+    let size = bump.allocated_bytes();
+    let order = store.in_order().ok().ok_or("memory")?;
+    assert!(rt; bump.allocated_bytes() == size);
+    drop(order);
+    Ok(())
+}
+
+// A transmission has 40 bytes, and their names none: so 7 units of 128 bytes are room enough.
+#[test]
+fn transmissions_ask_for_one_place_each(rt: HostRuntime) -> Result<(), Fail> {
+    let bump = Bump::try_with_capacity(rt.alloc(), 65_536)?;
+    let order = store_of_minutes(&bump)?.in_order().ok().ok_or("memory")?;
+    let _filling = squeeze(&bump, 7)?;
+    let rows = order.transmissions(Gap::STANDARD).ok().ok_or("memory")?;
+    assert!(rt; rows.len() == MINUTES.len());
     Ok(())
 }

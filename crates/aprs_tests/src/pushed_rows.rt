@@ -3,7 +3,7 @@
 use crate::shown::is_shown;
 use crate::vectors::{DIRECT, NOON, heard, receiver};
 use aprs_ax25::Frame;
-use aprs_book::{Book, Gap, ReceiverList, RowCause, RowParts, RowsFault, from_rows};
+use aprs_book::{Book, Gap, RowCause, RowParts, RowsFault, from_rows};
 use aprs_log::{Moment, Receiver};
 use std::alloc::{Allocator, Global};
 use std::test::Fail;
@@ -30,7 +30,7 @@ pub fn parts<A: Allocator + Copy>(
     let last = Moment::new(last).ok_or("moment")?;
     let receiver = receiver(name)?;
     let frame = Frame::read(&DIRECT).ok().ok_or("frame")?;
-    let receivers = ReceiverList::new(receivers_of(alloc, names)?);
+    let receivers = receivers_of(alloc, names)?;
     Ok(RowParts {
         first,
         last,
@@ -70,13 +70,6 @@ fn rows_without_their_greatest_are_refused(rt: HostRuntime) -> Result<(), Fail> 
     Ok(())
 }
 
-#[test]
-fn receivers_are_given_back(rt: HostRuntime) -> Result<(), Fail> {
-    let row = parts(rt.alloc(), NOON, NOON, &[b"RX1", b"RX2"], b"RX1")?;
-    assert!(rt; row.receivers.into_vec().len() == 2);
-    Ok(())
-}
-
 /// A book of two rows of one key, as close to one another as rows can be.
 fn two_rows<A: Allocator + Copy>(alloc: A) -> Result<Book<A>, Fail> {
     let mut book = Book::new(alloc);
@@ -112,14 +105,18 @@ fn rows_are_pushed_after_the_last(rt: HostRuntime) -> Result<(), Fail> {
 fn rows_out_of_place_are_refused(rt: HostRuntime) -> Result<(), Fail> {
     let alloc = rt.alloc();
     let mut book = two_rows(alloc)?;
-    const CASES: &[(u64, u64, RowCause)] = &[
-        (33, 32, RowCause::Span),
-        (61, 61, RowCause::Near),
-        (31, 31, RowCause::Order),
-        (0, 0, RowCause::Order),
+    const ONE: &[&[u8]] = &[b"RX1"];
+    const WRONG: &[&[u8]] = &[b"RX2", b"RX1"];
+    const CASES: &[(u64, u64, &[&[u8]], RowCause)] = &[
+        (33, 32, ONE, RowCause::Span),
+        (61, 61, ONE, RowCause::Near),
+        (61, 61, WRONG, RowCause::Near),
+        (62, 62, WRONG, RowCause::Receivers),
+        (31, 31, ONE, RowCause::Order),
+        (0, 0, ONE, RowCause::Order),
     ];
-    for &(first, last, cause) in CASES {
-        let row = parts(alloc, NOON + first, NOON + last, &[b"RX1"], b"RX1")?;
+    for &(first, last, names, cause) in CASES {
+        let row = parts(alloc, NOON + first, NOON + last, names, b"RX1")?;
         assert!(rt; book.push_row(&row) == Err(cause));
     }
     assert!(rt; book.len() == 2);

@@ -4,9 +4,10 @@ use crate::pushed_rows::parts;
 use crate::shown::{is_shown, is_written_as, shown};
 use crate::vectors::{DIRECT, MERGED_TEXT, NOON, heard};
 use aprs_book::{Book, Gap, RowCause, RowParts, RowsFault, from_rows};
-use aprs_booktext::{BookCause, BookFault, read_book};
+use aprs_booktext::{BookCause, BookFault, read_book, read_rows};
 use aprs_kiss::Counted;
 use aprs_log::{MAX_INPUT, Reception};
+use aprs_rows::RowStore;
 use linked_list_allocator::LocalHeap;
 use std::alloc::{Allocator, Global};
 use std::test::Fail;
@@ -215,15 +216,32 @@ fn memory_is_refused_at_a_row(rt: HostRuntime) -> Result<(), Fail> {
     Ok(())
 }
 
-/// Whether memory is refused in a line of a book file with so much room. Else its book is written
-/// as it was.
+/// The line of a book file in which memory is refused with so much room, if one is, where just its
+/// rows are to be read. Then the store has to have the rows of the lines before it.
+fn refused_line(alloc: Global, room: usize) -> Result<Option<u64>, Fail> {
+    let heap = LocalHeap::new(alloc, 65_536)?;
+    let _fill = filled(&heap, room)?;
+    let mut store = RowStore::new(&heap);
+    let mut file = Counted::new(MERGED_TEXT);
+    match read_rows(&heap, MAX_INPUT, b"", &mut file, &mut store) {
+        Ok(_) => Ok(None),
+        Err(BookFault { line, .. }) if store.len() as u64 == line.saturating_sub(2) => {
+            Ok(Some(line))
+        }
+        Err(_) => Err("other rows".into()),
+    }
+}
+
+/// Whether memory is refused with so much room in a line of a book file, the one in which it is
+/// refused for its rows, or the last. Else its book is written as it was.
 fn is_line_refused(alloc: Global, room: usize) -> Result<bool, Fail> {
+    let wanted = refused_line(alloc, room)?.unwrap_or(4);
     let heap = LocalHeap::new(alloc, 65_536)?;
     let _fill = filled(&heap, room)?;
     match read_book(&heap, MAX_INPUT, b"", &mut Counted::new(MERGED_TEXT)) {
         Ok(book) if is_written_as(alloc, &book, MERGED_TEXT) => Ok(false),
         Err(BookFault { line, cause }) if cause == BookCause::Memory => {
-            if line >= 1 && line <= 4 {
+            if line == wanted {
                 Ok(true)
             } else {
                 Err("another line".into())

@@ -2,11 +2,12 @@
 
 use crate::ample_memory::hundred;
 use crate::last_known::sent;
-use crate::refused_calls::{ROWS, SENT, squeeze};
+use crate::refused_calls::{ROWS, SENT, squeeze, store_of_sent};
 use crate::shown::is_shown;
 use crate::vectors::{DIRECT, heard};
-use aprs_book::{Book, Gap, Memory, Overview};
-use aprs_rows::{RowStore, RowsInOrder};
+use aprs_ax25::Frame;
+use aprs_book::{Book, Gap, Memory, Overview, RowCause};
+use aprs_rows::{RowStore, RowView, RowsInOrder};
 use bumpalo::Bump;
 use std::alloc::{Allocator, Global};
 use std::test::Fail;
@@ -148,5 +149,29 @@ fn refused_lists_are_made_again(rt: HostRuntime) -> Result<(), Fail> {
         }
     }
     assert!(rt; refused > 0 && granted > 0);
+    Ok(())
+}
+
+/// A row of what a row shows, whose frame was read from it.
+fn made_again<'a>(row: &RowView<'a>, frame: &'a Frame) -> RowView<'a> {
+    RowView::new(
+        row.first(),
+        row.last(),
+        row.receivers(),
+        row.receiver(),
+        frame,
+    )
+}
+
+// What a row shows is all that it takes to make one: it can't follow the first, nor come before it.
+#[test]
+fn rows_are_made_of_what_rows_show(rt: HostRuntime) -> Result<(), Fail> {
+    let store = store_of_sent(rt.alloc())?;
+    let row = store.last().ok_or("a row")?;
+    let frame = row.read_frame();
+    let again = made_again(&row, &frame);
+    assert!(rt; again.refusal_after(Some(&row), Gap::STANDARD) == Some(RowCause::Order));
+    assert!(rt; row.refusal_after(Some(&again), Gap::STANDARD) == Some(RowCause::Order));
+    assert!(rt; again.receivers() == row.receivers() && again.frame() == row.frame());
     Ok(())
 }

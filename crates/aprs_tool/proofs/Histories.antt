@@ -1,5 +1,5 @@
 -- Lemmas on the text of a history.
-use Rattle.std.proofs.Common.{codes, ◌≡◌, ◌∙◌, ℕ, Bool, true, List, [], ◌∷◌, ◌++◌, map, Option, Some, None, Ok, Err, inl, inr, refl, ap, sym, subst}
+use Rattle.std.proofs.Common.{codes, ◌≡◌, ◌∙◌, ℕ, Bool, true, List, [], ◌∷◌, ◌++◌, map, Option, Some, None, inl, inr, refl, ap, sym}
 use Rattle.std.proofs.lemmas.Bool.{and_parts}
 use Rattle.std.proofs.lemmas.List.Concat.{flat_map-append}
 use Rattle.aprs_ax25.specs.Callsign.{Call}
@@ -9,9 +9,6 @@ use Rattle.aprs_report.specs.Reading.{Value, position, object, item, message, ac
 use Rattle.aprs_report.specs.declared.place.Place.{Place}
 use Rattle.aprs_report.specs.declared.stamp.Stamp.{Stamp}
 use Rattle.aprs_report.specs.declared.symbol.Symbol.{Symbol}
-use Rattle.aprs_io.specs.Device.{Sends}
-use Rattle.aprs_io.specs.declared.device.Counted.{Counted}
-use Rattle.aprs_io.proofs.Sends.{Sends-err, Sends-ok}
 use Rattle.aprs_laws.specs.Best.{LastKnown}
 use Rattle.aprs_laws.specs.BestLaws.{Passes}
 use Rattle.aprs_laws.specs.Book.{BookOf}
@@ -27,33 +24,13 @@ use Rattle.aprs_log.specs.Reception.{Heard}
 use Rattle.aprs_listing.specs.History.{history_line, history_text, row_fields, told_line}
 use Rattle.aprs_listing.specs.Listing.{report_line}
 use Rattle.aprs_tool.specs.HistoryOf.{IsHistoryOf, TellsNamed, TellsPlace}
-use Rattle.aprs_tool.specs.WrittenHistory.{WritesHistory}
-use Rattle.aprs_tool.specs.declared.fault.RunFault.{RunFault}
-use Rattle.aprs_tool.specs.declared.fault.RunFault.TheVariants.{Write}
-use Rattle.aprs_tool.specs.declared.gathered.OutputFault.{OutputFault}
-use Rattle.aprs_tool.specs.declared.gathered.OutputFault.TheVariants as output
-
-module _ {W : Type 0} (contents : W → Option (List ℕ)) (b : BookValue) (old new : Counted W) where
-  pub history_sent : WritesHistory contents (Ok tt) b old new
-      → Sends {E = RunFault} contents (Ok tt) old new (history_text b.rows)
-  unfolding WritesHistory
-  history_sent h = Sends-ok h
-
-  pub history_cut : (u : OutputFault) → u ≡ output.Write → WritesHistory contents (Err u) b old new
-      → Sends {E = RunFault} contents (Err Write) old new (history_text b.rows)
-  unfolding WritesHistory
-  history_cut u e h =
-      Sends-err (Err Write) refl (subst (λ v. WritesHistory contents (Err v) b old new) e h)
-
-  pub history_none : (u : OutputFault) → u ≡ output.Memory
-      → WritesHistory contents (Err u) b old new → new ≡ old
-  unfolding WritesHistory
-  history_none u e h = subst (λ v. WritesHistory contents (Err v) b old new) e h
+use Rattle.aprs_tool.specs.ToldBook.{IsHistory}
 
 -- the history of a book of this gap tells of each set whose book it is
-pub history_of_book : (gap : ℕ) (b : BookValue) → b.gap ≡ gap → (S : List Heard)
-    → BookOf (millis_of gap) S b.rows → IsHistoryOf gap S (history_text b.rows)
-history_of_book gap b same S book = record { rows = b.rows; book = book; text_is = refl }
+pub history_of_book : (gap : ℕ) (b : BookValue) (text : List ℕ) → b.gap ≡ gap → IsHistory b text
+    → (S : List Heard) → BookOf (millis_of gap) S b.rows → IsHistoryOf gap S text
+history_of_book gap b text same h S book =
+    record { rows = b.rows; book = book; text_is = h.1; lines = h.0 }
 
 pub one_history : (gap : ℕ) (S T : List Heard) (text other : List ℕ) → SameMembers S T
     → IsHistoryOf gap S text → IsHistoryOf gap T other → text ≡ other

@@ -6,6 +6,7 @@ pub mod Inputs
 pub mod Into
 pub mod Logs
 pub mod Shows
+pub mod Told
 pub mod Histories
 pub mod Merges
 pub mod OneMerge

@@ -1,6 +1,6 @@
 -- Lemmas on what was asked of the readers of inputs.
 use Rattle.std.specs.Prelude.{◌⊎◌}
-use Rattle.std.proofs.Common.{◌≡◌, ℕ, zero, suc, List, [], ◌∷◌, length, drop, Some, Result, Ok, Err, inl, inr, slice_get, set, refl, sym, ap, subst, arith}
+use Rattle.std.proofs.Common.{◌≡◌, ℕ, zero, suc, List, [], ◌∷◌, length, drop, Some, Result, Ok, Err, inl, inr, slice_get, set, refl, sym, ap, subst}
 use Rattle.aprs_io.specs.Device.{Calls, Going, End}
 use Rattle.aprs_io.specs.declared.device.Counted.{Counted}
 use Rattle.aprs_io.proofs.Sends.{Calls-then}
@@ -9,7 +9,7 @@ use Rattle.aprs_laws.specs.declared.merge_fault.MergeFault.TheVariants as merge
 use Rattle.aprs_booktext.specs.Asking.{AsksAt}
 use Rattle.aprs_booktext.specs.declared.fault.BookCause.{BookCause}
 use Rattle.aprs_booktext.specs.declared.fault.BookCause.TheVariants as why
-use Rattle.aprs_tool.specs.Devices.{AsksEach, AsksInput, AsksToFault}
+use Rattle.aprs_tool.specs.Devices.{AsksEach, AsksInput, AsksRows, AsksToFault}
 use Rattle.aprs_tool.specs.Refused.{fault_of_merge}
 use Rattle.aprs_tool.specs.declared.fault.InputFault.{InputFault}
 use Rattle.aprs_tool.specs.declared.fault.InputFault.TheVariants.{Book, Memory}
@@ -31,19 +31,44 @@ module _ {R : Type 0} (a b c : Counted R) (first : Calls Going a b) where
 
   AsksToFault-then : (fault : InputFault) → AsksToFault fault b c → AsksToFault fault a c
   AsksToFault-then (Book fault) h = AsksAt-then fault.cause h
-  AsksToFault-then Memory h = then_either h
   AsksToFault-then fault h = Calls-then first h
 
   -- its first bytes, and then the others
+  pub AsksRows-then : {A : Type 0} (r : Result A InputFault) → AsksRows r b c → AsksRows r a c
+  AsksRows-then (Ok value) h = Calls-then first h
+  AsksRows-then (Err fault) h = AsksToFault-then fault h
+
   pub AsksInput-then : {A : Type 0} (r : Result A InputFault) → AsksInput r b c → AsksInput r a c
-  AsksInput-then (Ok value) h = Calls-then first h
-  AsksInput-then (Err fault) h = AsksToFault-then fault h
+  AsksInput-then r h = elim h [
+    | inl rows ↦ inl (AsksRows-then r rows)
+    | inr whole ↦ inr (whole.0, Calls-then first whole.1)
+  ]
+
+-- an input that was read to its end gives a book
+pub AsksInput-ends : {A R : Type 0} {a b : Counted R} (value : A) → AsksInput (Ok value) a b
+    → Calls End a b
+AsksInput-ends value h = elim h [
+  | inl rows ↦ rows
+  | inr whole ↦ (let e = whole.0 in absurd cc)
+]
+
+-- whether it isn't taken says nothing of the value that it would give
+pub AsksInput-err : {A B R : Type 0} {a b : Counted R} (fault : InputFault)
+    → AsksInput {A = A} (Err fault) a b → AsksInput {A = B} (Err fault) a b
+AsksInput-err fault h = elim h [
+  | inl rows ↦ inl rows
+  | inr whole ↦ (
+      let e = whole.0 in
+      let same : fault ≡ Memory = cc in
+      inr (ap Err same, whole.1)
+      )
+]
 
 -- an input that was read to its end isn't merged
-pub asks_merge : {R : Type 0} {a b : Counted R} (fault : MergeFault) → Calls End a b
-    → AsksToFault (fault_of_merge fault) a b
-asks_merge merge.OtherGap h = h
-asks_merge merge.Memory h = inr h
+pub asks_merge : {A R : Type 0} {a b : Counted R} (fault : MergeFault) → Calls End a b
+    → AsksInput {A = A} (Err (fault_of_merge fault)) a b
+asks_merge merge.OtherGap h = inl h
+asks_merge merge.Memory h = inr (refl, h)
 
 -- ---- readers one after another
 
@@ -103,14 +128,3 @@ module _ {R : Type 0} where
         (h.0, AsksEach-next fault n old now h.1 is asks)
     AsksEach-next fault (suc n) [] now h is asks = absurd h
     AsksEach-next fault (suc n) (r ∷ old) [] h is asks = absurd h
-
-  -- an allocation failed after the last
-  pub AsksEach-last : (n : ℕ) (old new : List (Counted R)) → length old ≡ suc n
-      → AsksEach (Ok tt) old new → AsksEach (Err (Input n Memory)) old new
-  AsksEach-last n [] new e h = absurd (omega (arith, e))
-  AsksEach-last n (r ∷ old) [] e h = absurd h
-  AsksEach-last zero (r ∷ []) (s ∷ []) e h = (inr h.0, refl)
-  AsksEach-last zero (r ∷ []) (s ∷ t ∷ new) e h = absurd h.1
-  AsksEach-last zero (r ∷ q ∷ old) (s ∷ new) e h = absurd (omega (arith, e))
-  AsksEach-last (suc n) (r ∷ old) (s ∷ new) e h =
-      (h.0, AsksEach-last n old new (omega (arith, e)) h.1)

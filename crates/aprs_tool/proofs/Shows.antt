@@ -1,5 +1,5 @@
 -- Lemmas on the text of a listing.
-use Rattle.std.proofs.Common.{◌≡◌, ◌≢◌, ℕ, List, [], ◌∷◌, ◌++◌, Option, Ok, Err, inl, inr, refl, ap, ap₂, sym, ◌∙◌, append_assoc, subst, codes}
+use Rattle.std.proofs.Common.{◌≡◌, ◌≢◌, ℕ, List, [], ◌∷◌, ◌++◌, Option, inl, inr, refl, ap, ap₂, sym, ◌∙◌, append_assoc, subst, codes}
 use Rattle.std.specs.List.{flat_map}
 use Rattle.std.proofs.lemmas.List.Concat.{flat_map-append}
 use Rattle.std.specs.Fmt.{decimal}
@@ -7,9 +7,6 @@ use Rattle.std.specs.declared.cmp.Ordering.TheVariants.{Less}
 use Rattle.aprs_ax25.specs.Callsign.{Call, call_cmp, call_text}
 use Rattle.aprs_laws.proofs.Orders.{call_total, not_both}
 use Rattle.aprs_laws.proofs.Known.{known_once}
-use Rattle.aprs_io.specs.Device.{Sends}
-use Rattle.aprs_io.specs.declared.device.Counted.{Counted}
-use Rattle.aprs_io.proofs.Sends.{Sends-err, Sends-ok}
 use Rattle.aprs_laws.specs.Book.{BookOf}
 use Rattle.aprs_laws.specs.BookValue.{BookValue}
 use Rattle.aprs_laws.specs.Gap.{millis_of}
@@ -26,11 +23,7 @@ use Rattle.aprs_book.specs.declared.lists.named.Named.{Named}
 use Rattle.aprs_book.specs.declared.lists.station.Station.{Station}
 use Rattle.aprs_listing.specs.Listing.{known_line, line_with, message_line, named_line, show_text, station_lines}
 use Rattle.aprs_tool.specs.Show.{IsListingOf, TellsPosition}
-use Rattle.aprs_tool.specs.ShownBook.{IsShown, ShowsBook}
-use Rattle.aprs_tool.specs.declared.fault.RunFault.{RunFault}
-use Rattle.aprs_tool.specs.declared.fault.RunFault.TheVariants.{Write}
-use Rattle.aprs_tool.specs.declared.gathered.OutputFault.{OutputFault}
-use Rattle.aprs_tool.specs.declared.gathered.OutputFault.TheVariants as output
+use Rattle.aprs_tool.specs.ToldBook.{IsShown}
 
 below_itself : (c : Call) → call_cmp c c ≡ Less → ⊥
 below_itself c h = not_both call_total c c h h
@@ -127,24 +120,6 @@ shown_text b stations named messages s n m = record {
   are_messages = m;
   text_is = refl;
 }
-
-module _ {W : Type 0} (contents : W → Option (List ℕ)) (b : BookValue) (old new : Counted W) where
-  pub shown_sent : ShowsBook contents (Ok tt) b old new
-      → (text : List ℕ) × IsShown b text × Sends {E = RunFault} contents (Ok tt) old new text
-  unfolding ShowsBook
-  shown_sent h = (h.0, h.1, Sends-ok h.2)
-
-  pub shown_cut : (u : OutputFault) → u ≡ output.Write → ShowsBook contents (Err u) b old new
-      → (text : List ℕ) × IsShown b text
-      × Sends {E = RunFault} contents (Err Write) old new text
-  unfolding ShowsBook
-  shown_cut u e h = let it = subst (λ v. ShowsBook contents (Err v) b old new) e h in
-      (it.0, it.1, Sends-err (Err Write) refl it.2)
-
-  pub shown_none : (u : OutputFault) → u ≡ output.Memory → ShowsBook contents (Err u) b old new
-      → new ≡ old
-  unfolding ShowsBook
-  shown_none u e h = subst (λ v. ShowsBook contents (Err v) b old new) e h
 
 -- the listing of whatever set the rows are the book of
 pub listing_of_shown : (gap : ℕ) (b : BookValue) (text : List ℕ) → b.gap ≡ gap → IsShown b text

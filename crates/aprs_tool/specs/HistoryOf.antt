@@ -13,13 +13,16 @@ use Rattle.aprs_laws.specs.Lists.{SameMembers}
 use Rattle.aprs_laws.specs.Row.{Row}
 use Rattle.aprs_book.specs.Reports.{reports_item, reports_object, reports_position}
 use Rattle.aprs_listing.specs.History.{history_line, history_text, row_fields}
+use Rattle.aprs_listing.specs.OneLine.{HasOneLineEach}
 use Rattle.aprs_listing.specs.Listing.{heard_fields, known_line, line_with_text, live_text, name_fields, place_fields, word}
 
--- The text is the history of the book of S under this gap, in seconds.
+-- The text is the history of the book of S under this gap, in seconds, and has one line for each of
+-- the book's rows.
 pub record IsHistoryOf (gap : ℕ) (S : List Heard) (text : List ℕ) : Type 0 where
   pub rows : List Row
   pub book : BookOf (millis_of gap) S rows
   pub text_is : text ≡ history_text rows
+  pub lines : HasOneLineEach rows
 
 -- Sets with the same members have one history, and so have inputs that stand for them: in whatever
 -- order, however often, and through book files or not.

@@ -2,9 +2,9 @@
 ghost use Rattle.std.specs.Prelude.{◌≡◌, []};
 ghost use Rattle.aprs_laws.specs.BookValue.{BookValue};
 ghost use Rattle.aprs_tool.specs.Gathered.{book_of_rows, WritesText};
-ghost use Rattle.aprs_tool.specs.ShownBook.{ShowsBook};
-ghost use Rattle.aprs_tool.specs.WrittenHistory.{WritesHistory};
+ghost use Rattle.aprs_tool.specs.ToldBook.{IsHistory, IsShown, WritesTold, answer_of_output};
 
+use crate::fault::RunFault;
 use aprs_book::{Gap, Memory, Overview};
 use aprs_booktext::write_rows;
 use aprs_io::{Counted, WriteFault};
@@ -51,6 +51,17 @@ pub(crate) enum OutputFault {
     Memory,
     /// The output was refused.
     Write,
+}
+
+/// What a run answers where its output was written so.
+pub(crate) fn answer_of(written: Result<(), OutputFault>) -> Result<(), RunFault>
+    ensures { result ≡ answer_of_output written }
+{
+    match written {
+        Ok(()) => Ok(()),
+        Err(OutputFault::Memory) => Err(RunFault::Memory),
+        Err(OutputFault::Write) => Err(RunFault::Write),
+    }
 }
 
 impl From<Memory> for OutputFault {
@@ -106,20 +117,20 @@ impl<A: Allocator + Copy> Gathered<A> {
     /// Writes the listing of the book of all rows. At `Memory` an allocation failed, and nothing
     /// was written; at `Write` a prefix of the listing was written.
     pub(crate) fn show<W: Write>(self, w: &mut Counted<W>) -> Result<(), OutputFault>
-        ensures { ShowsBook W.contents result self w.old w.new }
+        ensures { WritesTold IsShown W.contents result self w.old w.new }
     {
         let Gathered { alloc, gap, store } = self;
         let order = store.in_order()?;
         let rows = order.transmissions(gap)?;
         let overview = Overview::of(alloc, &rows)?;
-        let views = Views::of_rows(&overview)?;
+        let views = Views::of(&overview)?;
         Ok(views.write(w)?)
     }
 
     /// Writes the history of the book of all rows. At `Memory` an allocation failed, and nothing
     /// was written; at `Write` a prefix of the history was written.
     pub(crate) fn history<W: Write>(self, w: &mut Counted<W>) -> Result<(), OutputFault>
-        ensures { WritesHistory W.contents result self w.old w.new }
+        ensures { WritesTold IsHistory W.contents result self w.old w.new }
     {
         let Gathered {
             alloc: _,

@@ -13,7 +13,7 @@ ghost use Rattle.aprs_laws.specs.Book.{BookOf};
 ghost use Rattle.aprs_log.specs.Reception.{Heard};
 ghost use Rattle.aprs_book.specs.Taking.{MergesInto};
 ghost use Rattle.aprs_tool.specs.declared.head.TheConstants.{HEAD_LEN};
-ghost use Rattle.aprs_tool.specs.Devices.{AsksInput};
+ghost use Rattle.aprs_tool.specs.Devices.{AsksInput, AsksRows};
 ghost use Rattle.aprs_tool.specs.Head.{IsHead, last_of_short};
 ghost use Rattle.aprs_convert.specs.Got.{OfGot};
 ghost use Rattle.aprs_tool.specs.InputBook.{ReadsInput, TakesInput};
@@ -120,7 +120,7 @@ pub(crate) fn read_into<R: Read, A: Allocator + Copy>(
     ensures reads { OfGot limit (R.remaining (device_of r.old)) (R.remaining (device_of r.new))
         (TakesInput gathered.old.gap result gathered.old.rows gathered.new.rows) }
     ensures gap { gathered.new.gap ≡ gathered.old.gap }
-    ensures calls { AsksInput result r.old r.new }
+    ensures calls { AsksRows result r.old r.new }
 {
     let gap = gathered.gap;
     let own = read_input_rows(alloc, limit, gap, &mut gathered.store, r)?;
@@ -144,7 +144,7 @@ pub(crate) fn read_input_rows<R: Read, A: Allocator + Copy>(
     requires { limit ≤ most_input }
     ensures reads { OfGot limit (R.remaining (device_of r.old)) (R.remaining (device_of r.new))
         (ReadsRows gap result store.old store.new) }
-    ensures calls { AsksInput result r.old r.new }
+    ensures calls { AsksRows result r.old r.new }
 {
     match read_head(limit, r) {
         Ok(head) => read_rows_after_head(alloc, limit, gap, head.as_slice(), store, r),
@@ -178,7 +178,7 @@ fn read_rows_after_head<R: Read, A: Allocator + Copy>(
         (λ input. HoldsOfGot limit (head.now ++ input) (R.remaining (device_of r.new))
         (ReadsRows gap result store.old store.new)) }
 
-    ensures calls { AsksInput result r.old r.new }
+    ensures calls { AsksRows result r.old r.new }
 {
     if head == BOOK_MARK {
         return Ok(read_rows(alloc, limit, head, r, store)?);
@@ -207,7 +207,7 @@ fn read_log<R: Read, A: Allocator + Copy>(
         (λ input. HoldsOfGot limit (head.now ++ input) (R.remaining (device_of r.new))
         (ReadsLog result store.old store.new)) }
 
-    ensures calls { AsksInput result r.old r.new }
+    ensures calls { AsksRows result r.old r.new }
 {
     let mut reader = LogReader::new(alloc, limit, head, r);
     'lines: loop {

@@ -1,7 +1,7 @@
 //! The merge of several inputs.
 ghost use Rattle.std.specs.Prelude.{◌≡◌, ◌≢◌, ◌-◌, ◌<◌, ◌≤◌, [], length, Err, IfOk};
 ghost use Rattle.aprs_io.specs.Input.{most_input};
-ghost use Rattle.aprs_tool.specs.Devices.{AsksEach, CallsOutput};
+ghost use Rattle.aprs_tool.specs.Devices.{AsksMerge, CallsOutput};
 ghost use Rattle.aprs_tool.specs.Gathered.{ReadsAll, ReadsEach};
 ghost use Rattle.aprs_tool.specs.Merge.{IsTextOfBook};
 ghost use Rattle.aprs_tool.specs.Outcome.{IsToldOf, RefusesFor, WritesFor};
@@ -41,9 +41,10 @@ pub fn merge_run<R: Read, W: Write, A: Allocator + Copy>(
         RefusesFor (GiveUnion gap gots) (IsFirstRefused gap gots) result w.old w.new) }
     ensures memory { result ≡ Err RunFault.Memory → ⊥ }
 
-    // No input is asked after its end or a fault, and none after the refused one; the output isn't
-    // asked after a fault, nor at all where an input is refused.
-    ensures asks { AsksEach result inputs.old inputs.new }
+    // No input is asked after its end or a fault, and none after the refused one; at `Memory` that
+    // one wasn't at its end, or all inputs were. The output isn't asked after a fault, nor at all
+    // where an input is refused.
+    ensures asks { AsksMerge result inputs.old inputs.new }
     ensures calls { CallsOutput result w.old w.new }
 {
     let gathered = match read_all(alloc, limit, gap, inputs) {

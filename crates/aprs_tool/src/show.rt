@@ -7,7 +7,7 @@ ghost use Rattle.aprs_tool.specs.Several.{GiveUnion, IsFirstRefused, OfEach};
 ghost use Rattle.aprs_tool.specs.Show.{IsListingOf};
 
 use crate::fault::RunFault;
-use crate::gathered::OutputFault;
+use crate::gathered::answer_of;
 use crate::merge::read_all;
 use aprs_book::Gap;
 use aprs_io::Counted;
@@ -40,8 +40,9 @@ pub fn show_run<R: Read, W: Write, A: Allocator + Copy>(
     ensures refuses { OfEach limit R.remaining inputs.old inputs.new (λ gots.
         RefusesFor (GiveUnion gap gots) (IsFirstRefused gap gots) result w.old w.new) }
 
-    // No input is asked after its end or a fault, and none after the refused one; the output isn't
-    // asked after a fault, nor at all where an input is refused or at `Memory`.
+    // No input is asked after its end or a fault, and none after the refused one, which wasn't at
+    // its end where its fault is `Memory`. The output isn't asked after a fault, nor at all where
+    // an input is refused or at `Memory`.
     ensures asks { AsksEach result inputs.old inputs.new }
     ensures calls { CallsOutput result w.old w.new }
 {
@@ -49,9 +50,5 @@ pub fn show_run<R: Read, W: Write, A: Allocator + Copy>(
         Ok(gathered) => gathered,
         Err((index, fault)) => return Err(RunFault::Input { index, fault }),
     };
-    match gathered.show(w) {
-        Ok(()) => Ok(()),
-        Err(OutputFault::Memory) => Err(RunFault::Memory),
-        Err(OutputFault::Write) => Err(RunFault::Write),
-    }
+    answer_of(gathered.show(w))
 }

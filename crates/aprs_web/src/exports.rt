@@ -1,5 +1,5 @@
 //! What a host calls. Each function is given a region of memory for good.
-ghost use Rattle.std.specs.Prelude.{◌≡◌, ℕ, None, Some};
+ghost use Rattle.std.specs.Prelude.{◌≡◌, ℕ, None, Some, IfNone, IfSome};
 ghost use Rattle.aprs_convert.specs.Check.{Checks};
 ghost use Rattle.aprs_convert.specs.Conversion.{Converts};
 ghost use Rattle.aprs_convert.specs.declared.form.Form.TheVariants as form;
@@ -46,9 +46,7 @@ pub extern "C" fn aprs_text(
     ensures { TellsRun (WritesOver (Converts form.Text) input.now)
         result output.old output.new name.old name.new }
 {
-    let arena = Arena::over(region);
-    let (outcome, text) = convert(&arena, Form::Text, input);
-    answer_of(&outcome, text.as_slice(), output, name)
+    converted(region, Form::Text, input, output, name)
 }
 
 /// Writes the log `input` as a monitor prints its frames, each with its kind of report. At a fault
@@ -63,9 +61,7 @@ pub extern "C" fn aprs_kind(
     ensures { TellsRun (WritesOver (Converts form.Kind) input.now)
         result output.old output.new name.old name.new }
 {
-    let arena = Arena::over(region);
-    let (outcome, text) = convert(&arena, Form::Kind, input);
-    answer_of(&outcome, text.as_slice(), output, name)
+    converted(region, Form::Kind, input, output, name)
 }
 
 /// Writes the log `input` as a KISS stream of its frames. At a fault of the log all before it is
@@ -80,9 +76,7 @@ pub extern "C" fn aprs_kiss(
     ensures { TellsRun (WritesOver (Converts form.Kiss) input.now)
         result output.old output.new name.old name.new }
 {
-    let arena = Arena::over(region);
-    let (outcome, text) = convert(&arena, Form::Kiss, input);
-    answer_of(&outcome, text.as_slice(), output, name)
+    converted(region, Form::Kiss, input, output, name)
 }
 
 /// Writes the log `input` as a log again, in its one spelling. At a fault of the log all before it
@@ -97,9 +91,7 @@ pub extern "C" fn aprs_log(
     ensures { TellsRun (WritesOver (Converts form.Log) input.now)
         result output.old output.new name.old name.new }
 {
-    let arena = Arena::over(region);
-    let (outcome, text) = convert(&arena, Form::Log, input);
-    answer_of(&outcome, text.as_slice(), output, name)
+    converted(region, Form::Log, input, output, name)
 }
 
 /// Writes a log of the KISS stream `input`, as if the receiver of the name `receiver` had heard
@@ -121,14 +113,28 @@ pub extern "C" fn aprs_capture(
     ensures no_moment { moment_of moment.now ≡ None
         → TellsNoRun result output.old output.new name.old name.new }
 {
-    let arena = Arena::over(region);
     let Some(receiver) = Receiver::parse(receiver) else {
         return no_run();
     };
     let Some(moment) = Moment::parse(moment) else {
         return no_run();
     };
-    let (outcome, text) = convert(&arena, Form::Capture { receiver, moment }, input);
+    converted(
+        region,
+        Form::Capture { receiver, moment },
+        input,
+        output,
+        name,
+    )
+}
+
+/// A conversion of `input` to this form, as the host reads it.
+fn converted(region: Region, form: Form, input: &[u8], output: &mut [u8], name: &mut [u8]) -> Answer
+    ensures { TellsRun (WritesOver (Converts form) input.now)
+        result output.old output.new name.old name.new }
+{
+    let arena = Arena::over(region);
+    let (outcome, text) = convert(&arena, form, input);
     answer_of(&outcome, text.as_slice(), output, name)
 }
 
@@ -150,13 +156,10 @@ pub extern "C" fn aprs_merge(
     ensures no_run { ¬ AskForSeveral seconds lengths.now inputs.now
         → TellsNoRun result output.old output.new name.old name.new }
 {
-    let arena = Arena::over(region);
-    let Some(gap) = Gap::new(seconds) else {
+    let Some(gap) = gap_of(seconds, inputs, lengths) else {
         return no_run();
     };
-    if !add_up(lengths, inputs.len()) {
-        return no_run();
-    }
+    let arena = Arena::over(region);
     let (outcome, text) = merge(&arena, gap, inputs, lengths);
     answer_of(&outcome, text.as_slice(), output, name)
 }
@@ -179,20 +182,18 @@ pub extern "C" fn aprs_show(
     ensures no_run { ¬ AskForSeveral seconds lengths.now inputs.now
         → TellsNoRun result output.old output.new name.old name.new }
 {
-    let arena = Arena::over(region);
-    let Some(gap) = Gap::new(seconds) else {
+    let Some(gap) = gap_of(seconds, inputs, lengths) else {
         return no_run();
     };
-    if !add_up(lengths, inputs.len()) {
-        return no_run();
-    }
+    let arena = Arena::over(region);
     let (outcome, text) = show(&arena, gap, inputs, lengths);
     answer_of(&outcome, text.as_slice(), output, name)
 }
 
-/// Writes the history of the book of several inputs, logs or books, under a gap of so many seconds. They lie
-/// one after the other in `inputs` and have these lengths. No run where the seconds are no gap, or
-/// the lengths don't add up to that of `inputs`. Where an input is refused, nothing is written.
+/// Writes the history of the book of several inputs, logs or books, under a gap of so many seconds.
+/// They lie one after the other in `inputs` and have these lengths. No run where the seconds are no
+/// gap, or the lengths don't add up to that of `inputs`. Where an input is refused, nothing is
+/// written.
 #[unsafe(no_mangle)]
 pub extern "C" fn aprs_history(
     region: Region,
@@ -208,15 +209,26 @@ pub extern "C" fn aprs_history(
     ensures no_run { ¬ AskForSeveral seconds lengths.now inputs.now
         → TellsNoRun result output.old output.new name.old name.new }
 {
-    let arena = Arena::over(region);
-    let Some(gap) = Gap::new(seconds) else {
+    let Some(gap) = gap_of(seconds, inputs, lengths) else {
         return no_run();
     };
-    if !add_up(lengths, inputs.len()) {
-        return no_run();
-    }
+    let arena = Arena::over(region);
     let (outcome, text) = history(&arena, gap, inputs, lengths);
     answer_of(&outcome, text.as_slice(), output, name)
+}
+
+/// The gap of so many seconds, if the arguments ask for a run over several inputs.
+fn gap_of(seconds: u64, inputs: &[u8], lengths: &[usize]) -> Option<Gap>
+    ensures some { IfSome result (λ gap. (gap ≡ seconds)
+        × AskForSeveral seconds lengths.now inputs.now) }
+    ensures none { IfNone result (¬ AskForSeveral seconds lengths.now inputs.now) }
+{
+    let gap = Gap::new(seconds)?;
+    if add_up(lengths, inputs.len()) {
+        Some(gap)
+    } else {
+        None
+    }
 }
 
 /// Writes the book of `input`, a log or a book, under a gap of so many seconds, which may be wider

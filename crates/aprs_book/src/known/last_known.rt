@@ -1,15 +1,18 @@
 //! What is last known: the greatest reception that reports of something.
-ghost use Rattle.std.specs.Prelude.{◌≡◌};
+ghost use Rattle.std.specs.Prelude.{◌≡◌, None, map};
 ghost use Rattle.std.specs.Option.{option_copied};
-ghost use Rattle.aprs_laws.specs.Best.{greater_known};
+ghost use Rattle.aprs_laws.specs.Best.{greater_known, known_after, known_of};
 ghost use Rattle.aprs_laws.specs.Gap.{millis_of};
+ghost use Rattle.aprs_book.specs.Known.{greatest_of};
 ghost use Rattle.aprs_book.specs.LastKnown.{IsLastKnown};
 ghost use Rattle.aprs_book.specs.Reports as Spec;
 
 use crate::known::heard::heard_of;
 use crate::known::reception_view::ReceptionView;
+use crate::rows::walk::Walk;
 use crate::{Book, Heard};
 use aprs_ax25::Callsign;
+use aprs_log::Reception;
 use std::alloc::Allocator;
 
 impl<A: Allocator + Copy> Book<A> {
@@ -49,6 +52,51 @@ impl<A: Allocator + Copy> Book<A> {
             (Spec.reports_item name.now) result }
     {
         heard_of(self.indexes().item(without_spaces(name)))
+    }
+
+    /// The greatest reception of any frame from this station, whatever it says, or `None` where
+    /// there is none. No index has it: it looks at each row of the book. Takes no memory.
+    pub fn last_heard(&self, station: &Callsign) -> Option<Heard<'_>>
+        ensures { IsLastKnown (millis_of self.now.gap) self.now.rows
+            (Spec.is_from station.now) result }
+    {
+        heard_of(greatest_from(self.walk(), station))
+    }
+}
+
+/// The greatest of the greatest receptions of these rows that are from this station, or `None`
+/// where none is.
+fn greatest_from<'a, A: Allocator + Copy>(
+    rows: Walk<'a, A>,
+    station: &Callsign,
+) -> Option<&'a Reception>
+    ensures { option_copied result
+        ≡ known_of (Spec.is_from station.now) None (map greatest_of rows.entry) }
+{
+    let mut known = None;
+    for row in rows {
+        known = known_with(known, station, row.greatest());
+    }
+    known
+}
+
+/// What is known of this station after one more reception: the greater of this and what is known
+/// where it is from the station, and otherwise nothing new.
+#[tactic(auto, unfolding(aprs_laws::specs::Key::key_of))]
+fn known_with<'a>(
+    known: Option<&'a Reception>,
+    station: &Callsign,
+    x: &'a Reception,
+) -> Option<&'a Reception>
+    ensures { option_copied result
+        ≡ known_after (Spec.is_from station.now) (option_copied known.entry) x.now }
+{
+    if !x.frame().source().cmp(station).is_eq() {
+        return known;
+    }
+    match known {
+        Some(greatest) if !greatest.cmp(x).is_lt() => known,
+        _ => Some(x),
     }
 }
 

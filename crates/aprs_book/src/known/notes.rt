@@ -1,5 +1,5 @@
 //! What rows report, taken one after another.
-ghost use Rattle.std.specs.Prelude.{◌≡◌, ℕ, List, [], ◌∷◌, ◌++◌, IfOk, OnOk};
+ghost use Rattle.std.specs.Prelude.{◌≡◌, ℕ, List, [], ◌∷◌, ◌++◌, IfOk, OnOk, OnErr};
 ghost use Rattle.aprs_laws.specs.Row.{Row, row_key};
 ghost use Rattle.aprs_book.specs.Known as Spec;
 ghost use Rattle.aprs_book.specs.Notes.{AreNotesOf, known_with};
@@ -94,9 +94,10 @@ impl<'t, A: Allocator + Copy> Notes<'t, A> {
 /// Puts into the indexes what the last rows report; `None` changes nothing. After `Memory` the
 /// same is known as before.
 fn put<A: Allocator + Copy>(indexes: &mut Indexes<A>, last: Option<Run<'_>>) -> Result<(), Memory>
-    ensures { OnOk result ((topic : Spec.Topic) (bytes : List ℕ)
+    ensures put { OnOk result ((topic : Spec.Topic) (bytes : List ℕ)
         → Spec.known_at bytes (Spec.index_of topic indexes.new)
         ≡ known_with last.entry topic bytes indexes.old) }
+    ensures same { OnErr result (Spec.SameKnown indexes.old indexes.new) }
 {
     match last {
         Some(run) => indexes.take(&run.subject, &run.greatest),

@@ -8,20 +8,20 @@ ghost use Rattle.aprs_laws.specs.Sound.{Sound};
 use crate::rows::kept_row::KeptRow;
 use crate::rows::millis::Millis;
 use crate::rows::push::first_cause;
-use crate::rows::slot::put;
+use crate::rows::slot::{grow_by_one, put};
 use crate::rows::walk::Walk;
 use crate::{Memory, RowCause, RowParts};
 use aprs_log::Reception;
-use aprs_rows::{Head, reserve_one};
+use aprs_rows::Head;
 use std::alloc::{Allocator, Global};
-use std::collections::BTreeMap;
+use std::collections::{BTreeMap, VecDeque};
 use std::marker::Model;
 
 /// The rows of a book in a map: under each head (the beginning of a key, as numbers) lie the rows
 /// whose keys have that head, in order. No head is without rows. Heads lie in the map itself, so
 /// that most keys are told apart without a look at their frames.
 pub(crate) struct KeyedRows<A: Allocator = Global> {
-    map: BTreeMap<Head, Vec<KeptRow<A>, A>, A>,
+    map: BTreeMap<Head, VecDeque<KeptRow<A>, A>, A>,
     /// The number of the rows of all keys.
     count: usize,
     alloc: A,
@@ -79,16 +79,15 @@ impl<A: Allocator + Copy> KeyedRows<A> {
     pub(crate) fn walk(&self) -> Walk<'_, A>
         ensures { result ≡ self.now }
     {
-        Walk::of(&[], self.map.values())
+        Walk::of(self.map.values())
     }
 
-    /// The rows of the last head, with which all rows end; or no rows, where there are none at
-    /// all.
+    /// Rows of the last head, with which all rows end; or no rows, where there are none at all.
     fn last_rows(&self) -> &[KeptRow<A>]
         ensures { IsEndOf result.now self.now }
     {
         match self.map.last_key_value() {
-            Some((_, rows)) => rows.as_slice(),
+            Some((_, rows)) => last_part(rows),
             None => &[],
         }
     }
@@ -107,7 +106,7 @@ impl<A: Allocator + Copy> KeyedRows<A> {
             self.count = count;
             return pushed;
         }
-        let mut rows = Vec::new(self.alloc);
+        let mut rows = VecDeque::new(self.alloc);
         push_one(&mut rows, &mut count, row)?;
         if self.map.insert(head, rows).is_err() {
             return Err(Memory);
@@ -140,7 +139,7 @@ impl<A: Allocator + Copy> KeyedRows<A> {
             self.count = count;
             return taken;
         }
-        let mut rows = Vec::new(self.alloc);
+        let mut rows = VecDeque::new(self.alloc);
         put(gap, &mut rows, &mut count, x)?;
         if self.map.insert(head, rows).is_err() {
             return Err(Memory);
@@ -150,10 +149,21 @@ impl<A: Allocator + Copy> KeyedRows<A> {
     }
 }
 
+/// Of the two slices in which rows lie the one with which they end.
+fn last_part<A: Allocator + Copy>(rows: &VecDeque<KeptRow<A>, A>) -> &[KeptRow<A>]
+    ensures { IsEndOf result.now rows.now.items }
+{
+    let (front, back) = rows.as_slices();
+    if back.is_empty() {
+        return front;
+    }
+    back
+}
+
 /// Puts a row after the others of its head, and adds 1 to `count`, the number of the rows of all
 /// keys. `Memory` is also returned where `count` has no room. After it both are as before.
 fn push_one<A: Allocator + Copy>(
-    rows: &mut Vec<KeptRow<A>, A>,
+    rows: &mut VecDeque<KeptRow<A>, A>,
     count: &mut usize,
     row: KeptRow<A>,
 ) -> Result<(), Memory>
@@ -164,8 +174,8 @@ fn push_one<A: Allocator + Copy>(
     let Some(more) = count.checked_add(1) else {
         return Err(Memory);
     };
-    reserve_one(rows)?;
-    if rows.push(row).is_err() {
+    grow_by_one(rows)?;
+    if rows.push_back(row).is_err() {
         return Err(Memory);
     }
     *count = more;

@@ -1,7 +1,6 @@
 //! A row as it is handed over.
 ghost use Rattle.std.specs.Prelude.{◌≡◌};
 
-use crate::ReceiverList;
 use crate::known::reception_view::ReceptionView;
 use aprs_ax25::Frame;
 use aprs_log::{Moment, Receiver, Reception};
@@ -16,7 +15,7 @@ pub struct RowParts<A: Allocator = Global> {
     /// The moment of the greatest reception.
     pub last: Moment,
     /// Who heard it.
-    pub receivers: ReceiverList<A>,
+    pub receivers: Vec<Receiver, A>,
     /// Who heard the greatest reception.
     pub receiver: Receiver,
     /// The frame of the greatest reception, which has the key.
@@ -29,7 +28,7 @@ impl<A: Allocator> Model for RowParts<A> {
 
     ghost Value = { RowValue };
 
-    ghost view = { λ r. row_of r.first r.last r.receivers r.receiver r.frame };
+    ghost view = { λ r. row_of r.first r.last r.receivers.items r.receiver r.frame };
 }
 
 impl<A: Allocator> RowParts<A> {

@@ -1,5 +1,6 @@
 //! Where a reception goes in the rows.
-ghost use Rattle.std.specs.Prelude.{◌≡◌, ◌≤◌, ◌+◌, true, length, IsOk, OnOk, OnErr};
+ghost use Rattle.std.specs.Prelude.{◌≡◌, ◌≤◌, ◌<◌, ◌+◌, ◌/◌, true, length, remove, IsOk, OnOk, OnErr};
+ghost use Rattle.std.specs.VecDeque.{deque_len, deque_capacity};
 ghost use Rattle.aprs_laws.specs.Inserted.{insert_heard, fits_in_place};
 ghost use Rattle.aprs_laws.specs.Sound.{Sound};
 ghost use Rattle.aprs_book.specs.Slots.{IsSlot};
@@ -8,8 +9,8 @@ use crate::Memory;
 use crate::rows::kept_row::KeptRow;
 use crate::rows::millis::Millis;
 use aprs_log::Reception;
-use aprs_rows::reserve_one;
 use std::alloc::Allocator;
+use std::collections::VecDeque;
 
 /// Where a reception goes among rows.
 #[derive(Drop)]
@@ -26,11 +27,11 @@ pub(crate) enum Slot {
 /// The rows have to be sound; so at most two of them are near to it.
 pub(crate) fn find_slot<A: Allocator + Copy>(
     gap: Millis,
-    rows: &[KeptRow<A>],
+    rows: &VecDeque<KeptRow<A>, A>,
     x: &Reception,
 ) -> Slot
-    requires { Sound gap rows.now }
-    ensures { IsSlot gap x.now rows.now result }
+    requires { Sound gap rows.now.items }
+    ensures { IsSlot gap x.now rows.now.items result }
 {
     let i = rows.partition_point(|row| row.side(gap, x).is_lt());
     if i == rows.len() || rows[i].side(gap, x).is_gt() {
@@ -47,7 +48,7 @@ pub(crate) fn find_slot<A: Allocator + Copy>(
 /// them. What needs memory is made before the first change: after `Memory` both are as before.
 pub(crate) fn put<A: Allocator + Copy>(
     gap: Millis,
-    rows: &mut Vec<KeptRow<A>, A>,
+    rows: &mut VecDeque<KeptRow<A>, A>,
     count: &mut usize,
     x: &Reception,
 ) -> Result<(), Memory>
@@ -60,13 +61,13 @@ pub(crate) fn put<A: Allocator + Copy>(
     ensures in_place { fits_in_place gap x.now rows.old.items ≡ true → IsOk result }
     ensures unchanged { OnErr result (rows.new.items ≡ rows.old.items) }
 {
-    match find_slot(gap, rows.as_slice(), x) {
+    match find_slot(gap, rows, x) {
         Slot::New(i) => {
             let Some(more) = count.checked_add(1) else {
                 return Err(Memory);
             };
             let row = KeptRow::single(*rows.allocator(), x)?;
-            reserve_one(rows)?;
+            grow_by_one(rows)?;
             if rows.insert(i, row).is_err() {
                 return Err(Memory);
             }
@@ -79,9 +80,36 @@ pub(crate) fn put<A: Allocator + Copy>(
         Slot::Two(i) => {
             let row = rows[i].bridge(x, &rows[i + 1])?;
             rows[i] = row;
-            rows.remove(i + 1);
+            take_out(rows, i + 1);
             *count -= 1;
         }
+    }
+    Ok(())
+}
+
+/// Takes out the row at this place, which has to be there, and drops it.
+fn take_out<T: Drop, A: Allocator>(rows: &mut VecDeque<T, A>, i: usize)
+    requires { i < deque_len rows.old }
+    ensures items { rows.new.items ≡ remove rows.old.items i }
+    ensures len { deque_len rows.new + 1 ≡ deque_len rows.old }
+{
+    drop(rows.remove(i));
+}
+
+/// Makes room for one more row. Where there is none, takes room for an eighth of the rows and one
+/// more, so that little memory lies idle. The rows stay as they are, also after `Memory`.
+pub(crate) fn grow_by_one<T, A: Allocator>(rows: &mut VecDeque<T, A>) -> Result<(), Memory>
+    ensures items { rows.new.items ≡ rows.old.items }
+    ensures room { OnOk result (deque_len rows.new < deque_capacity rows.new) }
+    ensures bound { deque_capacity rows.new
+        ≤ deque_capacity rows.old + deque_len rows.old / 8 + 1 }
+{
+    if rows.len() < rows.capacity() {
+        return Ok(());
+    }
+    let more = rows.len() / 8 + 1;
+    if rows.reserve_exact(more).is_err() {
+        return Err(Memory);
     }
     Ok(())
 }

@@ -1,20 +1,22 @@
 //! The walk over the rows of a book, head by head.
-ghost use Rattle.std.specs.Prelude.{◌≡◌, ◌++◌, List};
+ghost use Rattle.std.specs.Prelude.{◌≡◌, List};
 ghost use Rattle.std.specs.List.{flat_map};
 ghost use Rattle.std.specs.Iterator.{YieldsFirstRef, item_count};
 
 use crate::rows::kept_row::KeptRow;
 use aprs_rows::Head;
 use std::alloc::{Allocator, Global};
+use std::collections::VecDeque;
 use std::collections::btree_map::Values;
 use std::marker::Model;
 
 /// The rows that are still to come, in order, as a book keeps them: what is left of the rows of
-/// one head, then the rows of all further heads.
+/// one head, which lie in two slices, then the rows of all further heads.
 #[derive(Drop)]
 pub(crate) struct Walk<'a, A: Allocator = Global> {
     rows: &'a [KeptRow<A>],
-    others: Values<'a, Head, Vec<KeptRow<A>, A>>,
+    back: &'a [KeptRow<A>],
+    others: Values<'a, Head, VecDeque<KeptRow<A>, A>>,
 }
 
 impl<'a, A: Allocator> Model for Walk<'a, A> {
@@ -24,18 +26,19 @@ impl<'a, A: Allocator> Model for Walk<'a, A> {
 
     ghost Value = { List RowValue };
 
-    ghost view = { λ w. w.rows.now ++ flat_map (λ v. v.items) w.others };
+    ghost view = { λ w. w.rows.now ++ (w.back.now ++ flat_map (λ v. v.items) w.others) };
 }
 
 impl<'a, A: Allocator> Walk<'a, A> {
-    /// A walk over `rows`, and then over the rows of each of the `others`.
-    pub(crate) fn of(
-        rows: &'a [KeptRow<A>],
-        others: Values<'a, Head, Vec<KeptRow<A>, A>>,
-    ) -> Walk<'a, A>
-        ensures { result ≡ rows.now ++ flat_map (λ v. v.items) others.entry }
+    /// A walk over the rows of each head, one after another.
+    pub(crate) fn of(others: Values<'a, Head, VecDeque<KeptRow<A>, A>>) -> Walk<'a, A>
+        ensures { result ≡ flat_map (λ v. v.items) others.entry }
     {
-        Walk { rows, others }
+        Walk {
+            rows: &[],
+            back: &[],
+            others,
+        }
     }
 }
 
@@ -49,7 +52,11 @@ impl<'a, A: Allocator + Copy> Iterator for Walk<'a, A> {
     /// The next row, or `None` after the last.
     fn next(&mut self) -> Option<&'a KeptRow<A>> {
         while self.rows.is_empty() {
-            self.rows = self.others.next()?.as_slice();
+            self.rows = self.back;
+            self.back = &[];
+            if self.rows.is_empty() {
+                (self.rows, self.back) = self.others.next()?.as_slices();
+            }
         }
         let (first, others) = self.rows.split_first()?;
         self.rows = others;

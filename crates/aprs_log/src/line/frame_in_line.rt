@@ -6,10 +6,8 @@ ghost use Rattle.aprs_log.specs.FrameEnds.{has_other};
 ghost use Rattle.aprs_log.specs.Line.{frame_in, frame_or_reason};
 
 use crate::fault::Reason;
-use aprs_kiss::{Fed, KissReader, cut_plain};
+use aprs_kiss::{FEND, Fed, KissReader, cut_plain};
 
-/// Stands before and after a frame.
-const FEND: u8 = 0xC0;
 /// The type byte of a data frame on port 0.
 const DATA: u8 = 0;
 /// The most bytes of a frame, and the frame end after it.

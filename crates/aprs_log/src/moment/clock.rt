@@ -34,7 +34,7 @@ impl Clock {
     pub fn new() -> Clock {
         Clock {
             date: *b"1970-01-01T",
-            midnight: Moment::first(),
+            midnight: Moment::EPOCH,
         }
     }
 

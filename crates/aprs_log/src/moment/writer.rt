@@ -30,7 +30,7 @@ impl MomentWriter {
     /// A writer that keeps the first moment of 1970. Takes no memory.
     pub fn new() -> MomentWriter {
         MomentWriter {
-            text: Moment::first().text(),
+            text: Moment::EPOCH.text(),
             midnight: 0,
             time: 0,
         }

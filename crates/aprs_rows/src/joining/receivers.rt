@@ -156,22 +156,16 @@ impl<A: Allocator + Copy> Join for Receivers<A> {
     }
 }
 
-/// Looks for a name among ascending names: its index, or as `Err` the index at which it would have
-/// to be inserted.
+/// Looks by halves for a name among names, which have to ascend strictly: its index, or as `Err`
+/// the index at which it would have to be inserted.
 fn search(names: &[Receiver], name: &Receiver) -> Result<usize, usize>
+    requires { Ordered (IsBelow bytes_cmp) names.now }
     ensures { MatchResult result
         (λ _. add bytes_cmp name.now names.now ≡ names.now)
         (λ i. (i ≤ length names.now)
         × (add bytes_cmp name.now names.now ≡ insert names.now i name.now)) }
 {
-    for (i, other) in names.iter().enumerate() {
-        match name.cmp(other) {
-            Ordering::Less => return Err(i),
-            Ordering::Equal => return Ok(i),
-            Ordering::Greater => {}
-        }
-    }
-    Err(names.len())
+    names.binary_search(name)
 }
 
 /// Puts the names of `ours` and `theirs`, which both ascend, in order and each once after those in

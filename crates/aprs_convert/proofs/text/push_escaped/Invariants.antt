@@ -1,5 +1,5 @@
 use Rattle.std.proofs.Common.{◌≡◌, ◌+◌, ◌*◌, ◌≤◌, ◌++◌, length, take}
-use Rattle.aprs_convert.specs.Shown.{shown_text}
+use Rattle.aprs_io.specs.Shown.{shown_text}
 use Rattle.aprs_convert.proofs.text.push_escaped.Given as goal
 
 abbrev pub invariant-loop-b : goal.invariant-loop-b

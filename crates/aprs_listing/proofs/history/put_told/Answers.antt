@@ -1,4 +1,4 @@
-use Rattle.std.proofs.Common.{◌≡◌, ◌∙◌, ℕ, List, [], ◌∷◌, map, Some, None, ap, sym, refl}
+use Rattle.std.proofs.Common.{◌≡◌, ◌∙◌, ℕ, List, [], ◌∷◌, map, ap, sym, refl}
 use Rattle.std.specs.Prelude.{codes}
 use Rattle.std.specs.Option.{option_map}
 use Rattle.aprs_ax25.specs.Frame.{Parts}
@@ -6,16 +6,21 @@ use Rattle.aprs_ax25.specs.FrameFault.{parts_of}
 use Rattle.aprs_report.specs.Reading.{view}
 use Rattle.aprs_report.specs.declared.report.Report.{Report}
 use Rattle.aprs_listing.specs.History.{id_word, told_line}
-use Rattle.aprs_listing.specs.Lines.{field_text}
-use Rattle.aprs_listing.specs.Listing.{live_text, place_fields, stamp_text, word}
+use Rattle.aprs_listing.specs.Lines.{field_text, told_named_line}
+use Rattle.aprs_listing.specs.Listing.{place_fields, stamp_text, word}
 use Rattle.aprs_listing.specs.declared.field.Field.TheVariants as field
 use Rattle.aprs_io.proofs.Outlets.{Puts-is}
-use Rattle.aprs_listing.proofs.Histories.{id_of, lists_line, text_line}
+use Rattle.aprs_listing.proofs.Histories.{id_of, text_line}
 use Rattle.aprs_listing.proofs.history.put_told.Goals as goal
 
 line_by : (told : List (List ℕ)) (p : Parts) (r s : Report) → r ≡ s
     → told_line told p (view s) ≡ told_line told p (view r)
 line_by told p r s e = ap (λ (r : Report). told_line told p (view r)) (sym e)
+
+named_by : (told : List (List ℕ)) (p : Parts) (r s : Report) → r ≡ s
+    → told_named_line told (view s) ≡ told_line told p (view s)
+    → told_named_line told (view r) ≡ told_line told p (view r)
+named_by told p r s is e = rw is e
 
 pub returns-in-Position : goal.returns-in-Position
 returns-in-Position g c =
@@ -27,21 +32,15 @@ returns-in-Position g c =
 
 pub returns-in-Object : goal.returns-in-Object
 returns-in-Object g c =
-    let it = c.in-Object in
-    Puts-is c.put_text_line-in-Object.ensures
-    (text_line (codes "object") c.args.told.now c.named_fields-fields.result
-    (word it.name.now ∷ live_text it.live ∷ place_fields (Some it.stamp) it.place it.symbol)
-    it.comment.now c.named_fields-fields.ensures
-    ∙ line_by (map field_text c.args.told.now) (parts_of c.args.frame.now) c.args.report _ it.is)
+    Puts-is c.put_named.ensures
+    (named_by (map field_text c.args.told.now) (parts_of c.args.frame.now) c.args.report _
+    c.in-Object.is refl)
 
 pub returns-in-Item : goal.returns-in-Item
 returns-in-Item g c =
-    let it = c.in-Item in
-    Puts-is c.put_text_line-in-Item.ensures
-    (text_line (codes "item") c.args.told.now c.named_fields-fields-in-Item.result
-    (word it.name.now ∷ live_text it.live ∷ place_fields None it.place it.symbol)
-    it.comment.now c.named_fields-fields-in-Item.ensures
-    ∙ line_by (map field_text c.args.told.now) (parts_of c.args.frame.now) c.args.report _ it.is)
+    Puts-is c.put_named-in-Item.ensures
+    (named_by (map field_text c.args.told.now) (parts_of c.args.frame.now) c.args.report _
+    c.in-Item.is refl)
 
 pub returns-in-Status : goal.returns-in-Status
 returns-in-Status g c =
@@ -62,20 +61,12 @@ returns-in-Message g c =
     ∙ line_by (map field_text c.args.told.now) (parts_of c.args.frame.now) c.args.report _ it.is)
 
 pub returns-in-Ack : goal.returns-in-Ack
-returns-in-Ack g c =
-    let it = c.in-Ack in
-    Puts-is c.put_lists_line.ensures
-    (lists_line (codes "ack") c.args.told.now (field.Word it.addressee ∷ field.Plain it.id ∷ [])
-    (word it.addressee.now ∷ it.id.now ∷ []) refl
-    ∙ line_by (map field_text c.args.told.now) (parts_of c.args.frame.now) c.args.report _ it.is)
+returns-in-Ack g c = Puts-is c.put_answer_line.ensures
+    (line_by (map field_text c.args.told.now) (parts_of c.args.frame.now) c.args.report _ c.in-Ack.is)
 
 pub returns-in-Rej : goal.returns-in-Rej
-returns-in-Rej g c =
-    let it = c.in-Rej in
-    Puts-is c.put_lists_line-in-Rej.ensures
-    (lists_line (codes "rej") c.args.told.now (field.Word it.addressee ∷ field.Plain it.id ∷ [])
-    (word it.addressee.now ∷ it.id.now ∷ []) refl
-    ∙ line_by (map field_text c.args.told.now) (parts_of c.args.frame.now) c.args.report _ it.is)
+returns-in-Rej g c = Puts-is c.put_answer_line-in-Rej.ensures
+    (line_by (map field_text c.args.told.now) (parts_of c.args.frame.now) c.args.report _ c.in-Rej.is)
 
 pub returns-in-Raw : goal.returns-in-Raw
 returns-in-Raw g c = Puts-is c.put_other.ensures

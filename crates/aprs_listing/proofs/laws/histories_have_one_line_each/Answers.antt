@@ -1,7 +1,5 @@
-use Rattle.std.proofs.lemmas.List.Elements.{recursion_from_All}
-use Rattle.aprs_rows.specs.Told.{IsTold}
-use Rattle.aprs_listing.proofs.OneLines.{one_line_each}
+use Rattle.aprs_listing.proofs.OneLines.{lines_of_told}
 use Rattle.aprs_listing.proofs.laws.histories_have_one_line_each.Goals as goal
 
 pub returns : goal.returns
-returns c = λ rows h. one_line_each rows (recursion_from_All IsTold rows h)
+returns c = lines_of_told

@@ -1,7 +1,7 @@
 use Rattle.std.proofs.Common.{subst, sym}
 use Rattle.aprs_tool.specs.Outcome.{IsToldOf, WritesFor}
 use Rattle.aprs_tool.specs.Several.{GiveUnion, OfEach}
-use Rattle.aprs_program.specs.Work.{IsOutputOf}
+use Rattle.aprs_program.specs.Work.{AsksAll, IsOutputOf}
 use Rattle.aprs_program.specs.declared.work.Gathering.{Gathering}
 use Rattle.aprs_program.proofs.work.run_gathering.Goals as goal
 
@@ -25,3 +25,18 @@ returns-in-History-clause-writes g c =
     c.history_run.new.inputs (λ gots. WritesFor (IsToldOf (GiveUnion c.args.gap gots)
     (IsOutputOf of c.args.gap)) g.W.Write.contents c.history_run.result c.args.w.now
     c.history_run.new.w)) (sym c.in-History.is) c.history_run.ensures.writes
+
+pub returns-in-Merge-clause-asks : goal.returns-in-Merge-clause-asks
+returns-in-Merge-clause-asks g c =
+    subst (λ (of : Gathering). AsksAll of c.merge_run.result c.args.inputs.now c.merge_run.new.inputs)
+    (sym c.in-Merge.is) c.merge_run.ensures.asks
+
+pub returns-in-Show-clause-asks : goal.returns-in-Show-clause-asks
+returns-in-Show-clause-asks g c =
+    subst (λ (of : Gathering). AsksAll of c.show_run.result c.args.inputs.now c.show_run.new.inputs)
+    (sym c.in-Show.is) c.show_run.ensures.asks
+
+pub returns-in-History-clause-asks : goal.returns-in-History-clause-asks
+returns-in-History-clause-asks g c =
+    subst (λ (of : Gathering). AsksAll of c.history_run.result c.args.inputs.now c.history_run.new.inputs)
+    (sym c.in-History.is) c.history_run.ensures.asks

@@ -1,4 +1,4 @@
-use Rattle.std.proofs.Common.{inr}
+use Rattle.std.proofs.Common.{inl, inr, refl}
 use Rattle.std.proofs.lemmas.Result.{err_from_is_err_and}
 use Rattle.aprs_tool.proofs.Inputs.{book_input, is_mark_eq, is_other_eq, log_input, read_alone, refused_log}
 use Rattle.aprs_tool.proofs.input.read_after_head.Goals as goal
@@ -38,4 +38,21 @@ pub returns-in_err-book_of-clause-calls : goal.returns-in_err-book_of-clause-cal
 returns-in_err-book_of-clause-calls g c =
     let p = err_from_is_err_and c.from_residual-in_err-book_of.result
     c.from_residual-in_err-book_of.ensures.1 in
-    rw (p.1, p.2) (inr c.in_ok-read_log.ensures.calls)
+    rw (p.1, p.2) (inr (refl, c.in_ok-read_log.ensures.calls))
+
+pub returns-in_err-read_book-clause-calls : goal.returns-in_err-read_book-clause-calls
+returns-in_err-read_book-clause-calls g c =
+    let p = err_from_is_err_and c.from_residual.result c.from_residual.ensures.1 in
+    rw (p.1, p.2) (inl c.in_err-read_book.ensures.calls)
+
+pub returns-then-eq-clause-calls : goal.returns-then-eq-clause-calls
+returns-then-eq-clause-calls g c = inl c.in_ok-read_book.ensures.calls
+
+pub returns-in_err-read_log-clause-calls : goal.returns-in_err-read_log-clause-calls
+returns-in_err-read_log-clause-calls g c =
+    let p = err_from_is_err_and c.from_residual-in_err-read_log.result
+    c.from_residual-in_err-read_log.ensures.1 in
+    rw (p.1, p.2) (inl c.in_err-read_log.ensures.calls)
+
+pub returns-clause-calls : goal.returns-clause-calls
+returns-clause-calls g c = inl c.in_ok-read_log.ensures.calls

@@ -1,6 +1,6 @@
 use Rattle.std.proofs.lemmas.Result.{err_from_is_err_and}
 use Rattle.aprs_tool.proofs.Inputs.{gives_log, of_got, of_head, refused_log, short_empty, short_fault, short_is_log}
-use Rattle.aprs_tool.proofs.Readers.{AsksInput-then}
+use Rattle.aprs_tool.proofs.Readers.{AsksRows-then}
 use Rattle.aprs_tool.specs.InputRows.{ReadsRows}
 use Rattle.aprs_tool.specs.declared.fault.InputFault.TheVariants.{Log}
 use Rattle.aprs_tool.proofs.input.read_input_rows.Goals as goal
@@ -15,7 +15,7 @@ returns-in-Ok-clause-reads g c =
 
 pub returns-in-Ok-clause-calls : goal.returns-in-Ok-clause-calls
 returns-in-Ok-clause-calls g c =
-    AsksInput-then _ _ _ c.in-Ok.ensures.calls c.read_rows_after_head.result
+    AsksRows-then _ _ _ c.in-Ok.ensures.calls c.read_rows_after_head.result
     c.read_rows_after_head.ensures.calls
 
 pub returns-in_err-read_short-in-Err-clause-reads : goal.returns-in_err-read_short-in-Err-clause-reads

@@ -1,5 +1,5 @@
 use Rattle.aprs_laws.specs.JoinRow.{single}
-use Rattle.std.proofs.Common.{ap, map, inl, refl, rules, sym, ◌∙◌, ◌++◌, ◌∷◌, [], subst, IfSome, Ok, Err}
+use Rattle.std.proofs.Common.{ap, map, refl, rules, sym, ◌∙◌, ◌++◌, ◌∷◌, [], subst, IfSome, Ok, Err}
 use Rattle.std.proofs.lemmas.Result.{err_from_is_err_and}
 use Rattle.aprs_io.specs.Device.{Calls, End, Going, device_of}
 use Rattle.aprs_io.proofs.Sends.{Calls-none, Calls-then}
@@ -97,6 +97,6 @@ pub returns-in_err-push_heard-clause-calls : goal.returns-in_err-push_heard-clau
 returns-in_err-push_heard-clause-calls g c =
     let p = err_from_is_err_and c.from_residual-in_err-push_heard.result
     c.from_residual-in_err-push_heard.ensures.1 in
-    rw (p.1, p.2) (inl (subst (Calls Going c.args.r.now) (search rules)
+    rw (p.1, p.2) (subst (Calls Going c.args.r.now) (search rules)
     (Calls-then c.lines.invariant.calls
-    (rw c.if-not-branch.false at (c.in_ok-advance.ensures.calls c.lines.invariant.going)))))
+    (rw c.if-not-branch.false at (c.in_ok-advance.ensures.calls c.lines.invariant.going))))

@@ -1,10 +1,9 @@
-use Rattle.std.proofs.Common.{◌∙◌, ◌-◌, length, arith}
+use Rattle.std.proofs.Common.{◌∙◌, ◌-◌, length, inl, inr, refl, arith}
 use Rattle.std.proofs.lemmas.List.Elements.{length_all_zip}
 use Rattle.aprs_io.specs.Device.{Calls, End, device_of}
 use Rattle.aprs_tool.specs.Merge.{IsTextOfBook}
 use Rattle.aprs_tool.proofs.LastRefused.{refused_at_last, text_cut, text_none, text_sent}
 use Rattle.aprs_tool.proofs.Merges.{same_len, text_of_book}
-use Rattle.aprs_tool.proofs.Readers.{AsksEach-last}
 use Rattle.aprs_tool.proofs.RunsOver.{all_cut, all_written, each_so, unsaid}
 use Rattle.aprs_tool.proofs.merge.merge_run.Goals as goal
 
@@ -23,6 +22,9 @@ returns-in-Ok-write-clause-refuses g c = λ inputs e.
 pub returns-in-Ok-write-clause-calls : goal.returns-in-Ok-write-clause-calls
 returns-in-Ok-write-clause-calls g c = (text_sent _ _ _ _ c.in-Ok-write.ensures).calls
 
+pub returns-in-Ok-write-clause-asks : goal.returns-in-Ok-write-clause-asks
+returns-in-Ok-write-clause-asks g c = inl c.in-Ok.ensures.calls
+
 -- ---- the output was refused
 
 pub returns-in-Err-Write-clause-writes : goal.returns-in-Err-Write-clause-writes
@@ -38,6 +40,9 @@ returns-in-Err-Write-clause-refuses g c = λ inputs e.
 pub returns-in-Err-Write-clause-calls : goal.returns-in-Err-Write-clause-calls
 returns-in-Err-Write-clause-calls g c =
     (text_cut _ _ _ _ _ c.in-Err-Write.field-0-is c.in-Err-Write.ensures).calls
+
+pub returns-in-Err-Write-clause-asks : goal.returns-in-Err-Write-clause-asks
+returns-in-Err-Write-clause-asks g c = inl c.in-Ok.ensures.calls
 
 -- ---- an allocation failed
 
@@ -64,10 +69,15 @@ returns-in-Err-Memory-clause-asks g c =
     let old = c.args.inputs.now in
     let new = c.read_all.new.inputs in
     let len = length_all_zip (Calls End) old new c.in-Ok.ensures.calls in
-    rw c.fault_of_last.ensures (AsksEach-last (length new - 1) old new (omega (arith, some, len))
-    c.in-Ok.ensures.calls)
+    rw c.fault_of_last.ensures
+    (inr (length new - 1, omega (arith, some, len), refl, c.in-Ok.ensures.calls))
 
 pub returns-in-Err-Memory-clause-calls : goal.returns-in-Err-Memory-clause-calls
 returns-in-Err-Memory-clause-calls g c =
     rw c.fault_of_last.ensures
     (text_none _ _ _ _ _ c.in-Err-Memory.field-0-is c.in-Err-Memory.ensures).0
+
+-- ---- an input is refused
+
+pub returns-in-Err-clause-asks : goal.returns-in-Err-clause-asks
+returns-in-Err-clause-asks g c = inl c.in-Err.ensures.calls

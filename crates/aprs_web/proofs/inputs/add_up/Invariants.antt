@@ -1,4 +1,4 @@
-use Rattle.std.proofs.Common.{◌≡◌, ℕ, ◌+◌, ◌-◌, ◌≤◌, drop}
+use Rattle.std.proofs.Common.{◌≡◌, ◌+◌, ◌-◌, ◌≤◌, drop}
 use Rattle.std.specs.List.{fold, sum}
 use Rattle.aprs_web.proofs.inputs.add_up.Given as goal
 

@@ -1,7 +1,8 @@
+use Rattle.std.proofs.Common.{inl}
 use Rattle.std.proofs.lemmas.Result.{err_from_is_err_and}
 use Rattle.aprs_convert.proofs.Gots.{got_so}
 use Rattle.aprs_tool.proofs.Into.{merged_in, not_merged_in}
-use Rattle.aprs_tool.proofs.Readers.{asks_merge}
+use Rattle.aprs_tool.proofs.Readers.{AsksInput-ends, AsksInput-err, asks_merge}
 use Rattle.aprs_tool.proofs.desk.Desk.take_input.Goals as goal
 
 pub returns-clause-takes : goal.returns-clause-takes
@@ -24,4 +25,13 @@ pub returns-in_err-self-clause-calls : goal.returns-in_err-self-clause-calls
 returns-in_err-self-clause-calls g c =
     let p = err_from_is_err_and c.from_residual-in_err-self.result
     c.from_residual-in_err-self.ensures.1 in
-    rw (p.1, p.2) (asks_merge c.in_err-self.field-0.0 c.in_ok-input.ensures.calls)
+    rw (p.1, p.2) (asks_merge c.in_err-self.field-0.0
+    (AsksInput-ends _ c.in_ok-input.ensures.calls))
+
+pub returns-in_err-input-clause-calls : goal.returns-in_err-input-clause-calls
+returns-in_err-input-clause-calls g c =
+    let p = err_from_is_err_and c.from_residual.result c.from_residual.ensures.1 in
+    rw (p.1, p.2) (AsksInput-err _ c.in_err-input.ensures.calls)
+
+pub returns-clause-calls : goal.returns-clause-calls
+returns-clause-calls g c = inl (AsksInput-ends _ c.in_ok-input.ensures.calls)

@@ -2,45 +2,51 @@ use Rattle.std.proofs.Common.{Ok, Err, refl, subst, ◌∙◌, ap}
 use Rattle.std.proofs.lemmas.Result.{err_from_is_err_and}
 use Rattle.aprs_io.proofs.Sends.{Sends-err, Sends-ok}
 use Rattle.aprs_laws.specs.BookValue.{BookValue}
-use Rattle.aprs_tool.specs.WrittenHistory.{WritesHistory}
+use Rattle.aprs_tool.specs.ToldBook.{IsHistory, WritesTold}
 use Rattle.aprs_tool.specs.declared.gathered.OutputFault.TheVariants.{Write}
 use Rattle.aprs_tool.proofs.RowsTold.{same_book}
 use Rattle.aprs_tool.proofs.gathered.Gathered.history.Goals as goal
 
 pub returns-in_err-order : goal.returns-in_err-order
-unfolding WritesHistory
+unfolding WritesTold
 returns-in_err-order g c =
     let p = err_from_is_err_and c.from_residual.result c.from_residual.ensures.1 in
     rw (p.1, p.2) refl
 
 pub returns-in_err-rows : goal.returns-in_err-rows
-unfolding WritesHistory
+unfolding WritesTold
 returns-in_err-rows g c =
     let p = err_from_is_err_and c.from_residual-in_err-rows.result
     c.from_residual-in_err-rows.ensures.1 in
     rw (p.1, p.2) refl
 
 pub returns-in_err-write_history : goal.returns-in_err-write_history
-unfolding WritesHistory
+unfolding WritesTold
 returns-in_err-write_history g c =
     let p = err_from_is_err_and c.from_residual-in_err-write_history.result
     c.from_residual-in_err-write_history.ensures.1 in
     let was = c.self.inside in
-    rw (p.1, p.2) (subst (λ b. WritesHistory g.W.Write.contents (Err Write) b c.args.w.now
+    rw (p.1, p.2) (subst (λ b. WritesTold IsHistory g.W.Write.contents (Err Write) b c.args.w.now
     c.write_history.new.w)
     (same_book was.gap was.store c.in_ok-rows.rows c.self.invariant c.in_ok-order.ensures.sound
     (ap (λ (b : BookValue). b.gap) c.in_ok-rows.ensures.rows)
     (c.in_ok-rows.ensures.book was.store c.in_ok-order.ensures.members)
-    ∙ c.self.view_is)
-    (Sends-err (Err Write) refl c.in_err-write_history.ensures))
+    ∙ c.self.view_is) (
+      _,
+      (c.in_err-write_history.ensures.lines, refl),
+      Sends-err (Err Write) refl c.in_err-write_history.ensures.sends,
+    ))
 
 pub returns : goal.returns
-unfolding WritesHistory
+unfolding WritesTold
 returns g c =
     let was = c.self.inside in
-    subst (λ b. WritesHistory g.W.Write.contents (Ok tt) b c.args.w.now c.write_history.new.w)
+    subst (λ b. WritesTold IsHistory g.W.Write.contents (Ok tt) b c.args.w.now c.write_history.new.w)
     (same_book was.gap was.store c.in_ok-rows.rows c.self.invariant c.in_ok-order.ensures.sound
     (ap (λ (b : BookValue). b.gap) c.in_ok-rows.ensures.rows)
     (c.in_ok-rows.ensures.book was.store c.in_ok-order.ensures.members)
-    ∙ c.self.view_is)
-    (Sends-ok c.in_ok-write_history.ensures)
+    ∙ c.self.view_is) (
+      _,
+      (c.in_ok-write_history.ensures.lines, refl),
+      Sends-ok c.in_ok-write_history.ensures.sends,
+    )

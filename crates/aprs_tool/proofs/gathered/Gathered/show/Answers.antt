@@ -2,47 +2,47 @@ use Rattle.std.proofs.Common.{Ok, Err, refl, subst, ◌∙◌, ap}
 use Rattle.std.proofs.lemmas.Result.{err_from_is_err_and}
 use Rattle.aprs_io.proofs.Sends.{Sends-err, Sends-ok}
 use Rattle.aprs_laws.specs.BookValue.{BookValue}
-use Rattle.aprs_tool.specs.ShownBook.{ShowsBook}
+use Rattle.aprs_tool.specs.ToldBook.{IsShown, WritesTold}
 use Rattle.aprs_tool.specs.declared.gathered.OutputFault.TheVariants.{Write}
 use Rattle.aprs_tool.proofs.RowsTold.{same_book}
 use Rattle.aprs_tool.proofs.Shows.{shown_text}
 use Rattle.aprs_tool.proofs.gathered.Gathered.show.Goals as goal
 
 pub returns-in_err-order : goal.returns-in_err-order
-unfolding ShowsBook
+unfolding WritesTold
 returns-in_err-order g c =
     let p = err_from_is_err_and c.from_residual.result c.from_residual.ensures.1 in
     rw (p.1, p.2) refl
 
 pub returns-in_err-rows : goal.returns-in_err-rows
-unfolding ShowsBook
+unfolding WritesTold
 returns-in_err-rows g c =
     let p = err_from_is_err_and c.from_residual-in_err-rows.result
     c.from_residual-in_err-rows.ensures.1 in
     rw (p.1, p.2) refl
 
 pub returns-in_err-overview : goal.returns-in_err-overview
-unfolding ShowsBook
+unfolding WritesTold
 returns-in_err-overview g c =
     let p = err_from_is_err_and c.from_residual-in_err-overview.result
     c.from_residual-in_err-overview.ensures.1 in
     rw (p.1, p.2) refl
 
 pub returns-in_err-views : goal.returns-in_err-views
-unfolding ShowsBook
+unfolding WritesTold
 returns-in_err-views g c =
     let p = err_from_is_err_and c.from_residual-in_err-views.result
     c.from_residual-in_err-views.ensures.1 in
     rw (p.1, p.2) refl
 
 pub returns-in_err-write : goal.returns-in_err-write
-unfolding ShowsBook
+unfolding WritesTold
 returns-in_err-write g c =
     let p = err_from_is_err_and c.from_residual-in_err-write.result
     c.from_residual-in_err-write.ensures.1 in
     let was = c.self.inside in
     let views = c.in_ok-views.ensures in
-    rw (p.1, p.2) (subst (λ b. ShowsBook g.W.Write.contents (Err Write) b c.args.w.now
+    rw (p.1, p.2) (subst (λ b. WritesTold IsShown g.W.Write.contents (Err Write) b c.args.w.now
     c.write.new.w)
     (c.in_ok-overview.ensures
     ∙ same_book was.gap was.store c.in_ok-rows.rows c.self.invariant c.in_ok-order.ensures.sound
@@ -55,11 +55,11 @@ returns-in_err-write g c =
     ))
 
 pub returns : goal.returns
-unfolding ShowsBook
+unfolding WritesTold
 returns g c =
     let was = c.self.inside in
     let views = c.in_ok-views.ensures in
-    subst (λ b. ShowsBook g.W.Write.contents (Ok tt) b c.args.w.now c.write.new.w)
+    subst (λ b. WritesTold IsShown g.W.Write.contents (Ok tt) b c.args.w.now c.write.new.w)
     (c.in_ok-overview.ensures
     ∙ same_book was.gap was.store c.in_ok-rows.rows c.self.invariant c.in_ok-order.ensures.sound
     (ap (λ (b : BookValue). b.gap) c.in_ok-rows.ensures.rows)

@@ -1,4 +1,4 @@
-use Rattle.std.proofs.Common.{subst, sym}
+use Rattle.std.proofs.Common.{subst}
 use Rattle.std.specs.Prelude.{All}
 use Rattle.aprs_laws.specs.BookValue.{BookValue}
 use Rattle.aprs_rows.specs.Told.{IsTold}

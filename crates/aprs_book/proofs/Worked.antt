@@ -1,0 +1,175 @@
+-- Worked examples.
+use Rattle.std.proofs.Common.{◌≡◌, ℕ, true, false, None, List, [], ◌∷◌, ◌++◌, codes, inl, inr, refl, sym, ap, ◌∙◌, subst, arith}
+use Rattle.aprs_ax25.specs.CallText.{CallText}
+use Rattle.aprs_ax25.proofs.Calls.{ssid_text-one}
+use Rattle.aprs_log.specs.Reception.{Heard, heard_cmp}
+use Rattle.aprs_report.specs.Reading.{message, ack, rej}
+use Rattle.aprs_report.specs.Reader.{report_by_form, message_of, addressee_and_part_of, answer_at, text_and_id_of}
+use Rattle.aprs_report.specs.Reader.{object_of, item_of, item_field_of, stamp_at, place_of, plain_of, angle_of, minutes_of, numeral_of}
+use Rattle.aprs_report.specs.Reader.{cut_end}
+use Rattle.aprs_laws.specs.Order.{IsUpTo}
+use Rattle.aprs_laws.specs.Key.{Key, key_of}
+use Rattle.aprs_laws.specs.Best.{IsBest, LastKnown}
+use Rattle.aprs_laws.specs.Examples.{n0call}
+use Rattle.aprs_laws.proofs.Known.{known_once}
+use Rattle.aprs_laws.proofs.Orders.{heard_total, up_to_itself}
+use Rattle.aprs_book.specs.declared.lists.message.MessageState.{MessageState}
+use Rattle.aprs_book.specs.Reports.{report_of}
+use Rattle.aprs_book.specs.Names.{ReportsOf}
+use Rattle.aprs_book.specs.Messages.{AnswersIt, ReportsIt, StandsBy, message_in, state_by}
+use Rattle.aprs_book.specs.Examples.{hi_message, one, asked_at, acknowledged_at, rejected_at, asked_again, object_at, killed_at, item_at}
+
+-- ---- texts of callsigns
+
+pub seven_text : CallText (n0call 7) (codes "N0CALL-7")
+seven_text = record {
+  call = record { some = omega arith; most = omega arith; bytes = refl; ssid = omega arith };
+  spelled = ap (λ ssid. codes "N0CALL" ++ ssid) (sym (ssid_text-one 7 (omega arith) (omega arith)));
+}
+
+pub eight_text : CallText (n0call 8) (codes "N0CALL-8")
+eight_text = record {
+  call = record { some = omega arith; most = omega arith; bytes = refl; ssid = omega arith };
+  spelled = ap (λ ssid. codes "N0CALL" ++ ssid) (sym (ssid_text-one 8 (omega arith) (omega arith)));
+}
+
+-- ---- what frames report
+
+pub asked_reads : report_of (key_of (asked_at 0).frame)
+    ≡ message (codes "N0CALL-8") (codes "Hi") one
+unfolding key_of report_by_form message_of addressee_and_part_of answer_at text_and_id_of cut_end
+asked_reads = refl
+
+pub acknowledged_reads : report_of (key_of (acknowledged_at 0).frame)
+    ≡ ack (codes "N0CALL-7") (codes "1")
+unfolding key_of report_by_form message_of addressee_and_part_of answer_at text_and_id_of cut_end
+acknowledged_reads = refl
+
+pub rejected_reads : report_of (key_of (rejected_at 0).frame) ≡ rej (codes "N0CALL-7") (codes "1")
+unfolding key_of report_by_form message_of addressee_and_part_of answer_at text_and_id_of cut_end
+rejected_reads = refl
+
+pub asked_is : ReportsIt (hi_message one) (key_of (asked_at 0).frame)
+unfolding key_of report_by_form message_of addressee_and_part_of answer_at text_and_id_of cut_end
+asked_is = refl
+
+pub acknowledged_is : message_in (key_of (acknowledged_at 0).frame) ≡ None
+unfolding key_of report_by_form message_of addressee_and_part_of answer_at text_and_id_of cut_end
+acknowledged_is = refl
+
+-- ---- answers
+
+-- a reception that answers
+abbrev pub Answers : Key → Type 0
+Answers = AnswersIt (hi_message one) (codes "1")
+
+pub acknowledges : Answers (key_of (acknowledged_at 0).frame)
+unfolding key_of
+acknowledges = record {
+  addressee = codes "N0CALL-7";
+  sender = eight_text;
+  to = seven_text;
+  answer = inl acknowledged_reads;
+}
+
+pub rejects : Answers (key_of (rejected_at 0).frame)
+unfolding key_of
+rejects = record {
+  addressee = codes "N0CALL-7";
+  sender = eight_text;
+  to = seven_text;
+  answer = inr rejected_reads;
+}
+
+pub no_answer : Answers (key_of (asked_at 0).frame) → ⊥
+no_answer a = elim a.answer [
+  | inl e ↦ let d = sym asked_reads ∙ e in cc d
+  | inr e ↦ let d = sym asked_reads ∙ e in cc d
+]
+
+-- a member of a set that is this one
+is_up_to : (x y s : Heard) → x ≡ s → IsUpTo heard_cmp x y → IsUpTo heard_cmp s y
+is_up_to x y s e u = subst (λ (t : Heard). IsUpTo heard_cmp t y) e u
+
+asked_answers_not : (m : ℕ) (s : Heard) → asked_at m ≡ s → Answers (key_of s.frame) → ⊥
+asked_answers_not m s e a = no_answer (subst (λ (t : Heard). Answers (key_of t.frame)) (sym e) a)
+
+pub none_answers : LastKnown (asked_at 0 ∷ []) Answers None
+none_answers = λ s h a. elim h [ inl e ↦ asked_answers_not 0 s e a | inr j ↦ j ]
+
+-- the message at 7 and its acknowledgement
+pub answered_at : (m : ℕ) → IsBest (asked_at 7 ∷ acknowledged_at m ∷ []) Answers (acknowledged_at m)
+answered_at m = record {
+  member = inr (inl refl);
+  property = acknowledges;
+  greatest = λ s h a. elim h [
+    | inl e ↦ absurd (asked_answers_not 7 s e a)
+    | inr k ↦ elim k [
+      | inl e ↦ is_up_to (acknowledged_at m) (acknowledged_at m) s e
+          (up_to_itself heard_total (acknowledged_at m))
+      | inr j ↦ absurd j
+    ]
+  ];
+}
+
+pub rejected_last : IsBest (asked_at 0 ∷ acknowledged_at 10 ∷ rejected_at 20 ∷ []) Answers
+    (rejected_at 20)
+rejected_last = record {
+  member = inr (inr (inl refl));
+  property = rejects;
+  greatest = λ s h a. elim h [
+    | inl e ↦ absurd (asked_answers_not 0 s e a)
+    | inr k ↦ elim k [
+      | inl e ↦ is_up_to (acknowledged_at 10) (rejected_at 20) s e refl
+      | inr j ↦ elim j [
+        | inl e ↦ is_up_to (rejected_at 20) (rejected_at 20) s e
+            (up_to_itself heard_total (rejected_at 20))
+        | inr i ↦ absurd i
+      ]
+    ]
+  ];
+}
+
+pub answered_once : IsBest asked_again Answers (acknowledged_at 10)
+answered_once = record {
+  member = inr (inl refl);
+  property = acknowledges;
+  greatest = λ s h a. elim h [
+    | inl e ↦ absurd (asked_answers_not 0 s e a)
+    | inr k ↦ elim k [
+      | inl e ↦ is_up_to (acknowledged_at 10) (acknowledged_at 10) s e
+          (up_to_itself heard_total (acknowledged_at 10))
+      | inr j ↦ elim j [
+        | inl e ↦ absurd (asked_answers_not 20 s e a)
+        | inr i ↦ absurd i
+      ]
+    ]
+  ];
+}
+
+-- a message has one state
+pub one_state : (S : List Heard) (first : ℕ) (a b : MessageState)
+    → StandsBy S (hi_message one) first one a → StandsBy S (hi_message one) first one b → a ≡ b
+one_state S first a b s t = s.2
+    ∙ (ap (state_by first) (known_once S S Answers s.0 t.0 (λ x. (λ h. h, λ h. h)) s.1 t.1)
+    ∙ sym t.2)
+
+-- ---- objects and items
+
+pub object_is : ReportsOf (record { is_item = false; name = codes "LEADER" })
+    (key_of (object_at 0).frame)
+unfolding key_of report_by_form object_of stamp_at place_of plain_of angle_of minutes_of numeral_of
+    cut_end
+object_is = refl
+
+pub killed_is : ReportsOf (record { is_item = false; name = codes "LEADER" })
+    (key_of (killed_at 0).frame)
+unfolding key_of report_by_form object_of stamp_at place_of plain_of angle_of minutes_of numeral_of
+    cut_end
+killed_is = refl
+
+pub item_is : ReportsOf (record { is_item = true; name = codes "LEADER" })
+    (key_of (item_at 0).frame)
+unfolding key_of report_by_form item_of item_field_of place_of plain_of angle_of minutes_of numeral_of
+    cut_end
+item_is = refl

@@ -1,0 +1,6 @@
+use Rattle.std.proofs.Common.{◌∙◌}
+use Rattle.aprs_io.proofs.Sends.{Sends-is}
+use Rattle.aprs_convert.proofs.write_line.write_kind_line.Goals as goal
+
+pub returns : goal.returns
+returns g c = Sends-is c.send.ensures (c.as_slice.ensures.value ∙ c.push_kind_line.ensures)

@@ -1,0 +1,57 @@
+//! Bytes as texts show them.
+ghost use Rattle.std.specs.Prelude.{◌≡◌, ◌+◌, ◌≤◌, ◌++◌, ◌∷◌, []};
+ghost use Rattle.std.specs.List.{list_all};
+ghost use Rattle.arrayvec.specs.ArrayVec.{array_vec_len};
+ghost use Rattle.hex.specs.Hex.{encode_lower};
+ghost use Rattle.aprs_io.specs.Shown.{is_shown, shown_byte};
+
+use crate::byte_vectors::push_all;
+use arrayvec::ArrayVec;
+
+/// Whether `shown_byte` shows each of the bytes as itself; `true` where there are no bytes. Then
+/// they can be put as they are, in one piece. Takes no memory.
+pub fn are_shown(bytes: &[u8]) -> bool
+    ensures { result ≡ list_all is_shown bytes.now }
+{
+    // No early end, so that many bytes are looked at in one step.
+    let mut all = true;
+    for b in bytes {
+        all &= is_shown(*b);
+    }
+    all
+}
+
+/// What the byte is shown as: itself where it is 0x20 to 0x7E and no backslash, and else a
+/// backslash, `x` and two lower case hexadecimal digits. Takes no memory.
+pub fn shown_byte(b: u8) -> ArrayVec<u8, 4>
+    ensures { result.items ≡ shown_byte b }
+{
+    let mut text = ArrayVec::new();
+    if is_shown(b) {
+        text.push(b);
+    } else {
+        text.push(b'\\');
+        text.push(b'x');
+        push_hex(&mut text, b);
+    }
+    text
+}
+
+/// Whether the byte is shown as itself: it is 0x20 to 0x7E and no backslash.
+fn is_shown(b: u8) -> bool
+    ensures { result ≡ is_shown b }
+{
+    (b' '..=b'~').contains(&b) && b != b'\\'
+}
+
+/// Puts the byte's two lower case hexadecimal digits at the end.
+fn push_hex(out: &mut ArrayVec<u8, 4>, b: u8)
+    requires { array_vec_len out.old + 2 ≤ 4 }
+    ensures { out.new.items ≡ out.old.items ++ encode_lower (b ∷ []) }
+{
+    let mut digits = [0; 2];
+    if hex::encode_to_slice([b], &mut digits).is_err() {
+        unreachable!()
+    }
+    push_all(out, &digits);
+}

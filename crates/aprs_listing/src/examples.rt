@@ -1,0 +1,62 @@
+//! Worked examples of the lines of a history, and near misses. Their functions do nothing.
+ghost use Rattle.std.specs.Prelude.{◌≡◌, codes};
+ghost use Rattle.aprs_laws.specs.Examples.{early_row, near_row};
+ghost use Rattle.aprs_listing.specs.Examples.{ended, heard_once, jeep_info, line_once, reported_once};
+ghost use Rattle.aprs_listing.specs.History.{history_line};
+
+/// A line says when its row began and ended, by whom it was heard, who sent the frame of its
+/// greatest reception, and which digipeaters repeated that.
+pub fn histories_tell_rows()
+    ensures receivers { history_line near_row ≡ ended (codes
+        "status 1970-01-01T00:00:00.000Z 1970-01-01T00:00:30.000Z RX1,RX2 N0CALL-7 - -:Hi") }
+    ensures digipeater { history_line early_row ≡ ended (codes
+        "status 1970-01-01T00:00:00.000Z 1970-01-01T00:00:00.000Z RX2 N0CALL-7 WIDE1-1* -:Hi") }
+
+    ensures misses_last { history_line near_row ≡ ended (codes
+        "status 1970-01-01T00:00:00.000Z 1970-01-01T00:00:00.000Z RX1,RX2 N0CALL-7 - -:Hi") → ⊥ }
+    ensures misses_star { history_line early_row ≡ ended (codes
+        "status 1970-01-01T00:00:00.000Z 1970-01-01T00:00:00.000Z RX2 N0CALL-7 WIDE1-1 -:Hi") → ⊥ }
+{}
+
+/// A line has the kind of its frame's report, and what the report says.
+pub fn histories_tell_reports()
+    ensures position { history_line (reported_once (codes "!4903.50N/07201.75W-Test"))
+        ≡ line_once (codes "position") (codes "- 294350/6000 -432175/6000 0 /-:Test") }
+    ensures object { history_line (reported_once (codes ";LEADER   *092345z4903.50N/07201.75W>"))
+        ≡ line_once (codes "object")
+        (codes "LEADER live 092345z 294350/6000 -432175/6000 0 />:") }
+    ensures item { history_line (reported_once (codes ")AID #2!4903.50N/07201.75WA"))
+        ≡ line_once (codes "item")
+        (codes "AID\\x20#2 live - 294350/6000 -432175/6000 0 /A:") }
+    ensures message { history_line (reported_once (codes ":WU2Z     :Testing{003"))
+        ≡ line_once (codes "message") (codes "WU2Z 003:Testing") }
+    ensures ack { history_line (reported_once (codes ":WU2Z     :ack003"))
+        ≡ line_once (codes "ack") (codes "WU2Z 003") }
+    ensures rej { history_line (reported_once (codes ":WU2Z     :rej003"))
+        ≡ line_once (codes "rej") (codes "WU2Z 003") }
+    ensures raw { history_line (reported_once (codes "T#005"))
+        ≡ line_once (codes "raw") (codes "APRS:T#005") }
+
+    ensures misses_north { history_line (reported_once (codes "!4903.50N/07201.75W-Test"))
+        ≡ line_once (codes "position") (codes "- -432175/6000 294350/6000 0 /-:Test") → ⊥ }
+    ensures misses_addressee { history_line (reported_once (codes ":WU2Z     :Testing{003"))
+        ≡ line_once (codes "message") (codes "003 WU2Z:Testing") → ⊥ }
+    ensures misses_rej { history_line (reported_once (codes ":WU2Z     :rej003"))
+        ≡ line_once (codes "ack") (codes "WU2Z 003") → ⊥ }
+{}
+
+/// The line of a Mic-E frame says its course and its speed, what the station says of itself, and
+/// where it is. Without the symbol's table it is no Mic-E frame.
+pub fn histories_tell_mic_e()
+    ensures mic_e { history_line (heard_once (codes "S32UVT") jeep_info)
+        ≡ line_once (codes "mic-e")
+        (codes "251 20 returning - 200564/6000 -672774/6000 0 /j:") }
+    ensures raw { history_line (heard_once (codes "S32UVT") (codes "`(_fn\"Oj"))
+        ≡ line_once (codes "raw") (codes "S32UVT:`(_fn\"Oj") }
+
+    ensures misses_course { history_line (heard_once (codes "S32UVT") jeep_info)
+        ≡ line_once (codes "mic-e")
+        (codes "20 251 returning - 200564/6000 -672774/6000 0 /j:") → ⊥ }
+    ensures misses_raw { history_line (heard_once (codes "S32UVT") jeep_info)
+        ≡ line_once (codes "raw") (codes "S32UVT:`(_fn\"Oj/") → ⊥ }
+{}

@@ -1,0 +1,49 @@
+-- What is written of a book: its listing, or its history. No public clause cites this module.
+use Rattle.std.specs.Prelude.{◌≡◌, ℕ, List, Option, Result, Ok, Err}
+use Rattle.aprs_io.specs.Device.{Sends}
+use Rattle.aprs_io.specs.declared.device.Counted.{Counted}
+use Rattle.aprs_laws.specs.BookValue.{BookValue}
+use Rattle.aprs_laws.specs.Gap.{millis_of}
+use Rattle.aprs_book.specs.Messages.{ReportsMessages}
+use Rattle.aprs_book.specs.Names.{ReportsNamed}
+use Rattle.aprs_book.specs.Stations.{ReportsStations}
+use Rattle.aprs_book.specs.declared.lists.message.MessageRow.{MessageRow}
+use Rattle.aprs_book.specs.declared.lists.named.Named.{Named}
+use Rattle.aprs_book.specs.declared.lists.station.Station.{Station}
+use Rattle.aprs_listing.specs.History.{history_text}
+use Rattle.aprs_listing.specs.Listing.{show_text}
+use Rattle.aprs_listing.specs.OneLine.{HasOneLineEach}
+use Rattle.aprs_tool.specs.declared.fault.RunFault.{RunFault}
+use Rattle.aprs_tool.specs.declared.fault.RunFault.TheVariants as run
+use Rattle.aprs_tool.specs.declared.gathered.OutputFault.{OutputFault}
+use Rattle.aprs_tool.specs.declared.gathered.OutputFault.TheVariants.{Memory, Write}
+
+-- The text is that of what the book's rows report, whatever set they are the book of.
+pub record IsShown (book : BookValue) (text : List ℕ) : Type 0 where
+  pub stations : List Station
+  pub named : List Named
+  pub messages : List MessageRow
+  pub are_stations : ReportsStations (millis_of book.gap) book.rows stations
+  pub are_named : ReportsNamed (millis_of book.gap) book.rows named
+  pub are_messages : ReportsMessages (millis_of book.gap) book.rows messages
+  pub text_is : text ≡ show_text stations named messages
+
+-- The text is the history of the book's rows, with one line for each.
+abbrev pub IsHistory : BookValue → List ℕ → Type 0
+IsHistory book text = HasOneLineEach book.rows × (text ≡ history_text book.rows)
+
+-- A text that is told of the book is written, or a prefix of it where the output was refused. Where
+-- an allocation failed, nothing is.
+unfoldable pub WritesTold : {W : Type 0} → (BookValue → List ℕ → Type 0) → (W → Option (List ℕ))
+    → Result (Unit {0}) OutputFault → BookValue → Counted W → Counted W → Type 0
+WritesTold Told contents (Ok u) book old new = (text : List ℕ) × Told book text
+    × Sends {E = OutputFault} contents (Ok u) old new text
+WritesTold Told contents (Err Write) book old new = (text : List ℕ) × Told book text
+    × Sends contents (Err Write) old new text
+WritesTold Told contents (Err Memory) book old new = new ≡ old
+
+-- What a run answers where its output was written so.
+abbrev pub answer_of_output : Result (Unit {0}) OutputFault → Result (Unit {0}) RunFault
+answer_of_output (Ok u) = Ok u
+answer_of_output (Err Write) = Err run.Write
+answer_of_output (Err Memory) = Err run.Memory
