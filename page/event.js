@@ -112,7 +112,7 @@ function drawNews() {
     byId("news").replaceChildren(...nodes.flatMap(it => [it, " "]));
 }
 function drawLists() {
-  const { net, lists } = page;
+  const { net, lists, all } = page;
   lists.messages.show([...net.messages].sort(inOrder));
   byId("bulletins-head").hidden = byId("bulletins-box").hidden = !net.bulletins.length;
   lists.bulletins.show([...net.bulletins].sort((a, b) => b.last - a.last));
@@ -122,7 +122,9 @@ function drawLists() {
   later("heard", () => { lists.heard = heardList(net); });
   later("repeated", () => { lists.repeated = repeatedList(net); });
   later("find", () => net.things.forEach(hayOf));
-  later("timeline", () => { lists.timeline = timelineList(byId("timeline-box"), page.all.rows, net); });
+  later("timeline", () => {
+    lists.timeline = timelineList(byId("timeline-box"), all.rows, net);
+  });
 }
 const heardList = net => pairList(byId("heard-box"), "heard",
   "how many transmissions each receiver heard", net.heard, net.sent, (source, name, n, of) =>

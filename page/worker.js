@@ -1,5 +1,5 @@
-// What a worker of the page does: it runs the module, so that the page never stands still, and reads
-// a history into columns.
+// What a worker of the page does: it runs the module and reads a history into columns, so that the
+// page doesn't stand still.
 
 let core = null;
 
