@@ -8,4 +8,4 @@ if (byId("data").textContent.trim()) {
 }
 // for the script that reads logs, and for tests
 globalThis.aprsbook = Object.freeze({ page, show, refresh, bring, make, byId, save, count, choose,
-  chosen, tick, SAVES, alive });
+  chosen, tick, SAVES, alive, readListing });

@@ -1,6 +1,6 @@
 // The page that reads logs: what is dropped on it goes through the module, and nothing leaves it.
 
-const { page, show, bring, make, byId, save, count } = globalThis.aprsbook;
+const { page, show, bring, make, byId, save, count, readListing } = globalThis.aprsbook;
 const parts = JSON.parse(byId("parts").textContent);
 const files = [];
 let made = null, turn = 0, last = 0, began = 0;
@@ -135,34 +135,42 @@ const optionsOf = () => ({ title: byId("name").value || "APRS net", gap: +byId("
   live: 0, silent: +byId("silent").value || 30, maps: [], roster: "",
   notes: files.filter(it => it.fault).map(it => `${it.name} was left out: ${it.fault}`) });
 
-// a merge that began before its files were checked: the files, the gap, and what came of it
+// runs that began before their files were checked: the files, the gap, and what comes of each run
 let early = null;
-function mergeEarly(all) {
-  const gap = +byId("gap").value, got = run("merge", gap, all.map(it => it.taken || it.bytes));
-  early = { all, gap, got: got.catch(() => null) };
+/** Of so many bytes at most, history and listing begin early too. */
+const EARLY_BYTES = 2 ** 26;
+/**
+ * Begins with files that aren't checked yet. Inputs have the history and the listing of their book,
+ * so neither waits for it; each run holds all inputs once, so three runs are for small ones alone.
+ */
+function beginEarly(all) {
+  const gap = +byId("gap").value, inputs = all.map(it => it.taken || it.bytes), got = {};
+  const size = inputs.reduce((sum, it) => sum + it.length, 0);
+  for (const command of size > EARLY_BYTES ? ["merge"] : ["history", "merge", "show"])
+    got[command] = run(command, gap, inputs, command === "history").catch(() => null);
+  early = { all, gap, got };
 }
-/** The merge of these files, also where it began early and well. */
-async function merged(good, gap) {
-  const begun = early;
-  early = null;
-  const isIt = begun?.gap === gap && begun.all.length === good.length &&
-    begun.all.every(it => good.includes(it));
-  const got = isIt ? await begun.got : null;
-  return got?.status === 0 ? got : run("merge", gap, good.map(it => it.taken));
-}
-/** Book, history and listing of all files that can be read. */
+/** Book, history and listing of these files, also where they began early and well. */
 async function textsOf(good, gap, tellShare) {
-  const answerOf = async work => {
-    const got = await work;
+  const isIt = early?.gap === gap && early.all.length === good.length &&
+    early.all.every(it => good.includes(it));
+  const begun = isIt ? early.got : {};
+  early = null;
+  const answerOf = async (command, inputs) => {
+    let got = await begun[command];
+    if (got?.status !== 0) got = await run(command, gap, inputs, command === "history");
     if (got.status)
       throw Object.assign(new Error(place(got)), { at: got.status === 1 ? got.input : -1 });
     return got;
   };
-  const book = (await answerOf(merged(good, gap))).bytes;
+  const book = (await answerOf("merge", good.map(it => it.taken))).bytes;
   tellShare(0.6);
-  const [history, listing] = await Promise.all([
-    answerOf(run("history", gap, [book], true)), answerOf(run("show", gap, [book]))]);
-  return { book, history: history.text, read: history.read, listing: asText(listing.bytes) };
+  const shown = answerOf("show", [book]).then(({ bytes }) => {
+    const listing = asText(bytes);
+    return { listing, told: readListing(listing) };
+  });
+  const [history, listing] = await Promise.all([answerOf("history", [book]), shown]);
+  return { book, history: history.text, read: history.read, ...listing };
 }
 async function work() {
   list();
@@ -182,7 +190,8 @@ async function work() {
     made = texts;
     tellProgress(0.9, "drawing");
     await new Promise(done => setTimeout(done));
-    show({ ...optionsOf(), history: texts.history, listing: texts.listing }, texts.read);
+    const { history, listing, read, told } = texts;
+    show({ ...optionsOf(), history, listing }, read, told);
     byId("book").disabled = byId("event").disabled = false;
     tellProgress(1);
     say(`${count(page.all.rows.length, "transmission")} of ${count(good.length, "file")}, ` +
@@ -203,13 +212,13 @@ async function take(it) {
   }
   return null;
 }
-/** Takes files: they are merged while each is checked. */
+/** Takes files: each is checked while the runs over all of them go on. */
 async function add(dropped) {
   began = performance.now();
   tellProgress(0, "reading");
   const read = (await Promise.all([...dropped].map(take))).filter(Boolean);
   const whole = [...files.filter(it => it.taken), ...read];
-  if (read.length && whole.every(it => it.kind !== "KISS stream")) mergeEarly(whole);
+  if (read.length && whole.every(it => it.kind !== "KISS stream")) beginEarly(whole);
   let done = 0;
   await Promise.all(read.map(async file => {
     await look(file);
@@ -270,7 +279,7 @@ async function beginReading() {
     const bytes = Uint8Array.from(atob(parts.module), it => it.charCodeAt(0));
     // compiled once, for all workers
     const module = await WebAssembly.compile(bytes);
-    const many = Math.max(2, Math.min(3, navigator.hardwareConcurrency || 2));
+    const many = Math.max(2, Math.min(4, navigator.hardwareConcurrency || 2));
     await Promise.all(Array.from({ length: many }, () => ask(addWorker(), "load", module)));
   } catch (fault) {
     return say(`This browser can't run the page (${fault.message}): it takes Chromium or Edge ` +

@@ -15,10 +15,10 @@ const view = {
 
 /**
  * Draws the page of these texts and options. What the reader chose stays. `read` are the columns of
- * the history where they are made already.
+ * the history, and `listing` what was read of the listing, where they are made already.
  */
-function show(data, read = columnsOf(data.history)) {
-  const rows = new Rows(data.history, read), listing = readListing(data.listing);
+function show(data, read = columnsOf(data.history), listing = readListing(data.listing)) {
+  const rows = new Rows(data.history, read);
   listing.messages.forEach(judge);
   page.data = data;
   page.all = { rows, listing, end: rows.until };
@@ -119,6 +119,7 @@ function drawLists() {
   byId("roster").hidden = !page.roster.length;
   lists.roster.show(rosterOf(page.roster, net));
   later("receivers", () => lists.receivers.show(net.receivers));
+  later("pairs", () => Object.assign(net, hearings(all.rows, net.rows)));
   later("heard", () => { lists.heard = heardList(net); });
   later("repeated", () => { lists.repeated = repeatedList(net); });
   later("find", () => net.things.forEach(hayOf));

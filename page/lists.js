@@ -1,7 +1,10 @@
 // Tables that build their rows as they come into view, sort by their heads, and take one stop of
 // the tab key: arrow keys go from row to row.
 
-/** So many rows are more than a box shows at once; of a long list the first few come before. */
+/**
+ * So many rows are more than a box shows. Of a long list the first few come at once, and the rest
+ * when these are painted; until then rows of the list before stay in their places.
+ */
 const PART = 26, FIRST = 10;
 
 class List {
@@ -45,13 +48,20 @@ class List {
       else head.removeAttribute("aria-sort");
     });
     this.built = 0;
-    this.body.replaceChildren();
     this.table.setAttribute("aria-rowcount", items.length + 1);
-    this.box.replaceChildren(items.length ? this.table : make("p", { textContent: this.none }));
+    if (!items.length) this.box.replaceChildren(make("p", { textContent: this.none }));
+    else if (this.table.parentNode !== this.box) this.box.replaceChildren(this.table);
     if (this.scrolled) this.box.scrollTop = 0;
     this.scrolled = false;
-    this.build(items.length > 10 * PART ? FIRST : PART);
-    later(this.id, () => this.build(PART - this.built));
+    const long = items.length > 10 * PART;
+    this.build(long ? FIRST : PART);
+    if (long) later(this.id, () => this.begun());
+    else this.begun();
+  }
+  /** Builds so much that a box is full, and takes away the rows of an earlier list. */
+  begun() {
+    this.build(PART - this.built);
+    while (this.body.children.length > this.built) this.body.lastChild.remove();
   }
   sorted(items) {
     const { value } = this.columns[this.order.column], way = this.order.down ? -1 : 1;
@@ -59,6 +69,7 @@ class List {
       (typeof a[0] === "number" ? a[0] - b[0] : collator.compare(a[0], b[0])) * way || a[1] - b[1];
     return items.map((it, n) => [value(it), n, it]).sort(compare).map(it => it[2]);
   }
+  /** Builds so many rows more, in the places of those of an earlier list. */
   build(n) {
     if (n <= 0) return;
     const rows = this.items.slice(this.built, this.built + n).map((item, k) => {
@@ -66,7 +77,8 @@ class List {
       row.setAttribute("aria-rowindex", this.built + k + 2);
       return row;
     });
-    this.body.append(...rows);
+    const old = [...this.body.children].slice(this.built, this.built + n);
+    rows.forEach((row, k) => old[k] ? old[k].replaceWith(row) : this.body.append(row));
     if (!this.built) this.rove(this.body.querySelector(".pick"));
     else for (const it of rows) for (const pick of it.querySelectorAll(".pick")) pick.tabIndex = -1;
     this.built += rows.length;

@@ -196,7 +196,7 @@ function receiversOf(rows, picks) {
   return [...receivers.values()].sort((a, b) => a.name < b.name ? -1 : 1);
 }
 
-/** All of the net that was heard since a moment. */
+/** All of the net that was heard since a moment, but who heard whom. */
 function netOf(all, since) {
   const { rows } = all, picks = rows.since(since);
   let begin = Infinity, end = -Infinity;
@@ -207,5 +207,5 @@ function netOf(all, since) {
   const messages = all.listing.messages.filter(it => it.last >= since);
   return { rows: picks, begin, end, things: thingsOf(rows, picks, all.listing.places),
     messages: messages.filter(it => !isBulletin(it)), bulletins: messages.filter(isBulletin),
-    receivers: receiversOf(rows, picks), ...hearings(rows, picks) };
+    receivers: receiversOf(rows, picks) };
 }

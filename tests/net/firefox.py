@@ -19,7 +19,9 @@ class Firefox:
         (pathlib.Path(self.folder) / "user.js").write_text(
             f'user_pref("marionette.port", {port});\n'
             'user_pref("datareporting.policy.dataSubmissionEnabled", false);\n'
-            'user_pref("browser.shell.checkDefaultBrowser", false);\n')
+            'user_pref("browser.shell.checkDefaultBrowser", false);\n'
+            'user_pref("browser.download.folderList", 2);\n'
+            f'user_pref("browser.download.dir", "{self.folder}");\n')
         program = "firefox-esr" if shutil.which("firefox-esr") else "firefox"
         self.process = subprocess.Popen(
             [program, "--headless", "--marionette", "--profile", self.folder, "--no-remote",
@@ -102,6 +104,10 @@ class Firefox:
         it = self.call("WebDriver:FindElement", using="css selector", value=selector)["value"]
         self.call("WebDriver:ElementSendKeys", id=next(iter(it.values())),
                   text="\n".join(map(str, paths)))
+
+    def saves_in(self, _):
+        """The folder where what the page saves goes."""
+        return pathlib.Path(self.folder)
 
     def picture(self, path, whole=False):
         shot = self.call("WebDriver:TakeScreenshot", full=whole)["value"]

@@ -431,6 +431,7 @@ SCALE = """(async () => {
         const from = performance.now(); run(); await painted(); return performance.now() - from };
     const find = document.getElementById("find"), letters = [], steps = [];
     const shown = await spent(() => aprsbook.show(aprsbook.page.data));
+    await new Promise(done => setTimeout(done, 1000)); // until all tables are there again
     for (const word of ["q", "q1", "q10", "q1", "q", ""]) letters.push(await spent(() => {
         find.value = word; find.dispatchEvent(new Event("input")) }));
     const box = map.getBoundingClientRect(), x = box.x + 200, y = box.y + 200;
@@ -442,9 +443,10 @@ SCALE = """(async () => {
         point("pointermove", k);
         const now = await frame(); steps.push(now - last); last = now }
     point("pointerup", 60);
-    steps.sort((a, b) => a - b);
+    for (const list of [letters, steps]) list.sort((a, b) => a - b);
     return { first: performance.getEntriesByName("first-contentful-paint")[0]?.startTime,
-        shown, letter: Math.max(...letters), step: steps[30], longest: steps.at(-1) }
+        shown, letter: letters[3], slowest: letters.at(-1), step: steps[30],
+        longest: steps.at(-1) }
 })()"""
 
 

@@ -64,6 +64,17 @@ def fresh(page, url=None):
     page.wait("!document.getElementById('choose').disabled")
 
 
+# from now on, the page keeps which runs it asks for
+HEAR_RUNS = """(() => {
+    const post = Worker.prototype.postMessage;
+    window.asked = [];
+    Worker.prototype.postMessage = function (...it) {
+        window.asked.push(it[0][2].command);
+        post.apply(this, it);
+    };
+    return 1; })()"""
+
+
 def quiet(page):
     """Nothing was asked of any server, and no message was written, where the browser says so."""
     is_([it for it in page.requests() if not it.startswith(("blob:", "file:"))], [])
@@ -73,11 +84,14 @@ def quiet(page):
 
 def test_same(page, _):
     fresh(page)
+    page.js(HEAR_RUNS)
     page.give("#choose", *EVENING)
     page.wait(MADE)
     is_(page.js(BOOK), base64_of(program(["merge"], EVENING).stdout))
     is_(page.js("aprsbook.page.data.history"), program(["history"], EVENING).stdout.decode())
     is_(page.js("aprsbook.page.data.listing"), program(["show"], EVENING).stdout.decode())
+    # all began at once, and nothing was done twice
+    is_(page.js("window.asked"), ["history", "merge", "show", "check", "check", "check"])
     own = subprocess.run(["event-page", *EVENING], stdout=subprocess.PIPE, check=True).stdout
     is_(page.js("aprsfiles.eventPage()") == own.decode(), True)
     is_(page.js("(aprsbook.page.map.paint(), aprsbook.page.map.marks.length)"),
@@ -90,13 +104,14 @@ def test_same(page, _):
 
 def test_saves(page, folder):
     """What a click saves is what the programs and event-page write."""
-    if not hasattr(page, "events"):
-        return  # Firefox would ask where to
-    page.call("Page.setDownloadBehavior", behavior="allow", downloadPath=str(folder))
+    folder = page.saves_in(folder)
     fresh(page)
-    data = {"items": [], "files": list(map(str, EVENING)), "dragOperationsMask": 1}
-    for kind in "dragEnter", "dragOver", "drop":
-        page.call("Input.dispatchDragEvent", type=kind, x=300, y=130, data=data)
+    if hasattr(page, "events"):
+        data = {"items": [], "files": list(map(str, EVENING)), "dragOperationsMask": 1}
+        for kind in "dragEnter", "dragOver", "drop":
+            page.call("Input.dispatchDragEvent", type=kind, x=300, y=130, data=data)
+    else:  # Firefox has no such call
+        page.give("#choose", *EVENING)
     page.wait(MADE)
     for name, words in (("net.book", ["aprsbook", "merge"]), ("net.txt", ["aprsbook", "show"]),
                         ("history.txt", ["aprsbook-history"]), ("event.html", ["event-page"])):
@@ -105,7 +120,7 @@ def test_saves(page, folder):
         page.js("[...document.querySelectorAll('#saves button')]"
                 f".find(it => it.textContent === {button!r}).click()")
         own = subprocess.run([*words, *EVENING], stdout=subprocess.PIPE, check=True).stdout
-        for _ in range(100):
+        for _ in range(200):
             if (folder / name).exists() and (folder / name).read_bytes() == own:
                 break
             time.sleep(0.05)
@@ -137,6 +152,9 @@ def test_faults(page, folder):
     is_(told["packed.log.gz"], checked(EVENING[0]))
     is_(told["empty.log"], "heard 0 passed 0")
     is_(page.js(BOOK), base64_of(book))
+    for name, command in ("history", "history"), ("listing", "show"):
+        is_(page.js(f"aprsbook.page.data.{name}"),
+            program([command], [folder / "net.book"]).stdout.decode())
     notes = page.js("aprsbook.page.data.notes")
     is_(sorted(it.split(" ")[0] for it in notes),
         ["bad.log", "crlf.log", "cut.book", "heard.kiss", "torn.log", "wide.book"])
@@ -148,6 +166,23 @@ def test_faults(page, folder):
     page.wait("aprsbook.page.net?.receivers.some(it => it.name === 'TAPE')")
     picture(page, "faults")
     quiet(page)
+
+
+def test_narrow(page, folder):
+    """On a telephone names of files stay whole, and no table runs past its box."""
+    if not hasattr(page, "events"):
+        return  # Firefox keeps its width
+    log = folder / "receiver-coast-2024-06-21-evening.log"
+    log.write_bytes(EVENING[0].read_bytes())
+    (folder / "roster.txt").write_text("Q1RUN leader\nQ1MED-7 at the second post\nQ1NINE\n")
+    page.open(PAGE.resolve().as_uri(), 360, 844)
+    page.wait("!document.getElementById('choose').disabled")
+    page.give("#choose", log, folder / "roster.txt", *EVENING[1:])
+    page.wait(MADE + " && document.querySelectorAll('#timeline tbody tr').length > 10")
+    is_(page.js("[...document.querySelectorAll('.wide'), document.documentElement]"
+                ".filter(it => it.scrollWidth > it.clientWidth).map(it => it.id)"), [])
+    is_(page.js("document.querySelector('#files tbody th').clientHeight < 70"), True)
+    picture(page, "narrow")
 
 
 def test_hostile(page, folder):
@@ -273,7 +308,9 @@ def test_large(page, folder):
     fresh(page)
     page.js("""(() => { let last = performance.now(); window.still = 0;
         setInterval(() => {
-            const now = performance.now(); still = Math.max(still, now - last); last = now; }, 20);
+            const now = performance.now();
+            window.still = Math.max(window.still, now - last);
+            last = now; }, 20);
         new MutationObserver(() => {
             if (/ in [0-9.]+ s$/.test(document.getElementById('status').textContent))
                 requestAnimationFrame(() => setTimeout(() => {
@@ -284,7 +321,7 @@ def test_large(page, folder):
         return 1; })()""")
     page.give("#choose", *logs)
     page.wait("window.came > 0", 120)
-    spent, still, said = page.js(f"[came - went, still, {STATUS}]")
+    spent, still, said = page.js(f"[came - went, window.still, {STATUS}]")
     print(f"{page.name}: 200,000 lines shown after {spent / 1000:.1f} s ({said}); "
           f"stood still for at most {still:.0f} ms")
     own = program(["merge"], logs).stdout
@@ -296,7 +333,8 @@ def picture(page, name):
         page.picture(f"{PICTURES}/{page.name}-{name}.png")
 
 
-TESTS = (test_same, test_saves, test_faults, test_hostile, test_random, test_follow, test_large)
+TESTS = (test_same, test_saves, test_faults, test_narrow, test_hostile, test_random, test_follow,
+         test_large)
 there = [it for it, names in ((browser.Browser, ["chromium"]),
                               (firefox.Firefox, ["firefox-esr", "firefox"]))
          if any(map(shutil.which, names))]
