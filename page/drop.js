@@ -23,18 +23,20 @@ function addWorker() {
   workers.push(worker);
   return worker;
 }
-function ask(worker, what, given) {
+function ask(worker, what, given, buffers = []) {
   worker.busy++;
   return new Promise((done, fail) => {
     waiting.set(++last, [done, fail]);
-    worker.it.postMessage([last, what, given]);
+    worker.it.postMessage([last, what, given], buffers);
   });
 }
 /** A run of the module over inputs; with `read`, of a history, as a text and its columns. */
 async function run(command, options, inputs, read = false) {
   let free;
   while (!(free = workers.find(it => !it.busy))) await new Promise(done => queue.push(done));
-  return ask(free, "run", { command, options, inputs, read });
+  // a copy that is handed over takes less time than what a browser copies itself
+  const copies = inputs.map(it => it.slice()), buffers = copies.map(it => it.buffer);
+  return ask(free, "run", { command, options, inputs: copies, read }, buffers);
 }
 
 // ---- files
@@ -137,17 +139,23 @@ const optionsOf = () => ({ title: byId("name").value || "APRS net", gap: +byId("
 
 // runs that began before their files were checked: the files, the gap, and what comes of each run
 let early = null;
-/** Of so many bytes at most, history and listing begin early too. */
+/** Of so many bytes at most, the history is made of the files themselves. */
 const EARLY_BYTES = 2 ** 26;
 /**
- * Begins with files that aren't checked yet. Inputs have the history and the listing of their book,
- * so neither waits for it; each run holds all inputs once, so three runs are for small ones alone.
+ * Begins with files that aren't checked yet. Files have the same history as their book, so it need
+ * not wait for the book; but two runs then hold all files at once, so only where they are small.
  */
 function beginEarly(all) {
   const gap = +byId("gap").value, inputs = all.map(it => it.taken || it.bytes), got = {};
   const size = inputs.reduce((sum, it) => sum + it.length, 0);
-  for (const command of size > EARLY_BYTES ? ["merge"] : ["history", "merge", "show"])
-    got[command] = run(command, gap, inputs, command === "history").catch(() => null);
+  const begin = (command, given) =>
+    run(command, gap, given, command === "history").catch(() => null);
+  const ofBook = command =>
+    got.merge.then(book => book?.status === 0 ? begin(command, [book.bytes]) : null);
+  if (size <= EARLY_BYTES) got.history = begin("history", inputs);
+  got.merge = begin("merge", inputs);
+  got.show = ofBook("show");
+  got.history ||= ofBook("history");
   early = { all, gap, got };
 }
 /** Book, history and listing of these files, also where they began early and well. */
@@ -279,7 +287,7 @@ async function beginReading() {
     const bytes = Uint8Array.from(atob(parts.module), it => it.charCodeAt(0));
     // compiled once, for all workers
     const module = await WebAssembly.compile(bytes);
-    const many = Math.max(2, Math.min(4, navigator.hardwareConcurrency || 2));
+    const many = Math.max(2, Math.min(3, navigator.hardwareConcurrency || 2));
     await Promise.all(Array.from({ length: many }, () => ask(addWorker(), "load", module)));
   } catch (fault) {
     return say(`This browser can't run the page (${fault.message}): it takes Chromium or Edge ` +

@@ -90,8 +90,9 @@ def test_same(page, _):
     is_(page.js(BOOK), base64_of(program(["merge"], EVENING).stdout))
     is_(page.js("aprsbook.page.data.history"), program(["history"], EVENING).stdout.decode())
     is_(page.js("aprsbook.page.data.listing"), program(["show"], EVENING).stdout.decode())
-    # all began at once, and nothing was done twice
-    is_(page.js("window.asked"), ["history", "merge", "show", "check", "check", "check"])
+    # the history didn't wait for the book, and nothing was done twice
+    asked = page.js("[...window.asked]")
+    is_((asked[:2], sorted(asked[2:])), (["history", "merge"], ["check"] * 3 + ["show"]))
     own = subprocess.run(["event-page", *EVENING], stdout=subprocess.PIPE, check=True).stdout
     is_(page.js("aprsfiles.eventPage()") == own.decode(), True)
     is_(page.js("(aprsbook.page.map.paint(), aprsbook.page.map.marks.length)"),
