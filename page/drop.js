@@ -154,8 +154,8 @@ function beginEarly(all) {
     got.merge.then(book => book?.status === 0 ? begin(command, [book.bytes]) : null);
   if (size <= EARLY_BYTES) got.history = begin("history", inputs);
   got.merge = begin("merge", inputs);
-  got.show = ofBook("show");
   got.history ||= ofBook("history");
+  got.show = ofBook("show");
   early = { all, gap, got };
 }
 /** Book, history and listing of these files, also where they began early and well. */

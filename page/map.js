@@ -41,7 +41,8 @@ class NetMap {
   constructor(node, onPick, onView) {
     Object.assign(this, { node, onPick, onView, canvas: node.querySelector("canvas"),
       view: new Projection(), placed: [], things: [], bases: [], picked: null, from: null,
-      until: Infinity, fitted: true, marks: [], colours: {}, widths: new Map(), shown: {} });
+      until: Infinity, fitted: true, measured: false, marks: [], colours: {}, widths: new Map(),
+      shown: {} });
     this.pen = this.canvas.getContext("2d");
     this.paintSoon = oncePerFrame(() => this.paint());
     this.readColours();
@@ -62,6 +63,7 @@ class NetMap {
   measure() {
     const { width, height } = this.node.getBoundingClientRect();
     if (!width || !height) return;
+    this.measured = true;
     const ratio = devicePixelRatio || 1;
     this.canvas.width = Math.round(width * ratio);
     this.canvas.height = Math.round(height * ratio);
@@ -73,7 +75,7 @@ class NetMap {
   /** All that the map may show; `show` says what of it. */
   take(placed) {
     this.placed = placed;
-    if (this.fitted) this.fit();
+    if (this.fitted && this.measured) this.fit();
   }
   show(things) {
     this.things = things.filter(it => it.lastPlace >= 0);
@@ -125,6 +127,7 @@ class NetMap {
   }
 
   paint() {
+    if (!this.measured) return; // it is painted once it is
     const { pen, view, colours } = this;
     pen.clearRect(0, 0, view.width, view.height);
     pen.fillStyle = colours.sheet;

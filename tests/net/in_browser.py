@@ -463,6 +463,13 @@ def test_scale(page, folder):
     assert page.js("document.documentElement.scrollHeight") < 9000
     print("2,000 stations, in ms:", {name: it and round(it) for name, it in times.items()},
           f"opened in {time.monotonic() - began:.1f} s")
+    # of a long list the first rows come at once, and those before stay in the places of the rest
+    change(page, "find", "", "input")
+    page.wait(f"{shown}.length === 26 && {shown}.at(-1) === 'Q0025-11'")
+    rows = page.js(f"(() => {{ {FIND}.value = 'q1'; {FIND}.dispatchEvent(new Event('input')); "
+                   f"return {shown} }})()")
+    is_((len(rows), rows[0], rows[-1]), (26, "Q1000-11", "Q0025-11"))
+    page.wait(f"{shown}.length === 26 && {shown}.at(-1) === 'Q1025-6'")
     # a machine that does other things too may take five times as long
     assert times["letter"] < 250 and times["shown"] < 5000, times
     picture(page, "many")
