@@ -1,6 +1,6 @@
 #!/bin/sh
-# Tests the recipes of tracks, the page, the net and the engine, each where its tools are there, and
-# says which were left out.
+# Tests the recipes of tracks, the page and the net, each where its tools are there, and says which
+# were left out.
 # usage: tests/net/run.sh PROGRAM [PAGE]    PAGE is the page that reads logs, out/aprsbook.html
 page=${2-}
 set -- "${1-}"
@@ -30,4 +30,3 @@ fi
 with 'python3' aprs_log.py "$examples"
 with 'python3' net_now.sh "$program"
 with 'python3' monitor_log.py "$examples"
-with 'dask-scheduler dask-worker' merge_dask.sh "$program"
