@@ -9,7 +9,7 @@ with digits left out, stamped or not; objects and items, also killed, with odd n
 are none of these; frames of 256 bytes; up to eight digipeaters.
 """
 import collections
-import datetime
+import fractions
 import json
 import random
 import re
@@ -70,18 +70,11 @@ def frame(source):
 def heard():
     """A log: each frame once or more, so that some rows have copies."""
     for _ in range(frames):
-        octets = frame(some.choice(SOURCES))
-        start = some.randrange(700000)
+        octets, start = frame(some.choice(SOURCES)), some.randrange(700000)
         for _ in range(some.randrange(1, 4)):
-            later = datetime.timedelta(milliseconds=start + some.choice([0, 1000, 29000, 31000]))
-            moment = datetime.datetime(2024, 6, 21, 18) + later
-            receiver = some.choice(["RX1", "RX2", "a_b-C"])
-            yield hostile.line(moment.isoformat(timespec="milliseconds") + "Z", receiver, octets)
-
-
-def value(fraction):
-    above, below = fraction.split("/")
-    return int(above) / int(below)
+            at = start + some.choice([0, 1000, 29000, 31000])
+            clock = "18:%02d:%02d.%03d" % (at // 60000, at // 1000 % 60, at % 1000)
+            yield hostile.line(f"2024-06-21T{clock}Z", some.choice(["RX1", "RX2", "a_b-C"]), octets)
 
 
 # the symbol is two bytes, each as shown
@@ -98,7 +91,8 @@ def shown_places(log):
             call = shown.split(" ")[1]
         elif found := PLACE.fullmatch(shown):
             it = found.groupdict()
-            it |= {"lat": "%.7f" % value(it["north"]), "lon": "%.7f" % value(it["east"])}
+            spot = [float(fractions.Fraction(it[name])) for name in ("east", "north")]
+            it |= {"spot": spot, "lon": "%.7f" % spot[0], "lat": "%.7f" % spot[1]}
             if it["kind"]:
                 yield it | {"name": it["name"].replace("\\x20", " ")}
             else:
@@ -124,26 +118,26 @@ def feature(it):
     """A place in the form of places.jq: names and texts of its properties."""
     names = "kind name moment receiver stamp ambiguity symbol comment state source".split()
     given = {name: it[name] for name in names[:8 if it["kind"] == "station" else 10]}
-    return json.dumps([[value(it["east"]), value(it["north"])], given], sort_keys=True)
+    return json.dumps([it["spot"], given], sort_keys=True)
 
 
 def features(rows):
+    """What places.jq makes of rows, in the same form."""
     for it in json.loads("".join(run("jq", "-R", "-n", "-f", PLACES + "jq", given=rows)))["features"]:
-        spot = list(map(float, it["geometry"]["coordinates"]))
-        yield json.dumps([spot, it["properties"]], sort_keys=True)
+        yield json.dumps([list(map(float, it["geometry"]["coordinates"])), it["properties"]], sort_keys=True)
 
 
 def same(what, wanted, got):
     wanted, got = collections.Counter(wanted), collections.Counter(got)
     assert wanted == got and wanted, (what, "missing", wanted - got, "extra", got - wanted)
-    return sum(got.values())
 
 
 PLACES = str(EXAMPLES / "recipes/places.")
 log = "".join(heard())
 book = run("aprsbook", "merge", given=log)[1:-1]
 rows = "\n".join(run("history-rows", given=log)) + "\n"
-count = same("every-place", (place for row in book for place in places(row)), run("every-place", given=log))
+listed = run("every-place", given=log)
+same("every-place", (place for row in book for place in places(row)), listed)
 last = list(shown_places(log))
 same("places.awk", map(fields, last), run("awk", "-f", PLACES + "awk", given=rows)[1:])
 
@@ -162,4 +156,4 @@ if shutil.which("jq"):
     [got] = features(two)
     for part in '"says": "en-route"', '"course": "88"', '"state": "mic-e"', '"receiver": "RX2"':
         assert part in got, got
-print("every-place: %d rows, all %d places; places: the last of each; Mic-E" % (len(book), count))
+print(f"every-place: {len(book)} rows, all {len(listed)} places; places: the last of each; Mic-E")
