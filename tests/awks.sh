@@ -12,11 +12,11 @@ cd "$scratch"
 # ---- the cookbook under each ----
 
 # what busybox stands for, besides awk
-tools='cat|cmp|comm|cp|cut|diff|dirname|find|grep|head|mkdir|mktemp|mv|od|paste|rm|sed|sort|split|tail|tr|uniq|wc'
+tools='cat|cmp|comm|cp|cut|diff|dirname|find|grep|head|mkdir|mktemp|mv|od|paste|rm|sed|sort|split'
 for awk in mawk gawk busybox; do
     has "the cookbook with $awk" $awk || continue
     mkdir $awk
-    for tool in awk $([ $awk != busybox ] || busybox --list | grep -xE "$tools"); do
+    for tool in awk $([ $awk != busybox ] || busybox --list | grep -xE "$tools|tail|tr|uniq|wc"); do
         ln -s "$(command -v $awk)" "$awk/$tool"
     done
     PATH=$scratch/$awk:$PATH "$examples/cookbook.sh" --posix "$program" made-$awk > said 2>&1 ||

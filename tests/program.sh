@@ -54,13 +54,15 @@ makes() {
     "$@" 2> said || fail "$* ended with $?: $(cat said)"
     same "$book" "$file"
 }
-# full BLOCKS COMMAND..: it meets a full disk, for which a limit stands
-full() (
-    trap '' XFSZ
-    ulimit -f "$1"
+# keeps FOLDER CHECK..: it holds, and the folder has what it had
+keeps() {
+    kept=$1
+    rm -rf before
+    cp -R "$1" before
     shift
     "$@"
-)
+    diff -r before "$kept" >&2 || fail "$kept has changed after: $*"
+}
 # has WHAT TOOL..: the tools are there; where they aren't, it is said what is left out
 has() {
     what=$1

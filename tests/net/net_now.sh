@@ -9,13 +9,6 @@ cd "$scratch"
 day=2024-06-21 gap=30
 # now FOLDER PAGE [ARGUMENT..]: a round of that day
 now() { DAYS=$day GAP=$gap net-now "$@"; }
-# keeps WORDS COMMAND..: it is refused with these words, and book and page stay
-keeps() {
-    cp page/net.book page/index.html .
-    refused "$@"
-    same page/net.book net.book
-    same page/index.html index.html
-}
 
 # a day that is named; a torn line in the midst of a log, and at the end of one
 mkdir -p logs/2024-06-21 other
@@ -64,7 +57,7 @@ same wanted.book - <&3
 says '^APRSBOOK 3 60$' page/net.book
 # a round that fails keeps what is there
 gap=0
-keeps "invalid value '0' for '--gap" now logs page
+keeps page refused "invalid value '0' for '--gap" now logs page
 gap=30
 
 # today and yesterday; again, should midnight have come between
@@ -88,7 +81,7 @@ printf '%s\n' logs/* | sed '1d; s/.*\///' | same - days
 # no folder, an empty one, one without logs of these days
 day=2024-06-22
 mkdir -p empty logs/$day
-for folder in none empty logs; do keeps "in $folder is no log of $day" now $folder page; done
+for folder in none empty logs; do keeps page refused "in $folder is no log of $day" now $folder page; done
 # none was heard yet
 : > logs/$day/RX1.log
 now logs page
