@@ -4,7 +4,6 @@
 # is a comma: it has to print the same. Needs a POSIX system, mktemp and bash, and says what it
 # leaves out because a tool isn't there.
 # usage: tests/awks.sh PROGRAM
-# shellcheck source=program.sh
 . "$(dirname "$0")/program.sh"
 examples=$repository/examples recipes=$repository/examples/recipes
 cd "$scratch"

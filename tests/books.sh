@@ -3,7 +3,6 @@
 # book-to-sqlite, merge-tree, and empty ones. Needs a POSIX system and mktemp, and says what it leaves
 # out because a tool isn't there.
 # usage: tests/books.sh PROGRAM
-# shellcheck source=program.sh
 . "$(dirname "$0")/program.sh"
 recipes=$repository/examples/recipes
 cp "$repository"/examples/evening/*.log "$scratch"

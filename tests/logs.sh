@@ -2,7 +2,6 @@
 # Tries what happens to logs: whole-lines over every cut of a log, clock-skew and shift-log. Needs a
 # POSIX system and mktemp; the last two need Python 3.
 # usage: tests/logs.sh PROGRAM
-# shellcheck source=program.sh
 . "$(dirname "$0")/program.sh"
 cd "$scratch"
 cp "$repository"/examples/evening/*.log .

@@ -3,7 +3,6 @@
 # port and the name of their instance or of /etc/default/aprsbook. Needs a POSIX system and mktemp,
 # and says what it leaves out because a tool isn't there.
 # usage: tests/units.sh PROGRAM
-# shellcheck source=program.sh
 . "$(dirname "$0")/program.sh"
 recipes=$repository/examples/recipes
 cd "$scratch"

@@ -2,7 +2,6 @@
 # Tests net-now: the days that it takes, torn lines, logs from Windows and compressed ones, a second
 # round, two at once, a round that fails, and one without logs.
 # usage: net_now.sh PROGRAM    needs Python 3
-# shellcheck source=../program.sh
 . "$(dirname "$0")/../program.sh"
 evening=$repository/examples/evening
 cd "$scratch"

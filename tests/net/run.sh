@@ -4,7 +4,6 @@
 # usage: tests/net/run.sh PROGRAM [PAGE]    PAGE is the page that reads logs, out/aprsbook.html
 page=${2-}
 set -- "${1-}"
-# shellcheck source=../program.sh
 . "$(dirname "$0")/../program.sh"
 examples=$repository/examples
 page=${page:-$repository/out/aprsbook.html}
