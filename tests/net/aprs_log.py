@@ -4,9 +4,8 @@ several radios, a server that ends and comes back, and one that says nothing, wr
 
 usage: aprs_log.py EXAMPLES    aprsbook in the PATH; needs Python 3
 """
-import importlib.machinery
-import importlib.util
 import itertools
+import pathlib
 import resource
 import socket
 import sys
@@ -20,9 +19,8 @@ HILL = EXAMPLES / "evening/hill.log"
 LISTEN = str(EXAMPLES / "recipes/aprs-log")
 sys.dont_write_bytecode = True
 sys.path.append(str(EXAMPLES / "recipes"))
-loader = importlib.machinery.SourceFileLoader("aprs_log", LISTEN)
-listen = importlib.util.module_from_spec(importlib.util.spec_from_loader("aprs_log", loader))
-loader.exec_module(listen)
+listen = types.ModuleType("aprs_log")
+exec(pathlib.Path(LISTEN).read_text(), listen.__dict__)
 said = []
 listen.say = said.append
 FRAME = bytes.fromhex("c00082a0a4a64040e09c60868298986f03f03e4869c0")
@@ -74,10 +72,8 @@ def test_torn(folder):
 
 
 def test_full(folder):
-    def limit():
-        resource.setrlimit(resource.RLIMIT_FSIZE, (1000, 1000))
-
-    text = run(folder, FRAME * 40, status=1, preexec_fn=limit)
+    limit = resource.RLIMIT_FSIZE, (1000, 1000)
+    text = run(folder, FRAME * 40, status=1, preexec_fn=lambda: resource.setrlimit(*limit))
     [log] = logs(folder).values()
     assert 900 < len(log) <= 1000 and whole(log) == len(log.splitlines())
     assert f"frames that are lost: {40 - whole(log)}" in text, text
@@ -174,24 +170,20 @@ def test_folders(folder):
 def test_server(folder):
     """The server ends a connection in a frame, isn't there, says nothing, and goes on."""
     listen.time, listen.AGAIN = time, 0.1
+    socket.setdefaulttimeout(10)
     server = socket.create_server(("127.0.0.1", 0))
     place = server.getsockname()
     options = types.SimpleNamespace(folder=folder, name="RX1", ports=False, connect=place, idle=0.5)
     given = options, listen.Logs(folder), listen.Clock()
     threading.Thread(target=listen.connect, args=given, daemon=True).start()
-
-    def accept():
-        server.settimeout(10)
-        return server.accept()[0]
-
-    with accept() as connection:
+    with server.accept()[0] as connection:
         connection.sendall(FRAME * 2 + FRAME[:9])
     server.close()
     wait(lambda: any("refused" in text for text in said))
     server = socket.create_server(place)
-    silent = accept()
+    silent, _ = server.accept()
     silent.sendall(FRAME)
-    with accept() as connection:
+    with server.accept()[0] as connection:
         connection.sendall(FRAME[5:] + FRAME)
         wait(lambda: logs(folder).get("RX1.log", b"").count(b"\n") == 4)
     silent.close()

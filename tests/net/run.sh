@@ -15,10 +15,9 @@ with() {
     if has "$test" $tools; then "$repository/tests/net/$test" "$@"; fi
 }
 
-with 'python3' every_place.py "$examples"
-with 'python3' tracks.py "$examples"
-with 'python3 aprsbook-history' asked.py "$examples"
-with 'python3 aprsbook-history' event_page.py "$examples"
+for test in every_place tracks asked event_page; do
+    with 'python3 aprsbook-history' $test.py "$examples"
+done
 with 'python3 aprsbook-history chromium' in_browser.py "$examples"
 with 'python3 aprsbook-history firefox-esr' in_firefox.py "$examples"
 if [ -f "$page" ]; then
@@ -26,6 +25,5 @@ if [ -f "$page" ]; then
 else
     echo 'left out: page_reads.py (no page is there: make page)'
 fi
-with 'python3' aprs_log.py "$examples"
-with 'python3' net_now.sh "$program"
-with 'python3' monitor_log.py "$examples"
+with 'python3 aprsbook-history' net_now.sh "$program"
+for test in aprs_log monitor_log; do with 'python3' $test.py "$examples"; done
