@@ -131,24 +131,18 @@ if command -v flock > /dev/null; then same club/own.book all.60; fi
 # days [ARGUMENT..]: a run of days.mk in the folder net, which may not wait for standard input
 days() {
     status=0
-    timeout 10 make -s -C net -f "$recipes/days.mk" "$@" <&3 > said 2>&1 || status=$?
-    [ $status = 0 ] || [ $status = 2 ] || fail "make ended with $status: $(cat said)"
+    timeout 10 make -s -C net -f "$recipes/days.mk" "$@" <&3 >&2 || status=$?
+    return "$status"
 }
-# bad WORDS: a run that ends with a fault, and says so
-bad() {
-    days
-    [ $status = 2 ] || fail "make ended with $status: $(cat said)"
-    says "$1"
-}
-# good [ARGUMENT..]: a run that ends well
-good() {
-    days "$@"
-    [ "$status $(cat said)" = '0 ' ] || fail "make ended with $status: $(cat said)"
-}
-# all [SECONDS]: one after which the book is that of all logs under the gap
+# all ARGUMENT..: a run that says nothing, and the book is that of all logs under the gap
 all() {
-    good ${1:+"GAP=$1"}
-    same net/net.book "all.${1-30}"
+    makes "all.$gap" net/net.book days GAP="$gap" "$@"
+    silent
+}
+# bad WORDS: a run that says so; with a fault make ends with 2
+bad() {
+    refused "$1" days
+    [ "$status" = 2 ] || fail "make ended with $status: $(cat said)"
 }
 if has days.mk make timeout; then
     mkfifo endless
@@ -168,12 +162,12 @@ if has days.mk make timeout; then
     cp coast.log net/logs/2024-06-21/COAST.log
     cp north.log net/logs/2024-06-22/NORTH.log
     : > net/logs/2024-06-22/notes.txt
-    good -j 4
-    same net/net.book all.30
+    gap=30
+    all -j 4
     same net/days/2024-06-22.book north.30
     # nothing is made again without need
     find net -name '*.book' -exec ls -i {} + > books
-    good
+    all
     find net -name '*.book' -exec ls -i {} + | same - books
     # books that are empty or cut, as a power failure leaves them, are made again
     for book in net.book days/2024-06-22.book; do
@@ -184,9 +178,10 @@ if has days.mk make timeout; then
         done
     done
     # another gap makes all again, and back
-    all 60
-    same net/days/2024-06-22.book north.60
-    all
+    for gap in 60 30; do
+        all
+        same net/days/2024-06-22.book north.$gap
+    done
 
     # books that another program made, of which nobody knows of what
     rm net/days/*.of
@@ -212,7 +207,8 @@ if has days.mk make timeout; then
     all
     # a changed log of the same size
     sed 's/HILL/TILL/' hill.log > net/logs/2024-06-21/HILL.log
-    good
+    days GAP=30 2> said || fail "make ended with $status: $(cat said)"
+    silent
     says TILL net/net.book
     # a day whose logs are gone keeps its book
     rm -r net/logs
@@ -231,8 +227,8 @@ if has days.mk make timeout; then
     : > net/logs/2024-06-21/GROWS.log
     while read -r line; do echo "$line" && sleep 0.01; done < north.log >> net/logs/2024-06-21/GROWS.log &
     for _ in 1 2 3; do
-        make -s -C net -f "$recipes/days.mk" > said 2>&1 &
-        days
+        make -s -C net -f "$recipes/days.mk" > out 2>&1 &
+        days GAP=30 2> said || [ "$status" = 2 ] || fail "make ended with $status: $(cat said)"
         wait $!
         aprsbook merge net/net.book > again || fail 'two runs at once harm the book'
     done

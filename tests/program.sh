@@ -49,10 +49,10 @@ refused() {
 }
 # makes BOOK FILE COMMAND..: it ends well, and the file is this book then
 makes() {
-    book=$1 file=$2
+    right=$1 target=$2
     shift 2
     "$@" 2> said || fail "$* ended with $?: $(cat said)"
-    same "$book" "$file"
+    same "$right" "$target"
 }
 # keeps FOLDER CHECK..: it holds, and the folder has what it had
 keeps() {
