@@ -49,18 +49,12 @@ awk -v to="$scratch/blocks/" '
     /^##+ / { heading = $0; sub(/^#+ /, "", heading) }
     /^```sh( |$)/ {
         file = to sprintf("%03d", ++n)
-        tools = $0
-        sub(/^```sh */, "", tools)
-        print heading > file
-        print tools > file
+        sub(/^```sh */, "")
+        print heading "\n" $0 > file
         open = 1
         next
     }
-    /^```text printed/ {
-        file = file ".printed"
-        open = 1
-        next
-    }
+    /^```text printed/ { file = file ".printed"; open = 1; next }
     /^```/ { if (open) close(file); open = 0 }
     open { print > file }
 ' "$here/../docs/cookbook.md"

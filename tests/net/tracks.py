@@ -34,19 +34,13 @@ def segments(places):
     return list(filter(None, runs))
 
 
-def feature(shape, coordinates, place, names):
-    return {"type": "Feature", "geometry": {"type": shape, "coordinates": coordinates},
-            "properties": {name: place[name] for name in names}}
-
-
 def features(places, moved):
-    names = [name for name in COLUMNS if name not in ("lat", "lon")]
+    """The shape, where it is and what is said of it, of each feature."""
     for it in places:
-        yield feature("Point", spot(it), it, names)
+        yield "Point", spot(it), {name: it[name] for name in COLUMNS if name not in ("lat", "lon")}
     for them in moved:
-        lines = [list(map(spot, some)) for some in segments(them) if len(some) > 1]
-        if lines:
-            yield feature("MultiLineString", lines, them[0], ["kind", "name"])
+        if lines := [list(map(spot, some)) for some in segments(them) if len(some) > 1]:
+            yield "MultiLineString", lines, {name: them[0][name] for name in ("kind", "name")}
 
 
 def test(log):
@@ -56,8 +50,10 @@ def test(log):
     groups = itertools.groupby(places, lambda it: (it["kind"], it["name"]))
     things = [list(group) for _, group in groups]
     moved = [them for them in things if any(spot(it) != spot(them[0]) for it in them)]
-    assert json.loads("".join(run("tracks", "geojson", given=log))) \
-        == {"type": "FeatureCollection", "features": list(features(places, moved))}
+    assert json.loads("".join(run("tracks", "geojson", given=log))) == {
+        "type": "FeatureCollection", "features": [
+            {"type": "Feature", "geometry": {"type": shape, "coordinates": where}, "properties": about}
+            for shape, where, about in features(places, moved)]}
 
     def seen(point, *names):
         texts = [point.findtext(GPX + name) for name in ("time", *names)]
