@@ -107,19 +107,19 @@ cp north.30 club/in/north.book
 keeps club refused 'own.book: line [0-9]*: Ending' fold-in club
 refused usage fold-in nowhere
 
-# after COMMAND PROGRAM..: PROGRAM runs, and each aprsbook that it starts does COMMAND first
+# after COMMAND PROGRAM..: PROGRAM runs, and each aprsbook that it starts does COMMAND at its end
 mkdir slow
 after() (
-    printf '#!/bin/sh\n%s\nexec "%s" "$@"\n' "$1" "$program" > slow/aprsbook
+    printf '#!/bin/sh\n"%s" "$@" || exit\n%s\n' "$program" "$1" > slow/aprsbook
     chmod +x slow/aprsbook
     PATH=$scratch/slow:$PATH
     shift
     "$@"
 )
-# two runs at once, the first of which merges slowly
+# two runs at once: the first has read its book when the second begins, and takes its time
 club coast.60
-after 'sleep 0.3' fold-in club &
-sleep 0.4
+after "case \$* in *own.book*) : > $scratch/read; sleep 2 ;; esac" fold-in club &
+for _ in $(seq 100); do [ -e read ] || sleep 0.1; done
 cp north.60 club/in/north.book
 fold-in club || fail "fold-in ended with $?"
 wait $!

@@ -36,7 +36,7 @@ export PATH PYTHONDONTWRITEBYTECODE=1
 # same FILE FILE: they have the same bytes
 same() { cmp "$1" "$2" || fail "$1 isn't $2"; }
 # says WORDS [FILE]: the last run said so on standard error, or a file does
-says() { grep -q -- "$1" "${2-said}" || fail "it doesn't say '$1', but: $(cat "${2-said}")"; }
+says() { grep -q -- "$1" "${2-said}" || fail "${2-it} doesn't say '$1': $(head -c 2000 "${2-said}")"; }
 # silent: the last run said nothing
 silent() { [ ! -s said ] || fail "it says: $(cat said)"; }
 # fails COMMAND..: it ends with a fault; refused WORDS COMMAND..: and says so
