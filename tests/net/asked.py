@@ -47,7 +47,7 @@ def test_passed(folder):
     heard += line("18:07:00", "Q1SHIP", "!6000.00N/17959.94E>") \
         + line("18:05:00", "Q1C", "!5430.  N/00330.  W>") \
         + line("17:59:00", "Q1NET", ";CAR      *111111z5430.12N/00330.00W>") \
-        + line("17:58:00", "Q1NET", ";CAR      _111111z5430.00N/00330.00W>")
+        + line("17:58:00", "Q1NET", ";CAR      _111111z5430.06N/00330.00W>")
     points = folder / "points"
     points.write_text("Half way 54.501 -3.5 60\n# none\nEnd 54.502 -3.5 112\nDate line 60 -179.999 200\n")
     assert run("passed", points, given=heard) == [

@@ -31,7 +31,7 @@ def test_evening():
 
 def test_feed():
     feed = b"""# aprsc 2.1.19 01 Jan 2024 00:00:00 GMT T2TEST 127.0.0.1:14580
-Q1RUN-7>APDW17,Q1DIG*,WIDE2-1,qAR,Q0GATE-1:!5432.58N/00327.36W>caf\xc3\xa9 <0x41> \\x41
+Q1RUN-7>APDW17,Q1DIG,WIDE1*,WIDE2-1,qAR,Q0GATE-1:!5432.58N/00327.36W>caf\xc3\xa9 <0x41> \\x41
 Q1RUN-7>APDW17,qAO,Q0OTHER:!5432.58N/00327.36W>caf\xc3\xa9 <0x41> \\x41
 Q1NET>APDW17,TCPIP*,qAC,T2TEST:>sent over the net alone
 Q1lower>APDW17,qAR,Q0GATE-1:>no call
@@ -46,7 +46,7 @@ Q1NET>APDW17,qAR,ABCDEFGHIJKLMNOPQ:>a gate of 17 letters
     [row] = run("aprsbook", "merge", given=log)[1:-1]
     assert row.split(" ")[3] == "Q0GATE-1,Q0OTHER", row
     assert run("aprsbook", "convert", "text", given=log)[0] \
-        == r"Q1RUN-7>APDW17,Q1DIG*,WIDE2-1:!5432.58N/00327.36W>caf\xc3\xa9 <0x41> \x5cx41"
+        == r"Q1RUN-7>APDW17,Q1DIG*,WIDE1*,WIDE2-1:!5432.58N/00327.36W>caf\xc3\xa9 <0x41> \x5cx41"
 
 
 def test_refused():
