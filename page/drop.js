@@ -3,7 +3,7 @@
 const { page, show, bring, make, byId, save, count } = globalThis.aprsbook;
 const parts = JSON.parse(byId("parts").textContent);
 const files = [];
-let made = null, turn = 0, last = 0;
+let made = null, turn = 0, last = 0, began = 0;
 
 // ---- workers, each with the module: a run is given to one that is free
 
@@ -30,11 +30,11 @@ function ask(worker, what, given) {
     worker.it.postMessage([last, what, given]);
   });
 }
-/** A run of the module over inputs. */
-async function run(command, options, inputs) {
+/** A run of the module over inputs; with `read`, of a history, as a text and its columns. */
+async function run(command, options, inputs, read = false) {
   let free;
   while (!(free = workers.find(it => !it.busy))) await new Promise(done => queue.push(done));
-  return ask(free, "run", { command, options, inputs });
+  return ask(free, "run", { command, options, inputs, read });
 }
 
 // ---- files
@@ -135,22 +135,39 @@ const optionsOf = () => ({ title: byId("name").value || "APRS net", gap: +byId("
   live: 0, silent: +byId("silent").value || 30, maps: [], roster: "",
   notes: files.filter(it => it.fault).map(it => `${it.name} was left out: ${it.fault}`) });
 
+// a merge that began before its files were checked: the files, the gap, and what came of it
+let early = null;
+function mergeEarly(all) {
+  const gap = +byId("gap").value, got = run("merge", gap, all.map(it => it.taken || it.bytes));
+  early = { all, gap, got: got.catch(() => null) };
+}
+/** The merge of these files, also where it began early and well. */
+async function merged(good, gap) {
+  const begun = early;
+  early = null;
+  const isIt = begun?.gap === gap && begun.all.length === good.length &&
+    begun.all.every(it => good.includes(it));
+  const got = isIt ? await begun.got : null;
+  return got?.status === 0 ? got : run("merge", gap, good.map(it => it.taken));
+}
 /** Book, history and listing of all files that can be read. */
 async function textsOf(good, gap, tellShare) {
-  const call = async (command, inputs) => {
-    const got = await run(command, gap, inputs);
+  const answerOf = async work => {
+    const got = await work;
     if (got.status)
       throw Object.assign(new Error(place(got)), { at: got.status === 1 ? got.input : -1 });
-    return got.bytes;
+    return got;
   };
-  const book = await call("merge", good.map(it => it.taken));
+  const book = (await answerOf(merged(good, gap))).bytes;
   tellShare(0.6);
-  const texts = await Promise.all(["history", "show"].map(command => call(command, [book])));
-  return { book, history: asText(texts[0]), listing: asText(texts[1]) };
+  const [history, listing] = await Promise.all([
+    answerOf(run("history", gap, [book], true)), answerOf(run("show", gap, [book]))]);
+  return { book, history: history.text, read: history.read, listing: asText(listing.bytes) };
 }
 async function work() {
   list();
-  const good = files.filter(it => it.taken), mine = ++turn, begin = performance.now();
+  const good = files.filter(it => it.taken), mine = ++turn, begin = began || performance.now();
+  began = 0;
   byId("book").disabled = byId("event").disabled = true;
   made = null;
   if (!good.length) {
@@ -165,7 +182,7 @@ async function work() {
     made = texts;
     tellProgress(0.9, "drawing");
     await new Promise(done => setTimeout(done));
-    show({ ...optionsOf(), history: texts.history, listing: texts.listing });
+    show({ ...optionsOf(), history: texts.history, listing: texts.listing }, texts.read);
     byId("book").disabled = byId("event").disabled = false;
     tellProgress(1);
     say(`${count(page.all.rows.length, "transmission")} of ${count(good.length, "file")}, ` +
@@ -175,25 +192,29 @@ async function work() {
     say((good[fault.at] ? good[fault.at].name + ": " : "") + fault.message, true);
   }
 }
-/** Takes files, one after the other; the last turn draws. */
+/** Reads a dropped file; a map or a roster goes to the page at once. */
+async function take(it) {
+  try {
+    const bytes = await bytesOf(it), kind = kindOf(bytes, it.name);
+    if (kind === "map" || kind === "roster") bring(it.name, new TextDecoder().decode(bytes));
+    else return { name: it.name, bytes, kind, receiver: "RX1", moment: "", passed: [] };
+  } catch (fault) {
+    say(`${it.name}: ${fault.message}`, true);
+  }
+  return null;
+}
+/** Takes files: they are merged while each is checked. */
 async function add(dropped) {
-  const list = [...dropped], all = list.reduce((sum, it) => sum + it.size, 0) || 1;
+  began = performance.now();
+  tellProgress(0, "reading");
+  const read = (await Promise.all([...dropped].map(take))).filter(Boolean);
+  const whole = [...files.filter(it => it.taken), ...read];
+  if (read.length && whole.every(it => it.kind !== "KISS stream")) mergeEarly(whole);
   let done = 0;
-  await Promise.all(list.map(async it => {
-    tellProgress(0.3 * done / all, `reading ${it.name}`);
-    try {
-      const bytes = await bytesOf(it), kind = kindOf(bytes, it.name);
-      if (kind === "map" || kind === "roster") bring(it.name, new TextDecoder().decode(bytes));
-      else {
-        const file = { name: it.name, bytes, kind, receiver: "RX1", moment: "", passed: [] };
-        await look(file);
-        files.push(file);
-      }
-    } catch (fault) {
-      say(`${it.name}: ${fault.message}`, true);
-    }
-    done += it.size;
-    tellProgress(0.3 * done / all, "reading");
+  await Promise.all(read.map(async file => {
+    await look(file);
+    files.push(file);
+    tellProgress(0.3 * ++done / read.length, "reading");
   }));
   files.sort((a, b) => a.name < b.name ? -1 : a.name > b.name ? 1 : 0);
   await work();
@@ -245,8 +266,10 @@ function listen() {
 async function beginReading() {
   drawOwnSaves();
   show({ ...optionsOf(), title: "aprsbook", history: "", listing: "", waits: true });
-  const module = Uint8Array.from(atob(parts.module), it => it.charCodeAt(0));
   try {
+    const bytes = Uint8Array.from(atob(parts.module), it => it.charCodeAt(0));
+    // compiled once, for all workers
+    const module = await WebAssembly.compile(bytes);
     const many = Math.max(2, Math.min(3, navigator.hardwareConcurrency || 2));
     await Promise.all(Array.from({ length: many }, () => ask(addWorker(), "load", module)));
   } catch (fault) {

@@ -1,7 +1,7 @@
 // The page: what it has of the net, what the reader chose, and what is drawn of both.
 
 const page = { data: null, all: null, net: null, map: null, lists: {}, bases: [], roster: [],
-  found: [], brought: [], until: Infinity, playing: null, finder: new Map() };
+  found: [], brought: [], until: Infinity, playing: null, typing: 0, finder: new Map() };
 
 /** The moment to which ages count: now where the page goes on, or else the last of the inputs. */
 const presentOf = () => page.data.live || page.follows ? Date.now() / 1000 : page.all.end;
@@ -13,12 +13,15 @@ const view = {
   onPick: key => pick(key),
 };
 
-/** Draws the page of these texts and options. What the reader chose stays. */
-function show(data) {
-  const rows = readHistory(data.history);
+/**
+ * Draws the page of these texts and options. What the reader chose stays. `read` are the columns of
+ * the history where they are made already.
+ */
+function show(data, read = columnsOf(data.history)) {
+  const rows = new Rows(data.history, read), listing = readListing(data.listing);
+  listing.messages.forEach(judge);
   page.data = data;
-  page.all = { rows, listing: readListing(data.listing),
-    end: rows.reduce((end, row) => Math.max(end, row.last), 0) };
+  page.all = { rows, listing, end: rows.until };
   byId("title").textContent = document.title = data.title;
   readBrought();
   refresh();
@@ -46,7 +49,7 @@ function refresh() {
   const since = hours ? presentOf() - hours * 3600 : -Infinity, net = netOf(page.all, since);
   clocks.local = byId("local").checked;
   clocks.dated = net.rows.length > 0 && dateText(net.begin) !== dateText(net.end);
-  net.placed = net.things.filter(it => it.now);
+  net.placed = net.things.filter(it => it.lastPlace >= 0);
   page.net = net;
   page.map.take(net.placed);
   page.finder.clear();
@@ -109,7 +112,7 @@ function drawNews() {
     byId("news").replaceChildren(...nodes.flatMap(it => [it, " "]));
 }
 function drawLists() {
-  const { net, lists } = page;
+  const { net, lists, all } = page;
   lists.messages.show([...net.messages].sort(inOrder));
   byId("bulletins-head").hidden = byId("bulletins-box").hidden = !net.bulletins.length;
   lists.bulletins.show([...net.bulletins].sort((a, b) => b.last - a.last));
@@ -119,7 +122,9 @@ function drawLists() {
   later("heard", () => { lists.heard = heardList(net); });
   later("repeated", () => { lists.repeated = repeatedList(net); });
   later("find", () => net.things.forEach(hayOf));
-  later("timeline", () => { lists.timeline = timelineList(byId("timeline-box"), net); });
+  later("timeline", () => {
+    lists.timeline = timelineList(byId("timeline-box"), all.rows, net);
+  });
 }
 const heardList = net => pairList(byId("heard-box"), "heard",
   "how many transmissions each receiver heard", net.heard, net.sent, (source, name, n, of) =>
@@ -146,8 +151,10 @@ function sift() {
   page.map.show(page.found);
   const placed = count(page.map.things.length, "place");
   byId("map").setAttribute("aria-label", `map of ${placed}; the table has them too`);
-  choose("find", byId("find").value);
   choose("kind", kind);
+  // the address is changed once the reader stops
+  clearTimeout(page.typing);
+  page.typing = setTimeout(() => choose("find", byId("find").value), 300);
 }
 
 /** Picks a thing, or, where it is picked already, nothing. */
@@ -171,7 +178,7 @@ function drawOne() {
     make("small", { textContent: ` ${thing.kind}${thing.killed ? ", killed" : ""}` }));
   byId("one-about").replaceChildren(...factsOf(thing).flatMap(([name, ...value]) =>
     [make("dt", { textContent: name }), make("dd", {}, ...value)]));
-  page.lists.places.show([...thing.places].reverse());
+  page.lists.places.show(thing.places.reverse());
 }
 function factsOf(thing) {
   const { now } = thing, facts = [];

@@ -59,11 +59,16 @@ class Projection {
     this.centre = vectorOf(...this.middle);
     this.frame = frameAt(...this.middle);
   }
-  /** Puts the pixel of a place into x and y; says whether it is on this side of the earth. */
-  put(vector) {
-    const near = dot(this.centre, vector), k = this.scale * Math.sqrt(2 / Math.max(1e-9, 1 + near));
-    this.x = this.width / 2 + k * dot(this.frame.east, vector);
-    this.y = this.height / 2 - k * dot(this.frame.north, vector);
+  /**
+   * Puts the pixel of the nth place of a line into x and y; says whether it is on this side of the
+   * earth. A line has x, y, z of its places after each other, as a vector has of one.
+   */
+  put(line, n = 0) {
+    const a = line[3 * n], b = line[3 * n + 1], c = line[3 * n + 2], { centre } = this;
+    const { east, north } = this.frame, near = centre[0] * a + centre[1] * b + centre[2] * c;
+    const k = this.scale * Math.sqrt(2 / Math.max(1e-9, 1 + near));
+    this.x = this.width / 2 + k * (east[0] * a + east[1] * b + east[2] * c);
+    this.y = this.height / 2 - k * (north[0] * a + north[1] * b + north[2] * c);
     return near > -0.9;
   }
   /** The place under a pixel; beyond the earth's rim, that of the rim. */
@@ -88,15 +93,16 @@ class Projection {
       this.move(x - this.x, y - this.y);
     }
   }
-  /** Looks at all of these places. */
-  fit(vectors) {
-    const sum = vectors.reduce((a, b) => [a[0] + b[0], a[1] + b[1], a[2] + b[2]], [0, 0, 0]);
-    this.look(...(vectors.length ? degreesOf(sum) : [0, 0]));
+  /** Looks at all places of these lines. */
+  fit(lines) {
+    const sum = [0, 0, 0];
+    for (const line of lines) for (let k = 0; k < line.length; k++) sum[k % 3] += line[k];
+    this.look(...(lines.some(it => it.length) ? degreesOf(sum) : [0, 0]));
     this.scale = Math.min(this.width, this.height) / 4;
     // around the earth: from above the equator both poles are seen
-    if (vectors.some(it => !this.put(it))) return this.look(0, this.middle[1]);
+    if (this.box(lines).hidden) return this.look(0, this.middle[1]);
     for (let turn = 0; turn < 4; turn++) {
-      const [left, right, top, bottom] = this.box(vectors);
+      const { left, right, top, bottom } = this.box(lines);
       this.move(this.width / 2 - (left + right) / 2, this.height / 2 - (top + bottom) / 2);
       const wide = Math.max((right - left) / this.scale, 6e-5);
       const high = Math.max((bottom - top) / this.scale, 6e-5);
@@ -104,15 +110,21 @@ class Projection {
         Math.max(50, this.height - 90) / high));
     }
   }
-  box(vectors) {
-    let left = Infinity, right = -Infinity, top = Infinity, bottom = -Infinity;
-    for (const vector of vectors) {
-      if (!this.put(vector)) continue;
-      left = Math.min(left, this.x);
-      right = Math.max(right, this.x);
-      top = Math.min(top, this.y);
-      bottom = Math.max(bottom, this.y);
-    }
-    return left <= right ? [left, right, top, bottom] : [0, this.width, 0, this.height];
+  /** The pixels between which these lines lie, and whether one of their places is hidden. */
+  box(lines) {
+    const box = { left: Infinity, right: -Infinity, top: Infinity, bottom: -Infinity };
+    for (const line of lines)
+      for (let k = 0; 3 * k < line.length; k++) {
+        if (!this.put(line, k)) {
+          box.hidden = true;
+          continue;
+        }
+        box.left = Math.min(box.left, this.x);
+        box.right = Math.max(box.right, this.x);
+        box.top = Math.min(box.top, this.y);
+        box.bottom = Math.max(box.bottom, this.y);
+      }
+    if (box.left <= box.right) return box;
+    return { ...box, left: 0, right: this.width, top: 0, bottom: this.height };
   }
 }

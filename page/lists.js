@@ -1,7 +1,8 @@
 // Tables that build their rows as they come into view, sort by their heads, and take one stop of
 // the tab key: arrow keys go from row to row.
 
-const PART = 40;
+/** So many rows are more than a box shows at once; of a long list the first few come before. */
+const PART = 26, FIRST = 10;
 
 class List {
   /**
@@ -49,7 +50,8 @@ class List {
     this.box.replaceChildren(items.length ? this.table : make("p", { textContent: this.none }));
     if (this.scrolled) this.box.scrollTop = 0;
     this.scrolled = false;
-    this.build(PART);
+    this.build(items.length > 10 * PART ? FIRST : PART);
+    later(this.id, () => this.build(PART - this.built));
   }
   sorted(items) {
     const { value } = this.columns[this.order.column], way = this.order.down ? -1 : 1;
@@ -58,6 +60,7 @@ class List {
     return items.map((it, n) => [value(it), n, it]).sort(compare).map(it => it[2]);
   }
   build(n) {
+    if (n <= 0) return;
     const rows = this.items.slice(this.built, this.built + n).map((item, k) => {
       const row = this.row(item);
       row.setAttribute("aria-rowindex", this.built + k + 2);

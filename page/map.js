@@ -3,6 +3,14 @@
 /** Digits of the minutes that were left out leave so many metres open to each side. */
 const OPEN = { 1: 93, 2: 926, 3: 9260, 4: 55560 };
 const RANK = { item: 1, object: 2, station: 3 };
+/**
+ * Where a name may stand: its left edge is so many reaches of the mark, widths of the name and
+ * pixels to the right, and its base so many reaches and pixels down.
+ */
+const SIDES = [[1, 0, 0, 0, 4], [-1, -1, 0, 0, 4], [0, -0.5, 0, -1, 0], [0, -0.5, 0, 1, 10],
+  [1, 0, -2, 1, 7], [-1, -1, 2, 1, 7], [1, 0, -2, -1, 3], [-1, -1, 2, -1, 3]];
+/** Of more places than these, tracks are thin. */
+const MANY = 8000;
 const FONT = (size, bold) => `${bold ? "600 " : ""}${size}px system-ui, sans-serif`;
 
 /** Which parts of the map have a mark or a name, in squares of 4 pixels. */
@@ -12,19 +20,19 @@ class Room {
     this.down = Math.ceil(height / 4);
     this.squares = new Uint8Array(this.across * this.down);
   }
-  each(left, top, right, bottom, run) {
-    const [x0, x1] = [Math.floor(left / 4), Math.floor(right / 4)];
-    const [y0, y1] = [Math.floor(top / 4), Math.floor(bottom / 4)];
-    if (x0 < 0 || y0 < 0 || x1 >= this.across || y1 >= this.down) return false;
-    for (let y = y0; y <= y1; y++)
-      for (let x = x0; x <= x1; x++) if (!run(y * this.across + x)) return false;
+  isFree(left, top, right, bottom) {
+    const x0 = Math.floor(left / 4), x1 = Math.floor(right / 4), y1 = Math.floor(bottom / 4);
+    if (x0 < 0 || top < 0 || x1 >= this.across || y1 >= this.down) return false;
+    for (let y = Math.floor(top / 4); y <= y1; y++)
+      for (let at = y * this.across + x0, end = at + x1 - x0; at <= end; at++)
+        if (this.squares[at]) return false;
     return true;
   }
-  isFree(...box) {
-    return this.each(...box, at => !this.squares[at]);
-  }
-  take(...box) {
-    this.each(...box, at => (this.squares[at] = 1));
+  take(left, top, right, bottom) {
+    const x0 = Math.max(0, Math.floor(left / 4)), y1 = Math.floor(bottom / 4);
+    const x1 = Math.min(this.across - 1, Math.floor(right / 4));
+    for (let y = Math.max(0, Math.floor(top / 4)); y <= y1 && y < this.down; y++)
+      this.squares.fill(1, y * this.across + x0, y * this.across + x1 + 1);
   }
 }
 
@@ -33,7 +41,7 @@ class NetMap {
   constructor(node, onPick, onView) {
     Object.assign(this, { node, onPick, onView, canvas: node.querySelector("canvas"),
       view: new Projection(), placed: [], things: [], bases: [], picked: null, from: null,
-      until: Infinity, fitted: true, marks: [], colours: {}, widths: new Map() });
+      until: Infinity, fitted: true, marks: [], colours: {}, widths: new Map(), shown: {} });
     this.pen = this.canvas.getContext("2d");
     this.paintSoon = oncePerFrame(() => this.paint());
     this.readColours();
@@ -68,17 +76,13 @@ class NetMap {
     if (this.fitted) this.fit();
   }
   show(things) {
-    this.things = things.filter(it => it.places.length);
-    this.paintSoon();
+    this.things = things.filter(it => it.lastPlace >= 0);
+    later("map", () => this.paintSoon());
   }
   fit() {
     this.fitted = true;
-    const vectors = this.placed.flatMap(it => it.places.map(place => place.vector));
-    for (const { lines, points } of this.bases) {
-      for (const line of lines) for (const it of line) vectors.push(it);
-      for (const it of points) vectors.push(it.vector);
-    }
-    this.view.fit(vectors);
+    this.view.fit([...this.placed.map(it => it.track),
+      ...this.bases.flatMap(it => [...it.lines, ...it.points.map(point => point.vector)])]);
   }
   move(right, down) {
     this.fitted = false;
@@ -128,37 +132,46 @@ class NetMap {
     pen.lineJoin = "round";
     const labels = paintGrid(pen, view, colours);
     for (const base of this.bases) this.paintBase(base);
-    const shown = [];
-    for (const thing of this.things) {
-      const place = thing.at(this.until);
-      if (place) shown.push({ thing, place, picked: thing.key === this.picked });
-    }
-    // stations lie above the rest, and what is picked above all
-    const rank = it => it.picked ? 4 : it.place.state === "killed" ? 0 : RANK[it.thing.kind];
-    shown.sort((a, b) => rank(a) - rank(b));
+    const shown = this.shownNow();
     this.paintTracks(shown);
     this.paintRuler();
     this.paintMarks(shown);
     for (const label of labels) this.write(label.text, label.x, label.y, colours.soft, 11);
     this.paintScale();
   }
-  /** Draws a line through places. */
-  line(vectors) {
+  /** What is on the map, in the order in which it is drawn. */
+  shownNow() {
+    const { things, until, picked, shown } = this;
+    if (shown.things === things && shown.until === until && shown.picked === picked)
+      return shown.list;
+    const list = [];
+    for (const thing of things) {
+      const place = thing.at(until);
+      if (place) list.push({ thing, place, picked: thing.key === picked, x: 0, y: 0 });
+    }
+    // stations lie above the rest, and what is picked above all
+    const rank = it => it.picked ? 4 : it.place.state === "killed" ? 0 : RANK[it.thing.kind];
+    list.sort((a, b) => rank(a) - rank(b));
+    this.shown = { things, until, picked, list };
+    return list;
+  }
+  /** Draws a line. */
+  line(line) {
     this.pen.beginPath();
-    this.trace(vectors, () => false);
+    this.trace(line, line.length / 3, () => false);
     this.pen.stroke();
   }
-  /** A path through places, broken where `breaks` says so or where it leaves this side. */
-  trace(vectors, breaks) {
+  /** A path of a line's first places, broken where `breaks` says so or it leaves this side. */
+  trace(line, count, breaks) {
     const { pen, view } = this, { width, height } = view;
     let lastX = 0, lastY = 0, drawn = false;
-    for (let k = 0; k < vectors.length; k++) {
-      const near = view.put(vectors[k]), { x, y } = view;
+    for (let k = 0; k < count; k++) {
+      const near = view.put(line, k), { x, y } = view;
       const whole = drawn && near && !breaks(k);
       // what lies wholly to one side of the map, or within half a pixel, needn't be drawn
       const beside = Math.max(x, lastX) < 0 || Math.min(x, lastX) > width ||
         Math.max(y, lastY) < 0 || Math.min(y, lastY) > height;
-      const still = Math.abs(x - lastX) + Math.abs(y - lastY) < 0.5 && k < vectors.length - 1;
+      const still = Math.abs(x - lastX) + Math.abs(y - lastY) < 0.5 && k < count - 1;
       if (whole && still) continue;
       if (whole && !beside) pen.lineTo(x, y);
       else pen.moveTo(x, y);
@@ -184,33 +197,43 @@ class NetMap {
     const near = this.view.put(vector), { x, y, width, height } = this.view;
     return near && x > -10 && y > -10 && x < width + 10 && y < height + 10;
   }
-  /** The tracks of all, those of one colour at once. */
+  /** The tracks of all: thinner ones where there are many places, which takes much less time. */
   paintTracks(shown) {
-    const { pen } = this, moved = shown.filter(it => it.thing.places.length > 1);
-    const draw = list => {
-      pen.beginPath();
-      for (const { thing } of list) this.traceTrack(thing);
-      pen.stroke();
-    };
-    const picked = moved.filter(it => it.picked), rest = moved.filter(it => !it.picked);
-    pen.lineWidth = 2;
+    const { pen } = this, byColour = Array.from({ length: TRACKS }, () => []);
+    let places = 0;
+    for (const { thing, picked } of shown) {
+      places += thing.placedBy.length;
+      if (!picked && thing.placedBy.length > 1) byColour[thing.colour].push(thing);
+    }
+    pen.lineJoin = "bevel";
+    pen.lineWidth = places > MANY ? 1 : 2;
     pen.globalAlpha = this.picked ? 0.3 : 0.85;
-    this.colours.tracks.forEach((colour, k) => {
-      pen.strokeStyle = colour;
-      draw(rest.filter(it => colourOf(it.thing.key) === k));
-    });
+    byColour.forEach((things, colour) => this.strokeTracks(things, colour));
     pen.globalAlpha = 1;
     pen.lineWidth = 4;
-    for (const it of picked) {
-      pen.strokeStyle = this.colours.tracks[colourOf(it.thing.key)];
-      draw([it]);
+    for (const { thing, picked } of shown) if (picked) this.strokeTracks([thing], thing.colour);
+    pen.lineJoin = "round";
+  }
+  /** Tracks of one colour; many short paths are quicker than a long one. */
+  strokeTracks(things, colour) {
+    const { pen } = this;
+    pen.strokeStyle = this.colours.tracks[colour];
+    pen.beginPath();
+    let places = 0;
+    for (const it of things) {
+      this.traceTrack(it);
+      places += it.placedBy.length;
+      if (places < 50) continue;
+      pen.stroke();
+      pen.beginPath();
+      places = 0;
     }
+    pen.stroke();
   }
   traceTrack(thing) {
-    const places = this.until === Infinity ? thing.places
-      : thing.places.filter(it => it.first <= this.until);
+    const { killed } = thing.rows, { placedBy } = thing;
     // a kill ends a segment
-    this.trace(places.map(it => it.vector), k => places[k - 1].state === "killed");
+    this.trace(thing.track, thing.countAt(this.until), k => killed[placedBy[k - 1]] === 1);
   }
   /** The line between what was picked before and what is picked. */
   paintRuler() {
@@ -219,14 +242,16 @@ class NetMap {
     if (!a || !b || a === b) return;
     Object.assign(this.pen, { strokeStyle: this.colours.ink, lineWidth: 1.5 });
     this.pen.setLineDash([2, 4]);
-    this.line([a.vector, b.vector]);
+    this.line([...a.vector, ...b.vector]);
     this.pen.setLineDash([]);
   }
   paintMarks(shown) {
     this.marks = [];
     for (const it of shown) {
       if (!this.isInView(it.place.vector)) continue;
-      this.marks.push({ ...it, x: this.view.x, y: this.view.y });
+      it.x = this.view.x;
+      it.y = this.view.y;
+      this.marks.push(it);
     }
     const { width, height } = this.view, room = new Room(width, height);
     const small = this.marks.length > 250, reach = small ? 4 : 10;
@@ -237,22 +262,23 @@ class NetMap {
     }
     // the picked one comes first, so that its name has room
     const named = this.marks.slice(small ? -600 : 0).reverse();
-    for (const mark of named) this.name(mark, room, reach);
+    for (const mark of named) this.name(mark, room, reach, small);
   }
   colourAt(thing, place) {
-    return place.state === "killed" ? this.colours.soft : this.colours.tracks[colourOf(thing.key)];
+    return place.state === "killed" ? this.colours.soft : this.colours.tracks[thing.colour];
   }
   /** Marks where there are many: dots, those of one colour at once. */
   paintDots(marks) {
     const { pen } = this, byColour = new Map();
-    for (const { thing, place, x, y } of marks) {
-      const colour = this.colourAt(thing, place);
-      if (!byColour.has(colour)) byColour.set(colour, new Path2D());
-      byColour.get(colour).rect(x - 3, y - 3, 6, 6);
+    for (const mark of marks) {
+      const colour = this.colourAt(mark.thing, mark.place), list = byColour.get(colour);
+      if (list) list.push(mark);
+      else byColour.set(colour, [mark]);
     }
-    for (const [colour, dots] of byColour) {
+    for (const [colour, list] of byColour) {
       pen.fillStyle = colour;
-      pen.fill(dots);
+      // whole pixels are quicker
+      for (const { x, y } of list) pen.fillRect(Math.round(x) - 3, Math.round(y) - 3, 6, 6);
     }
   }
   paintMark({ thing, place, picked, x, y }) {
@@ -315,23 +341,36 @@ class NetMap {
     return width;
   }
   /** Puts a name beside its mark, where there is room. */
-  name({ thing, place, picked, x, y }, room, reach) {
+  name({ thing, place, picked, x, y }, room, reach, small) {
     const width = this.widthOf(thing.label) + 2, by = reach + 3;
-    const places = [[by, 4], [-by - width, 4], [-width / 2, -by], [-width / 2, by + 10],
-      [by - 2, by + 7], [-by + 2 - width, by + 7], [by - 2, -by + 3], [-by + 2 - width, -by + 3]];
-    const at = places.find(([right, down]) =>
-      room.isFree(x + right, y + down - 11, x + right + width, y + down + 3)) ||
-      picked && places[0];
-    if (!at) return;
-    room.take(x + at[0], y + at[1] - 11, x + at[0] + width, y + at[1] + 3);
+    const at = SIDES.findIndex(([a, b, c, d, e]) => {
+      const left = x + a * by + b * width + c, base = y + d * by + e;
+      return room.isFree(left, base - 11, left + width, base + 3);
+    });
+    if (at < 0 && !picked) return;
+    const [a, b, c, d, e] = SIDES[Math.max(at, 0)];
+    const left = x + a * by + b * width + c, base = y + d * by + e;
+    room.take(left, base - 11, left + width, base + 3);
     const colour = place.state === "killed" ? this.colours.soft : this.colours.ink;
-    this.write(thing.label, x + at[0], y + at[1], colour, 12, picked);
+    if (!small || picked) this.write(thing.label, left, base, colour, 12, picked);
+    else this.writeOnSheet(thing.label, left, base, width, colour);
   }
   write(text, x, y, colour, size, bold = false) {
     const { pen } = this;
     pen.font = FONT(size, bold);
     Object.assign(pen, { lineWidth: 3, strokeStyle: this.colours.sheet, fillStyle: colour });
     pen.strokeText(text, x, y);
+    pen.fillText(text, x, y);
+  }
+  /** Writes a name on a patch of the sheet, which is quicker than with a rim. */
+  writeOnSheet(text, x, y, width, colour) {
+    const { pen } = this;
+    pen.globalAlpha = 0.8;
+    pen.fillStyle = this.colours.sheet;
+    pen.fillRect(Math.round(x) - 1, Math.round(y) - 10, Math.ceil(width), 13);
+    pen.globalAlpha = 1;
+    pen.font = FONT(12);
+    pen.fillStyle = colour;
     pen.fillText(text, x, y);
   }
   paintScale() {

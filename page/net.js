@@ -6,69 +6,91 @@ const replyAck = /\{[A-Za-z0-9]{1,2}\}(?:[A-Za-z0-9]{1,2})?$/;
 const STATES = ["unanswered", "rejected", "not judged", "unnumbered", "acknowledged"];
 const isBulletin = message => /^(BLN|NWS-)/.test(message.addressee);
 
-function judged(message) {
-  const state = message.state === "unnumbered" && replyAck.test(message.text)
-    ? "not judged" : message.state;
-  return { ...message, state, order: STATES.indexOf(state) };
+/** Gives a message of the listing the state that is shown, and its place among them. */
+function judge(message) {
+  if (message.state === "unnumbered" && replyAck.test(message.text)) message.state = "not judged";
+  message.order = STATES.indexOf(message.state);
 }
 
-/** A station, an object or an item. */
+/** A station, an object or an item; its places are the numbers of rows, and made when asked for. */
 class Thing {
-  constructor(kind, name) {
-    Object.assign(this, { kind, name, key: `${kind} ${name}`, label: said(name), first: Infinity,
-      last: -Infinity, by: [], sent: 0, status: "", statusAt: -Infinity, places: [], now: null });
+  constructor(rows, key) {
+    const kind = kindIn(key), name = nameIn(key);
+    Object.assign(this, { rows, kind, name, key, label: said(name), colour: colourOf(key),
+      first: Infinity, last: -Infinity, by: [], sent: 0, lastStatus: -1, placedBy: [],
+      lastPlace: -1, made: new Map() });
   }
-  hear(row) {
+  hear(k) {
+    const { rows } = this;
     this.sent++;
-    this.first = Math.min(this.first, row.first);
-    if (row.last >= this.last) {
-      this.last = row.last;
-      this.by = row.receivers;
+    this.first = Math.min(this.first, rows.first[k]);
+    if (rows.last[k] >= this.last) {
+      this.last = rows.last[k];
+      this.by = rows.lists[rows.heard[k]];
     }
   }
   /** `known` is the last place of the listing, which decides between two of one moment. */
-  put(row, known) {
-    const place = Object.assign(row.place,
-      { first: row.first, last: row.last, receivers: row.receivers, source: row.source,
-        state: row.state || "live" });
-    place.vector ??= vectorOf(place.north, place.east);
-    this.places.push(place);
-    if (!this.now || place.last > this.now.last ||
-      place.last === this.now.last && place.where === known) this.now = place;
+  put(k, known) {
+    const { rows, lastPlace } = this, { last } = rows;
+    this.placedBy.push(k);
+    if (lastPlace < 0 || last[k] > last[lastPlace] ||
+      last[k] === last[lastPlace] && rows.whereOf(k) === known) this.lastPlace = k;
+  }
+  placeAt(k) {
+    if (k === undefined || k < 0) return null;
+    let place = this.made.get(k);
+    if (!place) this.made.set(k, place = this.rows.placeOf(k));
+    return place;
+  }
+  get places() {
+    return this.placedBy.map(k => this.placeAt(k));
+  }
+  get now() {
+    return this.placeAt(this.lastPlace);
+  }
+  get status() {
+    return this.lastStatus < 0 ? "" : this.rows.statusOf(this.lastStatus);
   }
   get killed() {
-    return this.now?.state === "killed";
+    return this.lastPlace >= 0 && this.rows.killed[this.lastPlace] === 1;
+  }
+  /** How many of its places were known at a moment. */
+  countAt(moment) {
+    if (moment === Infinity) return this.placedBy.length;
+    const later = this.placedBy.findIndex(k => this.rows.first[k] > moment);
+    return later < 0 ? this.placedBy.length : later;
   }
   /** The place that was known at a moment. */
   at(moment) {
-    if (moment === Infinity) return this.now;
-    const later = this.places.findIndex(it => it.first > moment);
-    return (later < 0 ? this.places.at(-1) : this.places[later - 1]) || null;
+    return moment === Infinity ? this.now : this.placeAt(this.placedBy[this.countAt(moment) - 1]);
+  }
+  /** Its places as vectors, x, y, z after each other. */
+  get track() {
+    if (this.line) return this.line;
+    const { north, east } = this.rows, line = new Float64Array(3 * this.placedBy.length);
+    this.placedBy.forEach((k, n) => line.set(vectorOf(north[k], east[k]), 3 * n));
+    return this.line = line;
   }
 }
 
+const ORDER = { station: 0, object: 1, item: 2 };
+const byKindAndName = (a, b) =>
+  ORDER[a.kind] - ORDER[b.kind] || (a.name < b.name ? -1 : a.name > b.name ? 1 : 0);
 /** Stations, then objects, then items, each kind by name, with their places in order. */
-function thingsOf(rows, places) {
-  const things = new Map();
-  const thing = (kind, name) => {
-    const key = `${kind} ${name}`;
-    let it = things.get(key);
-    if (!it) things.set(key, it = new Thing(kind, name));
-    return it;
-  };
-  for (const row of rows) {
-    const station = thing("station", row.source);
-    station.hear(row);
-    if (row.kind === "status" && row.last >= station.statusAt)
-      Object.assign(station, { status: row.text, statusAt: row.last });
-    if (!row.place) continue;
-    const it = row.name === undefined ? station : thing(row.kind, row.name);
-    if (it !== station) it.hear(row);
-    it.put(row, places.get(it.key));
+function thingsOf(rows, picks, places) {
+  const things = [], known = rows.things.map(it => places.get(it));
+  const thing = n => things[n] ||= new Thing(rows, rows.things[n]);
+  for (const k of picks) {
+    const station = thing(rows.station[k]);
+    station.hear(k);
+    if (rows.isStatus(k) && !(rows.last[k] < rows.last[station.lastStatus]))
+      station.lastStatus = k;
+    if (!rows.hasPlace(k)) continue;
+    const it = thing(rows.thing[k]);
+    if (it !== station) it.hear(k);
+    it.put(k, known[rows.thing[k]]);
   }
-  const order = { station: 0, object: 1, item: 2 };
-  const byName = (a, b) => a.name < b.name ? -1 : a.name > b.name ? 1 : 0;
-  return [...things.values()].sort((a, b) => order[a.kind] - order[b.kind] || byName(a, b));
+  return things.filter(Boolean).sort(byKindAndName);
 }
 
 /** How many of a thing there are for each pair of names. */
@@ -88,69 +110,86 @@ class Pairs {
   }
 }
 
-/** Who heard whom, who alone, and who repeated whom; `all` is the sum over the stations. */
-function hearings(rows) {
-  const heard = new Pairs(), alone = new Pairs(), repeated = new Pairs(), sent = new Map();
-  for (const row of rows) {
-    for (const source of [row.source, "all"]) {
-      sent.set(source, (sent.get(source) || 0) + 1);
-      for (const receiver of row.receivers) heard.add(source, receiver);
-      if (row.receivers.length === 1) alone.add(source, row.receivers[0]);
-      for (const hop of row.via) if (hop.endsWith("*")) repeated.add(source, hop.slice(0, -1));
-    }
+/** How many rows there are of each station and list of names, such as the receivers. */
+function countLists(rows, picks, column) {
+  const counts = new Map(), { station } = rows, many = rows.lists.length;
+  for (const k of picks) {
+    const key = station[k] * many + column[k];
+    counts.set(key, (counts.get(key) || 0) + 1);
   }
+  return [...counts].map(([key, n]) =>
+    [nameIn(rows.things[Math.floor(key / many)]), rows.lists[key % many], n]);
+}
+/** Who heard whom, who alone, and who repeated whom; `all` is the sum over the stations. */
+function hearings(rows, picks) {
+  const heard = new Pairs(), alone = new Pairs(), repeated = new Pairs(), sent = new Map();
+  for (const [name, list, n] of countLists(rows, picks, rows.heard))
+    for (const source of [name, "all"]) {
+      sent.set(source, (sent.get(source) || 0) + n);
+      for (const receiver of list) heard.add(source, receiver, n);
+      if (list.length === 1) alone.add(source, list[0], n);
+    }
+  for (const [name, list, n] of countLists(rows, picks, rows.via))
+    for (const hop of list)
+      if (hop.endsWith("*"))
+        for (const source of [name, "all"]) repeated.add(source, hop.slice(0, -1), n);
   return { heard, alone, repeated, sent };
 }
 
-const medianOf = list => list.sort((a, b) => a - b)[list.length >> 1];
+/** The middle one of so many zeros and a list of others. */
+function medianOf(zeros, list) {
+  list.sort((a, b) => a - b);
+  const below = list.filter(it => it < 0).length, middle = (zeros + list.length) >> 1;
+  return middle < below ? list[middle] : middle < below + zeros ? 0 : list[middle - zeros];
+}
 
 /**
  * How far each receiver's clock is from the others', in seconds, with the number of transmissions
  * that say so. Copies that are nearer than the gap are one row, and count as 0. What two receivers
  * have each in one row of its own, with the same text, was one transmission if a clock is wrong.
+ * `heard` are the rows of each list of receivers.
  */
-function clocksOf(rows) {
-  const groups = new Map();
-  for (const row of rows) {
-    const group = groups.get(row.same);
-    if (group) group.push(row);
-    else groups.set(row.same, [row]);
-  }
-  const differences = new Map();
-  const note = (name, by) => {
-    if (!differences.has(name)) differences.set(name, []);
-    differences.get(name).push(by);
+function clocksOf(rows, picks, heard) {
+  const { same, first } = rows, clocks = new Map(), times = new Uint32Array(rows.length);
+  const clock = name => {
+    if (!clocks.has(name)) clocks.set(name, { zeros: 0, list: [] });
+    return clocks.get(name);
   };
-  for (const group of groups.values()) {
-    for (const row of group)
-      if (row.receivers.length > 1) for (const name of row.receivers) note(name, 0);
-    if (group.length !== 2) continue;
-    const [a, b] = group;
-    if (a.receivers.some(name => b.receivers.includes(name))) continue;
-    for (const name of a.receivers) note(name, a.first - b.first);
-    for (const name of b.receivers) note(name, b.first - a.first);
+  for (const { names, heard: n } of heard)
+    if (names.length > 1) for (const name of names) clock(name).zeros += n;
+  for (const k of picks) times[same[k]]++;
+  const before = new Map();
+  for (const k of picks) {
+    if (times[same[k]] !== 2) continue;
+    const a = before.get(same[k]), [mine, its] = [k, a].map(n => rows.lists[rows.heard[n]]);
+    if (a === undefined) before.set(same[k], k);
+    else if (!its.some(name => mine.includes(name))) {
+      for (const name of its) clock(name).list.push(first[a] - first[k]);
+      for (const name of mine) clock(name).list.push(first[k] - first[a]);
+    }
   }
-  return new Map([...differences].map(([name, list]) =>
-    [name, { by: medianOf(list), of: list.length }]));
+  return new Map([...clocks].map(([name, { zeros, list }]) =>
+    [name, { by: medianOf(zeros, list), of: zeros + list.length }]));
 }
 
 /** Each receiver: what it heard, and when. */
-function receiversOf(rows) {
-  const lists = new Map(), receivers = new Map(), offsets = clocksOf(rows);
-  for (const row of rows) {
+function receiversOf(rows, picks) {
+  const lists = [], receivers = new Map();
+  for (const k of picks) {
     // the rows stand by their first moment, at which one of several receivers heard it at least
-    const list = lists.get(row.receivers);
-    if (list) Object.assign(list, { heard: list.heard + 1, last: row });
-    else lists.set(row.receivers, { heard: 1, last: row });
+    const n = rows.heard[k], list = lists[n] ||= { names: rows.lists[n], heard: 0, last: 0 };
+    list.heard++;
+    list.last = k;
   }
-  for (const [names, { heard, last }] of lists) {
+  const heard = lists.filter(Boolean), offsets = clocksOf(rows, picks, heard);
+  for (const { names, heard: n, last } of heard) {
     const alone = names.length === 1;
     for (const name of names) {
       let it = receivers.get(name);
       if (!it) receivers.set(name, it = { name, last: -Infinity, heard: 0, alone: 0 });
-      it.heard += heard;
-      it.alone += alone ? heard : 0;
-      it.last = Math.max(it.last, alone ? last.last : last.first);
+      it.heard += n;
+      it.alone += alone ? n : 0;
+      it.last = Math.max(it.last, alone ? rows.last[last] : rows.first[last]);
     }
   }
   for (const it of receivers.values()) it.clock = offsets.get(it.name) || null;
@@ -159,14 +198,14 @@ function receiversOf(rows) {
 
 /** All of the net that was heard since a moment. */
 function netOf(all, since) {
-  const rows = since === -Infinity ? all.rows : all.rows.filter(row => row.last >= since);
+  const { rows } = all, picks = rows.since(since);
   let begin = Infinity, end = -Infinity;
-  for (const row of rows) {
-    begin = Math.min(begin, row.first);
-    end = Math.max(end, row.last);
+  for (const k of picks) {
+    begin = Math.min(begin, rows.first[k]);
+    end = Math.max(end, rows.last[k]);
   }
-  const messages = all.listing.messages.filter(it => it.last >= since).map(judged);
-  return { rows, begin, end, things: thingsOf(rows, all.listing.places),
+  const messages = all.listing.messages.filter(it => it.last >= since);
+  return { rows: picks, begin, end, things: thingsOf(rows, picks, all.listing.places),
     messages: messages.filter(it => !isBulletin(it)), bulletins: messages.filter(isBulletin),
-    receivers: receiversOf(rows), ...hearings(rows) };
+    receivers: receiversOf(rows, picks), ...hearings(rows, picks) };
 }

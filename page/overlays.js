@@ -2,7 +2,8 @@
 
 /** The lines and named points of a GPX or GeoJSON text; throws where it is none. */
 function readBase(text) {
-  return /^\s*</.test(text) ? readGpx(text) : readGeoJson(text);
+  const { lines, points } = /^\s*</.test(text) ? readGpx(text) : readGeoJson(text);
+  return { lines: lines.map(it => Float64Array.from(it.flat())), points };
 }
 function spotOf(north, east) {
   if (!(Math.abs(north) <= 90 && Math.abs(east) <= 540)) throw new Error("a place off the earth");

@@ -81,6 +81,6 @@ function colourOf(name) {
 /** A thing's mark for a table: its symbol in the colour of its track. */
 function markOf(thing) {
   const shape = thing.killed ? "x" : symbolOf(thing.now).shape;
-  return svg("svg", { class: `mark t${colourOf(thing.key)}`, viewBox: "0 0 24 24",
+  return svg("svg", { class: `mark t${thing.colour}`, viewBox: "0 0 24 24",
     "aria-hidden": "true" }, svg("path", { d: SHAPES[shape], "fill-rule": "evenodd" }));
 }

@@ -3,18 +3,15 @@
 const PARTS = 144;
 
 /** A strip for all and one for each station, as rows of a list. */
-function timelineList(box, net) {
-  const width = Math.max(net.end - net.begin, 1) / PARTS, counts = new Map();
-  const note = (name, part) => {
-    let parts = counts.get(name);
-    if (!parts) counts.set(name, parts = new Uint32Array(PARTS));
-    parts[part]++;
-  };
-  for (const row of net.rows) {
-    const part = Math.min(Math.floor((row.first - net.begin) / width), PARTS - 1);
-    note("all", part);
-    note(row.source, part);
+function timelineList(box, rows, net) {
+  const width = Math.max(net.end - net.begin, 1) / PARTS, all = new Uint32Array(PARTS);
+  const by = [], counts = new Map([["all", all]]);
+  for (const k of net.rows) {
+    const part = Math.min(Math.floor((rows.first[k] - net.begin) / width), PARTS - 1);
+    all[part]++;
+    (by[rows.station[k]] ||= new Uint32Array(PARTS))[part]++;
   }
+  by.forEach((parts, n) => counts.set(nameIn(rows.things[n]), parts));
   const row = name => make("tr", {}, make("th", { scope: "row", textContent: name }),
     cell("strip", stripOf(name, counts.get(name))),
     cell("num", net.sent.get(name).toLocaleString("en")));

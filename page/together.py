@@ -19,7 +19,7 @@ HERE = pathlib.Path(__file__).resolve().parent
 DRAWS = ("words dom reading net globe symbols comment grid map hands lists messages tables "
          "timeline overlays exports event alive begin").split()
 READS = "drop follow".split()
-RUNS = "host worker".split()
+RUNS = "host reading worker".split()
 FOOTER = "Made by {} from a book of aprsbook."
 
 

@@ -116,8 +116,8 @@ awk 'BEGIN {
         printf "2024-05-01T%02d:%02d:%02dZ RX1 c00082a0a4a64040e09c60868298986f03f03e%08xc0\n", \
             i / 3600 % 24, i / 60 % 60, i % 60, i
 }' > large.log
-# shellcheck disable=SC3045 # where a shell has no ulimit -v, or qemu itself needs more, this is left out
-if (ulimit -v 20000 && exec aprsbook check good.log) > written 2>&1; then
+# where a shell has no ulimit -v, or qemu itself needs more, this is left out
+if sh -c 'ulimit -v 20000 && aprsbook check good.log; exit $?' > written 2>&1; then
     for command in merge show 'widen 60'; do
         complains 4 'aprsbook: out of memory' sh -c "ulimit -v 20000; aprsbook $command large.log"
         writes_nothing

@@ -1,8 +1,9 @@
 #!/bin/sh
 # Tries the programs for other machines that `make arm64` and `make static` made: what the tests of
 # the programs try, and that each answers as PROGRAM and HISTORY do on the examples and on 300 logs,
-# books and damaged ones. ARM is that of a Raspberry Pi 3, whose processor qemu plays. Then what becomes
-# of runs that get little memory. Says what it leaves out because a program or a tool isn't there.
+# books and damaged ones (of the two for ARM, which are linked of one object, that without libraries).
+# ARM is that of a Raspberry Pi 3, whose processor qemu plays. Then what becomes of runs that get
+# little memory. Says what it leaves out because a program or a tool isn't there.
 # usage: tests/everywhere.sh PROGRAM HISTORY
 . "$(dirname "$0")/program.sh"
 [ -n "$history" ] || fail "there is no program of histories"
@@ -55,22 +56,24 @@ if has 'random inputs' python3; then
 fi
 cp "$repository"/examples/*.log "$repository"/examples/evening/*.log \
     "$repository/examples/old-book.txt" inputs
-# answers FOLDER: what its programs answer to each input, with complaints and statuses, and to all
+# answers FOLDER INPUT..: what its programs answer to each, with complaints and statuses, and to all
 answers() {
-    for input in inputs/*; do
+    folder=$1
+    shift
+    for input; do
         for words in 'aprsbook check' 'aprsbook convert kind' 'aprsbook merge' 'aprsbook show' \
             aprsbook-history; do
             echo "$words $input"
             # shellcheck disable=SC2086 # one word each
-            "$1"/$words "$input" 2>&1 || echo "status $?"
+            "$folder"/$words "$input" 2>&1 || echo "status $?"
         done
     done
-    "$1/aprsbook" widen 60 inputs/old-book.txt
-    "$1/aprsbook" merge inputs/hill.log inputs/coast.log inputs/north.log
-    "$1/aprsbook" convert kiss inputs/hill.log
-    "$1/aprsbook-history" --gap 60 inputs/hill.log inputs/coast.log inputs/north.log
-    "$1/aprsbook" --help
-    "$1/aprsbook-history" --help
+    "$folder/aprsbook" widen 60 inputs/old-book.txt
+    "$folder/aprsbook" merge inputs/hill.log inputs/coast.log inputs/north.log
+    "$folder/aprsbook" convert kiss inputs/hill.log
+    "$folder/aprsbook-history" --gap 60 inputs/hill.log inputs/coast.log inputs/north.log
+    "$folder/aprsbook" --help
+    "$folder/aprsbook-history" --help
 }
 # tried NAME: the tests with its programs, and their answers
 tried() {
@@ -80,7 +83,10 @@ tried() {
     for test in complaints history; do
         "$repository/tests/$test.sh" "programs/$1/aprsbook" "programs/$1/aprsbook-history" || return 1
     done
-    answers "programs/$1" > "$1.answers"
+    case $1 in
+    arm64) answers "programs/$1" inputs/*.* ;;
+    *) answers "programs/$1" inputs/* ;;
+    esac > "$1.answers"
 }
 running=''
 for it in programs/*; do
@@ -89,13 +95,32 @@ for it in programs/*; do
     tried "$name" > "$name.said" 2>&1 &
     running="$running $name:$!"
 done
-answers bin > expected
+answers bin inputs/* > expected
+answers bin inputs/*.* > expected.arm64
 for it in $running; do
     name=${it%:*}
     wait "${it#*:}" || fail "$name: $(cat "$name.said")"
     sed -n "s/^left out: /left out of $name: /p" "$name.said"
-    cmp expected "$name.answers" || fail "$name answers something else"
+    wanted=expected
+    if [ "$name" = arm64 ]; then wanted=expected.arm64; fi
+    cmp $wanted "$name.answers" || fail "$name answers something else"
 done
+
+# ---- an x86-64 processor of 2009, and an older one ----
+
+if [ -d programs/static-amd64 ] && has 'old x86-64 processors' qemu-x86_64-static; then
+    # shellcheck disable=SC2086 # one word each
+    for words in 'aprsbook show' aprsbook-history; do
+        bin/$words inputs/hill.log > expected
+        qemu-x86_64-static -cpu Nehalem programs/static-amd64/$words inputs/hill.log > here 2> said ||
+            fail "$words on a Nehalem says: $(cat said)"
+        cmp here expected || fail "$words on a Nehalem answers something else"
+        if qemu-x86_64-static -cpu core2duo programs/static-amd64/$words inputs/hill.log > here 2> said; then
+            fail "$words runs on a processor that it can't count on"
+        fi
+        grep -q 'lacks a feature of x86-64-v2' said || fail "$words on a Core 2 says: $(cat said)"
+    done
+fi
 
 # ---- little memory: a log of a million lines, which a merge has to hold ----
 

@@ -423,6 +423,31 @@ def test_saves(page, folder):
     is_(saved["history (text)"], own.stdout.decode())
 
 
+# how long something takes until the page is painted, and how long the frames of a drag take
+SCALE = """(async () => {
+    const frame = () => new Promise(requestAnimationFrame);
+    const painted = async () => { await frame(); await new Promise(done => setTimeout(done)) };
+    const spent = async run => {
+        const from = performance.now(); run(); await painted(); return performance.now() - from };
+    const find = document.getElementById("find"), letters = [], steps = [];
+    const shown = await spent(() => aprsbook.show(aprsbook.page.data));
+    for (const word of ["q", "q1", "q10", "q1", "q", ""]) letters.push(await spent(() => {
+        find.value = word; find.dispatchEvent(new Event("input")) }));
+    const box = map.getBoundingClientRect(), x = box.x + 200, y = box.y + 200;
+    const point = (kind, k) => map.dispatchEvent(new PointerEvent(kind, { bubbles: true,
+        pointerId: 1, clientX: x + 4 * k, clientY: y - 2 * k }));
+    point("pointerdown", 0);
+    await frame();
+    for (let k = 0, last = await frame(); k < 60; k++) {
+        point("pointermove", k);
+        const now = await frame(); steps.push(now - last); last = now }
+    point("pointerup", 60);
+    steps.sort((a, b) => a - b);
+    return { first: performance.getEntriesByName("first-contentful-paint")[0]?.startTime,
+        shown, letter: Math.max(...letters), step: steps[30], longest: steps.at(-1) }
+})()"""
+
+
 def test_scale(page, folder):
     """2,000 stations: the time to the first picture, for a letter in find, and for a move."""
     lines = [place(3 * n % 1400, f"Q{n:04}-{n % 15 + 1}", 54 + n % 50 / 25,
@@ -430,20 +455,8 @@ def test_scale(page, folder):
              for n in range(2000) for k in range(3)]
     began = time.monotonic()
     page.open(page_of(folder / "many.html", "".join(lines)))
-    times = page.js("""(async () => {
-        const spent = run => {
-            const from = performance.now(); run(); return performance.now() - from };
-        const find = document.getElementById("find"), letters = [];
-        for (const word of ["q", "q1", "q10", "q1", "q", ""]) letters.push(spent(() => {
-            find.value = word; find.dispatchEvent(new Event("input")) }));
-        const moves = [];
-        for (let k = 0; k < 10; k++) moves.push(spent(() => {
-            aprsbook.page.map.move(9, 5); aprsbook.page.map.paint() }));
-        return { first: performance.getEntriesByName("first-contentful-paint")[0]?.startTime,
-            shown: spent(() => aprsbook.show(aprsbook.page.data)),
-            letter: Math.max(...letters), move: Math.max(...moves) }
-    })()""")
-    page.js("1")
+    page.wait("document.querySelectorAll('#timeline tbody tr').length > 10")
+    times = page.js(SCALE)
     assert page.js("document.querySelectorAll('#things tbody tr').length") < 200
     assert page.js("document.documentElement.scrollHeight") < 9000
     print("2,000 stations, in ms:", {name: it and round(it) for name, it in times.items()},

@@ -275,7 +275,9 @@ def test_large(page, folder):
         setInterval(() => {
             const now = performance.now(); still = Math.max(still, now - last); last = now; }, 20);
         new MutationObserver(() => {
-            if (aprsfiles.made() && !window.came) window.came = performance.now();
+            if (/ in [0-9.]+ s$/.test(document.getElementById('status').textContent))
+                requestAnimationFrame(() => setTimeout(() => {
+                    window.came ||= performance.now() }));
         }).observe(document.getElementById('status'), { childList: true });
         document.getElementById('choose').addEventListener('change', () => {
             window.went = performance.now(); }, true);
