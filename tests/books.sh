@@ -139,7 +139,7 @@ all() {
     makes "all.$gap" net/net.book days GAP="$gap" "$@"
     silent
 }
-# bad WORDS: a run that says so; with a fault make ends with 2
+# bad WORDS: a run that ends with a fault, which is 2 of make, and says so
 bad() {
     refused "$1" days
     [ "$status" = 2 ] || fail "make ended with $status: $(cat said)"
@@ -250,8 +250,7 @@ fi
 # ---- merge-driver ----
 
 if has merge-driver git; then
-    HOME=$scratch
-    export HOME
+    export HOME="$scratch" XDG_CONFIG_HOME="$scratch"
     git config --global user.name club
     git config --global user.email club@example.org
     git config --global merge.aprsbook.driver 'merge-driver %O %A %B'
