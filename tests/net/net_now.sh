@@ -5,8 +5,8 @@
 . "$(dirname "$0")/../program.sh"
 evening=$repository/examples/evening
 cd "$scratch"
-day=2024-06-21 gap=30
-# now FOLDER PAGE [ARGUMENT..]: a round of that day
+day=2024-06-21 gap=
+# now FOLDER PAGE [ARGUMENT..]: a round of that day; no gap is 30
 now() { DAYS=$day GAP=$gap net-now "$@"; }
 
 # a day that is named; a torn line in the midst of a log, and at the end of one
@@ -57,7 +57,7 @@ says '^APRSBOOK 3 60$' page/net.book
 # a round that fails keeps what is there
 gap=0
 keeps page refused "invalid value '0' for '--gap" now logs page
-gap=30
+gap=
 
 # today and yesterday; again, should midnight have come between
 while
