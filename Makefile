@@ -116,7 +116,7 @@ page: wasm
 	page/together.py out/aprsbook.wasm > out/aprsbook.html.new
 	mv out/aprsbook.html.new out/aprsbook.html
 
-# the recipes of tracks, a page, a net that runs and an engine, each where its tools are there
+# the recipes of tracks, a page and a net that runs, each where its tools are there
 .PHONY: net
 cookbook: net
 net: build

@@ -16,23 +16,21 @@ if [ "${1:-}" = --posix ]; then
     posix=yes
     shift
 fi
+fail() {
+    echo "cookbook.sh: $*" >&2
+    exit 1
+}
 if [ $# = 0 ]; then
     echo "usage: cookbook.sh [--posix] PROGRAM [FOLDER]" >&2
     exit 2
 fi
-if [ ! -f "$1" ] || [ ! -x "$1" ]; then
-    echo "cookbook.sh: there is no program '$1'" >&2
-    exit 1
-fi
+if [ ! -f "$1" ] || [ ! -x "$1" ]; then fail "there is no program '$1'"; fi
 program=$(realpath "$1")
 here=$(dirname "$(realpath "$0")")
 scratch=$(mktemp -d)
 trap 'rm -rf "$scratch"' EXIT
 work=${2:-$scratch/work}
-if [ -e "$work" ]; then
-    echo "cookbook.sh: $work is there already" >&2
-    exit 1
-fi
+if [ -e "$work" ]; then fail "$work is there already"; fi
 mkdir -p "$work/logs/2024-06-21" "$work/output" "$scratch/bin" "$scratch/blocks"
 work=$(realpath "$work")
 ln -s "$program" "$scratch/bin/aprsbook"
@@ -51,18 +49,12 @@ awk -v to="$scratch/blocks/" '
     /^##+ / { heading = $0; sub(/^#+ /, "", heading) }
     /^```sh( |$)/ {
         file = to sprintf("%03d", ++n)
-        tools = $0
-        sub(/^```sh */, "", tools)
-        print heading > file
-        print tools > file
+        sub(/^```sh */, "")
+        print heading "\n" $0 > file
         open = 1
         next
     }
-    /^```text printed/ {
-        file = file ".printed"
-        open = 1
-        next
-    }
+    /^```text printed/ { file = file ".printed"; open = 1; next }
     /^```/ { if (open) close(file); open = 0 }
     open { print > file }
 ' "$here/../docs/cookbook.md"
@@ -71,9 +63,7 @@ ran=0 left=0
 for block in "$scratch"/blocks/???; do
     heading=$(sed -n 1p "$block")
     read -ra tools <<< "$(sed -n 2p "$block")"
-    if [ -n "$posix" ] && [ "${#tools[@]}" -gt 0 ]; then
-        continue
-    fi
+    if [ -n "$posix" ] && [ "${#tools[@]}" -gt 0 ]; then continue; fi
     missing=
     for tool in "${tools[@]}"; do command -v "$tool" > /dev/null || missing="$missing $tool"; done
     if [ -n "$missing" ]; then
@@ -82,16 +72,9 @@ for block in "$scratch"/blocks/???; do
         continue
     fi
     output=output/${block##*/}
-    if ! bash -euo pipefail -c "$(sed 1,2d "$block")" > "$output" 2>&1 < /dev/null; then
-        echo "failed: $heading"
-        sed 1,2d "$block"
-        cat "$output"
-        exit 1
-    fi
-    if [ -e "$block.printed" ] && ! diff -b "$block.printed" "$output"; then
-        echo "$heading prints something else"
-        exit 1
-    fi
+    bash -euo pipefail -c "$(sed 1,2d "$block")" > "$output" 2>&1 < /dev/null ||
+        fail "$heading failed: $(sed 1,2d "$block"; cat "$output")"
+    [ ! -e "$block.printed" ] || diff -b "$block.printed" "$output" || fail "$heading prints something else"
     echo "ran: $heading"
     ran=$((ran + 1))
 done

@@ -4,42 +4,25 @@
 # is a comma: it has to print the same. Needs a POSIX system, mktemp and bash, and says what it
 # leaves out because a tool isn't there.
 # usage: tests/awks.sh PROGRAM
-# shellcheck source=program.sh
 . "$(dirname "$0")/program.sh"
 examples=$repository/examples recipes=$repository/examples/recipes
 cd "$scratch"
 
 # ---- the cookbook under each ----
 
-# under NAME: the cookbook with what the folder NAME holds first in PATH
-under() {
-    PATH=$scratch/$1:$PATH "$examples/cookbook.sh" --posix "$program" "made-$1" > said 2>&1 ||
-        fail "$1: $(cat said)"
-    if [ -z "${first-}" ]; then
-        first=$1
-    else
-        diff -r "made-$first" "made-$1" > said || fail "$first and $1 differ: $(cat said)"
-    fi
-}
-for awk in mawk gawk; do
-    if has "the cookbook with $awk" $awk; then
-        mkdir $awk
-        ln -s "$(command -v $awk)" $awk/awk
-        under $awk
-    fi
-done
-if has 'the cookbook with busybox' busybox; then
-    mkdir busybox
-    busybox --list > applets
-    for tool in awk cat cmp comm cp cut diff dirname find grep head mkdir mktemp mv od paste rm sed \
-        sort split tail tr uniq wc; do
-        if grep -qx $tool applets; then
-            printf '#!/bin/sh\nexec busybox %s "$@"\n' $tool > busybox/$tool
-            chmod +x busybox/$tool
-        fi
+# what busybox stands for, besides awk
+tools='cat|cmp|comm|cp|cut|diff|dirname|find|grep|head|mkdir|mktemp|mv|od|paste|rm|sed|sort|split'
+for awk in mawk gawk busybox; do
+    has "the cookbook with $awk" $awk || continue
+    mkdir $awk
+    for tool in awk $([ $awk != busybox ] || busybox --list | grep -xE "$tools|tail|tr|uniq|wc"); do
+        ln -s "$(command -v $awk)" "$awk/$tool"
     done
-    under busybox
-fi
+    PATH=$scratch/$awk:$PATH "$examples/cookbook.sh" --posix "$program" made-$awk > said 2>&1 ||
+        fail "$awk: $(cat said)"
+    [ -e first ] || ln -s made-$awk first
+    diff -r first made-$awk > said || fail "what $awk makes differs: $(cat said)"
+done
 
 # ---- a decimal comma ----
 
@@ -73,8 +56,7 @@ end
         "$@" -v start=1714564800 -v name=TAPE -f "$recipes/atest.awk" atest.txt
     }
     all awk > expected
-    grep -q '^2024-05-01T12:01:02.345Z TAPE c00082' expected ||
-        fail 'atest.awk makes another moment'
+    says '^2024-05-01T12:01:02.345Z TAPE c00082' expected
     for awk in mawk gawk 'gawk --use-lc-numeric' 'busybox awk'; do
         has "a decimal comma with $awk" "${awk%% *}" || continue
         # shellcheck disable=SC2086 # the name of one, or a name and an argument

@@ -3,7 +3,6 @@
 # which write what the program writes. Needs a C compiler and Python 3, and says what it leaves out.
 # usage: tests/clib.sh PROGRAM
 # environment: FOLDER                    where the library lies (out)
-# shellcheck source=program.sh
 . "$(dirname "$0")/program.sh"
 folder=${FOLDER:-$repository/out}
 case $folder in /*) ;; *) folder=$PWD/$folder ;; esac

@@ -3,7 +3,6 @@
 # that can't be opened, faults of an input by its path and of standard input, wrong words, refused
 # outputs and refused memory. Needs a POSIX system; what needs more says so where it is left out.
 # usage: tests/complaints.sh PROGRAM HISTORY
-# shellcheck source=program.sh
 . "$(dirname "$0")/program.sh"
 [ -n "$history" ] || fail "there is no program of histories"
 cd "$scratch"

@@ -5,7 +5,6 @@
 # ARM is that of a Raspberry Pi 3, whose processor qemu plays. Then what becomes of runs that get
 # little memory. Says what it leaves out because a program or a tool isn't there.
 # usage: tests/everywhere.sh PROGRAM HISTORY
-# shellcheck source=program.sh
 . "$(dirname "$0")/program.sh"
 [ -n "$history" ] || fail "there is no program of histories"
 made=$repository/out

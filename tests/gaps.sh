@@ -2,7 +2,6 @@
 # Tries the gaps of books with the program: examples/slow.log has one frame three times, 45 seconds apart.
 # Needs a POSIX system alone.
 # usage: tests/gaps.sh PROGRAM
-# shellcheck source=program.sh
 . "$(dirname "$0")/program.sh"
 log=$repository/examples/slow.log
 cd "$scratch"

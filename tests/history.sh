@@ -4,7 +4,6 @@
 # of the same receptions; and the places that Dire Wolf reads. Needs a POSIX system, and Dire Wolf's
 # decode_aprs for the last.
 # usage: tests/history.sh PROGRAM HISTORY
-# shellcheck source=program.sh
 . "$(dirname "$0")/program.sh"
 [ -n "$history" ] || fail "there is no program of histories"
 cd "$repository/examples"

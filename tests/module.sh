@@ -3,7 +3,6 @@
 # over the examples and 300 damaged texts. Needs Node 20 or later.
 # usage: tests/module.sh PROGRAM [HISTORY]
 # environment: MODULE                      the module (out/aprsbook.wasm)
-# shellcheck source=program.sh
 . "$(dirname "$0")/program.sh"
 module=${MODULE:-$repository/out/aprsbook.wasm}
 case $module in /*) ;; *) module=$PWD/$module ;; esac

@@ -3,7 +3,6 @@
 # compares what is written with the same file, but for its header and the milliseconds of both moments of
 # each row; merged again, it has to be the same bytes. Needs a POSIX system alone.
 # usage: tests/old_book.sh PROGRAM
-# shellcheck source=program.sh
 . "$(dirname "$0")/program.sh"
 cd "$repository"
 old=examples/old-book.txt

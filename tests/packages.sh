@@ -3,7 +3,6 @@
 # is the same bytes when it is made of another folder on another day. Needs a POSIX system, mktemp,
 # GNU make, install, tar and git, and says what it leaves out because a tool isn't there.
 # usage: tests/packages.sh PROGRAM HISTORY
-# shellcheck source=program.sh
 . "$(dirname "$0")/program.sh"
 [ -n "$history" ] || fail "there is no program of histories"
 has 'make install, tarball and deb' make git || exit 0

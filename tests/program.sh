@@ -33,6 +33,36 @@ for it in "$history" "${program%/*}/aprsbook-history" "${program%/aprsbook/out/*
 done
 PATH=$scratch/bin:$repository/examples/recipes:$PATH
 export PATH PYTHONDONTWRITEBYTECODE=1
+# same FILE FILE: they have the same bytes
+same() { cmp "$1" "$2" || fail "$1 isn't $2"; }
+# says WORDS [FILE]: the last run said so on standard error, or a file does
+says() { grep -q -- "$1" "${2-said}" || fail "${2-it} doesn't say '$1': $(head -c 2000 "${2-said}")"; }
+# silent: the last run said nothing
+silent() { [ ! -s said ] || fail "it says: $(cat said)"; }
+# fails COMMAND..: it ends with a fault; refused WORDS COMMAND..: and says so
+fails() { if "$@" > out 2> said; then fail "$* isn't refused"; fi; }
+refused() {
+    words=$1
+    shift
+    fails "$@"
+    says "$words"
+}
+# makes BOOK FILE COMMAND..: it ends well, and the file is this book then
+makes() {
+    right=$1 target=$2
+    shift 2
+    "$@" 2> said || fail "$* ended with $?: $(cat said)"
+    same "$right" "$target"
+}
+# keeps FOLDER CHECK..: it holds, and the folder has what it had
+keeps() {
+    kept=$1
+    rm -rf before
+    cp -R "$1" before
+    shift
+    "$@"
+    diff -r before "$kept" >&2 || fail "$kept has changed after: $*"
+}
 # has WHAT TOOL..: the tools are there; where they aren't, it is said what is left out
 has() {
     what=$1

@@ -3,7 +3,6 @@
 # of the page end well, and the files of a release have the names that it has. Needs a POSIX system, and
 # says what it leaves out because a tool isn't there.
 # usage: tests/readme.sh PROGRAM
-# shellcheck source=program.sh
 . "$(dirname "$0")/program.sh"
 ln -s "$repository/examples" "$scratch/examples"
 cd "$scratch"

@@ -3,24 +3,21 @@
 # port and the name of their instance or of /etc/default/aprsbook. Needs a POSIX system and mktemp,
 # and says what it leaves out because a tool isn't there.
 # usage: tests/units.sh PROGRAM
-# shellcheck source=program.sh
 . "$(dirname "$0")/program.sh"
 recipes=$repository/examples/recipes
 cd "$scratch"
 cp "$repository/examples/evening/hill.log" .
 
 for unit in "$recipes"/*.service; do
-    grep -q '^Environment=PATH=/usr/local/bin:/usr/bin:/bin' "$unit" ||
-        fail "$unit doesn't find the program"
-    grep -q '^EnvironmentFile=-/etc/default/aprsbook$' "$unit" || fail "$unit can't be told anything"
-    grep -q '^After=.*time-sync.target' "$unit" || fail "$unit doesn't wait for the clock"
-    grep -q '^User=aprs$' "$unit" || fail "$unit runs as another user"
-    grep -q 'useradd .* aprs$' "$unit" || fail "$unit doesn't say which user to make"
+    # it finds the program, can be told things, waits for the clock, and runs as a user whom it says
+    # how to make
+    for line in Environment=PATH=/usr/local/bin:/usr/bin:/bin 'EnvironmentFile=-/etc/default/aprsbook$' \
+        'After=.*time-sync.target' 'User=aprs$' '# .*useradd .* aprs$'; do says "^$line" "$unit"; done
 done
 if has 'systemd-analyze verify' systemd-analyze; then
     for unit in "$recipes"/*.service "$recipes"/*.timer; do
-        systemd-analyze verify --man=no "$unit" > said 2>&1 || fail "$unit: $(cat said)"
-        [ ! -s said ] || fail "$unit: $(cat said)"
+        systemd-analyze verify --man=no "$unit" > said 2>&1 || echo "$unit: status $?" >> said
+        silent
     done
 fi
 

@@ -12,13 +12,6 @@ def parser(text):
         usage=usage, description=rest, formatter_class=argparse.RawDescriptionHelpFormatter)
 
 
-def filled(*inputs):
-    """Each that is a book by its name isn't empty, which would be an empty log."""
-    for it in inputs:
-        if it.endswith(".book") and os.path.isfile(it) and not os.path.getsize(it):
-            raise ValueError(f"{it} is empty, which no book is")
-
-
 def run(*command, given=b""):
     """What a program prints. Where it fails, which it says itself, the recipe has its status."""
     done = subprocess.run(command, input=given, stdout=subprocess.PIPE)

@@ -17,7 +17,7 @@ filled() (
     done
 )
 case ${1-} in
--h | --help) sed -n '2,/^[^#]/{/^# shellcheck/d; s/^# \{0,1\}//p;}' "$0" && exit ;;
+-h | --help) sed -n '2,/^[^#]/{s/^# \{0,1\}//p;}' "$0" && exit ;;
 esac
 work=$(mktemp -d)
 trap 'rm -rf "$work"' EXIT

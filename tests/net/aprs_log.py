@@ -2,28 +2,25 @@
 """Tests aprs-log, on the loopback alone: torn lines, a full disk, midnight, a clock that is set,
 several radios, a server that ends and comes back, and one that says nothing, wrong arguments.
 
-usage: listen.py EXAMPLES    aprsbook in the PATH; needs Python 3
+usage: aprs_log.py EXAMPLES    aprsbook in the PATH; needs Python 3
 """
-import importlib.machinery
-import importlib.util
+import itertools
 import pathlib
 import resource
 import socket
-import subprocess
 import sys
-import tempfile
 import threading
 import time
 import types
 
-EXAMPLES = pathlib.Path(sys.argv[1]).resolve()
+from trying import EXAMPLES, each, tried
+
 HILL = EXAMPLES / "evening/hill.log"
 LISTEN = str(EXAMPLES / "recipes/aprs-log")
 sys.dont_write_bytecode = True
 sys.path.append(str(EXAMPLES / "recipes"))
-loader = importlib.machinery.SourceFileLoader("aprs_log", LISTEN)
-listen = importlib.util.module_from_spec(importlib.util.spec_from_loader("aprs_log", loader))
-loader.exec_module(listen)
+listen = types.ModuleType("aprs_log")
+exec(pathlib.Path(LISTEN).read_text(), listen.__dict__)
 said = []
 listen.say = said.append
 FRAME = bytes.fromhex("c00082a0a4a64040e09c60868298986f03f03e4869c0")
@@ -31,21 +28,17 @@ FRAME_1 = FRAME[:1] + b"\x10" + FRAME[2:]
 
 
 def aprsbook(*command, given=b""):
-    done = subprocess.run(["aprsbook", *command], input=given, stdout=subprocess.PIPE, check=True)
-    return done.stdout
+    return tried("aprsbook", *command, given=given).stdout
 
 
-def run(folder, given, *options, status=0, **keywords):
+def run(folder, given, *options, **keywords):
     """What the program says of a stream."""
-    done = subprocess.run([LISTEN, *options, "RX1", folder], input=given, stderr=subprocess.PIPE,
-                          **keywords)
-    assert done.returncode == status and b"Traceback" not in done.stderr, done
-    return done.stderr.decode()
+    return tried(LISTEN, *options, "RX1", folder, given=given, **keywords).stderr.decode()
 
 
 def logs(folder):
     """The texts of all logs below the folder, by name."""
-    return {path.name: path.read_bytes() for path in sorted(pathlib.Path(folder).glob("*/*.log"))}
+    return {path.name: path.read_bytes() for path in sorted(folder.glob("*/*.log"))}
 
 
 def whole(text):
@@ -65,7 +58,7 @@ def test_stream(folder):
 
 def test_torn(folder):
     run(folder, FRAME * 2)
-    [path] = pathlib.Path(folder).glob("*/*.log")
+    [path] = folder.glob("*/*.log")
     log = path.read_bytes()
     for cut in range(len(log)):
         path.write_bytes(log[:cut])
@@ -79,10 +72,8 @@ def test_torn(folder):
 
 
 def test_full(folder):
-    def limit():
-        resource.setrlimit(resource.RLIMIT_FSIZE, (1000, 1000))
-
-    text = run(folder, FRAME * 40, status=1, preexec_fn=limit)
+    limit = resource.RLIMIT_FSIZE, (1000, 1000)
+    text = run(folder, FRAME * 40, status=1, preexec_fn=lambda: resource.setrlimit(*limit))
     [log] = logs(folder).values()
     assert 900 < len(log) <= 1000 and whole(log) == len(log.splitlines())
     assert f"frames that are lost: {40 - whole(log)}" in text, text
@@ -92,7 +83,7 @@ def test_full(folder):
 
 def test_held(folder):
     """Frames wait while there is no room, in their order, and the oldest go first."""
-    place = pathlib.Path(folder) / "2024-06-21"
+    place = folder / "2024-06-21"
     place.write_bytes(b"in the way")
     held, listen.HELD = listen.HELD, 3
     held_logs = listen.Logs(folder)
@@ -107,7 +98,7 @@ def test_held(folder):
 
 
 def test_refused(folder):
-    file = pathlib.Path(folder) / "file"
+    file = folder / "file"
     file.write_bytes(b"")
     assert "no folder to write to" in run(file, FRAME, status=2)
     for place in "localhost:99999", "localhost:0", "localhost", ":8001", "localhost:http":
@@ -115,19 +106,16 @@ def test_refused(folder):
     run(folder, b"", "--idle", "-1", status=2)
     for wrong in [], ["RX1"], ["RX1", "made", "more"], ["RX.1", "made"], ["", "made"], ["RX1", ""], \
             ["12345678901234567", "made"], ["RX1", "file/made"]:
-        done = subprocess.run([LISTEN, *wrong], capture_output=True, cwd=folder)
-        assert done.returncode == 2 and done.stderr.count(b"error: ") == 1, done
-    assert [it.name for it in pathlib.Path(folder).iterdir()] == ["file"]
-    done = subprocess.run(["sh", "-c", '"$0" RX1 "$1" <&-', LISTEN, folder], stderr=subprocess.PIPE)
-    assert done.returncode == 1 and done.stderr.count(b"\n") == 1, done
+        assert tried(LISTEN, *wrong, status=2, cwd=folder).stderr.count(b"error: ") == 1, wrong
+    assert list(folder.iterdir()) == [file]
+    assert tried("sh", "-c", '"$0" RX1 "$1" <&-', LISTEN, folder, status=1).stderr.count(b"\n") == 1
 
 
 def clock_at(*moments):
     """A clock for aprs-log that says each of these seconds once."""
-    rest = list(moments)
-    boot = iter(range(1000))
+    rest, boot = iter(moments), itertools.count()
     listen.time = types.SimpleNamespace(
-        time=lambda: rest.pop(0), clock_gettime=lambda _: next(boot), CLOCK_BOOTTIME=None)
+        time=lambda: next(rest), clock_gettime=lambda _: next(boot), CLOCK_BOOTTIME=None)
     return listen.Clock()
 
 
@@ -138,7 +126,7 @@ def test_midnight(folder):
     clock = clock_at(midnight - 0.001, midnight + 0.999)
     listen.listen(options, listen.Logs(folder), clock, lambda _: stream.pop())
     for moment in "2024-06-21T23:59:59.999Z", "2024-06-22T00:00:00.999Z":
-        [line] = (pathlib.Path(folder) / moment[:10] / "RX1.log").read_text().splitlines()
+        [line] = (folder / moment[:10] / "RX1.log").read_text().splitlines()
         assert line.startswith(moment + " RX1 "), line
     assert said == []
 
@@ -166,40 +154,36 @@ def test_noise(folder):
     assert text == "aprs-log: noise without a C0 is left out\n" * 3, text
     assert whole(logs(folder)["RX1.log"]) == 4
     # the longest frame: 1,024 bytes, all of them escaped
-    assert run(folder + "/longest", b"\xc0" + b"\xdb\xdd" * 1024 + b"\xc0") == ""
-    assert aprsbook("check", given=logs(folder + "/longest")["RX1.log"]).startswith(b"line 1 passed NotData")
+    assert run(folder / "longest", b"\xc0" + b"\xdb\xdd" * 1024 + b"\xc0") == ""
+    assert aprsbook("check", given=logs(folder / "longest")["RX1.log"]).startswith(b"line 1 passed NotData")
 
 
 def test_folders(folder):
     """A folder with text for a shell in its name, or that begins as an option does, is one as any."""
     for name in "-n", "a b", "$(touch pwned)`touch pwned`\";touch pwned;'":
         for program in LISTEN, LISTEN.replace("aprs-log", "aprs-listen"):
-            subprocess.run([program, "RX1", "--", name], input=FRAME, check=True, cwd=folder)
-        assert whole(logs(folder + "/" + name)["RX1.log"]) == 2
-    assert len(list(pathlib.Path(folder).iterdir())) == 3
+            tried(program, "RX1", "--", name, given=FRAME, cwd=folder)
+        assert whole(logs(folder / name)["RX1.log"]) == 2
+    assert len(list(folder.iterdir())) == 3
 
 
 def test_server(folder):
     """The server ends a connection in a frame, isn't there, says nothing, and goes on."""
     listen.time, listen.AGAIN = time, 0.1
+    socket.setdefaulttimeout(10)
     server = socket.create_server(("127.0.0.1", 0))
     place = server.getsockname()
     options = types.SimpleNamespace(folder=folder, name="RX1", ports=False, connect=place, idle=0.5)
     given = options, listen.Logs(folder), listen.Clock()
     threading.Thread(target=listen.connect, args=given, daemon=True).start()
-
-    def accept():
-        server.settimeout(10)
-        return server.accept()[0]
-
-    with accept() as connection:
+    with server.accept()[0] as connection:
         connection.sendall(FRAME * 2 + FRAME[:9])
     server.close()
     wait(lambda: any("refused" in text for text in said))
     server = socket.create_server(place)
-    silent = accept()
+    silent, _ = server.accept()
     silent.sendall(FRAME)
-    with accept() as connection:
+    with server.accept()[0] as connection:
         connection.sendall(FRAME[5:] + FRAME)
         wait(lambda: logs(folder).get("RX1.log", b"").count(b"\n") == 4)
     silent.close()
@@ -215,10 +199,8 @@ def wait(condition):
         time.sleep(0.05)
 
 
-tests = [test_stream, test_torn, test_full, test_held, test_refused, test_midnight, test_clock,
-         test_radios, test_noise, test_folders, test_server]
-for test in tests:
+for test in (test_stream, test_torn, test_full, test_held, test_refused, test_midnight, test_clock,
+             test_radios, test_noise, test_folders, test_server):
     said.clear()
-    with tempfile.TemporaryDirectory() as name:
-        test(name)
+    each(test)
 print("aprs-log: torn lines, a full disk, midnight, the clock, radios, servers that end")

@@ -10,19 +10,17 @@ from trying import EVENING, each, line, run
 
 
 def test_last_heard(_):
-    last, sent = {}, {}
+    last = {}
     for path in EVENING:
-        texts, heads = run("aprsbook", "convert", "text", path), run("aprsbook", "convert", "log", path)
+        heads, texts = (run("aprsbook", "convert", form, path) for form in ("log", "text"))
         for head, text in zip(heads, texts):
-            call, head = text.partition(">")[0], head.split(" ")[:2]
-            last[call] = max(last.get(call, []), head)
-    for words in map(str.split, run("aprsbook", "show", *EVENING)):
-        if words[0] == "station":
-            sent[words[1]] = words[2]
-    wanted = sorted(f"{' '.join(head)} {call} {sent[call]}" for call, head in last.items())
+            call = text.partition(">")[0]
+            last[call] = max(last.get(call, ""), head[:head.rindex(" ")])
+    sent = dict(it.split()[1:] for it in run("aprsbook", "show", *EVENING) if it.startswith("station "))
+    wanted = sorted(f"{head} {call} {sent[call]}" for call, head in last.items())
     assert run("last-heard", *EVENING) == wanted
-    for wide, narrow in zip(run("last-heard", "--gap", "60", *EVENING), wanted, strict=True):
-        assert wide.split()[:3] == narrow.split()[:3]
+    wide = run("last-heard", "--gap", "60", *EVENING)
+    assert [it.split()[:3] for it in wide] == [it.split()[:3] for it in wanted]
 
 
 def test_roster(folder):
@@ -49,7 +47,7 @@ def test_passed(folder):
     heard += line("18:07:00", "Q1SHIP", "!6000.00N/17959.94E>") \
         + line("18:05:00", "Q1C", "!5430.  N/00330.  W>") \
         + line("17:59:00", "Q1NET", ";CAR      *111111z5430.12N/00330.00W>") \
-        + line("17:58:00", "Q1NET", ";CAR      _111111z5430.00N/00330.00W>")
+        + line("17:58:00", "Q1NET", ";CAR      _111111z5430.06N/00330.00W>")
     points = folder / "points"
     points.write_text("Half way 54.501 -3.5 60\n# none\nEnd 54.502 -3.5 112\nDate line 60 -179.999 200\n")
     assert run("passed", points, given=heard) == [
@@ -78,10 +76,10 @@ def test_ics_309(_):
     some = list(csv.reader(run("ics-309", "--csv", "--station", call, *EVENING)))[1:]
     assert some == [row for row in sorted(wanted) if call in (row[1], row[3])]
     # a message twice under its number, an unnumbered one twice, an answer to another, a formula
-    heard = (line("18:00:00", "Q1A", ":Q1B      :=1+1, \"x\"{7") + line("18:01:00", "Q1A", ":Q1B      :=1+1, \"x\"{7")
-             + line("18:02:00", "Q1A", ":Q1B      :hi") + line("18:04:00", "Q1A", ":Q1B      :hi")
-             + line("18:05:00", "Q1C", ":Q1A      :ack7") + line("18:06:00", "Q1B", ":Q1A      :rej8")
-             + line("18:06:00", "Q1A", ":Q1B      :no{8") + line("19:00:00", "Q1A", ":Q1B      :late{9"))
+    heard = "".join(line(f"{clock}:00", source, f":{to}      :{text}") for clock, source, to, text in [
+        ("18:00", "Q1A", "Q1B", '=1+1, "x"{7'), ("18:01", "Q1A", "Q1B", '=1+1, "x"{7'),
+        ("18:02", "Q1A", "Q1B", "hi"), ("18:04", "Q1A", "Q1B", "hi"), ("18:05", "Q1C", "Q1A", "ack7"),
+        ("18:06", "Q1B", "Q1A", "rej8"), ("18:06", "Q1A", "Q1B", "no{8"), ("19:00", "Q1A", "Q1B", "late{9")])
     assert run("ics-309", "--csv", "--to", "2024-06-21T19", given=heard)[1:] == [
         "2024-06-21 18:00:00,Q1A,7,Q1B,,\"'=1+1, \"\"x\"\"\"", "2024-06-21 18:02:00,Q1A,,Q1B,,hi",
         "2024-06-21 18:04:00,Q1A,,Q1B,,hi", "2024-06-21 18:06:00,Q1A,8,Q1B,rej,no"]

@@ -9,14 +9,15 @@ with digits left out, stamped or not; objects and items, also killed, with odd n
 are none of these; frames of 256 bytes; up to eight digipeaters.
 """
 import collections
-import datetime
+import fractions
 import json
 import random
+import re
 import shutil
 import sys
 
 import hostile
-from trying import EXAMPLES, run
+from trying import COLUMNS, EXAMPLES, run
 
 SOURCES = ["Q1A", "Q1A-7", "Q1BBBB-15", "000001", "ZZZZZZ-3", "9"]
 HOPS = ["WIDE1-1", "Q1DIG", "WIDE2-2"]
@@ -61,127 +62,98 @@ def information():
 
 def frame(source):
     calls = [some.choice(["APRS", "APDW17"]), source] + some.choices(HOPS, k=some.randrange(9))
-    octets = b""
-    for n, call in enumerate(calls):
-        octets += hostile.address(call, some.choice([0x60, 0xE0, 0x80]), n == len(calls) - 1)
-    return octets + b"\x03\xf0" + information()
-
-
-def line(moment, receiver, octets):
-    escaped = octets.replace(b"\xdb", b"\xdb\xdd").replace(b"\xc0", b"\xdb\xdc")
-    return "%s %s c000%sc0\n" % (moment, receiver, escaped.hex())
+    octets = [hostile.address(call, some.choice([0x60, 0xE0, 0x80]), number == len(calls))
+              for number, call in enumerate(calls, 1)]
+    return b"".join(octets) + b"\x03\xf0" + information()
 
 
 def heard():
     """A log: each frame once or more, so that some rows have copies."""
     for _ in range(frames):
-        octets = frame(some.choice(SOURCES))
-        start = some.randrange(700000)
+        octets, start = frame(some.choice(SOURCES)), some.randrange(700000)
         for _ in range(some.randrange(1, 4)):
-            later = datetime.timedelta(milliseconds=start + some.choice([0, 1000, 29000, 31000]))
-            moment = datetime.datetime(2024, 6, 21, 18) + later
-            receiver = some.choice(["RX1", "RX2", "a_b-C"])
-            yield line(moment.isoformat(timespec="milliseconds") + "Z", receiver, octets)
+            at = start + some.choice([0, 1000, 29000, 31000])
+            clock = "18:%02d:%02d.%03d" % (at // 60000, at // 1000 % 60, at % 1000)
+            yield hostile.line(f"2024-06-21T{clock}Z", some.choice(["RX1", "RX2", "a_b-C"]), octets)
 
 
-def value(fraction):
-    above, below = fraction.split("/")
-    return int(above) / int(below)
-
-
-def degrees(fraction):
-    return "%.7f" % value(fraction)
-
-
-Place = collections.namedtuple(
-    "Place", "kind name state moment receiver source stamp north east ambiguity symbol comment")
+# the symbol is two bytes, each as shown
+PLACE = re.compile(
+    r"(?:position|(?P<kind>object|item) (?P<name>\S+) (?P<state>live|killed)) (?P<moment>\S+) "
+    r"(?P<receiver>\S+) (?:(?P<source>\S+) )?(?P<stamp>\S+) (?P<north>\S+/\d+) (?P<east>\S+/\d+) "
+    r"(?P<ambiguity>\S) (?P<symbol>(?:\\x5c|[^\\]){2}):(?P<comment>.*)")
 
 
 def shown_places(log):
-    """What `show` says of a log."""
+    """What `show` says of a log: the fields of each place."""
     for shown in run("aprsbook", "show", given=log):
-        words = shown.split(" ")
-        if words[0] == "station":
-            call = words[1]
-            continue
-        if words[0] == "position":
-            who, stamp = ("station", call, "live", *words[1:3], call), 3
-        elif words[0] in ("object", "item"):
-            who, stamp = (words[0], words[1].replace("\\x20", " "), *words[2:6]), 6
-        else:
-            continue
-        at, north, east, ambiguity, tail = shown.split(" ", stamp + 4)[stamp:]
-        # the symbol is two bytes, each as shown
-        end = 0
-        for _ in range(2):
-            end += 4 if tail.startswith("\\x5c", end) else 1
-        assert tail[end] == ":", shown
-        yield Place(*who, at, north, east, ambiguity, tail[:end], tail[end + 1:])
+        if shown.startswith("station "):
+            call = shown.split(" ")[1]
+        elif found := PLACE.fullmatch(shown):
+            it = found.groupdict()
+            spot = [float(fractions.Fraction(it[name])) for name in ("east", "north")]
+            it |= {"spot": spot, "lon": "%.7f" % spot[0], "lat": "%.7f" % spot[1]}
+            if it["kind"]:
+                yield it | {"name": it["name"].replace("\\x20", " ")}
+            else:
+                yield it | {"kind": "station", "name": call, "state": "live", "source": call}
 
 
 def places(row):
     """What `show` says of a row alone, in every-place's form."""
     _, first, last, receivers, receiver, octets = row.split(" ")
-    for it in shown_places(line(last, receiver, bytes.fromhex(octets))):
-        yield "\t".join([it.kind, it.name, it.state, first, last, receivers, it.source,
-                         degrees(it.north), degrees(it.east), *it[9:]])
+    for it in shown_places(hostile.line(last, receiver, bytes.fromhex(octets))):
+        it |= {"first": first, "last": last, "receivers": receivers}
+        yield "\t".join(map(it.get, COLUMNS))
 
 
 def fields(it):
     """A place in the form of places.awk."""
-    killed = "killed" + ": " * bool(it.comment) if it.state == "killed" else ""
-    return "\t".join([*it[:3], it.moment[:10], it.moment[11:23], it.receiver, it.source,
-                      degrees(it.north), degrees(it.east), *it[9:11], killed + it.comment])
+    killed = "killed" + ": " * bool(it["comment"]) if it["state"] == "killed" else ""
+    it = it | {"day": it["moment"][:10], "time": it["moment"][11:23], "desc": killed + it["comment"]}
+    return "\t".join(map(it.get, [*COLUMNS[:3], "day", "time", "receiver", *COLUMNS[6:11], "desc"]))
 
 
 def feature(it):
     """A place in the form of places.jq: names and texts of its properties."""
-    given = {name: text for name, text in it._asdict().items() if name not in ("north", "east")}
-    if it.kind == "station":
-        del given["state"], given["source"]
-    spot = [value(it.east), value(it.north)]
-    return json.dumps([spot, given], sort_keys=True)
+    names = "kind name moment receiver stamp ambiguity symbol comment state source".split()
+    given = {name: it[name] for name in names[:8 if it["kind"] == "station" else 10]}
+    return json.dumps([it["spot"], given], sort_keys=True)
 
 
 def features(rows):
+    """What places.jq makes of rows, in the same form."""
     for it in json.loads("".join(run("jq", "-R", "-n", "-f", PLACES + "jq", given=rows)))["features"]:
-        spot = list(map(float, it["geometry"]["coordinates"]))
-        yield json.dumps([spot, it["properties"]], sort_keys=True)
+        yield json.dumps([list(map(float, it["geometry"]["coordinates"])), it["properties"]], sort_keys=True)
 
 
 def same(what, wanted, got):
     wanted, got = collections.Counter(wanted), collections.Counter(got)
-    for name, lines in ("missing", wanted - got), ("extra", got - wanted):
-        for shown in lines:
-            print("%s: %s: %r" % (what, name, shown), file=sys.stderr)
-    if wanted != got or not wanted:
-        sys.exit(1)
-    return sum(got.values())
+    assert wanted == got and wanted, (what, "missing", wanted - got, "extra", got - wanted)
 
 
 PLACES = str(EXAMPLES / "recipes/places.")
 log = "".join(heard())
 book = run("aprsbook", "merge", given=log)[1:-1]
 rows = "\n".join(run("history-rows", given=log)) + "\n"
-count = same("every-place", (place for row in book for place in places(row)), run("every-place", given=log))
+listed = run("every-place", given=log)
+same("every-place", (place for row in book for place in places(row)), listed)
 last = list(shown_places(log))
 same("places.awk", map(fields, last), run("awk", "-f", PLACES + "awk", given=rows)[1:])
-if shutil.which("jq"):
-    same("places.jq", map(feature, last), features(rows))
 
 # a place in Mic-E, by the grammar of the history
 mic_e = ("mic-e 2024-06-21T18:00:00.000Z 2024-06-21T18:00:01.000Z RX1,RX2 Q1CAR-9 Q1DIG*,WIDE2-1 "
          "88 36 en-route - 294350/6000 -432175/6000 0 /::in the valley")
-after = "49.0583333\t-72.0291667\t0\t/:\t088/036 en-route in the valley"
-heard = "\t".join(mic_e.split(" ")[1:5])
+two = f"RX2 00 {mic_e}\nRX1 01 {mic_e}\n"
+wanted = ("station\tQ1CAR-9\tmic-e\t%s\tQ1CAR-9\t49.0583333\t-72.0291667\t0\t/:\t"
+          "088/036 en-route in the valley")
 got = run("awk", "-v", "every=1", "-f", PLACES + "awk", given=mic_e + "\n")
-assert got == [f"station\tQ1CAR-9\tmic-e\t{heard}\t{after}"], got
-given = f"RX2 00 {mic_e}\nRX1 01 {mic_e}\n"
-heard = "2024-06-21\t18:00:01.000\tRX2\tQ1CAR-9"
-got = run("awk", "-f", PLACES + "awk", given=given)[1:]
-assert got == [f"station\tQ1CAR-9\tmic-e\t{heard}\t{after}"], got
+assert got == [wanted % "\t".join(mic_e.split(" ")[1:4])], got
+got = run("awk", "-f", PLACES + "awk", given=two)[1:]
+assert got == [wanted % "2024-06-21\t18:00:01.000\tRX2"], got
 if shutil.which("jq"):
-    [got] = features(given)
+    same("places.jq", map(feature, last), features(rows))
+    [got] = features(two)
     for part in '"says": "en-route"', '"course": "88"', '"state": "mic-e"', '"receiver": "RX2"':
         assert part in got, got
-print("every-place: %d rows, all %d places; places: the last of each; Mic-E" % (len(book), count))
+print(f"every-place: {len(book)} rows, all {len(listed)} places; places: the last of each; Mic-E")

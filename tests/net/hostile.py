@@ -20,15 +20,20 @@ def address(call, flags, last=0):
     return bytes(2 * b for b in name.ljust(6).encode()) + bytes([flags + 2 * int(ssid or 0) + last])
 
 
+def line(moment, receiver, frame):
+    """A line of a log."""
+    escaped = frame.replace(b"\xdb", b"\xdb\xdd").replace(b"\xc0", b"\xdb\xdc").hex()
+    return f"{moment} {receiver} c000{escaped}c0\n"
+
+
 def log():
     """The lines of the log."""
     start, lines = datetime.datetime(2024, 6, 21, 18), []
 
     def put(source, information, receiver="RX1"):
         frame = address("APRS", 0xE0) + address(source, 0x60, 1) + b"\x03\xf0" + information
-        escaped = frame.replace(b"\xdb", b"\xdb\xdd").replace(b"\xc0", b"\xdb\xdc").hex()
         moment = start + datetime.timedelta(seconds=61 * len(lines))
-        lines.append(f"{moment:%Y-%m-%dT%H:%M:%S}Z {receiver} c000{escaped}c0\n")
+        lines.append(line(f"{moment:%Y-%m-%dT%H:%M:%S}Z", receiver, frame))
 
     for n, text in enumerate(TEXTS):
         octets = text.encode()

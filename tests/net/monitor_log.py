@@ -3,38 +3,35 @@
 
 usage: monitor_log.py EXAMPLES    aprsbook and the recipes in the PATH; needs Python 3
 """
-import pathlib
 import re
-import subprocess
-import sys
 
-EXAMPLES = pathlib.Path(sys.argv[1])
+from trying import EVENING, run, tried
 
 
-def run(*command, given=b""):
-    done = subprocess.run(command, input=given, capture_output=True, check=True)
-    return done.stdout, done.stderr.decode()
+def monitor(text, *options):
+    """The log that it makes of a text, and what it says."""
+    done = tried("monitor-log", *options, given=text)
+    return done.stdout.decode("ascii"), done.stderr.decode()
 
 
 def test_evening():
-    for path in sorted(EXAMPLES.glob("evening/*.log")):
-        log, _ = run("aprsbook", "convert", "log", path)
-        text, _ = run("aprsbook", "convert", "text", path)
-        name = log.split(b" ")[1].decode()
+    for path in EVENING:
+        log, text = (tried("aprsbook", "convert", form, path).stdout for form in ("log", "text"))
         own, wolf = b"", b""
-        for moment, line in zip([line[:24] for line in log.splitlines()], text.splitlines()):
-            own += moment + b" " + line + b"\n"
+        for head, line in zip(log.splitlines(), text.splitlines()):
+            own += head[:24] + b" " + line + b"\n"
             # as Dire Wolf prints it: no Z, other escapes, and but one star, after the last
             # digipeater that repeated the frame
             line = re.sub(rb"\\x(..)", rb"<0x\1>", re.sub(rb"\*(?=,[^:]*\*)", b"", line))
-            wolf += b"\nQ1DIG audio level = 50(12/12)\n[0.3 " + moment[:23] + b"] " + line + b"\n"
-        assert run("monitor-log", "--name", name, "--bytes", "aprsbook", given=own) == (log, "")
-        assert run("monitor-log", "--name", name, given=wolf) == (log, "")
+            wolf += b"\nQ1DIG audio level = 50(12/12)\n[0.3 " + head[:23] + b"] " + line + b"\n"
+        name, log = log.split(b" ")[1], log.decode()
+        assert monitor(own, "--name", name, "--bytes", "aprsbook") == (log, "")
+        assert monitor(wolf, "--name", name) == (log, "")
 
 
 def test_feed():
     feed = b"""# aprsc 2.1.19 01 Jan 2024 00:00:00 GMT T2TEST 127.0.0.1:14580
-Q1RUN-7>APDW17,Q1DIG*,WIDE2-1,qAR,Q0GATE-1:!5432.58N/00327.36W>caf\xc3\xa9 <0x41> \\x41
+Q1RUN-7>APDW17,Q1DIG,WIDE1*,WIDE2-1,qAR,Q0GATE-1:!5432.58N/00327.36W>caf\xc3\xa9 <0x41> \\x41
 Q1RUN-7>APDW17,qAO,Q0OTHER:!5432.58N/00327.36W>caf\xc3\xa9 <0x41> \\x41
 Q1NET>APDW17,TCPIP*,qAC,T2TEST:>sent over the net alone
 Q1lower>APDW17,qAR,Q0GATE-1:>no call
@@ -42,16 +39,14 @@ Q1NET>APDW17,Q1NETTOOLONG,qAR,Q0GATE-1:>no call either
 Q1ABC-A>APDW17,qAR,Q0GATE-1:>a call of D-STAR
 Q1NET>APDW17,qAR,ABCDEFGHIJKLMNOPQ:>a gate of 17 letters
 """
-    log, said = run("monitor-log", "--igate", "--now", "--bytes", "raw", given=feed)
+    log, said = monitor(feed, "--igate", "--now", "--bytes", "raw")
     for name in "Q1lower is no", "Q1NETTOOLONG is no", "Q1ABC-A is no", "ABCDEFGHIJKLMNOPQ can't":
         assert name in said, said
     assert said.count("\n") == 4, said
-    book, _ = run("aprsbook", "merge", given=log)
-    [row] = book.splitlines()[1:-1]
-    assert row.split(b" ")[3] == b"Q0GATE-1,Q0OTHER", row
-    text, _ = run("aprsbook", "convert", "text", given=log)
-    assert text.splitlines()[0] == (
-        rb"Q1RUN-7>APDW17,Q1DIG*,WIDE2-1:!5432.58N/00327.36W>caf\xc3\xa9 <0x41> \x5cx41")
+    [row] = run("aprsbook", "merge", given=log)[1:-1]
+    assert row.split(" ")[3] == "Q0GATE-1,Q0OTHER", row
+    assert run("aprsbook", "convert", "text", given=log)[0] \
+        == r"Q1RUN-7>APDW17,Q1DIG*,WIDE1*,WIDE2-1:!5432.58N/00327.36W>caf\xc3\xa9 <0x41> \x5cx41"
 
 
 def test_refused():
@@ -66,14 +61,13 @@ def test_refused():
 2024-06-21T00:30:00+02:00 Q1NET>APRS:>elsewhere
 2024-06-21 12:00:00 -0430 Q1NET>APRS:>elsewhere too
 """ % (b"x" * 257)
-    log, said = run("monitor-log", given=text)
+    log, said = monitor(text)
     assert said.count("monitor-log: ") == 6, said
     assert [line[:24] for line in log.splitlines()] == [
-        b"2024-06-21T12:00:00.250Z", b"2024-06-20T22:30:00.000Z", b"2024-06-21T16:30:00.000Z"], log
-    assert run("aprsbook", "check", given=log)[0] == b"heard 3 passed 0\n"
+        "2024-06-21T12:00:00.250Z", "2024-06-20T22:30:00.000Z", "2024-06-21T16:30:00.000Z"], log
+    assert run("aprsbook", "check", given=log) == ["heard 3 passed 0"]
     for command, status in ("--name 'a b.c'", 2), ("--name ''", 2), (">&-", 1), (">/dev/full", 1):
-        done = subprocess.run(["sh", "-c", "monitor-log " + command], input=text, capture_output=True)
-        assert done.returncode == status and b"Traceback" not in done.stderr, (command, done)
+        tried("sh", "-c", "monitor-log " + command, given=text, status=status)
 
 
 for test in test_evening, test_feed, test_refused:

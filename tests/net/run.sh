@@ -1,10 +1,9 @@
 #!/bin/sh
-# Tests the recipes of tracks, the page, the net and the engine, each where its tools are there, and
-# says which were left out.
+# Tests the recipes of tracks, the page and the net, each where its tools are there, and says which
+# were left out.
 # usage: tests/net/run.sh PROGRAM [PAGE]    PAGE is the page that reads logs, out/aprsbook.html
 page=${2-}
 set -- "${1-}"
-# shellcheck source=../program.sh
 . "$(dirname "$0")/../program.sh"
 examples=$repository/examples
 page=${page:-$repository/out/aprsbook.html}
@@ -16,10 +15,9 @@ with() {
     if has "$test" $tools; then "$repository/tests/net/$test" "$@"; fi
 }
 
-with 'python3' every_place.py "$examples"
-with 'python3' tracks.py "$examples"
-with 'python3 aprsbook-history' asked.py "$examples"
-with 'python3 aprsbook-history' event_page.py "$examples"
+for test in every_place tracks asked event_page; do
+    with 'python3 aprsbook-history' $test.py "$examples"
+done
 with 'python3 aprsbook-history chromium' in_browser.py "$examples"
 with 'python3 aprsbook-history firefox-esr' in_firefox.py "$examples"
 if [ -f "$page" ]; then
@@ -27,7 +25,5 @@ if [ -f "$page" ]; then
 else
     echo 'left out: page_reads.py (no page is there: make page)'
 fi
-with 'python3' aprs_log.py "$examples"
-with 'python3' net_now.sh "$program"
-with 'python3' monitor_log.py "$examples"
-with 'dask-scheduler dask-worker' merge_dask.sh "$program"
+with 'python3 aprsbook-history' net_now.sh "$program"
+for test in aprs_log monitor_log; do with 'python3' $test.py "$examples"; done

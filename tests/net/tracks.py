@@ -9,9 +9,8 @@ import json
 import xml.etree.ElementTree
 
 import hostile
-from trying import EXAMPLES, line, run
+from trying import COLUMNS, EXAMPLES, line, run
 
-COLUMNS = "kind name state first last receivers source lat lon ambiguity symbol comment".split()
 GPX = "{http://www.topografix.com/GPX/1/1}"
 
 
@@ -19,65 +18,60 @@ def gpx(log):
     return xml.etree.ElementTree.fromstringlist(run("tracks", "gpx", given=log))
 
 
+def spot(place):
+    return [float(place["lon"]), float(place["lat"])]
+
+
+def bare(rows):
+    """Rows without what keeps a text from being a formula."""
+    return [{name: text.removeprefix("'") for name, text in row.items()} for row in rows]
+
+
 def segments(places):
     """The runs of a thing's places, each but the last ended by a kill."""
-    run = []
-    for place in places:
-        run.append(place)
-        if place["state"] == "killed":
-            yield run
-            run = []
-    if run:
-        yield run
+    ends = [number for number, it in enumerate(places, 1) if it["state"] == "killed"]
+    runs = [places[start:end] for start, end in zip([0, *ends], [*ends, None])]
+    return list(filter(None, runs))
+
+
+def features(places, moved):
+    """The shape, where it is and what is said of it, of each feature."""
+    for it in places:
+        yield "Point", spot(it), {name: it[name] for name in COLUMNS if name not in ("lat", "lon")}
+    for them in moved:
+        if lines := [list(map(spot, some)) for some in segments(them) if len(some) > 1]:
+            yield "MultiLineString", lines, {name: them[0][name] for name in ("kind", "name")}
 
 
 def test(log):
     listed = run("every-place", given=log)
-    places = [dict(zip(COLUMNS, line.split("\t"), strict=True)) for line in listed]
-    assert places
-    rows = list(csv.DictReader(run("tracks", "csv", given=log)))
-    assert [{name: text.removeprefix("'") for name, text in row.items()} for row in rows] \
-        == [{name: text.removeprefix("'") for name, text in it.items()} for it in places]
+    places = [dict(zip(COLUMNS, text.split("\t"), strict=True)) for text in listed]
+    assert places and bare(csv.DictReader(run("tracks", "csv", given=log))) == bare(places)
     groups = itertools.groupby(places, lambda it: (it["kind"], it["name"]))
     things = [list(group) for _, group in groups]
-    moved = [them for them in things if len({(it["lat"], it["lon"]) for it in them}) > 1]
+    moved = [them for them in things if any(spot(it) != spot(them[0]) for it in them)]
+    assert json.loads("".join(run("tracks", "geojson", given=log))) == {
+        "type": "FeatureCollection", "features": [
+            {"type": "Feature", "geometry": {"type": shape, "coordinates": where}, "properties": about}
+            for shape, where, about in features(places, moved)]}
 
-    collection = json.loads("".join(run("tracks", "geojson", given=log)))
-    assert collection["type"] == "FeatureCollection"
-    points = [it for it in collection["features"] if it["geometry"]["type"] == "Point"]
-    lines = collection["features"][len(points):]
-    for point, place in zip(points, places, strict=True):
-        assert point["geometry"]["coordinates"] == [float(place["lon"]), float(place["lat"])]
-        wanted = {name: place[name] for name in COLUMNS if name not in ("lat", "lon")}
-        assert point["properties"] == wanted
-    wanted = []
-    for them in moved:
-        line = [[[float(it["lon"]), float(it["lat"])] for it in run]
-                for run in segments(them) if len(run) > 1]
-        if line:
-            wanted.append(({"kind": them[0]["kind"], "name": them[0]["name"]},
-                           {"type": "MultiLineString", "coordinates": line}))
-    assert [(it["properties"], it["geometry"]) for it in lines] == wanted
-
-    root = gpx(log)
-
-    def seen(point):
-        return point.get("lat"), point.get("lon"), point.findtext(GPX + "time")
+    def seen(point, *names):
+        texts = [point.findtext(GPX + name) for name in ("time", *names)]
+        return [point.get("lat"), point.get("lon"), *texts]
 
     def place_of(it):
-        return it["lat"], it["lon"], it["first"]
+        return [it["lat"], it["lon"], it["first"]]
 
+    root = gpx(log)
     waypoints, tracks = root.findall(GPX + "wpt"), root.findall(GPX + "trk")
-    for waypoint, them in zip(waypoints, things, strict=True):
-        assert seen(waypoint) == place_of(them[-1])
-        assert waypoint.findtext(GPX + "name") == them[-1]["name"]
-        assert waypoint.findtext(GPX + "type") == them[-1]["kind"]
-        assert (waypoint.findtext(GPX + "sym") == "killed") == (them[-1]["state"] == "killed")
-        assert waypoint.findtext(GPX + "desc").endswith(them[-1]["comment"])
+    for waypoint, [*_, last] in zip(waypoints, things, strict=True):
+        killed = "killed" if last["state"] == "killed" else None
+        assert seen(waypoint, "name", "type", "sym") == [*place_of(last), last["name"], last["kind"], killed]
+        assert waypoint.findtext(GPX + "desc").endswith(last["comment"])
     for track, them in zip(tracks, moved, strict=True):
         assert track.findtext(GPX + "name") == them[0]["name"]
-        assert [list(map(seen, run)) for run in track.findall(GPX + "trkseg")] \
-            == [list(map(place_of, run)) for run in segments(them)]
+        assert [list(map(seen, points)) for points in track.findall(GPX + "trkseg")] \
+            == [list(map(place_of, some)) for some in segments(them)]
     return len(places), len(moved)
 
 
