@@ -158,15 +158,16 @@ function clocksOf(rows, picks, heard) {
   for (const { names, heard: n } of heard)
     if (names.length > 1) for (const name of names) clock(name).zeros += n;
   for (const k of picks) times[same[k]]++;
-  const before = new Map();
+  const before = new Int32Array(rows.length).fill(-1);
   for (const k of picks) {
     if (times[same[k]] !== 2) continue;
-    const a = before.get(same[k]), [mine, its] = [k, a].map(n => rows.lists[rows.heard[n]]);
-    if (a === undefined) before.set(same[k], k);
-    else if (!its.some(name => mine.includes(name))) {
-      for (const name of its) clock(name).list.push(first[a] - first[k]);
-      for (const name of mine) clock(name).list.push(first[k] - first[a]);
-    }
+    const a = before[same[k]];
+    before[same[k]] = k;
+    if (a < 0) continue;
+    const mine = rows.lists[rows.heard[k]], its = rows.lists[rows.heard[a]];
+    if (its.some(name => mine.includes(name))) continue;
+    for (const name of its) clock(name).list.push(first[a] - first[k]);
+    for (const name of mine) clock(name).list.push(first[k] - first[a]);
   }
   return new Map([...clocks].map(([name, { zeros, list }]) =>
     [name, { by: medianOf(zeros, list), of: zeros + list.length }]));
@@ -198,12 +199,9 @@ function receiversOf(rows, picks) {
 
 /** All of the net that was heard since a moment, but who heard whom. */
 function netOf(all, since) {
-  const { rows } = all, picks = rows.since(since);
-  let begin = Infinity, end = -Infinity;
-  for (const k of picks) {
-    begin = Math.min(begin, rows.first[k]);
-    end = Math.max(end, rows.last[k]);
-  }
+  const { rows } = all, picks = rows.since(since), some = picks.length > 0;
+  // they stand by their first moment, and the last of all is one of them
+  const begin = some ? rows.first[picks[0]] : Infinity, end = some ? rows.until : -Infinity;
   const messages = all.listing.messages.filter(it => it.last >= since);
   return { rows: picks, begin, end, things: thingsOf(rows, picks, all.listing.places),
     messages: messages.filter(it => !isBulletin(it)), bulletins: messages.filter(isBulletin),

@@ -5,7 +5,7 @@
 /** What a row is, by its first word, and how many words stand between its head and its place. */
 const BEFORE_PLACE = { position: 0, object: 2, item: 2, "mic-e": 3 };
 const KINDS = [...Object.keys(BEFORE_PLACE), "status", "message", "ack", "rej", "raw"];
-const NONE = 0xffffffff;
+const STATUS = KINDS.indexOf("status"), NONE = 0xffffffff;
 
 /** Where the nth word after a place of the text begins. */
 function after(text, at, words) {
@@ -123,8 +123,8 @@ class HistoryReader {
     let n = 0;
     for (let at = -1; (at = text.indexOf("\n", at + 1)) >= 0;) n++;
     const parts = () => new Parts(text);
-    Object.assign(this, { text, n: 0, columns: emptyColumns(n), things: [], lists: parts(),
-      rests: parts(), named: { station: parts(), object: parts(), item: parts() },
+    Object.assign(this, { text, n: 0, until: -Infinity, columns: emptyColumns(n), things: [],
+      lists: parts(), rests: parts(), named: { station: parts(), object: parts(), item: parts() },
       numbers: { station: [], object: [], item: [] } });
   }
   /** The number of the thing whose name stands between two places of the text. */
@@ -145,6 +145,7 @@ class HistoryReader {
     columns.kind[n] = kind;
     columns.first[n] = secondsAt(text, first);
     columns.last[n] = secondsAt(text, last);
+    this.until = Math.max(this.until, columns.last[n]);
     columns.heard[n] = this.lists.take(heard, source - 1);
     columns.station[n] = columns.thing[n] = this.thing("station", source, via - 1);
     columns.via[n] = this.lists.take(via, rest - 1);
@@ -176,7 +177,7 @@ function columnsOf(text) {
   const reader = new HistoryReader(text), { columns } = reader;
   for (let at = 0, end; (end = text.indexOf("\n", at)) >= 0; at = end + 1) reader.line(at, end);
   columns.order = orderOf(columns.first, reader.n);
-  return { columns, things: reader.things, lists: reader.lists.texts };
+  return { columns, things: reader.things, lists: reader.lists.texts, until: reader.until };
 }
 
 /** The first `n` words of a text, and what stands after them. */
@@ -202,12 +203,10 @@ function placeOf(where) {
 
 /** The transmissions of a history: numbers of rows, in `order` by their first moments. */
 class Rows {
-  constructor(text, { columns, things, lists }) {
-    Object.assign(this, columns, { text, things,
+  constructor(text, { columns, things, lists, until }) {
+    Object.assign(this, columns, { text, things, until,
       lists: lists.map(it => it === "-" ? [] : it.split(",")) });
     this.length = this.order.length;
-    this.until = 0;
-    for (const k of this.order) this.until = Math.max(this.until, this.last[k]);
   }
   /** The numbers of those that were heard since a moment. */
   since(moment) {
@@ -217,7 +216,7 @@ class Rows {
     return this.where[k] !== NONE;
   }
   isStatus(k) {
-    return KINDS[this.kind[k]] === "status";
+    return this.kind[k] === STATUS;
   }
   /** What a status says. */
   statusOf(k) {
