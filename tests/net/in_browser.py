@@ -470,8 +470,8 @@ def test_scale(page, folder):
                    f"return {shown} }})()")
     is_((len(rows), rows[0], rows[-1]), (26, "Q1000-11", "Q0025-11"))
     page.wait(f"{shown}.length === 26 && {shown}.at(-1) === 'Q1025-6'")
-    # a machine that does other things too may take five times as long
-    assert times["letter"] < 250 and times["shown"] < 5000, times
+    # a machine that does other things too may take ten times as long
+    assert times["letter"] < 500 and times["shown"] < 5000, times
     picture(page, "many")
 
 
