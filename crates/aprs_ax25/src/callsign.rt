@@ -6,7 +6,7 @@ ghost use Rattle.arrayvec.specs.ArrayVec.{array_vec_len};
 ghost use Rattle.aprs_ax25.specs.Address.{address_octets, letters_and_spaces};
 ghost use Rattle.aprs_ax25.specs.Callsign as Spec;
 ghost use Rattle.aprs_ax25.specs.CallText;
-ghost use Rattle.aprs_ax25.specs.Scan.{PartsOf, ssid_of};
+ghost use Rattle.aprs_ax25.specs.Scan.{AreCallParts, ssid_of};
 ghost use Rattle.aprs_ax25.specs.FrameFault.{has_callsign, call_of, letters_len};
 ghost use Rattle.std.specs.Ordering.{as_partial_cmp};
 ghost use Rattle.std.proofs.Common.{rules};
@@ -309,7 +309,7 @@ fn push_letters_and_spaces(out: &mut ArrayVec<u8, MAX_UI_FRAME>, letters: &[u8])
 /// The letters and digits of a callsign's text, before its first dash, and its SSID; or the
 /// text's first fault in the order of the faults' numbers.
 fn parts_of(text: &[u8]) -> Result<(&[u8], u8), CallFault>
-    ensures { PartsOf text.now result }
+    ensures { AreCallParts text.now result }
 {
     let (letters, dash) = split_dash(text);
     if letters.is_empty() || letters.len() > 6 {

@@ -20,7 +20,7 @@ use Rattle.aprs_rows.proofs.Heads.{head_total, head_exact, head_less}
 use Rattle.aprs_rows.specs.Head.{HasHead}
 use Rattle.aprs_rows.specs.HeadSteps.{head_cmp}
 use Rattle.aprs_rows.specs.declared.row.head.Head.{Head}
-use Rattle.aprs_book.specs.Keyed.{HaveHead, rows_of, AreKeyed, AreFilled, AreKept, LastKeyIsUpTo, IsEndOf}
+use Rattle.aprs_book.specs.Keyed.{HaveHead, rows_by_key, AreKeyed, AreFilled, AreKept, LastKeyIsUpTo, IsEndOf}
 
 bridged_some : (gap : ℕ) (x : Heard) (j : Row) (rows : List Row)
     → 0 < length (bridge_row gap x j rows)
@@ -37,18 +37,18 @@ inserted_some gap x (r ∷ rows) =
 
 module _ {V : Type 0} (rows : V → List Row) where
   -- all rows, by the values alone
-  pub rows_of_values : (es : List (Head × V)) → flat_map rows (values_of es) ≡ rows_of rows es
+  pub rows_of_values : (es : List (Head × V)) → flat_map rows (values_of es) ≡ rows_by_key rows es
   rows_of_values [] = refl
   rows_of_values (e ∷ es) = ap (λ t. rows e.1 ++ t) (rows_of_values es)
 
   -- the rows of entries that stay
-  pub stays : (es es' : List (Head × V)) (old : List Row) → es' ≡ es → rows_of rows es ≡ old
-      → rows_of rows es' ≡ old
-  stays es es' old same e = ap (rows_of rows) same ∙ e
+  pub stays : (es es' : List (Head × V)) (old : List Row) → es' ≡ es → rows_by_key rows es ≡ old
+      → rows_by_key rows es' ≡ old
+  stays es es' old same e = ap (rows_by_key rows) same ∙ e
 
   pub err_stays : {A E : Type 0} (r : Result A E) (es es' : List (Head × V)) (old : List Row)
       → es' ≡ es
-      → rows_of rows es ≡ old → OnErr r (rows_of rows es' ≡ old)
+      → rows_by_key rows es ≡ old → OnErr r (rows_by_key rows es' ≡ old)
   err_stays (Ok _) es es' old same e = tt
   err_stays (Err _) es es' old same e = stays es es' old same e
 
@@ -75,46 +75,46 @@ module _ {V : Type 0} (rows : V → List Row) where
   -- where a key's rows are written back
   pub set_length : (k : Head) (es : List (Head × V)) (old new : V)
       → Some old ≡ lookup (test k) es
-      → length (rows_of rows (set_value (test k) es new)) + length (rows old)
-      ≡ length (rows_of rows es) + length (rows new)
+      → length (rows_by_key rows (set_value (test k) es new)) + length (rows old)
+      ≡ length (rows_by_key rows es) + length (rows new)
   set_length k [] old new found = absurd (cc)
   set_length k (e ∷ es) old new found =
-      let whole = length-append (rows e.1) (rows_of rows es) in
+      let whole = length-append (rows e.1) (rows_by_key rows es) in
       let after =
-      length-append (rows e.1) (rows_of rows (set_value (test k) es new)) in
+      length-append (rows e.1) (rows_by_key rows (set_value (test k) es new)) in
       by_order (head_cmp k e.0)
       (λ o. rw o (omega (arith, whole, after, set_length k es old new (rw o at found))))
       (λ o.
       let f : Some old ≡ Some e.1 = rw o at found in
       let same : old ≡ e.1 = cc in
-      rw (o, same) (omega (arith, whole, length-append (rows new) (rows_of rows es))))
+      rw (o, same) (omega (arith, whole, length-append (rows new) (rows_by_key rows es))))
       (λ o. rw o (omega (arith, whole, after, set_length k es old new (rw o at found))))
 
   -- where a new key gets rows
   pub insert_length : (k : Head) (es : List (Head × V)) (new : V)
       → None ≡ lookup (test k) es
-      → length (rows_of rows (insert_entry head_cmp es k new))
-      ≡ length (rows_of rows es) + length (rows new)
+      → length (rows_by_key rows (insert_entry head_cmp es k new))
+      ≡ length (rows_by_key rows es) + length (rows new)
   insert_length k [] new found =
       omega (arith, length-append (rows new) [])
   insert_length k (e ∷ es) new found =
-      let whole = length-append (rows e.1) (rows_of rows es) in
+      let whole = length-append (rows e.1) (rows_by_key rows es) in
       by_order (head_cmp k e.0)
-      (λ o. rw o (omega (arith, length-append (rows new) (rows_of rows (e ∷ es)))))
+      (λ o. rw o (omega (arith, length-append (rows new) (rows_by_key rows (e ∷ es)))))
       (λ o. absurd (let f : None ≡ Some e.1 = rw o at found in cc))
       (λ o. rw o (omega (
         arith,
         whole,
         insert_length k es new (rw o at found),
-        length-append (rows e.1) (rows_of rows (insert_entry head_cmp es k new)),
+        length-append (rows e.1) (rows_by_key rows (insert_entry head_cmp es k new)),
       )))
 
   pub found_length : (k : Head) (es : List (Head × V)) (old : V)
       → Some old ≡ lookup (test k) es
-      → length (rows old) ≤ length (rows_of rows es)
+      → length (rows old) ≤ length (rows_by_key rows es)
   found_length k [] old found = absurd (cc)
   found_length k (e ∷ es) old found =
-      let whole = length-append (rows e.1) (rows_of rows es) in
+      let whole = length-append (rows e.1) (rows_by_key rows es) in
       by_order (head_cmp k e.0)
       (λ o. omega (arith, whole, found_length k es old (rw o at found)))
       (λ o.
@@ -126,16 +126,16 @@ module _ {V : Type 0} (rows : V → List Row) where
   -- the count goes with a key's rows
   pub count_set : (k : Head) (es es' : List (Head × V)) (old new : V) (count more : ℕ)
       → Some old ≡ lookup (test k) es → es' ≡ set_value (test k) es new
-      → count ≡ length (rows_of rows es)
+      → count ≡ length (rows_by_key rows es)
       → more + length (rows old) ≡ count + length (rows new)
-      → more ≡ length (rows_of rows es')
+      → more ≡ length (rows_by_key rows es')
   count_set k es es' old new count more found written all counted =
       rw written (omega (arith, set_length k es old new found, all, counted))
 
   pub count_insert : (k : Head) (es es' : List (Head × V)) (new : V) (none : List Row)
       (count more : ℕ) → None ≡ lookup (test k) es → none ≡ []
-      → es' ≡ insert_entry head_cmp es k new → count ≡ length (rows_of rows es)
-      → more + length none ≡ count + length (rows new) → more ≡ length (rows_of rows es')
+      → es' ≡ insert_entry head_cmp es k new → count ≡ length (rows_by_key rows es)
+      → more + length none ≡ count + length (rows new) → more ≡ length (rows_by_key rows es')
   count_insert k es es' new none count more found empty written all counted =
       rw written (omega (arith, insert_length k es new found, all, counted, ap length empty))
 
@@ -186,7 +186,7 @@ module _ {V : Type 0} (rows : V → List Row) where
 
   none_above : (x : Row) (k : Head) (es : List (Head × V)) → HasHead k x.greatest.frame
       → IsStrictlySortedBy head_cmp (keys_of es) → AreKeyed rows es
-      → AreFilled rows es → LastKeyIsUpTo x (rows_of rows es) → NoneAbove k es
+      → AreFilled rows es → LastKeyIsUpTo x (rows_by_key rows es) → NoneAbove k es
   none_above x k [] p s g h u = tt
   none_above x k (e ∷ []) p s g h u = (
     λ below. elim (empty_or_last (rows e.1)) [
@@ -210,7 +210,7 @@ module _ {V : Type 0} (rows : V → List Row) where
   push_found : (k : Head) (es : List (Head × V)) (old new : V) (x : Row)
       → IsStrictlySortedBy head_cmp (keys_of es) → NoneAbove k es
       → lookup (test k) es ≡ Some old → rows new ≡ rows old ++ x ∷ []
-      → rows_of rows (set_value (test k) es new) ≡ rows_of rows es ++ x ∷ []
+      → rows_by_key rows (set_value (test k) es new) ≡ rows_by_key rows es ++ x ∷ []
   push_found k [] old new x s n found made = absurd (cc)
   push_found k (e ∷ []) old new x s n found made =
       by_order (head_cmp k e.0)
@@ -230,19 +230,19 @@ module _ {V : Type 0} (rows : V → List Row) where
       (λ o. rw o (ap (λ t. rows e.1 ++ t)
       (push_found k (f ∷ es) old new x (sorted_tail head_cmp e.0 (keys_of (f ∷ es)) s) n.1
       (rw o at found) made)
-      ∙ sym (append_assoc (rows e.1) (rows_of rows (f ∷ es)) (x ∷ []))))
+      ∙ sym (append_assoc (rows e.1) (rows_by_key rows (f ∷ es)) (x ∷ []))))
 
   push_absent : (key : Head) (es : List (Head × V)) (new : V) (x : Row) → NoneAbove key es
       → lookup (test key) es ≡ None → rows new ≡ x ∷ []
-      → rows_of rows (insert_entry head_cmp es key new)
-      ≡ rows_of rows es ++ x ∷ []
+      → rows_by_key rows (insert_entry head_cmp es key new)
+      ≡ rows_by_key rows es ++ x ∷ []
   push_absent key [] new x n found made = rw made
   push_absent key (e ∷ es) new x n found made =
       by_order (head_cmp key e.0)
       (λ o. absurd (n.0 o))
       (λ o. absurd (let f : Some e.1 ≡ None = rw o at found in cc))
       (λ o. rw o (ap (λ t. rows e.1 ++ t) (push_absent key es new x n.1 (rw o at found) made)
-      ∙ sym (append_assoc (rows e.1) (rows_of rows es) (x ∷ []))))
+      ∙ sym (append_assoc (rows e.1) (rows_by_key rows es) (x ∷ []))))
 
   -- ---- what the code does: x goes after all rows, and k is the head of its key
 
@@ -250,12 +250,12 @@ module _ {V : Type 0} (rows : V → List Row) where
     pub head : HasHead k x.greatest.frame
     pub sorted : IsStrictlySortedBy head_cmp (keys_of es)
     pub kept : AreKept rows es
-    pub ends : LastKeyIsUpTo x (rows_of rows es)
+    pub ends : LastKeyIsUpTo x (rows_by_key rows es)
 
   -- the head was made of this frame
   pub goes_after : (x : Row) (f : List ℕ) (k : Head) (es : List (Head × V)) → HasHead k f
       → f ≡ x.greatest.frame → IsStrictlySortedBy head_cmp (keys_of es) → AreKept rows es
-      → (all : List Row) → rows_of rows es ≡ all → LastKeyIsUpTo x all → IsAfter x k es
+      → (all : List Row) → rows_by_key rows es ≡ all → LastKeyIsUpTo x all → IsAfter x k es
   goes_after x f k es head same sorted kept all are ends = record {
     head = subst (HasHead k) same head;
     sorted = sorted;
@@ -269,7 +269,7 @@ module _ {V : Type 0} (rows : V → List Row) where
   pub after_ok : {A E : Type 0} (x : Row) (k : Head) (es es' : List (Head × V)) (old new : V)
       (r : Result A E) → IsAfter x k es → Some old ≡ lookup (test k) es
       → es' ≡ set_value (test k) es new → OnOk r (rows new ≡ rows old ++ x ∷ [])
-      → OnOk r (rows_of rows es' ≡ rows_of rows es ++ x ∷ [])
+      → OnOk r (rows_by_key rows es' ≡ rows_by_key rows es ++ x ∷ [])
   after_ok x k es es' old new (Ok _) b found w e =
       rw w (push_found k es old new x b.sorted (above_of x k es b) (sym found) e)
   after_ok x k es es' old new (Err _) b found w e = tt
@@ -277,7 +277,7 @@ module _ {V : Type 0} (rows : V → List Row) where
   pub after_err : {A E : Type 0} (x : Row) (k : Head) (es es' : List (Head × V)) (old new : V)
       (r : Result A E) → Some old ≡ lookup (test k) es
       → es' ≡ set_value (test k) es new → OnErr r (rows new ≡ rows old)
-      → OnErr r (rows_of rows es' ≡ rows_of rows es)
+      → OnErr r (rows_by_key rows es' ≡ rows_by_key rows es)
   after_err x k es es' old new (Ok _) found w e = tt
   after_err x k es es' old new (Err _) found w e =
       rw w (set_same rows k es old new (sym found) e)
@@ -305,7 +305,7 @@ module _ {V : Type 0} (rows : V → List Row) where
 
   pub after_new : (x : Row) (k : Head) (es es' : List (Head × V)) (new : V) → IsAfter x k es
       → None ≡ lookup (test k) es → rows new ≡ x ∷ [] → es' ≡ insert_entry head_cmp es k new
-      → (rows_of rows es' ≡ rows_of rows es ++ x ∷ []) × AreKept rows es'
+      → (rows_by_key rows es' ≡ rows_by_key rows es ++ x ∷ []) × AreKept rows es'
   after_new x k es es' new b absent made w =
       rw w (
         push_absent k es new x (above_of x k es b) (sym absent) made,
@@ -322,7 +322,7 @@ module _ {V : Type 0} (rows : V → List Row) where
 
   -- the rows of the last entry
   pub end_of_entries : (es : List (Head × V)) (e : Head × V) → AreFilled rows es
-      → slice_get es (length es - 1) ≡ Some e → IsEndOf (rows e.1) (rows_of rows es)
+      → slice_get es (length es - 1) ≡ Some e → IsEndOf (rows e.1) (rows_by_key rows es)
   end_of_entries [] e h f = absurd (cc)
   end_of_entries (d ∷ []) e h f =
       let same : d ≡ e = cc in
@@ -342,7 +342,7 @@ module _ {V : Type 0} (rows : V → List Row) where
           arith,
           h.1.0,
           length-append (rows q.1)
-              (rows_of rows es),
+              (rows_by_key rows es),
           ap length (r.none n),
         ));
       }

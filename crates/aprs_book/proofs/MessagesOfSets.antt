@@ -1,7 +1,7 @@
 -- What rows report of messages is what their set has.
 use Rattle.std.proofs.Common.{◌≡◌, ◌∙◌, ℕ, List, [], ◌∷◌, Option, Some, None, Result, Ok, Err, IfOk, sym, refl, subst}
 use Rattle.aprs_ax25.specs.Callsign.{Call}
-use Rattle.aprs_ax25.specs.CallText.{CallText}
+use Rattle.aprs_ax25.specs.CallText.{SpellsCall}
 use Rattle.aprs_log.specs.Reception.{Heard, heard_cmp}
 use Rattle.aprs_laws.specs.Lists.{◌∈◌, Ordered}
 use Rattle.aprs_laws.specs.Order.{IsBelow, IsUpTo}
@@ -35,8 +35,8 @@ answers_by : (m : Message) (a : Answer) (k : Key) (id : List ℕ) → IsFor m id
 answers_by m a k id f r =
     subst (λ (i : List ℕ). AnswersIt m i k) f.same_id (record {
       addressee = r.addressee;
-      sender = subst (λ (c : Call). CallText c m.addressee) (sym r.sender) f.addressee;
-      to = subst (λ (c : Call). CallText c r.addressee) f.source r.to;
+      sender = subst (λ (c : Call). SpellsCall c m.addressee) (sym r.sender) f.addressee;
+      to = subst (λ (c : Call). SpellsCall c r.addressee) f.source r.to;
       answer = r.answer;
     })
 

@@ -15,7 +15,7 @@ use Rattle.aprs_laws.specs.Lists.{◌∈◌, Ordered}
 use Rattle.aprs_laws.specs.Order.{IsBelow}
 use Rattle.aprs_laws.specs.Row.{Row, last_of, row_cmp}
 use Rattle.aprs_laws.specs.JoinRow.{single, IsNear}
-use Rattle.aprs_laws.specs.Inserted.{side, grow_row, insert_heard, fits_in_place}
+use Rattle.aprs_laws.specs.Inserted.{side, grow_row, insert_heard, has_place_for}
 use Rattle.aprs_laws.specs.Sound.{IsFar, Sound}
 use Rattle.aprs_laws.proofs.Lists.{in_right}
 use Rattle.aprs_laws.proofs.Rows.{IsBefore, before_trans, place_means}
@@ -27,7 +27,7 @@ use Rattle.aprs_rows.specs.HeadSteps.{head_cmp}
 use Rattle.aprs_rows.specs.declared.row.head.Head.{Head}
 use Rattle.aprs_book.proofs.Entries.{test}
 use Rattle.aprs_book.specs.Slots.{IsNewAt, GrowsAt, BridgesAt}
-use Rattle.aprs_book.specs.Keyed.{rows_of}
+use Rattle.aprs_book.specs.Keyed.{rows_by_key}
 
 in_get : {X : Type 0} (xs : List X) (i : ℕ) (d : X) → i < length xs → get_or xs i d ∈ xs
 in_get [] i d h = absurd (omega (arith, h))
@@ -120,7 +120,7 @@ module _ (gap : ℕ) (x : Heard) where
   passed : (rows : List Row) (i : ℕ) → i ≤ length rows
       → ((k : ℕ) (d : Row) → k < i → is_before (get_or rows k d) ≡ true)
       → (insert_heard gap x rows ≡ take i rows ++ insert_heard gap x (drop i rows))
-      × (fits_in_place gap x rows ≡ fits_in_place gap x (drop i rows))
+      × (has_place_for gap x rows ≡ has_place_for gap x (drop i rows))
   passed rows zero w b = (refl, refl)
   passed [] (suc i) w b = absurd (omega (arith, w))
   passed (r ∷ rows) (suc i) w b =
@@ -131,7 +131,7 @@ module _ (gap : ℕ) (x : Heard) where
 
   split : (rows : List Row) (i : ℕ) → IsFound rows i
       → (insert_heard gap x rows ≡ take i rows ++ insert_heard gap x (drop i rows))
-      × (fits_in_place gap x rows ≡ fits_in_place gap x (drop i rows))
+      × (has_place_for gap x rows ≡ has_place_for gap x (drop i rows))
   split rows i f = passed rows i f.within (λ k d l. f.point.0 k d (omega arith) l)
 
   -- a row from there on is not before x
@@ -154,7 +154,7 @@ module _ (gap : ℕ) (x : Heard) where
         inserts =
             s.0 ∙ ap (λ t. take i rows ++ insert_heard gap x t) none
             ∙ ap (λ t. take i rows ++ single x ∷ t) (sym none);
-        in_place = s.1 ∙ ap (λ t. fits_in_place gap x t) none;
+        in_place = s.1 ∙ ap (λ t. has_place_for gap x t) none;
       }
 
   pub new_before : (rows : List Row) (i : ℕ) (r : Row) → IsFound rows i → i < length rows
@@ -167,7 +167,7 @@ module _ (gap : ℕ) (x : Heard) where
         inserts =
             s.0 ∙ ap (λ t. take i rows ++ insert_heard gap x t) at
             ∙ rw far (ap (λ t. take i rows ++ single x ∷ t) (sym at));
-        in_place = s.1 ∙ ap (λ t. fits_in_place gap x t) at ∙ rw far refl;
+        in_place = s.1 ∙ ap (λ t. has_place_for gap x t) at ∙ rw far refl;
       }
 
   pub grows_last : (rows : List Row) (i : ℕ) (r : Row) → IsFound rows i → i + 1 ≡ length rows
@@ -208,16 +208,16 @@ module _ (gap : ℕ) (x : Heard) where
 
 module _ {V : Type 0} (rows : V → List Row) where
   pub found_sound : (gap : ℕ) (k : Head) (es : List (Head × V)) (old : V)
-      → Sound gap (rows_of rows es) → lookup (test k) es ≡ Some old
+      → Sound gap (rows_by_key rows es) → lookup (test k) es ≡ Some old
       → Sound gap (rows old)
   found_sound gap k [] old s found = absurd (cc)
   found_sound gap k (e ∷ es) old s found =
-      let others = sound_back gap (rows e.1) (rows_of rows es) s in
+      let others = sound_back gap (rows e.1) (rows_by_key rows es) s in
       by_order (head_cmp k e.0)
       (λ o. found_sound gap k es old others (rw o at found))
       (λ o.
       let f : Some e.1 ≡ Some old = rw o at found in
       let r : e.1 ≡ old = cc in
       subst (λ (v : V). Sound gap (rows v)) r (sound_prefix gap (rows e.1)
-      (rows_of rows es) s))
+      (rows_by_key rows es) s))
       (λ o. found_sound gap k es old others (rw o at found))

@@ -1,6 +1,6 @@
 -- Worked examples.
 use Rattle.std.proofs.Common.{◌≡◌, ℕ, true, false, None, List, [], ◌∷◌, ◌++◌, codes, inl, inr, refl, sym, ap, ◌∙◌, subst, arith}
-use Rattle.aprs_ax25.specs.CallText.{CallText}
+use Rattle.aprs_ax25.specs.CallText.{SpellsCall}
 use Rattle.aprs_ax25.proofs.Calls.{ssid_text-one}
 use Rattle.aprs_log.specs.Reception.{Heard, heard_cmp}
 use Rattle.aprs_report.specs.Reading.{message, ack, rej}
@@ -21,13 +21,13 @@ use Rattle.aprs_book.specs.Examples.{hi_message, one, asked_at, acknowledged_at,
 
 -- ---- texts of callsigns
 
-pub seven_text : CallText (n0call 7) (codes "N0CALL-7")
+pub seven_text : SpellsCall (n0call 7) (codes "N0CALL-7")
 seven_text = record {
   call = record { some = omega arith; most = omega arith; bytes = refl; ssid = omega arith };
   spelled = ap (λ ssid. codes "N0CALL" ++ ssid) (sym (ssid_text-one 7 (omega arith) (omega arith)));
 }
 
-pub eight_text : CallText (n0call 8) (codes "N0CALL-8")
+pub eight_text : SpellsCall (n0call 8) (codes "N0CALL-8")
 eight_text = record {
   call = record { some = omega arith; most = omega arith; bytes = refl; ssid = omega arith };
   spelled = ap (λ ssid. codes "N0CALL" ++ ssid) (sym (ssid_text-one 8 (omega arith) (omega arith)));

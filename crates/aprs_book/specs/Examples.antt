@@ -3,7 +3,7 @@ use Rattle.std.specs.Prelude.{ℕ, ◌+◌, ◌*◌, Bool, List, [], ◌∷◌, 
 use denote.Ref.{Bor}
 use Rattle.aprs_log.specs.Reception.{Heard}
 use Rattle.aprs_laws.specs.Row.{Row}
-use Rattle.aprs_laws.specs.Examples.{n0call, rx1, heard, row_of}
+use Rattle.aprs_laws.specs.Examples.{n0call, rx1, reception_at, example_row}
 use Rattle.aprs_book.specs.declared.lists.message.MessageRow.{MessageRow}
 use Rattle.aprs_book.specs.declared.lists.message.MessageState.{MessageState}
 use Rattle.aprs_book.specs.declared.lists.named.Named.{Named}
@@ -16,9 +16,9 @@ frame_by ssid info =
     0x82 ∷ 0xA0 ∷ 0xA4 ∷ 0xA6 ∷ 0x40 ∷ 0x40 ∷ 0xE0
     ∷ 0x9C ∷ 0x60 ∷ 0x86 ∷ 0x82 ∷ 0x98 ∷ 0x98 ∷ (0x61 + 2 * ssid) ∷ 0x03 ∷ 0xF0 ∷ info
 
--- That frame, as RX1 heard it at a moment.
+-- That frame, as RX1 reception_at it at a moment.
 abbrev pub heard_by : ℕ → ℕ → List ℕ → Heard
-heard_by ssid moment info = heard moment rx1 (frame_by ssid info)
+heard_by ssid moment info = reception_at moment rx1 (frame_by ssid info)
 
 -- Bytes that are lent.
 abbrev pub lent : List ℕ → Bor (List ℕ)
@@ -39,7 +39,7 @@ hi_message id = message_by 7 (codes "N0CALL-8") (codes "Hi") id
 abbrev pub one : Option (List ℕ)
 one = Some (codes "1")
 
--- That message with the id 1, as it is heard.
+-- That message with the id 1, as it is reception_at.
 abbrev pub asked_at : ℕ → Heard
 asked_at moment = heard_by 7 moment (codes ":N0CALL-8 :Hi{1")
 
@@ -77,15 +77,15 @@ status_at ssid moment = heard_by ssid moment (codes ">Hi")
 abbrev pub position_at : ℕ → Heard
 position_at moment = heard_by 7 moment (codes "!4903.50N/07201.75W-")
 
--- A status of N0CALL-7, which is heard twice in one transmission, its position, and a status of
+-- A status of N0CALL-7, which is reception_at twice in one transmission, its position, and a status of
 -- N0CALL-8.
 abbrev pub two_stations : List Heard
 two_stations = status_at 7 0 ∷ status_at 7 30000 ∷ position_at 0 ∷ status_at 8 0 ∷ []
 
 -- The rows of `two_stations`.
 abbrev pub two_stations_rows : List Row
-two_stations_rows = row_of 0 (rx1 ∷ []) (position_at 0) ∷ row_of 0 (rx1 ∷ []) (status_at 7 30000)
-    ∷ row_of 0 (rx1 ∷ []) (status_at 8 0) ∷ []
+two_stations_rows = example_row 0 (rx1 ∷ []) (position_at 0) ∷ example_row 0 (rx1 ∷ []) (status_at 7 30000)
+    ∷ example_row 0 (rx1 ∷ []) (status_at 8 0) ∷ []
 
 -- A station of the list, N0CALL with this SSID.
 abbrev pub station_of : ℕ → ℕ → Option Heard → Option Heard → Station
@@ -116,4 +116,4 @@ two_leaders = item_at 20 ∷ object_at 0 ∷ killed_at 10 ∷ []
 
 -- LEADER in the list, an item or an object.
 abbrev pub leader_listed : Bool → Heard → Named
-leader_listed is_item heard = record { is_item = is_item; name = lent (codes "LEADER"); heard = heard }
+leader_listed is_item reception_at = record { is_item = is_item; name = lent (codes "LEADER"); reception_at = reception_at }

@@ -4,7 +4,7 @@ use Rattle.std.specs.Option.{option_map}
 use Rattle.std.specs.Ordering.{on, then_cmp}
 use Rattle.std.specs.declared.cmp.Ordering.{Ordering}
 use Rattle.aprs_ax25.specs.Callsign.{Call, call_cmp}
-use Rattle.aprs_ax25.specs.CallText.{CallText}
+use Rattle.aprs_ax25.specs.CallText.{SpellsCall}
 use Rattle.aprs_log.specs.Reception.{Heard, bytes_cmp, heard_cmp}
 use Rattle.aprs_report.specs.Reading.{Value, ack, rej}
 use Rattle.aprs_laws.specs.Lists.{◌∈◌}
@@ -22,9 +22,9 @@ use Rattle.aprs_book.specs.declared.lists.message.MessageState.TheVariants.{Unnu
 use Rattle.aprs_book.specs.Messages.{Message, ReportsIt, message_cmp, shown_message, state_by}
 
 -- Whether information begins with a colon, as that of messages and their answers does.
-abbrev pub is_addressed : List ℕ → Bool
-is_addressed [] = false
-is_addressed (b ∷ bytes) = b == 58
+abbrev pub begins_with_colon : List ℕ → Bool
+begins_with_colon [] = false
+begins_with_colon (b ∷ bytes) = b == 58
 
 -- ---- spans
 
@@ -74,7 +74,7 @@ answer_of x = record { source = x.source; addressee = x.addressee; id = x.id.now
 pub record GivesAnswer (a : Answer) (k : Key) : Type 0 where
   pub addressee : List ℕ
   pub sender : k.source ≡ a.addressee
-  pub to : CallText a.source addressee
+  pub to : SpellsCall a.source addressee
   pub answer : (report_of k ≡ ack addressee a.id) ⊎ (report_of k ≡ rej addressee a.id)
 
 -- g is the greatest of the greatest receptions of the rows that answer.
@@ -110,7 +110,7 @@ AreAnswers rows entries = IsCollected answer_of GivesAnswer IsGreatestAnswer row
 -- An answer that is one to this id of a message.
 pub record IsFor (m : Message) (id : List ℕ) (a : Answer) : Type 0 where
   pub source : a.source ≡ m.source
-  pub addressee : CallText a.addressee m.addressee
+  pub addressee : SpellsCall a.addressee m.addressee
   pub same_id : a.id ≡ id
 
 -- The greatest answer to this id of a message: that of the one entry which is for it, or none

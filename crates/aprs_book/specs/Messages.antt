@@ -4,7 +4,7 @@ use Rattle.std.specs.Option.{option_cmp, option_map}
 use Rattle.std.specs.Ordering.{on, then_cmp}
 use Rattle.std.specs.declared.cmp.Ordering.{Ordering}
 use Rattle.aprs_ax25.specs.Callsign.{Call, call_cmp}
-use Rattle.aprs_ax25.specs.CallText.{CallText}
+use Rattle.aprs_ax25.specs.CallText.{SpellsCall}
 use Rattle.aprs_log.specs.Reception.{Heard, bytes_cmp}
 use Rattle.aprs_report.specs.Reading.{Value, message, ack, rej}
 use Rattle.aprs_laws.specs.Lists.{◌∈◌, Ordered}
@@ -53,8 +53,8 @@ message_cmp = then_cmp (on (λ m. m.source) call_cmp)
 -- and it is addressed to the message's sender.
 pub record AnswersIt (m : Message) (id : List ℕ) (k : Key) : Type 0 where
   pub addressee : List ℕ
-  pub sender : CallText k.source m.addressee
-  pub to : CallText m.source addressee
+  pub sender : SpellsCall k.source m.addressee
+  pub to : SpellsCall m.source addressee
   pub answer : (report_of k ≡ ack addressee id) ⊎ (report_of k ≡ rej addressee id)
 
 -- A rejection rejects, and an acknowledgement acknowledges.

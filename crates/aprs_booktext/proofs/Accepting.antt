@@ -21,7 +21,7 @@ use Rattle.aprs_booktext.specs.FirstFault.{FirstFault}
 use Rattle.aprs_booktext.specs.Law.{IsWrittenBack}
 use Rattle.aprs_booktext.specs.Reading.{IsAnswered}
 use Rattle.aprs_booktext.specs.Seconds.{AreWrittenToTheSecond, IsTextInSeconds, ReadsSeconds}
-use Rattle.aprs_booktext.specs.Text.{row_line, lines_of, book_of, book_text, IsBookRow, IsBookRows, written_version}
+use Rattle.aprs_booktext.specs.Text.{row_line, lines_of, book_of_version, book_text, IsBookRow, IsBookRows, written_version}
 use Rattle.aprs_booktext.specs.RowLines.{ended_by_lf}
 use Rattle.aprs_log.specs.LogText.{text_of_lines}
 use Rattle.aprs_booktext.specs.BookAnswers.{AcceptsBook, IsBookOrMemory, ReadsBook}
@@ -75,11 +75,11 @@ module _ (limit : ℕ) (head rest : List ℕ) (after : Option (List ℕ)) (v : V
     (text_is : head ++ rest ≡ book_text v rows) where
   -- what was read is the book of the rows
   pub same_read : (found : BookValue) → ReadsBook limit head rest after (Ok found)
-      → found ≡ book_of v rows
+      → found ≡ book_of_version v rows
   same_read found h =
       let t = text_of_read limit head rest after found h in
       let one = one_text t.version v found.rows rows t.is is (t.text_is ∙ text_is) in
-      same_book found (book_of v rows) (t.gap_is ∙ ap gap_of one.0) one.1
+      same_book found (book_of_version v rows) (t.gap_is ∙ ap gap_of one.0) one.1
 
   module _ (fits : length (head ++ rest) ≤ limit) where
     few : length rows < 2 ^ 64
@@ -98,7 +98,7 @@ module _ (limit : ℕ) (head rest : List ℕ) (after : Option (List ℕ)) (v : V
         omega (arith, ap length gets.whole, length-append text gets.rest, gets.ends, fits)
 
     pub accepted : (r : Result BookValue BookFault) → ReadsBook limit head rest after r
-        → IfErr r (λ f. f.cause ≡ cause.Read → ⊥) → IsBookOrMemory r (book_of v rows)
+        → IfErr r (λ f. f.cause ≡ cause.Read → ⊥) → IsBookOrMemory r (book_of_version v rows)
     accepted (Ok found) h read = same_read found h
     accepted (Err f) h read = elim (memory_or_first (head ++ h.got) h.ending f h.reads) [
       | inl m ↦ m.refused
@@ -112,7 +112,7 @@ pub accepts : (known after : Option (List ℕ)) (limit : ℕ) (head : List ℕ)
     → IfErr r (λ f. f.cause ≡ cause.Read → Q)
     → IfSome known (λ input. (v : Version) (rows : List Row) → IsBookRows v rows
     → head ++ input ≡ book_text v rows → length (head ++ input) ≤ limit → (Q → ⊥)
-    → IsBookOrMemory r (book_of v rows))
+    → IsBookOrMemory r (book_of_version v rows))
 accepts None after limit head r Q small h read = tt
 accepts (Some input) after limit head r Q small h read =
     λ v rows is text_is fits good. accepted limit head input after v rows small is text_is fits r h
@@ -127,7 +127,7 @@ module _ (limit : ℕ) (head : List ℕ) (after : Option (List ℕ)) (small : li
   in_seconds input S t (Err f) h = tt
   in_seconds input S t (Ok found) h =
       let rows = scaled_rows 1000 t.rows in
-      let book : Holds (map (scaled_heard 1000) S) (book_of One rows) =
+      let book : Holds (map (scaled_heard 1000) S) (book_of_version One rows) =
       scaled_book 1000 standard_gap (omega arith) S t.rows t.book in
       let is : IsBookRows One rows = record {
         version = standard_range;

@@ -9,7 +9,7 @@ use Rattle.aprs_io.proofs.Sends.{Calls-then}
 use Rattle.aprs_laws.specs.BookValue.{BookValue}
 use Rattle.aprs_booktext.specs.Asking.{Asks, AsksAt, Takes, TakesAt, TakesAtMost}
 use Rattle.aprs_booktext.specs.Fault.{ending_cause}
-use Rattle.aprs_booktext.specs.Reader.{EndsIn, IsOfText}
+use Rattle.aprs_booktext.specs.Reader.{AgreesWithEnding, IsOfText}
 use Rattle.aprs_booktext.specs.declared.fault.BookCause.{BookCause}
 use Rattle.aprs_booktext.specs.declared.fault.BookCause.TheVariants as why
 use Rattle.aprs_booktext.specs.declared.fault.BookFault.{BookFault}
@@ -31,7 +31,7 @@ module _ {R : Type 0} {a b : Counted R} (calls : Calls Going a b) where
     ends_at how.TooLong last = Calls-then calls last
 
     -- the input ends
-    pub Asks-end : (way : Ending) (r : Result BookValue BookFault) → EndsIn way r
+    pub Asks-end : (way : Ending) (r : Result BookValue BookFault) → AgreesWithEnding way r
         → Calls (last_of_ending way) b c → Asks r a c
     Asks-end way (Ok book) is last =
         Calls-then calls (subst (λ w. Calls (last_of_ending w) b c) is last)
@@ -51,7 +51,7 @@ module _ (most : ℕ) (input : List ℕ) (after : Option (List ℕ)) where
   takes_at cause of takes = takes
 
   -- the input ends so
-  pub Takes-end : (way : Ending) (r : Result BookValue BookFault) → EndsIn way r
+  pub Takes-end : (way : Ending) (r : Result BookValue BookFault) → AgreesWithEnding way r
       → TakesAt (ending_cause way) most input after → Takes r most input after
   Takes-end way (Ok book) is takes =
       subst (λ w. TakesAt (ending_cause w) most input after) is takes

@@ -15,7 +15,7 @@ use Rattle.aprs_booktext.specs.Asking.{Takes, TakesAt, TakesAtMost}
 use Rattle.aprs_booktext.specs.TextFault.{most_ahead}
 use Rattle.aprs_booktext.specs.BookAnswers.{ReadsBook, IsAnswerFor}
 use Rattle.aprs_booktext.specs.Fault.{ending_cause}
-use Rattle.aprs_booktext.specs.Reader.{EndsIn, IsFault, IsOfText}
+use Rattle.aprs_booktext.specs.Reader.{AgreesWithEnding, IsFault, IsOfText}
 use Rattle.aprs_booktext.specs.Reading.{Got, IsAnswered}
 use Rattle.aprs_booktext.specs.declared.fault.BookFault.{BookFault}
 use Rattle.aprs_booktext.proofs.Asking.{Asks-end, Asks-fault, Takes-end, Takes-fault}
@@ -120,7 +120,7 @@ module _ (P : List ℕ → Type 0) (head : List ℕ) (old now : Option (List ℕ
 
   -- the input ends so, and the answer says it
   pub Takes-here : (e : Ending) (after : Option (List ℕ)) (r : Result BookValue BookFault)
-      → EndsIn e r → IfSome now (λ rest. Gets left rest after [] e)
+      → AgreesWithEnding e r → IfSome now (λ rest. Gets left rest after [] e)
       → IfSome old (λ input. Takes r (limit - length head) input after)
   Takes-here e after r is gets = here old now p.took gets where
     here : (old now : Option (List ℕ)) → Consumes old now p.got
@@ -173,7 +173,7 @@ module _ {R : Type 0} (remaining : R → Option (List ℕ)) (limit : ℕ) (head 
   -- the input ends
   pub IsAnswered-end : (P : List ℕ → Type 0) (c : Counted R) (way : Ending)
       (r : Result BookValue BookFault)
-      → Got P head (remaining a.device) (remaining b.device) limit left → EndsIn way r
+      → Got P head (remaining a.device) (remaining b.device) limit left → AgreesWithEnding way r
       → EndsHere way left (remaining b.device) (remaining c.device)
       → Calls (last_of_ending way) b c → ((t : List ℕ) → P t → IsAnswerFor r t way)
       → IsAnswered remaining limit head r a c
@@ -185,8 +185,8 @@ module _ {R : Type 0} (remaining : R → Option (List ℕ)) (limit : ℕ) (head 
   }
 
 -- a book's answer is at the end alone, as that of its gap
-pub EndsIn-book : (e : Ending) (r : Result ℕ BookFault) (old new : List Row) → EndsIn e r
-    → EndsIn e (book_read r old new)
+pub EndsIn-book : (e : Ending) (r : Result ℕ BookFault) (old new : List Row) → AgreesWithEnding e r
+    → AgreesWithEnding e (book_read r old new)
 EndsIn-book e (Ok gap) old new is = is
 EndsIn-book e (Err f) old new is = is
 

@@ -2,7 +2,7 @@
 use Rattle.std.proofs.Common.{◌≡◌, ℕ, ◌+◌, ◌<◌, ◌^◌, true, false, List, [], ◌∷◌, ◌++◌, length, map, inl, inr, refl, ap, ◌∙◌, append-nil, arith}
 use Rattle.std.proofs.lemmas.List.Concat.{flat_map-append}
 use Rattle.aprs_laws.specs.Row.{Row}
-use Rattle.aprs_booktext.specs.Reader.{HoldsIn, IsFault, StandsAfter, gap_in, is_done}
+use Rattle.aprs_booktext.specs.Reader.{HoldsIn, IsFault, HasReadLines, gap_in, is_done}
 use Rattle.aprs_booktext.specs.Text.{row_line, end_line, lines_of}
 use Rattle.aprs_booktext.specs.RowLines.{ended_by_lf}
 use Rattle.aprs_log.specs.LogText.{text_of_lines}
@@ -29,7 +29,7 @@ module _ (v : Version) (rows : List Row) where
 
 -- an allocation that failed there failed in the last line
 pub done_refused : (stage : Stage) (rows : List Row) (line t : List ℕ) → is_done stage ≡ true
-    → length rows < 2 ^ 64 → StandsAfter stage rows line t
+    → length rows < 2 ^ 64 → HasReadLines stage rows line t
     → IsFault 1 (record { line = length rows + 2; cause = cause.Memory }) t
 done_refused Header rows line t done few s = absurd (let f : false ≡ true = done in cc)
 done_refused (Rows v) rows line t done few s = absurd (let f : false ≡ true = done in cc)

@@ -9,7 +9,7 @@ use Rattle.aprs_log.specs.declared.moment_form.MomentForm.{MomentForm}
 use Rattle.aprs_laws.specs.Gap.{millis_of}
 use Rattle.aprs_laws.specs.Row.{Row}
 use Rattle.aprs_laws.specs.Sound.{Sound}
-use Rattle.aprs_booktext.specs.FirstFault.{AmongRows, EndFault, FaultAfter, FirstFault, HeaderFault, IsCut, LineFault, PastEnd}
+use Rattle.aprs_booktext.specs.FirstFault.{AmongRows, EndFault, RestIsAtFault, FirstFault, HeaderFault, IsCut, LineFault, PastEnd}
 use Rattle.aprs_booktext.specs.TextFault.{IsWrong}
 use Rattle.aprs_booktext.specs.Lines.{Lacks}
 use Rattle.aprs_booktext.specs.Text.{row_line, end_line, lines_of, IsBookRow, IsBookRows}
@@ -206,7 +206,7 @@ abbrev lines_in : Version → List Row → List (List ℕ)
 lines_in v rows = map (row_line (form_of v)) rows
 
 lines_lack : (lines : List (List ℕ)) (rest text : List ℕ) (e : Ending) (c : BookCause)
-    → length text < 2 ^ 64 → text ≡ text_of_lines lines ++ rest → FaultAfter lines rest e c
+    → length text < 2 ^ 64 → text ≡ text_of_lines lines ++ rest → RestIsAtFault lines rest e c
     → AllByRecursion (Lacks 10) lines
 lines_lack lines rest text e c small whole h = elim h [
   | inl start ↦ subst (AllByRecursion (Lacks 10)) (sym start.none_read) tt
@@ -307,7 +307,7 @@ end_header lines rest e c h = record {
 
 -- the lines before a fault, if any, begin with a header
 some_header : (lines : List (List ℕ)) (rest line : List ℕ) (more : List (List ℕ)) (e : Ending)
-    (c : BookCause) → FaultAfter lines rest e c → lines ≡ line ∷ more → HaveHeader lines
+    (c : BookCause) → RestIsAtFault lines rest e c → lines ≡ line ∷ more → HaveHeader lines
 some_header lines rest line more e c h is = elim h [
   | inl start ↦ absurd (let l = ap length (sym start.none_read ∙ is) in omega (arith, l))
   | inr k ↦ elim k [
@@ -327,7 +327,7 @@ same_version lines v more h is e =
     (cons_first (header_of h.version) h.more (header_of v) more (sym h.lines_are ∙ e))
 
 module _ (lines b : List (List ℕ)) (rest other : List ℕ) (e : Ending) (c d : BookCause)
-    (k : FaultAfter b other e d) (on : GoesOn lines b rest) where
+    (k : RestIsAtFault b other e d) (on : GoesOn lines b rest) where
   after_start : lines ≡ [] → HeaderFault rest e c → ⊥
   after_start none h = elim h [
     | inl cut ↦ not_cut rest on.line on.tail e c on.text_is cut
@@ -435,7 +435,7 @@ module _ (lines b : List (List ℕ)) (rest other : List ℕ) (e : Ending) (c d :
                 )
           ]
 
-  no_further : FaultAfter lines rest e c → ⊥
+  no_further : RestIsAtFault lines rest e c → ⊥
   no_further h = elim h [
     | inl start ↦ after_start start.none_read start.fault
     | inr k ↦ elim k [
@@ -520,7 +520,7 @@ module _ (rest : List ℕ) (e : Ending) (c d : BookCause) where
         (cons_others (header_of v) (lines_in v h.rows) (header_of v) (lines_in v k.rows ++ last)
         (sym h.read ∙ read))
 
-    one_cause : FaultAfter lines rest e c → FaultAfter lines rest e d → c ≡ d
+    one_cause : RestIsAtFault lines rest e c → RestIsAtFault lines rest e d → c ≡ d
     one_cause h k = elim h [
       | inl start ↦ elim k [
         | inl too ↦ start_once start.fault too.fault
@@ -554,9 +554,9 @@ one_fault text e f g small h k =
       | inl same ↦
           let line : f.line ≡ g.line
           = h.line ∙ ap (λ (l : List (List ℕ)). length l + 1) same.0 ∙ sym k.line in
-          let other : FaultAfter h.lines h.rest e g.cause
-          = subst (λ r. FaultAfter h.lines r e g.cause) (sym same.1)
-          (subst (λ l. FaultAfter l k.rest e g.cause) (sym same.0) k.fault) in
+          let other : RestIsAtFault h.lines h.rest e g.cause
+          = subst (λ r. RestIsAtFault h.lines r e g.cause) (sym same.1)
+          (subst (λ l. RestIsAtFault l k.rest e g.cause) (sym same.0) k.fault) in
           fault_is f g line (one_cause h.rest e f.cause g.cause h.lines h.fault other)
       | inr on ↦ absurd (elim on [
         | inl further ↦ no_further h.lines k.lines h.rest k.rest e f.cause g.cause k.fault further

@@ -20,11 +20,11 @@ use Rattle.aprs_laws.specs.Row.{Row, last_of}
 use Rattle.aprs_laws.specs.Sound.{Sound}
 use Rattle.aprs_laws.proofs.Pushes.{sound_prefix}
 use Rattle.aprs_rows.specs.Refusal.{refusal}
-use Rattle.aprs_book.specs.Shown.{row_of}
+use Rattle.aprs_book.specs.Shown.{row_with}
 use Rattle.aprs_laws.specs.declared.row_cause.RowCause.{RowCause}
 use Rattle.aprs_rows.proofs.Refusals.{none_exactly}
-use Rattle.aprs_booktext.specs.FirstFault.{EndFault, FaultAfter, FirstFault, HasLine, HeaderFault, IsCut, LineFault}
-use Rattle.aprs_booktext.specs.TextFault.{IsRefused, IsWrong}
+use Rattle.aprs_booktext.specs.FirstFault.{EndFault, RestIsAtFault, FirstFault, HasLine, HeaderFault, IsCut, LineFault}
+use Rattle.aprs_booktext.specs.TextFault.{SpellsRefusedRow, IsWrong}
 use Rattle.aprs_booktext.specs.Lines.{Lacks, pieces}
 use Rattle.aprs_booktext.specs.Text.{fields_of, row_line, end_line, book_text, IsSpelled, IsBookRow, IsBookRows, written_text, written_version}
 use Rattle.aprs_booktext.specs.RowLines.{ended_by_lf}
@@ -109,11 +109,11 @@ same_row form x y h k e =
     sym (decode_of-encode_lower x.greatest.frame h.bytes) ∙ ap decode_of digits
     ∙ decode_of-encode_lower y.greatest.frame k.bytes in
     let frame : x.greatest.frame ≡ y.greatest.frame = cc in
-    ap (λ m. row_of m (last_of x) x.receivers x.greatest.receiver x.greatest.frame) first
-    ∙ ap (λ m. row_of y.first m x.receivers x.greatest.receiver x.greatest.frame) last
-    ∙ ap (λ r. row_of y.first (last_of y) r x.greatest.receiver x.greatest.frame) names
-    ∙ ap (λ r. row_of y.first (last_of y) y.receivers r x.greatest.frame) who
-    ∙ ap (λ b. row_of y.first (last_of y) y.receivers y.greatest.receiver b) frame
+    ap (λ m. row_with m (last_of x) x.receivers x.greatest.receiver x.greatest.frame) first
+    ∙ ap (λ m. row_with y.first m x.receivers x.greatest.receiver x.greatest.frame) last
+    ∙ ap (λ r. row_with y.first (last_of y) r x.greatest.receiver x.greatest.frame) names
+    ∙ ap (λ r. row_with y.first (last_of y) y.receivers r x.greatest.frame) who
+    ∙ ap (λ b. row_with y.first (last_of y) y.receivers y.greatest.receiver b) frame
 
 -- ---- the last line
 
@@ -270,7 +270,7 @@ All-middle P (y ∷ a) x b h = All-middle P a x b (All-tail P y (a ++ x ∷ b) h
 -- no cause refuses a row after those that it follows
 refused : (gap : ℕ) (form : MomentForm) (rows more : List Row) (x : Row) (why : RowCause)
     → IsBookRow form x → Sound gap (rows ++ x ∷ more)
-    → IsRefused gap form rows (row_line form x) why → ⊥
+    → SpellsRefusedRow gap form rows (row_line form x) why → ⊥
 refused gap form rows more x why h s w =
     let same = same_row form x w.row h.spelled w.is.spelled w.spelled in
     let first : Sound gap (rows ++ x ∷ []) = sound_prefix gap (rows ++ x ∷ []) more
@@ -397,7 +397,7 @@ module _ (v : Version) (rows : List Row) (is : IsBookRows v rows) (small : lengt
   pub cut_short : (text : List ℕ) (f : BookFault) → text ++ more ≡ book_text v rows → f.cause ≡ c
       → FirstFault text e f → IsCutShort e more c
   cut_short text f whole cause_is first = go (subst
-      (FaultAfter first.lines first.rest e) cause_is first.fault) where
+      (RestIsAtFault first.lines first.rest e) cause_is first.fault) where
         all : (lines : List (List ℕ)) → first.lines ≡ lines
             → text_of_lines lines ++ (first.rest ++ more) ≡ book_text v rows
         all lines same =
@@ -405,7 +405,7 @@ module _ (v : Version) (rows : List Row) (is : IsBookRows v rows) (small : lengt
             ∙ sym (append_assoc (text_of_lines first.lines) first.rest more)
             ∙ ap (λ l. l ++ more) (sym first.whole) ∙ whole
 
-        go : FaultAfter first.lines first.rest e c → IsCutShort e more c
+        go : RestIsAtFault first.lines first.rest e c → IsCutShort e more c
         go h = elim h [
           | inl start ↦ at_start first.rest (all [] start.none_read) start.fault
           | inr k ↦ elim k [

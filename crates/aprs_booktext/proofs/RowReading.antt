@@ -5,7 +5,7 @@ use Rattle.std.specs.Prelude.{◌≢◌, All, IfNone}
 use Rattle.std.proofs.lemmas.Bool.{false≢true}
 use Rattle.std.specs.List.{join_with_byte}
 use Rattle.hex.specs.Hex.{encode_lower}
-use Rattle.aprs_ax25.specs.FrameFault.{frame_of}
+use Rattle.aprs_ax25.specs.FrameFault.{frame_or_fault}
 use Rattle.aprs_ax25.proofs.UiFrames.{frame_of-is, is-frame_of}
 use Rattle.aprs_log.specs.Clock.{form_size}
 use Rattle.aprs_log.specs.Moment.{moment_text_in, IsWritable}
@@ -199,7 +199,7 @@ module _ (form : MomentForm) (line a : List ℕ) (tag_is : line ≡ 84 ∷ 32 �
                 × (line ≡ row_line form (row_of_text first last n w frame))
             row_found h = (record { spelled = spelled h.spelled; frame = frame_of-is frame frame h.is }, lined h.spelled)
 
-            no_frame : SpellsBytes g frame → IsErr (frame_of frame) → HasNoFrame form line
+            no_frame : SpellsBytes g frame → IsErr (frame_or_fault frame) → HasNoFrame form line
             no_frame h err = record {
               row = row_of_text first last n w frame;
               is = spelled h;

@@ -10,7 +10,7 @@ use Rattle.aprs_log.specs.LogText.{HasNoLf, text_of_lines}
 use Rattle.aprs_laws.specs.Gap.{millis_of}
 use Rattle.aprs_laws.specs.Row.{Row}
 use Rattle.aprs_booktext.specs.Fault.{ending_cause}
-use Rattle.aprs_booktext.specs.FirstFault.{EndFault, FaultAfter, FirstFault, HeaderFault, IsMemoryAt, LineFault}
+use Rattle.aprs_booktext.specs.FirstFault.{EndFault, RestIsAtFault, FirstFault, HeaderFault, IsMemoryAt, LineFault}
 use Rattle.aprs_booktext.specs.Lines.{Lacks}
 use Rattle.aprs_booktext.specs.TextFault.{AreBook, AreOfRows, BeginBook, EndsLine, HasBookFault, IsWrong, IsWrongRest, most_ahead, StopsIn}
 use Rattle.aprs_booktext.specs.Version.{form_of, gap_of, header_of, IsVersion}
@@ -145,7 +145,7 @@ module _ (lines : List (List ℕ)) (line more : List ℕ) (e : Ending) (one : La
 
   -- the text stops in a line
   cut_after : (c : BookCause) → BeginBook lines → more ≡ [] → c ≡ ending_cause e
-      → FaultAfter lines (line ++ more) e c
+      → RestIsAtFault lines (line ++ more) e c
   cut_after c (inl none) no_more is =
       inl (record {
         none_read = none;
@@ -160,7 +160,7 @@ module _ (lines : List (List ℕ)) (line more : List ℕ) (e : Ending) (one : La
   }))
 
   stopped : (c : BookCause) → StopsIn lines line more → c ≡ ending_cause e → e ≢ how.End
-      → FaultAfter lines (line ++ more) e c
+      → RestIsAtFault lines (line ++ more) e c
   stopped c (no_more, inl begins) is not_end = cut_after c begins no_more is
   stopped c (no_more, inr book) is not_end = inr (inr (record {
     version = book.0.0;
@@ -171,7 +171,7 @@ module _ (lines : List (List ℕ)) (line more : List ℕ) (e : Ending) (one : La
   }))
 
   header_after : (lines ≡ []) × ((v : Version) → IsVersion v → line ≢ header_of v) × EndsLine more
-      → FaultAfter lines (line ++ more) e why.Header
+      → RestIsAtFault lines (line ++ more) e why.Header
   header_after h = inl (record {
     none_read = h.0;
     fault = inr (record {
@@ -183,7 +183,7 @@ module _ (lines : List (List ℕ)) (line more : List ℕ) (e : Ending) (one : La
     });
   })
 
-  past_book : AreBook lines → line ++ more ≢ [] → FaultAfter lines (line ++ more) e why.After
+  past_book : AreBook lines → line ++ more ≢ [] → RestIsAtFault lines (line ++ more) e why.After
   past_book b some = inr (inr (record {
     version = b.0;
     rows = b.1;
@@ -198,7 +198,7 @@ module _ (lines : List (List ℕ)) (line more : List ℕ) (e : Ending) (one : La
   -- the text stops in a line, or a line can't come after rows
   other : (c : BookCause) → ((c ≡ why.Ending) × BeginBook lines × (more ≡ []) × (e ≡ how.End))
       ⊎ ((v : Version) × (rows : List Row) × AreOfRows v rows lines × EndsLine more
-      × IsWrong (millis_of (gap_of v)) (form_of v) rows line c) → FaultAfter lines (line ++ more) e c
+      × IsWrong (millis_of (gap_of v)) (form_of v) rows line c) → RestIsAtFault lines (line ++ more) e c
   other c (inl h) = cut_after c h.1 h.2 (h.0 ∙ sym (ap ending_cause h.3))
   other c (inr h) = inr (inl (record {
     version = h.0;
@@ -218,7 +218,7 @@ module _ (lines : List (List ℕ)) (line more : List ℕ) (e : Ending) (one : La
   IsMemory c = (c ≡ why.Memory) × BeginBook lines × (length more ≤ most_ahead)
 
   fault_after : (c : BookCause) → IsWrongRest lines line more e c
-      → IsMemory c ⊎ FaultAfter lines (line ++ more) e c
+      → IsMemory c ⊎ RestIsAtFault lines (line ++ more) e c
   fault_after why.Header w = inr (header_after w)
   fault_after why.After w = inr (past_book w.0 w.1)
   fault_after why.Read w = inr (stopped why.Read w.0 (sym (ap ending_cause w.1))
@@ -275,7 +275,7 @@ ending_other how.TooLong h = cc
 
 -- a first fault isn't Memory
 not_memory : (lines : List (List ℕ)) (rest : List ℕ) (e : Ending) (c : BookCause)
-    → FaultAfter lines rest e c → c ≢ why.Memory
+    → RestIsAtFault lines rest e c → c ≢ why.Memory
 not_memory lines rest e c (inl start) is = header start.fault where
   header : HeaderFault rest e c → ⊥
   header (inl k) = ending_other e (sym k.1 ∙ is)

@@ -15,7 +15,7 @@ use Rattle.aprs_log.specs.Receiver.{IsName, is_name_byte}
 use Rattle.aprs_log.proofs.Moments.{text-moment_in, one_text, moment_text-is, millis_kept, same_text}
 use Rattle.aprs_laws.specs.Row.{Row, last_of}
 use Rattle.aprs_booktext.specs.Lines.{Lacks, pieces}
-use Rattle.aprs_ax25.specs.FrameFault.{frame_of, frame_fault, unless_fault}
+use Rattle.aprs_ax25.specs.FrameFault.{frame_or_fault, frame_fault, unless_fault}
 use Rattle.aprs_ax25.specs.declared.fault.FrameFault.{FrameFault}
 use Rattle.aprs_booktext.specs.Text.{fields_of, row_line, IsSpelled}
 use Rattle.aprs_booktext.proofs.Cuts.{lacks_joined, pieces_joined, joined_pieces}
@@ -244,7 +244,7 @@ NamesFirst-last ps last rest n e answer d =
     )
 
 -- a frame is its bytes
-pub frame_is : (bytes frame : List ℕ) → frame_of bytes ≡ Ok frame → frame ≡ bytes
+pub frame_is : (bytes frame : List ℕ) → frame_or_fault bytes ≡ Ok frame → frame ≡ bytes
 frame_is bytes frame e = go (frame_fault bytes) e where
   go : (o : Option FrameFault) → unless_fault bytes o ≡ Ok frame → frame ≡ bytes
   go None e = cc

@@ -16,7 +16,7 @@ use Rattle.aprs_booktext.proofs.Cuts.{lacks_append}
 use Rattle.aprs_rows.specs.Refusal.{refusal}
 use Rattle.aprs_rows.proofs.Refusals.{none_exactly}
 use Rattle.aprs_booktext.specs.FirstFault.{FirstFault}
-use Rattle.aprs_booktext.specs.Reader.{HoldsIn, StandsAfter, IsFault, JudgesLine, EndsWithRows, EndsWithSuch, StopsAt, EndsIn, gap_in, is_done, line_number, lines_read, may_end}
+use Rattle.aprs_booktext.specs.Reader.{HoldsIn, HasReadLines, IsFault, JudgesLine, EndsWithRows, EndsWithSuch, StopsAt, AgreesWithEnding, gap_in, is_done, line_number, lines_read, may_end}
 use Rattle.aprs_booktext.specs.StoredRows.{IsNextLine, StopsAfter, rows_after}
 use Rattle.aprs_booktext.specs.Text.{row_line, end_line, lines_of, book_text, IsBookRow, IsBookRows}
 use Rattle.aprs_booktext.specs.RowLines.{ended_by_lf}
@@ -82,8 +82,8 @@ no_rows v h = rows_are v [] h
     (All-nil (IsBookRow (form_of v)))
 
 ended_header : (v : Version) (old new : List Row) (line t : List ℕ) → IsVersion v
-    → line ≡ header_of v → new ≡ old → StandsAfter Header old line t
-    → StandsAfter (Rows v) new [] (t ++ 10 ∷ [])
+    → line ≡ header_of v → new ≡ old → HasReadLines Header old line t
+    → HasReadLines (Rows v) new [] (t ++ 10 ∷ [])
 ended_header v old new line t h is same s =
     let none : new ≡ [] = same ∙ s.holds in
     let lines : line ∷ [] ≡ header_of v ∷ map (row_line (form_of v)) new
@@ -99,7 +99,7 @@ ended_header v old new line t h is same s =
 ended_row : (v : Version) (old new : List Row) (x : Row) (line t : List ℕ) → IsBookRow (form_of v) x
     → line ≡ row_line (form_of v) x → new ≡ old ++ x ∷ []
     → refusal (millis_of (gap_of v)) old x ≡ None
-    → StandsAfter (Rows v) old line t → StandsAfter (Rows v) new [] (t ++ 10 ∷ [])
+    → HasReadLines (Rows v) old line t → HasReadLines (Rows v) new [] (t ++ 10 ∷ [])
 ended_row v old new x line t is line_is grown free s =
     let lines : header_of v ∷ map (row_line (form_of v)) old ++ line ∷ [] ≡ header_of v
     ∷ map (row_line (form_of v)) new
@@ -118,7 +118,7 @@ ended_row v old new x line t is line_is grown free s =
     }
 
 ended_last : (v : Version) (old new : List Row) (line t : List ℕ) → line ≡ end_line (length old)
-    → new ≡ old → StandsAfter (Rows v) old line t → StandsAfter (Done v) new [] (t ++ 10 ∷ [])
+    → new ≡ old → HasReadLines (Rows v) old line t → HasReadLines (Done v) new [] (t ++ 10 ∷ [])
 ended_last v old new line t is same s =
     let lines : header_of v ∷ map (row_line (form_of v)) old ++ line ∷ [] ≡ lines_of v new
     = ap (λ l. header_of v ∷ map (row_line (form_of v)) old ++ l ∷ []) is
@@ -131,17 +131,17 @@ ended_last v old new line t is same s =
     }
 
 pub ended_stands : (stage next : Stage) (old new : List Row) (line t : List ℕ)
-    → JudgesLine stage (Ok next) old line new → StandsAfter stage old line t
-    → StandsAfter next new [] (t ++ 10 ∷ [])
+    → JudgesLine stage (Ok next) old line new → HasReadLines stage old line t
+    → HasReadLines next new [] (t ++ 10 ∷ [])
 ended_stands Header Header old new line t j s = absurd j
 ended_stands Header (Rows v) old new line t j s = ended_header v old new line t j.0 j.1 j.2 s
 ended_stands Header (Done v) old new line t j s = absurd j
 ended_stands (Rows v) Header old new line t j s = absurd j
 ended_stands (Rows v) (Rows w) old new line t j s =
-    subst (λ (u : Version). StandsAfter (Rows u) new [] (t ++ 10 ∷ [])) (sym j.0)
+    subst (λ (u : Version). HasReadLines (Rows u) new [] (t ++ 10 ∷ [])) (sym j.0)
     (ended_row v old new j.1 line t j.2 j.3 j.4 j.5 s)
 ended_stands (Rows v) (Done w) old new line t j s =
-    subst (λ (u : Version). StandsAfter (Done u) new [] (t ++ 10 ∷ [])) (sym j.0)
+    subst (λ (u : Version). HasReadLines (Done u) new [] (t ++ 10 ∷ [])) (sym j.0)
     (ended_last v old new line t j.1 j.2 s)
 ended_stands (Done v) next old new line t j s =
     absurd (let e : Ok next ≡ Err cause.After = j.0 in cc)
@@ -157,13 +157,13 @@ number_is (Done v) rows =
     simp length-append (omega arith) in
     omega (arith, length-map rows (row_line (form_of v)), e)
 
-and_more : (stage : Stage) (rows : List Row) (line t more : List ℕ) → StandsAfter stage rows line t
+and_more : (stage : Stage) (rows : List Row) (line t more : List ℕ) → HasReadLines stage rows line t
     → t ++ more ≡ text_of_lines (lines_read stage rows) ++ (line ++ more)
 and_more stage rows line t more s = ap (λ l. l ++ more) s.text_is
     ∙ append_assoc (text_of_lines (lines_read stage rows)) line more
 
 pub ended_fault : (stage : Stage) (old new : List Row) (line t more : List ℕ) (c : BookCause)
-    → JudgesLine stage (Err c) old line new → StandsAfter stage old line t
+    → JudgesLine stage (Err c) old line new → HasReadLines stage old line t
     → IsFault (length more + 1) (record { line = line_number stage (length new); cause = c })
     (t ++ 10 ∷ more)
 ended_fault Header old new line t more c j s = inr (λ e. record {
@@ -220,7 +220,7 @@ ended_fault (Done v) old new line t more c j s =
 
 -- an allocation fails in the line that is read
 pub held_fault : (stage : Stage) (rows : List Row) (line t bytes more : List ℕ)
-    → is_done stage ≡ false → StandsAfter stage rows line t
+    → is_done stage ≡ false → HasReadLines stage rows line t
     → IsFault (length bytes + length more) (record {
       line = line_number stage (length rows);
       cause =
@@ -252,8 +252,8 @@ held_fault (Done v) rows line t bytes more going s = absurd (let f : true ≡ fa
 
 -- bytes that are held after those of the line
 pub held_stands : (stage : Stage) (rows : List Row) (line t bytes : List ℕ) → is_done stage ≡ false
-    → Lacks 10 bytes → StandsAfter stage rows line t
-    → StandsAfter stage rows (line ++ bytes) (t ++ bytes)
+    → Lacks 10 bytes → HasReadLines stage rows line t
+    → HasReadLines stage rows (line ++ bytes) (t ++ bytes)
 held_stands stage rows line t bytes going lacks s = record {
   text_is = ap (λ l. l ++ bytes) s.text_is ∙ append_assoc
       (text_of_lines (lines_read stage rows)) line bytes;
@@ -268,7 +268,7 @@ held_stands stage rows line t bytes going lacks s = record {
 
 -- none may be held after the last line
 pub after_fault : (stage : Stage) (rows : List Row) (line t bytes more : List ℕ)
-    → is_done stage ≡ true → 0 < length bytes → StandsAfter stage rows line t
+    → is_done stage ≡ true → 0 < length bytes → HasReadLines stage rows line t
     → IsFault (length bytes + length more) (record {
       line = line_number stage (length rows);
       cause =
@@ -315,7 +315,7 @@ may_end-going (Rows v) e going = refl
 may_end-going (Done v) e going = absurd (let f : true ≡ false = going in cc)
 
 pub cut_fault : (stage : Stage) (rows : List Row) (line t : List ℕ) (e : Ending)
-    → may_end stage e ≡ false → StandsAfter stage rows line t
+    → may_end stage e ≡ false → HasReadLines stage rows line t
     → FirstFault t e (record { line = line_number stage (length rows); cause = ending_cause e })
 cut_fault Header rows line t e may s = record {
   lines = [];
@@ -365,7 +365,7 @@ pub record IsWhole (stage : Stage) (rows : List Row) (t : List ℕ) (e : Ending)
   pub ended : e ≡ ending.End
 
 pub ended_whole : (stage : Stage) (rows : List Row) (line t : List ℕ) (e : Ending)
-    → may_end stage e ≡ true → StandsAfter stage rows line t → IsWhole stage rows t e
+    → may_end stage e ≡ true → HasReadLines stage rows line t → IsWhole stage rows t e
 ended_whole Header rows line t e may s = absurd (let f : false ≡ true = may in cc)
 ended_whole (Rows v) rows line t e may s = absurd (let f : false ≡ true = may in cc)
 ended_whole (Done v) rows line t e may s = record {
@@ -381,7 +381,7 @@ ended_whole (Done v) rows line t e may s = record {
   is_end ending.TooLong may = absurd (let f : false ≡ true = may in cc)
 
 pub ended_read : (stage : Stage) (rows : List Row) (line t : List ℕ) (e : Ending)
-    → may_end stage e ≡ true → StandsAfter stage rows line t
+    → may_end stage e ≡ true → HasReadLines stage rows line t
     → IsAnswerFor (Ok (record { gap = gap_in stage; rows = rows })) t e
 ended_read stage rows line t e may s =
     let w = ended_whole stage rows line t e may s in
@@ -442,14 +442,14 @@ Fed-rest P Q piece rest part after p cuts =
 
 -- nothing more is kept of a line
 pub held_stop : (stage : Stage) (rows : List Row) (line t : List ℕ) → is_done stage ≡ false
-    → StandsAfter stage rows line t → IsNextLine (line_number stage (length rows)) rows
+    → HasReadLines stage rows line t → IsNextLine (line_number stage (length rows)) rows
 held_stop Header rows line t going s = inl (refl, s.holds)
 held_stop (Rows v) rows line t going s = inr refl
 held_stop (Done v) rows line t going s = absurd (let f : true ≡ false = going in cc)
 
 -- a line isn't judged
 pub judged_stop : (stage : Stage) (old new : List Row) (line read t : List ℕ) (c : BookCause)
-    → JudgesLine stage (Err c) old read new → StandsAfter stage old line t → c ≡ cause.Memory
+    → JudgesLine stage (Err c) old read new → HasReadLines stage old line t → c ≡ cause.Memory
     → IsNextLine (line_number stage (length new)) new
 judged_stop Header old new line read t c j s e = inl (refl, j.1 ∙ s.holds)
 judged_stop (Rows v) old new line read t c j s e = inr refl
@@ -476,7 +476,7 @@ stopped_after before f count store s e =
       subst (IsNextLine f.line) (sym rows) (s.holds e),
     )
 
-pub ends_err : {A : Type 0} (e : Ending) (r : Result A BookFault) → EndsIn e r
+pub ends_err : {A : Type 0} (e : Ending) (r : Result A BookFault) → AgreesWithEnding e r
     → IfErr r (λ f. f.cause ≡ ending_cause e)
 ends_err e (Ok value) is = tt
 ends_err e (Err f) is = is

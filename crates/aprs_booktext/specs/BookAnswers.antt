@@ -5,7 +5,7 @@ use Rattle.aprs_io.specs.declared.input.Ending.{Ending}
 use Rattle.aprs_io.specs.declared.input.Ending.TheVariants as how
 use Rattle.aprs_laws.specs.BookValue.{BookValue}
 use Rattle.aprs_laws.specs.Row.{Row}
-use Rattle.aprs_booktext.specs.Text.{book_of, book_text, IsBookRows}
+use Rattle.aprs_booktext.specs.Text.{book_of_version, book_text, IsBookRows}
 use Rattle.aprs_booktext.specs.TextFault.{HasBookFault}
 use Rattle.aprs_booktext.specs.Version.{gap_of}
 use Rattle.aprs_booktext.specs.declared.fault.BookCause.TheVariants as why
@@ -37,4 +37,4 @@ IsBookOrMemory (Err fault) book = fault.cause ≡ why.Memory
 abbrev pub AcceptsBook : ℕ → List ℕ → Result BookValue BookFault → Type 0 → Type 0
 AcceptsBook limit text answer Failed = (version : Version) (rows : List Row)
     → IsBookRows version rows → text ≡ book_text version rows → length text ≤ limit
-    → (Failed → ⊥) → IsBookOrMemory answer (book_of version rows)
+    → (Failed → ⊥) → IsBookOrMemory answer (book_of_version version rows)

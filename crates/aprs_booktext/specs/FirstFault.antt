@@ -83,8 +83,8 @@ pub record PastEnd (lines : List (List ℕ)) (rest : List ℕ) (ending : Ending)
   pub fault : EndFault rest ending cause
 
 -- After these lines, the rest is at fault: at the header, among the rows or past the end.
-abbrev pub FaultAfter : List (List ℕ) → List ℕ → Ending → BookCause → Type 0
-FaultAfter lines rest ending cause = AtHeader lines rest ending cause
+abbrev pub RestIsAtFault : List (List ℕ) → List ℕ → Ending → BookCause → Type 0
+RestIsAtFault lines rest ending cause = AtHeader lines rest ending cause
     ⊎ (AmongRows lines rest ending cause ⊎ PastEnd lines rest ending cause)
 
 -- The first fault of a text after which this ending came: the text is some lines and a rest that is
@@ -94,7 +94,7 @@ pub record FirstFault (text : List ℕ) (ending : Ending) (found : BookFault) : 
   pub rest : List ℕ
   pub whole : text ≡ text_of_lines lines ++ rest
   pub line : found.line ≡ length lines + 1
-  pub fault : FaultAfter lines rest ending found.cause
+  pub fault : RestIsAtFault lines rest ending found.cause
 
 -- ---- where an allocation failed
 

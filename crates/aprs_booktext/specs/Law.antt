@@ -8,7 +8,7 @@ use Rattle.aprs_laws.specs.BookValue.{BookValue, Holds}
 use Rattle.aprs_laws.specs.Row.{Row}
 use Rattle.aprs_booktext.specs.BookAnswers.{IsBookOrMemory, ReadsBook}
 use Rattle.aprs_booktext.specs.Fault.{ending_cause}
-use Rattle.aprs_booktext.specs.Text.{book_of, book_text, IsBookRow, IsBookRows, written_text, written_version}
+use Rattle.aprs_booktext.specs.Text.{book_of_version, book_text, IsBookRow, IsBookRows, written_text, written_version}
 use Rattle.aprs_booktext.specs.TextFault.{HasBookFault}
 use Rattle.aprs_booktext.specs.Version.{form_of, gap_of, IsVersion}
 use Rattle.aprs_booktext.specs.declared.fault.BookCause.TheVariants as why
@@ -40,7 +40,7 @@ AreReadBack = (v : Version) (rows : List Row) → IsBookRows v rows
     → (limit : ℕ) → limit ≤ most_input
     → length (book_text v rows) ≤ limit → (after : Option (List ℕ))
     → (answer : Result BookValue BookFault) → ReadsBook limit [] (book_text v rows) after answer
-    → IfErr answer (λ fault. fault.cause ≢ why.Read) → IsBookOrMemory answer (book_of v rows)
+    → IfErr answer (λ fault. fault.cause ≢ why.Read) → IsBookOrMemory answer (book_of_version v rows)
 
 -- A text has at most one fault but Memory, for each way of ending.
 abbrev pub HaveOneBookFault : Type 0
@@ -73,7 +73,7 @@ pub record IsTextOfSet (S : List Heard) (text : List ℕ) : Type 0 where
   pub version : Version
   pub is : IsVersion version
   pub rows : List Row
-  pub holds : Holds S (book_of version rows)
+  pub holds : Holds S (book_of_version version rows)
   pub each : All (IsBookRow (form_of version)) rows
   pub text_is : text ≡ book_text version rows
 

@@ -43,8 +43,8 @@ abbrev pub book_text : Version → List Row → List ℕ
 book_text v rows = text_of_lines (lines_of v rows)
 
 -- The book of the rows of a text of this version.
-abbrev pub book_of : Version → List Row → BookValue
-book_of v rows = record { gap = gap_of v; rows = rows }
+abbrev pub book_of_version : Version → List Row → BookValue
+book_of_version v rows = record { gap = gap_of v; rows = rows }
 
 -- ---- the text that a book is written as
 

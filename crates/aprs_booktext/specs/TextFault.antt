@@ -25,7 +25,7 @@ abbrev pub is_end : List ℕ → Bool
 is_end line = starts_with ◌==◌ line (codes "END")
 
 -- The line spells a row that can't be added to these rows, for this reason.
-pub record IsRefused (gap : ℕ) (form : MomentForm) (rows : List Row) (line : List ℕ)
+pub record SpellsRefusedRow (gap : ℕ) (form : MomentForm) (rows : List Row) (line : List ℕ)
     (reason : RowCause) : Type 0 where
   pub row : Row
   pub is : IsBookRow form row
@@ -46,11 +46,11 @@ IsWrong gap form rows line why.Ending = (is_end line ≡ true) × (line ≢ end_
 IsWrong gap form rows line why.RowSyntax =
     (is_end line ≡ false) × ((x : Row) → IsSpelled form x → line ≢ row_line form x)
 IsWrong gap form rows line why.Frame = HasNoFrame form line
-IsWrong gap form rows line why.Order = IsRefused gap form rows line row.Order
-IsWrong gap form rows line why.Span = IsRefused gap form rows line row.Span
-IsWrong gap form rows line why.Near = IsRefused gap form rows line row.Near
-IsWrong gap form rows line why.Receivers = IsRefused gap form rows line row.Receivers
-IsWrong gap form rows line why.NotGreatest = IsRefused gap form rows line row.NotGreatest
+IsWrong gap form rows line why.Order = SpellsRefusedRow gap form rows line row.Order
+IsWrong gap form rows line why.Span = SpellsRefusedRow gap form rows line row.Span
+IsWrong gap form rows line why.Near = SpellsRefusedRow gap form rows line row.Near
+IsWrong gap form rows line why.Receivers = SpellsRefusedRow gap form rows line row.Receivers
+IsWrong gap form rows line why.NotGreatest = SpellsRefusedRow gap form rows line row.NotGreatest
 IsWrong gap form rows line why.Header = ⊥
 IsWrong gap form rows line why.After = ⊥
 IsWrong gap form rows line why.Read = ⊥

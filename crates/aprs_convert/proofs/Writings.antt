@@ -6,7 +6,7 @@ use Rattle.std.specs.Result.{result_ok}
 use Rattle.std.proofs.lemmas.List.Concat.{flat_map-append}
 use Rattle.aprs_kiss.specs.Judgement.{Judgement}
 use Rattle.aprs_kiss.specs.Stream.{judgements_of}
-use Rattle.aprs_ax25.specs.FrameFault.{frame_of}
+use Rattle.aprs_ax25.specs.FrameFault.{frame_or_fault}
 use Rattle.aprs_ax25.specs.declared.fault.FrameFault.{FrameFault}
 use Rattle.aprs_log.specs.LogAnswers.{log_answers, receptions_of}
 use Rattle.aprs_log.specs.LogText.{text_of_lines}
@@ -65,7 +65,7 @@ module _ (r : List ℕ) (m : ℕ) where
   heard_so frame = record { moment = m; receiver = r; frame = frame }
 
   abbrev frame_in_data : Judgement → Option (List ℕ)
-  frame_in_data j = option_and_then (λ found. result_ok (frame_of found.bytes)) (result_ok j)
+  frame_in_data j = option_and_then (λ found. result_ok (frame_or_fault found.bytes)) (result_ok j)
 
   frame_text : (found : Result (List ℕ) FrameFault) (rest : List ℕ) (frames : List (List ℕ))
       → rest ≡ flat_map (reception_text (Capture r m)) (map heard_so frames)
@@ -78,7 +78,7 @@ module _ (r : List ℕ) (m : ℕ) where
       ≡ flat_map (reception_text (Capture r m)) (map heard_so (filter_map frame_in_data js))
   stream_text [] = refl
   stream_text (Err fault ∷ js) = stream_text js
-  stream_text (Ok data_frame ∷ js) = frame_text (frame_of data_frame.bytes)
+  stream_text (Ok data_frame ∷ js) = frame_text (frame_or_fault data_frame.bytes)
       (flat_map (capture_text r m) js) (filter_map frame_in_data js) (stream_text js)
 
 -- ---- a conversion

@@ -7,7 +7,7 @@ use Rattle.aprs_io.specs.declared.input.Ending.{Ending}
 use Rattle.aprs_io.specs.declared.input.Ending.TheVariants as how
 use Rattle.aprs_kiss.specs.Spelling.{kiss_text}
 use Rattle.aprs_kiss.specs.Stream.{judgements_of}
-use Rattle.aprs_ax25.specs.FrameFault.{frame_of, parts_of}
+use Rattle.aprs_ax25.specs.FrameFault.{frame_or_fault, parts_of}
 use Rattle.aprs_log.specs.Line.{written_line}
 use Rattle.aprs_log.specs.LogText.{HasLogFault, IsLogText}
 use Rattle.aprs_log.specs.Reception.{Heard}
@@ -27,7 +27,7 @@ reception_text other x = written_line x ++ 10 ∷ []
 -- The UI frames of a KISS stream: its data frames, as far as they are UI frames.
 abbrev pub frames_of : List ℕ → List (List ℕ)
 frames_of stream =
-    filter_map (λ judgement. option_and_then (λ found. result_ok (frame_of found.bytes))
+    filter_map (λ judgement. option_and_then (λ found. result_ok (frame_or_fault found.bytes))
     (result_ok judgement)) (judgements_of stream)
 
 -- The fault of a stream that ends so: it has no lines, and line 0 stands for it.

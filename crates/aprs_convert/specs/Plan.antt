@@ -6,7 +6,7 @@ use Rattle.std.specs.List.{flat_map}
 use Rattle.aprs_kiss.specs.Device.{AppendsPrefix, Calls}
 use Rattle.aprs_kiss.specs.Judgement.{Judgement}
 use Rattle.aprs_kiss.specs.Stream.{judgements_of}
-use Rattle.aprs_ax25.specs.FrameFault.{frame_of}
+use Rattle.aprs_ax25.specs.FrameFault.{frame_or_fault}
 use Rattle.aprs_ax25.specs.declared.fault.FrameFault.{FrameFault}
 use Rattle.aprs_io.specs.declared.device.Counted.{Counted}
 use Rattle.aprs_log.specs.Line.{written_line}
@@ -55,7 +55,7 @@ frame_line receiver moment (Err fault) = []
 -- The log line of a data frame that is a UI frame; anything else gives nothing.
 abbrev pub capture_text : List ℕ → ℕ → Judgement → List ℕ
 capture_text receiver moment (Ok data_frame) =
-    frame_line receiver moment (frame_of data_frame.bytes)
+    frame_line receiver moment (frame_or_fault data_frame.bytes)
 capture_text receiver moment (Err fault) = []
 
 -- What a capture of a stream does.

@@ -3,7 +3,7 @@ ghost use Rattle.std.specs.Prelude.{◌≡◌, ◌≤◌, ◌++◌, ℕ, List, O
 ghost use Rattle.std.specs.List.{flat_map};
 ghost use Rattle.std.specs.Io.KnownBytes.{Appends};
 ghost use Rattle.aprs_io.specs.Input.{most_input};
-ghost use Rattle.aprs_ax25.specs.FrameFault.{frame_of};
+ghost use Rattle.aprs_ax25.specs.FrameFault.{frame_or_fault};
 ghost use Rattle.aprs_kiss.specs.Device.{device_of, AppendsPrefix, Calls, Sends, last_at};
 ghost use Rattle.aprs_kiss.specs.Reader.{StandsAfter};
 ghost use Rattle.aprs_kiss.specs.Answer.{judgements_in};
@@ -131,7 +131,7 @@ fn write_frame<W: Write>(
     bytes: &[u8],
 ) -> Result<(), WriteFault>
     ensures { Sends W.contents result w.old w.new
-        (Spec.frame_line receiver.now moment.now (frame_of bytes.now)) }
+        (Spec.frame_line receiver.now moment.now (frame_or_fault bytes.now)) }
 {
     match Frame::read(bytes) {
         Ok(frame) => log.write(w, &Reception::new(moment.copy(), receiver.copy(), frame)),

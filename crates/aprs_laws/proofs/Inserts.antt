@@ -11,7 +11,7 @@ use Rattle.aprs_laws.specs.Book.{BookOf}
 use Rattle.aprs_laws.specs.Sound.{IsSoundRow, Sound}
 use Rattle.aprs_laws.specs.Witnesses.{witnesses}
 use Rattle.aprs_laws.specs.JoinRow.{choose, greater, single, IsNear, combine, place, join_row}
-use Rattle.aprs_laws.specs.Inserted.{grow_row, bridge_row, insert_heard, FitsInPlace, is_listed, is_near_first, fits_in_place}
+use Rattle.aprs_laws.specs.Inserted.{grow_row, bridge_row, insert_heard, FitsInPlace, is_listed, is_near_first, has_place_for}
 use Rattle.aprs_laws.proofs.Orders.{bytes_total, bytes_exact, heard_total, heard_exact, same_greatest, compared, not_both}
 use Rattle.aprs_laws.proofs.Choices.{union_one, union_flip, union_ordered}
 use Rattle.aprs_laws.proofs.Rows.{IsBefore, the_greater, place_means, before_trans, combined_last}
@@ -191,7 +191,7 @@ listed r (x ∷ xs) o h =
 
 -- of sound rows, the test says what it should
 pub fits_by_test : (gap : ℕ) (s : Heard) (rows : List Row) → IsSound gap rows
-    → FitsInPlace gap rows s → fits_in_place gap s rows ≡ true
+    → FitsInPlace gap rows s → has_place_for gap s rows ≡ true
 fits_by_test gap s [] w f = absurd f.member
 fits_by_test gap s (r ∷ rows) w f =
     by_case (place gap r (single s))
@@ -222,10 +222,10 @@ fits_by_test gap s (r ∷ rows) w f =
       both : (p q : Bool) → p ≡ true → q ≡ false → p && not q ≡ true
       both p q g h = rw (g, h) refl
 
-      by_case : (q : Ordering) → (FitsInPlace gap rows s → fits_in_place gap s rows ≡ true)
+      by_case : (q : Ordering) → (FitsInPlace gap rows s → has_place_for gap s rows ≡ true)
           → MatchOrdering q (IsBefore gap r (single s)) (IsNear gap r (single s))
           (IsBefore gap (single s) r) → f.row ∈ (r ∷ rows)
-          → choose q (fits_in_place gap s rows)
+          → choose q (has_place_for gap s rows)
           (is_listed s.receiver r.receivers && not (is_near_first gap s rows)) false ≡ true
       by_case Less ih h (inl e) =
           absurd

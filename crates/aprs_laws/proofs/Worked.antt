@@ -8,7 +8,7 @@ use Rattle.aprs_laws.specs.Book.{BookOf}
 use Rattle.aprs_laws.specs.Sound.{Sound}
 use Rattle.aprs_laws.specs.Joining.{Joined}
 use Rattle.aprs_laws.specs.JoinRow.{single, merge, plain_book}
-use Rattle.aprs_laws.specs.Examples.{hi_frame, hi_after_digipeater, hi_as_response, hi_key, rx1, rx2, heard, near_pair, near_row, far_pair, early_row, late_row, close_row, tied_pair, tied_row}
+use Rattle.aprs_laws.specs.Examples.{hi_frame, hi_after_digipeater, hi_as_response, hi_key, rx1, rx2, reception_at, near_pair, near_row, far_pair, early_row, late_row, close_row, tied_pair, tied_row}
 use Rattle.aprs_laws.proofs.Soundness.{sound}
 use Rattle.aprs_laws.proofs.TakenSteps.{plain_is_book}
 use Rattle.aprs_laws.proofs.Views.{joined_by_merge}
@@ -71,12 +71,12 @@ joined_singles s t rows e =
 pub joined_near : Joined 30000 (early_row ∷ []) (close_row ∷ []) (near_row ∷ [])
 unfolding key_of key_cmp
 joined_near =
-    joined_singles (heard 0 rx2 hi_after_digipeater) (heard 30000 rx1 hi_frame) (near_row ∷ []) refl
+    joined_singles (reception_at 0 rx2 hi_after_digipeater) (reception_at 30000 rx1 hi_frame) (near_row ∷ []) refl
 
 pub joined_far : Joined 30000 (early_row ∷ []) (late_row ∷ []) (early_row ∷ late_row ∷ [])
 unfolding key_of key_cmp
 joined_far =
-    joined_singles (heard 0 rx2 hi_after_digipeater) (heard 30001 rx1 hi_frame)
+    joined_singles (reception_at 0 rx2 hi_after_digipeater) (reception_at 30001 rx1 hi_frame)
     (early_row ∷ late_row ∷ []) refl
 
 pub other_receiver : rx2 ≡ rx1 → ⊥

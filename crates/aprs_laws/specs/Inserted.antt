@@ -49,8 +49,8 @@ is_near_first gap s [] = false
 is_near_first gap s (x ∷ xs) = choose (side gap x s) false true false
 
 -- `FitsInPlace` as a test of sound rows.
-abbrev pub fits_in_place : ℕ → Heard → List Row → Bool
-fits_in_place gap s [] = false
-fits_in_place gap s (r ∷ rows) =
-    choose (side gap r s) (fits_in_place gap s rows)
+abbrev pub has_place_for : ℕ → Heard → List Row → Bool
+has_place_for gap s [] = false
+has_place_for gap s (r ∷ rows) =
+    choose (side gap r s) (has_place_for gap s rows)
     (is_listed s.receiver r.receivers && not (is_near_first gap s rows)) false

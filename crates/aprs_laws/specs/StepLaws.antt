@@ -7,7 +7,7 @@ use Rattle.aprs_laws.specs.Book.{BookOf}
 use Rattle.aprs_laws.specs.Sound.{IsSoundRow, Sound, IsNext}
 use Rattle.aprs_laws.specs.Joining.{Joined}
 use Rattle.aprs_laws.specs.Taken.{Step, Take, Merge, sets_after}
-use Rattle.aprs_laws.specs.Inserted.{insert_heard, FitsInPlace, fits_in_place}
+use Rattle.aprs_laws.specs.Inserted.{insert_heard, FitsInPlace, has_place_for}
 use Rattle.aprs_laws.specs.JoinRow.{single, IsNear, join_row, merge, plain_book}
 
 -- Receptions that join one after another give their book.
@@ -29,7 +29,7 @@ InsertsReception gap =
 -- What fits in place passes the test of that.
 abbrev pub FitsByTest : ℕ → Type 0
 FitsByTest gap =
-    (s : Heard) (p : List Row) → Sound gap p → FitsInPlace gap p s → fits_in_place gap s p ≡ true
+    (s : Heard) (p : List Row) → Sound gap p → FitsInPlace gap p s → has_place_for gap s p ≡ true
 
 -- Sound rows stay sound with exactly those rows after them that may follow.
 abbrev pub OnlyNextFollows : ℕ → Type 0

@@ -2,7 +2,7 @@
 use Rattle.std.proofs.Common.{◌≡◌, ℕ, zero, suc, ◌<◌, ◌/◌, ◌%◌, ◌==◌, Bool, true, false, List, [], ◌∷◌, ◌++◌, length, map, filter, replicate, Option, None, Some, Result, Ok, Err, All, inl, inr, refl, sym, ap, ◌∙◌, append-nil, append_assoc, length-append, subst, arith, eqb-true}
 use Rattle.std.specs.Prelude.{if◌then◌else◌, nat_lt}
 use Rattle.std.specs.List.{flat_map}
-use Rattle.aprs_ax25.specs.FrameFault.{frame_of}
+use Rattle.aprs_ax25.specs.FrameFault.{frame_or_fault}
 use Rattle.aprs_ax25.specs.UiFrame.{IsUiFrame}
 use Rattle.aprs_ax25.specs.declared.fault.FrameFault.{FrameFault}
 use Rattle.aprs_ax25.proofs.Sounds.{IsSound-len}
@@ -225,7 +225,7 @@ unfolding judgements_of
 judged_all bytes js e = e
 
 carried_by : (bytes frame : List ℕ) (d : DataFrame) → rest_of bytes ≡ []
-    → judgements_of bytes ≡ Ok d ∷ [] → frame_of d.bytes ≡ Ok frame → CarriesFrame bytes frame
+    → judgements_of bytes ≡ Ok d ∷ [] → frame_or_fault d.bytes ≡ Ok frame → CarriesFrame bytes frame
 carried_by bytes frame d r j e =
     let made = made_so bytes in
     let one = one_piece (pieces_of bytes) (Ok d) made.clean (judged_all bytes (Ok d ∷ []) j) in
@@ -253,7 +253,7 @@ carried_in bytes frame (x ∷ xs) js r j e = absurd cc
 carried_in bytes frame [] [] r j e = absurd cc
 carried_in bytes frame [] (Err f ∷ []) r j e = absurd cc
 carried_in bytes frame [] (Ok d ∷ []) r j e =
-    carried_by bytes frame d r j (or_reason (frame_of d.bytes) frame e)
+    carried_by bytes frame d r j (or_reason (frame_or_fault d.bytes) frame e)
 carried_in bytes frame [] (a ∷ b ∷ more) r j e = absurd cc
 
 pub carried-frame_in : (bytes frame : List ℕ) → frame_in bytes ≡ Ok frame

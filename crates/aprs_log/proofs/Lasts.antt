@@ -16,7 +16,7 @@ use Rattle.aprs_log.specs.Fault.{log_cause_of}
 use Rattle.aprs_log.specs.Line.{line_of}
 use Rattle.aprs_log.specs.LogAnswers.{tail_cause}
 use Rattle.aprs_log.specs.MomentReading.{moment_of}
-use Rattle.aprs_log.specs.Receiver.{is_name}
+use Rattle.aprs_log.specs.Receiver.{is_receiver}
 use Rattle.std.specs.Prelude.{nat_le}
 use Rattle.aprs_log.specs.Steps.{◌otherwise◌then◌, guard}
 use Rattle.aprs_log.specs.declared.fault.LineFault.{LineFault}
@@ -47,7 +47,7 @@ whole_line l =
     after_step (cut_at 32 l) fault.Moment _ refl (λ first.
     after_step (moment_of first.before) fault.Moment _ refl (λ moment.
     after_step (cut_at 32 first.after) fault.Receiver _ refl (λ second.
-    after_step (guard (is_name second.before)) fault.Receiver _ refl (λ named.
+    after_step (guard (is_receiver second.before)) fault.Receiver _ refl (λ named.
     after_step (result_ok (decode_of second.after)) fault.Hex _ refl (λ bytes. record { is = refl }))))))
 
 -- a line's fault stops a reader that asked nothing of the device

@@ -8,7 +8,7 @@ use Rattle.aprs_log.specs.Fault.{log_cause_of}
 use Rattle.aprs_log.specs.Line.{frame_in, heard_or_passed, line_of, line_of_digits}
 use Rattle.aprs_log.specs.LineText.{HasMoment, HasReceiver, IsLine, IsPassed, IsWrongLine, Reports}
 use Rattle.aprs_log.specs.MomentReading.{moment_of}
-use Rattle.aprs_log.specs.Receiver.{IsName, is_name}
+use Rattle.aprs_log.specs.Receiver.{IsName, is_receiver}
 use Rattle.aprs_log.specs.Reception.{Heard}
 use Rattle.aprs_log.specs.declared.fault.LineFault.{LineFault}
 use Rattle.aprs_log.specs.declared.fault.LineFault.TheVariants as fault
@@ -104,7 +104,7 @@ module _ (l : List ℕ) (short : length l ≤ MAX_LINE) where
   module _ (first : Cut) (m : ℕ) (e : cut_at 32 l ≡ Some first)
       (read : moment_of first.before ≡ Some m) where
     unnamed : (next : Cut) → cut_at 32 first.after ≡ Some next
-        → (b : Bool) → is_name next.before ≡ b
+        → (b : Bool) → is_receiver next.before ≡ b
         → ((m : ℕ) (name more : List ℕ) → ¬ HasReceiver l m name more)
         → line_of l ≡ Err fault.Receiver
     unnamed next second true named none =
@@ -118,7 +118,7 @@ module _ (l : List ℕ) (short : length l ≤ MAX_LINE) where
         → line_of l ≡ Err fault.Receiver
     no_name None second none =
         sym (line_of-one_cut l short first m (sym e) (sym read) (sym second))
-    no_name (Some next) second none = unnamed next second (is_name next.before) refl none
+    no_name (Some next) second none = unnamed next second (is_receiver next.before) refl none
 
   no_receiver : (m : ℕ) (more : List ℕ) → HasMoment l m more
       → ((m : ℕ) (name more : List ℕ) → ¬ HasReceiver l m name more)
@@ -205,19 +205,19 @@ module _ (l : List ℕ) (short : length l ≤ MAX_LINE) where
         (why.Receiver, (short, (m, first.after, has_moment l first m e read), none))
 
     by_name : (next : Cut) → cut_at 32 first.after ≡ Some next → (b : Bool)
-        → is_name next.before ≡ b → IsWrong l ⊎ HasFields l
+        → is_receiver next.before ≡ b → IsWrong l ⊎ HasFields l
     by_name next second true named =
         by_digits first next m e read second named (decode_of next.after) refl
     by_name next second false named = inl (wrong_name (λ n name more h.
         let same : name ≡ next.before = ap (λ (c : Cut). c.before)
         (some_same _ next (cut_at 32 first.after) (after_same n name more h) second) in
-        let is : is_name next.before ≡ true = subst (λ b. is_name b ≡ true) same h.0 in
+        let is : is_receiver next.before ≡ true = subst (λ b. is_receiver b ≡ true) same h.0 in
         let bad : true ≡ false = sym is ∙ named in cc))
 
     by_second : (o : Option Cut) → cut_at 32 first.after ≡ o → IsWrong l ⊎ HasFields l
     by_second None second = inl (wrong_name (λ n name more h.
         not_none _ (cut_at 32 first.after) (after_same n name more h) second))
-    by_second (Some next) second = by_name next second (is_name next.before) refl
+    by_second (Some next) second = by_name next second (is_receiver next.before) refl
 
   by_moment : (first : Cut) → cut_at 32 l ≡ Some first → (r : Option ℕ)
       → moment_of first.before ≡ r → IsWrong l ⊎ HasFields l

@@ -12,8 +12,8 @@ use Rattle.aprs_log.specs.declared.moment_form.MomentForm.TheVariants.{Seconds, 
 use Rattle.aprs_log.specs.Places.{near_civil, near_digit, near_millis}
 use Rattle.aprs_log.specs.Clock.{form_size}
 use Rattle.aprs_log.specs.Moment.{Day, IsTextOf, IsWritable, room_of, day_after, moment_text_in}
-use Rattle.aprs_log.specs.CivilMoment.{IsCivil, MomentTextIn, MomentText, civil_after}
-use Rattle.aprs_log.specs.MomentReading.{Civil, civil_at, civil_text, digit_of, is_date, is_time, is_civil, is_real, second_of_day, seconds_of, millis_at, moment_in, form_of_text, moment_of}
+use Rattle.aprs_log.specs.CivilMoment.{IsCivil, MomentTextIn, IsMomentText, civil_after}
+use Rattle.aprs_log.specs.MomentReading.{Civil, civil_at, civil_text, digit_of, is_date, is_time, is_date_and_time, is_real, second_of_day, seconds_of, millis_at, moment_in, form_of_text, moment_of}
 
 -- a civil time whose parts have as many digits as a text has room for
 pub record FitsText (c : Civil) : Type 0 where
@@ -116,7 +116,7 @@ both : (a b : Bool) → a && b ≡ true → (a ≡ true) × (b ≡ true)
 both true b h = (refl, h)
 both false b h = absurd (let e : false ≡ true = h in cc)
 
-is_civil-IsCivil : (c : Civil) → is_civil c ≡ true → IsCivil c
+is_civil-IsCivil : (c : Civil) → is_date_and_time c ≡ true → IsCivil c
 is_civil-IsCivil c h =
     let p = both (is_date c) (is_time c) h in
     let q = p.0 in
@@ -142,7 +142,7 @@ is_civil-IsCivil c h =
       second = grind (arith, nat_tests);
     }
 
-IsCivil-is_civil : (c : Civil) → IsCivil c → is_civil c ≡ true
+IsCivil-is_civil : (c : Civil) → IsCivil c → is_date_and_time c ≡ true
 IsCivil-is_civil c h = grind (arith, nat_tests)
 
 -- a real time, with milliseconds that the form can write
@@ -152,7 +152,7 @@ record Real (form : MomentForm) (c : Civil) (n : ℕ) : Type 0 where
 
 is_real-Real : (form : MomentForm) (c : Civil) (n : ℕ) → is_real form c n ≡ true → Real form c n
 is_real-Real form c n h =
-    let p = both (is_civil c) (nat_lt n (room_of form)) h in
+    let p = both (is_date_and_time c) (nat_lt n (room_of form)) h in
     record { civil = is_civil-IsCivil c p.0; below = ltb-true _ _ p.1 }
 
 is_real-true : (form : MomentForm) (c : Civil) (n : ℕ) → IsCivil c → n < room_of form
@@ -273,10 +273,10 @@ form_of-text : (form : MomentForm) (m : ℕ) (t : List ℕ) → MomentTextIn for
 form_of-text Seconds m t h = ap form_of_text h.spelled
 form_of-text Millis m t h = ap form_of_text h.spelled
 
-pub moment_of-text : (t : List ℕ) (m : ℕ) → moment_of t ≡ Some m → MomentText m t
+pub moment_of-text : (t : List ℕ) (m : ℕ) → moment_of t ≡ Some m → IsMomentText m t
 moment_of-text t m e = (form_of_text t, moment_in-text (form_of_text t) t m e)
 
-pub text-moment_of : (t : List ℕ) (m : ℕ) → MomentText m t → moment_of t ≡ Some m
+pub text-moment_of : (t : List ℕ) (m : ℕ) → IsMomentText m t → moment_of t ≡ Some m
 text-moment_of t m h =
     ap (λ f. moment_in f t) (form_of-text h.0 m t h.1) ∙ text-moment_in h.0 t m h.1
 
@@ -461,10 +461,10 @@ text-writable form m t h =
       one_text form m t (moment_text_in form m) h (moment_text-is form m early whole),
     )
 
-pub IsTextOf-text : (m : ℕ) (t : List ℕ) → IsTextOf m t → MomentText m t
+pub IsTextOf-text : (m : ℕ) (t : List ℕ) → IsTextOf m t → IsMomentText m t
 IsTextOf-text m t h = (h.0, writable-text h.0 m t h.1 h.2)
 
-pub text-IsTextOf : (m : ℕ) (t : List ℕ) → MomentText m t → IsTextOf m t
+pub text-IsTextOf : (m : ℕ) (t : List ℕ) → IsMomentText m t → IsTextOf m t
 text-IsTextOf m t h = let is = text-writable h.0 m t h.1 in (h.0, is.0, is.1)
 
 pub IsExactIn : (form : MomentForm) (t : List ℕ) (r : Option ℕ) → r ≡ moment_in form t → (m : ℕ)

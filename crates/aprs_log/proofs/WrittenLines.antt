@@ -4,13 +4,13 @@ use Rattle.aprs_kiss.specs.Plain.{IsPlain, is_special}
 use Rattle.aprs_kiss.specs.Spelling.{is_escape, is_frame_end, spelling_of, spelling_of_byte, kiss_text}
 use Rattle.aprs_kiss.proofs.Escapes.{spelling_of-all, spelling_of-cut}
 use Rattle.aprs_ax25.specs.Frame.{FrameOf, Parts}
-use Rattle.aprs_ax25.specs.FrameFault.{frame_of, unless_fault}
+use Rattle.aprs_ax25.specs.FrameFault.{frame_or_fault, unless_fault}
 use Rattle.aprs_ax25.proofs.Spellings.{FrameOf-frame_fault}
 use Rattle.hex.specs.Hex.{IsBytes, decode_of, encode_lower, encode_with, lower_digits}
 use Rattle.hex.proofs.HexLemmas.{decode_of-encode_lower}
 use Rattle.std.proofs.lemmas.Bool.Decides.{nat_tests}
 use Rattle.aprs_log.specs.Moment.{moment_text}
-use Rattle.aprs_log.specs.CivilMoment.{MomentText}
+use Rattle.aprs_log.specs.CivilMoment.{IsMomentText}
 use Rattle.aprs_log.specs.Receiver.{IsName}
 use Rattle.aprs_log.specs.Reception.{Heard}
 use Rattle.aprs_log.specs.Line.{heard_or_passed, line_of, written_line}
@@ -126,15 +126,15 @@ reads_back frame are =
 
 -- what a reception's parts are
 pub record IsReal (x : Heard) : Type 0 where
-  pub moment : MomentText x.moment (moment_text x.moment)
+  pub moment : IsMomentText x.moment (moment_text x.moment)
   pub receiver : IsName x.receiver
-  pub frame : frame_of x.frame ≡ Ok x.frame
+  pub frame : frame_or_fault x.frame ≡ Ok x.frame
   pub few : length x.frame ≤ 1023
 
-pub real : (x : Heard) (text : List ℕ) → text ≡ moment_text x.moment → MomentText x.moment text
-    → IsName x.receiver → frame_of x.frame ≡ Ok x.frame → length x.frame ≤ MAX_UI_FRAME → IsReal x
+pub real : (x : Heard) (text : List ℕ) → text ≡ moment_text x.moment → IsMomentText x.moment text
+    → IsName x.receiver → frame_or_fault x.frame ≡ Ok x.frame → length x.frame ≤ MAX_UI_FRAME → IsReal x
 real x text e moment receiver frame few = record {
-  moment = subst (MomentText x.moment) e moment;
+  moment = subst (IsMomentText x.moment) e moment;
   receiver = receiver;
   frame = frame;
   few = omega arith;
@@ -163,5 +163,5 @@ line_of-written x h digits short =
 
 -- ---- a frame's bytes are read as it
 
-pub frame_of-is : (frame : List ℕ) (p : Parts) → FrameOf p frame → frame_of frame ≡ Ok frame
+pub frame_of-is : (frame : List ℕ) (p : Parts) → FrameOf p frame → frame_or_fault frame ≡ Ok frame
 frame_of-is frame p is = ap (unless_fault frame) (FrameOf-frame_fault p frame is)

@@ -30,8 +30,8 @@ pub record MomentTextIn (form : MomentForm) (m : ℕ) (text : List ℕ) : Type 0
   pub spelled : text ≡ civil_text form civil millis
 
 -- `text` is a text of the moment m, in either form.
-abbrev pub MomentText : ℕ → List ℕ → Type 0
-MomentText m text = (form : MomentForm) × MomentTextIn form m text
+abbrev pub IsMomentText : ℕ → List ℕ → Type 0
+IsMomentText m text = (form : MomentForm) × MomentTextIn form m text
 
 -- The civil time m seconds after 1970-01-01T00:00:00Z.
 abbrev pub civil_after : ℕ → Civil

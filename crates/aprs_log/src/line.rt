@@ -1,7 +1,7 @@
 //! Lines of a log.
 ghost use Rattle.aprs_log.specs.ReaderSteps.{line_in};
 ghost use Rattle.std.specs.Prelude.{◌≡◌, ◌≤◌, ◌*◌, ◌↔◌, ℕ, List, length, IsOk, OnErr};
-ghost use Rattle.aprs_ax25.specs.FrameFault.{frame_of};
+ghost use Rattle.aprs_ax25.specs.FrameFault.{frame_or_fault};
 ghost use Rattle.aprs_log.specs.Line.{frame_or_reason, heard_or_passed, line_of, line_of_digits};
 ghost use Rattle.aprs_log.specs.LineText.{IsLine};
 ghost use Rattle.aprs_log.specs.Sizes.{most_line};
@@ -70,7 +70,7 @@ impl Line {
     /// frame, and otherwise `Passed`, with the first reason why they aren't.
     fn assign(&mut self, moment: Moment, receiver: Receiver, bytes: &[u8])
         ensures { self.new
-            ≡ heard_or_passed moment receiver (frame_or_reason (frame_of bytes.now)) }
+            ≡ heard_or_passed moment receiver (frame_or_reason (frame_or_fault bytes.now)) }
     {
         let Line::Heard(reception) = self else {
             self.assign_anew(moment, receiver, bytes);
@@ -88,7 +88,7 @@ impl Line {
     #[inline(never)]
     fn assign_anew(&mut self, moment: Moment, receiver: Receiver, bytes: &[u8])
         ensures { self.new
-            ≡ heard_or_passed moment receiver (frame_or_reason (frame_of bytes.now)) }
+            ≡ heard_or_passed moment receiver (frame_or_reason (frame_or_fault bytes.now)) }
     {
         *self = match Frame::read(bytes) {
             Ok(frame) => Line::Heard(Reception::new(moment, receiver, frame)),

@@ -2,7 +2,7 @@
 use Rattle.std.proofs.Common.{◌≡◌, ◌∙◌, ℕ, zero, suc, ◌-◌, ◌≤◌, List, [], ◌∷◌, length, drop, ◌+◌, Option, None, Some, Result, Ok, Err, refl, sym, ap, arith}
 use Rattle.std.proofs.lemmas.List.{length-drop, drop-drop}
 use Rattle.aprs_ax25.specs.Frame.{FrameOf}
-use Rattle.aprs_ax25.specs.FrameFault.{field_len, parts_of, frame_of, frame_fault, unless_fault}
+use Rattle.aprs_ax25.specs.FrameFault.{field_len, parts_of, frame_or_fault, frame_fault, unless_fault}
 use Rattle.aprs_ax25.specs.declared.fault.FrameFault.{FrameFault}
 use Rattle.aprs_ax25.proofs.Spellings.{FrameOf-IsSound}
 
@@ -31,7 +31,7 @@ info_at f n e =
     two = drop-drop 2 (field_len f) f
 
 -- the frame that is read of bytes is those bytes
-pub frame_is : (x bytes : List ℕ) → Ok x ≡ frame_of bytes → x ≡ bytes
+pub frame_is : (x bytes : List ℕ) → Ok x ≡ frame_or_fault bytes → x ≡ bytes
 frame_is x bytes = by_case (frame_fault bytes) where
   by_case : (o : Option FrameFault) → Ok x ≡ unless_fault bytes o → x ≡ bytes
   by_case None e = ap (λ r. got r) e where

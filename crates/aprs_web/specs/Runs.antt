@@ -25,9 +25,9 @@ abbrev pub AskForSeveral : ℕ → List ℕ → List ℕ → Type 0
 AskForSeveral seconds lengths inputs = IsGap seconds × (sum lengths ≡ length inputs)
 
 -- The inputs, which lie one after the other and have these lengths.
-abbrev pub pieces : List ℕ → List ℕ → List (List ℕ)
-pieces [] inputs = []
-pieces (n ∷ ns) inputs = take n inputs ∷ pieces ns (drop n inputs)
+abbrev pub input_texts : List ℕ → List ℕ → List (List ℕ)
+input_texts [] inputs = []
+input_texts (n ∷ ns) inputs = take n inputs ∷ input_texts ns (drop n inputs)
 
 -- A run over one input ends so and writes this text, as `Told` says of what was got of the input.
 abbrev pub WritesOver : (Option LogFault → List ℕ → Ending → List ℕ → Type 0) → List ℕ → Outcome

@@ -2,7 +2,7 @@
 ghost use Rattle.std.specs.Prelude.{◌≡◌, ◌+◌, [], ◌∷◌, ◌++◌, length, true, IsOk, IfOk, OnOk, OnErr};
 ghost use Rattle.aprs_book.specs.Keyed.{LastKeyIsUpTo, IsEndOf};
 ghost use Rattle.aprs_rows.specs.Refusal.{refusal};
-ghost use Rattle.aprs_laws.specs.Inserted.{insert_heard, fits_in_place};
+ghost use Rattle.aprs_laws.specs.Inserted.{insert_heard, has_place_for};
 ghost use Rattle.aprs_laws.specs.Sound.{Sound};
 
 use crate::rows::kept_row::KeptRow;
@@ -41,14 +41,14 @@ impl<A: Allocator> Drop for KeyedRows<A> {
 impl<A: Allocator> Model for KeyedRows<A> {
     ghost use Rattle.std.specs.Prelude.{◌≡◌, List, length};
     ghost use Rattle.aprs_laws.specs.Row.{Row as RowValue};
-    ghost use Rattle.aprs_book.specs.Keyed.{rows_of, AreKept};
+    ghost use Rattle.aprs_book.specs.Keyed.{rows_by_key, AreKept};
 
     ghost Value = { List RowValue };
 
-    ghost view = { λ b. rows_of (λ v. v.items) b.map.entries };
+    ghost view = { λ b. rows_by_key (λ v. v.items) b.map.entries };
 
     ghost invariant = { λ b. AreKept (λ v. v.items) b.map.entries
-        × (b.count ≡ length (rows_of (λ v. v.items) b.map.entries)) };
+        × (b.count ≡ length (rows_by_key (λ v. v.items) b.map.entries)) };
 }
 
 impl<A: Allocator + Copy> KeyedRows<A> {
@@ -129,7 +129,7 @@ impl<A: Allocator + Copy> KeyedRows<A> {
     pub(crate) fn take(&mut self, gap: Millis, x: &Reception) -> Result<(), Memory>
         requires { Sound gap self.old }
         ensures inserted { OnOk result (self.new ≡ insert_heard gap x.now self.old) }
-        ensures in_place { fits_in_place gap x.now self.old ≡ true → IsOk result }
+        ensures in_place { has_place_for gap x.now self.old ≡ true → IsOk result }
         ensures unchanged { OnErr result (self.new ≡ self.old) }
     {
         let head = Head::of_frame(x.frame());

@@ -4,7 +4,7 @@ use Rattle.aprs_log.specs.Reception.{Heard}
 use Rattle.aprs_laws.specs.Key.{key_of}
 use Rattle.aprs_laws.specs.Row.{row_key}
 use Rattle.aprs_book.specs.Messages.{message_in}
-use Rattle.aprs_book.specs.MessageRows.{GivesAnswer, answer_of, is_addressed, message_of}
+use Rattle.aprs_book.specs.MessageRows.{GivesAnswer, answer_of, begins_with_colon, message_of}
 use Rattle.aprs_book.proofs.Addressed.{no_message_in}
 use Rattle.aprs_book.proofs.Collected.{on_ok}
 use Rattle.aprs_book.proofs.Exchanges.{message_no_answer, no_answer_given, answers_beside, spans_beside}
@@ -12,7 +12,7 @@ use Rattle.aprs_book.proofs.lists.exchange.Exchange.take.Goals as goal
 
 pub returns-then-not-is_addressed : goal.returns-then-not-is_addressed
 returns-then-not-is_addressed g c = λ rows r held first is.
-    let not = sym (ap is_addressed (c.info.ensures
+    let not = sym (ap begins_with_colon (c.info.ensures
     ∙ ap (λ (x : Heard). (key_of x.frame).info) is))
     ∙ sym c.is_addressed.ensures ∙ c.if-not-is_addressed.true in
     record {

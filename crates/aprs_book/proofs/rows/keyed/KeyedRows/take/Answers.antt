@@ -1,6 +1,6 @@
 use Rattle.std.proofs.Common.{[], ◌≡◌, ◌∙◌, sym, ap, subst, true, false, arith}
 use Rattle.aprs_laws.specs.Sound.{Sound}
-use Rattle.aprs_laws.specs.Inserted.{insert_heard, fits_in_place}
+use Rattle.aprs_laws.specs.Inserted.{insert_heard, has_place_for}
 use Rattle.std.specs.BTreeMap.{insert_entry}
 use Rattle.aprs_rows.specs.HeadSteps.{head_cmp}
 use Rattle.aprs_book.proofs.Searches.{none_sound, found_sound}
@@ -78,7 +78,7 @@ returns-in-Some-clause-in_place g c = λ p.
     c.of_frame-head.ensures c.frame.ensures c.in-Some.ensures.ordered c.self.invariant.0.0
     c.in-Some.ensures.value (c.get_mut.follows.holds c.put-taken.new.rows).0 in
     c.put-taken.ensures.in_place (sym (written_in_place (λ v. v.items) c.args.gap x _ es _ _ _ w)
-    ∙ ap (λ t. fits_in_place c.args.gap x t) c.self.view_is ∙ p)
+    ∙ ap (λ t. has_place_for c.args.gap x t) c.self.view_is ∙ p)
 
 pub returns-in_err-put-clause-in_place : goal.returns-in_err-put-clause-in_place
 returns-in_err-put-clause-in_place g c = λ p.
@@ -88,7 +88,7 @@ returns-in_err-put-clause-in_place g c = λ p.
     c.of_frame-head.ensures c.frame.ensures c.in_default.ensures.ordered c.self.invariant.0.0
     c.in_default.ensures.value in
     let no : false ≡ true = sym (absent_in_place (λ v. v.items) c.args.gap x _ es a)
-    ∙ ap (λ t. fits_in_place c.args.gap x t) c.self.view_is ∙ p in
+    ∙ ap (λ t. has_place_for c.args.gap x t) c.self.view_is ∙ p in
     absurd (cc)
 
 pub returns-then-is_err-clause-in_place : goal.returns-then-is_err-clause-in_place
@@ -99,7 +99,7 @@ returns-then-is_err-clause-in_place g c = λ p.
     c.of_frame-head.ensures c.frame.ensures c.in_default.ensures.ordered c.self.invariant.0.0
     c.in_default.ensures.value in
     sym (absent_in_place (λ v. v.items) c.args.gap x _ es a)
-    ∙ ap (λ t. fits_in_place c.args.gap x t) c.self.view_is ∙ p
+    ∙ ap (λ t. has_place_for c.args.gap x t) c.self.view_is ∙ p
 
 pub invariant_of-self-then-is_err : goal.invariant_of-self-then-is_err
 invariant_of-self-then-is_err g c =
