@@ -1,6 +1,6 @@
 -- What one more row adds to what rows exchange.
 use Rattle.std.proofs.Common.{◌≡◌, ◌∙◌, List, [], ◌∷◌, ◌++◌, Option, Some, None, false, sym, ap, inl, inr}
-use Rattle.aprs_log.specs.Reception.{Heard}
+use Rattle.aprs_log.specs.Reception.{Received}
 use Rattle.aprs_laws.specs.Key.{Key}
 use Rattle.aprs_laws.specs.Row.{Row, row_key}
 use Rattle.aprs_book.specs.declared.lists.message_key.AnswerKey.{AnswerKey}
@@ -44,6 +44,6 @@ module _ (rows : List Row) (r : Row) where
       → AreSpans (rows ++ r ∷ []) es
   spans_beside es n c = spans_passed rows (rows ++ r ∷ []) r (adds_last rows r) es c n
 
-  pub answers_beside : (es : List (AnswerKey × Heard)) → ((a : Answer) → GivesAnswer a (row_key r) → ⊥)
+  pub answers_beside : (es : List (AnswerKey × Received)) → ((a : Answer) → GivesAnswer a (row_key r) → ⊥)
       → AreAnswers rows es → AreAnswers (rows ++ r ∷ []) es
   answers_beside es n c = answers_passed rows (rows ++ r ∷ []) r (adds_last rows r) es c n

@@ -8,7 +8,7 @@ use Rattle.std.specs.declared.cmp.Ordering.TheVariants.{Less, Equal, Greater}
 use Rattle.aprs_rows.proofs.Cases.{by_order}
 use Rattle.std.specs.Ordering.{is_eq}
 use Rattle.aprs_ax25.specs.Callsign.{Call, call_cmp, call_text, ssid_text}
-use Rattle.aprs_log.specs.Reception.{Heard, bytes_cmp}
+use Rattle.aprs_log.specs.Reception.{Received, bytes_cmp}
 use Rattle.aprs_report.specs.Reading.{Value, position, object, item, message, ack, rej, status, raw}
 use Rattle.aprs_laws.specs.Key.{Key, key_of}
 use Rattle.aprs_laws.specs.Row.{Row, row_key}
@@ -28,8 +28,8 @@ use Rattle.aprs_book.specs.Known.{FourIndexes, Topic, call_bytes, positions, sta
 use Rattle.aprs_book.proofs.KnownSteps.{entry_there, same_as_itself}
 
 -- the receptions of a row are of its greatest's key: what the rows know the book's set knows
-pub takes_note : (gap : ℕ) → 0 < gap → (x : Heard) (old : List Row) (test : Key → Bool)
-    (known : Option Heard)
+pub takes_note : (gap : ℕ) → 0 < gap → (x : Received) (old : List Row) (test : Key → Bool)
+    (known : Option Received)
     → Sound gap old → LastKnown (map greatest_of old) (Passes test) known
     → LastKnown (map greatest_of (insert_heard gap x old)) (Passes test)
     (known_after test known x)
@@ -41,24 +41,24 @@ takes_note gap pos x old test known w h =
     (Passes test) known b h))
 
 -- what the views look up
-pub entry_reports : (gap : ℕ) (rows : List Row) (test : Key → Bool) (known : Option Heard)
+pub entry_reports : (gap : ℕ) (rows : List Row) (test : Key → Bool) (known : Option Received)
     → LastKnown (map greatest_of rows) (Passes test) known → IsLastKnown gap rows test known
 entry_reports gap rows test known h = λ S b. set_knows gap S rows (Passes test) known b h
 
 -- a row after the others
-pub pushes_note : (old : List Row) (r : Row) (test : Key → Bool) (known : Option Heard)
+pub pushes_note : (old : List Row) (r : Row) (test : Key → Bool) (known : Option Received)
     → LastKnown (map greatest_of old) (Passes test) known
     → LastKnown (map greatest_of (old ++ r ∷ [])) (Passes test)
     (known_after test known r.greatest)
 pushes_note old r test known h =
-    subst (λ (t : List Heard). LastKnown t (Passes test) (known_after test known r.greatest))
+    subst (λ (t : List Received). LastKnown t (Passes test) (known_after test known r.greatest))
     (sym (map-append greatest_of old (r ∷ [])))
     (known_last test r.greatest (map greatest_of old) known h)
 
 -- ---- the four indexes
 
 -- what a reception reports on is noted
-abbrev pub Noted : Subject → Heard → FourIndexes → FourIndexes → Type 0
+abbrev pub Noted : Subject → Received → FourIndexes → FourIndexes → Type 0
 Noted t x old new = (topic : Topic) (bytes : List ℕ)
     → known_at bytes (index_of topic new) ≡ (if has_bytes bytes (subject_bytes topic t)
     then Some (greater_known (known_at bytes (index_of topic old)) x)
@@ -67,7 +67,7 @@ Noted t x old new = (topic : Topic) (bytes : List ℕ)
 abbrev pub IsReported : Subject → Key → Type 0
 IsReported t k = (topic : Topic) → subject_bytes topic t ≡ topic_bytes topic k
 
-noted_known : (t : Subject) (x : Heard) (i j k : FourIndexes) → IsReported t (key_of x.frame)
+noted_known : (t : Subject) (x : Received) (i j k : FourIndexes) → IsReported t (key_of x.frame)
     → SameKnown i j
     → Noted t x j k → (topic : Topic) (bytes : List ℕ)
     → known_after (is_report_on (topic_bytes topic) bytes) (known_at bytes (index_of topic i)) x
@@ -80,7 +80,7 @@ noted_known t x i j k reported same noted topic bytes =
     ∙ ap (λ n. if has_bytes bytes (topic_bytes topic (key_of x.frame)) then Some
     (greater_known n x) else n) (same topic bytes))
 
-pub takes_indexes : (gap : ℕ) → 0 < gap → (t : Subject) (x : Heard) (rows new : List Row)
+pub takes_indexes : (gap : ℕ) → 0 < gap → (t : Subject) (x : Received) (rows new : List Row)
     (i j k : FourIndexes) → Sound gap rows → AreIndexesOf rows i → IsReported t (key_of x.frame)
     → SameKnown i j → Noted t x j k → new ≡ insert_heard gap x rows → AreIndexesOf new k
 takes_indexes gap pos t x rows new i j k w h reported same noted made = λ topic bytes.
@@ -107,7 +107,7 @@ pushes_indexes t r rows new i j k h reported same noted made = λ topic bytes.
     (pushes_note rows r (is_report_on (topic_bytes topic) bytes) (known_at bytes (index_of topic i))
     (h topic bytes)))
 
-pub near_entries : (gap : ℕ) (t : Subject) (x : Heard) (rows : List Row) (i : FourIndexes)
+pub near_entries : (gap : ℕ) (t : Subject) (x : Received) (rows : List Row) (i : FourIndexes)
     → AreIndexesOf rows i → IsReported t (key_of x.frame) → FitsInPlace gap rows x → HaveEntries t i
 near_entries gap t x rows i h reported f = λ topic bytes e.
     entry_there (topic_bytes topic) rows (index_of topic i) bytes f.row (h topic) f.member
@@ -164,7 +164,7 @@ reported_item wanted call raw = refl
 
 -- an index by bytes knows what a test of keys finds
 pub by_bytes : (gap : ℕ) (rows : List Row) (test : Key → Bool) (topic : Topic) (bytes : List ℕ)
-    (i : FourIndexes) (known : Option Heard) → AreIndexesOf rows i
+    (i : FourIndexes) (known : Option Received) → AreIndexesOf rows i
     → ((k : Key) → is_report_on (topic_bytes topic) bytes k ≡ test k)
     → known ≡ known_at bytes (index_of topic i)
     → IsLastKnown gap rows test known

@@ -2,7 +2,7 @@
 use Rattle.std.proofs.Common.{◌≡◌, ◌∙◌, ℕ, List, [], ◌∷◌, Option, Some, None, Result, Ok, Err, IfOk, sym, refl, subst}
 use Rattle.aprs_ax25.specs.Callsign.{Call}
 use Rattle.aprs_ax25.specs.CallText.{SpellsCall}
-use Rattle.aprs_log.specs.Reception.{Heard, heard_cmp}
+use Rattle.aprs_log.specs.Reception.{Received, heard_cmp}
 use Rattle.aprs_laws.specs.Lists.{◌∈◌, Ordered}
 use Rattle.aprs_laws.specs.Order.{IsBelow, IsUpTo}
 use Rattle.aprs_laws.specs.Key.{Key, key_of}
@@ -40,10 +40,10 @@ answers_by m a k id f r =
       answer = r.answer;
     })
 
-module _ (gap : ℕ) (S : List Heard) (rows : List Row) (b : BookOf gap S rows) where
-  module _ (es : List (AnswerKey × Heard)) (c : AreAnswers rows es) (m : Message)
+module _ (gap : ℕ) (S : List Received) (rows : List Row) (b : BookOf gap S rows) where
+  module _ (es : List (AnswerKey × Received)) (c : AreAnswers rows es) (m : Message)
       (id : List ℕ) where
-    pub answer_known : (answer : Option Heard) → ReportsAnswer es m id answer
+    pub answer_known : (answer : Option Received) → ReportsAnswer es m id answer
         → LastKnown S (AnswersIt m id) answer
     answer_known None t =
         none_of_rows gap S rows (AnswersIt m id) b
@@ -63,13 +63,13 @@ module _ (gap : ℕ) (S : List Heard) (rows : List Row) (b : BookOf gap S rows) 
         (subst (λ (q : Answer). GivesAnswer q (row_key y))
         (t.3 (record { source = m.source; addressee = (row_key y).source; id = id }) a.1) a.0))))
 
-  stands : (es : List (AnswerKey × Heard)) → AreAnswers rows es → (m : Message) (first : ℕ)
+  stands : (es : List (AnswerKey × Received)) → AreAnswers rows es → (m : Message) (first : ℕ)
       (id : Option (List ℕ)) (state : MessageState) → StateFrom es m first id state
       → StandsBy S m first id state
   stands es c m first None state h = h
   stands es c m first (Some id) state h = (h.0, answer_known es c m id h.0 h.1, h.2)
 
-  module _ (es : List (MessageKey × Span)) (rs : List (AnswerKey × Heard)) (xs : List MessageRow)
+  module _ (es : List (MessageKey × Span)) (rs : List (AnswerKey × Received)) (xs : List MessageRow)
       (cs : AreSpans rows es) (ca : AreAnswers rows rs) (o : Ordered IsKeyBefore es)
       (z : Zipped (IsRowOfMessage rs) es xs) where
     each_row : (x : MessageRow) → x ∈ xs → IsMessageRow S x
@@ -94,7 +94,7 @@ module _ (gap : ℕ) (S : List Heard) (rows : List Row) (b : BookOf gap S rows) 
         }
 
     sent : (m : Message) → (x : MessageRow) × (x ∈ xs) × (shown_message x ≡ m)
-        → (s : Heard) × (s ∈ S) × ReportsIt m (key_of s.frame)
+        → (s : Received) × (s ∈ S) × ReportsIt m (key_of s.frame)
     sent m h =
         let e = in_zip_right (IsRowOfMessage rs) es xs h.0 z h.1 in
         let r = (cs.each e.0 e.1).first.row in (
@@ -103,7 +103,7 @@ module _ (gap : ℕ) (S : List Heard) (rows : List Row) (b : BookOf gap S rows) 
           subst (λ (n : Message). ReportsIt n (row_key r.0)) (sym e.2.message ∙ h.2) r.2,
         )
 
-    listed_there : (m : Message) → (s : Heard) × (s ∈ S) × ReportsIt m (key_of s.frame)
+    listed_there : (m : Message) → (s : Received) × (s ∈ S) × ReportsIt m (key_of s.frame)
         → (x : MessageRow) × (x ∈ xs) × (shown_message x ≡ m)
     listed_there m h =
         let y = a_row gap S rows b h.0 h.1 in
@@ -132,7 +132,7 @@ module _ (gap : ℕ) (S : List Heard) (rows : List Row) (b : BookOf gap S rows) 
 
 pub messages_of_book : {E : Type 0} (gap : ℕ) (A : Type 0) (items : A → List MessageRow)
     (r : Result A E)
-    (kept again rows : List Row) (es : List (MessageKey × Span)) (rs : List (AnswerKey × Heard))
+    (kept again rows : List Row) (es : List (MessageKey × Span)) (rs : List (AnswerKey × Received))
     → kept ≡ rows → again ≡ rows → AreSpans kept es → AreAnswers again rs → Ordered IsKeyBefore es
     → IfOk r (λ v. Zipped (IsRowOfMessage rs) es (items v))
     → IfOk r (λ v. ReportsMessages gap rows (items v))

@@ -10,12 +10,12 @@ use denote.Param.Members.{Mut}
 use Rattle.std.specs.Ordering.{is_lt, is_gt, MatchOrdering}
 use Rattle.std.specs.declared.cmp.Ordering.{Ordering}
 use Rattle.std.specs.declared.cmp.Ordering.TheVariants.{Less, Equal, Greater}
-use Rattle.aprs_log.specs.Reception.{Heard}
+use Rattle.aprs_log.specs.Reception.{Received}
 use Rattle.aprs_laws.specs.Lists.{◌∈◌, Ordered}
 use Rattle.aprs_laws.specs.Order.{IsBelow}
 use Rattle.aprs_laws.specs.Row.{Row, last_of, row_cmp}
 use Rattle.aprs_laws.specs.JoinRow.{single, IsNear}
-use Rattle.aprs_laws.specs.Inserted.{side, grow_row, insert_heard, has_place_for}
+use Rattle.aprs_laws.specs.Inserted.{compare_near_to, grow_row, insert_heard, has_place_for}
 use Rattle.aprs_laws.specs.Sound.{IsFar, Sound}
 use Rattle.aprs_laws.proofs.Lists.{in_right}
 use Rattle.aprs_laws.proofs.Rows.{IsBefore, before_trans, place_means}
@@ -23,8 +23,8 @@ use Rattle.aprs_laws.proofs.Parts.{place_before}
 use Rattle.aprs_laws.proofs.Pushes.{IsSound, one_relation, sound_prefix}
 use Rattle.aprs_book.proofs.Slots.{here, two_at, one_at, alone_end, alone_next}
 use Rattle.aprs_rows.proofs.Cases.{by_order}
-use Rattle.aprs_rows.specs.HeadSteps.{head_cmp}
-use Rattle.aprs_rows.specs.declared.row.head.Head.{Head}
+use Rattle.aprs_rows.specs.KeyPrefixSteps.{head_cmp}
+use Rattle.aprs_rows.specs.declared.row.key_prefix.KeyPrefix.{KeyPrefix}
 use Rattle.aprs_book.proofs.Entries.{test}
 use Rattle.aprs_book.specs.Slots.{IsNewAt, GrowsAt, BridgesAt}
 use Rattle.aprs_book.specs.Keyed.{rows_by_key}
@@ -65,16 +65,16 @@ neither_is Less e f = absurd (cc)
 neither_is Equal e f = refl
 neither_is Greater e f = absurd (cc)
 
-module _ (gap : ℕ) (x : Heard) where
+module _ (gap : ℕ) (x : Received) where
   -- a row that lies before x
   abbrev pub is_before : Row → Bool
-  is_before r = is_lt (side gap r x)
+  is_before r = is_lt (compare_near_to gap r x)
 
   -- and one that lies after x
   abbrev pub is_after : Row → Bool
-  is_after r = is_gt (side gap r x)
+  is_after r = is_gt (compare_near_to gap r x)
 
-  lies_before : (r : Row) → side gap r x ≡ Less → IsBefore gap r (single x)
+  lies_before : (r : Row) → compare_near_to gap r x ≡ Less → IsBefore gap r (single x)
   lies_before r e =
       subst (λ (o : Ordering). MatchOrdering o (IsBefore gap r (single x)) (IsNear gap r (single x))
       (IsBefore gap (single x) r)) e (place_means gap r (single x))
@@ -84,7 +84,7 @@ module _ (gap : ℕ) (x : Heard) where
       → is_before q ≡ true
   passes q r l b e =
       ap is_lt (place_before gap q (single x) (before_trans gap q r (single x) l b
-      (lies_before r (less_is (side gap r x) e))))
+      (lies_before r (less_is (compare_near_to gap r x) e))))
 
   parted : (rows : List Row) → IsSound gap rows → IsPartitionedBy is_before rows
   parted [] s i j d l w e = absurd (omega (arith, w))
@@ -126,7 +126,7 @@ module _ (gap : ℕ) (x : Heard) where
   passed (r ∷ rows) (suc i) w b =
       let first : is_before r ≡ true = b 0 r (omega arith) in
       let rest = passed rows i (omega (arith, w)) (λ k d l. b (suc k) d (omega (arith, l))) in
-      let at = less_is (side gap r x) first in
+      let at = less_is (compare_near_to gap r x) first in
       (rw at (ap (λ t. r ∷ t) rest.0), rw at rest.1)
 
   split : (rows : List Row) (i : ℕ) → IsFound rows i
@@ -140,8 +140,8 @@ module _ (gap : ℕ) (x : Heard) where
   not_before rows i j r f l w e = ap is_before e ∙ f.point.1 j r l w
 
   is_near : (rows : List Row) (i j : ℕ) (r : Row) → IsFound rows i → i ≤ j → j < length rows
-      → r ≡ get_or rows j r → is_after r ≡ false → side gap r x ≡ Equal
-  is_near rows i j r f l w e a = neither_is (side gap r x) (not_before rows i j r f l w e) a
+      → r ≡ get_or rows j r → is_after r ≡ false → compare_near_to gap r x ≡ Equal
+  is_near rows i j r f l w e a = neither_is (compare_near_to gap r x) (not_before rows i j r f l w e) a
 
   -- ---- what the code does
 
@@ -162,7 +162,7 @@ module _ (gap : ℕ) (x : Heard) where
   new_before rows i r f w e a =
       let s = split rows i f in
       let at = here rows i r w e in
-      let far = greater_is (side gap r x) a in record {
+      let far = greater_is (compare_near_to gap r x) a in record {
         within = f.within;
         inserts =
             s.0 ∙ ap (λ t. take i rows ++ insert_heard gap x t) at
@@ -186,7 +186,7 @@ module _ (gap : ℕ) (x : Heard) where
   grows_before rows i r n f w e a e' a' =
       let s = split rows i f in
       let within : i < length rows = omega (arith, w) in
-      let far = greater_is (side gap n x) a' in
+      let far = greater_is (compare_near_to gap n x) a' in
       let alone =
       alone_next gap x (grow_row r x) n _ _ (here rows (suc i) n w e')
       (λ o. absurd (let no : Greater ≡ Equal = sym far ∙ o in cc)) in
@@ -207,7 +207,7 @@ module _ (gap : ℕ) (x : Heard) where
 -- ---- a key's rows among those of all keys
 
 module _ {V : Type 0} (rows : V → List Row) where
-  pub found_sound : (gap : ℕ) (k : Head) (es : List (Head × V)) (old : V)
+  pub found_sound : (gap : ℕ) (k : KeyPrefix) (es : List (KeyPrefix × V)) (old : V)
       → Sound gap (rows_by_key rows es) → lookup (test k) es ≡ Some old
       → Sound gap (rows old)
   found_sound gap k [] old s found = absurd (cc)

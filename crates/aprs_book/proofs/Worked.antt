@@ -2,7 +2,7 @@
 use Rattle.std.proofs.Common.{◌≡◌, ℕ, true, false, None, List, [], ◌∷◌, ◌++◌, codes, inl, inr, refl, sym, ap, ◌∙◌, subst, arith}
 use Rattle.aprs_ax25.specs.CallText.{SpellsCall}
 use Rattle.aprs_ax25.proofs.Calls.{ssid_text-one}
-use Rattle.aprs_log.specs.Reception.{Heard, heard_cmp}
+use Rattle.aprs_log.specs.Reception.{Received, heard_cmp}
 use Rattle.aprs_report.specs.Reading.{message, ack, rej}
 use Rattle.aprs_report.specs.Reader.{report_by_form, message_of, addressee_and_part_of, answer_at, text_and_id_of}
 use Rattle.aprs_report.specs.Reader.{object_of, item_of, item_field_of, stamp_at, place_of, plain_of, angle_of, minutes_of, numeral_of}
@@ -88,11 +88,11 @@ no_answer a = elim a.answer [
 ]
 
 -- a member of a set that is this one
-is_up_to : (x y s : Heard) → x ≡ s → IsUpTo heard_cmp x y → IsUpTo heard_cmp s y
-is_up_to x y s e u = subst (λ (t : Heard). IsUpTo heard_cmp t y) e u
+is_up_to : (x y s : Received) → x ≡ s → IsUpTo heard_cmp x y → IsUpTo heard_cmp s y
+is_up_to x y s e u = subst (λ (t : Received). IsUpTo heard_cmp t y) e u
 
-asked_answers_not : (m : ℕ) (s : Heard) → asked_at m ≡ s → Answers (key_of s.frame) → ⊥
-asked_answers_not m s e a = no_answer (subst (λ (t : Heard). Answers (key_of t.frame)) (sym e) a)
+asked_answers_not : (m : ℕ) (s : Received) → asked_at m ≡ s → Answers (key_of s.frame) → ⊥
+asked_answers_not m s e a = no_answer (subst (λ (t : Received). Answers (key_of t.frame)) (sym e) a)
 
 pub none_answers : LastKnown (asked_at 0 ∷ []) Answers None
 none_answers = λ s h a. elim h [ inl e ↦ asked_answers_not 0 s e a | inr j ↦ j ]
@@ -148,7 +148,7 @@ answered_once = record {
 }
 
 -- a message has one state
-pub one_state : (S : List Heard) (first : ℕ) (a b : MessageState)
+pub one_state : (S : List Received) (first : ℕ) (a b : MessageState)
     → StandsBy S (hi_message one) first one a → StandsBy S (hi_message one) first one b → a ≡ b
 one_state S first a b s t = s.2
     ∙ (ap (state_by first) (known_once S S Answers s.0 t.0 (λ x. (λ h. h, λ h. h)) s.1 t.1)

@@ -7,9 +7,9 @@ use Rattle.aprs_io.specs.Device.{Rose}
 use Rattle.aprs_io.specs.declared.device.Counted.{Counted}
 use Rattle.aprs_io.specs.Input.{most_input, Gets}
 use Rattle.aprs_log.specs.Moment.{IsWritable, date_text, day_after, moment_text_in, time_text}
-use Rattle.aprs_log.specs.Reception.{Heard}
-use Rattle.aprs_io.specs.declared.input.Ending.{Ending}
-use Rattle.aprs_io.specs.declared.input.Ending.TheVariants as ending
+use Rattle.aprs_log.specs.Reception.{Received}
+use Rattle.aprs_io.specs.declared.input.InputEnd.{InputEnd}
+use Rattle.aprs_io.specs.declared.input.InputEnd.TheVariants as ending
 use Rattle.aprs_log.specs.declared.moment_form.MomentForm.{MomentForm}
 use Rattle.aprs_log.specs.declared.moment_form.MomentForm.TheVariants.{Seconds, Millis}
 use Rattle.aprs_laws.specs.BookValue.{BookValue, Holds}
@@ -85,7 +85,7 @@ module _ (limit : ℕ) (head rest : List ℕ) (after : Option (List ℕ)) (v : V
     few : length rows < 2 ^ 64
     few = omega (arith, rows_few v rows, ap length text_is, small, fits)
 
-    faultless : (e : Ending) (text : List ℕ) (f : BookFault)
+    faultless : (e : InputEnd) (text : List ℕ) (f : BookFault)
         → Gets limit (head ++ rest) after text e → (f.cause ≡ cause.Read → ⊥) → FirstFault text e f
         → ⊥
     faultless ending.End text f gets read first =
@@ -121,7 +121,7 @@ accepts (Some input) after limit head r Q small h read =
 -- ---- texts of version 1
 
 module _ (limit : ℕ) (head : List ℕ) (after : Option (List ℕ)) (small : limit ≤ most_input) where
-  in_seconds : (input : List ℕ) (S : List Heard) → IsTextInSeconds S (head ++ input)
+  in_seconds : (input : List ℕ) (S : List Received) → IsTextInSeconds S (head ++ input)
       → (r : Result BookValue BookFault) → ReadsBook limit head input after r
       → IfOk r (λ book. (book.gap ≡ standard_gap) × Holds (map (scaled_heard 1000) S) book)
   in_seconds input S t (Err f) h = tt
@@ -142,7 +142,7 @@ module _ (limit : ℕ) (head : List ℕ) (after : Option (List ℕ)) (small : li
 
   pub reads_seconds : (known : Option (List ℕ)) (r : Result BookValue BookFault)
       → IfSome known (λ input. ReadsBook limit head input after r)
-      → IfSome known (λ input. (S : List Heard) → IsTextInSeconds S (head ++ input)
+      → IfSome known (λ input. (S : List Received) → IsTextInSeconds S (head ++ input)
       → IfOk r (λ book. (book.gap ≡ standard_gap) × Holds (map (scaled_heard 1000) S) book))
   reads_seconds None r h = tt
   reads_seconds (Some input) r h = λ S t. in_seconds input S t r h
@@ -191,7 +191,7 @@ rows_more : (v : Version) (gap : ℕ) (rows : List Row) → gap ≡ gap_of v →
     → IsBookRows (Three gap) rows
 rows_more v gap rows e h = record {
   version = subst IsGap (sym e) h.version;
-  book = subst (λ g. (S : List Heard) × BookOf (millis_of g) S rows) (sym e) h.book;
+  book = subst (λ g. (S : List Received) × BookOf (millis_of g) S rows) (sym e) h.book;
   each = All-weaker (IsBookRow (form_of v)) (IsBookRow Millis) (row_more (form_of v)) rows h.each;
 }
 

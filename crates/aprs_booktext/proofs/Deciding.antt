@@ -18,7 +18,7 @@ use Rattle.aprs_log.specs.MomentReading.{moment_in}
 use Rattle.aprs_log.specs.Receiver.{IsName, is_receiver}
 use Rattle.aprs_log.specs.declared.moment_form.MomentForm.{MomentForm}
 use Rattle.aprs_log.proofs.Moments.{moment_in-text}
-use Rattle.aprs_io.specs.declared.input.Ending.{Ending}
+use Rattle.aprs_io.specs.declared.input.InputEnd.{InputEnd}
 use Rattle.aprs_laws.specs.Gap.{greatest_gap, IsGap, millis_of}
 use Rattle.aprs_laws.specs.Row.{Row, last_of}
 use Rattle.aprs_rows.specs.Refusal.{refusal, is_refused}
@@ -464,15 +464,15 @@ cut_text (b ∷ text) = by (cut_text text) (is_byte 10 b) refl where
   ]
 
 -- it is a book's, or has a first fault
-pub record HasFault (text : List ℕ) (e : Ending) : Type 0 where
+pub record HasFault (text : List ℕ) (e : InputEnd) : Type 0 where
   pub fault : BookFault
   pub first : FirstFault text e fault
 
-abbrev pub Found : List ℕ → Ending → Type 0
+abbrev pub Found : List ℕ → InputEnd → Type 0
 Found text e = IsBookText text e ⊎ HasFault text e
 
 -- the text ends in this line
-at_end : (stage : Stage) (rows : List Row) (line t : List ℕ) (e : Ending)
+at_end : (stage : Stage) (rows : List Row) (line t : List ℕ) (e : InputEnd)
     → HasReadLines stage rows line t → Found t e
 at_end stage rows line t e s = by (may_end stage e) refl where
   by : (b : Bool) → may_end stage e ≡ b → Found t e
@@ -496,7 +496,7 @@ goes_on stage rows line t going one s = held_stands stage rows [] t line
       undone true h = absurd (h refl)
       undone false h = refl
 
-after_last : (v : Version) (rows : List Row) (rest t : List ℕ) (e : Ending) → 0 < length rest
+after_last : (v : Version) (rows : List Row) (rest t : List ℕ) (e : InputEnd) → 0 < length rest
     → HasReadLines (Done v) rows [] t → HasFault (t ++ rest) e
 after_last v rows rest t e some s = record {
   fault = record { line = length (lines_of v rows) + 1; cause = cause.After };
@@ -516,12 +516,12 @@ after_last v rows rest t e some s = record {
   };
 }
 
-abbrev FoundAfter : Ending → List ℕ → Type 0
+abbrev FoundAfter : InputEnd → List ℕ → Type 0
 FoundAfter e rest = (stage : Stage) (rows : List Row) (t : List ℕ) → HasReadLines stage rows [] t
     → Found (t ++ rest) e
 
 -- one line more, and then what is found after it
-step : (e : Ending) (rest : List ℕ) (stage : Stage) (rows : List Row) (t : List ℕ)
+step : (e : InputEnd) (rest : List ℕ) (stage : Stage) (rows : List Row) (t : List ℕ)
     → (is_done stage ≡ true → ⊥) → HasReadLines stage rows [] t
     → ((more : List ℕ) → length more < length rest → FoundAfter e more) → Found (t ++ rest) e
 step e rest stage rows t going s next = elim (cut_text rest) [
@@ -556,7 +556,7 @@ step e rest stage rows t going s next = elim (cut_text rest) [
       → Found (t ++ rest) e
   by c stands j = whole c j.result j.new stands j.judged j.known
 
-run : (n : ℕ) (e : Ending) (rest : List ℕ) → length rest ≤ n → FoundAfter e rest
+run : (n : ℕ) (e : InputEnd) (rest : List ℕ) → length rest ≤ n → FoundAfter e rest
 run n e rest fits (Done v) rows t s = elim (cases_lt 0 (length rest)) [
   | inl some ↦ inr (after_last v rows rest t e some s)
   | inr none ↦ subst (λ l. Found (t ++ l) e) (sym (nil_from_length rest (omega (arith, none))))
@@ -576,11 +576,11 @@ run (suc n) e rest fits (Rows v) rows t s = step e rest (Rows v) rows t
     (λ done. absurd (let f : false ≡ true = done in cc)) s
     (λ more less. run n e more (omega (arith, less, fits)))
 
-found : (text : List ℕ) (e : Ending) → Found text e
+found : (text : List ℕ) (e : InputEnd) → Found text e
 found text e = run (length text) e text (omega arith) Header [] []
     (record { text_is = refl; one = tt; holds = refl })
 
-pub book_or_fault : (text : List ℕ) (e : Ending)
+pub book_or_fault : (text : List ℕ) (e : InputEnd)
     → IsBookText text e ⊎ ((f : BookFault) × FirstFault text e f)
 book_or_fault text e = elim (found text e) [
   | inl whole ↦ inl whole

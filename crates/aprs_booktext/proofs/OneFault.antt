@@ -4,7 +4,7 @@ use Rattle.std.specs.Prelude.{All}
 use Rattle.std.specs.List.{AllByRecursion}
 use Rattle.std.proofs.lemmas.List.{length-map}
 use Rattle.std.proofs.lemmas.List.Elements.{All-head, All-tail}
-use Rattle.aprs_io.specs.declared.input.Ending.{Ending}
+use Rattle.aprs_io.specs.declared.input.InputEnd.{InputEnd}
 use Rattle.aprs_log.specs.declared.moment_form.MomentForm.{MomentForm}
 use Rattle.aprs_laws.specs.Gap.{millis_of}
 use Rattle.aprs_laws.specs.Row.{Row}
@@ -205,7 +205,7 @@ no_last form a b n more h k e = let r = rows_on form a b (end_line n) more h k e
 abbrev lines_in : Version → List Row → List (List ℕ)
 lines_in v rows = map (row_line (form_of v)) rows
 
-lines_lack : (lines : List (List ℕ)) (rest text : List ℕ) (e : Ending) (c : BookCause)
+lines_lack : (lines : List (List ℕ)) (rest text : List ℕ) (e : InputEnd) (c : BookCause)
     → length text < 2 ^ 64 → text ≡ text_of_lines lines ++ rest → RestIsAtFault lines rest e c
     → AllByRecursion (Lacks 10) lines
 lines_lack lines rest text e c small whole h = elim h [
@@ -245,11 +245,11 @@ lines_lack lines rest text e c small whole h = elim h [
 
 -- ---- no prefix goes on after a fault
 
-not_cut : (rest line tail : List ℕ) (e : Ending) (c : BookCause) → rest ≡ line ++ 10 ∷ tail
+not_cut : (rest line tail : List ℕ) (e : InputEnd) (c : BookCause) → rest ≡ line ++ 10 ∷ tail
     → IsCut rest e c → ⊥
 not_cut rest line tail e c is h = has_line 10 line tail (subst (Lacks 10) is h.0)
 
-wrong_on : (v : Version) (a b : List Row) (line rest tail : List ℕ) (e : Ending) (c : BookCause)
+wrong_on : (v : Version) (a b : List Row) (line rest tail : List ℕ) (e : InputEnd) (c : BookCause)
     → IsBookRows v b → RowsGoOn (form_of v) a b line → rest ≡ line ++ 10 ∷ tail → Lacks 10 line
     → LineFault v a rest e c → ⊥
 wrong_on v a b line rest tail e c is on text one h = elim h [
@@ -265,7 +265,7 @@ wrong_on v a b line rest tail e c is on text one h = elim h [
       (subst (λ l. IsWrong gap form a l c) same w.holds)
 ]
 
-wrong_at_end : (v : Version) (a b : List Row) (line rest tail : List ℕ) (e : Ending) (c : BookCause)
+wrong_at_end : (v : Version) (a b : List Row) (line rest tail : List ℕ) (e : InputEnd) (c : BookCause)
     → a ≡ b → line ≡ end_line (length b) → rest ≡ line ++ 10 ∷ tail → Lacks 10 line
     → LineFault v a rest e c → ⊥
 wrong_at_end v a b line rest tail e c same is text one h = elim h [
@@ -287,7 +287,7 @@ record HaveHeader (lines : List (List ℕ)) : Type 0 where
   more : List (List ℕ)
   lines_are : lines ≡ header_of version ∷ more
 
-abbrev row_header : (lines : List (List ℕ)) (rest : List ℕ) (e : Ending) (c : BookCause)
+abbrev row_header : (lines : List (List ℕ)) (rest : List ℕ) (e : InputEnd) (c : BookCause)
     → AmongRows lines rest e c → HaveHeader lines
 row_header lines rest e c h = record {
   version = h.version;
@@ -296,7 +296,7 @@ row_header lines rest e c h = record {
   lines_are = h.read;
 }
 
-abbrev end_header : (lines : List (List ℕ)) (rest : List ℕ) (e : Ending) (c : BookCause)
+abbrev end_header : (lines : List (List ℕ)) (rest : List ℕ) (e : InputEnd) (c : BookCause)
     → PastEnd lines rest e c → HaveHeader lines
 end_header lines rest e c h = record {
   version = h.version;
@@ -306,7 +306,7 @@ end_header lines rest e c h = record {
 }
 
 -- the lines before a fault, if any, begin with a header
-some_header : (lines : List (List ℕ)) (rest line : List ℕ) (more : List (List ℕ)) (e : Ending)
+some_header : (lines : List (List ℕ)) (rest line : List ℕ) (more : List (List ℕ)) (e : InputEnd)
     (c : BookCause) → RestIsAtFault lines rest e c → lines ≡ line ∷ more → HaveHeader lines
 some_header lines rest line more e c h is = elim h [
   | inl start ↦ absurd (let l = ap length (sym start.none_read ∙ is) in omega (arith, l))
@@ -326,7 +326,7 @@ same_version lines v more h is e =
     headers_differ h.version v h.is is
     (cons_first (header_of h.version) h.more (header_of v) more (sym h.lines_are ∙ e))
 
-module _ (lines b : List (List ℕ)) (rest other : List ℕ) (e : Ending) (c d : BookCause)
+module _ (lines b : List (List ℕ)) (rest other : List ℕ) (e : InputEnd) (c d : BookCause)
     (k : RestIsAtFault b other e d) (on : GoesOn lines b rest) where
   after_start : lines ≡ [] → HeaderFault rest e c → ⊥
   after_start none h = elim h [
@@ -446,7 +446,7 @@ module _ (lines b : List (List ℕ)) (rest other : List ℕ) (e : Ending) (c d :
 
 -- ---- after the same lines the cause is one
 
-module _ (rest : List ℕ) (e : Ending) (c d : BookCause) where
+module _ (rest : List ℕ) (e : InputEnd) (c d : BookCause) where
   start_once : HeaderFault rest e c → HeaderFault rest e d → c ≡ d
   start_once h k = elim h [
     | inl cut ↦ elim k [
@@ -547,7 +547,7 @@ module _ (rest : List ℕ) (e : Ending) (c d : BookCause) where
       ]
     ]
 
-pub one_fault : (text : List ℕ) (e : Ending) (f g : BookFault) → length text < 2 ^ 64
+pub one_fault : (text : List ℕ) (e : InputEnd) (f g : BookFault) → length text < 2 ^ 64
     → FirstFault text e f → FirstFault text e g → f ≡ g
 one_fault text e f g small h k =
     elim (two_prefixes h.lines k.lines h.rest k.rest first second (sym h.whole ∙ k.whole)) [

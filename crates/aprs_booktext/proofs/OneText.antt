@@ -12,8 +12,8 @@ use Rattle.aprs_ax25.specs.UiFrame.{IsUiFrame}
 use Rattle.aprs_log.specs.Moment.{moment_text_in, IsWritable}
 use Rattle.aprs_log.specs.MomentReading.{moment_in}
 use Rattle.aprs_log.specs.declared.moment_form.MomentForm.{MomentForm}
-use Rattle.aprs_io.specs.declared.input.Ending.{Ending}
-use Rattle.aprs_io.specs.declared.input.Ending.TheVariants as ending
+use Rattle.aprs_io.specs.declared.input.InputEnd.{InputEnd}
+use Rattle.aprs_io.specs.declared.input.InputEnd.TheVariants as ending
 use Rattle.aprs_laws.specs.BookValue.{BookValue}
 use Rattle.aprs_laws.specs.Gap.{millis_of}
 use Rattle.aprs_laws.specs.Row.{Row, last_of}
@@ -318,10 +318,10 @@ wrong_end gap form rows cause.Memory w = w
 -- ---- the fault of a prefix of a book's text is that it is cut there
 
 -- the byte that is missing, if it is a byte
-abbrev pub IsCutShort : Ending → List ℕ → BookCause → Type 0
+abbrev pub IsCutShort : InputEnd → List ℕ → BookCause → Type 0
 IsCutShort e more c = (c ≡ ending_cause e) × (e ≡ ending.End → more ≢ [])
 
-cut_at_line : (rest more line tail : List ℕ) (e : Ending) (c : BookCause)
+cut_at_line : (rest more line tail : List ℕ) (e : InputEnd) (c : BookCause)
     → rest ++ more ≡ line ++ 10 ∷ tail → IsCut rest e c → IsCutShort e more c
 cut_at_line rest more line tail e c is h = (
   h.1,
@@ -330,7 +330,7 @@ cut_at_line rest more line tail e c is h = (
 )
 
 module _ (v : Version) (rows : List Row) (is : IsBookRows v rows) (small : length rows < 2 ^ 64)
-    (more : List ℕ) (e : Ending) (c : BookCause) where
+    (more : List ℕ) (e : InputEnd) (c : BookCause) where
   at_start : (rest : List ℕ) → rest ++ more ≡ book_text v rows → HeaderFault rest e c
       → IsCutShort e more c
   at_start rest whole h = elim h [

@@ -6,8 +6,8 @@ use Rattle.std.proofs.lemmas.List.{length-map, map_push}
 use Rattle.std.proofs.lemmas.List.Concat.{flat_map-append}
 use Rattle.std.proofs.Math.Seq.{drop-append_seam}
 use Rattle.std.proofs.lemmas.List.Elements.{All-nil, All-push}
-use Rattle.aprs_io.specs.declared.input.Ending.{Ending}
-use Rattle.aprs_io.specs.declared.input.Ending.TheVariants as ending
+use Rattle.aprs_io.specs.declared.input.InputEnd.{InputEnd}
+use Rattle.aprs_io.specs.declared.input.InputEnd.TheVariants as ending
 use Rattle.aprs_laws.specs.Gap.{millis_of}
 use Rattle.aprs_laws.specs.Row.{Row}
 use Rattle.aprs_laws.specs.Sound.{Sound}
@@ -309,12 +309,12 @@ fault_near few most f t less h = elim h [
 
 -- ---- the end
 
-pub may_end-going : (stage : Stage) (e : Ending) → is_done stage ≡ false → may_end stage e ≡ false
+pub may_end-going : (stage : Stage) (e : InputEnd) → is_done stage ≡ false → may_end stage e ≡ false
 may_end-going Header e going = refl
 may_end-going (Rows v) e going = refl
 may_end-going (Done v) e going = absurd (let f : true ≡ false = going in cc)
 
-pub cut_fault : (stage : Stage) (rows : List Row) (line t : List ℕ) (e : Ending)
+pub cut_fault : (stage : Stage) (rows : List Row) (line t : List ℕ) (e : InputEnd)
     → may_end stage e ≡ false → HasReadLines stage rows line t
     → FirstFault t e (record { line = line_number stage (length rows); cause = ending_cause e })
 cut_fault Header rows line t e may s = record {
@@ -351,20 +351,20 @@ cut_fault (Done v) rows line t e may s = record {
     fault = inr (s.holds.1, not_end e may, refl);
   }));
 } where
-  not_end : (e : Ending) → may_end (Done v) e ≡ false → e ≢ ending.End
+  not_end : (e : InputEnd) → may_end (Done v) e ≡ false → e ≢ ending.End
   not_end ending.End may = λ x. (let f : true ≡ false = may in cc)
   not_end ending.Read may = λ x. cc
   not_end ending.TooLong may = λ x. cc
 
 -- the whole text was read
-pub record IsWhole (stage : Stage) (rows : List Row) (t : List ℕ) (e : Ending) : Type 0 where
+pub record IsWhole (stage : Stage) (rows : List Row) (t : List ℕ) (e : InputEnd) : Type 0 where
   pub version : Version
   pub stage_is : stage ≡ Done version
   pub text_is : t ≡ book_text version rows
   pub is : IsBookRows version rows
   pub ended : e ≡ ending.End
 
-pub ended_whole : (stage : Stage) (rows : List Row) (line t : List ℕ) (e : Ending)
+pub ended_whole : (stage : Stage) (rows : List Row) (line t : List ℕ) (e : InputEnd)
     → may_end stage e ≡ true → HasReadLines stage rows line t → IsWhole stage rows t e
 ended_whole Header rows line t e may s = absurd (let f : false ≡ true = may in cc)
 ended_whole (Rows v) rows line t e may s = absurd (let f : false ≡ true = may in cc)
@@ -375,12 +375,12 @@ ended_whole (Done v) rows line t e may s = record {
   is = s.holds.0;
   ended = is_end e may;
 } where
-  is_end : (e : Ending) → may_end (Done v) e ≡ true → e ≡ ending.End
+  is_end : (e : InputEnd) → may_end (Done v) e ≡ true → e ≡ ending.End
   is_end ending.End may = refl
   is_end ending.Read may = absurd (let f : false ≡ true = may in cc)
   is_end ending.TooLong may = absurd (let f : false ≡ true = may in cc)
 
-pub ended_read : (stage : Stage) (rows : List Row) (line t : List ℕ) (e : Ending)
+pub ended_read : (stage : Stage) (rows : List Row) (line t : List ℕ) (e : InputEnd)
     → may_end stage e ≡ true → HasReadLines stage rows line t
     → IsAnswerFor (Ok (record { gap = gap_in stage; rows = rows })) t e
 ended_read stage rows line t e may s =
@@ -456,12 +456,12 @@ judged_stop (Rows v) old new line read t c j s e = inr refl
 judged_stop (Done v) old new line read t c j s e = absurd (let f = j.0 in cc)
 
 -- the input ended
-pub ending_not_memory : (e : Ending) → ending_cause e ≢ cause.Memory
+pub ending_not_memory : (e : InputEnd) → ending_cause e ≢ cause.Memory
 ending_not_memory ending.End = λ x. cc
 ending_not_memory ending.Read = λ x. cc
 ending_not_memory ending.TooLong = λ x. cc
 
-pub ending_stop : (e : Ending) (line : ℕ) (before : List Row) (count : ℕ) (store : List Row)
+pub ending_stop : (e : InputEnd) (line : ℕ) (before : List Row) (count : ℕ) (store : List Row)
     (P : List Row → Type 0) → EndsWithSuch before count store P
     → StopsAt before (record { line = line; cause = ending_cause e }) count store
 ending_stop e line before count store P s =
@@ -476,7 +476,7 @@ stopped_after before f count store s e =
       subst (IsNextLine f.line) (sym rows) (s.holds e),
     )
 
-pub ends_err : {A : Type 0} (e : Ending) (r : Result A BookFault) → AgreesWithEnding e r
+pub ends_err : {A : Type 0} (e : InputEnd) (r : Result A BookFault) → AgreesWithEnding e r
     → IfErr r (λ f. f.cause ≡ ending_cause e)
 ends_err e (Ok value) is = tt
 ends_err e (Err f) is = is

@@ -9,7 +9,7 @@ use Rattle.hex.specs.Hex.{encode_with, IsBytes}
 use Rattle.aprs_ax25.specs.UiFrame.{IsUiFrame}
 use Rattle.aprs_ax25.proofs.UiFrames.{frame_of-is}
 use Rattle.aprs_io.specs.Cut.{is_byte}
-use Rattle.aprs_io.specs.declared.input.Ending.TheVariants.{End}
+use Rattle.aprs_io.specs.declared.input.InputEnd.TheVariants.{End}
 use Rattle.aprs_log.specs.Examples.{hi_frame}
 use Rattle.aprs_log.specs.LogText.{text_of_lines}
 use Rattle.aprs_log.specs.Moment.{day_after, moment_text_in}

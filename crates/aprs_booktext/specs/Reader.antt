@@ -1,7 +1,7 @@
 -- What a reader of a book holds. No public clause cites this module.
 use Rattle.std.specs.Prelude.{◌≡◌, ◌≢◌, ℕ, ◌+◌, ◌⊎◌, Bool, true, false, List, [], ◌∷◌, ◌++◌, length, map, None, Result, Ok, Err}
-use Rattle.aprs_io.specs.declared.input.Ending.{Ending}
-use Rattle.aprs_io.specs.declared.input.Ending.TheVariants as how
+use Rattle.aprs_io.specs.declared.input.InputEnd.{InputEnd}
+use Rattle.aprs_io.specs.declared.input.InputEnd.TheVariants as how
 use Rattle.aprs_laws.specs.Gap.{millis_of, standard_gap}
 use Rattle.aprs_laws.specs.Row.{Row}
 use Rattle.aprs_rows.specs.Refusal.{refusal}
@@ -43,7 +43,7 @@ pub record HasReadLines (stage : Stage) (rows : List Row) (line text : List ℕ)
 -- bytes of the text were not looked at.
 abbrev pub IsFault : ℕ → BookFault → List ℕ → Type 0
 IsFault most fault text =
-    IsMemoryAt most text fault ⊎ ((ending : Ending) → FirstFault text ending fault)
+    IsMemoryAt most text fault ⊎ ((ending : InputEnd) → FirstFault text ending fault)
 
 -- The number of the line that is read after the lines of so many rows.
 abbrev pub line_number : Stage → ℕ → ℕ
@@ -64,7 +64,7 @@ is_done (Rows v) = false
 is_done (Done v) = true
 
 -- Whether a book's text may end at this stage and in this way.
-abbrev pub may_end : Stage → Ending → Bool
+abbrev pub may_end : Stage → InputEnd → Bool
 may_end (Done v) how.End = true
 may_end (Done v) how.Read = false
 may_end (Done v) how.TooLong = false
@@ -76,7 +76,7 @@ abbrev pub IsOfText : BookCause → Type 0
 IsOfText cause = (cause ≢ why.Read) × (cause ≢ why.TooLong)
 
 -- `Ok` comes only where the input ended (`End`), and a fault has the cause of this ending.
-abbrev pub AgreesWithEnding : {A : Type 0} → Ending → Result A BookFault → Type 0
+abbrev pub AgreesWithEnding : {A : Type 0} → InputEnd → Result A BookFault → Type 0
 AgreesWithEnding ending (Ok value) = ending ≡ how.End
 AgreesWithEnding ending (Err fault) = fault.cause ≡ ending_cause ending
 

@@ -2,8 +2,8 @@
 use Rattle.std.specs.Prelude.{◌≡◌, ◌≢◌, ℕ, ◌+◌, ◌≤◌, ◌==◌, ◌⊎◌, Bool, false, true, List, [], ◌∷◌, ◌++◌, length, map, codes, Some}
 use Rattle.std.specs.List.{starts_with}
 use Rattle.aprs_ax25.specs.UiFrame.{IsUiFrame}
-use Rattle.aprs_io.specs.declared.input.Ending.{Ending}
-use Rattle.aprs_io.specs.declared.input.Ending.TheVariants as how
+use Rattle.aprs_io.specs.declared.input.InputEnd.{InputEnd}
+use Rattle.aprs_io.specs.declared.input.InputEnd.TheVariants as how
 use Rattle.aprs_log.specs.LogText.{HasNoLf, text_of_lines}
 use Rattle.aprs_log.specs.declared.moment_form.MomentForm.{MomentForm}
 use Rattle.aprs_laws.specs.Gap.{millis_of}
@@ -95,7 +95,7 @@ StopsIn lines line more = (more ≡ []) × (BeginBook lines ⊎ (AreBook lines �
 -- lines, and at most `most_ahead` bytes came after `line`. `Ending`: the input ended before a
 -- book's last line did. `Ending` or a row's cause: `line`, with its LF, is wrong after the rows
 -- (`IsWrong`).
-abbrev pub IsWrongRest : List (List ℕ) → List ℕ → List ℕ → Ending → BookCause → Type 0
+abbrev pub IsWrongRest : List (List ℕ) → List ℕ → List ℕ → InputEnd → BookCause → Type 0
 IsWrongRest lines line more ending why.Header =
     (lines ≡ []) × ((v : Version) → IsVersion v → line ≢ header_of v) × EndsLine more
 IsWrongRest lines line more ending why.After = AreBook lines × (line ++ more ≢ [])
@@ -110,7 +110,7 @@ IsWrongRest lines line more ending cause =
 -- A book file of which this text was got, with this ending, has this fault: the text is some lines
 -- that have no fault, and then `line`, which has no LF in it, and `more`, and these two are wrong.
 -- The fault's line is the one after the lines that have no fault.
-pub record HasBookFault (text : List ℕ) (ending : Ending) (fault : BookFault) : Type 0 where
+pub record HasBookFault (text : List ℕ) (ending : InputEnd) (fault : BookFault) : Type 0 where
   pub lines : List (List ℕ)
   pub line : List ℕ
   pub more : List ℕ

@@ -64,7 +64,7 @@ pub fn read_book<R: Read, A: Allocator + Copy>(
     let mut reader = BookReader::new(alloc);
     let left = read_lines(limit, head, source, &mut reader, &mut store)?;
     let Ok(book) = book_in(alloc, reader.gap(), store) else {
-        return Err(reader.refusal_at_last());
+        return Err(reader.memory_fault_at_last());
     };
     gap_at_end(left, source, &reader)?;
     Ok(book)

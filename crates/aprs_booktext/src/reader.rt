@@ -15,11 +15,11 @@ ghost use Rattle.aprs_booktext.specs.Reader as Spec;
 use crate::cut::cut;
 use crate::end_line::end_line;
 use crate::fault::{BookCause, BookFault};
+use crate::row_buffers::RowBuffers;
 use crate::row_line::read_row;
-use crate::scratch::Scratch;
 use crate::version::Version;
 use aprs_book::{Gap, RowCause};
-use aprs_io::Ending;
+use aprs_io::InputEnd;
 use aprs_rows::{RowStore, RowView};
 use std::alloc::Allocator;
 
@@ -41,7 +41,7 @@ pub struct BookReader<A: Allocator> {
     count: usize,
     line: Vec<u8, A>,
     stage: Stage,
-    scratch: Scratch,
+    scratch: RowBuffers,
 }
 
 impl<A: Allocator + Copy> BookReader<A> {
@@ -55,7 +55,7 @@ impl<A: Allocator + Copy> BookReader<A> {
             count: 0,
             line: Vec::new(alloc),
             stage: Stage::Header,
-            scratch: Scratch::new(),
+            scratch: RowBuffers::new(),
         }
     }
 
@@ -256,7 +256,7 @@ impl<A: Allocator + Copy> BookReader<A> {
 
     /// The gap of the text's book, where its last line was read and the input ended after it
     /// (`End`). Otherwise the fault of a text that ends in this way, in the line that comes next.
-    pub fn finish(&self, ending: Ending) -> Result<Gap, BookFault>
+    pub fn finish(&self, ending: InputEnd) -> Result<Gap, BookFault>
         requires { self.now.count ≤ most_input }
         // Where `t` is the text that was read, this is the answer for it with this ending.
         ensures reads { (before store : List Row) (t : List ℕ) → Spec.HasRead before self.now store t
@@ -272,7 +272,7 @@ impl<A: Allocator + Copy> BookReader<A> {
 
     /// The fault of a text that ends in this way where a book's text may not end: `Ending`, `Read`
     /// or `TooLong`, in the line that comes next.
-    pub fn fault_of_ending(&self, ending: Ending) -> BookFault
+    pub fn fault_of_ending(&self, ending: InputEnd) -> BookFault
         requires { self.now.count ≤ most_input }
         ensures { result ≡ record {
           line = Spec.line_number self.now.stage self.now.count;
@@ -284,7 +284,7 @@ impl<A: Allocator + Copy> BookReader<A> {
 
     /// The fault where memory is refused after the last line was read. It is in that line, which
     /// comes after the header and the rows.
-    pub fn refusal_at_last(&self) -> BookFault
+    pub fn memory_fault_at_last(&self) -> BookFault
         requires { self.now.count ≤ most_input }
         ensures { result ≡ record { line = self.now.count + 2; cause = BookCause.Memory } }
     {
@@ -323,10 +323,10 @@ fn is_done(stage: Stage) -> bool
 
 /// Whether a book's text may end at this stage and in this way: only after its last line, and where
 /// the input has no further byte.
-fn may_end(stage: Stage, ending: Ending) -> bool
+fn may_end(stage: Stage, ending: InputEnd) -> bool
     ensures { result ≡ Spec.may_end stage ending }
 {
-    is_done(stage) && ending == Ending::End
+    is_done(stage) && ending == InputEnd::End
 }
 
 /// Judges a whole line at this stage, and returns the stage after it. The last `count` rows of the
@@ -336,7 +336,7 @@ fn may_end(stage: Stage, ending: Ending) -> bool
 fn judge<A: Allocator + Copy>(
     stage: Stage,
     store: &mut RowStore<A>,
-    scratch: &mut Scratch,
+    scratch: &mut RowBuffers,
     count: &mut usize,
     line: &[u8],
 ) -> Result<Stage, BookCause>
@@ -379,7 +379,7 @@ fn judge_header(line: &[u8]) -> Result<Stage, BookCause>
 /// as before.
 fn judge_line<A: Allocator + Copy>(
     store: &mut RowStore<A>,
-    scratch: &mut Scratch,
+    scratch: &mut RowBuffers,
     count: &mut usize,
     version: Version,
     line: &[u8],
@@ -425,7 +425,7 @@ fn judge_end(line: &[u8], version: Version, rows: usize) -> Result<Stage, BookCa
 /// may not follow those of its text, or where an allocation failed.
 fn add_row<A: Allocator + Copy>(
     store: &mut RowStore<A>,
-    scratch: &mut Scratch,
+    scratch: &mut RowBuffers,
     count: usize,
     version: &Version,
     line: &[u8],
@@ -465,12 +465,12 @@ fn refusal<A: Allocator + Copy>(
 }
 
 /// The cause of the fault where a text may not end in the way in which its input ended.
-fn ending_cause(ending: Ending) -> BookCause
+fn ending_cause(ending: InputEnd) -> BookCause
     ensures { result ≡ ending_cause ending }
 {
     match ending {
-        Ending::End => BookCause::Ending,
-        Ending::Read => BookCause::Read,
-        Ending::TooLong => BookCause::TooLong,
+        InputEnd::End => BookCause::Ending,
+        InputEnd::Read => BookCause::Read,
+        InputEnd::TooLong => BookCause::TooLong,
     }
 }

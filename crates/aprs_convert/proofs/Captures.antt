@@ -10,7 +10,7 @@ use Rattle.aprs_kiss.specs.Judgement.{Judgement}
 use Rattle.aprs_kiss.specs.Reader.{StandsAfter}
 use Rattle.aprs_kiss.specs.declared.reader.KissReader.{KissReader}
 use Rattle.aprs_log.specs.LogAnswers.{Gets}
-use Rattle.aprs_log.specs.declared.Ending.TheVariants as ending
+use Rattle.aprs_log.specs.declared.InputEnd.TheVariants as ending
 use Rattle.aprs_convert.specs.Plan.{RunsOver, capture_text, stream_plan}
 use Rattle.aprs_convert.specs.declared.fault.ConvertFault.TheVariants.{Write}
 use Rattle.aprs_kiss.proofs.Pieces.{cuts, rest_of-none, judgements_of-append, judgements_of-none}

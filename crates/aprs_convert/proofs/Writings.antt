@@ -10,8 +10,8 @@ use Rattle.aprs_ax25.specs.FrameFault.{frame_or_fault}
 use Rattle.aprs_ax25.specs.declared.fault.FrameFault.{FrameFault}
 use Rattle.aprs_log.specs.LogAnswers.{log_answers, receptions_of}
 use Rattle.aprs_log.specs.LogText.{text_of_lines}
-use Rattle.aprs_log.specs.Reception.{Heard}
-use Rattle.aprs_log.specs.declared.Ending.{Ending}
+use Rattle.aprs_log.specs.Reception.{Received}
+use Rattle.aprs_log.specs.declared.InputEnd.{InputEnd}
 use Rattle.aprs_log.specs.declared.fault.LogFault.{LogFault}
 use Rattle.aprs_log.specs.declared.line.Line.{Line}
 use Rattle.aprs_log.specs.declared.line.Line.TheVariants as line
@@ -32,7 +32,7 @@ lines_text f [] = refl
 lines_text f (line.Heard x ∷ given) = ap (λ l. reception_text f x ++ l) (lines_text f given)
 lines_text f (line.Passed reason ∷ given) = lines_text f given
 
-pub heard_text : (f : Form) (t : List ℕ) (c : Ending) (S : List Heard)
+pub heard_text : (f : Form) (t : List ℕ) (c : InputEnd) (S : List Received)
     → receptions_of (log_answers t c).given ≡ S
     → flat_map (line_text f) (log_answers t c).given ≡ flat_map (reception_text f) S
 heard_text f t c S e =
@@ -42,7 +42,7 @@ abbrev IsCapture : Form → Type 0
 IsCapture (Capture r m) = Unit {0}
 IsCapture f = ⊥
 
-log_converts : (f : Form) → (IsCapture f → ⊥) → (t : List ℕ) (c : Ending)
+log_converts : (f : Form) → (IsCapture f → ⊥) → (t : List ℕ) (c : InputEnd)
     (fault : Option LogFault) → (log_answers t c).fault ≡ fault
     → Converts f fault t c (flat_map (line_text f) (log_answers t c).given)
 log_converts (Capture r m) not t c fault e = absurd (not tt)
@@ -61,7 +61,7 @@ log_converts f not t c (Some fault) e =
 -- ---- a capture
 
 module _ (r : List ℕ) (m : ℕ) where
-  abbrev heard_so : List ℕ → Heard
+  abbrev heard_so : List ℕ → Received
   heard_so frame = record { moment = m; receiver = r; frame = frame }
 
   abbrev frame_in_data : Judgement → Option (List ℕ)
@@ -83,7 +83,7 @@ module _ (r : List ℕ) (m : ℕ) where
 
 -- ---- a conversion
 
-pub converts : (f : Form) (t : List ℕ) (c : Ending)
+pub converts : (f : Form) (t : List ℕ) (c : InputEnd)
     → Converts f (convert_plan f t c).fault t c (convert_plan f t c).text
 converts Text t c = log_converts Text (λ no. no) t c (log_answers t c).fault refl
 converts Kind t c = log_converts Kind (λ no. no) t c (log_answers t c).fault refl
@@ -111,7 +111,7 @@ so_many_passed n (line.Heard x ∷ given) = so_many_passed (n + 1) given
 so_many_passed n (line.Passed reason ∷ given) =
     let e = so_many_passed (n + 1) given in omega (arith, e)
 
-pub totals_text : (given : List Line) (S : List Heard) → receptions_of given ≡ S
+pub totals_text : (given : List Line) (S : List Received) → receptions_of given ≡ S
     → check_lines 1 given ++ totals None given
     ≡ text_of_lines (map passed_line (passed_in 1 given)
     ++ totals_line (length S) (length (passed_in 1 given)) ∷ [])
@@ -126,7 +126,7 @@ totals_text given S e =
     ∙ ap (λ l. text_of_lines (map passed_line passed) ++ l) (sym (append-nil (end ++ 10 ∷ [])))
     ∙ sym (flat_map-append (λ line. line ++ 10 ∷ []) (map passed_line passed) (end ∷ []))
 
-log_checks : (t : List ℕ) (c : Ending) (fault : Option LogFault) → (log_answers t c).fault ≡ fault
+log_checks : (t : List ℕ) (c : InputEnd) (fault : Option LogFault) → (log_answers t c).fault ≡ fault
     → Checks fault t c
     (check_lines 1 (log_answers t c).given ++ totals fault (log_answers t c).given)
 log_checks t c None e =
@@ -150,5 +150,5 @@ log_checks t c (Some fault) e =
           ∙ ap (check_lines 1) its.whole ∙ reports_text 1 its.said.given,
     )
 
-pub checks : (t : List ℕ) (c : Ending) → Checks (check_plan t c).fault t c (check_plan t c).text
+pub checks : (t : List ℕ) (c : InputEnd) → Checks (check_plan t c).fault t c (check_plan t c).text
 checks t c = log_checks t c (log_answers t c).fault refl

@@ -14,7 +14,7 @@ use crate::fault::ConvertFault;
 use aprs_ax25::Frame;
 use aprs_io::read_some;
 use aprs_kiss::{Counted, Fed, KissReader, WriteFault};
-use aprs_log::{Ending, LogCause, LogFault, LogWriter, Moment, Receiver, Reception};
+use aprs_log::{InputEnd, LogCause, LogFault, LogWriter, Moment, Receiver, Reception};
 use std::io::{Read, Write};
 
 /// How many bytes of the stream are read at once, at most.
@@ -54,13 +54,13 @@ pub fn capture<R: Read, W: Write>(
 
 /// The answer of a capture whose stream ended so: `Ok` where it has no further byte, and otherwise
 /// a fault in line 0, since a read failed or the stream is over the limit.
-fn stream_end(ending: Ending) -> Result<(), ConvertFault>
+fn stream_end(ending: InputEnd) -> Result<(), ConvertFault>
     ensures { Spec.EndsStream result ending }
 {
     match ending {
-        Ending::End => Ok(()),
-        Ending::Read => Err(fault_of_stream(LogCause::Read)),
-        Ending::TooLong => Err(fault_of_stream(LogCause::TooLong)),
+        InputEnd::End => Ok(()),
+        InputEnd::Read => Err(fault_of_stream(LogCause::Read)),
+        InputEnd::TooLong => Err(fault_of_stream(LogCause::TooLong)),
     }
 }
 

@@ -1,7 +1,7 @@
 -- Worked examples.
 use Rattle.std.proofs.Common.{◌≡◌, ℕ, ◌<◌, List, [], ◌∷◌, refl, sym, ap, ◌∙◌, subst, arith}
 use Rattle.std.specs.declared.cmp.Ordering.TheVariants.{Equal, Greater}
-use Rattle.aprs_log.specs.Reception.{Heard, bytes_cmp}
+use Rattle.aprs_log.specs.Reception.{Received, bytes_cmp}
 use Rattle.aprs_laws.specs.Key.{key_of, key_cmp}
 use Rattle.aprs_laws.specs.Row.{Row}
 use Rattle.aprs_laws.specs.Book.{BookOf}
@@ -41,7 +41,7 @@ unfolding key_of key_cmp
 tied_plain = refl
 
 -- a computed book is the book
-book_by : (S : List Heard) (rows : List Row) → plain_book 30000 S ≡ rows → BookOf 30000 S rows
+book_by : (S : List Received) (rows : List Row) → plain_book 30000 S ≡ rows → BookOf 30000 S rows
 book_by S rows e = subst (λ (p : List Row). BookOf 30000 S p) e (plain_is_book 30000 S)
 
 pub near_book : BookOf 30000 near_pair (near_row ∷ [])
@@ -54,13 +54,13 @@ pub tied_book : BookOf 30000 tied_pair (tied_row ∷ [])
 tied_book = book_by tied_pair (tied_row ∷ []) tied_plain
 
 -- the book of one reception
-pub single_sound : (s : Heard) → Sound 30000 (single s ∷ [])
+pub single_sound : (s : Received) → Sound 30000 (single s ∷ [])
 single_sound s = sound 30000 (s ∷ []) (single s ∷ []) (plain_is_book 30000 (s ∷ []))
 
 gap_is_some : 0 < 30000
 gap_is_some = omega arith
 
-joined_singles : (s t : Heard) (rows : List Row)
+joined_singles : (s t : Received) (rows : List Row)
     → merge 30000 (single s ∷ []) (single t ∷ []) ≡ rows
     → Joined 30000 (single s ∷ []) (single t ∷ []) rows
 joined_singles s t rows e =

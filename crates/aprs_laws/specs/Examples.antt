@@ -2,7 +2,7 @@
 use Rattle.std.specs.Prelude.{◌≡◌, ℕ, Bool, true, List, [], ◌∷◌, codes}
 use Rattle.aprs_ax25.specs.Callsign.{Call}
 pub use Rattle.aprs_log.specs.Examples.{hi_frame}
-use Rattle.aprs_log.specs.Reception.{Heard}
+use Rattle.aprs_log.specs.Reception.{Received}
 use Rattle.aprs_laws.specs.Key.{Key}
 use Rattle.aprs_laws.specs.Row.{Row}
 use Rattle.aprs_laws.specs.BookValue.{BookValue}
@@ -51,20 +51,20 @@ abbrev pub rx2 : List ℕ
 rx2 = codes "RX2"
 
 -- A reception of these parts.
-abbrev pub reception_at : ℕ → List ℕ → List ℕ → Heard
+abbrev pub reception_at : ℕ → List ℕ → List ℕ → Received
 reception_at moment receiver frame = record { moment = moment; receiver = receiver; frame = frame }
 
 -- A row of these parts.
-abbrev pub example_row : ℕ → List (List ℕ) → Heard → Row
+abbrev pub example_row : ℕ → List (List ℕ) → Received → Row
 example_row first receivers greatest =
     record { first = first; receivers = receivers; greatest = greatest }
 
--- Heard by RX1 at a moment.
-abbrev pub by_rx1 : ℕ → Heard
+-- Received by RX1 at a moment.
+abbrev pub by_rx1 : ℕ → Received
 by_rx1 moment = reception_at moment rx1 hi_frame
 
--- Heard by RX2 through a digipeater, at moment 0.
-abbrev pub early : Heard
+-- Received by RX2 through a digipeater, at moment 0.
+abbrev pub early : Received
 early = reception_at 0 rx2 hi_after_digipeater
 
 -- The standard gap, in milliseconds.
@@ -72,7 +72,7 @@ abbrev pub half_minute : ℕ
 half_minute = 30000
 
 -- Two receptions 30 seconds apart.
-abbrev pub near_pair : List Heard
+abbrev pub near_pair : List Received
 near_pair = by_rx1 30000 ∷ early ∷ []
 
 -- The row of `near_pair`.
@@ -80,7 +80,7 @@ abbrev pub near_row : Row
 near_row = example_row 0 (rx1 ∷ rx2 ∷ []) (by_rx1 30000)
 
 -- Two receptions 30,001 milliseconds apart.
-abbrev pub far_pair : List Heard
+abbrev pub far_pair : List Received
 far_pair = by_rx1 30001 ∷ early ∷ []
 
 -- The row of the earlier reception of `far_pair`.
@@ -96,7 +96,7 @@ abbrev pub book_under : ℕ → BookValue
 book_under gap = record { gap = gap; rows = early_row ∷ late_row ∷ [] }
 
 -- Two receptions at one moment.
-abbrev pub tied_pair : List Heard
+abbrev pub tied_pair : List Received
 tied_pair = by_rx1 0 ∷ early ∷ []
 
 -- The row of `tied_pair`.
@@ -135,5 +135,5 @@ back_and_forth =
     ∷ Merge 0 1 ∷ Merge 1 0 ∷ Merge 0 0 ∷ []
 
 -- A join that answers the first value.
-abbrev pub TakesFirst : Heard → Heard → Heard → Type 0
+abbrev pub TakesFirst : Received → Received → Received → Type 0
 TakesFirst a b c = c ≡ a

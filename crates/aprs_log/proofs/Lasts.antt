@@ -7,8 +7,8 @@ use Rattle.aprs_io.specs.Cut.{cut_at}
 use Rattle.aprs_io.specs.Device.{Calls, Going, Last}
 use Rattle.aprs_io.specs.Input.{last_of_ending}
 use Rattle.aprs_io.specs.declared.device.Counted.{Counted}
-use Rattle.aprs_io.specs.declared.input.Ending.{Ending}
-use Rattle.aprs_io.specs.declared.input.Ending.TheVariants.{End, Read, TooLong}
+use Rattle.aprs_io.specs.declared.input.InputEnd.{InputEnd}
+use Rattle.aprs_io.specs.declared.input.InputEnd.TheVariants.{End, Read, TooLong}
 use Rattle.aprs_io.proofs.Sends.{Calls-none}
 use Rattle.aprs_log.specs.States.{last_in, state_after}
 use Rattle.aprs_log.specs.Awaits.{last_of_cause}
@@ -59,7 +59,7 @@ fault_asks_nothing a l f c of is =
 
 -- ---- a tail that isn't too long stops it by how the input ended
 
-tail_tells : (tail : List ℕ) (e : Ending) → length tail ≤ MAX_LINE
+tail_tells : (tail : List ℕ) (e : InputEnd) → length tail ≤ MAX_LINE
     → last_in (state_after (tail_cause tail e)) ≡ last_of_ending e
 tail_tells [] End short = refl
 tail_tells (b ∷ bs) End short = grind (arith, nat_tests, short)
@@ -67,7 +67,7 @@ tail_tells tail Read short = grind (arith, nat_tests, short)
 tail_tells tail TooLong short = grind (arith, nat_tests, short)
 
 pub stops_as_told : {R : Type 0} {a b : Counted R} {s : State} {o : Option LogCause}
-    (tail : List ℕ) (e : Ending) → length tail ≤ MAX_LINE → o ≡ tail_cause tail e
+    (tail : List ℕ) (e : InputEnd) → length tail ≤ MAX_LINE → o ≡ tail_cause tail e
     → s ≡ state_after o → Calls (last_of_ending e) a b → Calls (last_in s) a b
 stops_as_told {R} {a} {b} tail e short is to p =
     subst (λ last. Calls last a b)

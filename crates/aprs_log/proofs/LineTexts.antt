@@ -9,7 +9,7 @@ use Rattle.aprs_log.specs.Line.{frame_in, heard_or_passed, line_of, line_of_digi
 use Rattle.aprs_log.specs.LineText.{HasMoment, HasReceiver, IsLine, IsPassed, IsWrongLine, Reports}
 use Rattle.aprs_log.specs.MomentReading.{moment_of}
 use Rattle.aprs_log.specs.Receiver.{IsName, is_receiver}
-use Rattle.aprs_log.specs.Reception.{Heard}
+use Rattle.aprs_log.specs.Reception.{Received}
 use Rattle.aprs_log.specs.declared.fault.LineFault.{LineFault}
 use Rattle.aprs_log.specs.declared.fault.LineFault.TheVariants as fault
 use Rattle.aprs_log.specs.declared.fault.LogCause.{LogCause}
@@ -24,7 +24,7 @@ use Rattle.aprs_log.proofs.Lines.{HasFields, has_moment, has_receiver, line_of-f
 -- ---- a line that is in order
 
 -- what reading makes of a reception that is reported
-pub reports-line_of : (l : List ℕ) (x : Heard) → Reports l x → line_of l ≡ Ok (line.Heard x)
+pub reports-line_of : (l : List ℕ) (x : Received) → Reports l x → line_of l ≡ Ok (line.Heard x)
 reports-line_of l x h =
     line_of-syntax l x.moment x.receiver h.0 h.1
     ∙ ap (λ r. Ok (heard_or_passed x.moment x.receiver r)) (frame_in-carried h.0 x.frame h.2)
@@ -44,14 +44,14 @@ passed-line_of l h =
     passed_by (line_of l) h.0 h.1 (frame_in h.2) (line_of-syntax l h.0 h.1 h.2 h.3)
     (λ frame e. h.4 frame (carried-frame_in h.2 frame e))
 
-heard_parts : (m : ℕ) (name : List ℕ) (found : Result (List ℕ) Reason) (x : Heard)
+heard_parts : (m : ℕ) (name : List ℕ) (found : Result (List ℕ) Reason) (x : Received)
     → heard_or_passed m name found ≡ line.Heard x
     → (x.moment ≡ m) × (x.receiver ≡ name) × (found ≡ Ok x.frame)
 heard_parts m name (Ok frame) x e =
     let same : record { moment = m; receiver = name; frame = frame } ≡ x = cc in (
-      sym (ap (λ (x : Heard). x.moment) same),
-      sym (ap (λ (x : Heard). x.receiver) same),
-      ap (λ (x : Heard). Ok x.frame) same,
+      sym (ap (λ (x : Received). x.moment) same),
+      sym (ap (λ (x : Received). x.receiver) same),
+      ap (λ (x : Received). Ok x.frame) same,
     )
 heard_parts m name (Err reason) x e = absurd cc
 
@@ -68,7 +68,7 @@ said : (l : List ℕ) (is : HasFields l) (found : Line) → line_of l ≡ Ok fou
     → heard_or_passed is.0 is.1 (frame_in is.2) ≡ found
 said l is found e = ok_same _ found (line_of l) (line_of-syntax l is.0 is.1 is.2 is.3) e
 
-pub line_said-reports : (l : List ℕ) → HasFields l → (x : Heard) → line_of l ≡ Ok (line.Heard x)
+pub line_said-reports : (l : List ℕ) → HasFields l → (x : Received) → line_of l ≡ Ok (line.Heard x)
     → Reports l x
 line_said-reports l is x e =
     let parts = heard_parts is.0 is.1 (frame_in is.2) x (said l is _ e) in (
@@ -265,7 +265,7 @@ line_of-is l x e = elim (wrong_or_line l) as (λ _. HasFields l) [
   | inr is ↦ is
 ]
 
-pub line_of-reports : (l : List ℕ) (x : Heard) → line_of l ≡ Ok (line.Heard x) → Reports l x
+pub line_of-reports : (l : List ℕ) (x : Received) → line_of l ≡ Ok (line.Heard x) → Reports l x
 line_of-reports l x e = line_said-reports l (line_of-is l (line.Heard x) e) x e
 
 pub line_of-passed : (l : List ℕ) → IsPassedOver (line_of l) → IsPassed l

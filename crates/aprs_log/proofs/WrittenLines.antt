@@ -12,7 +12,7 @@ use Rattle.std.proofs.lemmas.Bool.Decides.{nat_tests}
 use Rattle.aprs_log.specs.Moment.{moment_text}
 use Rattle.aprs_log.specs.CivilMoment.{IsMomentText}
 use Rattle.aprs_log.specs.Receiver.{IsName}
-use Rattle.aprs_log.specs.Reception.{Heard}
+use Rattle.aprs_log.specs.Reception.{Received}
 use Rattle.aprs_log.specs.Line.{heard_or_passed, line_of, written_line}
 use Rattle.aprs_log.specs.declared.line.Line.TheVariants as line
 use Rattle.aprs_log.proofs.Lines.{line_of-syntax}
@@ -125,13 +125,13 @@ reads_back frame are =
 -- ---- a written line reads back
 
 -- what a reception's parts are
-pub record IsReal (x : Heard) : Type 0 where
+pub record IsReal (x : Received) : Type 0 where
   pub moment : IsMomentText x.moment (moment_text x.moment)
   pub receiver : IsName x.receiver
   pub frame : frame_or_fault x.frame ≡ Ok x.frame
   pub few : length x.frame ≤ 1023
 
-pub real : (x : Heard) (text : List ℕ) → text ≡ moment_text x.moment → IsMomentText x.moment text
+pub real : (x : Received) (text : List ℕ) → text ≡ moment_text x.moment → IsMomentText x.moment text
     → IsName x.receiver → frame_or_fault x.frame ≡ Ok x.frame → length x.frame ≤ MAX_UI_FRAME → IsReal x
 real x text e moment receiver frame few = record {
   moment = subst (IsMomentText x.moment) e moment;
@@ -140,7 +140,7 @@ real x text e moment receiver frame few = record {
   few = omega arith;
 }
 
-pub line_of-written : (x : Heard) → IsReal x
+pub line_of-written : (x : Received) → IsReal x
     → decode_of (encode_lower (kiss_text x.frame)) ≡ Ok (kiss_text x.frame)
     → length (written_line x) ≤ MAX_LINE → line_of (written_line x) ≡ Ok (line.Heard x)
 line_of-written x h digits short =

@@ -13,7 +13,7 @@ use Rattle.aprs_log.specs.Fault.{reason_of_pass, reason_of_frame}
 use Rattle.aprs_log.specs.Moment.{moment_text}
 use Rattle.aprs_log.specs.MomentReading.{moment_of}
 use Rattle.aprs_log.specs.Receiver.{is_receiver}
-use Rattle.aprs_log.specs.Reception.{Heard}
+use Rattle.aprs_log.specs.Reception.{Received}
 use Rattle.aprs_log.specs.Steps.{◌otherwise◌then◌, guard}
 use Rattle.aprs_log.specs.declared.fault.LineFault.{LineFault}
 use Rattle.aprs_log.specs.declared.fault.LineFault.TheVariants as fault
@@ -76,5 +76,5 @@ line_of l =
 -- ---- the line that is written
 
 -- The line of a reception, without its LF.
-abbrev pub written_line : Heard → List ℕ
+abbrev pub written_line : Received → List ℕ
 written_line x = moment_text x.moment ++ 32 ∷ x.receiver ++ 32 ∷ encode_lower (kiss_text x.frame)

@@ -12,7 +12,7 @@ use Rattle.aprs_log.specs.declared.line.Line.TheVariants as line
 use Rattle.aprs_log.specs.declared.fault.Reason.TheVariants.{NoFrame}
 use Rattle.aprs_log.specs.declared.fault.LogCause.TheVariants as cause
 use Rattle.aprs_log.specs.declared.fault.LogFault.{LogFault}
-use Rattle.aprs_io.specs.declared.input.Ending.{Ending}
+use Rattle.aprs_io.specs.declared.input.InputEnd.{InputEnd}
 use Rattle.aprs_log.specs.declared.reader.LogReader.{LogReader}
 
 -- The device that the reader borrows.
@@ -67,7 +67,7 @@ last_told (Err fault) = last_of_cause fault.cause
 pub record AreAnswersOf (limit : ℕ) (input : List ℕ) (after : Option (List ℕ)) (answers : Answers)
     : Type 0 where
   pub text : List ℕ
-  pub ending : Ending
+  pub ending : InputEnd
   pub gets : Gets limit input after text ending
   pub is : answers ≡ log_answers text ending
 

@@ -8,7 +8,7 @@ ghost use Rattle.aprs_log.specs.Sizes.{most_line};
 
 mod fields;
 mod frame_in_line;
-pub(crate) mod scratch;
+pub(crate) mod line_buffers;
 
 use crate::fault::{LineFault, Reason};
 use crate::{Moment, Receiver, Reception};
@@ -16,7 +16,7 @@ use aprs_ax25::Frame;
 use aprs_io::decode_into;
 use fields::{first_moment, take_receiver};
 use frame_in_line::data_in;
-use scratch::Scratch;
+use line_buffers::LineBuffers;
 
 /// The most bytes of a line of a log, without its LF.
 pub const MAX_LINE: usize = 8192;
@@ -42,7 +42,7 @@ pub fn read_line(line: &[u8]) -> Result<Line, LineFault>
         × IsLine line.now m name bytes) }
 {
     let mut found = Line::empty();
-    match read_fields(line, &mut Scratch::new(), &mut found) {
+    match read_fields(line, &mut LineBuffers::new(), &mut found) {
         Ok(()) => Ok(found),
         Err(fault) => Err(fault),
     }
@@ -111,7 +111,7 @@ impl Line {
 /// it held before changes nothing of the answer.
 pub(crate) fn read_fields(
     line: &[u8],
-    scratch: &mut Scratch,
+    scratch: &mut LineBuffers,
     found: &mut Line,
 ) -> Result<(), LineFault>
     ensures line { line_in result found.new ≡ line_of line.now }
@@ -136,7 +136,7 @@ fn read_within(
     moment: Moment,
     receiver: Receiver,
     digits: &[u8],
-    scratch: &mut Scratch,
+    scratch: &mut LineBuffers,
     found: &mut Line,
 ) -> Result<(), LineFault>
     requires { length digits.now ≤ most_line }

@@ -9,7 +9,7 @@ mod next_line;
 mod window;
 
 use crate::fault::{LogCause, LogFault, Reason};
-use crate::line::scratch::Scratch;
+use crate::line::line_buffers::LineBuffers;
 use crate::line::{Line, MAX_LINE};
 use aprs_io::Counted;
 use ending::{State, refuse_tail};
@@ -24,7 +24,7 @@ use window::Window;
 pub struct LogReader<'a, R> {
     source: &'a mut Counted<R>,
     window: Window,
-    scratch: Scratch,
+    scratch: LineBuffers,
     current: Line,
     /// How many bytes may be read yet.
     left: u64,
@@ -76,7 +76,7 @@ impl<'a, R: Read> LogReader<'a, R> {
         LogReader {
             source,
             window: Window::new(head),
-            scratch: Scratch::new(),
+            scratch: LineBuffers::new(),
             current: Line::empty(),
             left: limit - head.len() as u64,
             line: 0,

@@ -5,7 +5,7 @@ ghost use Rattle.std.proofs.Common.{rules};
 ghost use Rattle.std.specs.Cmp.{partial_order_from_own_ties};
 ghost use Rattle.std.specs.Cmp.Rules.{comparing};
 ghost use Rattle.aprs_ax25.specs.FrameFault.{frame_or_fault};
-ghost use Rattle.aprs_log.specs.Reception.{Heard, heard_cmp};
+ghost use Rattle.aprs_log.specs.Reception.{Received, heard_cmp};
 
 use crate::{Moment, Receiver};
 use aprs_ax25::{Frame, FrameFault};
@@ -22,7 +22,7 @@ pub struct Reception {
 }
 
 impl Model for Reception {
-    ghost Value = { Heard };
+    ghost Value = { Received };
 
     ghost view = { λ x. record { moment = x.moment; receiver = x.receiver; frame = x.frame } };
 

@@ -15,11 +15,11 @@ use Rattle.aprs_laws.specs.Coalescing.{AreInOrder}
 use Rattle.aprs_laws.specs.Key.{key_cmp}
 use Rattle.aprs_laws.specs.Row.{Row, row_cmp, row_key}
 use Rattle.aprs_laws.proofs.Orders.{bytes_total, ordering_then_assoc}
-use Rattle.aprs_rows.specs.Head.{HasHead}
-use Rattle.aprs_rows.specs.HeadSteps.{head_cmp}
+use Rattle.aprs_rows.specs.KeyPrefix.{HasKeyPrefix}
+use Rattle.aprs_rows.specs.KeyPrefixSteps.{head_cmp}
 use Rattle.aprs_rows.specs.Rows.{AreRowsIn, bytes_of, entry_cmp, entry_row, info_of, IsRowIn, rows_in}
 use Rattle.aprs_rows.specs.declared.store.entry.Entry.{Entry}
-use Rattle.aprs_rows.proofs.Heads.{head_and_info, head_total}
+use Rattle.aprs_rows.proofs.KeyPrefixes.{head_and_info, head_total}
 use Rattle.aprs_rows.proofs.Orders.{ordered}
 use Rattle.aprs_rows.proofs.Rows.{each_lies, info_there}
 
@@ -38,13 +38,13 @@ module _ (bytes : List ℕ) where
   as_rows a b r s =
       let f = (row_of a).greatest.frame in
       let g = (row_of b).greatest.frame in
-      let heads : HasHead a.head f =
+      let heads : HasKeyPrefix a.head f =
       record {
         frame = r.told.frame_is;
         bytes = r.key.bytes;
         head = r.key.head;
       } in
-      let others : HasHead b.head g =
+      let others : HasKeyPrefix b.head g =
       record {
         frame = s.told.frame_is;
         bytes = s.key.bytes;

@@ -3,7 +3,7 @@ pub mod Cases
 pub mod Digits
 pub mod EntryOrder
 pub mod Groups
-pub mod Heads
+pub mod KeyPrefixes
 pub mod Infos
 pub mod JoinedNames
 pub mod Judgements

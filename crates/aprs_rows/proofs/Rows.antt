@@ -9,7 +9,7 @@ use Rattle.std.proofs.lemmas.Bool.Decides.{nat_tests}
 use Rattle.std.proofs.lemmas.List.Elements.{All-nil, All-cons}
 use Rattle.aprs_ax25.specs.FrameFault.{parts_of}
 use Rattle.aprs_log.specs.Receiver.{IsName}
-use Rattle.aprs_log.specs.Reception.{Heard}
+use Rattle.aprs_log.specs.Reception.{Received}
 use Rattle.aprs_laws.specs.JoinRow.{single}
 use Rattle.aprs_laws.specs.Row.{Row}
 use Rattle.aprs_laws.specs.Sound.{IsSoundRow}
@@ -88,12 +88,12 @@ single_names r h =
     subst (All IsName) (sym (name_alone r h)) (All-cons IsName r [] h (All-nil IsName))
 
 -- What is known of the row of one reception.
-pub record IsSingle (x : Heard) (row : Row) : Type 0 where
+pub record IsSingle (x : Received) (row : Row) : Type 0 where
   pub is : row ≡ single x
   pub sound : IsSoundRow row
   pub short : length (join_with_byte 44 row.receivers) < 4294967296
 
-pub single_row : (x : Heard) (row : Row) (m n : ℕ) (r f : List ℕ) → row ≡ row_of_text m n r r f
+pub single_row : (x : Received) (row : Row) (m n : ℕ) (r f : List ℕ) → row ≡ row_of_text m n r r f
     → m ≡ x.moment → n ≡ x.moment → r ≡ x.receiver → f ≡ x.frame → IsName x.receiver
     → IsSingle x row
 single_row x row m n r f e moment again receiver frame name =

@@ -12,7 +12,7 @@ use Rattle.aprs_log.specs.Receiver.{IsName}
 use Rattle.aprs_log.specs.Reception.{bytes_cmp}
 use Rattle.aprs_laws.specs.Coalescing.{append_or_join}
 use Rattle.aprs_laws.specs.Row.{Row}
-use Rattle.aprs_laws.specs.JoinRow.{choose, combine, greater, place, union}
+use Rattle.aprs_laws.specs.JoinRow.{choose, combine, greater, compare_near, union}
 use Rattle.aprs_laws.specs.Lists.{◌∈◌, Ordered}
 use Rattle.aprs_laws.specs.Order.{IsBelow}
 use Rattle.aprs_laws.proofs.Lists.{in_left, in_right, in_either}
@@ -304,17 +304,17 @@ ends_open o g names a first size greatest = by_test o.is_alone refl size where
 
 pub appended_last : (gap : ℕ) (done : List Row) (l x : Row)
     → append_or_join gap (done ++ l ∷ []) x
-    ≡ choose (place gap l x) (done ++ l ∷ x ∷ []) (done ++ combine l x ∷ []) (done ++ l ∷ x ∷ [])
+    ≡ choose (compare_near gap l x) (done ++ l ∷ x ∷ []) (done ++ combine l x ∷ []) (done ++ l ∷ x ∷ [])
 appended_last gap [] l x = refl
-appended_last gap (d ∷ []) l x = at_front (place gap l x) d (l ∷ x ∷ []) (combine l x ∷ [])
+appended_last gap (d ∷ []) l x = at_front (compare_near gap l x) d (l ∷ x ∷ []) (combine l x ∷ [])
 appended_last gap (d ∷ e ∷ done) l x =
     ap (λ rows. d ∷ rows) (appended_last gap (e ∷ done) l x)
-    ∙ at_front (place gap l x) d ((e ∷ done) ++ l ∷ x ∷ []) ((e ∷ done) ++ combine l x ∷ [])
+    ∙ at_front (compare_near gap l x) d ((e ∷ done) ++ l ∷ x ∷ []) ((e ∷ done) ++ combine l x ∷ [])
 
-pub joins_last : (gap : ℕ) (done : List Row) (l x : Row) → is_eq (place gap l x) ≡ true
+pub joins_last : (gap : ℕ) (done : List Row) (l x : Row) → is_eq (compare_near gap l x) ≡ true
     → done ++ combine l x ∷ [] ≡ append_or_join gap (done ++ l ∷ []) x
 joins_last gap done l x e =
-    sym (appended_last gap done l x ∙ near (place gap l x) e) where
+    sym (appended_last gap done l x ∙ near (compare_near gap l x) e) where
       near : (o : Ordering) → is_eq o ≡ true
           → choose o (done ++ l ∷ x ∷ []) (done ++ combine l x ∷ []) (done ++ l ∷ x ∷ [])
           ≡ done ++ combine l x ∷ []
@@ -322,11 +322,11 @@ joins_last gap done l x e =
       near Equal e = refl
       near Greater e = absurd (cc)
 
-pub follows_last : (gap : ℕ) (done : List Row) (l x : Row) → is_eq (place gap l x) ≡ false
+pub follows_last : (gap : ℕ) (done : List Row) (l x : Row) → is_eq (compare_near gap l x) ≡ false
     → (done ++ l ∷ []) ++ x ∷ [] ≡ append_or_join gap (done ++ l ∷ []) x
 follows_last gap done l x e =
     append_assoc done (l ∷ []) (x ∷ [])
-    ∙ sym (appended_last gap done l x ∙ far (place gap l x) e) where
+    ∙ sym (appended_last gap done l x ∙ far (compare_near gap l x) e) where
       far : (o : Ordering) → is_eq o ≡ false
           → choose o (done ++ l ∷ x ∷ []) (done ++ combine l x ∷ []) (done ++ l ∷ x ∷ [])
           ≡ done ++ l ∷ x ∷ []

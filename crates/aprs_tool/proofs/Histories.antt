@@ -20,7 +20,7 @@ use Rattle.aprs_laws.specs.Row.{Row}
 use Rattle.aprs_laws.proofs.Books.{unique}
 use Rattle.aprs_laws.proofs.Known.{rows_know}
 use Rattle.aprs_book.specs.Reports.{has_source, tells_item, tells_object, tells_position, report_of, reports_item, reports_object, reports_position, without_spaces}
-use Rattle.aprs_log.specs.Reception.{Heard}
+use Rattle.aprs_log.specs.Reception.{Received}
 use Rattle.aprs_listing.specs.History.{history_line, history_text, row_fields, told_line}
 use Rattle.aprs_listing.specs.Listing.{report_line}
 use Rattle.aprs_tool.specs.HistoryOf.{IsHistoryOf, TellsNamed, TellsPlace}
@@ -28,11 +28,11 @@ use Rattle.aprs_tool.specs.ToldBook.{IsHistory}
 
 -- the history of a book of this gap tells of each set whose book it is
 pub history_of_book : (gap : ℕ) (b : BookValue) (text : List ℕ) → b.gap ≡ gap → IsHistory b text
-    → (S : List Heard) → BookOf (millis_of gap) S b.rows → IsHistoryOf gap S text
+    → (S : List Received) → BookOf (millis_of gap) S b.rows → IsHistoryOf gap S text
 history_of_book gap b text same h S book =
     record { rows = b.rows; book = book; text_is = h.1; lines = h.0 }
 
-pub one_history : (gap : ℕ) (S T : List Heard) (text other : List ℕ) → SameMembers S T
+pub one_history : (gap : ℕ) (S T : List Received) (text other : List ℕ) → SameMembers S T
     → IsHistoryOf gap S text → IsHistoryOf gap T other → text ≡ other
 one_history gap S T text other same p q = p.text_is
     ∙ ap history_text (unique (millis_of gap) S T p.rows q.rows same p.book q.book)
@@ -41,14 +41,14 @@ one_history gap S T text other same p q = p.text_is
 -- ---- the places in it
 
 -- a row whose greatest reception is x
-record Cut (rows : List Row) (x : Heard) : Type 0 where
+record Cut (rows : List Row) (x : Received) : Type 0 where
   before : List Row
   row : Row
   after : List Row
   is : row.greatest ≡ x
   whole : rows ≡ before ++ row ∷ after
 
-cut_at : (rows : List Row) (x : Heard) → x ∈ map (λ (y : Row). y.greatest) rows → Cut rows x
+cut_at : (rows : List Row) (x : Received) → x ∈ map (λ (y : Row). y.greatest) rows → Cut rows x
 cut_at [] x m = absurd m
 cut_at (y ∷ ys) x (inl e) = record { before = []; row = y; after = ys; is = e; whole = refl }
 cut_at (y ∷ ys) x (inr m) =
@@ -92,7 +92,7 @@ info_of : (frame : List ℕ) → (key_of frame).info ≡ (parts_of frame).info
 unfolding key_of
 info_of frame = refl
 
-pub tells_place_of : (gap : ℕ) (S : List Heard) (text : List ℕ) (call : Call) (x : Heard)
+pub tells_place_of : (gap : ℕ) (S : List Received) (text : List ℕ) (call : Call) (x : Received)
     → IsHistoryOf gap S text → LastKnown S (Passes (reports_position call)) (Some x)
     → TellsPlace text x
 tells_place_of gap S text call x h best =
@@ -118,7 +118,7 @@ tells_place_of gap S text call x h best =
       comment = it.comment;
       listed = ap (report_line x) it.is;
       told = ap (told_line (row_fields cut.row) (parts_of cut.row.greatest.frame))
-          (ap (λ (y : Heard). reading_of (parts_of y.frame).info) cut.is ∙ read);
+          (ap (λ (y : Received). reading_of (parts_of y.frame).info) cut.is ∙ read);
     }
 
 -- a report of an object
@@ -175,7 +175,7 @@ item_of wanted (rej addressee id) e = absurd cc
 item_of wanted (status stamp text) e = absurd cc
 item_of wanted raw e = absurd cc
 
-pub tells_object_of : (gap : ℕ) (S : List Heard) (text name : List ℕ) (x : Heard)
+pub tells_object_of : (gap : ℕ) (S : List Received) (text name : List ℕ) (x : Received)
     → IsHistoryOf gap S text → LastKnown S (Passes (reports_object name)) (Some x)
     → TellsNamed (codes "object") text x
 tells_object_of gap S text name x h best =
@@ -201,10 +201,10 @@ tells_object_of gap S text name x h best =
       comment = it.comment;
       listed = ap (report_line x) it.is;
       told = ap (told_line (row_fields cut.row) (parts_of cut.row.greatest.frame))
-          (ap (λ (y : Heard). reading_of (parts_of y.frame).info) cut.is ∙ read);
+          (ap (λ (y : Received). reading_of (parts_of y.frame).info) cut.is ∙ read);
     }
 
-pub tells_item_of : (gap : ℕ) (S : List Heard) (text name : List ℕ) (x : Heard)
+pub tells_item_of : (gap : ℕ) (S : List Received) (text name : List ℕ) (x : Received)
     → IsHistoryOf gap S text → LastKnown S (Passes (reports_item name)) (Some x)
     → TellsNamed (codes "item") text x
 tells_item_of gap S text name x h best =
@@ -230,5 +230,5 @@ tells_item_of gap S text name x h best =
       comment = it.comment;
       listed = ap (report_line x) it.is;
       told = ap (told_line (row_fields cut.row) (parts_of cut.row.greatest.frame))
-          (ap (λ (y : Heard). reading_of (parts_of y.frame).info) cut.is ∙ read);
+          (ap (λ (y : Received). reading_of (parts_of y.frame).info) cut.is ∙ read);
     }

@@ -10,7 +10,7 @@ use Rattle.aprs_laws.specs.Gap.{millis_of}
 use Rattle.aprs_laws.proofs.Books.{one_book}
 use Rattle.aprs_laws.proofs.RunRows.{book_of_nothing}
 use Rattle.aprs_booktext.specs.Text.{written_text}
-use Rattle.aprs_log.specs.Reception.{Heard}
+use Rattle.aprs_log.specs.Reception.{Received}
 use Rattle.aprs_tool.specs.Gathered.{ReadsEach, WritesText}
 use Rattle.aprs_tool.specs.Inputs.{GivesSet}
 use Rattle.aprs_tool.specs.Several.{GiveUnion, GotOf, IsFirstRefused}
@@ -26,10 +26,10 @@ record Last (gap limit : ℕ) (gots : List (GotOf limit)) : Type 0 where
   before : List (GotOf limit)
   at : GotOf limit
   whole : gots ≡ before ++ at ∷ []
-  first : (S : List Heard) × GiveUnion gap before S
-  last : (T : List Heard) × GivesSet gap at.text at.ending T
+  first : (S : List Received) × GiveUnion gap before S
+  last : (T : List Received) × GivesSet gap at.text at.ending T
 
-last_of : (gap limit : ℕ) (g : GotOf limit) (gots : List (GotOf limit)) (S : List Heard)
+last_of : (gap limit : ℕ) (g : GotOf limit) (gots : List (GotOf limit)) (S : List Received)
     → GiveUnion gap (g ∷ gots) S → Last gap limit (g ∷ gots)
 last_of gap limit g [] S h =
     record { before = []; at = g; whole = refl; first = ([], refl); last = (h.0, h.2) }

@@ -3,8 +3,8 @@ use Rattle.std.proofs.Common.{◌≡◌, ℕ, List, [], ◌++◌, Option, None, 
 use Rattle.std.specs.Io.KnownBytes.{Appends}
 use Rattle.aprs_io.specs.Input.{most_input}
 use Rattle.aprs_io.specs.declared.device.Counted.{Counted}
-use Rattle.aprs_log.specs.Reception.{Heard}
-use Rattle.aprs_log.specs.declared.Ending.{Ending}
+use Rattle.aprs_log.specs.Reception.{Received}
+use Rattle.aprs_log.specs.declared.InputEnd.{InputEnd}
 use Rattle.aprs_convert.specs.Got.{OfGot}
 use Rattle.aprs_tool.specs.Merge.{IsTextOfBook}
 use Rattle.aprs_tool.specs.Widen.{GivesSetWithin, IsNotWidened}
@@ -30,7 +30,7 @@ module _ {W : Type 0} (contents : W → Option (List ℕ)) (w x : Counted W) (te
   unwritten : x ≡ w → text ≡ []
   unwritten same = ap bytes_in (sym is ∙ ap (λ (d : Counted W). contents d.device) same ∙ empty)
 
-  pub gives : (Stand : List Heard → Type 0) (TellsOf : List Heard → List ℕ → Type 0)
+  pub gives : (Stand : List Received → Type 0) (TellsOf : List Received → List ℕ → Type 0)
       (Refused : ℕ → InputFault → Type 0) (outcome : Outcome)
       → WritesFor (IsToldOf Stand TellsOf) contents outcome w x
       → RefusesFor Stand Refused outcome w x → Gives Stand TellsOf Refused outcome text
@@ -46,7 +46,7 @@ module _ {W : Type 0} (contents : W → Option (List ℕ)) (w x : Counted W) (te
   gives Stand TellsOf Refused (Err Memory) writes refuses = (refuses.0, unwritten refuses.1)
 
   pub gathers : {R : Type 0} (remaining : R → Option (List ℕ)) (gap : ℕ)
-      (TellsOf : List Heard → List ℕ → Type 0) (old new : List (Counted R))
+      (TellsOf : List Received → List ℕ → Type 0) (old new : List (Counted R))
       (inputs : List (List ℕ)) (outcome : Outcome)
       → map (λ r. remaining r.device) old ≡ map (λ (input : List ℕ). Some input) inputs
       → OfEach most_input remaining old new (λ gots.
@@ -122,9 +122,9 @@ module _ {W : Type 0} (contents : W → Option (List ℕ)) (w x : Counted W) (te
       RefusesFor (GivesSetWithin gap got ending) (IsNotWidened gap got ending) outcome w x)
       → Widens gap input outcome text
   widens remaining gap old new input outcome known writes refuses =
-      let W : List ℕ → Ending → Type 0 = λ got ending. WritesFor (IsToldOf (GivesSetWithin gap got ending) (IsTextOfBook gap))
+      let W : List ℕ → InputEnd → Type 0 = λ got ending. WritesFor (IsToldOf (GivesSetWithin gap got ending) (IsTextOfBook gap))
       contents outcome w x in
-      let F : List ℕ → Ending → Type 0 = λ got ending. RefusesFor (GivesSetWithin gap got ending)
+      let F : List ℕ → InputEnd → Type 0 = λ got ending. RefusesFor (GivesSetWithin gap got ending)
       (IsNotWidened gap got ending) outcome w x in
       widens_known remaining gap new input outcome
       (subst (λ (k : Option (List ℕ)). OfGot most_input k (remaining new.device) W) known writes)

@@ -51,7 +51,7 @@ impl<A: Allocator + Copy> Index<A> {
 
     /// Makes an empty entry at these bytes, unless there is an entry: then it takes no memory.
     /// What is known stays as it was, also after `Memory`.
-    pub(crate) fn place(&mut self, bytes: &[u8]) -> Result<(), Memory>
+    pub(crate) fn reserve(&mut self, bytes: &[u8]) -> Result<(), Memory>
         ensures same { (q : List ℕ) → Spec.known_at q self.new ≡ Spec.known_at q self.old }
         ensures made { OnOk result (Spec.HasEntry bytes.now self.new) }
         ensures there { Spec.HasEntry bytes.now self.old → IsOk result }
@@ -95,7 +95,7 @@ impl<A: Allocator + Copy> Index<A> {
             keep(known, x);
             return Ok(());
         }
-        self.place(bytes)?;
+        self.reserve(bytes)?;
         self.note(bytes, x);
         Ok(())
     }

@@ -12,16 +12,16 @@ use crate::rows::slot::{grow_by_one, put};
 use crate::rows::walk::Walk;
 use crate::{Memory, RowCause, RowParts};
 use aprs_log::Reception;
-use aprs_rows::Head;
+use aprs_rows::KeyPrefix;
 use std::alloc::{Allocator, Global};
 use std::collections::{BTreeMap, VecDeque};
 use std::marker::Model;
 
 /// The rows of a book in a map: under each head (the beginning of a key, as numbers) lie the rows
-/// whose keys have that head, in order. No head is without rows. Heads lie in the map itself, so
+/// whose keys have that head, in order. No head is without rows. KeyPrefixes lie in the map itself, so
 /// that most keys are told apart without a look at their frames.
 pub(crate) struct KeyedRows<A: Allocator = Global> {
-    map: BTreeMap<Head, VecDeque<KeptRow<A>, A>, A>,
+    map: BTreeMap<KeyPrefix, VecDeque<KeptRow<A>, A>, A>,
     /// The number of the rows of all keys.
     count: usize,
     alloc: A,
@@ -99,7 +99,7 @@ impl<A: Allocator + Copy> KeyedRows<A> {
         ensures added { OnOk result (self.new ≡ self.old ++ row ∷ []) }
         ensures unchanged { OnErr result (self.new ≡ self.old) }
     {
-        let head = Head::of_frame(row.greatest().frame());
+        let head = KeyPrefix::of_frame(row.greatest().frame());
         let mut count = self.count;
         if let Some(rows) = self.map.get_mut(&head) {
             let pushed = push_one(rows, &mut count, row);
@@ -126,13 +126,13 @@ impl<A: Allocator + Copy> KeyedRows<A> {
     /// Adds a reception to sound rows: it becomes a new row in its place, or a near row grows, or
     /// two near rows become one. Takes no memory where exactly one row is near and lists its
     /// receiver. After `Memory` the rows are as before.
-    pub(crate) fn take(&mut self, gap: Millis, x: &Reception) -> Result<(), Memory>
+    pub(crate) fn insert(&mut self, gap: Millis, x: &Reception) -> Result<(), Memory>
         requires { Sound gap self.old }
         ensures inserted { OnOk result (self.new ≡ insert_heard gap x.now self.old) }
         ensures in_place { has_place_for gap x.now self.old ≡ true → IsOk result }
         ensures unchanged { OnErr result (self.new ≡ self.old) }
     {
-        let head = Head::of_frame(x.frame());
+        let head = KeyPrefix::of_frame(x.frame());
         let mut count = self.count;
         if let Some(rows) = self.map.get_mut(&head) {
             let taken = put(gap, rows, &mut count, x);

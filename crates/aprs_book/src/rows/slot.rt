@@ -33,11 +33,11 @@ pub(crate) fn find_slot<A: Allocator + Copy>(
     requires { Sound gap rows.now.items }
     ensures { IsSlot gap x.now rows.now.items result }
 {
-    let i = rows.partition_point(|row| row.side(gap, x).is_lt());
-    if i == rows.len() || rows[i].side(gap, x).is_gt() {
+    let i = rows.partition_point(|row| row.compare_near_to(gap, x).is_lt());
+    if i == rows.len() || rows[i].compare_near_to(gap, x).is_gt() {
         return Slot::New(i);
     }
-    if i + 1 == rows.len() || rows[i + 1].side(gap, x).is_gt() {
+    if i + 1 == rows.len() || rows[i + 1].compare_near_to(gap, x).is_gt() {
         return Slot::One(i);
     }
     Slot::Two(i)

@@ -3,7 +3,7 @@ ghost use Rattle.std.specs.Prelude.{◌≡◌, ◌≤◌, length, insert, OnOk, 
 ghost use Rattle.aprs_rows.specs.KeptNames.{names_kept};
 
 use crate::Memory;
-use crate::room::reserve_one;
+use crate::growth::reserve_one;
 use aprs_log::Receiver;
 use std::alloc::Allocator;
 use std::slice;

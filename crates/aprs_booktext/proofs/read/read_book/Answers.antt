@@ -28,12 +28,12 @@ returns-in_err-left-clause-accepts g c =
 
 pub returns-in_default-clause-reads : goal.returns-in_default-clause-reads
 returns-in_default-clause-reads g c =
-    let f = c.refusal_at_last.result in
+    let f = c.memory_fault_at_last.result in
     let reader = c.read_lines.new.reader in
     let store = c.read_lines.new.store in
-    let of : IsOfText f.cause = rw c.refusal_at_last.ensures ((λ e. cc), (λ e. cc)) in
+    let of : IsOfText f.cause = rw c.memory_fault_at_last.ensures ((λ e. cc), (λ e. cc)) in
     let step : (t : List ℕ) → HasRead c.new-store.result reader store t → IsFault most_ahead f t =
-    λ t s. rw (c.refusal_at_last.ensures, s.has.counted)
+    λ t s. rw (c.memory_fault_at_last.ensures, s.has.counted)
     (fault_near 1 most_ahead _ t (omega arith) (done_refused _ s.rows _ t c.in_ok-left.ensures.done
     (omega (arith, c.in_ok-left.ensures.few, s.has.counted)) s.holds)) in
     let answer = IsAnswered-fault g.R.Read.remaining c.args.limit c.args.head.now c.args.source.now

@@ -1,5 +1,5 @@
 use Rattle.std.proofs.Common.{◌≡◌, ◌∙◌, List, ◌∷◌, ◌++◌, [], ℕ, None, append_assoc, append-nil, ap, subst, sym}
-use Rattle.aprs_log.specs.Reception.{Heard}
+use Rattle.aprs_log.specs.Reception.{Received}
 use Rattle.aprs_laws.specs.BookValue.{BookValue, IsSoundBook}
 use Rattle.aprs_laws.specs.Gap.{millis_of}
 use Rattle.aprs_laws.specs.Key.{key_of}
@@ -55,8 +55,8 @@ loop-row-preserved g c =
     let added : c.append.new.self ≡ kept ++ row ∷ [] =
     c.in_ok-append.ensures.added ∙ ap (λ (x : Row). kept ++ x ∷ []) c.in_ok-of_view.ensures in
     let source = c.call.ensures ∙ c.after-sender.ensures
-    ∙ ap (λ (x : Heard). (key_of x.frame).source) heard in
-    let info = c.info.ensures ∙ ap (λ (x : Heard). (key_of x.frame).info) heard in
+    ∙ ap (λ (x : Received). (key_of x.frame).source) heard in
+    let info = c.info.ensures ∙ ap (λ (x : Received). (key_of x.frame).info) heard in
     record {
       rows = ap (λ xs. xs ++ c.next.new.self) added
           ∙ whole (millis_of c.args.rows.now.gap) kept c.loop-row.row-iterator c.next.new.self
