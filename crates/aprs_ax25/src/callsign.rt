@@ -45,8 +45,8 @@ impl Callsign {
     /// The callsign that this is the text of, or the first fault in the order of the faults'
     /// numbers. Takes no memory.
     pub fn parse(text: &[u8]) -> Result<Callsign, CallFault>
-        ensures found { IfOk result (λ c. CallText.CallText c text.now) }
-        ensures only { (c : Spec.Call) → CallText.CallText c text.now → result ≡ Ok c }
+        ensures found { IfOk result (λ c. CallText.SpellsCall c text.now) }
+        ensures only { (c : Spec.Call) → CallText.SpellsCall c text.now → result ≡ Ok c }
         ensures fault { IfErr result (λ fault. CallText.FirstCallFault text.now fault) }
     {
         match parts_of(text) {
