@@ -10,7 +10,7 @@ use Rattle.aprs_ax25.specs.Callsign.{Call, IsCall, call_text, is_callsign_byte}
 use Rattle.aprs_ax25.specs.Frame.{Parts, IsParts}
 use Rattle.aprs_ax25.specs.FrameFault.{parts_of}
 use Rattle.aprs_ax25.specs.Hop.{hop_of, hop_text}
-use Rattle.aprs_io.specs.Shown.{is_printable, shown_byte, shown_text}
+use Rattle.aprs_io.specs.Shown.{is_shown_as_is, shown_byte, shown_text}
 use Rattle.aprs_log.specs.LogText.{HasNoLf}
 use Rattle.aprs_log.specs.Moment.{day_after, moment_text, moment_text_in, two_digits}
 use Rattle.aprs_log.specs.Receiver.{IsName, is_name_byte}
@@ -68,7 +68,7 @@ free_at (b ∷ table) zero h = h.0
 free_at (b ∷ table) (suc n) h = free_at table n h.1
 
 free_table : Free lower_digits
-free_table = free_by is_printable refl lower_digits refl
+free_table = free_by is_shown_as_is refl lower_digits refl
 
 free_digits : (bytes : List ℕ) → Free (encode_lower bytes)
 unfolding encode_with
@@ -79,11 +79,11 @@ free_digits (b ∷ bytes) = (
 )
 
 free_byte : (b : ℕ) → Free (shown_byte b)
-free_byte b = go (is_printable b) refl
+free_byte b = go (is_shown_as_is b) refl
   where
-    go : (t : Bool) → is_printable b ≡ t
+    go : (t : Bool) → is_shown_as_is b ≡ t
         → Free (cond t (b ∷ []) (92 ∷ 120 ∷ encode_lower (b ∷ [])))
-    go true is = free_by is_printable refl (b ∷ []) (ap (λ t. t && true) is)
+    go true is = free_by is_shown_as_is refl (b ∷ []) (ap (λ t. t && true) is)
     go false is = (λ e. absurd cc, (λ e. absurd cc, free_digits (b ∷ [])))
 
 free_shown : (text : List ℕ) → Free (shown_text text)
@@ -230,8 +230,8 @@ free_status None text info h = (λ e. absurd cc, tt)
 free_status (Some s) text info h = free_stamp s h.1.stamped
 
 free_live : (live : Bool) → Free (live_text live)
-free_live true = free_by is_printable refl (codes "live") refl
-free_live false = free_by is_printable refl (codes "killed") refl
+free_live true = free_by is_shown_as_is refl (codes "live") refl
+free_live false = free_by is_shown_as_is refl (codes "killed") refl
 
 free_ambiguity : (place : Place) → Free (ambiguity_text place)
 free_ambiguity (Plain lat lon ambiguity) = free_decimal ambiguity
