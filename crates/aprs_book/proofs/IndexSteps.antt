@@ -22,7 +22,7 @@ use Rattle.aprs_laws.proofs.Inserts.{inserted_is_book}
 use Rattle.aprs_laws.proofs.Orders.{bytes_exact, bytes_total, call_exact, call_total}
 use Rattle.aprs_laws.proofs.Known.{rows_know, set_knows, known_last}
 use Rattle.aprs_book.specs.declared.known.subject.Subject.{Subject}
-use Rattle.aprs_book.specs.Reports.{report_of, tells_position, tells_status, tells_object, tells_item, has_source, reports_position, reports_status, reports_object, reports_item, without_spaces}
+use Rattle.aprs_book.specs.Reports.{report_of, is_position_report, is_status_report, is_object_named, is_item_named, has_source, reports_position, reports_status, reports_object, reports_item, without_spaces}
 use Rattle.aprs_book.specs.LastKnown.{IsLastKnown}
 use Rattle.aprs_book.specs.Known.{FourIndexes, Topic, call_bytes, positions, statuses, objects, items, index_of, known_at, has_bytes, is_report_on, report_bytes, topic_bytes, subject_bytes, AreIndexesOf, SameKnown, HaveEntries, greatest_of}
 use Rattle.aprs_book.proofs.KnownSteps.{entry_there, same_as_itself}
@@ -117,7 +117,7 @@ near_entries gap t x rows i h reported f = λ topic bytes e.
 -- ---- what reports are about
 
 reported_position : (call : Call) (v : Value)
-    → report_bytes positions call v ≡ (if tells_position v then Some (call_bytes call) else None)
+    → report_bytes positions call v ≡ (if is_position_report v then Some (call_bytes call) else None)
 reported_position call (position messaging stamp place symbol comment) = refl
 reported_position call (object name live stamp place symbol comment) = refl
 reported_position call (item name live place symbol comment) = refl
@@ -128,7 +128,7 @@ reported_position call (status stamp text) = refl
 reported_position call raw = refl
 
 reported_status : (call : Call) (v : Value)
-    → report_bytes statuses call v ≡ (if tells_status v then Some (call_bytes call) else None)
+    → report_bytes statuses call v ≡ (if is_status_report v then Some (call_bytes call) else None)
 reported_status call (position messaging stamp place symbol comment) = refl
 reported_status call (object name live stamp place symbol comment) = refl
 reported_status call (item name live place symbol comment) = refl
@@ -139,7 +139,7 @@ reported_status call (status stamp text) = refl
 reported_status call raw = refl
 
 reported_object : (wanted : List ℕ) (call : Call) (v : Value)
-    → has_bytes wanted (report_bytes objects call v) ≡ tells_object wanted v
+    → has_bytes wanted (report_bytes objects call v) ≡ is_object_named wanted v
 reported_object wanted call (position messaging stamp place symbol comment) = refl
 reported_object wanted call (object name live stamp place symbol comment) = refl
 reported_object wanted call (item name live place symbol comment) = refl
@@ -150,7 +150,7 @@ reported_object wanted call (status stamp text) = refl
 reported_object wanted call raw = refl
 
 reported_item : (wanted : List ℕ) (call : Call) (v : Value)
-    → has_bytes wanted (report_bytes items call v) ≡ tells_item wanted v
+    → has_bytes wanted (report_bytes items call v) ≡ is_item_named wanted v
 reported_item wanted call (position messaging stamp place symbol comment) = refl
 reported_item wanted call (object name live stamp place symbol comment) = refl
 reported_item wanted call (item name live place symbol comment) = refl
@@ -221,13 +221,13 @@ pub reports_of_position : (call : Call) (k : Key)
     → is_report_on (topic_bytes positions) (call_bytes call) k ≡ reports_position call k
 reports_of_position call k =
     ap (has_bytes (call_bytes call)) (reported_position k.source (report_of k))
-    ∙ of_call (tells_position (report_of k)) call k
+    ∙ of_call (is_position_report (report_of k)) call k
 
 pub reports_of_status : (call : Call) (k : Key)
     → is_report_on (topic_bytes statuses) (call_bytes call) k ≡ reports_status call k
 reports_of_status call k =
     ap (has_bytes (call_bytes call)) (reported_status k.source (report_of k))
-    ∙ of_call (tells_status (report_of k)) call k
+    ∙ of_call (is_status_report (report_of k)) call k
 
 pub reports_of_object : (name : List ℕ) (k : Key)
     → is_report_on (topic_bytes objects) (without_spaces name) k ≡ reports_object name k

@@ -4,7 +4,7 @@ use Rattle.aprs_ax25.specs.CallText.{SpellsCall}
 use Rattle.aprs_ax25.proofs.Calls.{ssid_text-one}
 use Rattle.aprs_log.specs.Reception.{Received, heard_cmp}
 use Rattle.aprs_report.specs.Reading.{message, ack, rej}
-use Rattle.aprs_report.specs.Reader.{report_by_form, message_of, addressee_and_part_of, answer_at, text_and_id_of}
+use Rattle.aprs_report.specs.Reader.{report_by_form, message_with, addressee_and_part_of, answer_at, text_and_id_of}
 use Rattle.aprs_report.specs.Reader.{object_of, item_of, item_field_of, stamp_at, place_of, plain_of, angle_of, minutes_of, numeral_of}
 use Rattle.aprs_report.specs.Reader.{cut_end}
 use Rattle.aprs_laws.specs.Order.{IsUpTo}
@@ -37,24 +37,24 @@ eight_text = record {
 
 pub asked_reads : report_of (key_of (asked_at 0).frame)
     ≡ message (codes "N0CALL-8") (codes "Hi") one
-unfolding key_of report_by_form message_of addressee_and_part_of answer_at text_and_id_of cut_end
+unfolding key_of report_by_form message_with addressee_and_part_of answer_at text_and_id_of cut_end
 asked_reads = refl
 
 pub acknowledged_reads : report_of (key_of (acknowledged_at 0).frame)
     ≡ ack (codes "N0CALL-7") (codes "1")
-unfolding key_of report_by_form message_of addressee_and_part_of answer_at text_and_id_of cut_end
+unfolding key_of report_by_form message_with addressee_and_part_of answer_at text_and_id_of cut_end
 acknowledged_reads = refl
 
 pub rejected_reads : report_of (key_of (rejected_at 0).frame) ≡ rej (codes "N0CALL-7") (codes "1")
-unfolding key_of report_by_form message_of addressee_and_part_of answer_at text_and_id_of cut_end
+unfolding key_of report_by_form message_with addressee_and_part_of answer_at text_and_id_of cut_end
 rejected_reads = refl
 
 pub asked_is : ReportsIt (hi_message one) (key_of (asked_at 0).frame)
-unfolding key_of report_by_form message_of addressee_and_part_of answer_at text_and_id_of cut_end
+unfolding key_of report_by_form message_with addressee_and_part_of answer_at text_and_id_of cut_end
 asked_is = refl
 
 pub acknowledged_is : message_in (key_of (acknowledged_at 0).frame) ≡ None
-unfolding key_of report_by_form message_of addressee_and_part_of answer_at text_and_id_of cut_end
+unfolding key_of report_by_form message_with addressee_and_part_of answer_at text_and_id_of cut_end
 acknowledged_is = refl
 
 -- ---- answers

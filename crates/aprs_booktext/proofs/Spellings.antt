@@ -7,7 +7,7 @@ use Rattle.std.proofs.lemmas.Bool.Decides.{nat_tests}
 use Rattle.std.proofs.lemmas.List.Elements.{All-nil, All-push, recursion_from_All}
 use Rattle.hex.specs.Hex.{encode_lower, encode_with, lower_digits, IsBytes}
 use Rattle.aprs_log.specs.Moment.{moment_text_in, fraction_text, two_digits, IsWritable}
-use Rattle.aprs_log.specs.CivilMoment.{MomentTextIn, civil_after}
+use Rattle.aprs_log.specs.CivilMoment.{IsMomentTextIn, civil_after}
 use Rattle.aprs_log.specs.MomentReading.{moment_in, civil_text, Civil}
 use Rattle.aprs_log.specs.declared.moment_form.MomentForm.{MomentForm}
 use Rattle.aprs_log.specs.declared.moment_form.MomentForm.TheVariants.{Seconds, Millis}
@@ -23,7 +23,7 @@ use Rattle.aprs_booktext.proofs.Cuts.{lacks_joined, pieces_joined, joined_pieces
 -- ---- moments
 
 pub moment_found : (form : MomentForm) (t : List ℕ) (m : ℕ) → m ≤ 4102444799999
-    → MomentTextIn form m t
+    → IsMomentTextIn form m t
     → IsWritable form m × (t ≡ moment_text_in form m)
 moment_found form t m h is =
     let whole = millis_kept form m t is in (

@@ -20,7 +20,7 @@ use Rattle.aprs_log.specs.Moment.{moment_text}
 use Rattle.aprs_report.specs.Reader.{reading_of}
 use Rattle.aprs_report.specs.Reading.{Value}
 use Rattle.aprs_mice.specs.MicE.{mic_e_view}
-use Rattle.aprs_mice.specs.Reader.{mic_e_of}
+use Rattle.aprs_mice.specs.Reader.{mic_e_or_none}
 use Rattle.aprs_mice.specs.declared.mic_e.MicE.{MicE}
 use Rattle.aprs_listing.specs.History.{history_line, history_text, id_word, told_line, via_text}
 use Rattle.aprs_listing.specs.Lines.{field_text, spaced_field}
@@ -77,11 +77,11 @@ row_told x first last who via frame info source told v f start end w s h t i r =
 -- what is read of a frame of these parts
 pub mic_e_read : (p : Parts) (to : Call) (info : List ℕ) (r : Option MicE)
     → to ≡ p.destination.call → info ≡ p.info
-    → option_map mic_e_view r ≡ mic_e_of to.letters info
-    → option_map mic_e_view r ≡ mic_e_of p.destination.call.letters p.info
+    → option_map mic_e_view r ≡ mic_e_or_none to.letters info
+    → option_map mic_e_view r ≡ mic_e_or_none p.destination.call.letters p.info
 mic_e_read p to info r t i is = is
-    ∙ ap (λ (call : Call). mic_e_of call.letters info) t
-    ∙ ap (mic_e_of p.destination.call.letters) i
+    ∙ ap (λ (call : Call). mic_e_or_none call.letters info) t
+    ∙ ap (mic_e_or_none p.destination.call.letters) i
 
 -- The lines of a prefix of the rows were put.
 pub record PutSoFar {W : Type 0} (contents : W → Option (List ℕ)) (first now : Outlet W)

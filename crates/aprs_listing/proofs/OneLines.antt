@@ -31,7 +31,7 @@ use Rattle.aprs_report.specs.declared.symbol.Symbol.{Symbol}
 use Rattle.aprs_report.proofs.Readings.{reads_as}
 use Rattle.aprs_mice.specs.MicE.{MicEValue}
 use Rattle.aprs_mice.specs.MicEMessage.{message_name}
-use Rattle.aprs_mice.specs.Reader.{mic_e_of}
+use Rattle.aprs_mice.specs.Reader.{mic_e_or_none}
 use Rattle.aprs_mice.specs.declared.mic_e_message.MicEMessage.{MicEMessage}
 use Rattle.aprs_mice.specs.declared.mic_e_message.MicEMessage.TheVariants as say
 use Rattle.aprs_listing.specs.History.{history_line, history_text, id_word, other_line, row_fields, told_line, via_text}
@@ -367,7 +367,7 @@ told head h p are (rej addressee id) is =
 told head h p are (status stamp text) is =
     text_line (codes "status") _ text (kind_free (codes "status") refl)
     (are_append head _ h (free_status stamp text p.info is, tt))
-told head h p are raw is = other head h p are (mic_e_of p.destination.call.letters p.info)
+told head h p are raw is = other head h p are (mic_e_or_none p.destination.call.letters p.info)
 
 row_line : (x : Row) → IsTold x → Line (history_line x)
 row_line x h =

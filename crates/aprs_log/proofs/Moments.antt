@@ -12,7 +12,7 @@ use Rattle.aprs_log.specs.declared.moment_form.MomentForm.TheVariants.{Seconds, 
 use Rattle.aprs_log.specs.Places.{near_civil, near_digit, near_millis}
 use Rattle.aprs_log.specs.Clock.{form_size}
 use Rattle.aprs_log.specs.Moment.{Day, IsTextOf, IsWritable, room_of, day_after, moment_text_in}
-use Rattle.aprs_log.specs.CivilMoment.{IsCivil, MomentTextIn, IsMomentText, civil_after}
+use Rattle.aprs_log.specs.CivilMoment.{IsCivil, IsMomentTextIn, IsMomentText, civil_after}
 use Rattle.aprs_log.specs.MomentReading.{Civil, civil_at, civil_text, digit_of, is_date, is_time, is_date_and_time, is_real, second_of_day, seconds_of, millis_at, moment_in, form_of_text, moment_of}
 
 -- a civil time whose parts have as many digits as a text has room for
@@ -196,7 +196,7 @@ some_if true x m e = (refl, cc)
 some_if false x m e = absurd cc
 
 pub moment_in-text : (form : MomentForm) (t : List ℕ) (m : ℕ) → moment_in form t ≡ Some m
-    → MomentTextIn form m t
+    → IsMomentTextIn form m t
 unfolding moment_in
 moment_in-text form t m e =
     let c = civil_at t in
@@ -237,14 +237,14 @@ moment_in-civil form c n h below =
     there ∙ if_both (is_real form c n) (bytes_eq t t) (seconds_of c * 1000 + n)
     (is_real-true form c n h below) ((bytes_eq-Decides t t).1 refl)
 
-pub text-moment_in : (form : MomentForm) (t : List ℕ) (m : ℕ) → MomentTextIn form m t
+pub text-moment_in : (form : MomentForm) (t : List ℕ) (m : ℕ) → IsMomentTextIn form m t
     → moment_in form t ≡ Some m
 text-moment_in form t m h = ap (moment_in form) h.spelled
     ∙ moment_in-civil form h.civil h.millis h.real h.below
     ∙ ap (λ n. Some n) (sym (number-back m h.civil h.millis h.real h.number))
 
 -- the text of a moment in a form has that form's length
-pub length_in : (form : MomentForm) (m : ℕ) (t : List ℕ) → MomentTextIn form m t
+pub length_in : (form : MomentForm) (m : ℕ) (t : List ℕ) → IsMomentTextIn form m t
     → length t ≡ form_size form
 length_in Seconds m t h = ap length h.spelled
 length_in Millis m t h = ap length h.spelled
@@ -268,7 +268,7 @@ pub no_moment_by_size : (form : MomentForm) (t : List ℕ) → (length t ≡ for
 no_moment_by_size form t h = none_if form t h (moment_in form t) refl
 
 -- the length of a text says its form
-form_of-text : (form : MomentForm) (m : ℕ) (t : List ℕ) → MomentTextIn form m t
+form_of-text : (form : MomentForm) (m : ℕ) (t : List ℕ) → IsMomentTextIn form m t
     → form_of_text t ≡ form
 form_of-text Seconds m t h = ap form_of_text h.spelled
 form_of-text Millis m t h = ap form_of_text h.spelled
@@ -303,8 +303,8 @@ pub room_most : (form : MomentForm) (n : ℕ) → n < room_of form → n < 1000
 room_most Seconds n h = omega arith
 room_most Millis n h = h
 
-pub one_text : (form : MomentForm) (m : ℕ) (t u : List ℕ) → MomentTextIn form m t
-    → MomentTextIn form m u → t ≡ u
+pub one_text : (form : MomentForm) (m : ℕ) (t u : List ℕ) → IsMomentTextIn form m t
+    → IsMomentTextIn form m u → t ≡ u
 one_text form m t u h k =
     let same = sym (number-back m h.civil h.millis h.real h.number)
     ∙ number-back m k.civil k.millis k.real k.number in
@@ -349,7 +349,7 @@ moment_in-unfound form t h = let c = civil_at t in let n = millis_at form t in
 
 -- the text of a real time
 pub civil_text-moment : (form : MomentForm) (c : Civil) (n m : ℕ) → IsCivil c → n < room_of form
-    → seconds_of c * 1000 + n ≡ m → MomentTextIn form m (civil_text form c n)
+    → seconds_of c * 1000 + n ≡ m → IsMomentTextIn form m (civil_text form c n)
 civil_text-moment form c n m h below e = record {
   civil = c;
   millis = n;
@@ -408,9 +408,9 @@ after_seconds m h =
 
 -- each moment that the form can write has the text that the function gives
 pub moment_text-is : (form : MomentForm) (m : ℕ) → m ≤ 4102444799999 → m % 1000 < room_of form
-    → MomentTextIn form m (moment_text_in form m)
+    → IsMomentTextIn form m (moment_text_in form m)
 moment_text-is form m h below =
-    subst (MomentTextIn form m) (sym (same_text form m))
+    subst (IsMomentTextIn form m) (sym (same_text form m))
     (civil_text-moment form (civil_after (m / 1000)) (m % 1000) m
     (after_real (m / 1000) (omega arith)) below
     (whole (m / 1000) (m % 1000) (seconds_of (civil_after (m / 1000)))
@@ -419,7 +419,7 @@ moment_text-is form m h below =
       whole q r s e f = omega arith
 
 -- a form's text is of a moment that the form can write
-pub millis_kept : (form : MomentForm) (m : ℕ) (t : List ℕ) → MomentTextIn form m t
+pub millis_kept : (form : MomentForm) (m : ℕ) (t : List ℕ) → IsMomentTextIn form m t
     → m % 1000 < room_of form
 millis_kept form m t h =
     left (seconds_of h.civil) h.millis (room_of form) (room_most form h.millis h.below) h.below
@@ -428,7 +428,7 @@ millis_kept form m t h =
       left s n r a b e = omega arith
 
 -- a moment that has a text is before the year 2100
-pub text_early : (form : MomentForm) (m : ℕ) (t : List ℕ) → MomentTextIn form m t
+pub text_early : (form : MomentForm) (m : ℕ) (t : List ℕ) → IsMomentTextIn form m t
     → m ≤ 4102444799999
 text_early form m t h =
     early (unsigned_abs (days_from_civil (pos h.civil.year) h.civil.month h.civil.day))
@@ -448,11 +448,11 @@ text_early form m t h =
 -- ---- the text as one relation
 
 pub writable-text : (form : MomentForm) (m : ℕ) (t : List ℕ) → IsWritable form m
-    → t ≡ moment_text_in form m → MomentTextIn form m t
+    → t ≡ moment_text_in form m → IsMomentTextIn form m t
 writable-text form m t h is =
-    subst (MomentTextIn form m) (sym is) (moment_text-is form m h.in_range h.whole)
+    subst (IsMomentTextIn form m) (sym is) (moment_text-is form m h.in_range h.whole)
 
-pub text-writable : (form : MomentForm) (m : ℕ) (t : List ℕ) → MomentTextIn form m t
+pub text-writable : (form : MomentForm) (m : ℕ) (t : List ℕ) → IsMomentTextIn form m t
     → IsWritable form m × (t ≡ moment_text_in form m)
 text-writable form m t h =
     let early = text_early form m t h in

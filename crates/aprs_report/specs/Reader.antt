@@ -279,8 +279,8 @@ part_of addressee part =
     (text_and_id_of part)
 
 -- The message or answer that bytes after the first are.
-unfoldable pub message_of : List ℕ → Option Value
-message_of bytes = do
+unfoldable pub message_with : List ℕ → Option Value
+message_with bytes = do
   addressed ← addressee_and_part_of bytes
   Some (part_of addressed.0 addressed.1)
 
@@ -297,7 +297,7 @@ report_by_form (b ∷ rest) =
     else (if b == 59 then object_of rest
     else (if b == 41 then item_of rest
     else (if b == 62 then Some (status_of rest)
-    else (if b == 58 then message_of rest else None)))))))
+    else (if b == 58 then message_with rest else None)))))))
 
 -- What a field reads as: a report with a form, or raw.
 abbrev pub reading_of : List ℕ → Value

@@ -19,7 +19,7 @@ use Rattle.aprs_laws.specs.Lists.{SameMembers, ◌∈◌}
 use Rattle.aprs_laws.specs.Row.{Row}
 use Rattle.aprs_laws.proofs.Books.{unique}
 use Rattle.aprs_laws.proofs.Known.{rows_know}
-use Rattle.aprs_book.specs.Reports.{has_source, tells_item, tells_object, tells_position, report_of, reports_item, reports_object, reports_position, without_spaces}
+use Rattle.aprs_book.specs.Reports.{has_source, is_item_named, is_object_named, is_position_report, report_of, reports_item, reports_object, reports_position, without_spaces}
 use Rattle.aprs_log.specs.Reception.{Received}
 use Rattle.aprs_listing.specs.History.{history_line, history_text, row_fields, told_line}
 use Rattle.aprs_listing.specs.Listing.{report_line}
@@ -70,7 +70,7 @@ record Position (v : Value) : Type 0 where
   comment : List ℕ
   is : v ≡ position messaging stamp place symbol comment
 
-position_of : (v : Value) → tells_position v ≡ true → Position v
+position_of : (v : Value) → is_position_report v ≡ true → Position v
 position_of (position messaging stamp place symbol comment) e = record {
   messaging = messaging;
   stamp = stamp;
@@ -101,7 +101,7 @@ tells_place_of gap S text call x h best =
     let cut = cut_at h.rows x its.member in
     let key = key_of x.frame in
     let it = position_of (report_of key)
-    ((and_parts (has_source call key) (tells_position (report_of key)) its.property).1) in
+    ((and_parts (has_source call key) (is_position_report (report_of key)) its.property).1) in
     let read : reading_of (parts_of x.frame).info
     ≡ position it.messaging it.stamp it.place it.symbol it.comment =
     ap reading_of (sym (info_of x.frame)) ∙ it.is in
@@ -131,7 +131,7 @@ record Object (v : Value) : Type 0 where
   comment : List ℕ
   is : v ≡ object name live stamp place symbol comment
 
-object_of : (wanted : List ℕ) (v : Value) → tells_object wanted v ≡ true → Object v
+object_of : (wanted : List ℕ) (v : Value) → is_object_named wanted v ≡ true → Object v
 object_of wanted (object name live stamp place symbol comment) e = record {
   name = name;
   live = live;
@@ -158,7 +158,7 @@ record Item (v : Value) : Type 0 where
   comment : List ℕ
   is : v ≡ item name live place symbol comment
 
-item_of : (wanted : List ℕ) (v : Value) → tells_item wanted v ≡ true → Item v
+item_of : (wanted : List ℕ) (v : Value) → is_item_named wanted v ≡ true → Item v
 item_of wanted (item name live place symbol comment) e = record {
   name = name;
   live = live;
