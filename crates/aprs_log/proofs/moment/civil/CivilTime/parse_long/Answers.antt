@@ -10,7 +10,7 @@ returns-then-eq c =
     let text = c.args.text.now in
     let same = (bytes_eq-Decides c.as_slice.result.now text).0 (sym c.eq.ensures ∙ c.if-eq.true) in
     let millis : c.from.result * 100 + c.from-2.result ≡ near_millis Millis text
-    = omega (arith, c.near_digit.ensures, c.from.ensures, c.near_pair.ensures, c.from-2.ensures) in
+    = omega (arith, c.near_digit.ensures, c.from.ensures, c.nearest_pair.ensures, c.from-2.ensures) in
     let spelled = ap (λ d. civil_text Millis d (near_millis Millis text))
     (sym c.from_digits-civil.ensures)
     ∙ ap (civil_text Millis c.from_digits-civil.result) (sym millis) ∙ sym c.text.ensures
