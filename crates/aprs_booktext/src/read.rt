@@ -76,8 +76,8 @@ pub fn read_book<R: Read, A: Allocator + Copy>(
 /// `TooLong`. Requires a limit of at most `MAX_INPUT` (1,073,741,824) and a head of at most 8 bytes
 /// and at most `limit`. A fault is the text's first, with the number of its line; `Memory` comes
 /// instead where an allocation failed before that fault, with the number of the line that was being
-/// read, and the rows of the lines before it are then in the store. After another fault anything may
-/// be there. Holds the store and one line.
+/// read, and the rows of the lines before it are then in the store. After another fault anything
+/// may be there. Holds the store and one line.
 pub fn read_rows<R: Read, A: Allocator + Copy>(
     alloc: A,
     limit: u64,

@@ -1,5 +1,5 @@
 -- Lemmas on names.
-use Rattle.std.proofs.Common.{ℕ, ◌≤◌, length, arith}
+use Rattle.std.proofs.Common.{◌≤◌, length, arith}
 use Rattle.aprs_log.specs.Fault.{reason_name}
 use Rattle.aprs_log.specs.declared.fault.Reason.{Reason}
 use Rattle.aprs_log.specs.declared.fault.Reason.TheVariants as reason

@@ -13,9 +13,9 @@ most_input = 1073741824
 
 -- After `text` was read of an input, `rest` is left of it, and `after` is what the device still
 -- has. `End`: nothing is left, and what the device has isn't said. `Read`: the device still has just
--- the rest, as after a failed read. In both the text has at most `limit` bytes. `TooLong`: the text
--- is as long as the limit, something is left, and the device still has it but for its first byte,
--- which was taken and isn't kept.
+-- the rest, as after a failed read. In both the text has at most `limit` bytes. `TooLong`: the
+-- text is as long as the limit, something is left, and the device still has it but for its first
+-- byte, which was taken and isn't kept.
 abbrev pub EndsSo : InputEnd → ℕ → List ℕ → List ℕ → Option (List ℕ) → Type 0
 EndsSo how.End limit text rest after = (rest ≡ []) × (length text ≤ limit)
 EndsSo how.Read limit text rest after = (after ≡ Some rest) × (length text ≤ limit)

@@ -8,7 +8,7 @@ mod ending;
 mod next_line;
 mod window;
 
-use crate::fault::{LogCause, LogFault, Reason};
+use crate::fault::{LogCause, LogFault};
 use crate::line::line_buffers::LineBuffers;
 use crate::line::{Line, MAX_LINE};
 use aprs_io::Counted;
