@@ -1,10 +1,6 @@
 -- What begins with no colon is neither a message nor an answer.
-use Rattle.std.proofs.Common.{◌≡◌, ◌∙◌, ℕ, true, false, List, None, refl, sym, ap}
-use Rattle.aprs_ax25.specs.Callsign.{Call}
-use Rattle.aprs_report.specs.Reading.{Value, position, object, item, message, ack, rej, status, raw, Reads}
-use Rattle.aprs_report.specs.Reader.{reading_of}
+use Rattle.aprs_book.proofs.Common.{◌≡◌, ◌∙◌, ℕ, true, false, List, None, refl, sym, ap, Call, Value, position, object, item, message, ack, rej, status, raw, Reads, reading_of, Key}
 use Rattle.aprs_report.proofs.Readings.{reads_as}
-use Rattle.aprs_laws.specs.Key.{Key}
 use Rattle.aprs_book.specs.Reports.{report_of}
 use Rattle.aprs_book.specs.Messages.{message_in, reported_message}
 use Rattle.aprs_book.specs.MessageRows.{reported_answer, begins_with_colon}

@@ -1,25 +1,7 @@
 -- Entries that all have rows, and rows after those of all entries.
-use Rattle.std.proofs.Common.{◌≡◌, ◌∙◌, ℕ, ◌<◌, ◌≤◌, ◌+◌, ◌-◌, suc, List, [], ◌∷◌, ◌++◌, Some, None, Result, Ok, Err, OnOk, OnErr, inl, inr, true, false, length, length-append, refl, sym, ap, subst, arith, append_assoc, append-nil}
-use Rattle.std.specs.List.{slice_get, flat_map, AllByRecursion}
-use Rattle.std.specs.List.Sorted.{IsStrictlySortedBy}
-use Rattle.std.specs.Map.{keys_of, values_of, lookup, set_value}
-use Rattle.std.specs.BTreeMap.{insert_entry}
-use Rattle.std.specs.Ordering.{is_gt, ordering_reverse}
-use Rattle.std.specs.declared.cmp.Ordering.TheVariants.{Less, Greater}
-use Rattle.std.proofs.lemmas.Map.Keys.{sorted_head, sorted_tail}
-use Rattle.aprs_log.specs.Reception.{Received}
-use Rattle.aprs_laws.specs.Order.{IsUpTo}
-use Rattle.aprs_laws.specs.Key.{key_cmp}
-use Rattle.aprs_laws.specs.Row.{Row, row_key}
-use Rattle.aprs_laws.proofs.Orders.{key_total}
-use Rattle.aprs_laws.specs.Inserted.{compare_near_to, grow_row, bridge_row, insert_heard}
-use Rattle.aprs_laws.proofs.Pushes.{empty_or_last}
-use Rattle.aprs_rows.proofs.Cases.{by_order}
+use Rattle.aprs_book.proofs.Common.{◌≡◌, ◌∙◌, ℕ, ◌<◌, ◌≤◌, ◌+◌, ◌-◌, suc, List, [], ◌∷◌, ◌++◌, Some, None, Result, Ok, Err, OnOk, OnErr, inl, inr, true, false, length, refl, sym, ap, subst, arith, append_assoc, append-nil, slice_get, flat_map, AllByRecursion, IsStrictlySortedBy, keys_of, values_of, lookup, set_value, insert_entry, is_gt, ordering_reverse, Less, Greater, sorted_head, sorted_tail, Received, IsUpTo, key_cmp, Row, row_key, key_total, compare_near_to, grow_row, bridge_row, insert_heard, empty_or_last, by_order, head_total, head_exact, head_less, HasKeyPrefix, head_cmp, KeyPrefix}
+use Rattle.std.proofs.Common.{length-append}
 use Rattle.aprs_book.proofs.Entries.{test, IsWritten, set_same, found_key, AreKeyed-set_value, AreKeyed-insert_entry}
-use Rattle.aprs_rows.proofs.KeyPrefixes.{head_total, head_exact, head_less}
-use Rattle.aprs_rows.specs.KeyPrefix.{HasKeyPrefix}
-use Rattle.aprs_rows.specs.KeyPrefixSteps.{head_cmp}
-use Rattle.aprs_rows.specs.declared.row.key_prefix.KeyPrefix.{KeyPrefix}
 use Rattle.aprs_book.specs.Keyed.{HaveHead, rows_by_key, AreKeyed, AreFilled, AreKept, LastKeyIsUpTo, IsEndOf}
 
 bridged_some : (gap : ℕ) (x : Received) (j : Row) (rows : List Row)

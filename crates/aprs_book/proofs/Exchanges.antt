@@ -1,8 +1,5 @@
 -- What one more row adds to what rows exchange.
-use Rattle.std.proofs.Common.{◌≡◌, ◌∙◌, List, [], ◌∷◌, ◌++◌, Option, Some, None, false, sym, ap, inl, inr}
-use Rattle.aprs_log.specs.Reception.{Received}
-use Rattle.aprs_laws.specs.Key.{Key}
-use Rattle.aprs_laws.specs.Row.{Row, row_key}
+use Rattle.aprs_book.proofs.Common.{◌≡◌, ◌∙◌, List, [], ◌∷◌, ◌++◌, Option, Some, None, false, sym, ap, inl, inr, Received, Key, Row, row_key}
 use Rattle.aprs_book.specs.declared.lists.message_key.AnswerKey.{AnswerKey}
 use Rattle.aprs_book.specs.declared.lists.message_key.MessageKey.{MessageKey}
 use Rattle.aprs_book.specs.declared.lists.message_key.Span.{Span}

@@ -1,23 +1,5 @@
 -- The answers to messages in rows.
-use Rattle.std.proofs.Common.{◌≡◌, ◌∙◌, ℕ, List, ◌↔◌, Option, Some, None, sym, ap, refl, subst, inl, inr, Bor}
-use Rattle.std.specs.Option.{option_copied}
-use Rattle.std.specs.Map.{lookup, keys_of}
-use Rattle.std.specs.BTreeMap.{is_at, insert_entry}
-use Rattle.std.specs.List.Sorted.{IsStrictlySortedBy}
-use Rattle.std.specs.Cmp.{IsTotalOrder}
-use Rattle.std.specs.Ordering.{ordering_then}
-use Rattle.std.specs.declared.cmp.Ordering.{Ordering}
-use Rattle.std.proofs.lemmas.Cmp.{upto, on_total, then_total}
-use Rattle.std.proofs.lemmas.Map.Lookups.{CmpEqualImpliesEq, exact_pairs}
-use Rattle.aprs_ax25.specs.Callsign.{Call, call_cmp}
-use Rattle.aprs_log.specs.Reception.{Received, bytes_cmp, heard_cmp}
-use Rattle.aprs_laws.specs.Lists.{◌∈◌}
-use Rattle.aprs_laws.specs.Order.{IsUpTo}
-use Rattle.aprs_laws.specs.Row.{Row, row_key}
-use Rattle.aprs_laws.specs.Best.{greater_known}
-use Rattle.aprs_laws.specs.JoinRow.{greater}
-use Rattle.aprs_laws.proofs.Joins.{is_greater_of}
-use Rattle.aprs_laws.proofs.Orders.{call_total, call_exact, bytes_total, bytes_exact, heard_total, up_to_itself}
+use Rattle.aprs_book.proofs.Common.{◌≡◌, ◌∙◌, ℕ, List, ◌↔◌, Option, Some, None, sym, ap, refl, subst, inl, inr, Bor, option_copied, lookup, keys_of, is_at, insert_entry, IsStrictlySortedBy, IsTotalOrder, ordering_then, Ordering, upto, on_total, then_total, CmpEqualImpliesEq, exact_pairs, Call, call_cmp, Received, bytes_cmp, heard_cmp, ◌∈◌, IsUpTo, Row, row_key, greater_known, greater, is_greater_of, call_total, call_exact, bytes_total, bytes_exact, heard_total, up_to_itself}
 use Rattle.aprs_book.specs.declared.lists.message_key.AnswerKey.{AnswerKey}
 use Rattle.aprs_book.specs.MessageRows.{Answer, answer_of, answer_cmp, GivesAnswer, IsGreatestAnswer, AreAnswers, IsFor, ReportsAnswer}
 use Rattle.aprs_book.specs.Messages.{Message}

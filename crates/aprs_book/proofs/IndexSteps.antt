@@ -1,26 +1,8 @@
 -- What the indexes know after one more reception, one more row, or a merge.
-use Rattle.std.proofs.Common.{◌≡◌, ◌∙◌, Bool, true, false, ◌&&◌, if◌then◌else◌, List, [], ◌∷◌, ◌++◌, Option, None, Some, map, refl, sym, ap, subst, arith, length, take, ℕ, ◌<◌}
-use Rattle.std.proofs.Math.Bool.{and-false, and-true}
-use Rattle.std.proofs.lemmas.Cmp.{tied_itself}
-use Rattle.std.proofs.lemmas.List.{length-append, map-append}
+use Rattle.aprs_book.proofs.Common.{◌≡◌, ◌∙◌, Bool, true, false, ◌&&◌, if◌then◌else◌, List, [], ◌∷◌, ◌++◌, Option, None, Some, map, refl, sym, ap, subst, arith, length, take, ℕ, ◌<◌, and-false, and-true, tied_itself, map-append, Less, Equal, Greater, by_order, is_eq, Call, call_cmp, call_text, ssid_text, Received, bytes_cmp, Value, position, object, item, message, ack, rej, status, raw, Key, key_of, Row, row_key, insert_heard, FitsInPlace, Sound, LastKnown, greater_known, known_after, Passes, witnessed, inserted_is_book, bytes_exact, bytes_total, call_exact, call_total, rows_know, set_knows, known_last}
+use Rattle.std.proofs.lemmas.List.{length-append}
 use Rattle.std.proofs.Math.Seq.{take-append_seam}
-use Rattle.std.specs.declared.cmp.Ordering.TheVariants.{Less, Equal, Greater}
-use Rattle.aprs_rows.proofs.Cases.{by_order}
-use Rattle.std.specs.Ordering.{is_eq}
-use Rattle.aprs_ax25.specs.Callsign.{Call, call_cmp, call_text, ssid_text}
-use Rattle.aprs_log.specs.Reception.{Received, bytes_cmp}
-use Rattle.aprs_report.specs.Reading.{Value, position, object, item, message, ack, rej, status, raw}
-use Rattle.aprs_laws.specs.Key.{Key, key_of}
-use Rattle.aprs_laws.specs.Row.{Row, row_key}
-use Rattle.aprs_laws.specs.Inserted.{insert_heard, FitsInPlace}
-use Rattle.aprs_laws.specs.Sound.{Sound}
 use Rattle.aprs_laws.specs.Witnesses.{witnesses}
-use Rattle.aprs_laws.specs.Best.{LastKnown, greater_known, known_after}
-use Rattle.aprs_laws.specs.BestLaws.{Passes}
-use Rattle.aprs_laws.proofs.Soundness.{witnessed}
-use Rattle.aprs_laws.proofs.Inserts.{inserted_is_book}
-use Rattle.aprs_laws.proofs.Orders.{bytes_exact, bytes_total, call_exact, call_total}
-use Rattle.aprs_laws.proofs.Known.{rows_know, set_knows, known_last}
 use Rattle.aprs_book.specs.declared.known.subject.Subject.{Subject}
 use Rattle.aprs_book.specs.Reports.{report_of, is_position_report, is_status_report, is_object_named, is_item_named, has_source, reports_position, reports_status, reports_object, reports_item, without_spaces}
 use Rattle.aprs_book.specs.LastKnown.{IsLastKnown}

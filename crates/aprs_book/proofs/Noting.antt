@@ -1,11 +1,5 @@
 -- What is noted after one more row.
-use Rattle.std.proofs.Common.{◌≡◌, ◌∙◌, ℕ, Bool, true, false, List, [], ◌∷◌, ◌++◌, Option, Some, None, if◌then◌else◌, map, refl, sym, ap, subst}
-use Rattle.aprs_log.specs.Reception.{Received}
-use Rattle.aprs_laws.specs.Row.{Row, row_key}
-use Rattle.aprs_laws.specs.JoinRow.{greater}
-use Rattle.aprs_laws.specs.Best.{LastKnown, greater_known}
-use Rattle.aprs_laws.specs.BestLaws.{Passes}
-use Rattle.aprs_laws.proofs.Joins.{greatest_laws, is_greater_of}
+use Rattle.aprs_book.proofs.Common.{◌≡◌, ◌∙◌, ℕ, Bool, true, false, List, [], ◌∷◌, ◌++◌, Option, Some, None, if◌then◌else◌, map, refl, sym, ap, subst, Received, Row, row_key, greater, LastKnown, greater_known, Passes, greatest_laws, is_greater_of}
 use Rattle.aprs_book.specs.Known.{Topic, has_bytes, topic_bytes, is_report_on, greatest_of}
 use Rattle.aprs_book.proofs.IndexSteps.{pushes_note}
 

@@ -1,30 +1,11 @@
 -- The place of a reception among the rows of its head, found by halves.
-use Rattle.std.proofs.Common.{◌≡◌, ◌∙◌, ℕ, zero, suc, ◌+◌, ◌<◌, ◌≤◌, Bool, true, false, List, [], ◌∷◌, ◌++◌, Some, length, take, drop, get_or, refl, sym, ap, subst, inl, inr, arith}
-use Rattle.std.proofs.lemmas.List.{drop_all}
+use Rattle.aprs_book.proofs.Common.{◌≡◌, ◌∙◌, ℕ, zero, suc, ◌+◌, ◌<◌, ◌≤◌, Bool, true, false, List, [], ◌∷◌, ◌++◌, Some, length, take, drop, get_or, refl, sym, ap, subst, inl, inr, arith, drop_all, IsPartitionedBy, IsPartitionPoint, lookup, is_lt, is_gt, MatchOrdering, Ordering, Less, Equal, Greater, Received, ◌∈◌, Ordered, IsBelow, Row, last_of, row_cmp, single, IsNear, compare_near_to, grow_row, insert_heard, has_place_for, IsFar, Sound, in_right, IsBefore, before_trans, place_means, IsSound, one_relation, sound_prefix, by_order, head_cmp, KeyPrefix}
 use Rattle.std.proofs.lemmas.List.Sorted.{IsPartitionPoint-from_clause}
-use Rattle.std.specs.List.Sorted.{IsPartitionedBy, IsPartitionPoint}
 use Rattle.std.specs.Fn.{Called, ComputesKey}
-use Rattle.std.specs.Map.{lookup}
 use denote.Ref.{Bor}
 use denote.Param.Members.{Mut}
-use Rattle.std.specs.Ordering.{is_lt, is_gt, MatchOrdering}
-use Rattle.std.specs.declared.cmp.Ordering.{Ordering}
-use Rattle.std.specs.declared.cmp.Ordering.TheVariants.{Less, Equal, Greater}
-use Rattle.aprs_log.specs.Reception.{Received}
-use Rattle.aprs_laws.specs.Lists.{◌∈◌, Ordered}
-use Rattle.aprs_laws.specs.Order.{IsBelow}
-use Rattle.aprs_laws.specs.Row.{Row, last_of, row_cmp}
-use Rattle.aprs_laws.specs.JoinRow.{single, IsNear}
-use Rattle.aprs_laws.specs.Inserted.{compare_near_to, grow_row, insert_heard, has_place_for}
-use Rattle.aprs_laws.specs.Sound.{IsFar, Sound}
-use Rattle.aprs_laws.proofs.Lists.{in_right}
-use Rattle.aprs_laws.proofs.Rows.{IsBefore, before_trans, place_means}
 use Rattle.aprs_laws.proofs.Parts.{place_before}
-use Rattle.aprs_laws.proofs.Pushes.{IsSound, one_relation, sound_prefix}
 use Rattle.aprs_book.proofs.Slots.{here, two_at, one_at, alone_end, alone_next}
-use Rattle.aprs_rows.proofs.Cases.{by_order}
-use Rattle.aprs_rows.specs.KeyPrefixSteps.{head_cmp}
-use Rattle.aprs_rows.specs.declared.row.key_prefix.KeyPrefix.{KeyPrefix}
 use Rattle.aprs_book.proofs.Entries.{test}
 use Rattle.aprs_book.specs.Slots.{IsNewAt, GrowsAt, BridgesAt}
 use Rattle.aprs_book.specs.Keyed.{rows_by_key}

@@ -1,22 +1,5 @@
 -- The objects and items that the indexes know.
-use Rattle.std.proofs.Common.{◌≡◌, ◌∙◌, ℕ, Bool, true, false, List, [], ◌∷◌, ◌++◌, map, Option, Some, None, sym, ap, refl, subst, inl, inr}
-use Rattle.std.specs.Prelude.{IsTrue}
-use Rattle.std.specs.Cmp.{IsTotalOrder, bool_cmp_total}
-use Rattle.std.specs.Ordering.{is_eq, ordering_then, bool_cmp}
-use Rattle.std.proofs.lemmas.Cmp.{tied_itself, on_total, then_total}
-use Rattle.std.proofs.lemmas.Map.Lookups.{CmpEqualImpliesEq, exact_pairs}
-use Rattle.aprs_ax25.specs.Callsign.{Call}
-use Rattle.aprs_log.specs.Reception.{Received, bytes_cmp}
-use Rattle.aprs_report.specs.Reading.{Value, position, object, item, message, ack, rej, status, raw}
-use Rattle.aprs_laws.specs.Lists.{◌∈◌, Ordered}
-use Rattle.aprs_laws.specs.Order.{IsBelow}
-use Rattle.aprs_laws.specs.Key.{Key, key_of}
-use Rattle.aprs_laws.specs.Row.{Row}
-use Rattle.aprs_laws.specs.Book.{BookOf}
-use Rattle.aprs_laws.specs.Best.{IsBest, LastKnown}
-use Rattle.aprs_laws.specs.BestLaws.{Passes}
-use Rattle.aprs_laws.proofs.Lists.{in_left, in_right, in_either, in_map, from_map}
-use Rattle.aprs_laws.proofs.Orders.{bytes_total, bytes_exact}
+use Rattle.aprs_book.proofs.Common.{◌≡◌, ◌∙◌, ℕ, Bool, true, false, List, [], ◌∷◌, ◌++◌, map, Option, Some, None, sym, ap, refl, subst, inl, inr, IsTrue, IsTotalOrder, bool_cmp_total, is_eq, ordering_then, bool_cmp, tied_itself, on_total, then_total, CmpEqualImpliesEq, exact_pairs, Call, Received, bytes_cmp, Value, position, object, item, message, ack, rej, status, raw, ◌∈◌, Ordered, IsBelow, Key, key_of, Row, BookOf, IsBest, LastKnown, Passes, in_left, in_right, in_either, in_map, from_map, bytes_total, bytes_exact, by_order}
 use Rattle.aprs_book.specs.declared.lists.named.Named.{Named}
 use Rattle.aprs_book.specs.Reports.{report_of}
 use Rattle.aprs_book.specs.Names.{Thing, reported_thing, thing_cmp, ReportsOf, shown_thing, IsNamedBefore, AreNamed, ReportsNamed}
@@ -24,7 +7,6 @@ use Rattle.aprs_book.specs.NamedRows.{shown_report, report_in, reports_in}
 use Rattle.aprs_book.specs.Known.{Entries, FourIndexes, Topic, objects, items, index_of, entry_at, entry_known, known_at, has_bytes, is_report_on, report_bytes, topic_bytes, IsEntryBefore, AreIndexesOf}
 use Rattle.aprs_book.proofs.Collected.{found, absent, one_entry}
 use Rattle.aprs_book.proofs.IndexSteps.{entry_reports}
-use Rattle.aprs_rows.proofs.Cases.{by_order}
 
 thing_total : IsTotalOrder thing_cmp
 thing_total =

@@ -1,18 +1,6 @@
 -- Worked examples.
-use Rattle.std.proofs.Common.{◌≡◌, ℕ, true, false, None, List, [], ◌∷◌, ◌++◌, codes, inl, inr, refl, sym, ap, ◌∙◌, subst, arith}
-use Rattle.aprs_ax25.specs.CallText.{SpellsCall}
+use Rattle.aprs_book.proofs.Common.{◌≡◌, ℕ, true, false, None, List, [], ◌∷◌, ◌++◌, codes, inl, inr, refl, sym, ap, ◌∙◌, subst, arith, SpellsCall, Received, heard_cmp, message, ack, rej, report_by_form, message_with, addressee_and_part_of, answer_at, text_and_id_of, object_of, item_of, item_field_of, stamp_at, place_of, plain_of, angle_of, minutes_of, numeral_of, cut_end, IsUpTo, Key, key_of, IsBest, LastKnown, n0call, known_once, heard_total, up_to_itself}
 use Rattle.aprs_ax25.proofs.Calls.{ssid_text-one}
-use Rattle.aprs_log.specs.Reception.{Received, heard_cmp}
-use Rattle.aprs_report.specs.Reading.{message, ack, rej}
-use Rattle.aprs_report.specs.Reader.{report_by_form, message_with, addressee_and_part_of, answer_at, text_and_id_of}
-use Rattle.aprs_report.specs.Reader.{object_of, item_of, item_field_of, stamp_at, place_of, plain_of, angle_of, minutes_of, numeral_of}
-use Rattle.aprs_report.specs.Reader.{cut_end}
-use Rattle.aprs_laws.specs.Order.{IsUpTo}
-use Rattle.aprs_laws.specs.Key.{Key, key_of}
-use Rattle.aprs_laws.specs.Best.{IsBest, LastKnown}
-use Rattle.aprs_laws.specs.Examples.{n0call}
-use Rattle.aprs_laws.proofs.Known.{known_once}
-use Rattle.aprs_laws.proofs.Orders.{heard_total, up_to_itself}
 use Rattle.aprs_book.specs.declared.lists.message.MessageState.{MessageState}
 use Rattle.aprs_book.specs.Reports.{report_of}
 use Rattle.aprs_book.specs.Names.{ReportsOf}

@@ -1,20 +1,6 @@
 -- The text of a book is read, unless an allocation or a read fails.
-use Rattle.std.proofs.Common.{◌≡◌, ℕ, ◌+◌, ◌*◌, ◌/◌, ◌%◌, ◌^◌, ◌<◌, ◌≤◌, List, [], ◌∷◌, ◌++◌, length, map, Option, None, Some, IfSome, IfOk, IfErr, Result, Ok, Err, inl, inr, refl, sym, ap, ◌∙◌, subst, append-nil, length-append, arith}
-use Rattle.std.proofs.lemmas.List.{length-map}
-use Rattle.std.proofs.lemmas.List.Elements.{All-weaker}
-use Rattle.std.proofs.lemmas.Result.{IfErr-weaker}
-use Rattle.aprs_io.specs.Device.{Rose}
-use Rattle.aprs_io.specs.declared.device.Counted.{Counted}
-use Rattle.aprs_io.specs.Input.{most_input, Gets}
-use Rattle.aprs_log.specs.Moment.{IsWritable, date_text, day_after, moment_text_in, time_text}
-use Rattle.aprs_log.specs.Reception.{Received}
-use Rattle.aprs_io.specs.declared.input.InputEnd.{InputEnd}
+use Rattle.aprs_booktext.proofs.Common.{◌≡◌, ℕ, ◌+◌, ◌*◌, ◌/◌, ◌%◌, ◌^◌, ◌<◌, ◌≤◌, List, [], ◌∷◌, ◌++◌, length, map, Option, None, Some, IfSome, IfOk, IfErr, Result, Ok, Err, inl, inr, refl, sym, ap, ◌∙◌, subst, append-nil, length-append, arith, length-map, All-weaker, IfErr-weaker, Rose, Counted, most_input, Gets, IsWritable, date_text, day_after, moment_text_in, time_text, Received, InputEnd, MomentForm, Seconds, Millis, BookValue, Holds, IsGap, millis_of, standard_gap, Row, last_of, text_of_lines}
 use Rattle.aprs_io.specs.declared.input.InputEnd.TheVariants as ending
-use Rattle.aprs_log.specs.declared.moment_form.MomentForm.{MomentForm}
-use Rattle.aprs_log.specs.declared.moment_form.MomentForm.TheVariants.{Seconds, Millis}
-use Rattle.aprs_laws.specs.BookValue.{BookValue, Holds}
-use Rattle.aprs_laws.specs.Gap.{IsGap, millis_of, standard_gap}
-use Rattle.aprs_laws.specs.Row.{Row, last_of}
 use Rattle.aprs_laws.specs.Scaling.{scaled_rows, scaled_heard}
 use Rattle.aprs_laws.proofs.Scaling.{scaled_book}
 use Rattle.aprs_booktext.specs.FirstFault.{FirstFault}
@@ -23,7 +9,6 @@ use Rattle.aprs_booktext.specs.Reading.{IsAnswered}
 use Rattle.aprs_booktext.specs.Seconds.{AreWrittenToTheSecond, IsTextInSeconds, ReadsSeconds}
 use Rattle.aprs_booktext.specs.Text.{row_line, lines_of, book_of_version, book_text, IsBookRow, IsBookRows, written_version}
 use Rattle.aprs_booktext.specs.RowLines.{ended_by_lf}
-use Rattle.aprs_log.specs.LogText.{text_of_lines}
 use Rattle.aprs_booktext.specs.BookAnswers.{AcceptsBook, IsBookOrMemory, ReadsBook}
 use Rattle.aprs_booktext.specs.Version.{form_of, gap_of}
 use Rattle.aprs_booktext.specs.declared.fault.BookCause.TheVariants as cause

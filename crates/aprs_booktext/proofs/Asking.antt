@@ -1,12 +1,6 @@
 -- Lemmas on what is asked of the reader of a book's text.
-use Rattle.std.proofs.Common.{◌≡◌, ℕ, List, Option, None, Some, IfSome, IfErr, Result, Ok, Err, inl, inr, refl, sym, subst}
-use Rattle.aprs_io.specs.Device.{Calls, Going, Fault, Rose}
-use Rattle.aprs_io.specs.Input.{last_of_ending}
-use Rattle.aprs_io.specs.declared.device.Counted.{Counted}
-use Rattle.aprs_io.specs.declared.input.InputEnd.{InputEnd}
+use Rattle.aprs_booktext.proofs.Common.{◌≡◌, ℕ, List, Option, None, Some, IfSome, IfErr, Result, Ok, Err, inl, inr, refl, sym, subst, Calls, Going, Fault, Rose, last_of_ending, Counted, InputEnd, Calls-then, BookValue}
 use Rattle.aprs_io.specs.declared.input.InputEnd.TheVariants as how
-use Rattle.aprs_io.proofs.Sends.{Calls-then}
-use Rattle.aprs_laws.specs.BookValue.{BookValue}
 use Rattle.aprs_booktext.specs.Asking.{Asks, AsksAt, Takes, TakesAt, TakesAtMost}
 use Rattle.aprs_booktext.specs.Fault.{ending_cause}
 use Rattle.aprs_booktext.specs.Reader.{AgreesWithEnding, IsOfText}

@@ -1,35 +1,11 @@
 -- Each line spells a row or none, and each text is a book's or has a first fault.
-use Rattle.std.proofs.Common.{◌≡◌, ℕ, zero, suc, ◌+◌, ◌<◌, ◌≤◌, Bool, true, false, cond, List, [], ◌∷◌, ◌++◌, length, Option, Some, None, Result, Ok, Err, ◌⊎◌, inl, inr, refl, sym, ap, ◌∙◌, subst, append_assoc, append-nil, length-append, arith}
-use Rattle.std.specs.Prelude.{◌≢◌, All, codes}
-use Rattle.std.specs.Str.{bytes_eq}
-use Rattle.std.specs.List.{AllByRecursion, join_with_byte}
-use Rattle.std.proofs.lemmas.Bool.{cases_lt}
-use Rattle.std.proofs.lemmas.List.{nil_from_length}
-use Rattle.std.proofs.lemmas.Slice.Eq.{bytes_eq-Decides}
-use Rattle.std.proofs.lemmas.List.Elements.{All-from_recursion, recursion_from_All}
-use Rattle.hex.specs.Hex.{encode_lower, decode_of}
+use Rattle.aprs_booktext.proofs.Common.{◌≡◌, ℕ, zero, suc, ◌+◌, ◌<◌, ◌≤◌, Bool, true, false, cond, List, [], ◌∷◌, ◌++◌, length, Option, Some, None, Result, Ok, Err, ◌⊎◌, inl, inr, refl, sym, ap, ◌∙◌, subst, append_assoc, append-nil, length-append, arith, ◌≢◌, All, codes, bytes_eq, AllByRecursion, join_with_byte, cases_lt, nil_from_length, bytes_eq-Decides, All-from_recursion, recursion_from_All, encode_lower, decode_of, decode_of-ok, frame_or_fault, frame_of-is, is-frame_of, FrameFault, moment_text_in, IsWritable, moment_in, IsName, is_receiver, MomentForm, moment_in-text, InputEnd, greatest_gap, IsGap, millis_of, Row, last_of, refusal, is_refused, row_with, RowCause, is_byte}
 use Rattle.hex.specs.declared.error.FromHexError.{FromHexError}
-use Rattle.hex.proofs.HexLemmas.{decode_of-ok}
-use Rattle.aprs_ax25.specs.FrameFault.{frame_or_fault}
-use Rattle.aprs_ax25.proofs.UiFrames.{frame_of-is, is-frame_of}
-use Rattle.aprs_ax25.specs.declared.fault.FrameFault.{FrameFault}
-use Rattle.aprs_log.specs.Moment.{moment_text_in, IsWritable}
-use Rattle.aprs_log.specs.MomentReading.{moment_in}
-use Rattle.aprs_log.specs.Receiver.{IsName, is_receiver}
-use Rattle.aprs_log.specs.declared.moment_form.MomentForm.{MomentForm}
-use Rattle.aprs_log.proofs.Moments.{moment_in-text}
-use Rattle.aprs_io.specs.declared.input.InputEnd.{InputEnd}
-use Rattle.aprs_laws.specs.Gap.{greatest_gap, IsGap, millis_of}
-use Rattle.aprs_laws.specs.Row.{Row, last_of}
-use Rattle.aprs_rows.specs.Refusal.{refusal, is_refused}
-use Rattle.aprs_book.specs.Shown.{row_with}
-use Rattle.aprs_laws.specs.declared.row_cause.RowCause.{RowCause}
 use Rattle.aprs_laws.specs.declared.row_cause.RowCause.TheVariants as row
 use Rattle.aprs_booktext.specs.FirstFault.{FirstFault}
 use Rattle.aprs_booktext.specs.TextFault.{is_end}
 use Rattle.aprs_booktext.specs.Law.{IsBookText}
 use Rattle.aprs_booktext.specs.Lines.{Lacks, pieces}
-use Rattle.aprs_io.specs.Cut.{is_byte}
 use Rattle.aprs_booktext.specs.Reader.{JudgesLine, HasReadLines, is_done, line_number, may_end}
 use Rattle.aprs_booktext.specs.RowFields.{SpellsBytes}
 use Rattle.aprs_booktext.specs.Text.{row_line, end_line, lines_of, book_text, most_frame_bytes, IsSpelled, IsBookRow}

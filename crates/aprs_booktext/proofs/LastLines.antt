@@ -1,11 +1,8 @@
 -- A refused allocation after the last line was read.
-use Rattle.std.proofs.Common.{◌≡◌, ℕ, ◌+◌, ◌<◌, ◌^◌, true, false, List, [], ◌∷◌, ◌++◌, length, map, inl, inr, refl, ap, ◌∙◌, append-nil, arith}
-use Rattle.std.proofs.lemmas.List.Concat.{flat_map-append}
-use Rattle.aprs_laws.specs.Row.{Row}
+use Rattle.aprs_booktext.proofs.Common.{◌≡◌, ℕ, ◌+◌, ◌<◌, ◌^◌, true, false, List, [], ◌∷◌, ◌++◌, length, map, inl, inr, refl, ap, ◌∙◌, append-nil, arith, flat_map-append, Row, text_of_lines, IsSoundBook}
 use Rattle.aprs_booktext.specs.Reader.{HoldsIn, IsFault, HasReadLines, gap_in, is_done}
 use Rattle.aprs_booktext.specs.Text.{row_line, end_line, lines_of}
 use Rattle.aprs_booktext.specs.RowLines.{ended_by_lf}
-use Rattle.aprs_log.specs.LogText.{text_of_lines}
 use Rattle.aprs_booktext.specs.Version.{form_of, header_of}
 use Rattle.aprs_booktext.specs.declared.fault.BookCause.TheVariants as cause
 use Rattle.aprs_booktext.specs.declared.reader.Stage.{Stage}
@@ -13,7 +10,6 @@ use Rattle.aprs_booktext.specs.declared.reader.Stage.TheVariants.{Header, Rows, 
 use Rattle.aprs_booktext.specs.declared.version.Version.{Version}
 use Rattle.aprs_booktext.proofs.OneText.{end_lacks}
 use Rattle.aprs_booktext.proofs.Standing.{number_is}
-use Rattle.aprs_laws.specs.BookValue.{IsSoundBook}
 use Rattle.aprs_booktext.proofs.BookRows.{rows_sound}
 
 module _ (v : Version) (rows : List Row) where

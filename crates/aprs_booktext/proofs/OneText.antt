@@ -1,34 +1,12 @@
 -- The text of a book's rows is that of no others, and has no fault but that it may be cut short.
-use Rattle.std.proofs.Common.{◌≡◌, ℕ, ◌+◌, ◌^◌, ◌<◌, true, false, eqb, List, [], ◌∷◌, ◌++◌, length, get_or, map, Some, None, Ok, inl, inr, refl, sym, ap, ◌∙◌, subst, append_assoc, append-nil, length-append, arith}
-use Rattle.std.specs.Prelude.{◌≢◌, All, codes}
-use Rattle.std.specs.List.{join_with_byte}
-use Rattle.std.proofs.lemmas.List.Elements.{All-head, All-tail}
-use Rattle.std.proofs.lemmas.Bool.{false≢true}
-use Rattle.std.proofs.lemmas.List.{nil_from_length}
-use Rattle.std.proofs.lemmas.List.Concat.{flat_map-append}
-use Rattle.hex.specs.Hex.{encode_lower, decode_of}
-use Rattle.hex.proofs.HexLemmas.{decode_of-encode_lower}
-use Rattle.aprs_ax25.specs.UiFrame.{IsUiFrame}
-use Rattle.aprs_log.specs.Moment.{moment_text_in, IsWritable}
-use Rattle.aprs_log.specs.MomentReading.{moment_in}
-use Rattle.aprs_log.specs.declared.moment_form.MomentForm.{MomentForm}
-use Rattle.aprs_io.specs.declared.input.InputEnd.{InputEnd}
+use Rattle.aprs_booktext.proofs.Common.{◌≡◌, ℕ, ◌+◌, ◌^◌, ◌<◌, true, false, eqb, List, [], ◌∷◌, ◌++◌, length, get_or, map, Some, None, Ok, inl, inr, refl, sym, ap, ◌∙◌, subst, append_assoc, append-nil, length-append, arith, ◌≢◌, All, codes, join_with_byte, All-head, All-tail, false≢true, nil_from_length, flat_map-append, encode_lower, decode_of, decode_of-encode_lower, IsUiFrame, moment_text_in, IsWritable, moment_in, MomentForm, InputEnd, BookValue, millis_of, Row, last_of, Sound, refusal, row_with, RowCause, none_exactly, text_of_lines}
 use Rattle.aprs_io.specs.declared.input.InputEnd.TheVariants as ending
-use Rattle.aprs_laws.specs.BookValue.{BookValue}
-use Rattle.aprs_laws.specs.Gap.{millis_of}
-use Rattle.aprs_laws.specs.Row.{Row, last_of}
-use Rattle.aprs_laws.specs.Sound.{Sound}
 use Rattle.aprs_laws.proofs.Pushes.{sound_prefix}
-use Rattle.aprs_rows.specs.Refusal.{refusal}
-use Rattle.aprs_book.specs.Shown.{row_with}
-use Rattle.aprs_laws.specs.declared.row_cause.RowCause.{RowCause}
-use Rattle.aprs_rows.proofs.Refusals.{none_exactly}
 use Rattle.aprs_booktext.specs.FirstFault.{EndFault, RestIsAtFault, FirstFault, HasLine, HeaderFault, IsCut, LineFault}
 use Rattle.aprs_booktext.specs.TextFault.{SpellsRefusedRow, IsWrong}
 use Rattle.aprs_booktext.specs.Lines.{Lacks, pieces}
 use Rattle.aprs_booktext.specs.Text.{fields_of, row_line, end_line, book_text, IsSpelled, IsBookRow, IsBookRows, written_text, written_version}
 use Rattle.aprs_booktext.specs.RowLines.{ended_by_lf}
-use Rattle.aprs_log.specs.LogText.{text_of_lines}
 use Rattle.aprs_booktext.specs.Fault.{ending_cause}
 use Rattle.aprs_booktext.specs.Version.{form_of, gap_of, header_of, IsVersion}
 use Rattle.aprs_booktext.specs.declared.fault.BookCause.{BookCause}

@@ -1,26 +1,13 @@
 -- Lemmas on what a reader of a book holds.
-use Rattle.std.proofs.Common.{◌≡◌, ℕ, ◌+◌, ◌<◌, ◌≤◌, true, false, List, [], ◌∷◌, ◌++◌, length, drop, map, Option, None, Some, Result, Ok, Err, inl, inr, refl, sym, ap, ◌∙◌, subst, append_assoc, append-nil, length-append, arith}
-use Rattle.std.specs.Prelude.{◌≢◌, All, IfErr, IfNone, IfSome}
-use Rattle.std.specs.List.{last_or}
-use Rattle.std.proofs.lemmas.List.{length-map, map_push}
-use Rattle.std.proofs.lemmas.List.Concat.{flat_map-append}
-use Rattle.std.proofs.Math.Seq.{drop-append_seam}
-use Rattle.std.proofs.lemmas.List.Elements.{All-nil, All-push}
-use Rattle.aprs_io.specs.declared.input.InputEnd.{InputEnd}
+use Rattle.aprs_booktext.proofs.Common.{◌≡◌, ℕ, ◌+◌, ◌<◌, ◌≤◌, true, false, List, [], ◌∷◌, ◌++◌, length, drop, map, Option, None, Some, Result, Ok, Err, inl, inr, refl, sym, ap, ◌∙◌, subst, append_assoc, append-nil, length-append, arith, ◌≢◌, All, IfErr, IfNone, IfSome, last_or, length-map, map_push, flat_map-append, drop-append_seam, All-nil, All-push, InputEnd, millis_of, Row, Sound, refusal, none_exactly, text_of_lines}
 use Rattle.aprs_io.specs.declared.input.InputEnd.TheVariants as ending
-use Rattle.aprs_laws.specs.Gap.{millis_of}
-use Rattle.aprs_laws.specs.Row.{Row}
-use Rattle.aprs_laws.specs.Sound.{Sound}
 use Rattle.aprs_booktext.specs.Lines.{Lacks}
 use Rattle.aprs_booktext.proofs.Cuts.{lacks_append}
-use Rattle.aprs_rows.specs.Refusal.{refusal}
-use Rattle.aprs_rows.proofs.Refusals.{none_exactly}
 use Rattle.aprs_booktext.specs.FirstFault.{FirstFault}
 use Rattle.aprs_booktext.specs.Reader.{HoldsIn, HasReadLines, IsFault, JudgesLine, EndsWithRows, EndsWithSuch, StopsAt, AgreesWithEnding, gap_in, is_done, line_number, lines_read, may_end}
 use Rattle.aprs_booktext.specs.StoredRows.{IsNextLine, StopsAfter, rows_after}
 use Rattle.aprs_booktext.specs.Text.{row_line, end_line, lines_of, book_text, IsBookRow, IsBookRows}
 use Rattle.aprs_booktext.specs.RowLines.{ended_by_lf}
-use Rattle.aprs_log.specs.LogText.{text_of_lines}
 use Rattle.aprs_booktext.specs.BookAnswers.{IsAnswerFor}
 use Rattle.aprs_booktext.specs.Fault.{ending_cause}
 use Rattle.aprs_booktext.specs.Version.{form_of, gap_of, header_of, IsVersion}

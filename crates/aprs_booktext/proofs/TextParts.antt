@@ -1,18 +1,7 @@
 -- Lemmas on the parts of a book's text.
-use Rattle.std.proofs.Common.{◌≡◌, ℕ, ◌+◌, ◌<◌, List, [], ◌∷◌, ◌++◌, length, take, drop, map, refl, sym, ap, ◌∙◌, append_assoc, append-nil}
+use Rattle.aprs_booktext.proofs.Common.{◌≡◌, ℕ, ◌+◌, ◌<◌, List, [], ◌∷◌, ◌++◌, length, take, drop, map, refl, sym, ap, ◌∙◌, append_assoc, append-nil, drop-append-add, take-append-add, take_more_set, flat_map-append, flat_map, join_with_byte, codes, encode_lower, moment_text, Millis, BookValue, Row, last_of, row_with}
 use Rattle.std.proofs.Math.ListN.{replicate, set}
-use Rattle.std.proofs.Math.Seq.{drop-append-add, take-append-add}
-use Rattle.std.proofs.lemmas.List.{take_more_set}
 use borrow.Rule.Slice.PartMut.{put_mid}
-use Rattle.std.proofs.lemmas.List.Concat.{flat_map-append}
-use Rattle.std.specs.List.{flat_map, join_with_byte}
-use Rattle.std.specs.Prelude.{codes}
-use Rattle.hex.specs.Hex.{encode_lower}
-use Rattle.aprs_log.specs.Moment.{moment_text}
-use Rattle.aprs_log.specs.declared.moment_form.MomentForm.TheVariants.{Millis}
-use Rattle.aprs_laws.specs.BookValue.{BookValue}
-use Rattle.aprs_laws.specs.Row.{Row, last_of}
-use Rattle.aprs_book.specs.Shown.{row_with}
 use Rattle.aprs_booktext.specs.RowLines.{line_and_lf, ended_by_lf}
 use Rattle.aprs_booktext.specs.Text.{row_line, end_line, written_text}
 use Rattle.aprs_booktext.specs.Version.{header_of}

@@ -1,14 +1,6 @@
 -- Lemmas on a check over the lines that a reader gives.
-use Rattle.std.proofs.Common.{◌≡◌, ℕ, ◌+◌, List, [], ◌∷◌, ◌++◌, length, Option, None, Some, Ok, Err, refl, ap, sym, ◌∙◌, arith, append_assoc, append-nil, subst}
-use Rattle.std.specs.Io.KnownBytes.{Appends}
-use Rattle.std.proofs.KnownBytes.{Appends-nil, Appends-trans}
+use Rattle.aprs_convert.proofs.Common.{◌≡◌, ℕ, ◌+◌, List, [], ◌∷◌, ◌++◌, length, Option, None, Some, Ok, Err, refl, ap, sym, ◌∙◌, arith, append_assoc, append-nil, subst, Appends, Appends-nil, Appends-trans, AppendsPrefix, AppendsPrefix-more, AppendsPrefix-then, Answers, end_with, prepend_line, LogFault, Reason, Line}
 use Rattle.std.proofs.lemmas.List.{length-append}
-use Rattle.aprs_kiss.specs.Device.{AppendsPrefix}
-use Rattle.aprs_kiss.proofs.Bytes.{AppendsPrefix-more, AppendsPrefix-then}
-use Rattle.aprs_log.specs.LogAnswers.{Answers, end_with, prepend_line}
-use Rattle.aprs_log.specs.declared.fault.LogFault.{LogFault}
-use Rattle.aprs_log.specs.declared.fault.Reason.{Reason}
-use Rattle.aprs_log.specs.declared.line.Line.{Line}
 use Rattle.aprs_log.specs.declared.line.Line.TheVariants.{Received, Passed}
 use Rattle.aprs_log.specs.Reception.{Received as Reception}
 use Rattle.aprs_convert.specs.Plan.{RunsOver, check_lines, check_of, check_plan, count_heard, count_passed, totals}

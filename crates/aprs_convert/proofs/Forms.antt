@@ -1,6 +1,5 @@
 -- Lemmas on forms.
-use Rattle.std.proofs.Common.{◌≡◌, ◌⊎◌, inl, inr, ℕ, List}
-use Rattle.aprs_log.specs.declared.InputEnd.{InputEnd}
+use Rattle.aprs_convert.proofs.Common.{◌≡◌, ◌⊎◌, inl, inr, ℕ, List, InputEnd}
 use Rattle.aprs_convert.specs.Plan.{Plan, convert_plan, lines_plan}
 use Rattle.aprs_convert.specs.declared.form.Form.{Form}
 use Rattle.aprs_convert.specs.declared.form.Form.TheVariants.{Text, Kind, Kiss, Log, Capture}

@@ -1,7 +1,5 @@
 -- Lemmas on what is got of an input.
-use Rattle.std.proofs.Common.{ℕ, List, Option, None, Some, IfSome}
-use Rattle.aprs_log.specs.LogAnswers.{Gets}
-use Rattle.aprs_log.specs.declared.InputEnd.{InputEnd}
+use Rattle.aprs_convert.proofs.Common.{ℕ, List, Option, None, Some, IfSome, Gets, InputEnd}
 
 -- what follows of each text follows of what was got
 pub got_so : (known after : Option (List ℕ)) (limit : ℕ) (whole : List ℕ → List ℕ) (P Q : List ℕ

@@ -1,18 +1,7 @@
 -- What a conversion or a check writes of an input is one text, and so is the fault.
-use Rattle.std.proofs.Common.{◌≡◌, ◌∙◌, ℕ, ◌+◌, List, [], ◌∷◌, ◌++◌, length, map, Option, None, Some, Ok, inl, inr, sym, ap, append-nil}
-use Rattle.std.specs.List.{flat_map}
-use Rattle.aprs_kiss.specs.Stream.{judgements_of}
-use Rattle.aprs_log.specs.Line.{heard_or_passed, line_of}
-use Rattle.aprs_log.specs.LogAnswers.{log_answers, receptions_of}
-use Rattle.aprs_log.specs.LogText.{HasLogFault, IsLogText, text_of_lines}
+use Rattle.aprs_convert.proofs.Common.{◌≡◌, ◌∙◌, ℕ, ◌+◌, List, [], ◌∷◌, ◌++◌, length, map, Option, None, Some, Ok, inl, inr, sym, ap, append-nil, flat_map, judgements_of, heard_or_passed, line_of, log_answers, receptions_of, HasLogFault, IsLogText, text_of_lines, InputEnd, LogFault, Reason, line_of-syntax, reports-line_of, log_fault-answers, log_text-answers}
 use Rattle.aprs_log.specs.Reception.{Received}
-use Rattle.aprs_log.specs.declared.InputEnd.{InputEnd}
-use Rattle.aprs_log.specs.declared.fault.LogFault.{LogFault}
-use Rattle.aprs_log.specs.declared.fault.Reason.{Reason}
 use Rattle.aprs_log.specs.declared.line.Line.TheVariants as line
-use Rattle.aprs_log.proofs.Lines.{line_of-syntax}
-use Rattle.aprs_log.proofs.LineTexts.{reports-line_of}
-use Rattle.aprs_log.proofs.LogTexts.{log_fault-answers, log_text-answers}
 use Rattle.aprs_convert.specs.Check.{Checks, IsPassedFor, PassesOver, passed_line, totals_line}
 use Rattle.aprs_convert.specs.Conversion.{Converts, reception_text}
 use Rattle.aprs_convert.specs.Plan.{Plan, check_lines, check_plan, convert_plan, lines_plan, totals}

@@ -1,8 +1,6 @@
 -- A run that does as planned writes what is to be written.
-use Rattle.std.proofs.Common.{◌≡◌, ℕ, List, Option, Result, Ok, Err, subst}
+use Rattle.aprs_convert.proofs.Common.{◌≡◌, ℕ, List, Option, Result, Ok, Err, subst, InputEnd, LogFault}
 use Rattle.aprs_io.specs.declared.device.Counted.{Counted}
-use Rattle.aprs_log.specs.declared.InputEnd.{InputEnd}
-use Rattle.aprs_log.specs.declared.fault.LogFault.{LogFault}
 use Rattle.aprs_convert.specs.Ends.{Ends, Runs}
 use Rattle.aprs_convert.specs.Plan.{EndsAsPlanned, Plan, RunsAsPlanned}
 use Rattle.aprs_convert.specs.declared.fault.ConvertFault.{ConvertFault}

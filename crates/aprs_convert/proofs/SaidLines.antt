@@ -1,25 +1,13 @@
 -- Lemmas on lines that are in order: what a reader gives of them, and of the log that they are of.
-use Rattle.std.proofs.Common.{◌≡◌, ◌∙◌, ℕ, ◌+◌, List, [], ◌∷◌, ◌++◌, length, Option, None, Some, Result, Ok, Err, inl, inr, refl, sym, ap, append_assoc, append-nil, arith}
-use Rattle.std.specs.List.{AllZip, slice_split}
+use Rattle.aprs_convert.proofs.Common.{◌≡◌, ◌∙◌, ℕ, ◌+◌, List, [], ◌∷◌, ◌++◌, length, Option, None, Some, Result, Ok, Err, inl, inr, refl, sym, ap, append_assoc, append-nil, arith, AllZip, slice_split, log_cause_of, frame_in, heard_or_passed, line_of, Answers, answers_from, answers_of, fault_at, is_lf, log_answers, receptions_of, tail_cause, then_answers, HasLogFault, IsLogText, ReportAll, text_of_lines, InputEnd, LogFault, Reason, Line, HasFields, line_of-syntax, passed-line_of, reports-line_of, line_lacks, log_fault-answers}
 use Rattle.aprs_io.proofs.Cuts.{cut_at-append}
-use Rattle.aprs_log.specs.Fault.{log_cause_of}
-use Rattle.aprs_log.specs.Line.{frame_in, heard_or_passed, line_of}
 use Rattle.aprs_log.specs.LineText.{IsLine}
-use Rattle.aprs_log.specs.LogAnswers.{Answers, answers_from, answers_of, fault_at, is_lf, log_answers, receptions_of, tail_cause, then_answers}
-use Rattle.aprs_log.specs.LogText.{HasLogFault, IsLogText, ReportAll, text_of_lines}
 use Rattle.aprs_log.specs.Reception.{Received}
-use Rattle.aprs_log.specs.declared.InputEnd.{InputEnd}
 use Rattle.aprs_log.specs.declared.InputEnd.TheVariants as how
 use Rattle.aprs_log.specs.declared.fault.LineFault.{LineFault}
 use Rattle.aprs_log.specs.declared.fault.LogCause.{LogCause}
-use Rattle.aprs_log.specs.declared.fault.LogFault.{LogFault}
-use Rattle.aprs_log.specs.declared.fault.Reason.{Reason}
-use Rattle.aprs_log.specs.declared.line.Line.{Line}
 use Rattle.aprs_log.specs.declared.line.Line.TheVariants as line
-use Rattle.aprs_log.proofs.Lines.{HasFields, line_of-syntax}
-use Rattle.aprs_log.proofs.LineTexts.{passed-line_of, reports-line_of}
 use Rattle.aprs_log.proofs.LogAnswers.{answers_from-line}
-use Rattle.aprs_log.proofs.LogTexts.{line_lacks, log_fault-answers}
 use Rattle.aprs_convert.specs.Check.{PassesOver}
 use Rattle.aprs_convert.proofs.Seen.{prepended}
 

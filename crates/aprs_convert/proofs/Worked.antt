@@ -1,5 +1,5 @@
 -- A worked example of a check.
-use Rattle.std.proofs.Common.{◌≡◌, ℕ, get_or, List, [], ◌∷◌, ◌++◌, codes, None, refl, sym, ap, ◌∙◌, arith}
+use Rattle.aprs_convert.proofs.Common.{◌≡◌, ℕ, get_or, List, [], ◌∷◌, ◌++◌, codes, None, refl, sym, ap, ◌∙◌, arith}
 use Rattle.std.specs.Fmt.{decimal}
 use Rattle.std.proofs.lemmas.Fmt.{decimal_digit}
 use Rattle.aprs_io.specs.declared.input.InputEnd.TheVariants.{End, Read}

@@ -1,21 +1,10 @@
 -- What runs plan to write is what a conversion or a check writes.
-use Rattle.std.proofs.Common.{◌≡◌, ◌∙◌, ℕ, ◌+◌, List, [], ◌∷◌, ◌++◌, length, map, Option, None, Some, Result, Ok, Err, refl, sym, ap, append-nil, arith}
-use Rattle.std.specs.List.{cons_option, filter_map, flat_map}
+use Rattle.aprs_convert.proofs.Common.{◌≡◌, ◌∙◌, ℕ, ◌+◌, List, [], ◌∷◌, ◌++◌, length, map, Option, None, Some, Result, Ok, Err, refl, sym, ap, append-nil, arith, cons_option, filter_map, flat_map, Judgement, judgements_of, frame_or_fault, FrameFault, log_answers, receptions_of, text_of_lines, InputEnd, LogFault, Line, answers-log_fault, answers-log_text}
 use Rattle.std.specs.Option.{option_and_then}
 use Rattle.std.specs.Result.{result_ok}
 use Rattle.std.proofs.lemmas.List.Concat.{flat_map-append}
-use Rattle.aprs_kiss.specs.Judgement.{Judgement}
-use Rattle.aprs_kiss.specs.Stream.{judgements_of}
-use Rattle.aprs_ax25.specs.FrameFault.{frame_or_fault}
-use Rattle.aprs_ax25.specs.declared.fault.FrameFault.{FrameFault}
-use Rattle.aprs_log.specs.LogAnswers.{log_answers, receptions_of}
-use Rattle.aprs_log.specs.LogText.{text_of_lines}
 use Rattle.aprs_log.specs.Reception.{Received}
-use Rattle.aprs_log.specs.declared.InputEnd.{InputEnd}
-use Rattle.aprs_log.specs.declared.fault.LogFault.{LogFault}
-use Rattle.aprs_log.specs.declared.line.Line.{Line}
 use Rattle.aprs_log.specs.declared.line.Line.TheVariants as line
-use Rattle.aprs_log.proofs.LogTexts.{answers-log_fault, answers-log_text}
 use Rattle.aprs_convert.specs.Check.{Checks, passed_line, totals_line}
 use Rattle.aprs_convert.specs.Conversion.{Converts, reception_text}
 use Rattle.aprs_convert.specs.Plan.{capture_text, check_lines, check_plan, convert_plan, count_heard, count_passed, frame_line, line_text, totals}

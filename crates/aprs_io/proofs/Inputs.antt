@@ -1,5 +1,5 @@
 -- Lemmas on what is read of an input under a limit.
-use Rattle.std.proofs.Common.{◌≡◌, ℕ, ◌+◌, List, [], ◌++◌, length, Option, Some, refl, sym, ap, ◌∙◌, append_assoc, length-append, arith}
+use Rattle.aprs_io.proofs.Common.{◌≡◌, ℕ, ◌+◌, List, [], ◌++◌, length, Option, Some, refl, sym, ap, ◌∙◌, append_assoc, length-append, arith}
 use Rattle.aprs_io.specs.Input.{EndsSo, Gets}
 use Rattle.aprs_io.specs.declared.input.InputEnd.{InputEnd}
 use Rattle.aprs_io.specs.declared.input.InputEnd.TheVariants as ending

@@ -1,11 +1,7 @@
 -- Lemmas on texts that are put together element by element, and on bytes as texts show them.
-use Rattle.std.proofs.Common.{◌≡◌, ℕ, ◌+◌, ◌≤◌, ◌<◌, List, [], ◌∷◌, ◌++◌, length, take, Some, None, Option, map, get_or, IfSome, ◌⊎◌, inl, inr, slice_get, refl, ap, sym, ◌∙◌, arith, Bool, true, false, cond}
-use Rattle.std.specs.List.{flat_map, list_all}
+use Rattle.aprs_io.proofs.Common.{◌≡◌, ℕ, ◌+◌, ◌≤◌, ◌<◌, List, [], ◌∷◌, ◌++◌, length, take, Some, None, Option, map, get_or, IfSome, ◌⊎◌, inl, inr, slice_get, refl, ap, sym, ◌∙◌, arith, Bool, true, false, cond, flat_map, list_all, take_more, flat_map_more, and_parts, encode_lower}
 use Rattle.std.specs.Option.{option_map}
-use Rattle.std.proofs.lemmas.List.{take_more, flat_map_more}
 use Rattle.std.proofs.lemmas.Option.{slice_get_within, slice_get_cases, slice_get-map, get_or_from_slice_get}
-use Rattle.std.proofs.lemmas.Bool.{and_parts}
-use Rattle.hex.specs.Hex.{encode_lower}
 use Rattle.aprs_io.specs.Shown.{is_shown_as_is, shown_text}
 
 -- one more element was shown

@@ -1,10 +1,6 @@
 -- Rows in order, where each joins the one before it that it is near to, are the book of what they
 -- stand for.
-use Rattle.std.proofs.Common.{◌≡◌, ℕ, ◌<◌, ◌≤◌, ◌+◌, List, [], ◌∷◌, ◌++◌, ◌↔◌, map, inl, inr, refl, sym, ap, ◌∙◌, subst, arith, false}
-use Rattle.std.specs.Ordering.{nat_cmp, ordering_then, is_gt, MatchOrdering}
-use Rattle.std.specs.declared.cmp.Ordering.{Ordering}
-use Rattle.std.specs.declared.cmp.Ordering.TheVariants.{Less, Equal, Greater}
-use Rattle.aprs_log.specs.Reception.{Received}
+use Rattle.aprs_laws.proofs.Common.{◌≡◌, ℕ, ◌<◌, ◌≤◌, ◌+◌, List, [], ◌∷◌, ◌++◌, ◌↔◌, map, inl, inr, refl, sym, ap, ◌∙◌, subst, arith, false, nat_cmp, ordering_then, is_gt, MatchOrdering, Ordering, Less, Equal, Greater, Received}
 use Rattle.aprs_laws.specs.Lists.{◌∈◌, SameMembers}
 use Rattle.aprs_laws.specs.Order.{IsUpTo}
 use Rattle.aprs_laws.specs.Row.{Row, row_key, last_of, row_cmp}

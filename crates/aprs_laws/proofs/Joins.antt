@@ -1,10 +1,5 @@
 -- The laws of joining, for receptions, lists of receivers and rows.
-use Rattle.std.proofs.Common.{◌≡◌, ℕ, ◌<◌, List, ◌++◌, ◌⊎◌, ◌↔◌, inl, inr, sym, refl, ◌∙◌, subst, arith}
-use Rattle.std.proofs.lemmas.Cmp.{upto}
-use Rattle.std.specs.Cmp.{IsTotalOrder}
-use Rattle.std.specs.declared.cmp.Ordering.{Ordering}
-use Rattle.std.proofs.lemmas.Map.Lookups.{CmpEqualImpliesEq}
-use Rattle.aprs_log.specs.Reception.{Received, heard_cmp}
+use Rattle.aprs_laws.proofs.Common.{◌≡◌, ℕ, ◌<◌, List, ◌++◌, ◌⊎◌, ◌↔◌, inl, inr, sym, refl, ◌∙◌, subst, arith, upto, IsTotalOrder, Ordering, CmpEqualImpliesEq, Received, heard_cmp}
 use Rattle.aprs_laws.specs.Lists.{◌∈◌, Ordered}
 use Rattle.aprs_laws.specs.Order.{IsBelow, IsUpTo}
 use Rattle.aprs_laws.specs.Gap.{IsGap, millis_of}

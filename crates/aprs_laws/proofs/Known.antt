@@ -1,7 +1,5 @@
 -- What is last known of a set, and that its book decides it.
-use Rattle.std.proofs.Common.{◌≡◌, ℕ, Bool, true, false, List, [], ◌∷◌, ◌++◌, if◌then◌else◌, inl, inr, sym, refl, ◌∙◌, ap, subst, map, Option, None, Some}
-use Rattle.std.proofs.lemmas.Cmp.{upto}
-use Rattle.aprs_log.specs.Reception.{Received, heard_cmp}
+use Rattle.aprs_laws.proofs.Common.{◌≡◌, ℕ, Bool, true, false, List, [], ◌∷◌, ◌++◌, if◌then◌else◌, inl, inr, sym, refl, ◌∙◌, ap, subst, map, Option, None, Some, upto, Received, heard_cmp}
 use Rattle.aprs_laws.specs.Lists.{◌∈◌, SameMembers}
 use Rattle.aprs_laws.specs.Order.{IsUpTo}
 use Rattle.aprs_laws.specs.Key.{Key, key_of}

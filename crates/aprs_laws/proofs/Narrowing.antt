@@ -1,6 +1,5 @@
 -- Under a lesser gap the rows don't decide the book.
-use Rattle.std.proofs.Common.{◌≡◌, ℕ, ◌<◌, List, [], ◌∷◌, inl, inr, refl, ap, ◌∙◌, subst, arith}
-use Rattle.aprs_log.specs.Reception.{Received, heard_cmp}
+use Rattle.aprs_laws.proofs.Common.{◌≡◌, ℕ, ◌<◌, List, [], ◌∷◌, inl, inr, refl, ap, ◌∙◌, subst, arith, Received, heard_cmp}
 use Rattle.aprs_laws.specs.Order.{IsUpTo}
 use Rattle.aprs_laws.specs.Row.{Row, IsOf}
 use Rattle.aprs_laws.specs.Book.{BookOf}

@@ -1,14 +1,6 @@
 -- The orders of callsigns, keys and receptions: each is total, and equals are identical.
-use Rattle.std.proofs.Common.{◌≡◌, ℕ, ◌<◌, ◌≤◌, List, refl, ap, ◌∙◌, subst, false, arith}
-use Rattle.std.specs.Cmp.{IsTotalOrder}
-use Rattle.std.specs.Ordering.{nat_cmp, ordering_then, ordering_reverse, is_gt, MatchOrdering}
-use Rattle.std.specs.declared.cmp.Ordering.{Ordering}
-use Rattle.std.specs.declared.cmp.Ordering.TheVariants.{Less, Equal, Greater}
-use Rattle.std.proofs.lemmas.Cmp.{then_total, on_total, nat_cmp_total, nat_list_cmp_total, tied_itself}
-use Rattle.std.proofs.lemmas.Bool.Decides.{nat_tests}
-use Rattle.std.proofs.lemmas.Map.Lookups.{CmpEqualImpliesEq, exact_pairs, exact_unsigned, exact_bytes}
+use Rattle.aprs_laws.proofs.Common.{◌≡◌, ℕ, ◌<◌, ◌≤◌, List, refl, ap, ◌∙◌, subst, false, arith, IsTotalOrder, nat_cmp, ordering_then, ordering_reverse, is_gt, MatchOrdering, Ordering, Less, Equal, Greater, then_total, on_total, nat_cmp_total, nat_list_cmp_total, tied_itself, nat_tests, CmpEqualImpliesEq, exact_pairs, exact_unsigned, exact_bytes, Received, bytes_cmp, heard_cmp}
 use Rattle.aprs_ax25.specs.Callsign.{Call, call_cmp}
-use Rattle.aprs_log.specs.Reception.{Received, bytes_cmp, heard_cmp}
 use Rattle.aprs_laws.specs.Order.{IsUpTo}
 use Rattle.aprs_laws.specs.Key.{key_cmp}
 

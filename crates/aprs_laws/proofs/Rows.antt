@@ -1,13 +1,5 @@
 -- A row of its own members, and what two near rows make.
-use Rattle.std.proofs.Common.{◌≡◌, ℕ, ◌+◌, ◌<◌, ◌≤◌, min, max, List, ◌++◌, ◌⊎◌, ◌↔◌, inl, inr, sym, refl, ap, ◌∙◌, subst, arith, Bool, true, false, if◌then◌else◌}
-use Rattle.std.specs.Prelude.{nat_lt}
-use Rattle.std.proofs.lemmas.Bool.{cases_lt}
-use Rattle.std.proofs.lemmas.Bool.Decides.{nat_tests}
-use Rattle.std.proofs.lemmas.Cmp.{upto, tied_back}
-use Rattle.std.specs.Ordering.{ordering_then, ordering_reverse, is_gt, MatchOrdering}
-use Rattle.std.specs.declared.cmp.Ordering.{Ordering}
-use Rattle.std.specs.declared.cmp.Ordering.TheVariants.{Less, Equal, Greater}
-use Rattle.aprs_log.specs.Reception.{Received, bytes_cmp, heard_cmp}
+use Rattle.aprs_laws.proofs.Common.{◌≡◌, ℕ, ◌+◌, ◌<◌, ◌≤◌, min, max, List, ◌++◌, ◌⊎◌, ◌↔◌, inl, inr, sym, refl, ap, ◌∙◌, subst, arith, Bool, true, false, if◌then◌else◌, nat_lt, cases_lt, nat_tests, upto, tied_back, ordering_then, ordering_reverse, is_gt, MatchOrdering, Ordering, Less, Equal, Greater, Received, bytes_cmp, heard_cmp}
 use Rattle.aprs_laws.specs.Lists.{◌∈◌, Ordered}
 use Rattle.aprs_laws.specs.Order.{IsBelow, IsUpTo}
 use Rattle.aprs_laws.specs.Key.{Key, key_of, key_cmp}

@@ -1,13 +1,6 @@
 -- Books in another unit of time.
-use Rattle.std.proofs.Common.{◌≡◌, ℕ, ◌+◌, ◌*◌, ◌/◌, ◌<◌, ◌≤◌, List, [], ◌∷◌, map, ◌⊎◌, ◌↔◌, inl, inr, refl, ap, ◌∙◌, subst, arith}
+use Rattle.aprs_laws.proofs.Common.{◌≡◌, ℕ, ◌+◌, ◌*◌, ◌/◌, ◌<◌, ◌≤◌, List, [], ◌∷◌, map, ◌⊎◌, ◌↔◌, inl, inr, refl, ap, ◌∙◌, subst, arith, nat_cmp_is, nat_cmp, ordering_then, is_gt, MatchOrdering, Ordering, Less, Equal, Greater, nat_tests, exact_unsigned, Received, bytes_cmp, heard_cmp}
 use Rattle.std.proofs.Math.Nat.{add-mul, mul-le-mul_right, mul-lt-mul_of_pos_right, div-mul-le_self, lt-div-mul-add, le-div_iff_mul-le, div-lt_iff_lt-mul, eq_of_mul-eq-mul_right, lt_of_mul-lt-mul_right}
-use Rattle.std.specs.Cmp.{nat_cmp_is}
-use Rattle.std.specs.Ordering.{nat_cmp, ordering_then, is_gt, MatchOrdering}
-use Rattle.std.specs.declared.cmp.Ordering.{Ordering}
-use Rattle.std.specs.declared.cmp.Ordering.TheVariants.{Less, Equal, Greater}
-use Rattle.std.proofs.lemmas.Bool.Decides.{nat_tests}
-use Rattle.std.proofs.lemmas.Map.Lookups.{exact_unsigned}
-use Rattle.aprs_log.specs.Reception.{Received, bytes_cmp, heard_cmp}
 use Rattle.aprs_laws.specs.Lists.{◌∈◌, Ordered}
 use Rattle.aprs_laws.specs.Order.{IsUpTo}
 use Rattle.aprs_laws.specs.Row.{Row, last_of, IsOf}

@@ -1,6 +1,5 @@
 -- From when to when something was heard, by the rows of a book.
-use Rattle.std.proofs.Common.{◌≡◌, ℕ, List, ◌↔◌, sym, subst, arith}
-use Rattle.aprs_log.specs.Reception.{Received}
+use Rattle.aprs_laws.proofs.Common.{◌≡◌, ℕ, List, ◌↔◌, sym, subst, arith, Received}
 use Rattle.aprs_laws.specs.Lists.{◌∈◌}
 use Rattle.aprs_laws.specs.Key.{Key, key_of}
 use Rattle.aprs_laws.specs.Row.{Row, row_key, last_of}

@@ -1,6 +1,5 @@
 -- Steps on sets and on their books.
-use Rattle.std.proofs.Common.{◌≡◌, ℕ, ◌==◌, ◌<◌, if◌then◌else◌, Bool, true, false, List, [], ◌∷◌, ◌++◌, refl}
-use Rattle.aprs_log.specs.Reception.{Received}
+use Rattle.aprs_laws.proofs.Common.{◌≡◌, ℕ, ◌==◌, ◌<◌, if◌then◌else◌, Bool, true, false, List, [], ◌∷◌, ◌++◌, refl, Received}
 use Rattle.aprs_laws.specs.Lists.{SameMembers}
 use Rattle.aprs_laws.specs.Row.{Row}
 use Rattle.aprs_laws.specs.Book.{BookOf}

@@ -1,6 +1,5 @@
 -- The book of two sets; two sets with one book add alike; joining books.
-use Rattle.std.proofs.Common.{◌≡◌, ℕ, ◌<◌, List, ◌++◌, ◌↔◌, inl, inr, sym, subst}
-use Rattle.aprs_log.specs.Reception.{Received}
+use Rattle.aprs_laws.proofs.Common.{◌≡◌, ℕ, ◌<◌, List, ◌++◌, ◌↔◌, inl, inr, sym, subst, Received}
 use Rattle.aprs_laws.specs.Lists.{◌∈◌}
 use Rattle.aprs_laws.specs.Row.{Row}
 use Rattle.aprs_laws.specs.Book.{BookOf}

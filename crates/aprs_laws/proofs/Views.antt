@@ -1,8 +1,6 @@
 -- What follows of a set from its book: one more reception; the greatest reception whose key has a
 -- property.
-use Rattle.std.proofs.Common.{ℕ, ◌<◌, List, [], ◌∷◌, inl, inr, sym, subst}
-use Rattle.std.proofs.lemmas.Cmp.{upto}
-use Rattle.aprs_log.specs.Reception.{Received, heard_cmp}
+use Rattle.aprs_laws.proofs.Common.{ℕ, ◌<◌, List, [], ◌∷◌, inl, inr, sym, subst, upto, Received, heard_cmp}
 use Rattle.aprs_laws.specs.Lists.{◌∈◌}
 use Rattle.aprs_laws.specs.Order.{IsUpTo}
 use Rattle.aprs_laws.specs.Key.{Key, key_of}

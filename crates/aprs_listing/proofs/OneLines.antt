@@ -1,26 +1,15 @@
 -- No line of a history has an LF but at its end.
-use Rattle.std.proofs.Common.{All, ◌≡◌, ◌≢◌, ◌∙◌, ℕ, zero, suc, ◌+◌, ◌/◌, ◌%◌, Bool, true, false, not, ◌&&◌, cond, nat_lt, ◌==◌, List, [], ◌∷◌, ◌++◌, map, get_or, Option, Some, None, pos, negsuc, ℤ, refl, ap, sym, append_assoc, arith, codes}
-use Rattle.std.specs.List.{AllByRecursion, flat_map, join_with_byte, list_all}
-use Rattle.std.specs.Fmt.{decimal, digit_glyph, digits, digits_onto, signed_decimal}
+use Rattle.aprs_listing.proofs.Common.{All, ◌≡◌, ◌≢◌, ◌∙◌, ℕ, zero, suc, ◌+◌, ◌/◌, ◌%◌, Bool, true, false, not, ◌&&◌, cond, nat_lt, ◌==◌, List, [], ◌∷◌, ◌++◌, map, get_or, Option, Some, None, pos, negsuc, ℤ, refl, ap, sym, append_assoc, arith, codes, AllByRecursion, flat_map, join_with_byte, list_all, decimal, digit_glyph, digits, digits_onto, signed_decimal, Call, IsCall, call_text, is_callsign_byte, Parts, IsParts, parts_of, hop_of, hop_text, is_shown_as_is, shown_byte, shown_text, day_after, moment_text, moment_text_in, two_digits, Row, last_of, reading_of, Value, Reads, position, object, item, message, ack, rej, status, raw, MicEValue, message_name, mic_e_or_none}
 use Rattle.std.proofs.lemmas.Bool.{and_parts}
 use Rattle.std.proofs.lemmas.List.Elements.{All-from_recursion, recursion_from_All}
 use Rattle.hex.specs.Hex.{encode_lower, encode_with, lower_digits}
 use Rattle.aprs_ax25.specs.Address.{Address, IsAddress, is_repeated}
-use Rattle.aprs_ax25.specs.Callsign.{Call, IsCall, call_text, is_callsign_byte}
-use Rattle.aprs_ax25.specs.Frame.{Parts, IsParts}
-use Rattle.aprs_ax25.specs.FrameFault.{parts_of}
-use Rattle.aprs_ax25.specs.Hop.{hop_of, hop_text}
-use Rattle.aprs_io.specs.Shown.{is_shown_as_is, shown_byte, shown_text}
 use Rattle.aprs_log.specs.LogText.{HasNoLf}
-use Rattle.aprs_log.specs.Moment.{day_after, moment_text, moment_text_in, two_digits}
 use Rattle.aprs_log.specs.Receiver.{IsName, is_name_byte}
-use Rattle.aprs_laws.specs.Row.{Row, last_of}
 use Rattle.aprs_report.specs.Bytes.{is_alphanumeric, is_digit}
 use Rattle.aprs_report.specs.Message.{IsText}
 use Rattle.aprs_report.specs.Place.{latitude_of, longitude_of}
 use Rattle.aprs_report.specs.Position.{IsOptionalStamp}
-use Rattle.aprs_report.specs.Reader.{reading_of}
-use Rattle.aprs_report.specs.Reading.{Value, Reads, position, object, item, message, ack, rej, status, raw}
 use Rattle.aprs_report.specs.Stamp.{IsStamp, is_time_mark}
 use Rattle.aprs_report.specs.Status.{IsStatus}
 use Rattle.aprs_report.specs.declared.place.Fraction.{Fraction}
@@ -29,9 +18,6 @@ use Rattle.aprs_report.specs.declared.place.Place.TheVariants.{Plain, Base91}
 use Rattle.aprs_report.specs.declared.stamp.Stamp.{Stamp}
 use Rattle.aprs_report.specs.declared.symbol.Symbol.{Symbol}
 use Rattle.aprs_report.proofs.Readings.{reads_as}
-use Rattle.aprs_mice.specs.MicE.{MicEValue}
-use Rattle.aprs_mice.specs.MicEMessage.{message_name}
-use Rattle.aprs_mice.specs.Reader.{mic_e_or_none}
 use Rattle.aprs_mice.specs.declared.mic_e_message.MicEMessage.{MicEMessage}
 use Rattle.aprs_mice.specs.declared.mic_e_message.MicEMessage.TheVariants as say
 use Rattle.aprs_listing.specs.History.{history_line, history_text, id_word, other_line, row_fields, told_line, via_text}

@@ -1,7 +1,7 @@
 -- Lemmas on what a reader of a log may still answer.
-use Rattle.std.proofs.Common.{◌≡◌, ℕ, ◌+◌, ◌-◌, ◌<◌, ◌≤◌, List, [], ◌++◌, length, Option, None, Some, Ok, Err, IfSome, refl, arith, sym, ap, ◌∙◌, append_assoc, append-nil, subst}
+use Rattle.aprs_log.proofs.Common.{◌≡◌, ℕ, ◌+◌, ◌-◌, ◌<◌, ◌≤◌, List, [], ◌++◌, length, Option, None, Some, Ok, Err, IfSome, refl, arith, sym, ap, ◌∙◌, append_assoc, subst, Cut, cut_at, InputEnd}
+use Rattle.std.proofs.Common.{append-nil}
 use Rattle.std.specs.Io.KnownBytes.{Consumes}
-use Rattle.aprs_io.specs.Cut.{Cut, cut_at}
 use Rattle.aprs_log.specs.States.{KeepsMemory, state_after}
 use Rattle.aprs_log.specs.Fault.{log_cause_of}
 use Rattle.aprs_log.specs.Line.{line_of}
@@ -13,7 +13,6 @@ use Rattle.aprs_log.specs.declared.fault.LineFault.{LineFault}
 use Rattle.aprs_log.specs.declared.fault.LineFault.TheVariants as fault
 use Rattle.aprs_log.specs.declared.fault.LogCause.{LogCause}
 use Rattle.aprs_log.specs.declared.fault.LogCause.TheVariants as cause
-use Rattle.aprs_io.specs.declared.input.InputEnd.{InputEnd}
 use Rattle.aprs_io.specs.declared.input.InputEnd.TheVariants as ending
 use Rattle.aprs_log.specs.declared.reader.ending.State.{State}
 use Rattle.aprs_log.specs.declared.reader.ending.State.TheVariants.{Reading, Ended, Failed}

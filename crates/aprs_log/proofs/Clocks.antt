@@ -1,9 +1,7 @@
 -- Lemmas on times of a day whose date is known.
-use Rattle.std.proofs.Common.{◌≡◌, ◌≢◌, ◌⊎◌, inl, inr, ℕ, ◌+◌, ◌-◌, ◌*◌, ◌/◌, ◌%◌, ◌<◌, ◌≤◌, List, [], ◌∷◌, ◌++◌, ◌==◌, cond, length, length-append, take, drop, slice_index, Option, None, Some, pos, unsigned_abs, refl, arith, sym, ap, ◌∙◌, subst, take-append-drop}
-use Rattle.std.specs.Prelude.{IfSome, SomeIff}
-use Rattle.std.proofs.Math.Seq.{take-append_seam, drop-append-add}
+use Rattle.aprs_log.proofs.Common.{◌≡◌, ◌≢◌, ◌⊎◌, inl, inr, ℕ, ◌+◌, ◌-◌, ◌*◌, ◌/◌, ◌%◌, ◌<◌, ◌≤◌, List, [], ◌∷◌, ◌++◌, ◌==◌, cond, length, take, drop, slice_index, Option, None, Some, pos, unsigned_abs, refl, arith, sym, ap, ◌∙◌, subst, take-append-drop, IfSome, SomeIff, take-append_seam, drop-append-add, days_from_civil}
+use Rattle.std.proofs.Common.{length-append}
 use borrow.Rule.Slice.PartMut.{put_mid}
-use Rattle.jiff_core.specs.Calendar.{days_from_civil}
 use Rattle.aprs_log.specs.declared.moment_form.MomentForm.{MomentForm}
 use Rattle.aprs_log.specs.declared.moment_form.MomentForm.TheVariants.{Seconds, Millis}
 use Rattle.aprs_log.specs.Clock.{IsFractionText, SecondText, clock_text, form_of_end, midnight_text}

@@ -1,9 +1,5 @@
 -- The days of 1970 to 2099.
-use Rattle.std.proofs.Common.{◌≡◌, ℕ, zero, suc, Bool, true, false, cond, nat_lt, ◌+◌, ◌-◌, ◌<◌, ◌≤◌, refl, arith, ℤ, pos, negsuc, unsigned_abs, ap, ◌+ℤ◌, ◌≤ℤ◌, ◌∙◌, sym, subst, inl, inr}
-use Rattle.std.proofs.lemmas.Int.{by_lt_z}
-use Rattle.std.proofs.lemmas.Bool.{cases_lt}
-use Rattle.std.proofs.lemmas.Bool.Decides.{nat_tests}
-use Rattle.jiff_core.specs.Calendar.{day_count, days_from_civil, days_in_month, IsCivilDate}
+use Rattle.aprs_log.proofs.Common.{◌≡◌, ℕ, zero, suc, Bool, true, false, cond, nat_lt, ◌+◌, ◌-◌, ◌<◌, ◌≤◌, refl, arith, ℤ, pos, negsuc, unsigned_abs, ap, ◌+ℤ◌, ◌≤ℤ◌, ◌∙◌, sym, subst, inl, inr, by_lt_z, cases_lt, nat_tests, day_count, days_from_civil, days_in_month, IsCivilDate, signed_arith}
 use Rattle.jiff_core.specs.declared.civil.date.Date.{Date}
 use Rattle.jiff_core.specs.declared.span.Span.{Span}
 use Rattle.jiff_core.specs.declared.unit.Unit.TheVariants.{Day as DayUnit}
@@ -13,7 +9,6 @@ use Rattle.jiff.specs.Words.{date_add, CanAddToDate}
 use Rattle.jiff.proofs.SpanFacts.{date_add-days, can_add-days}
 use Rattle.aprs_log.specs.Moment.{Day, next_day, day_after}
 use Rattle.aprs_log.specs.CivilMoment.{IsDay}
-use Rattle.jiff_core.proofs.SignedLemmas.{signed_arith}
 use Rattle.jiff_core.proofs.MarchLemmas.{day_count-early}
 use Rattle.jiff_core.proofs.CalendarLemmas.{day_count-epoch, days_from_civil-day_count, day_count-day, day_count-lt_month, day_count-lt_year, day_count-last_of_year, day_count-next_year, day_count-next_month, days_in_month_bounds}
 

@@ -1,19 +1,11 @@
 -- Lemmas on the frame in a line's bytes.
-use Rattle.std.proofs.Common.{◌≡◌, ◌≢◌, ℕ, ◌+◌, ◌-◌, ◌<◌, ◌≤◌, Bool, true, false, List, [], ◌∷◌, ◌++◌, length, take, drop, Result, Ok, Err, cond, refl, arith, sym, ap, ◌∙◌, take-append-drop, length-append, slice_index, subst, Option, Some}
-use Rattle.std.proofs.lemmas.List.{take_rest}
-use Rattle.std.proofs.Math.Seq.{take-length}
-use Rattle.aprs_kiss.specs.Plain.{CutsPlain, IsPlain}
-use Rattle.aprs_kiss.specs.Spelling.{kiss_text, spelling_of}
-use Rattle.aprs_kiss.proofs.Escapes.{spelling_of-all}
-use Rattle.aprs_kiss.proofs.ReadingBack.{begins_empty, judged_in_parts, left_in_parts, read_back, read_whole}
-use Rattle.aprs_kiss.specs.Stream.{rest_of, is_nonempty, judgements_of, EndsPiece}
-use Rattle.aprs_kiss.specs.Judgement.{Judgement}
+use Rattle.aprs_log.proofs.Common.{◌≡◌, ◌≢◌, ℕ, ◌+◌, ◌-◌, ◌<◌, ◌≤◌, Bool, true, false, List, [], ◌∷◌, ◌++◌, length, take, drop, Result, Ok, Err, cond, refl, arith, sym, ap, ◌∙◌, take-append-drop, slice_index, subst, Option, Some, take_rest, take-length, CutsPlain, IsPlain, kiss_text, spelling_of, spelling_of-all, begins_empty, judged_in_parts, left_in_parts, read_back, read_whole, rest_of, is_nonempty, judgements_of, EndsPiece, Judgement, frame_or_fault}
+use Rattle.std.proofs.Common.{length-append}
 use Rattle.aprs_kiss.specs.Answer.{judgements_in}
 use Rattle.std.specs.Borrow.{Bor}
 use Rattle.aprs_kiss.specs.declared.fault.PassFault.{PassFault}
 use Rattle.aprs_kiss.specs.declared.reader.Fed.{Fed}
 use Rattle.aprs_kiss.specs.declared.reader.Fed.TheVariants.{Nothing, Frame, Passed}
-use Rattle.aprs_ax25.specs.FrameFault.{frame_or_fault}
 use Rattle.aprs_log.specs.FrameEnds.{has_other}
 use Rattle.aprs_log.specs.Line.{frame_in, frame_or_reason, only_frame}
 use Rattle.aprs_log.specs.Fault.{reason_of_pass}

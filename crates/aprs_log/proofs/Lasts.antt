@@ -1,15 +1,8 @@
 -- Lemmas on what the device answered last where a log is read no further.
-use Rattle.std.proofs.Common.{◌≡◌, ◌≤◌, ℕ, List, [], ◌∷◌, length, Option, None, Some, Result, Ok, Err, refl, sym, ap, ◌∙◌, subst, arith}
-use Rattle.std.specs.Result.{result_ok}
-use Rattle.hex.specs.Hex.{decode_of}
-use Rattle.std.proofs.lemmas.Bool.Decides.{nat_tests}
-use Rattle.aprs_io.specs.Cut.{cut_at}
-use Rattle.aprs_io.specs.Device.{Calls, Going, Last}
+use Rattle.aprs_log.proofs.Common.{◌≡◌, ◌≤◌, ℕ, List, [], ◌∷◌, length, Option, None, Some, Result, Ok, Err, refl, sym, ap, ◌∙◌, subst, arith, result_ok, decode_of, nat_tests, cut_at, Calls, Going, Last, InputEnd, End, Read, Calls-none, nat_le}
 use Rattle.aprs_io.specs.Input.{last_of_ending}
 use Rattle.aprs_io.specs.declared.device.Counted.{Counted}
-use Rattle.aprs_io.specs.declared.input.InputEnd.{InputEnd}
-use Rattle.aprs_io.specs.declared.input.InputEnd.TheVariants.{End, Read, TooLong}
-use Rattle.aprs_io.proofs.Sends.{Calls-none}
+use Rattle.aprs_io.specs.declared.input.InputEnd.TheVariants.{TooLong}
 use Rattle.aprs_log.specs.States.{last_in, state_after}
 use Rattle.aprs_log.specs.Awaits.{last_of_cause}
 use Rattle.aprs_log.specs.Fault.{log_cause_of}
@@ -17,7 +10,6 @@ use Rattle.aprs_log.specs.Line.{line_of}
 use Rattle.aprs_log.specs.LogAnswers.{tail_cause}
 use Rattle.aprs_log.specs.MomentReading.{moment_of}
 use Rattle.aprs_log.specs.Receiver.{is_receiver}
-use Rattle.std.specs.Prelude.{nat_le}
 use Rattle.aprs_log.specs.Steps.{◌otherwise◌then◌, guard}
 use Rattle.aprs_log.specs.declared.fault.LineFault.{LineFault}
 use Rattle.aprs_log.specs.declared.fault.LineFault.TheVariants as fault

@@ -1,9 +1,6 @@
 -- What a line says, as relations and as the reading of the line.
-use Rattle.std.proofs.Common.{◌≡◌, ◌⊎◌, ℕ, ◌≤◌, Bool, true, false, List, ◌∷◌, ◌++◌, length, Option, None, Some, Result, Ok, Err, IsErr, inl, inr, refl, sym, ap, ◌∙◌, subst}
-use Rattle.std.proofs.lemmas.Bool.{cases_lt}
-use Rattle.hex.specs.Hex.{decode_of}
+use Rattle.aprs_log.proofs.Common.{◌≡◌, ◌⊎◌, ℕ, ◌≤◌, Bool, true, false, List, ◌∷◌, ◌++◌, length, Option, None, Some, Result, Ok, Err, IsErr, inl, inr, refl, sym, ap, ◌∙◌, subst, cases_lt, decode_of, Cut, cut_at}
 use Rattle.hex.specs.declared.error.FromHexError.{FromHexError}
-use Rattle.aprs_io.specs.Cut.{Cut, cut_at}
 use Rattle.aprs_log.specs.Fault.{log_cause_of}
 use Rattle.aprs_log.specs.Line.{frame_in, heard_or_passed, line_of, line_of_digits}
 use Rattle.aprs_log.specs.LineText.{HasMoment, HasReceiver, IsLine, IsPassed, IsWrongLine, Reports}

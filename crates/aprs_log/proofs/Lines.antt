@@ -1,11 +1,5 @@
 -- Lemmas on the lines of a log.
-use Rattle.std.proofs.Common.{◌≡◌, ◌↔◌, ℕ, ◌/◌, ◌%◌, ◌<◌, ◌≤◌, ◌&&◌, Bool, true, false, List, [], ◌∷◌, ◌++◌, length, Option, None, Some, Result, Ok, Err, IsOk, nat_le, unwrap_or, refl, arith, sym, ap, ◌∙◌, subst}
-use Rattle.std.specs.List.{list_all}
-use Rattle.std.proofs.lemmas.Bool.{le-leb, leb-true}
-use Rattle.std.proofs.lemmas.Bool.Decides.{nat_tests}
-use Rattle.std.specs.Result.{result_ok}
-use Rattle.hex.specs.Hex.{decode_of}
-use Rattle.aprs_io.specs.Cut.{Cut, cut_at, is_byte}
+use Rattle.aprs_log.proofs.Common.{◌≡◌, ◌↔◌, ℕ, ◌/◌, ◌%◌, ◌<◌, ◌≤◌, ◌&&◌, Bool, true, false, List, [], ◌∷◌, ◌++◌, length, Option, None, Some, Result, Ok, Err, IsOk, nat_le, unwrap_or, refl, arith, sym, ap, ◌∙◌, subst, list_all, le-leb, leb-true, nat_tests, result_ok, decode_of, Cut, cut_at, is_byte, Lacks, cut_at-append, cut_at-parts}
 use Rattle.aprs_log.specs.declared.moment_form.MomentForm.{MomentForm}
 use Rattle.aprs_log.specs.declared.moment_form.MomentForm.TheVariants.{Seconds, Millis}
 use Rattle.aprs_log.specs.Moment.{two_digits, fraction_text, IsTextOf}
@@ -19,7 +13,6 @@ use Rattle.aprs_log.specs.declared.line.TheConstants.{MAX_LINE}
 use Rattle.aprs_log.specs.declared.fault.LineFault.{LineFault}
 use Rattle.aprs_log.specs.declared.fault.LineFault.TheVariants as fault
 use Rattle.aprs_log.specs.declared.line.Line.{Line}
-use Rattle.aprs_io.proofs.Cuts.{Lacks, cut_at-append, cut_at-parts}
 use Rattle.aprs_log.proofs.Moments.{IsTextOf-text, moment_of-text, text-IsTextOf, text-moment_of}
 
 -- ---- a line's first two fields have no space

@@ -1,17 +1,12 @@
 -- Lemmas on the answers of a log, of which only the first bytes may be known.
-use Rattle.std.proofs.Common.{◌≡◌, ℕ, ◌+◌, ◌≤◌, ◌<◌, List, [], ◌∷◌, ◌++◌, Bool, true, false, length, get_or, None, Some, inl, inr, cond, refl, arith, sym, ap, ◌∙◌, append_assoc, append-nil, length-append, length-take, IsTrue}
-use Rattle.std.specs.List.{slice_split, position_or_len, before_first, after_first, All}
+use Rattle.aprs_log.proofs.Common.{◌≡◌, ℕ, ◌+◌, ◌≤◌, ◌<◌, List, [], ◌∷◌, ◌++◌, Bool, true, false, length, get_or, None, Some, inl, inr, cond, refl, arith, sym, ap, ◌∙◌, append_assoc, IsTrue, slice_split, position_or_len, before_first, after_first, All, get_or-take, nat_tests, cases_lt, Cut, cut_at, first_cut, has_byte, InputEnd}
+use Rattle.std.proofs.Common.{append-nil, length-append, length-take}
 use Rattle.std.proofs.lemmas.List.Splits.{slice_split_at, slice_split_none, length-slice_split}
 use Rattle.std.proofs.lemmas.List.Sums.{fails_before_first, passes_at_first, split_at_first}
-use Rattle.std.proofs.lemmas.List.{get_or-take}
 use Rattle.std.proofs.Math.ListN.{get_or-append}
-use Rattle.std.proofs.lemmas.Bool.Decides.{nat_tests}
-use Rattle.std.proofs.lemmas.Bool.{cases_lt}
-use Rattle.aprs_io.specs.Cut.{Cut, cut_at, first_cut, has_byte}
 use Rattle.aprs_log.specs.Line.{line_of}
 use Rattle.aprs_log.proofs.Lines.{line_of-long}
 use Rattle.aprs_log.specs.LogAnswers.{is_lf, tail_cause, fault_at, end_with, then_answers, answers_of, answers_from}
-use Rattle.aprs_io.specs.declared.input.InputEnd.{InputEnd}
 use Rattle.aprs_log.specs.declared.fault.LogCause.TheVariants as cause
 use Rattle.aprs_log.specs.declared.line.TheConstants.{MAX_LINE}
 

@@ -1,14 +1,6 @@
 -- A log's text, as relations and as the answers of its reading.
-use Rattle.std.proofs.Common.{◌≡◌, ◌≢◌, ◌⊎◌, ℕ, zero, suc, ◌+◌, ◌<◌, ◌≤◌, nat_lt, Bool, true, false, List, [], ◌∷◌, ◌++◌, length, Option, None, Some, Result, Ok, Err, inl, inr, cond, refl, arith, sym, ap, ◌∙◌, subst, append_assoc, append-nil, length-append, eqb-true}
-use Rattle.std.specs.List.{AllByRecursion}
-use Rattle.std.proofs.lemmas.Bool.{cases_lt}
-use Rattle.std.proofs.lemmas.Bool.Decides.{nat_tests}
-use Rattle.std.proofs.lemmas.List.Elements.{All-from_recursion, recursion_from_All}
-use Rattle.hex.specs.Hex.{is_hex_digit}
-use Rattle.hex.proofs.HexLemmas.{decode_of-ok}
-use Rattle.aprs_io.specs.Cut.{Cut, cut_at, is_byte}
-use Rattle.aprs_io.proofs.Cuts.{Lacks, cut_at-append, cut_at-parts}
-use Rattle.aprs_io.specs.declared.input.InputEnd.{InputEnd}
+use Rattle.aprs_log.proofs.Common.{◌≡◌, ◌≢◌, ◌⊎◌, ℕ, zero, suc, ◌+◌, ◌<◌, ◌≤◌, nat_lt, Bool, true, false, List, [], ◌∷◌, ◌++◌, length, Option, None, Some, Result, Ok, Err, inl, inr, cond, refl, arith, sym, ap, ◌∙◌, subst, append_assoc, eqb-true, AllByRecursion, cases_lt, nat_tests, All-from_recursion, recursion_from_All, is_hex_digit, decode_of-ok, Cut, cut_at, is_byte, Lacks, cut_at-append, cut_at-parts, InputEnd}
+use Rattle.std.proofs.Common.{append-nil, length-append}
 use Rattle.aprs_io.specs.declared.input.InputEnd.TheVariants as how
 use Rattle.aprs_log.specs.Fault.{log_cause_of}
 use Rattle.aprs_log.specs.Line.{line_of}

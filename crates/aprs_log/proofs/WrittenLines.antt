@@ -1,14 +1,6 @@
 -- Lemmas on the line that is written for a reception.
-use Rattle.std.proofs.Common.{◌≡◌, ℕ, zero, suc, ◌/◌, ◌%◌, ◌<◌, ◌≤◌, ◌≢◌, Bool, true, false, if◌then◌else◌, List, [], ◌∷◌, ◌++◌, length, slice_index, append_assoc, Ok, refl, arith, sym, ap, ◌∙◌, subst}
-use Rattle.aprs_kiss.specs.Plain.{IsPlain, is_special}
-use Rattle.aprs_kiss.specs.Spelling.{is_escape, is_frame_end, spelling_of, spelling_of_byte, kiss_text}
-use Rattle.aprs_kiss.proofs.Escapes.{spelling_of-all, spelling_of-cut}
-use Rattle.aprs_ax25.specs.Frame.{FrameOf, Parts}
-use Rattle.aprs_ax25.specs.FrameFault.{frame_or_fault, unless_fault}
+use Rattle.aprs_log.proofs.Common.{◌≡◌, ℕ, zero, suc, ◌/◌, ◌%◌, ◌<◌, ◌≤◌, ◌≢◌, Bool, true, false, if◌then◌else◌, List, [], ◌∷◌, ◌++◌, length, slice_index, append_assoc, Ok, refl, arith, sym, ap, ◌∙◌, subst, IsPlain, is_special, is_escape, is_frame_end, spelling_of, spelling_of_byte, kiss_text, spelling_of-all, spelling_of-cut, FrameOf, Parts, frame_or_fault, unless_fault, IsBytes, decode_of, encode_lower, encode_with, lower_digits, decode_of-encode_lower, nat_tests, MAX_UI_FRAME}
 use Rattle.aprs_ax25.proofs.Spellings.{FrameOf-frame_fault}
-use Rattle.hex.specs.Hex.{IsBytes, decode_of, encode_lower, encode_with, lower_digits}
-use Rattle.hex.proofs.HexLemmas.{decode_of-encode_lower}
-use Rattle.std.proofs.lemmas.Bool.Decides.{nat_tests}
 use Rattle.aprs_log.specs.Moment.{moment_text}
 use Rattle.aprs_log.specs.CivilMoment.{IsMomentText}
 use Rattle.aprs_log.specs.Receiver.{IsName}
@@ -19,7 +11,6 @@ use Rattle.aprs_log.proofs.Lines.{line_of-syntax}
 use Rattle.aprs_log.proofs.Frames.{frame_in-kiss_text}
 use Rattle.aprs_log.proofs.Moments.{text-IsTextOf}
 use Rattle.aprs_log.specs.declared.line.TheConstants.{MAX_LINE}
-use Rattle.aprs_ax25.specs.declared.scan.TheConstants.{MAX_UI_FRAME}
 
 -- ---- the digits of a frame's bytes, cut at each byte that isn't sent as itself
 

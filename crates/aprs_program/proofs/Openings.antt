@@ -1,6 +1,5 @@
 -- Lemmas on inputs that are opened one after another.
-use Rattle.std.proofs.Common.{◌≡◌, ◌∙◌, ℕ, ◌<◌, List, [], ◌∷◌, ◌++◌, map, take, length, get_or, Option, Some, None, ap, sym, subst, append_assoc, Bor, inl, inr}
-use Rattle.std.specs.Prelude.{◌⊎◌, string_bytes}
+use Rattle.aprs_program.proofs.Common.{◌≡◌, ◌∙◌, ℕ, ◌<◌, List, [], ◌∷◌, ◌++◌, map, take, length, get_or, Option, Some, None, ap, sym, subst, append_assoc, Bor, inl, inr, ◌⊎◌, string_bytes}
 use Rattle.std.specs.declared.string.String.{String}
 use Rattle.std.proofs.lemmas.List.{map_more}
 use Rattle.std.proofs.lemmas.Option.{slice_get-get_or}

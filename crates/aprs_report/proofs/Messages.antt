@@ -1,13 +1,5 @@
 -- A message that is read is spelled so, and what is spelled so is read.
-use Rattle.std.proofs.Common.{◌≡◌, ℕ, suc, ◌+◌, ◌-◌, ◌<◌, ◌≤◌, Bool, true, false, ◌&&◌, List, []}
-use Rattle.std.proofs.Common.{◌∷◌, ◌++◌, length, take, drop, get_or, Option, Some, None, refl, sym}
-use Rattle.std.proofs.Common.{zero, ap, subst, ◌∙◌, arith, append_assoc, add-one, eqb, leb}
-use Rattle.std.specs.Prelude.{codes}
-use Rattle.std.specs.List.{list_all}
-use Rattle.std.proofs.lemmas.Bool.{eqb-true, eq-eqb, and_parts, and_left, and_right, lt-leb}
-use Rattle.std.proofs.lemmas.Option.{none-some}
-use Rattle.std.proofs.Math.Seq.{drop-cons, take-suc}
-use Rattle.std.proofs.lemmas.List.{append-nil, drop_all, take_all, length-drop}
+use Rattle.aprs_report.proofs.Common.{◌≡◌, ℕ, suc, ◌+◌, ◌-◌, ◌<◌, ◌≤◌, Bool, true, false, ◌&&◌, List, [], ◌∷◌, ◌++◌, length, take, drop, get_or, Option, Some, None, refl, sym, zero, ap, subst, ◌∙◌, arith, append_assoc, add-one, eqb, leb, codes, list_all, eqb-true, eq-eqb, and_parts, and_left, and_right, lt-leb, none-some, drop-cons, take-suc, append-nil, drop_all, take_all, length-drop}
 use Rattle.aprs_report.specs.Bytes.{is_alphanumeric, is_line_end}
 use Rattle.aprs_report.specs.Message.{is_id, IsAddressed, IsAnswer, IsNumbered, IsNoAnswer, IsText}
 use Rattle.aprs_report.specs.Message.{IsMessage, IsReply}

@@ -1,25 +1,9 @@
 -- KeyPrefixes are in order as the keys are, as far as they go.
-use Rattle.std.proofs.Common.{◌≡◌, ◌∙◌, ℕ, zero, suc, ◌+◌, ◌*◌, ◌-◌, ◌/◌, ◌%◌, ◌<◌, ◌≤◌, List, [], ◌∷◌, ◌++◌, length, take, drop, replicate, get_or, slice_index, append_assoc, true, refl, sym, ap, arith}
-use Rattle.std.specs.Int.{w64, from_be_bytes}
-use Rattle.std.specs.Ordering.{nat_cmp, ordering_then}
-use Rattle.std.specs.declared.cmp.Ordering.{Ordering}
-use Rattle.std.specs.declared.cmp.Ordering.TheVariants.{Less, Equal, Greater}
-use Rattle.std.specs.List.{list_all}
-use Rattle.std.proofs.lemmas.Bool.Decides.{nat_tests}
-use Rattle.std.proofs.lemmas.Bool.{and_parts}
-use Rattle.std.specs.Cmp.{IsTotalOrder}
-use Rattle.std.proofs.lemmas.Cmp.{tied_itself, then_total, on_total, nat_cmp_total}
+use Rattle.aprs_rows.proofs.Common.{◌≡◌, ◌∙◌, ℕ, zero, suc, ◌+◌, ◌*◌, ◌-◌, ◌/◌, ◌%◌, ◌<◌, ◌≤◌, List, [], ◌∷◌, ◌++◌, length, take, drop, replicate, get_or, slice_index, append_assoc, true, refl, sym, ap, arith, w64, from_be_bytes, nat_cmp, ordering_then, Ordering, Less, Equal, Greater, list_all, nat_tests, and_parts, IsTotalOrder, tied_itself, then_total, on_total, nat_cmp_total, length-append, length-replicate, take_at, drop_at, take-take, Parts, FrameOf, address_field, call_of, parts_of, FrameOf-IsSound, bytes_cmp, Key, key_of, key_cmp, ordering_then_assoc}
 use Rattle.std.proofs.lemmas.Map.Lookups.{CmpEqualImpliesEq, exact_pairs, exact_unsigned}
-use Rattle.std.proofs.lemmas.List.{length-append, length-replicate, take_at, drop_at, take-take}
 use Rattle.aprs_ax25.specs.Address.{Address, IsAddress, letters_and_spaces, address_octets}
 use Rattle.aprs_ax25.specs.Callsign.{Call, IsCall, call_cmp, is_callsign_byte}
-use Rattle.aprs_ax25.specs.Frame.{Parts, FrameOf, address_field}
-use Rattle.aprs_ax25.specs.FrameFault.{call_of, parts_of}
 use Rattle.aprs_ax25.proofs.Addresses.{double, half, length-address_octets}
-use Rattle.aprs_ax25.proofs.Spellings.{FrameOf-IsSound}
-use Rattle.aprs_log.specs.Reception.{bytes_cmp}
-use Rattle.aprs_laws.specs.Key.{Key, key_of, key_cmp}
-use Rattle.aprs_laws.proofs.Orders.{ordering_then_assoc}
 use Rattle.aprs_rows.proofs.Digits.{Bytes, be_cmp, be_cmp_all, first_then_all, then_equal}
 use Rattle.aprs_rows.specs.KeyPrefix.{call_number, key_prefix_of, HasKeyPrefix}
 use Rattle.aprs_rows.specs.KeyPrefixSteps.{octets_number, head_cmp}

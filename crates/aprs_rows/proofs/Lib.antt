@@ -1,4 +1,5 @@
 -- Lemmas of rows.
+pub mod Common
 pub mod Cases
 pub mod Digits
 pub mod EntryOrder

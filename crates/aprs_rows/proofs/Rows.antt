@@ -1,19 +1,5 @@
 -- Rows as their bytes lie in a store.
-use Rattle.std.proofs.Common.{◌≡◌, ◌↔◌, ◌==◌, Bool, true, inl, inr, ◌∙◌, ℕ, zero, suc, ◌+◌, ◌-◌, ◌<◌, List, [], ◌∷◌, ◌++◌, length, take, drop, get_or, Option, None, Some, Result, Ok, Err, OnOk, IfOk, refl, sym, ap, subst, arith}
-use Rattle.std.proofs.Math.Seq.{take-append_seam, drop-append_seam}
-use Rattle.std.proofs.lemmas.List.{length-append, length-map, drop-drop}
-use Rattle.std.proofs.lemmas.List.Splits.{join_with_byte-slice_split}
-use Rattle.std.specs.Prelude.{All, IsTrue}
-use Rattle.std.specs.List.{join_with_byte, last_or, slice_get}
-use Rattle.std.proofs.lemmas.Bool.Decides.{nat_tests}
-use Rattle.std.proofs.lemmas.List.Elements.{All-nil, All-cons}
-use Rattle.aprs_ax25.specs.FrameFault.{parts_of}
-use Rattle.aprs_log.specs.Receiver.{IsName}
-use Rattle.aprs_log.specs.Reception.{Received}
-use Rattle.aprs_laws.specs.JoinRow.{single}
-use Rattle.aprs_laws.specs.Row.{Row}
-use Rattle.aprs_laws.specs.Sound.{IsSoundRow}
-use Rattle.aprs_laws.proofs.Coalescing.{single_is_sound}
+use Rattle.aprs_rows.proofs.Common.{◌≡◌, ◌↔◌, ◌==◌, Bool, true, inl, inr, ◌∙◌, ℕ, zero, suc, ◌+◌, ◌-◌, ◌<◌, List, [], ◌∷◌, ◌++◌, length, take, drop, get_or, Option, None, Some, Result, Ok, Err, OnOk, IfOk, refl, sym, ap, subst, arith, take-append_seam, drop-append_seam, length-append, length-map, drop-drop, join_with_byte-slice_split, All, IsTrue, join_with_byte, last_or, slice_get, nat_tests, All-nil, All-cons, parts_of, IsName, Received, single, Row, IsSoundRow, single_is_sound}
 use Rattle.aprs_rows.specs.declared.store.entry.Entry.{Entry}
 use Rattle.aprs_rows.specs.Names.{names_in, row_of_text}
 use Rattle.aprs_rows.specs.Rows.{AreRowsIn, AreSoundRows, bytes_of, entry_row, HasKey, info_of, IsRowIn, row_bytes, rows_in, size_of}

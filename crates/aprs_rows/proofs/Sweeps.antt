@@ -1,23 +1,6 @@
 -- Rows in order, taken one after another.
-use Rattle.std.proofs.Common.{◌≡◌, ◌∙◌, ℕ, zero, suc, ◌+◌, ◌<◌, min, Bool, true, false, List, [], ◌∷◌, ◌++◌, inl, inr, length, append_assoc, refl, sym, ap, subst, arith, Bor}
-use Rattle.std.specs.Prelude.{All, if◌then◌else◌}
-use Rattle.std.specs.List.{join_with_byte, AllByRecursion}
-use Rattle.std.specs.Ordering.{is_eq}
-use Rattle.std.specs.declared.cmp.Ordering.{Ordering}
-use Rattle.std.specs.declared.cmp.Ordering.TheVariants.{Less, Equal, Greater}
-use Rattle.std.proofs.lemmas.Bool.Decides.{nat_tests}
-use Rattle.std.proofs.lemmas.List.{append-nil, length-append}
-use Rattle.std.proofs.lemmas.List.Elements.{All-from_recursion, recursion_from_All}
-use Rattle.aprs_log.specs.Receiver.{IsName}
-use Rattle.aprs_log.specs.Reception.{bytes_cmp}
-use Rattle.aprs_laws.specs.Coalescing.{append_or_join}
-use Rattle.aprs_laws.specs.Row.{Row}
-use Rattle.aprs_laws.specs.JoinRow.{choose, combine, greater, compare_near, union}
-use Rattle.aprs_laws.specs.Lists.{◌∈◌, Ordered}
-use Rattle.aprs_laws.specs.Order.{IsBelow}
-use Rattle.aprs_laws.proofs.Lists.{in_left, in_right, in_either}
-use Rattle.aprs_laws.proofs.Orders.{bytes_total, bytes_exact}
-use Rattle.aprs_laws.proofs.Choices.{in_union, same_members, union_ordered}
+use Rattle.aprs_rows.proofs.Common.{◌≡◌, ◌∙◌, ℕ, zero, suc, ◌+◌, ◌<◌, min, Bool, true, false, List, [], ◌∷◌, ◌++◌, inl, inr, length, append_assoc, refl, sym, ap, subst, arith, Bor, All, if◌then◌else◌, join_with_byte, AllByRecursion, is_eq, Ordering, Less, Equal, Greater, nat_tests, length-append, All-from_recursion, recursion_from_All, IsName, bytes_cmp, append_or_join, Row, choose, combine, greater, compare_near, union, ◌∈◌, Ordered, IsBelow, in_left, in_right, in_either, bytes_total, bytes_exact, in_union, same_members, union_ordered}
+use Rattle.std.proofs.lemmas.List.{append-nil}
 use Rattle.aprs_rows.specs.declared.store.group.Group.{Group}
 use Rattle.aprs_rows.specs.declared.store.sweep.Open.{Open}
 use Rattle.aprs_rows.specs.Groups.{names_or, group_row, IsGroup}

@@ -1,16 +1,8 @@
 -- A text begins as that of a book, or as a log does.
-use Rattle.std.proofs.Common.{◌≡◌, ◌∙◌, ℕ, get_or, true, false, List, [], ◌∷◌, ◌++◌, drop, codes, inl, inr, refl, sym, ap, arith}
-use Rattle.std.proofs.lemmas.Bool.Decides.{Decides-eqb}
-use Rattle.std.proofs.lemmas.Slice.Eq.{starts_is}
+use Rattle.aprs_tool.proofs.Common.{◌≡◌, ◌∙◌, ℕ, get_or, true, false, List, [], ◌∷◌, ◌++◌, drop, codes, inl, inr, refl, sym, ap, arith, Decides-eqb, starts_is, IsLogText, ReportAll, text_of_lines, Received, Row, book_text, Version, One, Two, Three}
 use Rattle.aprs_io.specs.declared.input.InputEnd.{InputEnd}
-use Rattle.aprs_log.specs.LogText.{IsLogText, ReportAll, text_of_lines}
-use Rattle.aprs_log.specs.Reception.{Received}
 use Rattle.aprs_log.proofs.Lines.{HasFields}
 use Rattle.aprs_log.proofs.Moments.{IsTextOf-text}
-use Rattle.aprs_laws.specs.Row.{Row}
-use Rattle.aprs_booktext.specs.Text.{book_text}
-use Rattle.aprs_booktext.specs.declared.version.Version.{Version}
-use Rattle.aprs_booktext.specs.declared.version.Version.TheVariants.{One, Two, Three}
 use Rattle.aprs_tool.specs.Inputs.{IsBookFileOf, has_book_mark}
 
 abbrev pub mark : List ℕ

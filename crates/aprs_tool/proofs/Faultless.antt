@@ -1,13 +1,7 @@
 -- An input that stands for a set has no fault.
-use Rattle.std.proofs.Common.{◌≡◌, ◌∙◌, ℕ, ◌^◌, ◌<◌, ◌≤◌, true, false, List, [], length, None, Some, inl, inr, refl, sym, ap, append-nil, arith}
-use Rattle.aprs_io.specs.Input.{most_input}
+use Rattle.aprs_tool.proofs.Common.{◌≡◌, ◌∙◌, ℕ, ◌^◌, ◌<◌, ◌≤◌, true, false, List, [], length, None, Some, inl, inr, refl, sym, ap, append-nil, arith, most_input, Received, log_fault-answers, FirstFault, BookFault, cut_short}
 use Rattle.aprs_io.specs.declared.input.InputEnd.{InputEnd}
-use Rattle.aprs_log.specs.Reception.{Received}
-use Rattle.aprs_log.proofs.LogTexts.{log_fault-answers}
-use Rattle.aprs_booktext.specs.FirstFault.{FirstFault}
-use Rattle.aprs_booktext.specs.declared.fault.BookFault.{BookFault}
 use Rattle.aprs_booktext.proofs.Accepting.{rows_few}
-use Rattle.aprs_booktext.proofs.OneText.{cut_short}
 use Rattle.aprs_booktext.proofs.SameFaults.{memory_or_first}
 use Rattle.aprs_tool.specs.Inputs.{GivesSet, IsBookFileOf}
 use Rattle.aprs_tool.specs.Refused.{IsFaulty}

@@ -1,28 +1,14 @@
 -- Lemmas on the text of a history.
-use Rattle.std.proofs.Common.{codes, ◌≡◌, ◌∙◌, ℕ, Bool, true, List, [], ◌∷◌, ◌++◌, map, Option, Some, None, inl, inr, refl, ap, sym}
+use Rattle.aprs_tool.proofs.Common.{codes, ◌≡◌, ◌∙◌, ℕ, Bool, true, List, [], ◌∷◌, ◌++◌, map, Option, Some, None, inl, inr, refl, ap, sym, flat_map-append, Call, LastKnown, Passes, BookOf, BookValue, millis_of, SameMembers, ◌∈◌, Row, unique, rows_know, has_source, is_item_named, is_object_named, is_position_report, report_of, reports_item, reports_object, reports_position, without_spaces, Received, report_line}
 use Rattle.std.proofs.lemmas.Bool.{and_parts}
-use Rattle.std.proofs.lemmas.List.Concat.{flat_map-append}
-use Rattle.aprs_ax25.specs.Callsign.{Call}
 use Rattle.aprs_ax25.specs.FrameFault.{parts_of}
 use Rattle.aprs_report.specs.Reader.{reading_of}
 use Rattle.aprs_report.specs.Reading.{Value, position, object, item, message, ack, rej, status, raw}
 use Rattle.aprs_report.specs.declared.place.Place.{Place}
 use Rattle.aprs_report.specs.declared.stamp.Stamp.{Stamp}
 use Rattle.aprs_report.specs.declared.symbol.Symbol.{Symbol}
-use Rattle.aprs_laws.specs.Best.{LastKnown}
-use Rattle.aprs_laws.specs.BestLaws.{Passes}
-use Rattle.aprs_laws.specs.Book.{BookOf}
-use Rattle.aprs_laws.specs.BookValue.{BookValue}
-use Rattle.aprs_laws.specs.Gap.{millis_of}
 use Rattle.aprs_laws.specs.Key.{key_of}
-use Rattle.aprs_laws.specs.Lists.{SameMembers, ◌∈◌}
-use Rattle.aprs_laws.specs.Row.{Row}
-use Rattle.aprs_laws.proofs.Books.{unique}
-use Rattle.aprs_laws.proofs.Known.{rows_know}
-use Rattle.aprs_book.specs.Reports.{has_source, is_item_named, is_object_named, is_position_report, report_of, reports_item, reports_object, reports_position, without_spaces}
-use Rattle.aprs_log.specs.Reception.{Received}
 use Rattle.aprs_listing.specs.History.{history_line, history_text, row_fields, told_line}
-use Rattle.aprs_listing.specs.Listing.{report_line}
 use Rattle.aprs_tool.specs.HistoryOf.{IsHistoryOf, TellsNamed, TellsPlace}
 use Rattle.aprs_tool.specs.ToldBook.{IsHistory}
 

@@ -1,35 +1,13 @@
 -- Lemmas on inputs, of which the first bytes are known.
-use Rattle.std.proofs.Common.{◌≡◌, ℕ, zero, suc, get_or, ◌<◌, Bool, true, false, List, [], ◌∷◌, ◌++◌, length, map, take, drop, Option, None, Some, Ok, Err, IfSome, inl, inr, refl, ap, sym, ◌∙◌, append_assoc, append-nil, length-append, subst, arith}
-use Rattle.std.proofs.Math.Seq.{take-append_seam}
-use Rattle.std.proofs.lemmas.Slice.Eq.{bytes_eq-Decides}
-use Rattle.std.specs.Io.KnownBytes.{Consumes}
+use Rattle.aprs_tool.proofs.Common.{◌≡◌, ℕ, zero, suc, get_or, ◌<◌, Bool, true, false, List, [], ◌∷◌, ◌++◌, length, map, take, drop, Option, None, Some, Ok, Err, IfSome, inl, inr, refl, ap, sym, ◌∙◌, append_assoc, append-nil, length-append, subst, arith, take-append_seam, bytes_eq-Decides, Consumes, BookOf, BookValue, Holds, single, book_carries, millis_of, witnesses, Row, Sound, witnessed, Gets, end_with, log_answers, receptions_of, answers-log_fault, LogFault, book_text, IsBookRows, gap_of, IsVersion, Version, One, Two, Three, BookFault, OfGot}
 use Rattle.std.specs.Str.{bytes_eq}
-use Rattle.aprs_laws.specs.Book.{BookOf}
-use Rattle.aprs_laws.specs.BookValue.{BookValue, Holds}
-use Rattle.aprs_laws.specs.JoinRow.{single}
-use Rattle.aprs_laws.proofs.Books.{book_carries}
 use Rattle.aprs_laws.proofs.Coalescing.{books_stand, singles_stand}
 use Rattle.aprs_booktext.specs.StoredRows.{rows_after}
-use Rattle.aprs_laws.specs.Gap.{millis_of}
-use Rattle.aprs_laws.specs.Witnesses.{witnesses}
-use Rattle.aprs_laws.specs.Row.{Row}
-use Rattle.aprs_laws.specs.Sound.{Sound}
-use Rattle.aprs_laws.proofs.Soundness.{witnessed}
-use Rattle.aprs_io.specs.Input.{Gets}
 use Rattle.aprs_io.specs.declared.input.InputEnd.{InputEnd}
 use Rattle.aprs_io.specs.declared.input.InputEnd.TheVariants as ending
-use Rattle.aprs_log.specs.LogAnswers.{end_with, log_answers, receptions_of}
-use Rattle.aprs_log.proofs.LogTexts.{answers-log_fault}
-use Rattle.aprs_log.specs.declared.fault.LogFault.{LogFault}
 use Rattle.aprs_booktext.specs.BookAnswers.{ReadsBook}
-use Rattle.aprs_booktext.specs.Text.{book_text, IsBookRows}
 use Rattle.aprs_booktext.proofs.BookRows.{rows_sound}
-use Rattle.aprs_booktext.specs.Version.{gap_of, IsVersion}
-use Rattle.aprs_booktext.specs.declared.version.Version.{Version}
-use Rattle.aprs_booktext.specs.declared.version.Version.TheVariants.{One, Two, Three}
-use Rattle.aprs_booktext.specs.declared.fault.BookFault.{BookFault}
 use Rattle.aprs_tool.specs.Head.{IsHead}
-use Rattle.aprs_convert.specs.Got.{OfGot}
 use Rattle.aprs_tool.specs.InputBook.{IsGapOf, ReadsInput}
 use Rattle.aprs_tool.specs.Inputs.{GivesSet, has_book_mark}
 use Rattle.aprs_tool.specs.Refused.{IsFaulty}

@@ -1,18 +1,10 @@
 -- Lemmas on an input that is read into a book.
-use Rattle.std.proofs.Common.{◌≡◌, ℕ, true, false, Bool, List, [], ◌∷◌, ◌++◌, length, Ok, Err, inl, inr, refl, sym, subst, arith}
-use Rattle.aprs_laws.specs.Book.{BookOf}
-use Rattle.aprs_laws.specs.BookValue.{BookValue}
-use Rattle.aprs_laws.specs.Gap.{millis_of}
-use Rattle.aprs_laws.specs.Row.{Row}
-use Rattle.aprs_laws.proofs.Books.{book_carries}
-use Rattle.aprs_laws.proofs.Unions.{around, merged}
+use Rattle.aprs_tool.proofs.Common.{◌≡◌, ℕ, true, false, Bool, List, [], ◌∷◌, ◌++◌, length, Ok, Err, inl, inr, refl, sym, subst, arith, BookOf, BookValue, millis_of, Row, book_carries, around, merged, MergeFault, Received}
 use Rattle.aprs_book.specs.Taking.{MergesInto}
-use Rattle.aprs_laws.specs.declared.merge_fault.MergeFault.{MergeFault}
 use Rattle.aprs_laws.specs.declared.merge_fault.MergeFault.TheVariants as fault
 use Rattle.aprs_log.specs.declared.InputEnd.{InputEnd}
 use Rattle.aprs_tool.specs.InputBook.{IsGapOf, ReadsInput, TakesInput}
 use Rattle.aprs_tool.specs.InputRows.{GivesRows, RefusesGaps}
-use Rattle.aprs_log.specs.Reception.{Received}
 use Rattle.aprs_tool.specs.Inputs.{GivesSet, IsBookFileOf, has_book_mark}
 use Rattle.aprs_tool.proofs.Beginnings.{log_is_no_book}
 use Rattle.aprs_tool.specs.Refused.{fault_of_merge, IsNotTaken}

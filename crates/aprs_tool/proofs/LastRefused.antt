@@ -1,16 +1,5 @@
 -- Lemmas on the book of inputs that were all read, where an allocation failed for it.
-use Rattle.std.proofs.Common.{◌≡◌, ◌∙◌, ℕ, ◌-◌, List, [], ◌∷◌, ◌++◌, length, Option, Ok, Err, inr, refl, sym, ap, subst, arith, length-append}
-use Rattle.std.proofs.lemmas.List.{length-map}
-use Rattle.aprs_io.specs.Device.{Sends}
-use Rattle.aprs_io.specs.declared.device.Counted.{Counted}
-use Rattle.aprs_io.proofs.Sends.{Sends-err, Sends-ok}
-use Rattle.aprs_laws.specs.Book.{BookOf}
-use Rattle.aprs_laws.specs.BookValue.{BookValue}
-use Rattle.aprs_laws.specs.Gap.{millis_of}
-use Rattle.aprs_laws.proofs.Books.{one_book}
-use Rattle.aprs_laws.proofs.RunRows.{book_of_nothing}
-use Rattle.aprs_booktext.specs.Text.{written_text}
-use Rattle.aprs_log.specs.Reception.{Received}
+use Rattle.aprs_tool.proofs.Common.{◌≡◌, ◌∙◌, ℕ, ◌-◌, List, [], ◌∷◌, ◌++◌, length, Option, Ok, Err, inr, refl, sym, ap, subst, arith, length-append, length-map, Sends, Counted, Sends-err, Sends-ok, BookOf, BookValue, millis_of, one_book, book_of_nothing, written_text, Received}
 use Rattle.aprs_tool.specs.Gathered.{ReadsEach, WritesText}
 use Rattle.aprs_tool.specs.Inputs.{GivesSet}
 use Rattle.aprs_tool.specs.Several.{GiveUnion, GotOf, IsFirstRefused}

@@ -1,14 +1,7 @@
 -- Lemmas on the receptions of a log whose lines are read one by one.
-use Rattle.std.proofs.Common.{◌≡◌, ℕ, List, [], ◌∷◌, ◌++◌, Option, None, Some, Result, Ok, Err, IfSome, refl, ap, sym, ◌∙◌, append_assoc, append-nil, map}
-use Rattle.aprs_log.specs.LogAnswers.{Answers, end_with, log_answers, receptions_of, prepend_line}
-use Rattle.aprs_log.specs.Reader.{AreAnswersOf}
+use Rattle.aprs_tool.proofs.Common.{◌≡◌, ℕ, List, [], ◌∷◌, ◌++◌, Option, None, Some, Result, Ok, Err, IfSome, refl, ap, sym, ◌∙◌, append_assoc, append-nil, map, Answers, end_with, log_answers, receptions_of, prepend_line, AreAnswersOf, LogFault, Line, map-append, single, Row}
 use Rattle.aprs_log.specs.declared.InputEnd.{InputEnd}
-use Rattle.aprs_log.specs.declared.fault.LogFault.{LogFault}
-use Rattle.aprs_log.specs.declared.line.Line.{Line}
 use Rattle.aprs_log.specs.declared.line.Line.TheVariants.{Heard, Passed}
-use Rattle.std.proofs.lemmas.List.{map-append}
-use Rattle.aprs_laws.specs.JoinRow.{single}
-use Rattle.aprs_laws.specs.Row.{Row}
 use Rattle.aprs_tool.specs.InputRows.{HoldsOfGot, ReadsLog}
 use Rattle.aprs_tool.specs.declared.fault.InputFault.{InputFault}
 use Rattle.aprs_tool.specs.declared.fault.InputFault.TheVariants.{Log, Memory}

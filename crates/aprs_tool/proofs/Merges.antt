@@ -1,20 +1,7 @@
 -- Lemmas on several inputs that are read one after another.
-use Rattle.std.proofs.Common.{◌≡◌, ◌<◌, ℕ, zero, suc, ◌+◌, List, [], ◌∷◌, ◌++◌, length, map, take, drop, Option, Some, Ok, Err, slice_get, set, option_map, inl, inr, refl, ap, sym, ◌∙◌, add-one, append_assoc, append-nil, length-append, take-append-drop, subst, arith}
-use Rattle.std.proofs.Math.Seq.{drop-append-add, take-append_seam, take-suc-set}
-use Rattle.std.proofs.lemmas.List.{drop-map, length-map, map-append, map-set, take_all}
-use Rattle.std.proofs.lemmas.Option.{slice_get-map, slice_get_within}
-use Rattle.aprs_laws.specs.Book.{BookOf}
-use Rattle.aprs_laws.specs.BookValue.{BookValue}
-use Rattle.aprs_laws.specs.Gap.{millis_of}
-use Rattle.aprs_laws.specs.Lists.{SameMembers}
-use Rattle.aprs_laws.specs.Row.{Row}
-use Rattle.aprs_laws.proofs.Lists.{in_either, in_left, in_right}
+use Rattle.aprs_tool.proofs.Common.{◌≡◌, ◌<◌, ℕ, zero, suc, ◌+◌, List, [], ◌∷◌, ◌++◌, length, map, take, drop, Option, Some, Ok, Err, slice_get, set, option_map, inl, inr, refl, ap, sym, ◌∙◌, add-one, append_assoc, append-nil, length-append, take-append-drop, subst, arith, drop-append-add, take-append_seam, take-suc-set, drop-map, length-map, map-append, map-set, take_all, slice_get-map, slice_get_within, BookOf, BookValue, millis_of, SameMembers, Row, in_either, in_left, in_right, Received, book_text, written_text, Three, OfGot}
 use Rattle.aprs_io.specs.declared.input.InputEnd.{InputEnd}
 use Rattle.aprs_io.specs.declared.input.InputEnd.TheVariants as ending
-use Rattle.aprs_log.specs.Reception.{Received}
-use Rattle.aprs_booktext.specs.Text.{book_text, written_text}
-use Rattle.aprs_booktext.specs.declared.version.Version.TheVariants.{Three}
-use Rattle.aprs_convert.specs.Got.{OfGot}
 use Rattle.aprs_tool.specs.Gathered.{ReadsEach}
 use Rattle.aprs_tool.specs.InputBook.{TakesInput}
 use Rattle.aprs_tool.specs.InputRows.{HoldsOfGot}

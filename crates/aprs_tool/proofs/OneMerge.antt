@@ -1,17 +1,6 @@
 -- Inputs that stand for one set have one book.
-use Rattle.std.proofs.Common.{◌≡◌, ℕ, List, [], ◌∷◌, ◌++◌, sym, ap, ◌∙◌, subst}
+use Rattle.aprs_tool.proofs.Common.{◌≡◌, ℕ, List, [], ◌∷◌, ◌++◌, sym, ap, ◌∙◌, subst, Received, BookOf, millis_of, merge, SameMembers, Row, book_carries, one_book, turn, unique, exists, merged, book_text, Three}
 use Rattle.aprs_io.specs.declared.input.InputEnd.{InputEnd}
-use Rattle.aprs_log.specs.Reception.{Received}
-use Rattle.aprs_laws.specs.Book.{BookOf}
-use Rattle.aprs_laws.specs.Gap.{millis_of}
-use Rattle.aprs_laws.specs.JoinRow.{merge}
-use Rattle.aprs_laws.specs.Lists.{SameMembers}
-use Rattle.aprs_laws.specs.Row.{Row}
-use Rattle.aprs_laws.proofs.Books.{book_carries, one_book, turn, unique}
-use Rattle.aprs_laws.proofs.Soundness.{exists}
-use Rattle.aprs_laws.proofs.Unions.{merged}
-use Rattle.aprs_booktext.specs.Text.{book_text}
-use Rattle.aprs_booktext.specs.declared.version.Version.TheVariants.{Three}
 use Rattle.aprs_tool.specs.Inputs.{GivesSet}
 use Rattle.aprs_tool.specs.Merge.{IsBookOfAll, IsTextOfBook}
 use Rattle.aprs_tool.specs.Several.{GiveUnion, GotOf}

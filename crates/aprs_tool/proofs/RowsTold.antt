@@ -1,24 +1,10 @@
 -- Lemmas on the rows of inputs, and the book that they are together.
-use Rattle.std.proofs.Common.{◌≡◌, ◌∙◌, ℕ, ◌<◌, ◌≤◌, List, [], ◌∷◌, ◌++◌, inl, inr, refl, sym, ap, subst, append_assoc, append-nil, length, arith, Result, Ok, Err, OnOk}
-use Rattle.aprs_log.specs.Reception.{Received}
+use Rattle.aprs_tool.proofs.Common.{◌≡◌, ◌∙◌, ℕ, ◌<◌, ◌≤◌, List, [], ◌∷◌, ◌++◌, inl, inr, refl, sym, ap, subst, append_assoc, append-nil, length, arith, Result, Ok, Err, OnOk, Received, BookOf, BookValue, Holds, IsSoundBook, widened_to, IsGap, millis_of, join_row, merge, ◌∈◌, SameMembers, Row, IsSoundRow, witnesses, witnesses_of_row, witness_by, book_carries, one_book, in_either, in_left, in_right, book_of_nothing, empty_book, has_witness_by, witnessed, merged}
 use Rattle.aprs_log.specs.declared.InputEnd.{InputEnd}
-use Rattle.aprs_laws.specs.Book.{BookOf}
-use Rattle.aprs_laws.specs.BookValue.{BookValue, Holds, IsSoundBook, widened_to}
 use Rattle.aprs_laws.specs.Coalescing.{StandFor}
-use Rattle.aprs_laws.specs.Gap.{IsGap, millis_of}
-use Rattle.aprs_laws.specs.JoinRow.{join_row, merge}
-use Rattle.aprs_laws.specs.Lists.{◌∈◌, SameMembers}
-use Rattle.aprs_laws.specs.Row.{Row}
-use Rattle.aprs_laws.specs.Sound.{IsSoundRow}
-use Rattle.aprs_laws.specs.Witnesses.{witnesses, witnesses_of_row, witness_by}
-use Rattle.aprs_laws.proofs.Books.{book_carries, one_book}
 use Rattle.aprs_laws.proofs.BookValues.{widened_holds}
 use Rattle.aprs_laws.proofs.Joins.{some_millis}
-use Rattle.aprs_laws.proofs.Lists.{in_either, in_left, in_right}
-use Rattle.aprs_laws.proofs.RunRows.{book_of_nothing, empty_book}
-use Rattle.aprs_laws.proofs.Soundness.{has_witness_by, witnessed}
 use Rattle.aprs_laws.proofs.Streams.{in_witnesses}
-use Rattle.aprs_laws.proofs.Unions.{merged}
 use Rattle.aprs_tool.specs.Gathered.{book_of_rows}
 use Rattle.aprs_tool.specs.InputRows.{GivesRows}
 use Rattle.aprs_tool.specs.InputBook.{TakesInput}

@@ -1,11 +1,5 @@
 -- Lemmas on what a run over several inputs writes.
-use Rattle.std.proofs.Common.{ℕ, List, Option, Ok, Err}
-use Rattle.aprs_io.specs.Device.{Sends}
-use Rattle.aprs_io.specs.declared.device.Counted.{Counted}
-use Rattle.aprs_log.specs.Reception.{Received}
-use Rattle.aprs_laws.specs.Book.{BookOf}
-use Rattle.aprs_laws.specs.BookValue.{BookValue}
-use Rattle.aprs_laws.specs.Gap.{millis_of}
+use Rattle.aprs_tool.proofs.Common.{ℕ, List, Option, Ok, Err, Sends, Counted, Received, BookOf, BookValue, millis_of}
 use Rattle.aprs_tool.specs.Gathered.{ReadsEach}
 use Rattle.aprs_tool.specs.Outcome.{IsToldOf, WritesFor}
 use Rattle.aprs_tool.specs.Several.{GiveUnion, GotOf}

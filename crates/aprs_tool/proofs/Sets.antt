@@ -1,18 +1,6 @@
 -- Lemmas on the sets that an input stands for: all have one book.
-use Rattle.std.proofs.Common.{◌≡◌, ℕ, List, None, inl, inr, refl, sym, ap, ◌∙◌, subst}
+use Rattle.aprs_tool.proofs.Common.{◌≡◌, ℕ, List, None, inl, inr, refl, sym, ap, ◌∙◌, subst, log_answers, receptions_of, IsLogText, Received, answers-log_text, log_text-answers, BookOf, millis_of, SameMembers, Row, book_carries, one_book, IsBookRows, gap_of, one_text}
 use Rattle.aprs_io.specs.declared.input.InputEnd.{InputEnd}
-use Rattle.aprs_log.specs.LogAnswers.{log_answers, receptions_of}
-use Rattle.aprs_log.specs.LogText.{IsLogText}
-use Rattle.aprs_log.specs.Reception.{Received}
-use Rattle.aprs_log.proofs.LogTexts.{answers-log_text, log_text-answers}
-use Rattle.aprs_laws.specs.Book.{BookOf}
-use Rattle.aprs_laws.specs.Gap.{millis_of}
-use Rattle.aprs_laws.specs.Lists.{SameMembers}
-use Rattle.aprs_laws.specs.Row.{Row}
-use Rattle.aprs_laws.proofs.Books.{book_carries, one_book}
-use Rattle.aprs_booktext.specs.Text.{IsBookRows}
-use Rattle.aprs_booktext.specs.Version.{gap_of}
-use Rattle.aprs_booktext.proofs.OneText.{one_text}
 use Rattle.aprs_tool.specs.Inputs.{GivesSet, IsBookFileOf}
 use Rattle.aprs_tool.proofs.Beginnings.{file_begins, log_is_no_book}
 

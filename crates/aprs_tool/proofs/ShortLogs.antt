@@ -1,8 +1,5 @@
 -- Lemmas on logs of fewer bytes than a line must have.
-use Rattle.std.proofs.Common.{◌≡◌, ◌==◌, ℕ, ◌+◌, ◌<◌, ◌≤◌, Bool, true, false, not, ◌||◌, cond, List, [], ◌∷◌, length, Option, Some, ap, ◌∙◌, arith}
-use Rattle.std.specs.List.{list_any, position_or_len}
-use Rattle.std.proofs.lemmas.Bool.Decides.{nat_tests}
-use Rattle.aprs_log.specs.LogAnswers.{end_with, short_tail_cause, fault_at, is_lf, log_answers, tail_cause}
+use Rattle.aprs_tool.proofs.Common.{◌≡◌, ◌==◌, ℕ, ◌+◌, ◌<◌, ◌≤◌, Bool, true, false, not, ◌||◌, cond, List, [], ◌∷◌, length, Option, Some, ap, ◌∙◌, arith, list_any, position_or_len, nat_tests, end_with, short_tail_cause, fault_at, is_lf, log_answers, tail_cause}
 use Rattle.aprs_log.specs.declared.InputEnd.{InputEnd}
 use Rattle.aprs_log.specs.declared.InputEnd.TheVariants as ending
 use Rattle.aprs_log.specs.declared.fault.LogCause.{LogCause}

@@ -1,11 +1,5 @@
 -- What a run answers that writes what is told of the book of its inputs.
-use Rattle.std.proofs.Common.{ℕ, List, Option, Result, Ok, Err, refl}
-use Rattle.aprs_io.specs.declared.device.Counted.{Counted}
-use Rattle.aprs_io.proofs.Sends.{Sends-err, Sends-ok}
-use Rattle.aprs_log.specs.Reception.{Received}
-use Rattle.aprs_laws.specs.Book.{BookOf}
-use Rattle.aprs_laws.specs.BookValue.{BookValue}
-use Rattle.aprs_laws.specs.Gap.{millis_of}
+use Rattle.aprs_tool.proofs.Common.{ℕ, List, Option, Result, Ok, Err, refl, Counted, Sends-err, Sends-ok, Received, BookOf, BookValue, millis_of}
 use Rattle.aprs_tool.specs.Devices.{AsksEach, CallsOutput}
 use Rattle.aprs_tool.specs.Gathered.{ReadsEach}
 use Rattle.aprs_tool.specs.Outcome.{IsToldOf, RefusesFor, WritesFor}

@@ -1,11 +1,6 @@
 -- Lemmas on an input whose book is widened.
-use Rattle.std.proofs.Common.{◌≡◌, ◌<◌, ◌≤◌, ◌==◌, not, true, false, ℕ, List, [], refl, subst, arith}
-use Rattle.std.proofs.lemmas.Bool.Decides.{nat_tests}
-use Rattle.aprs_log.specs.Reception.{Received}
+use Rattle.aprs_tool.proofs.Common.{◌≡◌, ◌<◌, ◌≤◌, ◌==◌, not, true, false, ℕ, List, [], refl, subst, arith, nat_tests, Received, IsGap, Row, written_text}
 use Rattle.aprs_log.specs.declared.InputEnd.{InputEnd}
-use Rattle.aprs_laws.specs.Gap.{IsGap}
-use Rattle.aprs_laws.specs.Row.{Row}
-use Rattle.aprs_booktext.specs.Text.{written_text}
 use Rattle.aprs_tool.specs.Gathered.{book_of_rows}
 use Rattle.aprs_tool.specs.InputRows.{GivesRows}
 use Rattle.aprs_tool.specs.Merge.{IsTextOfBook}

@@ -1,22 +1,9 @@
 -- Worked examples of what an input stands for.
-use Rattle.std.proofs.Common.{◌≡◌, ◌∙◌, ℕ, ◌<◌, true, false, List, [], ◌∷◌, ◌++◌, length, codes, None, inl, inr, refl, sym, ap, subst, arith}
-use Rattle.std.specs.Fmt.{decimal}
-use Rattle.std.specs.List.{list_any}
+use Rattle.aprs_tool.proofs.Common.{◌≡◌, ◌∙◌, ℕ, ◌<◌, true, false, List, [], ◌∷◌, ◌++◌, length, codes, None, inl, inr, refl, sym, ap, subst, arith, decimal, list_any, Answers, end_with, short_tail_cause, fault_at, is_lf, log_answers, receptions_of, Received, IsGap, millis_of, ◌∈◌, book_of_nothing, FirstFault, book_text, text_of_lines, gap_of, header_of, Three, one_text}
 use Rattle.std.proofs.lemmas.Fmt.{decimal_digit}
 use Rattle.aprs_io.specs.declared.input.InputEnd.{InputEnd}
 use Rattle.aprs_io.specs.declared.input.InputEnd.TheVariants.{End, Read}
-use Rattle.aprs_log.specs.LogAnswers.{Answers, end_with, short_tail_cause, fault_at, is_lf, log_answers, receptions_of}
-use Rattle.aprs_log.specs.Reception.{Received}
-use Rattle.aprs_laws.specs.Gap.{IsGap, millis_of}
-use Rattle.aprs_laws.specs.Lists.{◌∈◌}
-use Rattle.aprs_laws.proofs.RunRows.{book_of_nothing}
-use Rattle.aprs_booktext.specs.FirstFault.{FirstFault}
-use Rattle.aprs_booktext.specs.Text.{book_text}
-use Rattle.aprs_log.specs.LogText.{text_of_lines}
-use Rattle.aprs_booktext.specs.Version.{gap_of, header_of}
 use Rattle.aprs_booktext.specs.declared.fault.BookCause.TheVariants as why
-use Rattle.aprs_booktext.specs.declared.version.Version.TheVariants.{Three}
-use Rattle.aprs_booktext.proofs.OneText.{one_text}
 use Rattle.aprs_booktext.proofs.Standing.{no_rows}
 use Rattle.aprs_tool.specs.Examples.{cut_book, text_of_no_row, unended_log}
 use Rattle.aprs_tool.specs.Inputs.{GivesSet, has_book_mark}

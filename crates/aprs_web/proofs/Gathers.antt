@@ -1,17 +1,11 @@
 -- A run over several inputs that are known, with an output that is empty at first.
-use Rattle.std.proofs.Common.{◌≡◌, ℕ, List, [], ◌++◌, Option, None, Some, Ok, Err, map, subst, sym, ap, ◌∙◌}
+use Rattle.aprs_web.proofs.Common.{◌≡◌, ℕ, List, [], ◌++◌, Option, None, Some, Ok, Err, map, subst, sym, ap, ◌∙◌, most_input, Counted, InputEnd, OfGot, IsTextOfBook, Input, Write, Memory}
 use Rattle.std.specs.Io.KnownBytes.{Appends}
-use Rattle.aprs_io.specs.Input.{most_input}
-use Rattle.aprs_io.specs.declared.device.Counted.{Counted}
 use Rattle.aprs_log.specs.Reception.{Received}
-use Rattle.aprs_log.specs.declared.InputEnd.{InputEnd}
-use Rattle.aprs_convert.specs.Got.{OfGot}
-use Rattle.aprs_tool.specs.Merge.{IsTextOfBook}
 use Rattle.aprs_tool.specs.Widen.{GivesSetWithin, IsNotWidened}
 use Rattle.aprs_tool.specs.Outcome.{IsToldOf, RefusesFor, WritesFor}
 use Rattle.aprs_tool.specs.Several.{GiveUnion, IsFirstRefused, OfEach}
 use Rattle.aprs_tool.specs.declared.fault.InputFault.{InputFault}
-use Rattle.aprs_tool.specs.declared.fault.RunFault.TheVariants.{Input, Write, Memory}
 use Rattle.aprs_web.specs.Answer.{Outcome}
 use Rattle.aprs_web.specs.Runs.{GathersTo, Gives, Widens}
 

@@ -1,5 +1,4 @@
-use Rattle.std.proofs.Common.{◌∙◌, ap}
-use Rattle.aprs_log.specs.Reception.{Received}
+use Rattle.aprs_book.proofs.Common.{◌∙◌, ap, Received}
 use Rattle.aprs_book.proofs.InStore.{names_have, row_is}
 use Rattle.aprs_book.proofs.stored.view_of.Goals as goal
 

@@ -1,7 +1,4 @@
-use Rattle.std.proofs.Common.{ℕ, ◌∙◌, ◌++◌, ◌≡◌, List, Ok, ap, arith, subst, sym}
-use Rattle.std.proofs.lemmas.Result.{err_from_is_err_and}
-use Rattle.aprs_laws.specs.BookValue.{IsSoundBook}
-use Rattle.aprs_laws.specs.Row.{Row}
+use Rattle.aprs_booktext.proofs.Common.{ℕ, ◌∙◌, ◌++◌, ◌≡◌, List, Ok, ap, arith, subst, sym, err_from_is_err_and, IsSoundBook, Row}
 use Rattle.aprs_booktext.specs.TextFault.{most_ahead}
 use Rattle.aprs_booktext.specs.Reader.{IsFault, IsOfText, HasRead}
 use Rattle.aprs_booktext.specs.Reading.{IsAnswered}

@@ -1,6 +1,4 @@
-use Rattle.std.proofs.Common.{◌≡◌, ◌-◌, ◌∙◌, [], refl, sym, arith, length, take, length-take}
-use Rattle.std.proofs.lemmas.Result.{err_from_is_err_and}
-use Rattle.aprs_io.proofs.Sends.{Calls-none, Calls-then}
+use Rattle.aprs_booktext.proofs.Common.{◌≡◌, ◌-◌, ◌∙◌, [], refl, sym, arith, length, take, length-take, err_from_is_err_and, Calls-none, Calls-then}
 use Rattle.aprs_booktext.specs.TextFault.{most_ahead}
 use Rattle.aprs_booktext.proofs.SameFaults.{first_is}
 use Rattle.aprs_booktext.specs.Reader.{IsFault, HasRead}

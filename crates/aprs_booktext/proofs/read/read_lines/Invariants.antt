@@ -1,5 +1,4 @@
-use Rattle.std.proofs.Common.{◌+◌, ◌≤◌}
-use Rattle.aprs_io.specs.Device.{Calls, Going, device_of}
+use Rattle.aprs_booktext.proofs.Common.{◌+◌, ◌≤◌, Calls, Going, device_of}
 use Rattle.aprs_booktext.specs.Reader.{read_size, HasRead}
 use Rattle.aprs_booktext.specs.Reading.{Got}
 use Rattle.aprs_booktext.proofs.read.read_lines.Given as goal

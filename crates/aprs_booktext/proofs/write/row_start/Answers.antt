@@ -1,5 +1,4 @@
-use Rattle.std.proofs.Common.{◌∙◌, ap, length}
-use Rattle.aprs_log.specs.declared.moment_form.MomentForm.TheVariants.{Millis}
+use Rattle.aprs_booktext.proofs.Common.{◌∙◌, ap, length, Millis}
 use Rattle.aprs_booktext.proofs.RowReading.{moment_len}
 use Rattle.aprs_booktext.proofs.TextParts.{head_is}
 use Rattle.aprs_booktext.proofs.write.row_start.Goals as goal

@@ -1,7 +1,4 @@
-use Rattle.std.proofs.Common.{ℕ, List, [], ◌∷◌, ◌++◌, Result, Ok, ap, ◌∙◌}
-use Rattle.aprs_io.proofs.Sends.{Sends-is}
-use Rattle.aprs_ax25.specs.declared.fault.FrameFault.{FrameFault}
-use Rattle.aprs_log.specs.Line.{written_line}
+use Rattle.aprs_convert.proofs.Common.{ℕ, List, [], ◌∷◌, ◌++◌, Result, Ok, ap, ◌∙◌, Sends-is, FrameFault, written_line}
 use Rattle.aprs_log.specs.Reception.{Received}
 use Rattle.aprs_convert.specs.Plan.{frame_line}
 use Rattle.aprs_convert.proofs.capture.write_frame.Goals as goal

@@ -1,13 +1,9 @@
-use Rattle.std.proofs.Common.{inl, inr, arith, refl, sym, ◌∙◌, None, Ok, Err, subst, rules}
-use Rattle.std.proofs.lemmas.Result.{err_from_is_err_and}
-use Rattle.aprs_kiss.specs.Device.{Calls, Going}
-use Rattle.aprs_io.proofs.Sends.{Calls-none, Calls-then}
+use Rattle.aprs_convert.proofs.Common.{inl, inr, arith, refl, sym, ◌∙◌, None, Ok, Err, subst, rules, err_from_is_err_and, Calls, Going, Calls-none, Calls-then, current_of, lent_device}
 use Rattle.aprs_convert.specs.Check.{Checks}
 use Rattle.aprs_convert.specs.Plan.{check_plan}
 use Rattle.aprs_convert.proofs.Planned.{runs_back}
 use Rattle.aprs_convert.proofs.Writings.{checks}
 use Rattle.aprs_convert.specs.declared.fault.ConvertFault.TheVariants.{Log, Write}
-use Rattle.aprs_log.specs.Reader.{current_of, lent_device}
 use Rattle.aprs_convert.proofs.Checked.{Checked-none, Checked-sum, Checked-heard, Checked-passed, Checked-refused, Checked-ended, Checked-totals_refused, Checked-fault}
 use Rattle.aprs_convert.proofs.check.check_log.Goals as goal
 

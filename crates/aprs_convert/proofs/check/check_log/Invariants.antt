@@ -1,7 +1,4 @@
-use Rattle.std.proofs.Common.{◌≡◌, ◌-◌, ℕ, List, Option, None}
-use Rattle.aprs_io.specs.declared.input.TheConstants.{MAX_INPUT}
-use Rattle.aprs_kiss.specs.Device.{Calls, Going, device_of}
-use Rattle.aprs_log.specs.Reader.{Awaits, line_count_of, loan_of, lent_device, stop_of}
+use Rattle.aprs_convert.proofs.Common.{◌≡◌, ◌-◌, ℕ, List, Option, None, MAX_INPUT, Calls, Going, device_of, Awaits, line_count_of, loan_of, lent_device, stop_of}
 use Rattle.aprs_convert.proofs.Checked.{Checked}
 use Rattle.aprs_convert.proofs.check.check_log.Given as goal
 

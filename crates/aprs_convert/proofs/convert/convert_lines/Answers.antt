@@ -1,8 +1,4 @@
-use Rattle.std.proofs.Common.{inl, sym, refl, subst, Ok, Err, rules}
-use Rattle.std.proofs.lemmas.Result.{err_from_is_err_and}
-use Rattle.aprs_kiss.specs.Device.{Calls, Going}
-use Rattle.aprs_io.proofs.Sends.{Calls-none, Calls-then}
-use Rattle.aprs_log.specs.Reader.{current_of, lent_device}
+use Rattle.aprs_convert.proofs.Common.{inl, sym, refl, subst, Ok, Err, rules, err_from_is_err_and, Calls, Going, Calls-none, Calls-then, current_of, lent_device}
 use Rattle.aprs_convert.specs.declared.fault.ConvertFault.TheVariants.{Log, Write}
 use Rattle.aprs_convert.specs.Plan.{line_text, lines_plan}
 use Rattle.aprs_convert.proofs.Planned.{planned_back}

@@ -1,8 +1,4 @@
-use Rattle.std.proofs.Common.{◌≡◌, ◌-◌, ℕ, List, Option, None}
-use Rattle.std.specs.List.{flat_map}
-use Rattle.aprs_io.specs.declared.input.TheConstants.{MAX_INPUT}
-use Rattle.aprs_kiss.specs.Device.{Calls, Going, device_of}
-use Rattle.aprs_log.specs.Reader.{Awaits, line_count_of, loan_of, lent_device, stop_of}
+use Rattle.aprs_convert.proofs.Common.{◌≡◌, ◌-◌, ℕ, List, Option, None, flat_map, MAX_INPUT, Calls, Going, device_of, Awaits, line_count_of, loan_of, lent_device, stop_of}
 use Rattle.aprs_convert.specs.Plan.{line_text}
 use Rattle.aprs_convert.proofs.Seen.{Ran}
 use Rattle.aprs_convert.proofs.convert.convert_lines.Given as goal

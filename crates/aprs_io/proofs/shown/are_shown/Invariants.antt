@@ -1,5 +1,4 @@
-use Rattle.std.proofs.Common.{◌≡◌, take}
-use Rattle.std.specs.List.{list_all}
+use Rattle.aprs_io.proofs.Common.{◌≡◌, take, list_all}
 use Rattle.aprs_io.specs.Shown.{is_shown_as_is}
 use Rattle.aprs_io.proofs.shown.are_shown.Given as goal
 

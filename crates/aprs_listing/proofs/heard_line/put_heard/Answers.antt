@@ -1,12 +1,6 @@
-use Rattle.std.proofs.Common.{◌≡◌, ◌∙◌, ◌++◌, ap, sym}
-use Rattle.std.specs.Prelude.{codes}
+use Rattle.aprs_listing.proofs.Common.{◌≡◌, ◌∙◌, ◌++◌, ap, sym, codes, key_of, Received, view, Report, Puts-is}
 use Rattle.aprs_book.specs.Reports.{report_of}
-use Rattle.aprs_laws.specs.Key.{key_of}
-use Rattle.aprs_log.specs.Reception.{Received}
-use Rattle.aprs_report.specs.Reading.{view}
-use Rattle.aprs_report.specs.declared.report.Report.{Report}
 use Rattle.aprs_listing.specs.Listing.{heard_fields, heard_line, name_fields, place_fields, report_line, line_with_text}
-use Rattle.aprs_io.proofs.Outlets.{Puts-is}
 use Rattle.aprs_listing.proofs.heard_line.put_heard.Goals as goal
 
 -- the report of a reception as it is lent gives its line

@@ -1,6 +1,4 @@
-use Rattle.std.proofs.Common.{ap}
-use Rattle.aprs_log.specs.Reception.{Received}
-use Rattle.aprs_io.proofs.Outlets.{Puts-is}
+use Rattle.aprs_listing.proofs.Common.{ap, Received, Puts-is}
 use Rattle.aprs_listing.proofs.heard_line.put_status.Goals as goal
 
 pub returns : goal.returns

@@ -1,6 +1,5 @@
-use Rattle.std.proofs.Common.{arith}
+use Rattle.aprs_listing.proofs.Common.{arith, Puts-broken, Puts-more, Puts-none}
 use Rattle.aprs_listing.specs.Listing.{named_line}
-use Rattle.aprs_io.proofs.Outlets.{Puts-broken, Puts-more, Puts-none}
 use Rattle.aprs_listing.proofs.listing.put_all_named.Goals as goal
 
 pub loop-named-init : goal.loop-named-init

@@ -1,7 +1,5 @@
-use Rattle.std.proofs.Common.{ap}
-use Rattle.std.specs.List.{flat_map}
+use Rattle.aprs_listing.proofs.Common.{ap, flat_map, Puts-fails, Puts-is, Puts-then}
 use Rattle.aprs_listing.specs.Listing.{message_line, named_line, station_lines}
-use Rattle.aprs_io.proofs.Outlets.{Puts-fails, Puts-is, Puts-then}
 use Rattle.aprs_listing.proofs.listing.put_listing.Goals as goal
 
 pub returns-in_err-put_stations : goal.returns-in_err-put_stations

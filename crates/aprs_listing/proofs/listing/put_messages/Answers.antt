@@ -1,6 +1,5 @@
-use Rattle.std.proofs.Common.{arith}
+use Rattle.aprs_listing.proofs.Common.{arith, Puts-broken, Puts-more, Puts-none}
 use Rattle.aprs_listing.specs.Listing.{message_line}
-use Rattle.aprs_io.proofs.Outlets.{Puts-broken, Puts-more, Puts-none}
 use Rattle.aprs_listing.proofs.listing.put_messages.Goals as goal
 
 pub loop-message-init : goal.loop-message-init

@@ -1,8 +1,5 @@
-use Rattle.std.proofs.Common.{[], ◌∷◌, ap, codes}
-use Rattle.std.specs.Fmt.{decimal}
-use Rattle.aprs_ax25.specs.Callsign.{Call, call_text}
+use Rattle.aprs_listing.proofs.Common.{[], ◌∷◌, ap, codes, decimal, Call, call_text, Puts-fails, Puts-is, Puts-then}
 use Rattle.aprs_listing.specs.Listing.{line_with, station_line}
-use Rattle.aprs_io.proofs.Outlets.{Puts-fails, Puts-is, Puts-then}
 use Rattle.aprs_listing.proofs.listing.put_station.Goals as goal
 
 pub returns-in_err-put_line : goal.returns-in_err-put_line

@@ -1,6 +1,5 @@
-use Rattle.std.proofs.Common.{arith}
+use Rattle.aprs_listing.proofs.Common.{arith, Puts-broken, Puts-more, Puts-none}
 use Rattle.aprs_listing.specs.Listing.{station_lines}
-use Rattle.aprs_io.proofs.Outlets.{Puts-broken, Puts-more, Puts-none}
 use Rattle.aprs_listing.proofs.listing.put_stations.Goals as goal
 
 pub loop-station-init : goal.loop-station-init

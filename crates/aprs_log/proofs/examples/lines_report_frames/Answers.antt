@@ -1,4 +1,4 @@
-use Rattle.std.proofs.Common.{◌≡◌, Result, ap, arith, ◌∙◌, [], codes, Ok, sym}
+use Rattle.aprs_log.proofs.Common.{◌≡◌, Result, ap, arith, ◌∙◌, [], codes, Ok, sym}
 use Rattle.aprs_log.specs.Examples.{heard_after, hi_digits, hi_line, line_by, noon, unended_line}
 use Rattle.aprs_log.specs.Line.{line_of}
 use Rattle.aprs_log.specs.Reception.{Received}

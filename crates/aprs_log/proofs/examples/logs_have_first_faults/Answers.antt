@@ -1,6 +1,4 @@
-use Rattle.std.proofs.Common.{◌≡◌, [], ◌∷◌, ◌++◌, ℕ, List, None, Some, refl, inl, inr, length, ◌≤◌, arith}
-use Rattle.aprs_io.specs.declared.input.InputEnd.{InputEnd}
-use Rattle.aprs_io.specs.declared.input.InputEnd.TheVariants.{End, Read}
+use Rattle.aprs_log.proofs.Common.{◌≡◌, [], ◌∷◌, ◌++◌, ℕ, List, None, Some, refl, inl, inr, length, ◌≤◌, arith, InputEnd, End, Read}
 use Rattle.aprs_log.specs.Examples.{heard_after, hi_line, leap_line, unended_line}
 use Rattle.aprs_log.specs.LogAnswers.{log_answers}
 use Rattle.aprs_log.specs.LogText.{BeginsWrong, HasLogFault, ReportAll}

@@ -1,4 +1,4 @@
-use Rattle.std.proofs.Common.{refl}
+use Rattle.aprs_mice.proofs.Common.{refl}
 use Rattle.aprs_mice.specs.Reader.{mic_e_or_none, destination_of, position_mark_of, ambiguity_of_spaces}
 use Rattle.aprs_mice.specs.Reader.{longitude_of_octets, motion_of}
 use Rattle.aprs_mice.proofs.Readings.{computed, missed}

@@ -1,4 +1,4 @@
-use Rattle.std.proofs.Common.{refl}
+use Rattle.aprs_report.proofs.Common.{refl}
 use Rattle.aprs_report.specs.Reader.{report_by_form, message_with, addressee_and_part_of, answer_at, text_and_id_of}
 use Rattle.aprs_report.specs.Reader.{cut_end}
 use Rattle.aprs_report.proofs.Readings.{computed}

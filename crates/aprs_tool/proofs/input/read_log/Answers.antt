@@ -1,14 +1,8 @@
-use Rattle.aprs_laws.specs.JoinRow.{single}
-use Rattle.std.proofs.Common.{ap, map, refl, rules, sym, ◌∙◌, ◌++◌, ◌∷◌, [], subst, IfSome, Ok, Err}
-use Rattle.std.proofs.lemmas.Result.{err_from_is_err_and}
-use Rattle.aprs_io.specs.Device.{Calls, End, Going, device_of}
-use Rattle.aprs_io.proofs.Sends.{Calls-none, Calls-then}
+use Rattle.aprs_tool.proofs.Common.{single, ap, map, refl, rules, sym, ◌∙◌, ◌++◌, ◌∷◌, [], subst, IfSome, Ok, Err, err_from_is_err_and, Calls, Going, device_of, Calls-none, Calls-then, receptions_of, current_of, lent_device, Line}
+use Rattle.aprs_io.specs.Device.{End}
 use Rattle.aprs_tool.specs.InputRows.{HoldsOfGot, ReadsLog}
 use Rattle.aprs_tool.specs.declared.fault.InputFault.TheVariants.{Log, Memory}
-use Rattle.aprs_log.specs.LogAnswers.{receptions_of}
 use Rattle.aprs_log.specs.Awaits.{last_of_cause}
-use Rattle.aprs_log.specs.Reader.{current_of, lent_device}
-use Rattle.aprs_log.specs.declared.line.Line.{Line}
 use Rattle.aprs_tool.proofs.Logs.{Took-none, Took-line, Took-ended, Took-fault, Took-refused}
 use Rattle.aprs_tool.proofs.input.read_log.Goals as goal
 

@@ -1,7 +1,4 @@
-use Rattle.std.proofs.Common.{◌≡◌, ◌-◌, ℕ, List, Option, None}
-use Rattle.aprs_io.specs.Device.{Calls, Going, device_of}
-use Rattle.aprs_io.specs.Input.{most_input}
-use Rattle.aprs_log.specs.Reader.{Awaits, line_count_of, loan_of, lent_device, stop_of}
+use Rattle.aprs_tool.proofs.Common.{◌≡◌, ◌-◌, ℕ, List, Option, None, Calls, Going, device_of, most_input, Awaits, line_count_of, loan_of, lent_device, stop_of}
 use Rattle.aprs_tool.proofs.Logs.{Took}
 use Rattle.aprs_tool.proofs.input.read_log.Given as goal
 

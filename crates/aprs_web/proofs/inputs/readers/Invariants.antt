@@ -1,4 +1,4 @@
-use Rattle.std.proofs.Common.{◌≡◌, List, ℕ, map, Some, drop, ◌++◌}
+use Rattle.aprs_web.proofs.Common.{◌≡◌, List, ℕ, map, Some, drop, ◌++◌}
 use Rattle.aprs_web.specs.Runs.{input_texts}
 use Rattle.aprs_web.proofs.inputs.readers.Given as goal
 

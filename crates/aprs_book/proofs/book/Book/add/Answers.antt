@@ -1,14 +1,7 @@
-use Rattle.std.proofs.Common.{◌≡◌, ◌∙◌, ◌∷◌, ◌++◌, [], None, sym, ap, refl, subst}
-use Rattle.aprs_log.specs.Reception.{Received}
-use Rattle.aprs_laws.specs.Gap.{millis_of}
-use Rattle.aprs_laws.specs.Key.{key_of}
-use Rattle.aprs_laws.specs.Row.{Row}
-use Rattle.aprs_laws.specs.Sound.{Sound}
-use Rattle.aprs_rows.specs.Refusal.{refusal}
+use Rattle.aprs_book.proofs.Common.{◌≡◌, ◌∙◌, ◌∷◌, ◌++◌, [], None, sym, ap, refl, subst, Received, millis_of, key_of, Row, Sound, refusal, free_ascends, none_exactly}
 use Rattle.aprs_book.specs.Keyed.{LastKeyIsUpTo}
 use Rattle.aprs_book.specs.Known.{topic_bytes}
 use Rattle.aprs_book.proofs.Taking.{refusal_is}
-use Rattle.aprs_rows.proofs.Refusals.{free_ascends, none_exactly}
 use Rattle.aprs_book.proofs.RefusalEnds.{none_ends_up_to}
 use Rattle.aprs_book.proofs.IndexSteps.{Noted, pushes_indexes}
 use Rattle.aprs_book.proofs.book.Book.add.Goals as goal

@@ -1,7 +1,4 @@
-use Rattle.std.proofs.Common.{◌∙◌, None, map, sym, ap, subst}
-use Rattle.aprs_laws.specs.Gap.{millis_of}
-use Rattle.aprs_laws.specs.Best.{known_of}
-use Rattle.aprs_laws.proofs.Known.{plain_known}
+use Rattle.aprs_book.proofs.Common.{◌∙◌, None, map, sym, ap, subst, millis_of, known_of, plain_known}
 use Rattle.aprs_book.specs.Known.{greatest_of}
 use Rattle.aprs_book.specs.LastKnown.{IsLastKnown}
 use Rattle.aprs_book.specs.Reports.{has_source}

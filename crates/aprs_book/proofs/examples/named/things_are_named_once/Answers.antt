@@ -1,9 +1,4 @@
-use Rattle.std.proofs.Common.{◌≡◌, Bool, true, false, Option, Some, codes, unwrap_or, inl, inr, refl, sym, ap, ◌∙◌, subst}
-use Rattle.aprs_log.specs.Reception.{Received, heard_cmp}
-use Rattle.aprs_laws.specs.Order.{IsBelow, IsUpTo}
-use Rattle.aprs_laws.specs.Key.{key_of}
-use Rattle.aprs_laws.specs.Best.{IsBest}
-use Rattle.aprs_laws.proofs.Orders.{heard_total, up_to_itself}
+use Rattle.aprs_book.proofs.Common.{◌≡◌, Bool, true, false, Option, Some, codes, unwrap_or, inl, inr, refl, sym, ap, ◌∙◌, subst, Received, heard_cmp, IsBelow, IsUpTo, key_of, IsBest, heard_total, up_to_itself}
 use Rattle.aprs_book.specs.declared.lists.named.Named.{Named}
 use Rattle.aprs_book.specs.Names.{Thing, ReportsOf, shown_thing, thing_cmp}
 use Rattle.aprs_book.specs.Examples.{object_at, killed_at, item_at, two_leaders, leader_listed}

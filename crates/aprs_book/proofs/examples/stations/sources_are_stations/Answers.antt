@@ -1,15 +1,4 @@
-use Rattle.std.proofs.Common.{◌≡◌, ℕ, Bool, Option, Some, None, inl, inr, refl, sym, ap, ◌∙◌, subst, arith}
-use Rattle.std.specs.Option.{option_map_or}
-use Rattle.aprs_ax25.specs.Callsign.{Call, call_cmp}
-use Rattle.aprs_log.specs.Reception.{Received}
-use Rattle.aprs_report.specs.Reader.{report_by_form, utc_at, stamp_at, position_of, place_of, plain_of, angle_of, minutes_of, numeral_of}
-use Rattle.aprs_report.specs.Reader.{cut_end}
-use Rattle.aprs_laws.specs.Order.{IsBelow}
-use Rattle.aprs_laws.specs.Key.{Key, key_of}
-use Rattle.aprs_laws.specs.Best.{LastKnown, known_of}
-use Rattle.aprs_laws.specs.BestLaws.{Passes}
-use Rattle.aprs_laws.specs.Examples.{n0call}
-use Rattle.aprs_laws.proofs.Known.{plain_known, known_once}
+use Rattle.aprs_book.proofs.Common.{◌≡◌, ℕ, Bool, Option, Some, None, inl, inr, refl, sym, ap, ◌∙◌, subst, arith, option_map_or, Call, call_cmp, Received, report_by_form, utc_at, stamp_at, position_of, place_of, plain_of, angle_of, minutes_of, numeral_of, cut_end, IsBelow, Key, key_of, LastKnown, known_of, Passes, n0call, plain_known, known_once}
 use Rattle.aprs_book.specs.declared.lists.station.Station.{Station}
 use Rattle.aprs_book.specs.Reports.{reports_position, reports_status}
 use Rattle.aprs_book.specs.Stations.{IsStation}

@@ -1,6 +1,4 @@
-use Rattle.std.proofs.Common.{◌∙◌, None, map, sym, ap}
-use Rattle.std.specs.Option.{option_copied}
-use Rattle.aprs_laws.specs.Best.{known_after, known_of}
+use Rattle.aprs_book.proofs.Common.{◌∙◌, None, map, sym, ap, option_copied, known_after, known_of}
 use Rattle.aprs_book.specs.Known.{greatest_of}
 use Rattle.aprs_book.specs.Reports.{has_source}
 use Rattle.aprs_book.proofs.known.last_known.greatest_from.Goals as goal

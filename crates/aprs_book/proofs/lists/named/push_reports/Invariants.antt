@@ -1,4 +1,4 @@
-use Rattle.std.proofs.Common.{◌≡◌, ◌++◌, map}
+use Rattle.aprs_book.proofs.Common.{◌≡◌, ◌++◌, map}
 use Rattle.aprs_book.specs.Known.{plain_entries}
 use Rattle.aprs_book.specs.NamedRows.{shown_report, reports_in}
 use Rattle.aprs_book.proofs.lists.named.push_reports.Given as goal

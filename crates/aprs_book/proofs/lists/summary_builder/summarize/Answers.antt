@@ -1,4 +1,4 @@
-use Rattle.std.proofs.Common.{◌∙◌, refl, arith}
+use Rattle.aprs_book.proofs.Common.{◌∙◌, refl, arith}
 use Rattle.aprs_book.specs.SummaryBuilder.{IsSummaryOf}
 use Rattle.aprs_book.proofs.Collected.{walk_starts, walk_goes, walk_ends, last_added}
 use Rattle.aprs_book.proofs.Stations.{room_for_one}

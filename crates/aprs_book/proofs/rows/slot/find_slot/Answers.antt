@@ -1,5 +1,4 @@
-use Rattle.std.proofs.Common.{◌∙◌, sym, ap, suc, drop, rules, arith, add-one}
-use Rattle.std.specs.Ordering.{is_gt}
+use Rattle.aprs_book.proofs.Common.{◌∙◌, sym, ap, suc, drop, rules, arith, add-one, is_gt}
 use Rattle.aprs_book.proofs.Searches.{IsFound, found_here, new_at_end, new_before, grows_last, grows_before, bridges}
 use Rattle.aprs_book.proofs.rows.slot.find_slot.Goals as goal
 use Rattle.aprs_book.proofs.rows.slot.find_slot.Goals.{then-i-len-via-then-i-len, then-i-len-via-else-i-len+then-is_gt, then-i-len-2-via-then-i-len-2, then-i-len-2-via-else-i-len-2+then-is_gt-2}

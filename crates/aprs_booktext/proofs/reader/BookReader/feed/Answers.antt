@@ -1,5 +1,4 @@
-use Rattle.std.proofs.Common.{◌+◌, ◌++◌, [], arith, length, subst, append-nil}
-use Rattle.std.proofs.lemmas.Result.{err_from_is_err_and, on_ok_weaker, IfErr-weaker}
+use Rattle.aprs_booktext.proofs.Common.{◌+◌, ◌++◌, [], arith, length, subst, append-nil, err_from_is_err_and, on_ok_weaker, IfErr-weaker}
 use Rattle.aprs_booktext.specs.Reader.{IsFault, HasRead}
 use Rattle.aprs_booktext.proofs.Standing.{Fed-none, Fed-line, Fed-fault, Fed-all, Fed-len, Fed-rest, fault_near}
 use Rattle.aprs_booktext.proofs.reader.BookReader.feed.Goals as goal

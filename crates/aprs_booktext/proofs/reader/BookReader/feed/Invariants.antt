@@ -1,5 +1,4 @@
-use Rattle.std.proofs.Common.{◌+◌, ◌≤◌, length, List}
-use Rattle.aprs_laws.specs.Row.{Row}
+use Rattle.aprs_booktext.proofs.Common.{◌+◌, ◌≤◌, length, List, Row}
 use Rattle.aprs_booktext.specs.Reader.{read_size, HasRead}
 use Rattle.aprs_booktext.proofs.Standing.{Fed}
 use Rattle.aprs_booktext.proofs.reader.BookReader.feed.Given as goal

@@ -1,5 +1,4 @@
-use Rattle.std.proofs.Common.{◌≡◌, inl, refl, ap, arith}
-use Rattle.aprs_log.specs.Reception.{Received}
+use Rattle.aprs_laws.proofs.Common.{◌≡◌, inl, refl, ap, arith, Received}
 use Rattle.aprs_laws.specs.Examples.{rx1, rx2, hi_frame, hi_after_digipeater, reception_at}
 use Rattle.aprs_laws.proofs.examples.joins.joins_take_both.Goals as goal
 

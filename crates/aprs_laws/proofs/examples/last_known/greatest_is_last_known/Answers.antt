@@ -1,4 +1,4 @@
-use Rattle.std.proofs.Common.{inl, refl}
+use Rattle.aprs_laws.proofs.Common.{inl, refl}
 use Rattle.aprs_laws.specs.Examples.{rx1, hi_frame, reception_at}
 use Rattle.aprs_laws.proofs.examples.last_known.greatest_is_last_known.Goals as goal
 

@@ -1,4 +1,4 @@
-use Rattle.std.proofs.Common.{inl, inr, refl, arith}
+use Rattle.aprs_laws.proofs.Common.{inl, inr, refl, arith}
 use Rattle.aprs_laws.specs.Key.{key_of, key_cmp}
 use Rattle.aprs_laws.specs.Taken.{Take}
 use Rattle.aprs_laws.specs.Examples.{rx2, hi_frame, reception_at}

@@ -1,4 +1,4 @@
-use Rattle.std.proofs.Common.{inl, inr, refl, sym, arith}
+use Rattle.aprs_laws.proofs.Common.{inl, inr, refl, sym, arith}
 use Rattle.aprs_laws.specs.Examples.{rx1, rx2, hi_frame, hi_after_digipeater, reception_at, tied_row}
 use Rattle.aprs_laws.proofs.Worked.{same_key, tied_book, other_receiver}
 use Rattle.aprs_laws.proofs.examples.rows.rows_are_whole.Goals as goal

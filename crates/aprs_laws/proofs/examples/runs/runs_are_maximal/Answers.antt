@@ -1,4 +1,4 @@
-use Rattle.std.proofs.Common.{[], ◌∷◌, inl, refl, subst, arith}
+use Rattle.aprs_laws.proofs.Common.{[], ◌∷◌, inl, refl, subst, arith}
 use Rattle.aprs_laws.specs.Key.{Key}
 use Rattle.aprs_laws.specs.Run.{Run}
 use Rattle.aprs_laws.specs.Examples.{rx1, hi_frame, reception_at, near_pair, near_row}

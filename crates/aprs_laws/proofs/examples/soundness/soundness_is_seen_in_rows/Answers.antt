@@ -1,4 +1,4 @@
-use Rattle.std.proofs.Common.{[], ◌∷◌, inl, inr, refl, arith}
+use Rattle.aprs_laws.proofs.Common.{[], ◌∷◌, inl, inr, refl, arith}
 use Rattle.aprs_laws.specs.Examples.{rx1, rx2, hi_frame, reception_at, example_row, early_row, late_row, close_row, far_pair}
 use Rattle.aprs_laws.proofs.Soundness.{sound}
 use Rattle.aprs_laws.proofs.Pushes.{next_of_sound}

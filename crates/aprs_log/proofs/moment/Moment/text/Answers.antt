@@ -1,4 +1,4 @@
-use Rattle.std.proofs.Common.{sym, subst, arith}
+use Rattle.aprs_log.proofs.Common.{sym, subst, arith}
 use Rattle.aprs_log.specs.declared.moment_form.MomentForm.TheVariants.{Millis}
 use Rattle.aprs_log.specs.CivilMoment.{IsMomentTextIn}
 use Rattle.aprs_log.proofs.Moments.{civil_text-moment, text-moment_of, text-writable}

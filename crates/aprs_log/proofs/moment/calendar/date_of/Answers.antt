@@ -1,8 +1,4 @@
-use Rattle.std.proofs.Common.{arith, ap, ◌∙◌, w16, w64, FitsSigned}
-use Rattle.std.proofs.lemmas.Int.{to_z-of_z, to_z_pos}
-use Rattle.jiff_core.specs.Calendar.{days_from_civil}
-use Rattle.jiff_core.proofs.SignedLemmas.{signed_arith}
-use Rattle.jiff_core.proofs.DateLemmas.{civil}
+use Rattle.aprs_log.proofs.Common.{arith, ap, ◌∙◌, w16, w64, FitsSigned, to_z-of_z, to_z_pos, days_from_civil, signed_arith, civil}
 use Rattle.aprs_log.proofs.Days.{years_are, abs_is, IsDay-from, days_after}
 use Rattle.aprs_log.proofs.moment.calendar.date_of.Goals as goal
 

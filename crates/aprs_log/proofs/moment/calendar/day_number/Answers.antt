@@ -1,6 +1,4 @@
-use Rattle.std.proofs.Common.{arith, rules, w8, w16}
-use Rattle.std.proofs.lemmas.Int.{to_z_pos}
-use Rattle.jiff_core.proofs.DateLemmas.{civil}
+use Rattle.aprs_log.proofs.Common.{arith, rules, w8, w16, to_z_pos, civil}
 use Rattle.aprs_log.proofs.Days.{parts_are}
 use Rattle.aprs_log.proofs.moment.calendar.day_number.Goals as goal
 

@@ -1,5 +1,4 @@
-use Rattle.std.proofs.Common.{◌≡◌, Option, None, Some}
-use Rattle.aprs_io.specs.Device.{Calls, device_of}
+use Rattle.aprs_log.proofs.Common.{◌≡◌, Option, None, Some, Calls, device_of}
 use Rattle.aprs_log.specs.ReaderSteps.{Moves, steps_left}
 use Rattle.aprs_log.specs.States.{last_in}
 use Rattle.aprs_log.specs.Reader.{HasLf, current_of, read_ahead_of, line_count_of, loan_of, lent_device, stop_of}

@@ -1,4 +1,4 @@
-use Rattle.std.proofs.Common.{◌∙◌, sym, arith, length-take, ℕ}
+use Rattle.aprs_report.proofs.Common.{◌∙◌, sym, arith, length-take, ℕ}
 use Rattle.aprs_report.specs.TrailingBytes.{is_trailing}
 use Rattle.aprs_report.proofs.Cuts.{cut_one, cut_none, cut_nothing}
 use Rattle.aprs_report.proofs.bytes.Trailing.cut.Goals as goal

@@ -1,4 +1,4 @@
-use Rattle.std.proofs.Common.{◌≡◌, ◌≤◌, length}
+use Rattle.aprs_report.proofs.Common.{◌≡◌, ◌≤◌, length}
 use Rattle.aprs_report.specs.TrailingBytes.{is_trailing}
 use Rattle.aprs_report.specs.Reader.{cut_end}
 use Rattle.aprs_report.proofs.bytes.Trailing.cut.Given as goal

@@ -1,5 +1,4 @@
-use Rattle.std.proofs.Common.{◌∙◌, sym, ap}
-use Rattle.std.specs.Ordering.{is_eq, is_lt}
+use Rattle.aprs_rows.proofs.Common.{◌∙◌, sym, ap, is_eq, is_lt}
 use Rattle.aprs_rows.proofs.Judgements.{first_seen, next_seen, has_it, is_it}
 use Rattle.aprs_rows.proofs.row.judge.is_last_of_ascending.Goals as goal
 

@@ -1,5 +1,4 @@
-use Rattle.std.proofs.Common.{◌≡◌, ◌||◌, ◌∷◌, None, length}
-use Rattle.std.specs.List.{last_or, list_any}
+use Rattle.aprs_rows.proofs.Common.{◌≡◌, ◌||◌, ◌∷◌, None, length, last_or, list_any}
 use Rattle.aprs_rows.specs.Names.{names_in}
 use Rattle.aprs_rows.specs.Refusal.{is_ascending, is_same_name}
 use Rattle.aprs_rows.proofs.row.judge.is_last_of_ascending.Given as goal

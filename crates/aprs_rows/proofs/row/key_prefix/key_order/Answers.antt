@@ -1,5 +1,4 @@
-use Rattle.std.proofs.Common.{◌∙◌, sym}
-use Rattle.aprs_log.specs.Reception.{bytes_cmp}
+use Rattle.aprs_rows.proofs.Common.{◌∙◌, sym, bytes_cmp}
 use Rattle.aprs_rows.proofs.KeyPrefixes.{heads_decide, infos_decide}
 use Rattle.aprs_rows.proofs.row.key_prefix.key_order.Goals as goal
 

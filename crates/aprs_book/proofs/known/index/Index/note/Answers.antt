@@ -1,4 +1,4 @@
-use Rattle.std.proofs.Common.{◌≡◌, ◌∙◌, ap, true, false}
+use Rattle.aprs_book.proofs.Common.{◌≡◌, ◌∙◌, ap, true, false}
 use Rattle.aprs_book.specs.Known.{known_at, plain_entries}
 use Rattle.aprs_book.proofs.KnownSteps.{is_none_there, noted_at}
 use Rattle.aprs_book.proofs.known.index.Index.note.Goals as goal

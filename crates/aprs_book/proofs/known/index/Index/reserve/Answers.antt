@@ -1,5 +1,4 @@
-use Rattle.std.proofs.Common.{◌≡◌, true, false}
-use Rattle.aprs_rows.proofs.Cases.{on_not_err}
+use Rattle.aprs_book.proofs.Common.{◌≡◌, true, false, on_not_err}
 use Rattle.aprs_book.proofs.KnownSteps.{is_there, not_there, placed_same, placed_made}
 use Rattle.aprs_book.proofs.known.index.Index.reserve.Goals as goal
 

@@ -1,8 +1,4 @@
-use Rattle.std.proofs.Common.{◌≡◌, ◌∙◌, refl, ◌∷◌, ◌++◌, [], Option, Some, if◌then◌else◌, List, ℕ, map, ap, subst, sym}
-use Rattle.aprs_log.specs.Reception.{Received}
-use Rattle.aprs_laws.specs.JoinRow.{greater}
-use Rattle.aprs_laws.specs.Best.{LastKnown, greater_known}
-use Rattle.aprs_laws.specs.BestLaws.{Passes}
+use Rattle.aprs_book.proofs.Common.{◌≡◌, ◌∙◌, refl, ◌∷◌, ◌++◌, [], Option, Some, if◌then◌else◌, List, ℕ, map, ap, subst, sym, Received, greater, LastKnown, greater_known, Passes}
 use Rattle.aprs_book.specs.Known.{index_of, has_bytes, known_at, subject_bytes, topic_bytes, is_report_on, greatest_of}
 use Rattle.aprs_book.specs.Notes.{known_with}
 use Rattle.aprs_book.specs.declared.known.notes.Streak.{Streak}

@@ -1,6 +1,4 @@
-use Rattle.std.proofs.Common.{subst}
-use Rattle.aprs_laws.specs.BookValue.{BookValue}
-use Rattle.aprs_laws.specs.Gap.{millis_of}
+use Rattle.aprs_book.proofs.Common.{subst, BookValue, millis_of}
 use Rattle.aprs_book.specs.Exchange.{IsExchangeOf}
 use Rattle.aprs_book.proofs.lists.summary.Summary.messages.Goals as goal
 

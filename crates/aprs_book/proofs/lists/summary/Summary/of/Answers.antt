@@ -1,4 +1,4 @@
-use Rattle.std.proofs.Common.{sym, subst}
+use Rattle.aprs_book.proofs.Common.{sym, subst}
 use Rattle.aprs_book.specs.StationRows.{AreTallies}
 use Rattle.aprs_book.specs.SummaryBuilder.{IsSummaryOf}
 use Rattle.aprs_book.proofs.lists.summary.Summary.of.Goals as goal

@@ -1,7 +1,4 @@
-use Rattle.std.proofs.Common.{◌∙◌, ◌+◌, [], ◌∷◌, ◌++◌, ap, refl}
-use Rattle.aprs_log.specs.Reception.{Received}
-use Rattle.aprs_laws.specs.Key.{key_of}
-use Rattle.aprs_report.specs.Reader.{reading_of}
+use Rattle.aprs_book.proofs.Common.{◌∙◌, ◌+◌, [], ◌∷◌, ◌++◌, ap, refl, Received, key_of, reading_of}
 use Rattle.aprs_book.specs.Known.{report_bytes}
 use Rattle.aprs_book.specs.StationRows.{tally_of}
 use Rattle.aprs_book.proofs.Collected.{adds_last, on_ok}

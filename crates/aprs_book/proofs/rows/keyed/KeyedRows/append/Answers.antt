@@ -1,8 +1,4 @@
-use Rattle.std.proofs.Common.{[], ◌∷◌, ◌++◌, ◌∙◌, sym, ap}
-use Rattle.std.specs.BTreeMap.{insert_entry}
-use Rattle.aprs_log.specs.Reception.{Received}
-use Rattle.aprs_rows.specs.KeyPrefixSteps.{head_cmp}
-use Rattle.aprs_rows.proofs.Cases.{on_not_err, on_err}
+use Rattle.aprs_book.proofs.Common.{[], ◌∷◌, ◌++◌, ◌∙◌, sym, ap, insert_entry, Received, head_cmp, on_not_err, on_err}
 use Rattle.aprs_book.proofs.EntryEnds.{stays, err_stays, count_set, count_insert, goes_after, after_ok, after_err, after_kept, after_new}
 use Rattle.aprs_book.proofs.rows.keyed.KeyedRows.append.Goals as goal
 

@@ -1,11 +1,6 @@
-use Rattle.std.proofs.Common.{[], ◌≡◌, ◌∙◌, sym, ap, subst, true, false, arith}
-use Rattle.aprs_laws.specs.Sound.{Sound}
-use Rattle.aprs_laws.specs.Inserted.{insert_heard, has_place_for}
-use Rattle.std.specs.BTreeMap.{insert_entry}
-use Rattle.aprs_rows.specs.KeyPrefixSteps.{head_cmp}
+use Rattle.aprs_book.proofs.Common.{[], ◌≡◌, ◌∙◌, sym, ap, subst, true, false, arith, Sound, insert_heard, has_place_for, insert_entry, head_cmp, on_not_err, on_err}
 use Rattle.aprs_book.proofs.Searches.{none_sound, found_sound}
 use Rattle.aprs_book.proofs.Entries.{writes, written_ok, written_err, written_keyed, written_in_place, lacks, absent_in_place, absent_done}
-use Rattle.aprs_rows.proofs.Cases.{on_not_err, on_err}
 use Rattle.aprs_book.proofs.EntryEnds.{found_length, count_set, count_insert, inserted_some, filled_insert, written_filled}
 use Rattle.aprs_book.proofs.rows.keyed.KeyedRows.insert.Goals as goal
 

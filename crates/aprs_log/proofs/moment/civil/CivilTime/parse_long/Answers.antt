@@ -1,5 +1,4 @@
-use Rattle.std.proofs.Common.{◌≡◌, ◌+◌, ◌*◌, sym, ap, ◌∙◌, arith}
-use Rattle.std.proofs.lemmas.Slice.Eq.{bytes_eq-Decides}
+use Rattle.aprs_log.proofs.Common.{◌≡◌, ◌+◌, ◌*◌, sym, ap, ◌∙◌, arith, bytes_eq-Decides}
 use Rattle.aprs_log.specs.declared.moment_form.MomentForm.TheVariants.{Millis}
 use Rattle.aprs_log.specs.MomentReading.{civil_text}
 use Rattle.aprs_log.specs.Places.{near_civil, near_millis}

@@ -1,10 +1,5 @@
-use Rattle.std.proofs.Common.{◌≡◌, ◌≤◌, ℕ, List, [], ◌∷◌, OnOk, length, sym, subst}
-use Rattle.std.specs.List.{insert}
+use Rattle.aprs_rows.proofs.Common.{◌≡◌, ◌≤◌, ℕ, List, [], ◌∷◌, OnOk, length, sym, subst, insert, bytes_cmp, ◌∈◌, add, IsUnited}
 use Rattle.aprs_rows.proofs.ReceiverNames.{listed_is_there, kept_ordered, added_is_united, inserted_joins}
-use Rattle.aprs_log.specs.Reception.{bytes_cmp}
-use Rattle.aprs_laws.specs.Lists.{◌∈◌}
-use Rattle.aprs_laws.specs.JoinRow.{add}
-use Rattle.aprs_laws.specs.Joining.{IsUnited}
 use Rattle.aprs_rows.specs.KeptNames.{names_kept}
 use Rattle.aprs_rows.proofs.joining.receivers.Receivers.add.Goals as goal
 

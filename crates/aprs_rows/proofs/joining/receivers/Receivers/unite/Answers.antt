@@ -1,12 +1,4 @@
-use Rattle.std.proofs.Common.{rules, ◌≡◌, ◌∙◌, ℕ, List, sym, ap, subst}
-use Rattle.aprs_log.specs.Reception.{bytes_cmp}
-use Rattle.aprs_laws.specs.Lists.{Ordered}
-use Rattle.aprs_laws.specs.Order.{IsBelow}
-use Rattle.aprs_laws.specs.JoinRow.{union}
-use Rattle.aprs_laws.specs.Merged.{ascending_union}
-use Rattle.aprs_laws.specs.Joining.{IsUnited}
-use Rattle.aprs_laws.proofs.Orders.{bytes_total, bytes_exact}
-use Rattle.aprs_laws.proofs.Merges.{merged_ordered, merged_is_united, merged_is_union}
+use Rattle.aprs_rows.proofs.Common.{rules, ◌≡◌, ◌∙◌, ℕ, List, sym, ap, subst, bytes_cmp, Ordered, IsBelow, union, ascending_union, IsUnited, bytes_total, bytes_exact, merged_ordered, merged_is_united, merged_is_union}
 use Rattle.aprs_rows.specs.KeptNames.{names_kept}
 use Rattle.aprs_rows.proofs.joining.receivers.Receivers.unite.Goals as goal
 

@@ -1,4 +1,4 @@
-use Rattle.std.proofs.Common.{refl, arith}
+use Rattle.aprs_rows.proofs.Common.{refl, arith}
 use Rattle.aprs_rows.proofs.KeyPrefixes.{two_addresses, head_made}
 use Rattle.aprs_rows.proofs.row.key_prefix.KeyPrefix.of.Goals as goal
 
