@@ -4,7 +4,6 @@ ghost use Rattle.std.specs.Option.{option_copied};
 ghost use Rattle.std.specs.Ordering.{is_eq};
 ghost use Rattle.aprs_log.specs.Reception.{bytes_cmp};
 ghost use Rattle.aprs_laws.specs.Best.{greater_known};
-ghost use Rattle.aprs_laws.specs.JoinRow.{greater};
 ghost use Rattle.aprs_laws.specs.Lists.{Ordered};
 ghost use Rattle.aprs_book.specs.Known as Spec;
 
@@ -125,17 +124,7 @@ fn keep(known: &mut Option<Reception>, x: &ReceptionView<'_>)
     ensures { known.new ≡ Some (greater_known known.old x.now) }
 {
     match known {
-        Some(greatest) => keep_greater(greatest, x),
-        None => *known = Some(x.read()),
-    }
-}
-
-/// Puts `x` into the place of `greatest`, if it is greater.
-fn keep_greater(greatest: &mut Reception, x: &ReceptionView<'_>)
-    ensures { greatest.new ≡ greater greatest.old x.now }
-{
-    let current: &Reception = greatest;
-    if ReceptionView::of(current).is_below(x) {
-        *greatest = x.read();
+        Some(greatest) if !x.exceeds(Some(&ReceptionView::of(greatest))) => {}
+        _ => *known = Some(x.read()),
     }
 }

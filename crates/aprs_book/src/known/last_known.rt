@@ -94,8 +94,9 @@ fn known_with<'a>(
     if !x.frame().source().cmp(station).is_eq() {
         return known;
     }
+    let view = ReceptionView::of(x);
     match known {
-        Some(greatest) if !greatest.cmp(x).is_lt() => known,
+        Some(greatest) if !view.exceeds(Some(&ReceptionView::of(greatest))) => known,
         _ => Some(x),
     }
 }
@@ -108,7 +109,7 @@ pub(crate) fn greater<'a>(
     ensures { result ≡ greater_known (option_copied known.entry) x.entry }
 {
     match known {
-        Some(greatest) if !greatest.is_below(&x) => greatest.copy(),
+        Some(greatest) if !x.exceeds(known) => greatest.copy(),
         _ => x,
     }
 }

@@ -1,9 +1,10 @@
 //! A reception in bytes.
-ghost use Rattle.std.specs.Prelude.{◌≡◌, take, drop};
-ghost use Rattle.std.specs.Ordering.{is_lt};
+ghost use Rattle.std.specs.Prelude.{◌≡◌, false, true, Some, take, drop};
+ghost use Rattle.std.specs.Option.{option_copied};
 ghost use Rattle.aprs_ax25.specs.Frame.{FrameOf};
 ghost use Rattle.aprs_ax25.specs.FrameFault.{parts_of};
 ghost use Rattle.aprs_log.specs.Reception.{heard_cmp};
+ghost use Rattle.aprs_laws.specs.Best.{greater_known};
 ghost use Rattle.aprs_laws.specs.Key.{key_of};
 ghost use Rattle.aprs_book.specs.Known.{Topic, subject_bytes, topic_bytes};
 
@@ -112,16 +113,29 @@ impl<'a> ReceptionView<'a> {
         Subject::of(&self.source(), self.info)
     }
 
-    /// Whether this reception is less than the other: by moment, then receiver, then frame.
-    pub(crate) fn is_below(&self, other: &ReceptionView<'_>) -> bool
-        ensures { result ≡ is_lt (heard_cmp self.now other.now) }
+    /// Whether this reception is greater than the one that is known, by moment, then receiver, then
+    /// frame. Where none is known it is.
+    pub(crate) fn exceeds(&self, known: Option<&ReceptionView<'_>>) -> bool
+        ensures kept { result ≡ false
+            → option_copied known.entry ≡ Some (greater_known (option_copied known.entry) self.now) }
+        ensures new { result ≡ true → greater_known (option_copied known.entry) self.now ≡ self.now }
+    {
+        match known {
+            Some(greatest) => greatest.order(self).is_lt(),
+            None => true,
+        }
+    }
+
+    /// The order of two receptions: by moment, then receiver, then frame.
+    fn order(&self, other: &ReceptionView<'_>) -> Ordering
+        ensures { result ≡ heard_cmp self.now other.now }
     {
         match self.moment.cmp(&other.moment) {
             Ordering::Equal => match self.receiver.cmp(other.receiver) {
-                Ordering::Equal => self.frame.cmp(other.frame).is_lt(),
-                unequal => unequal.is_lt(),
+                Ordering::Equal => self.frame.cmp(other.frame),
+                unequal => unequal,
             },
-            unequal => unequal.is_lt(),
+            unequal => unequal,
         }
     }
 
