@@ -116,4 +116,4 @@ two_leaders = item_at 20 ∷ object_at 0 ∷ killed_at 10 ∷ []
 
 -- LEADER in the list, an item or an object.
 abbrev pub leader_listed : Bool → Received → Named
-leader_listed is_item reception_at = record { is_item = is_item; name = lent (codes "LEADER"); reception_at = reception_at }
+leader_listed is_item heard = record { is_item = is_item; name = lent (codes "LEADER"); heard = heard }
