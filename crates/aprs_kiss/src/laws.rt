@@ -1,10 +1,11 @@
-//! What holds of KISS streams whatever calls are made. These functions do nothing: a caller that
-//! makes such a call knows what it ensures.
-ghost use Rattle.std.specs.Prelude.{ℕ, List};
+//! What holds of KISS streams whatever calls are made, and which answers are equal. The functions
+//! that do nothing ensure a law: a caller that makes such a call knows it.
+ghost use Rattle.std.specs.Prelude.{◌≡◌, ◌↔◌, ℕ, List, IsTrue};
 ghost use Rattle.aprs_kiss.specs.Laws as Spec;
+ghost use Rattle.aprs_kiss.specs.Answer.{judgements_in};
 ghost use Rattle.aprs_kiss.specs.Reader.{StandsAfter};
 
-use crate::reader::KissReader;
+use crate::reader::{Fed, KissReader};
 
 /// No two lists of bytes are sent alike, and each nonempty piece of a stream has exactly one
 /// judgement.
@@ -49,3 +50,11 @@ pub fn written_frames_are_read_back()
     ensures long { Spec.ReadBackLong }
     ensures whole { Spec.ReadWhole }
 {}
+
+/// Answers are equal exactly if they say the same: nothing ended, the same frame came on the same
+/// port, wherever its bytes lie, or a piece is passed over for the same fault.
+pub fn equal_answers_say_the_same(a: &Fed<'_>, b: &Fed<'_>) -> bool
+    ensures { IsTrue result ↔ (judgements_in a.now ≡ judgements_in b.now) }
+{
+    a == b
+}

@@ -17,7 +17,8 @@ pub use example::{
 pub use fault::PassFault;
 pub use laws::{
     a_reader_stands_after_some_bytes, a_stream_is_its_pieces, cuts_change_nothing,
-    each_piece_is_judged_once, frame_ends_end_pieces, written_frames_are_read_back,
+    each_piece_is_judged_once, equal_answers_say_the_same, frame_ends_end_pieces,
+    written_frames_are_read_back,
 };
 pub use listen::{Listener, feed_all, feed_in_parts};
 pub use reader::{Fed, KissReader, MAX_FRAME};

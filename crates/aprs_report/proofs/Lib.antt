@@ -10,3 +10,4 @@ pub mod Objects
 pub mod Statuses
 pub mod Messages
 pub mod Readings
+pub mod Equality

@@ -13,7 +13,7 @@ mod report;
 mod stamp;
 mod symbol;
 
-pub use laws::each_field_has_one_reading;
+pub use laws::{each_field_has_one_reading, equal_reports_say_the_same};
 pub use place::{Fraction, Place};
 pub use report::Report;
 pub use stamp::Stamp;
