@@ -227,7 +227,7 @@ module _ {V : Type 0} (rows : V → List Row) where
       (λ o. rw o (ap (λ t. rows e.1 ++ t) (push_absent key es new x n.1 (rw o at found) made)
       ∙ sym (append_assoc (rows e.1) (rows_by_key rows es) (x ∷ []))))
 
-  -- ---- what the code does: x goes after all rows, and k is the head of its key
+  -- ---- what the code does: x goes after all rows, and k is the prefix of its key
 
   pub record IsAfter (x : Row) (k : KeyPrefix) (es : List (KeyPrefix × V)) : Type 0 where
     pub head : HasKeyPrefix k x.greatest.frame
@@ -235,7 +235,7 @@ module _ {V : Type 0} (rows : V → List Row) where
     pub kept : AreKept rows es
     pub ends : LastKeyIsUpTo x (rows_by_key rows es)
 
-  -- the head was made of this frame
+  -- the prefix was made of this frame
   pub goes_after : (x : Row) (f : List ℕ) (k : KeyPrefix) (es : List (KeyPrefix × V)) → HasKeyPrefix k f
       → f ≡ x.greatest.frame → IsStrictlySortedBy head_cmp (keys_of es) → AreKept rows es
       → (all : List Row) → rows_by_key rows es ≡ all → LastKeyIsUpTo x all → IsAfter x k es

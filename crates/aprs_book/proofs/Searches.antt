@@ -1,4 +1,4 @@
--- The place of a reception among the rows of its head, found by halves.
+-- The place of a reception among the rows of its prefix, found by halves.
 use Rattle.aprs_book.proofs.Common.{◌≡◌, ◌∙◌, ℕ, zero, suc, ◌+◌, ◌<◌, ◌≤◌, Bool, true, false, List, [], ◌∷◌, ◌++◌, Some, length, take, drop, get_or, refl, sym, ap, subst, inl, inr, arith, drop_all, IsPartitionedBy, IsPartitionPoint, lookup, is_lt, is_gt, MatchOrdering, Ordering, Less, Equal, Greater, Received, ◌∈◌, Ordered, IsBelow, Row, last_of, row_cmp, single, IsNear, compare_near_to, grow_row, insert_heard, has_place_for, IsFar, Sound, in_right, IsBefore, before_trans, place_means, IsSound, one_relation, sound_prefix, by_order, head_cmp, KeyPrefix}
 use Rattle.std.proofs.lemmas.List.Sorted.{IsPartitionPoint-from_clause}
 use Rattle.std.specs.Fn.{Called, ComputesKey}

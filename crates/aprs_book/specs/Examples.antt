@@ -16,7 +16,7 @@ frame_by ssid info =
     0x82 ∷ 0xA0 ∷ 0xA4 ∷ 0xA6 ∷ 0x40 ∷ 0x40 ∷ 0xE0
     ∷ 0x9C ∷ 0x60 ∷ 0x86 ∷ 0x82 ∷ 0x98 ∷ 0x98 ∷ (0x61 + 2 * ssid) ∷ 0x03 ∷ 0xF0 ∷ info
 
--- That frame, as RX1 reception_at it at a moment.
+-- That frame, as RX1 heard it at a moment.
 abbrev pub heard_by : ℕ → ℕ → List ℕ → Received
 heard_by ssid moment info = reception_at moment rx1 (frame_by ssid info)
 
@@ -39,7 +39,7 @@ hi_message id = message_by 7 (codes "N0CALL-8") (codes "Hi") id
 abbrev pub one : Option (List ℕ)
 one = Some (codes "1")
 
--- That message with the id 1, as it is reception_at.
+-- That message with the id 1, as it is heard.
 abbrev pub asked_at : ℕ → Received
 asked_at moment = heard_by 7 moment (codes ":N0CALL-8 :Hi{1")
 
@@ -77,7 +77,7 @@ status_at ssid moment = heard_by ssid moment (codes ">Hi")
 abbrev pub position_at : ℕ → Received
 position_at moment = heard_by 7 moment (codes "!4903.50N/07201.75W-")
 
--- A status of N0CALL-7, which is reception_at twice in one transmission, its position, and a status of
+-- A status of N0CALL-7, which is heard twice in one transmission, its position, and a status of
 -- N0CALL-8.
 abbrev pub two_stations : List Received
 two_stations = status_at 7 0 ∷ status_at 7 30000 ∷ position_at 0 ∷ status_at 8 0 ∷ []

@@ -71,7 +71,7 @@ may_end (Done v) how.TooLong = false
 may_end Header ending = false
 may_end (Rows v) ending = false
 
--- The cause was found in the text: no read failed, and the limit wasn't passed.
+-- The cause is none of a device: no read failed, and the limit wasn't passed.
 abbrev pub IsOfText : BookCause → Type 0
 IsOfText cause = (cause ≢ why.Read) × (cause ≢ why.TooLong)
 

@@ -148,7 +148,7 @@ impl<A: Allocator + Copy> BookReader<A> {
 
         ensures ok { OnOk result (bytes.now ≡ []) }
 
-        // The fault is that of the text, whatever comes after; or an allocation failed.
+        // The fault is that of the text, whatever comes after.
         ensures fault { IfErr result (λ fault. (before store : List Row) (t more : List ℕ)
             → Spec.HasRead before self.now store t
             → Spec.IsFault (length bytes.now + length more) fault ((t ++ bytes.now) ++ more)) }

@@ -34,7 +34,8 @@ pub enum JobFault {
     /// The arguments are not those of the command, or ask for help or the version: its text says
     /// which.
     Clap(clap::Error),
-    /// The options of `capture` are missing, unreadable or given to another form.
+    /// The options of `capture` are missing, unreadable or given to another form; or the gap of a
+    /// history can't be read.
     Options,
     /// An allocation failed.
     Memory,

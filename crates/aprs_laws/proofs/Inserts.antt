@@ -165,7 +165,7 @@ inserted_is_sound gap pos s rows w =
     sound gap (witnesses rows ++ s ∷ []) (insert_heard gap s rows)
     (inserted_is_book gap (witnesses rows) s rows (witnessed gap rows pos w))
 
--- ---- what changes in compare_near
+-- ---- what changes in place
 
 listed : (r : List ℕ) (xs : List (List ℕ)) → Ordered (IsBelow bytes_cmp) xs → r ∈ xs
     → is_listed r xs ≡ true

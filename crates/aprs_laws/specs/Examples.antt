@@ -59,11 +59,11 @@ abbrev pub example_row : ℕ → List (List ℕ) → Received → Row
 example_row first receivers greatest =
     record { first = first; receivers = receivers; greatest = greatest }
 
--- Received by RX1 at a moment.
+-- Heard by RX1 at a moment.
 abbrev pub by_rx1 : ℕ → Received
 by_rx1 moment = reception_at moment rx1 hi_frame
 
--- Received by RX2 through a digipeater, at moment 0.
+-- Heard by RX2 through a digipeater, at moment 0.
 abbrev pub early : Received
 early = reception_at 0 rx2 hi_after_digipeater
 

@@ -23,7 +23,7 @@ abbrev pub bridge_row : ℕ → Received → Row → List Row → List Row
 bridge_row gap s r [] = r ∷ []
 bridge_row gap s r (x ∷ xs) = choose (compare_near_to gap x s) (r ∷ x ∷ xs) (combine r x ∷ xs) (r ∷ x ∷ xs)
 
--- The rows with one more reception, in its compare_near among them.
+-- The rows with one more reception, in its place among them.
 abbrev pub insert_heard : ℕ → Received → List Row → List Row
 insert_heard gap s [] = single s ∷ []
 insert_heard gap s (r ∷ rows) =

@@ -13,7 +13,7 @@ choose Less a b c = a
 choose Equal a b c = b
 choose Greater a b c = c
 
--- A list in order with x in its compare_near, unless it is there.
+-- A list in order with x in its place, unless it is there.
 abbrev pub add : {X : Type 0} → (X → X → Ordering) → X → List X → List X
 add cmp x [] = x ∷ []
 add cmp x (y ∷ ys) = choose (cmp x y) (x ∷ y ∷ ys) (y ∷ ys) (y ∷ add cmp x ys)

@@ -9,7 +9,7 @@ abbrev pub frame_to : List ℕ → List ℕ → List ℕ
 frame_to destination info = map (λ c. c * 2) destination ++ 0xE0
     ∷ 0x9C ∷ 0x60 ∷ 0x86 ∷ 0x82 ∷ 0x98 ∷ 0x98 ∷ 0x6F ∷ 0x03 ∷ 0xF0 ∷ info
 
--- The row of this frame, which RX1 reception_at once, at moment 0.
+-- The row of this frame, which RX1 heard once, at moment 0.
 abbrev pub heard_once : List ℕ → List ℕ → Row
 heard_once destination info = example_row 0 (rx1 ∷ []) (reception_at 0 rx1 (frame_to destination info))
 

@@ -137,7 +137,7 @@ pub enum Reason {
     Unended,
     /// No byte stands between frame ends.
     NoFrame,
-    /// Two frames or more.
+    /// Two pieces or more, frames or not.
     TwoFrames,
     /// An escape (FESC, DB) that neither DC nor DD follows.
     BadEscape,

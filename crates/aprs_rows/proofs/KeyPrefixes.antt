@@ -1,4 +1,4 @@
--- KeyPrefixes are in order as the keys are, as far as they go.
+-- Prefixes are in order as the keys are, as far as they go.
 use Rattle.aprs_rows.proofs.Common.{◌≡◌, ◌∙◌, ℕ, zero, suc, ◌+◌, ◌*◌, ◌-◌, ◌/◌, ◌%◌, ◌<◌, ◌≤◌, List, [], ◌∷◌, ◌++◌, length, take, drop, replicate, get_or, slice_index, append_assoc, true, refl, sym, ap, arith, w64, from_be_bytes, nat_cmp, ordering_then, Ordering, Less, Equal, Greater, list_all, nat_tests, and_parts, IsTotalOrder, tied_itself, then_total, on_total, nat_cmp_total, length-append, length-replicate, take_at, drop_at, take-take, Parts, FrameOf, address_field, call_of, parts_of, FrameOf-IsSound, bytes_cmp, Key, ordering_then_assoc}
 use Rattle.aprs_laws.specs.Key.{key_of, key_cmp}
 use Rattle.std.proofs.lemmas.Map.Lookups.{CmpEqualImpliesEq, exact_pairs, exact_unsigned}
@@ -90,7 +90,7 @@ call_number_cmp a b h k =
     ∙ spaced_cmp a.letters b.letters (6 - length a.letters) (6 - length b.letters) a.ssid b.ssid
     (omega (arith, h.most, k.most)) h.bytes k.bytes
 
--- ---- heads
+-- ---- prefixes
 
 key_head : (a b : Key) → IsCall a.source → IsCall b.source → IsCall a.destination
     → IsCall b.destination → Bytes a.info → Bytes b.info
@@ -107,7 +107,7 @@ key_head a b s t d e h k =
       first_then_all 8 a.info b.info,
     ) refl
 
--- the heads of frames decide as their keys do, and where they are equal the information decides
+-- the prefixes of frames decide as their keys do, and where they are equal the information decides
 pub head_then_info : (f g : List ℕ) → FrameOf (parts_of f) f → FrameOf (parts_of g) g
     → ((i : ℕ) → get_or (key_of f).info i 0 < 256) → ((i : ℕ) → get_or (key_of g).info i 0 < 256)
     → ordering_then (head_cmp (key_prefix_of (key_of f)) (key_prefix_of (key_of g)))
@@ -118,7 +118,7 @@ head_then_info f g p q h k =
     key_head (key_of f) (key_of g) p.parts.source.call q.parts.source.call
     p.parts.destination.call q.parts.destination.call h k
 
--- ---- how code makes a head
+-- ---- how code makes a prefix
 
 half_double : (xs : List ℕ) → half (double xs) ≡ xs
 half_double [] = refl
@@ -192,7 +192,7 @@ decided Less r n = refl
 decided Equal r n = absurd (n refl)
 decided Greater r n = refl
 
--- heads decide, and where they are equal the information does
+-- prefixes decide, and where they are equal the information does
 pub head_and_info : (f g : List ℕ) (h k : KeyPrefix) → HasKeyPrefix h f → HasKeyPrefix k g
     → ordering_then (head_cmp h k) (bytes_cmp (parts_of f).info (parts_of g).info)
     ≡ key_cmp (key_of f) (key_of g)
@@ -202,7 +202,7 @@ head_and_info f g h k a b =
     (bytes_cmp (parts_of f).info (parts_of g).info))
     ∙ head_then_info f g a.frame b.frame a.bytes b.bytes
 
--- heads that differ decide
+-- prefixes that differ decide
 pub heads_decide : (f g : List ℕ) (h k : KeyPrefix) → HasKeyPrefix h f → HasKeyPrefix k g
     → (head_cmp h k ≡ Equal → ⊥) → head_cmp h k ≡ key_cmp (key_of f) (key_of g)
 heads_decide f g h k a b n =
@@ -227,7 +227,7 @@ pub head_greater : (f g : List ℕ) (h k : KeyPrefix) → HasKeyPrefix h f → H
 head_greater f g h k a b e =
     sym (heads_decide f g h k a b (λ n. let no : Greater ≡ Equal = sym e ∙ n in cc)) ∙ e
 
--- ---- the order of heads
+-- ---- the order of prefixes
 
 pub head_total : IsTotalOrder head_cmp
 head_total =

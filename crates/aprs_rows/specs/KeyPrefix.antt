@@ -1,4 +1,4 @@
--- KeyPrefixes of keys.
+-- Prefixes of keys.
 use Rattle.std.specs.Prelude.{◌≡◌, ℕ, ◌<◌, List, [], ◌∷◌, ◌++◌, slice_index}
 use Rattle.std.specs.Int.{w64, from_be_bytes}
 use Rattle.aprs_ax25.specs.Callsign.{Call}
@@ -12,7 +12,7 @@ use Rattle.aprs_rows.specs.declared.row.key_prefix.KeyPrefix.{KeyPrefix}
 abbrev pub call_number : Call → ℕ
 call_number call = from_be_bytes w64 (0 ∷ letters_and_spaces call.letters ++ call.ssid ∷ [])
 
--- The head of a key: the numbers of the callsigns, and of the first eight bytes of the information,
+-- The prefix of a key: the numbers of the callsigns, and of the first eight bytes of the information,
 -- base 256. `from_be_bytes` reads zeros where there are fewer.
 unfoldable pub key_prefix_of : Key → KeyPrefix
 key_prefix_of key = record {
@@ -21,7 +21,7 @@ key_prefix_of key = record {
   info = from_be_bytes w64 key.info;
 }
 
--- The bytes are a frame, and this is the head of its key.
+-- The bytes are a frame, and this is the prefix of its key.
 pub record HasKeyPrefix (h : KeyPrefix) (f : List ℕ) : Type 0 where
   pub frame : FrameOf (parts_of f) f
   pub bytes : (i : ℕ) → slice_index (parts_of f).info i < 256

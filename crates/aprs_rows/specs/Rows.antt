@@ -16,7 +16,7 @@ use Rattle.aprs_rows.specs.Told.{IsTold}
 use Rattle.aprs_rows.specs.declared.store.entry.Entry.{Entry}
 use Rattle.aprs_rows.specs.declared.row.key_prefix.KeyPrefix.{KeyPrefix}
 
--- The head is that of the key of this frame, whose information begins at a place.
+-- The prefix is that of the key of this frame, whose information begins at a place.
 pub record HasKey (h : KeyPrefix) (place : ℕ) (frame : List ℕ) : Type 0 where
   pub within : place ≤ length frame
   pub info : drop place frame ≡ (parts_of frame).info
@@ -62,7 +62,7 @@ AreRowsIn entries bytes = AllByRecursion (λ e. IsRowIn e (bytes_of e bytes)) en
 abbrev pub info_of : Entry → List ℕ → List ℕ
 info_of e bytes = drop (e.receivers + (e.receiver + e.info_at)) (bytes_of e bytes)
 
--- Entries are ordered by their heads, then by the information, then by the first moment.
+-- Entries are ordered by their prefixes, then by the information, then by the first moment.
 abbrev pub entry_cmp : List ℕ → Entry → Entry → Ordering
 entry_cmp bytes = then_cmp (on (λ e. e.head) head_cmp)
     (then_cmp (on (λ e. info_of e bytes) bytes_cmp) (on (λ e. e.first) nat_cmp))

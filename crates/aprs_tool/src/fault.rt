@@ -81,7 +81,8 @@ pub enum RunFault {
     /// The output was refused.
     #[error("cannot write")]
     Write,
-    /// An allocation failed for what the run shows, or for the book that it widens.
+    /// An allocation failed for what the run shows, or for the book that it widens or tells the
+    /// history of.
     #[error("out of memory")]
     Memory,
 }

@@ -44,7 +44,7 @@ impl<A: Allocator> Model for Gathered<A> {
     ghost invariant = { λ g. IsGap g.gap };
 }
 
-/// Why the book of the gathered rows, or its listing, isn't written.
+/// Why the book of the gathered rows, its listing or its history isn't written.
 #[derive(Debug, Drop)]
 pub(crate) enum OutputFault {
     /// An allocation failed, before the first byte.

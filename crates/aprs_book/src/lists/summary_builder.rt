@@ -26,7 +26,7 @@ pub(crate) struct SummaryBuilder<'t, A: Allocator = Global> {
 }
 
 impl<'t, A: Allocator + Copy> SummaryBuilder<'t, A> {
-    /// The builder of no rows. Takes no memory.
+    /// A builder of no rows. Takes no memory.
     fn new(alloc: A) -> SummaryBuilder<'t, A>
         ensures { IsSummaryOf [] result }
     {
@@ -60,7 +60,7 @@ impl<'t, A: Allocator + Copy> SummaryBuilder<'t, A> {
     }
 }
 
-/// The builder of the rows of a store, in one pass over them. `len` has to be their number: so no
+/// A builder of the rows of a store, in one pass over them. `len` has to be their number: so no
 /// station's number of rows overflows.
 pub(crate) fn summarize<'t, A: Allocator + Copy>(
     alloc: A,

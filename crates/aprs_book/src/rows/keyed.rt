@@ -1,4 +1,4 @@
-//! The rows of a book by the heads of their keys.
+//! The rows of a book by the prefixes of their keys.
 ghost use Rattle.std.specs.Prelude.{◌≡◌, ◌+◌, [], ◌∷◌, ◌++◌, length, true, IsOk, IfOk, OnOk, OnErr};
 ghost use Rattle.aprs_book.specs.Keyed.{LastKeyIsUpTo, IsEndOf};
 ghost use Rattle.aprs_rows.specs.Refusal.{refusal};
@@ -17,8 +17,8 @@ use std::alloc::{Allocator, Global};
 use std::collections::{BTreeMap, VecDeque};
 use std::marker::Model;
 
-/// The rows of a book in a map: under each head (the beginning of a key, as numbers) lie the rows
-/// whose keys have that head, in order. No head is without rows. KeyPrefixes lie in the map itself, so
+/// The rows of a book in a map: under each prefix (the beginning of a key, as numbers) lie the rows
+/// whose keys have that prefix, in order. No prefix is without rows. Prefixes lie in the map itself, so
 /// that most keys are told apart without a look at their frames.
 pub(crate) struct KeyedRows<A: Allocator = Global> {
     map: BTreeMap<KeyPrefix, VecDeque<KeptRow<A>, A>, A>,
@@ -82,7 +82,7 @@ impl<A: Allocator + Copy> KeyedRows<A> {
         Walk::of(self.map.values())
     }
 
-    /// Rows of the last head, with which all rows end; or no rows, where there are none at all.
+    /// Rows of the last prefix, with which all rows end; or no rows, where there are none at all.
     fn last_rows(&self) -> &[KeptRow<A>]
         ensures { IsEndOf result.now self.now }
     {
@@ -160,7 +160,7 @@ fn last_part<A: Allocator + Copy>(rows: &VecDeque<KeptRow<A>, A>) -> &[KeptRow<A
     back
 }
 
-/// Puts a row after the others of its head, and adds 1 to `count`, the number of the rows of all
+/// Puts a row after the others of its prefix, and adds 1 to `count`, the number of the rows of all
 /// keys. `Memory` is also returned where `count` has no room. After it both are as before.
 fn push_one<A: Allocator + Copy>(
     rows: &mut VecDeque<KeptRow<A>, A>,

@@ -23,7 +23,7 @@ pub(crate) enum Slot {
     Two(usize),
 }
 
-/// The slot of a reception among the rows whose keys have the head of its key, by binary search.
+/// The slot of a reception among the rows whose keys have the prefix of its key, by binary search.
 /// The rows have to be sound; so at most two of them are near to it.
 pub(crate) fn find_slot<A: Allocator + Copy>(
     gap: Millis,
@@ -43,7 +43,7 @@ pub(crate) fn find_slot<A: Allocator + Copy>(
     Slot::Two(i)
 }
 
-/// Adds a reception to the sound rows of its head: it becomes a new row, or a near row grows, or
+/// Adds a reception to the sound rows of its prefix: it becomes a new row, or a near row grows, or
 /// two near rows become one. `count`, the number of the rows of all keys, rises or falls with
 /// them. What needs memory is made before the first change: after `Memory` both are as before.
 pub(crate) fn put<A: Allocator + Copy>(

@@ -1,4 +1,4 @@
-//! The walk over the rows of a book, head by head.
+//! The walk over the rows of a book, prefix by prefix.
 ghost use Rattle.std.specs.Prelude.{◌≡◌, List};
 ghost use Rattle.std.specs.List.{flat_map};
 ghost use Rattle.std.specs.Iterator.{YieldsFirstRef, item_count};
@@ -11,7 +11,7 @@ use std::collections::btree_map::Values;
 use std::marker::Model;
 
 /// The rows that are still to come, in order, as a book keeps them: what is left of the rows of
-/// one head, which lie in two slices, then the rows of all further heads.
+/// one prefix, which lie in two slices, then the rows of all further prefixes.
 #[derive(Drop)]
 pub(crate) struct Walk<'a, A: Allocator = Global> {
     rows: &'a [KeptRow<A>],
@@ -30,7 +30,7 @@ impl<'a, A: Allocator> Model for Walk<'a, A> {
 }
 
 impl<'a, A: Allocator> Walk<'a, A> {
-    /// A walk over the rows of each head, one after another.
+    /// A walk over the rows of each prefix, one after another.
     pub(crate) fn of(others: Values<'a, KeyPrefix, VecDeque<KeptRow<A>, A>>) -> Walk<'a, A>
         ensures { result ≡ flat_map (λ v. v.items) others.entry }
     {

@@ -18,7 +18,7 @@ pub fn soundness_is_seen_in_rows()
     ensures misses_near_next { IsNext half_minute (early_row ∷ []) close_row → ⊥ }
 {}
 
-/// The witnesses of a row are made up of it, so that what was really reception_at need not be among them.
+/// The witnesses of a row are made up of it, so that what was really heard need not be among them.
 pub fn witnesses_are_made_up()
     ensures witnesses { witnesses (short_row ∷ [])
         ≡ by_rx1 0 ∷ by_rx1 1 ∷ by_rx1 0 ∷ reception_at 0 rx2 hi_frame ∷ [] }

@@ -1,4 +1,4 @@
-//! KeyPrefixes of keys: numbers that are compared before the keys themselves.
+//! Prefixes of keys: numbers that are compared before the keys themselves.
 ghost use Rattle.std.specs.Prelude.{◌≡◌, ℕ, ◌<◌, List, length, slice_index};
 ghost use Rattle.std.specs.Int.{w64, from_be_bytes};
 ghost use Rattle.aprs_ax25.specs.Frame.{FrameOf};
@@ -10,8 +10,8 @@ ghost use Rattle.aprs_rows.specs.KeyPrefixSteps.{octets_number};
 use aprs_ax25::Frame;
 use std::cmp::Ordering;
 
-/// The head of a frame's key: the numbers of its source, of its destination and of the first eight
-/// bytes of its information. Where two heads differ, they are in the order of their keys.
+/// The prefix of a frame's key: the numbers of its source, of its destination and of the first eight
+/// bytes of its information. Where two prefixes differ, they are in the order of their keys.
 #[derive(Clone, Copy, PartialEq, Eq, PartialOrd, Ord)]
 pub struct KeyPrefix {
     source: u64,
@@ -20,20 +20,20 @@ pub struct KeyPrefix {
 }
 
 impl KeyPrefix {
-    /// The head of the frame's key. Takes no memory.
+    /// The prefix of the frame's key. Takes no memory.
     pub fn of_frame(frame: &Frame) -> KeyPrefix
         ensures { HasKeyPrefix result frame.now }
     {
         KeyPrefix::of(frame.bytes(), frame.info())
     }
 
-    /// The head of the key of a frame, from the frame's bytes and its information.
+    /// The prefix of the key of a frame, from the frame's bytes and its information.
     #[tactic(auto, unfolding(aprs_laws::specs::Key::key_of))]
     pub(crate) fn of(frame: &[u8], info: &[u8]) -> KeyPrefix
         requires frame { FrameOf (parts_of frame.now) frame.now }
         requires info { info.now ≡ (parts_of frame.now).info }
         ensures value { result ≡ key_prefix_of (key_of frame.now) }
-        // Needed where heads are compared: the information's bytes are digits of its number.
+        // Needed where prefixes are compared: the information's bytes are digits of its number.
         ensures bytes { (i : ℕ) → slice_index (parts_of frame.now).info i < 256 }
     {
         KeyPrefix {
@@ -44,7 +44,7 @@ impl KeyPrefix {
     }
 }
 
-/// The order of the keys of two frames, from the head of each key and the information of each
+/// The order of the keys of two frames, from the prefix of each key and the information of each
 /// frame.
 pub(crate) fn key_order(
     head: KeyPrefix,

@@ -34,7 +34,7 @@ pub struct RowView<'a> {
     frame: &'a [u8],
     /// Where the frame's information begins.
     info_at: u8,
-    /// The head of the frame's key.
+    /// The prefix of the frame's key.
     head: KeyPrefix,
 }
 
@@ -261,7 +261,7 @@ impl<'a> RowView<'a> {
         }
     }
 
-    /// The head of the key: numbers that are compared before the keys themselves.
+    /// The prefix of the key: numbers that are compared before the keys themselves.
     fn head(&self) -> KeyPrefix
         ensures { HasKeyPrefix result self.now.greatest.frame }
     {

@@ -6,7 +6,7 @@ use crate::row::key_prefix::KeyPrefix;
 use aprs_log::Moment;
 use std::cmp::Ordering;
 
-/// The head of a row's key, its first and its last moment, where its bytes begin, and how many
+/// The prefix of a row's key, its first and its last moment, where its bytes begin, and how many
 /// bytes the text of its receivers, the name of the greatest reception's receiver and its frame
 /// have, and those of that frame before its information.
 #[derive(Clone, Copy)]

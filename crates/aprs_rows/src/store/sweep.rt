@@ -217,7 +217,7 @@ fn close<'a, A: Allocator>(
 }
 
 /// Puts the text of the open rows' names, each once and ascending, after the other texts, or
-/// nothing where a single row is open. Sorts `names` in compare_near.
+/// nothing where a single row is open. Sorts `names` in place.
 fn put_names<A: Allocator>(
     texts: &mut Vec<u8, A>,
     latest: &Open<'_>,
