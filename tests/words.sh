@@ -41,12 +41,12 @@ options() {
 arms aprs_report/src/report.rt 'impl<' > "$scratch/program/kinds"
 heard=aprs_listing/src/heard_line.rt
 {
-    calls aprs_listing/src/views.rt 'put_\w+'
+    calls aprs_listing/src/listing.rt 'put_\w+'
     calls $heard 'put_\w+'
 } > "$scratch/program/listed"
 sed -n 's/.*if live { b"\([a-z]*\)" } else { b"\([a-z]*\)" }.*/\1 \2/p' "crates/$heard" |
     tr ' ' '\n' > "$scratch/program/object_states"
-arms aprs_listing/src/views.rt 'fn state_text' > "$scratch/program/message_states"
+arms aprs_listing/src/listing.rt 'fn state_text' > "$scratch/program/message_states"
 arms aprs_log/src/fault.rt 'impl Reason {' > "$scratch/program/reasons"
 # a failed allocation is reported by a message of its own
 arms aprs_log/src/fault.rt 'impl LogCause {' | sed '/^Memory$/d' > "$scratch/program/log_causes"

@@ -7,8 +7,8 @@ use std::alloc::{AllocError, Allocator};
 use std::cell::Cell;
 
 /// An allocator of a region of memory. Each block lies right after the one before it, begins at a
-/// multiple of 16, and is never used again: what a collection gives back stays unused. Where a block
-/// is longer than what is left, the allocation fails, and a shorter one may still succeed.
+/// multiple of 16, and is never used again: what a collection gives back stays unused. Where a
+/// block is longer than what is left, the allocation fails, and a shorter one may still succeed.
 /// Collections hold a `&` to the arena.
 #[derive(Drop)]
 pub struct Arena {

@@ -4,7 +4,7 @@ use Rattle.std.proofs.Common.{◌≡◌, ℕ, ◌+◌, ◌-◌, ◌*◌, ◌/◌
 use Rattle.std.specs.List.{list_all, position_or_len}
 use Rattle.std.proofs.lemmas.List.{length-take-le, length-map, length-append, length-replicate, map-append, length-drop, take_at, drop_at, take_all, take_more, take-take, get_or_at}
 use Rattle.std.proofs.lemmas.List.Folds.{list_all-append}
-use Rattle.std.proofs.lemmas.Bool.{and_parts, and_from, ltb-true, lt-ltb, eqb-true, ne_eqb}
+use Rattle.std.proofs.lemmas.Bool.{and_parts, and_from, lt-ltb, eqb-true, ne_eqb}
 use Rattle.aprs_ax25.specs.Callsign.{is_callsign_byte}
 use Rattle.aprs_ax25.specs.Address.{Address, IsAddress, letters_and_spaces, address_octets}
 use Rattle.aprs_ax25.specs.FrameFault.{ends_field, letters_len, is_no_letter, is_space_octet, has_callsign, address_of}

@@ -2,7 +2,7 @@
 use Rattle.std.proofs.Common.{◌≡◌, ◌⊎◌, ℕ, ◌+◌, ◌-◌, ◌%◌, ◌≤◌, ◌<◌, ◌==◌, inl, inr, List, [], ◌∷◌, ◌++◌, length, take, drop, Bool, true, false, not, cond, ◌&&◌, nat_le, None, Some, is_none, add-zero, arith, sym, ap, ◌∙◌, refl, slice_index, subst, take-append-drop}
 use Rattle.std.specs.Fmt.{decimal}
 use Rattle.std.specs.Str.{IsAscii}
-use Rattle.std.specs.List.{list_all, position_or_len, before_first}
+use Rattle.std.specs.List.{list_all, position_or_len}
 use Rattle.std.proofs.lemmas.Fmt.{IsAscii-decimal}
 use Rattle.std.proofs.lemmas.Str.{IsAscii-append}
 use Rattle.std.proofs.lemmas.Str.Ascii.{IsAscii-nil, IsAscii-cons}
@@ -12,8 +12,8 @@ use Rattle.std.proofs.lemmas.List.Folds.{length-prefix_len}
 use Rattle.std.proofs.lemmas.List.Sums.{passes_at_first}
 use Rattle.std.proofs.lemmas.Bool.{and_parts, and_from, leb-true, le-leb, eqb-true, ne_eqb, cases_lt}
 use Rattle.aprs_ax25.specs.Callsign.{Call, IsCall, is_callsign_byte, call_text, ssid_text}
-use Rattle.aprs_ax25.specs.CallText.{CallText, SsidText, IsWrongCall, FirstCallFault, is_dash, before_dash, from_dash}
-use Rattle.aprs_ax25.specs.Scan.{ssid_of, is_wrong_call, call_fault}
+use Rattle.aprs_ax25.specs.CallText.{SpellsCall, NamesSsid, IsWrongCall, FirstCallFault, is_dash, before_dash, from_dash}
+use Rattle.aprs_ax25.specs.Scan.{ssid_of, has_call_fault, call_fault}
 use Rattle.aprs_ax25.specs.Fault.{call_fault_number}
 use Rattle.aprs_ax25.specs.declared.fault.CallFault.{CallFault}
 use Rattle.aprs_ax25.specs.declared.fault.CallFault.TheVariants.{Length, Character, Ssid}
@@ -92,7 +92,7 @@ ssid_of-ssid_text s h =
     ]
 
 -- so the SSIDs that are found are those whose text it is
-pub SsidText-ssid_of : (s : ℕ) (d : List ℕ) → SsidText s d → ssid_of d ≡ Some s
+pub SsidText-ssid_of : (s : ℕ) (d : List ℕ) → NamesSsid s d → ssid_of d ≡ Some s
 SsidText-ssid_of s d h = ap ssid_of h.spelled ∙ ssid_of-ssid_text s h.range
 
 -- ---- text that has no fault
@@ -116,10 +116,10 @@ from_dash-first text h =
 
 pub call_fault-CallText : (text : List ℕ) (s : ℕ) → call_fault text ≡ None
     → ssid_of (from_dash text) ≡ Some s
-    → CallText (record { letters = before_dash text; ssid = s }) text
+    → SpellsCall (record { letters = before_dash text; ssid = s }) text
 call_fault-CallText text s h e =
-    let size = cond-None (is_wrong_call Length text) _ _ h in
-    let bytes = cond-None (is_wrong_call Character text) _ _ size.1 in
+    let size = cond-None (has_call_fault Length text) _ _ h in
+    let bytes = cond-None (has_call_fault Character text) _ _ size.1 in
     let n = length (before_dash text) in
     let within = and_parts (nat_le 1 n) (nat_le n 6) (not-false _ size.0) in
     let ssid = ssid_of-Some s (from_dash text) (from_dash-first text) e in
@@ -152,7 +152,7 @@ ssid_dash s = elim (s == 0) as
     (λ b. position_or_len is_dash (cond b [] (45 ∷ decimal s)) ≡ 0)
     [ true ↦ refl | false ↦ refl ]
 
-module _ (c : Call) (text : List ℕ) (h : CallText c text) where
+module _ (c : Call) (text : List ℕ) (h : SpellsCall c text) where
   place : position_or_len is_dash text ≡ length c.letters
   place = ap (position_or_len is_dash) h.spelled ∙ no_dash c.letters (ssid_text c.ssid) h.call.bytes
       ∙ ap (λ n. length c.letters + n) (ssid_dash c.ssid) ∙ omega arith
@@ -172,13 +172,13 @@ module _ (c : Call) (text : List ℕ) (h : CallText c text) where
   pub CallText-call_fault : call_fault text ≡ None
   CallText-call_fault =
       let n = length c.letters in
-      let size : is_wrong_call Length text ≡ false =
+      let size : has_call_fault Length text ≡ false =
       ap (λ l. not (nat_le 1 (length l) && nat_le (length l) 6)) before_dash-is
       ∙ ap not (and_from (nat_le 1 n) (nat_le n 6) (le-leb 1 n h.call.some)
       (le-leb n 6 h.call.most)) in
-      let bytes : is_wrong_call Character text ≡ false =
+      let bytes : has_call_fault Character text ≡ false =
       ap (λ l. not (list_all is_callsign_byte l)) before_dash-is ∙ ap not h.call.bytes in
-      let ssid : is_wrong_call Ssid text ≡ false = ap is_none ssid-is in
+      let ssid : has_call_fault Ssid text ≡ false = ap is_none ssid-is in
       rw (size, bytes, ssid) refl
 
   -- the text says which callsign it is of
@@ -190,7 +190,7 @@ module _ (c : Call) (text : List ℕ) (h : CallText c text) where
 
 -- ---- text that has a fault
 
-no-SsidText : (d : List ℕ) → is_none (ssid_of d) ≡ true → (s : ℕ) → SsidText s d → ⊥
+no-SsidText : (d : List ℕ) → is_none (ssid_of d) ≡ true → (s : ℕ) → NamesSsid s d → ⊥
 no-SsidText d h s t = let e : true ≡ false = sym h ∙ ap is_none (SsidText-ssid_of s d t) in cc
 
 too-short-or-long : (n : ℕ) → not (nat_le 1 n && nat_le n 6) ≡ true → (n ≡ 0) ⊎ (6 < n)
@@ -227,19 +227,19 @@ module _ (text : List ℕ) where
   before-Length Character h = absurd (omega arith)
   before-Length Ssid h = absurd (omega arith)
 
-  before-Character : is_wrong_call Length text ≡ false → not-before Character
+  before-Character : has_call_fault Length text ≡ false → not-before Character
   before-Character a Length h = in-range (length (before_dash text)) a
   before-Character a Character h = absurd (omega arith)
   before-Character a Ssid h = absurd (omega arith)
 
-  before-Ssid : is_wrong_call Length text ≡ false → is_wrong_call Character text ≡ false
+  before-Ssid : has_call_fault Length text ≡ false → has_call_fault Character text ≡ false
       → not-before Ssid
   before-Ssid a b Length h = in-range (length (before_dash text)) a
   before-Ssid a b Character h = λ w. let e : true ≡ false = sym (not-false _ b) ∙ w in cc
   before-Ssid a b Ssid h = absurd (omega arith)
 
-  found : (fault : CallFault) (a b c : Bool) → is_wrong_call Length text ≡ a
-      → is_wrong_call Character text ≡ b → is_wrong_call Ssid text ≡ c
+  found : (fault : CallFault) (a b c : Bool) → has_call_fault Length text ≡ a
+      → has_call_fault Character text ≡ b → has_call_fault Ssid text ≡ c
       → cond a (Some Length) (cond b (Some Character) (cond c (Some Ssid) None)) ≡ Some fault
       → FirstCallFault text fault
   found fault true b c p q r h =

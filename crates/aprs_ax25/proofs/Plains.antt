@@ -4,7 +4,7 @@ use Rattle.std.specs.List.{list_all, position_or_len}
 use Rattle.std.proofs.lemmas.List.{length-take-le, length-drop, take-take, drop-drop, drop-take, get_or-take, get_or-drop, drop_more}
 use Rattle.std.proofs.lemmas.Bool.{and_parts, and_from, eqb-true, ne_eqb, le-leb, leb-true, lt-ltb, lt-leb, cases_lt}
 use Rattle.aprs_ax25.specs.Callsign.{is_callsign_byte}
-use Rattle.aprs_ax25.specs.FrameFault.{ends_field, field_len, field_of, after_field, is_field_len, sevens, has_callsign, is_no_letter, is_space_octet, letters_len, is_wrong, frame_fault}
+use Rattle.aprs_ax25.specs.FrameFault.{ends_field, field_len, field_of, after_field, is_field_len, sevens, has_callsign, is_no_letter, is_space_octet, letters_len, has_frame_fault, frame_fault}
 use Rattle.aprs_ax25.specs.declared.fault.FrameFault.TheVariants.{Address, Callsign}
 use Rattle.aprs_ax25.specs.Plain.{is_letter_octet, letters_then_spaces, may_follow, IsPlainAddress}
 use Rattle.aprs_ax25.specs.Scan.{fault_after_field}
@@ -373,7 +373,7 @@ module _ (count : ℕ) (bytes rest address after : List ℕ) (held : ArePlain co
         ∙ ap (λ x. take 7 l ∷ sevens m x) (drop-take 7 (7 * m) l)
         ∙ ap (λ x. take 7 l ∷ x) (sevens-take m (drop 7 l))
 
-    all-callsigns : is_wrong Callsign bytes ≡ false
+    all-callsigns : has_frame_fault Callsign bytes ≡ false
     all-callsigns =
         let n : 7 * count + 7 ≡ 7 * (count + 1) = omega arith in
         let field : field_of bytes ≡ take (7 * (count + 1)) bytes =
@@ -394,7 +394,7 @@ module _ (count : ℕ) (bytes rest address after : List ℕ) (held : ArePlain co
         let e = ends-here in
         let w = within-bytes in
         let seven : n % 7 ≡ 0 = omega arith in
-        let address_fine : is_wrong Address bytes ≡ false =
+        let address_fine : has_frame_fault Address bytes ≡ false =
         ap not (and_from (nat_le n (length bytes)) (is_field_len n)
         (le-leb n (length bytes) (omega arith))
         (and_from (n % 7 == 0 && nat_le 14 n) (nat_le n 70)

@@ -3,7 +3,7 @@ use Rattle.std.proofs.Common.{◌≡◌, ℕ, ◌/◌, ◌≤◌, ◌<◌, suc, 
 use Rattle.std.specs.List.{list_all}
 use Rattle.std.proofs.lemmas.List.{length-drop}
 use Rattle.std.proofs.lemmas.Bool.{lt-ltb}
-use Rattle.aprs_ax25.specs.FrameFault.{letters_len, has_callsign, is_space_octet, sevens, is_wrong, frame_fault, after_field}
+use Rattle.aprs_ax25.specs.FrameFault.{letters_len, has_callsign, is_space_octet, sevens, has_frame_fault, frame_fault, after_field}
 use Rattle.aprs_ax25.specs.Scan.{fault_after_field}
 use Rattle.aprs_ax25.specs.declared.fault.FrameFault.TheVariants.{Address, Callsign}
 
@@ -25,7 +25,7 @@ sevens-more bytes h =
     omega (arith, length-drop 7 bytes) in
     ap (λ n. sevens n bytes) e
 
-pub frame_fault-after : (bytes : List ℕ) → is_wrong Address bytes ≡ false → is_wrong Callsign bytes
+pub frame_fault-after : (bytes : List ℕ) → has_frame_fault Address bytes ≡ false → has_frame_fault Callsign bytes
     ≡ false
     → fault_after_field (after_field bytes) ≡ frame_fault bytes
 frame_fault-after bytes h k = rw (h, k) refl

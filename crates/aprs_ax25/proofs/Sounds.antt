@@ -8,7 +8,7 @@ use Rattle.std.proofs.lemmas.List.Sums.{fails_before_first, passes_at_first, pos
 use Rattle.std.proofs.lemmas.Bool.{cases_lt, and_parts, and_from, eqb-true, leb-true, leb-false, ltb-false, le-leb, lt-leb, le-ltb}
 use Rattle.aprs_ax25.specs.Address.{Address, IsAddress}
 use Rattle.aprs_ax25.specs.Frame.{Parts, FrameOf, address_field}
-use Rattle.aprs_ax25.specs.FrameFault.{ends_field, field_len, field_of, after_field, is_field_len, sevens, has_callsign, addresses, is_wrong, frame_fault, address_of, parts_of}
+use Rattle.aprs_ax25.specs.FrameFault.{ends_field, field_len, field_of, after_field, is_field_len, sevens, has_callsign, addresses, has_frame_fault, frame_fault, address_of, parts_of}
 use Rattle.aprs_ax25.specs.declared.fault.FrameFault.TheVariants.{Address as AddressFault, Callsign, Control, Pid, NoInfo, LongInfo}
 use Rattle.aprs_ax25.specs.UiFrame.{IsUiFrame}
 use Rattle.aprs_ax25.proofs.Fields.{Spells, Spells-sevens, All-take}
@@ -24,12 +24,12 @@ not-false false h = cc
 
 pub frame_fault-IsSound : (bytes : List ℕ) → frame_fault bytes ≡ None → IsUiFrame bytes
 frame_fault-IsSound bytes h =
-    let address = cond-None (is_wrong AddressFault bytes) _ _ h in
-    let callsign = cond-None (is_wrong Callsign bytes) _ _ address.1 in
-    let control = cond-None (is_wrong Control bytes) _ _ callsign.1 in
-    let pid = cond-None (is_wrong Pid bytes) _ _ control.1 in
-    let no_info = cond-None (is_wrong NoInfo bytes) _ _ pid.1 in
-    let long_info = cond-None (is_wrong LongInfo bytes) _ _ no_info.1 in
+    let address = cond-None (has_frame_fault AddressFault bytes) _ _ h in
+    let callsign = cond-None (has_frame_fault Callsign bytes) _ _ address.1 in
+    let control = cond-None (has_frame_fault Control bytes) _ _ callsign.1 in
+    let pid = cond-None (has_frame_fault Pid bytes) _ _ control.1 in
+    let no_info = cond-None (has_frame_fault NoInfo bytes) _ _ pid.1 in
+    let long_info = cond-None (has_frame_fault LongInfo bytes) _ _ no_info.1 in
     let n = field_len bytes in
     let ends = and_parts (nat_le n (length bytes)) (is_field_len n) (not-false _ address.0) in
     let parts = and_parts (n % 7 == 0 && nat_le 14 n) (nat_le n 70) ends.1 in
@@ -57,16 +57,16 @@ pub IsSound-frame_fault : (bytes : List ℕ) → IsUiFrame bytes → frame_fault
 IsSound-frame_fault bytes s =
     let n = field_len bytes in
     let after = after_field bytes in
-    let address : is_wrong AddressFault bytes ≡ false =
+    let address : has_frame_fault AddressFault bytes ≡ false =
     ap not (and_from (nat_le n (length bytes)) (is_field_len n) (le-leb n (length bytes) s.within)
     (and_from (n % 7 == 0 && nat_le 14 n) (nat_le n 70)
     (and_from (n % 7 == 0) (nat_le 14 n) (ap (λ k. k == 0) s.sevenfold) (le-leb 14 n s.size.0))
     (le-leb n 70 s.size.1))) in
-    let callsign : is_wrong Callsign bytes ≡ false = ap not s.callsigns in
-    let control : is_wrong Control bytes ≡ false = ap (λ k. not (k == 3)) s.control in
-    let pid : is_wrong Pid bytes ≡ false = ap (λ k. not (k == 240)) s.pid in
-    let no_info : is_wrong NoInfo bytes ≡ false = lt-leb (length after) 2 s.info.0 in
-    let long_info : is_wrong LongInfo bytes ≡ false = le-ltb 258 (length after) s.info.1 in
+    let callsign : has_frame_fault Callsign bytes ≡ false = ap not s.callsigns in
+    let control : has_frame_fault Control bytes ≡ false = ap (λ k. not (k == 3)) s.control in
+    let pid : has_frame_fault Pid bytes ≡ false = ap (λ k. not (k == 240)) s.pid in
+    let no_info : has_frame_fault NoInfo bytes ≡ false = lt-leb (length after) 2 s.info.0 in
+    let long_info : has_frame_fault LongInfo bytes ≡ false = le-ltb 258 (length after) s.info.1 in
     rw (address, callsign, control, pid, no_info, long_info) refl
 
 -- ---- where the address field ends, looked for at the end of each address

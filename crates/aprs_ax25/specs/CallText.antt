@@ -7,7 +7,7 @@ use Rattle.aprs_ax25.specs.declared.fault.CallFault.{CallFault}
 use Rattle.aprs_ax25.specs.declared.fault.CallFault.TheVariants.{Length, Character, Ssid}
 
 -- The bytes are the text of this callsign.
-pub record CallText (c : Call) (text : List ℕ) : Type 0 where
+pub record SpellsCall (c : Call) (text : List ℕ) : Type 0 where
   pub call : IsCall c
   pub spelled : text ≡ call_text c
 
@@ -25,7 +25,7 @@ from_dash text = drop (length (before_dash text)) text
 
 -- The text names this SSID: an empty text names 0, and a dash and a number from 1 to 15, without
 -- a leading zero, that number.
-pub record SsidText (ssid : ℕ) (text : List ℕ) : Type 0 where
+pub record NamesSsid (ssid : ℕ) (text : List ℕ) : Type 0 where
   pub range : ssid < 16
   pub spelled : text ≡ ssid_text ssid
 
@@ -34,7 +34,7 @@ pub record SsidText (ssid : ℕ) (text : List ℕ) : Type 0 where
 abbrev pub IsWrongCall : CallFault → List ℕ → Type 0
 IsWrongCall Length text = (length (before_dash text) ≡ 0) ⊎ (6 < length (before_dash text))
 IsWrongCall Character text = list_all is_callsign_byte (before_dash text) ≡ false
-IsWrongCall Ssid text = (ssid : ℕ) → SsidText ssid (from_dash text) → ⊥
+IsWrongCall Ssid text = (ssid : ℕ) → NamesSsid ssid (from_dash text) → ⊥
 
 -- What the fault says is true of the text, and what any fault with a smaller number says isn't.
 pub record FirstCallFault (text : List ℕ) (fault : CallFault) : Type 0 where

@@ -21,15 +21,15 @@ n7lem = callsign (codes "N7LEM") 0
 abbrev pub n7oo : Call
 n7oo = callsign (codes "N7OO") 1
 
--- The destination's address: NJ7P in a command.
+-- The destination's address_with: NJ7P in a command.
 abbrev pub to_nj7p : List ℕ
 to_nj7p = 0x9C ∷ 0x94 ∷ 0x6E ∷ 0xA0 ∷ 0x40 ∷ 0x40 ∷ 0xE0 ∷ []
 
--- The source's address: N7LEM, with this last octet.
+-- The source's address_with: N7LEM, with this last octet.
 abbrev pub from_n7lem : ℕ → List ℕ
 from_n7lem last = 0x9C ∷ 0x6E ∷ 0x98 ∷ 0x8A ∷ 0x9A ∷ 0x40 ∷ last ∷ []
 
--- The digipeater's address: N7OO-1, with this last octet.
+-- The digipeater's address_with: N7OO-1, with this last octet.
 abbrev pub by_n7oo : ℕ → List ℕ
 by_n7oo last = 0x9C ∷ 0x6E ∷ 0x9E ∷ 0x9E ∷ 0x40 ∷ 0x40 ∷ last ∷ []
 
@@ -53,15 +53,15 @@ direct_frame = direct_field ++ hi_after 0x03 0xF0
 abbrev pub repeated_frame : List ℕ
 repeated_frame = repeated_field ++ hi_after 0x03 0xF0
 
--- The address of this callsign, with these flags.
-abbrev pub address : Call → ℕ → Address
-address call flags = record { call = call; flags = flags }
+-- The address_with of this callsign, with these flags.
+abbrev pub address_with : Call → ℕ → Address
+address_with call flags = record { call = call; flags = flags }
 
 -- The parts of a frame from N7LEM to NJ7P that says `>Hi`, through these digipeaters.
 abbrev pub parts_through : List Address → Parts
 parts_through digipeaters = record {
-  destination = address nj7p 7;
-  source = address n7lem 3;
+  destination = address_with nj7p 7;
+  source = address_with n7lem 3;
   digipeaters = digipeaters;
   info = codes ">Hi";
 }

@@ -62,19 +62,19 @@ addresses bytes = sevens (length (field_of bytes) / 7) (field_of bytes)
 -- What each fault says of the bytes, in this order: the field isn't 2 to 10 addresses; an address
 -- has no callsign; control isn't UI; PID isn't "no layer 3"; there is no information, or more than
 -- 256 bytes of it. `slice_index` is 0 past the end.
-abbrev pub is_wrong : FrameFault → List ℕ → Bool
-is_wrong AddressFault bytes =
+abbrev pub has_frame_fault : FrameFault → List ℕ → Bool
+has_frame_fault AddressFault bytes =
     not (nat_le (field_len bytes) (length bytes) && is_field_len (field_len bytes))
-is_wrong Callsign bytes = not (list_all has_callsign (addresses bytes))
-is_wrong Control bytes = not (slice_index (after_field bytes) 0 == control_ui)
-is_wrong Pid bytes = not (slice_index (after_field bytes) 1 == pid_none)
-is_wrong NoInfo bytes = nat_le (length (after_field bytes)) 2
-is_wrong LongInfo bytes = nat_lt 258 (length (after_field bytes))
+has_frame_fault Callsign bytes = not (list_all has_callsign (addresses bytes))
+has_frame_fault Control bytes = not (slice_index (after_field bytes) 0 == control_ui)
+has_frame_fault Pid bytes = not (slice_index (after_field bytes) 1 == pid_none)
+has_frame_fault NoInfo bytes = nat_le (length (after_field bytes)) 2
+has_frame_fault LongInfo bytes = nat_lt 258 (length (after_field bytes))
 
 -- The first fault that is true of the bytes.
 abbrev pub frame_fault : List ℕ → Option FrameFault
 frame_fault bytes =
-    find (λ fault. is_wrong fault bytes)
+    find (λ fault. has_frame_fault fault bytes)
     (AddressFault ∷ Callsign ∷ Control ∷ Pid ∷ NoInfo ∷ LongInfo ∷ [])
 
 -- The bytes, unless there is a fault.
@@ -83,8 +83,8 @@ unless_fault bytes None = Ok bytes
 unless_fault bytes (Some fault) = Err fault
 
 -- What reading the bytes gives: the bytes, or their first fault.
-abbrev pub frame_of : List ℕ → Result (List ℕ) FrameFault
-frame_of bytes = unless_fault bytes (frame_fault bytes)
+abbrev pub frame_or_fault : List ℕ → Result (List ℕ) FrameFault
+frame_or_fault bytes = unless_fault bytes (frame_fault bytes)
 
 -- ---- the parts of bytes that are a frame
 

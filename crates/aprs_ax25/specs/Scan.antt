@@ -10,15 +10,15 @@ use Rattle.aprs_ax25.specs.declared.fault.CallFault.{CallFault}
 use Rattle.aprs_ax25.specs.declared.fault.CallFault.TheVariants.{Length, Character, Ssid}
 use Rattle.std.specs.Borrow.{Bor}
 use Rattle.aprs_ax25.specs.Frame.{control_ui, pid_none}
-use Rattle.aprs_ax25.specs.FrameFault.{field_of, after_field, is_wrong}
+use Rattle.aprs_ax25.specs.FrameFault.{field_of, after_field, has_frame_fault}
 use Rattle.aprs_ax25.specs.declared.fault.FrameFault.{FrameFault}
 use Rattle.aprs_ax25.specs.declared.fault.FrameFault.TheVariants.{Address, Control, Pid, NoInfo}
 use Rattle.aprs_ax25.specs.declared.fault.FrameFault.TheVariants.{LongInfo}
 
 -- The bytes are split after the address field, unless this is no field.
 abbrev pub SplitsField : Option (Bor (List ℕ) × Bor (List ℕ)) → List ℕ → Type 0
-SplitsField r bytes = MatchOption r (is_wrong Address bytes ≡ true)
-    (λ p. (is_wrong Address bytes ≡ false) × (p.0.now ≡ field_of bytes)
+SplitsField r bytes = MatchOption r (has_frame_fault Address bytes ≡ true)
+    (λ p. (has_frame_fault Address bytes ≡ false) × (p.0.now ≡ field_of bytes)
     × (p.1.now ≡ after_field bytes))
 
 -- The fault of this many bytes of information, if there is one.
@@ -43,19 +43,19 @@ ssid_of (dash ∷ c ∷ d ∷ []) = if c == 49 && nat_le 48 d && nat_le d 53 the
 ssid_of (dash ∷ b ∷ c ∷ d ∷ more) = None
 
 -- What each fault says of a callsign's text, as a test.
-abbrev pub is_wrong_call : CallFault → List ℕ → Bool
-is_wrong_call Length text =
+abbrev pub has_call_fault : CallFault → List ℕ → Bool
+has_call_fault Length text =
     not (nat_le 1 (length (before_dash text)) && nat_le (length (before_dash text)) 6)
-is_wrong_call Character text = not (list_all is_callsign_byte (before_dash text))
-is_wrong_call Ssid text = is_none (ssid_of (from_dash text))
+has_call_fault Character text = not (list_all is_callsign_byte (before_dash text))
+has_call_fault Ssid text = is_none (ssid_of (from_dash text))
 
 -- The first fault of a callsign's text.
 abbrev pub call_fault : List ℕ → Option CallFault
-call_fault text = find (λ fault. is_wrong_call fault text) (Length ∷ Character ∷ Ssid ∷ [])
+call_fault text = find (λ fault. has_call_fault fault text) (Length ∷ Character ∷ Ssid ∷ [])
 
 -- The letters and the SSID of a callsign's text, or its first fault.
-abbrev pub PartsOf : List ℕ → Result (Bor (List ℕ) × ℕ) CallFault → Type 0
-PartsOf text r = MatchResult r
+abbrev pub AreCallParts : List ℕ → Result (Bor (List ℕ) × ℕ) CallFault → Type 0
+AreCallParts text r = MatchResult r
     (λ p. (call_fault text ≡ None) × (p.0.now ≡ before_dash text)
     × (ssid_of (from_dash text) ≡ Some p.1))
     (λ fault. call_fault text ≡ Some fault)

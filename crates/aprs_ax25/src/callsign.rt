@@ -6,7 +6,7 @@ ghost use Rattle.arrayvec.specs.ArrayVec.{array_vec_len};
 ghost use Rattle.aprs_ax25.specs.Address.{address_octets, letters_and_spaces};
 ghost use Rattle.aprs_ax25.specs.Callsign as Spec;
 ghost use Rattle.aprs_ax25.specs.CallText;
-ghost use Rattle.aprs_ax25.specs.Scan.{PartsOf, ssid_of};
+ghost use Rattle.aprs_ax25.specs.Scan.{AreCallParts, ssid_of};
 ghost use Rattle.aprs_ax25.specs.FrameFault.{has_callsign, call_of, letters_len};
 ghost use Rattle.std.specs.Ordering.{as_partial_cmp};
 ghost use Rattle.std.proofs.Common.{rules};
@@ -45,8 +45,8 @@ impl Callsign {
     /// The callsign that this is the text of, or the first fault in the order of the faults'
     /// numbers. Takes no memory.
     pub fn parse(text: &[u8]) -> Result<Callsign, CallFault>
-        ensures found { IfOk result (λ c. CallText.CallText c text.now) }
-        ensures only { (c : Spec.Call) → CallText.CallText c text.now → result ≡ Ok c }
+        ensures found { IfOk result (λ c. CallText.SpellsCall c text.now) }
+        ensures only { (c : Spec.Call) → CallText.SpellsCall c text.now → result ≡ Ok c }
         ensures fault { IfErr result (λ fault. CallText.FirstCallFault text.now fault) }
     {
         match parts_of(text) {
@@ -309,7 +309,7 @@ fn push_letters_and_spaces(out: &mut ArrayVec<u8, MAX_UI_FRAME>, letters: &[u8])
 /// The letters and digits of a callsign's text, before its first dash, and its SSID; or the
 /// text's first fault in the order of the faults' numbers.
 fn parts_of(text: &[u8]) -> Result<(&[u8], u8), CallFault>
-    ensures { PartsOf text.now result }
+    ensures { AreCallParts text.now result }
 {
     let (letters, dash) = split_dash(text);
     if letters.is_empty() || letters.len() > 6 {

@@ -7,7 +7,7 @@ ghost use Rattle.aprs_ax25.specs.Address.{IsAddress, is_repeated};
 ghost use Rattle.aprs_ax25.specs.Callsign.{call_text};
 ghost use Rattle.std.specs.Option.{option_map};
 ghost use Rattle.aprs_ax25.specs.Frame.{Parts, FrameOf, address_field};
-ghost use Rattle.aprs_ax25.specs.FrameFault.{frame_of, frame_fault, parts_of};
+ghost use Rattle.aprs_ax25.specs.FrameFault.{frame_or_fault, frame_fault, parts_of};
 ghost use Rattle.aprs_ax25.specs.Hop.{hop_of};
 ghost use Rattle.aprs_ax25.specs.Making as Spec;
 ghost use Rattle.std.specs.Ordering.{as_partial_cmp};
@@ -54,7 +54,7 @@ impl Frame {
     /// Takes no memory.
     pub fn read(bytes: &[u8]) -> Result<Frame, FrameFault>
         // The result is the bytes, or the first fault of them.
-        ensures exact { result ≡ frame_of bytes.now }
+        ensures exact { result ≡ frame_or_fault bytes.now }
         // What is read is a frame of the grammar, and each frame of the grammar is read.
         ensures frame { IfOk result (λ frame. FrameOf (parts_of frame) frame) }
         ensures only { (parts : Parts) → FrameOf parts bytes.now → IsOk result }
@@ -69,8 +69,8 @@ impl Frame {
     /// first fault in the order of the faults' numbers, and this frame stays. Takes no memory.
     /// For the crates of this repository.
     pub fn reread(&mut self, bytes: &[u8]) -> Result<(), FrameFault>
-        ensures read { OnOk result (frame_of bytes.now ≡ Ok self.new) }
-        ensures fault { IfErr result (λ fault. frame_of bytes.now ≡ Err fault) }
+        ensures read { OnOk result (frame_or_fault bytes.now ≡ Ok self.new) }
+        ensures fault { IfErr result (λ fault. frame_or_fault bytes.now ≡ Err fault) }
         ensures unchanged { OnErr result (self.new ≡ self.old) }
     {
         match fault_in(bytes) {

@@ -1,6 +1,6 @@
 //! Laws on all byte lists and digipeaters: what these functions ensure is the law.
 ghost use Rattle.std.specs.Prelude.{ℕ, ◌≡◌, ◌<◌, ◌↔◌, ◌⊎◌, List, All, IsTrue, Ok};
-ghost use Rattle.aprs_ax25.specs.FrameFault.{frame_of};
+ghost use Rattle.aprs_ax25.specs.FrameFault.{frame_or_fault};
 ghost use Rattle.aprs_ax25.specs.Laws.{IsFrame, IsNoFrame};
 ghost use Rattle.aprs_ax25.specs.UiFrame.{IsUiFrame};
 
@@ -13,7 +13,7 @@ pub fn each_is_a_frame_or_refused()
 
 /// Reading accepts exactly the bytes that are a UI frame.
 pub fn ui_frames_are_read()
-    ensures { (bytes : List ℕ) → IsUiFrame bytes ↔ (frame_of bytes ≡ Ok bytes) }
+    ensures { (bytes : List ℕ) → IsUiFrame bytes ↔ (frame_or_fault bytes ≡ Ok bytes) }
 {}
 
 /// Digipeaters are equal exactly if they are the same: the same callsign, which has repeated the

@@ -1,20 +1,5 @@
 -- Entries of a map that are collected from rows: one for each thing that some row reports on.
-use Rattle.std.proofs.Common.{◌≡◌, ◌∙◌, List, [], ◌∷◌, ◌++◌, append_assoc, append-nil, ◌⊎◌, Some, None, Result, Ok, Err, OnOk, cond, sym, ap, refl, subst, inl, inr}
-use Rattle.std.specs.List.{AllByRecursion}
-use Rattle.std.specs.Map.{lookup, keys_of}
-use Rattle.std.specs.BTreeMap.{is_at, insert_entry}
-use Rattle.std.specs.List.Sorted.{IsStrictlySortedBy}
-use Rattle.std.specs.Cmp.{IsTotalOrder}
-use Rattle.std.specs.Ordering.{is_eq, match_ordering}
-use Rattle.std.specs.declared.cmp.Ordering.{Ordering}
-use Rattle.std.specs.declared.cmp.Ordering.TheVariants.{Less, Equal, Greater}
-use Rattle.std.proofs.lemmas.Cmp.{tied_itself}
-use Rattle.std.proofs.lemmas.Map.Lookups.{CmpEqualImpliesEq}
-use Rattle.std.proofs.lemmas.Map.Keys.{sorted_head, sorted_tail}
-use Rattle.aprs_laws.specs.Lists.{◌∈◌, Ordered}
-use Rattle.aprs_laws.proofs.Lists.{in_left, in_right, in_either}
-use Rattle.aprs_laws.specs.Key.{Key}
-use Rattle.aprs_laws.specs.Row.{Row, row_key}
+use Rattle.aprs_book.proofs.Common.{◌≡◌, ◌∙◌, List, [], ◌∷◌, ◌++◌, append_assoc, append-nil, ◌⊎◌, Some, None, Result, Ok, Err, OnOk, cond, sym, ap, refl, subst, inl, inr, AllByRecursion, lookup, keys_of, is_at, insert_entry, IsStrictlySortedBy, IsTotalOrder, is_eq, match_ordering, Ordering, Less, Equal, Greater, tied_itself, CmpEqualImpliesEq, sorted_head, sorted_tail, ◌∈◌, Ordered, in_left, in_right, in_either, Key, Row, row_key}
 use Rattle.aprs_book.specs.MessageRows.{IsCollected}
 
 -- ---- entries in order

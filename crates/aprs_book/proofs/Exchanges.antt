@@ -1,14 +1,11 @@
 -- What one more row adds to what rows exchange.
-use Rattle.std.proofs.Common.{◌≡◌, ◌∙◌, List, [], ◌∷◌, ◌++◌, Option, Some, None, false, sym, ap, inl, inr}
-use Rattle.aprs_log.specs.Reception.{Heard}
-use Rattle.aprs_laws.specs.Key.{Key}
-use Rattle.aprs_laws.specs.Row.{Row, row_key}
+use Rattle.aprs_book.proofs.Common.{◌≡◌, ◌∙◌, List, [], ◌∷◌, ◌++◌, Option, Some, None, false, sym, ap, inl, inr, Received, Key, Row, row_key}
 use Rattle.aprs_book.specs.declared.lists.message_key.AnswerKey.{AnswerKey}
 use Rattle.aprs_book.specs.declared.lists.message_key.MessageKey.{MessageKey}
 use Rattle.aprs_book.specs.declared.lists.message_key.Span.{Span}
 use Rattle.aprs_book.specs.Reports.{report_of}
 use Rattle.aprs_book.specs.Messages.{Message, message_in, reported_message}
-use Rattle.aprs_book.specs.MessageRows.{Answer, AreAnswers, AreSpans, GivesAnswer, reported_answer, is_addressed}
+use Rattle.aprs_book.specs.MessageRows.{Answer, AreAnswers, AreSpans, GivesAnswer, reported_answer, begins_with_colon}
 use Rattle.aprs_book.proofs.Addressed.{no_answer_in}
 use Rattle.aprs_book.proofs.Collected.{adds_last}
 use Rattle.aprs_book.proofs.Messages.{spans_passed}
@@ -33,7 +30,7 @@ none_is_some : {X : Type 0} (o : Option X) (x : X) → o ≡ None → o ≡ Some
 none_is_some o x n s = let t : None ≡ Some x = sym n ∙ s in absurd (cc)
 
 -- what begins with no colon is no answer
-pub no_answer_given : (k : Key) → is_addressed k.info ≡ false → (a : Answer) → GivesAnswer a k → ⊥
+pub no_answer_given : (k : Key) → begins_with_colon k.info ≡ false → (a : Answer) → GivesAnswer a k → ⊥
 no_answer_given k n a r =
     let none : reported_answer (report_of k) ≡ None = no_answer_in k.info n in
     let some = answer_reads a k r in
@@ -44,6 +41,6 @@ module _ (rows : List Row) (r : Row) where
       → AreSpans (rows ++ r ∷ []) es
   spans_beside es n c = spans_passed rows (rows ++ r ∷ []) r (adds_last rows r) es c n
 
-  pub answers_beside : (es : List (AnswerKey × Heard)) → ((a : Answer) → GivesAnswer a (row_key r) → ⊥)
+  pub answers_beside : (es : List (AnswerKey × Received)) → ((a : Answer) → GivesAnswer a (row_key r) → ⊥)
       → AreAnswers rows es → AreAnswers (rows ++ r ∷ []) es
   answers_beside es n c = answers_passed rows (rows ++ r ∷ []) r (adds_last rows r) es c n

@@ -1,23 +1,5 @@
 -- The answers to messages in rows.
-use Rattle.std.proofs.Common.{◌≡◌, ◌∙◌, ℕ, List, ◌↔◌, Option, Some, None, sym, ap, refl, subst, inl, inr, Bor}
-use Rattle.std.specs.Option.{option_copied}
-use Rattle.std.specs.Map.{lookup, keys_of}
-use Rattle.std.specs.BTreeMap.{is_at, insert_entry}
-use Rattle.std.specs.List.Sorted.{IsStrictlySortedBy}
-use Rattle.std.specs.Cmp.{IsTotalOrder}
-use Rattle.std.specs.Ordering.{ordering_then}
-use Rattle.std.specs.declared.cmp.Ordering.{Ordering}
-use Rattle.std.proofs.lemmas.Cmp.{upto, on_total, then_total}
-use Rattle.std.proofs.lemmas.Map.Lookups.{CmpEqualImpliesEq, exact_pairs}
-use Rattle.aprs_ax25.specs.Callsign.{Call, call_cmp}
-use Rattle.aprs_log.specs.Reception.{Heard, bytes_cmp, heard_cmp}
-use Rattle.aprs_laws.specs.Lists.{◌∈◌}
-use Rattle.aprs_laws.specs.Order.{IsUpTo}
-use Rattle.aprs_laws.specs.Row.{Row, row_key}
-use Rattle.aprs_laws.specs.Best.{greater_known}
-use Rattle.aprs_laws.specs.JoinRow.{greater}
-use Rattle.aprs_laws.proofs.Joins.{is_greater_of}
-use Rattle.aprs_laws.proofs.Orders.{call_total, call_exact, bytes_total, bytes_exact, heard_total, up_to_itself}
+use Rattle.aprs_book.proofs.Common.{◌≡◌, ◌∙◌, ℕ, List, ◌↔◌, Option, Some, None, sym, ap, refl, subst, inl, inr, Bor, option_copied, lookup, keys_of, is_at, insert_entry, IsStrictlySortedBy, IsTotalOrder, ordering_then, Ordering, upto, on_total, then_total, CmpEqualImpliesEq, exact_pairs, Call, call_cmp, Received, bytes_cmp, heard_cmp, ◌∈◌, IsUpTo, Row, row_key, greater_known, greater, is_greater_of, call_total, call_exact, bytes_total, bytes_exact, heard_total, up_to_itself}
 use Rattle.aprs_book.specs.declared.lists.message_key.AnswerKey.{AnswerKey}
 use Rattle.aprs_book.specs.MessageRows.{Answer, answer_of, answer_cmp, GivesAnswer, IsGreatestAnswer, AreAnswers, IsFor, ReportsAnswer}
 use Rattle.aprs_book.specs.Messages.{Message}
@@ -41,7 +23,7 @@ module _ (rows more : List Row) (x : Row) (adds : Adds rows x more) (a : Answer)
   abbrev pub Q : Row → Type 0
   Q y = GivesAnswer a (row_key y)
 
-  pub answer_stays : (g : Heard) → (Q x → ⊥) → IsGreatestAnswer rows a g → IsGreatestAnswer more a g
+  pub answer_stays : (g : Received) → (Q x → ⊥) → IsGreatestAnswer rows a g → IsGreatestAnswer more a g
   answer_stays g n t = record {
     row = (t.row.0, adds.old t.row.0 t.row.1, t.row.2, t.row.3);
     greatest = λ y h p. elim (adds.to y h) [
@@ -60,7 +42,7 @@ module _ (rows more : List Row) (x : Row) (adds : Adds rows x more) (a : Answer)
     ];
   }
 
-  pub answer_grows : (g : Heard) → Q x → IsGreatestAnswer rows a g
+  pub answer_grows : (g : Received) → Q x → IsGreatestAnswer rows a g
       → IsGreatestAnswer more a (greater g x.greatest)
   answer_grows g p t = let c = is_greater_of g x.greatest in record {
     row = elim c.one [
@@ -84,14 +66,14 @@ abbrev pub answer_key_cmp : AnswerKey → AnswerKey → Ordering
 answer_key_cmp = cmp_of answer_of answer_cmp
 
 module _ (rows more : List Row) (x : Row) (adds : Adds rows x more)
-    (es : List (AnswerKey × Heard)) (c : AreAnswers rows es) where
+    (es : List (AnswerKey × Received)) (c : AreAnswers rows es) where
   pub answers_passed : ((a : Answer) → GivesAnswer a (row_key x) → ⊥) → AreAnswers more es
   answers_passed n =
       passed answer_of answer_cmp answer_total answer_exact GivesAnswer IsGreatestAnswer rows
       more x adds
       (λ a v. answer_stays rows more x adds a v) es c n
 
-  answer_there : (k : AnswerKey) → GivesAnswer (answer_of k) (row_key x) → (known : Option Heard)
+  answer_there : (k : AnswerKey) → GivesAnswer (answer_of k) (row_key x) → (known : Option Received)
       → lookup (is_at (answer_key_cmp k)) es ≡ known
       → IsGreatestAnswer more (answer_of k)
       (greater_known known x.greatest)
@@ -107,7 +89,7 @@ module _ (rows more : List Row) (x : Row) (adds : Adds rows x more)
 
   pub answers_put : (R : AnswerKey → AnswerKey → Ordering)
       → ((a b : AnswerKey) → R a b ≡ answer_key_cmp a b)
-      → (k : AnswerKey) (v : Heard) (new : List (AnswerKey × Heard))
+      → (k : AnswerKey) (v : Received) (new : List (AnswerKey × Received))
       → ((a : Answer) → GivesAnswer a (row_key x) ↔ (Some (answer_of k) ≡ Some a))
       → v ≡ greater_known (lookup (is_at (R k)) es) x.greatest
       → new ≡ insert_entry R es k v → IsStrictlySortedBy R (keys_of new)
@@ -125,16 +107,16 @@ module _ (rows more : List Row) (x : Row) (adds : Adds rows x more)
         unwrapped : (a b : Answer) → Some a ≡ Some b → a ≡ b
         unwrapped a b h = cc
 
-pub kept_greater : (r : Heard) (o : Option (Bor Heard)) (m : Option Heard) (x y : Heard)
+pub kept_greater : (r : Received) (o : Option (Bor Received)) (m : Option Received) (x y : Received)
     → r ≡ greater_known (option_copied o) x → option_copied o ≡ m → x ≡ y
     → r ≡ greater_known m y
 kept_greater r o m x y e f h = e ∙ (ap (λ t. greater_known t x) f ∙ ap (greater_known m) h)
 
 -- ---- the answer that a look-up finds
 
-module _ (es : List (AnswerKey × Heard)) (k : AnswerKey) (m : Message) (id : List ℕ)
+module _ (es : List (AnswerKey × Received)) (k : AnswerKey) (m : Message) (id : List ℕ)
     (f : IsFor m id (answer_of k)) (u : (a : Answer) → IsFor m id a → a ≡ answer_of k) where
-  report_bytes : (known : Option Heard) → lookup (is_at (answer_key_cmp k)) es ≡ known
+  report_bytes : (known : Option Received) → lookup (is_at (answer_key_cmp k)) es ≡ known
       → ReportsAnswer es m id known
   report_bytes None h = λ e j g.
       absent answer_of answer_cmp answer_total answer_exact k es h e j (sym (u (answer_of e.0) g))
@@ -144,7 +126,7 @@ module _ (es : List (AnswerKey × Heard)) (k : AnswerKey) (m : Message) (id : Li
 
   pub answer_reported_by : (R : AnswerKey → AnswerKey → Ordering)
       → ((a b : AnswerKey) → R a b ≡ answer_key_cmp a b)
-      → (o : Option Heard) → o ≡ lookup (is_at (R k)) es
+      → (o : Option Received) → o ≡ lookup (is_at (R k)) es
       → ReportsAnswer es m id o
   answer_reported_by R same o e =
       subst (λ t. ReportsAnswer es m id t)

@@ -1,19 +1,7 @@
 -- Rows of a book as a store takes them.
-use Rattle.std.proofs.Common.{◌≡◌, ◌∙◌, inl, inr, ℕ, ◌<◌, ◌≤◌, List, [], ◌∷◌, ◌++◌, length, Result, Ok, Err, refl, sym, ap, subst, append_assoc, arith}
-use Rattle.std.specs.Prelude.{All, IfOk}
-use Rattle.std.specs.List.{join_with_byte}
-use Rattle.aprs_log.specs.Receiver.{IsName}
-use Rattle.aprs_laws.specs.Lists.{◌∈◌, SameMembers}
-use Rattle.aprs_laws.specs.Gap.{IsGap, millis_of}
-use Rattle.aprs_laws.specs.Row.{Row, last_of}
-use Rattle.aprs_laws.specs.Sound.{IsSoundRow, Sound}
-use Rattle.aprs_laws.specs.Joining.{Joined}
-use Rattle.aprs_laws.specs.BookValue.{BookValue, IsSoundBook, HaveOneGap, AreJoined, widened_to}
-use Rattle.aprs_laws.proofs.Joins.{one_value, some_millis}
+use Rattle.aprs_book.proofs.Common.{◌≡◌, ◌∙◌, inl, inr, ℕ, ◌<◌, ◌≤◌, List, [], ◌∷◌, ◌++◌, length, Result, Ok, Err, refl, sym, ap, subst, append_assoc, arith, All, IfOk, join_with_byte, IsName, ◌∈◌, SameMembers, IsGap, millis_of, Row, last_of, IsSoundRow, Sound, Joined, BookValue, IsSoundBook, HaveOneGap, AreJoined, widened_to, one_value, some_millis, coalesces_wider, AreSoundRows}
 use Rattle.aprs_laws.proofs.Coalescing.{coalesces_joined}
-use Rattle.aprs_laws.proofs.Widening.{coalesces_wider}
 use Rattle.aprs_rows.specs.declared.memory.Memory.{Memory}
-use Rattle.aprs_rows.specs.Rows.{AreSoundRows}
 use Rattle.aprs_rows.specs.Names.{names_in, row_of_text}
 use Rattle.aprs_rows.proofs.NameTexts.{names_joined}
 use Rattle.aprs_book.specs.Coalesced.{IsCoalesced}

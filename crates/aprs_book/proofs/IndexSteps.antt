@@ -1,35 +1,17 @@
 -- What the indexes know after one more reception, one more row, or a merge.
-use Rattle.std.proofs.Common.{◌≡◌, ◌∙◌, Bool, true, false, ◌&&◌, if◌then◌else◌, List, [], ◌∷◌, ◌++◌, Option, None, Some, map, refl, sym, ap, subst, arith, length, take, ℕ, ◌<◌}
-use Rattle.std.proofs.Math.Bool.{and-false, and-true}
-use Rattle.std.proofs.lemmas.Cmp.{tied_itself}
-use Rattle.std.proofs.lemmas.List.{length-append, map-append}
+use Rattle.aprs_book.proofs.Common.{◌≡◌, ◌∙◌, Bool, true, false, ◌&&◌, if◌then◌else◌, List, [], ◌∷◌, ◌++◌, Option, None, Some, map, refl, sym, ap, subst, arith, length, take, ℕ, ◌<◌, and-false, and-true, tied_itself, map-append, Less, Equal, Greater, by_order, is_eq, Call, call_cmp, call_text, ssid_text, Received, bytes_cmp, Value, position, object, item, message, ack, rej, status, raw, Key, key_of, Row, row_key, insert_heard, FitsInPlace, Sound, LastKnown, greater_known, known_after, Passes, witnessed, inserted_is_book, bytes_exact, bytes_total, call_exact, call_total, rows_know, set_knows, known_last}
+use Rattle.std.proofs.lemmas.List.{length-append}
 use Rattle.std.proofs.Math.Seq.{take-append_seam}
-use Rattle.std.specs.declared.cmp.Ordering.TheVariants.{Less, Equal, Greater}
-use Rattle.aprs_rows.proofs.Cases.{by_order}
-use Rattle.std.specs.Ordering.{is_eq}
-use Rattle.aprs_ax25.specs.Callsign.{Call, call_cmp, call_text, ssid_text}
-use Rattle.aprs_log.specs.Reception.{Heard, bytes_cmp}
-use Rattle.aprs_report.specs.Reading.{Value, position, object, item, message, ack, rej, status, raw}
-use Rattle.aprs_laws.specs.Key.{Key, key_of}
-use Rattle.aprs_laws.specs.Row.{Row, row_key}
-use Rattle.aprs_laws.specs.Inserted.{insert_heard, FitsInPlace}
-use Rattle.aprs_laws.specs.Sound.{Sound}
 use Rattle.aprs_laws.specs.Witnesses.{witnesses}
-use Rattle.aprs_laws.specs.Best.{LastKnown, greater_known, known_after}
-use Rattle.aprs_laws.specs.BestLaws.{Passes}
-use Rattle.aprs_laws.proofs.Soundness.{witnessed}
-use Rattle.aprs_laws.proofs.Inserts.{inserted_is_book}
-use Rattle.aprs_laws.proofs.Orders.{bytes_exact, bytes_total, call_exact, call_total}
-use Rattle.aprs_laws.proofs.Known.{rows_know, set_knows, known_last}
 use Rattle.aprs_book.specs.declared.known.subject.Subject.{Subject}
-use Rattle.aprs_book.specs.Reports.{report_of, is_position, is_status, is_object, is_item, is_from, reports_position, reports_status, reports_object, reports_item, without_spaces}
+use Rattle.aprs_book.specs.Reports.{report_of, is_position_report, is_status_report, is_object_named, is_item_named, has_source, reports_position, reports_status, reports_object, reports_item, without_spaces}
 use Rattle.aprs_book.specs.LastKnown.{IsLastKnown}
 use Rattle.aprs_book.specs.Known.{FourIndexes, Topic, call_bytes, positions, statuses, objects, items, index_of, known_at, has_bytes, is_report_on, report_bytes, topic_bytes, subject_bytes, AreIndexesOf, SameKnown, HaveEntries, greatest_of}
 use Rattle.aprs_book.proofs.KnownSteps.{entry_there, same_as_itself}
 
 -- the receptions of a row are of its greatest's key: what the rows know the book's set knows
-pub takes_note : (gap : ℕ) → 0 < gap → (x : Heard) (old : List Row) (test : Key → Bool)
-    (known : Option Heard)
+pub takes_note : (gap : ℕ) → 0 < gap → (x : Received) (old : List Row) (test : Key → Bool)
+    (known : Option Received)
     → Sound gap old → LastKnown (map greatest_of old) (Passes test) known
     → LastKnown (map greatest_of (insert_heard gap x old)) (Passes test)
     (known_after test known x)
@@ -41,24 +23,24 @@ takes_note gap pos x old test known w h =
     (Passes test) known b h))
 
 -- what the views look up
-pub entry_reports : (gap : ℕ) (rows : List Row) (test : Key → Bool) (known : Option Heard)
+pub entry_reports : (gap : ℕ) (rows : List Row) (test : Key → Bool) (known : Option Received)
     → LastKnown (map greatest_of rows) (Passes test) known → IsLastKnown gap rows test known
 entry_reports gap rows test known h = λ S b. set_knows gap S rows (Passes test) known b h
 
 -- a row after the others
-pub pushes_note : (old : List Row) (r : Row) (test : Key → Bool) (known : Option Heard)
+pub pushes_note : (old : List Row) (r : Row) (test : Key → Bool) (known : Option Received)
     → LastKnown (map greatest_of old) (Passes test) known
     → LastKnown (map greatest_of (old ++ r ∷ [])) (Passes test)
     (known_after test known r.greatest)
 pushes_note old r test known h =
-    subst (λ (t : List Heard). LastKnown t (Passes test) (known_after test known r.greatest))
+    subst (λ (t : List Received). LastKnown t (Passes test) (known_after test known r.greatest))
     (sym (map-append greatest_of old (r ∷ [])))
     (known_last test r.greatest (map greatest_of old) known h)
 
 -- ---- the four indexes
 
 -- what a reception reports on is noted
-abbrev pub Noted : Subject → Heard → FourIndexes → FourIndexes → Type 0
+abbrev pub Noted : Subject → Received → FourIndexes → FourIndexes → Type 0
 Noted t x old new = (topic : Topic) (bytes : List ℕ)
     → known_at bytes (index_of topic new) ≡ (if has_bytes bytes (subject_bytes topic t)
     then Some (greater_known (known_at bytes (index_of topic old)) x)
@@ -67,7 +49,7 @@ Noted t x old new = (topic : Topic) (bytes : List ℕ)
 abbrev pub IsReported : Subject → Key → Type 0
 IsReported t k = (topic : Topic) → subject_bytes topic t ≡ topic_bytes topic k
 
-noted_known : (t : Subject) (x : Heard) (i j k : FourIndexes) → IsReported t (key_of x.frame)
+noted_known : (t : Subject) (x : Received) (i j k : FourIndexes) → IsReported t (key_of x.frame)
     → SameKnown i j
     → Noted t x j k → (topic : Topic) (bytes : List ℕ)
     → known_after (is_report_on (topic_bytes topic) bytes) (known_at bytes (index_of topic i)) x
@@ -80,7 +62,7 @@ noted_known t x i j k reported same noted topic bytes =
     ∙ ap (λ n. if has_bytes bytes (topic_bytes topic (key_of x.frame)) then Some
     (greater_known n x) else n) (same topic bytes))
 
-pub takes_indexes : (gap : ℕ) → 0 < gap → (t : Subject) (x : Heard) (rows new : List Row)
+pub takes_indexes : (gap : ℕ) → 0 < gap → (t : Subject) (x : Received) (rows new : List Row)
     (i j k : FourIndexes) → Sound gap rows → AreIndexesOf rows i → IsReported t (key_of x.frame)
     → SameKnown i j → Noted t x j k → new ≡ insert_heard gap x rows → AreIndexesOf new k
 takes_indexes gap pos t x rows new i j k w h reported same noted made = λ topic bytes.
@@ -107,7 +89,7 @@ pushes_indexes t r rows new i j k h reported same noted made = λ topic bytes.
     (pushes_note rows r (is_report_on (topic_bytes topic) bytes) (known_at bytes (index_of topic i))
     (h topic bytes)))
 
-pub near_entries : (gap : ℕ) (t : Subject) (x : Heard) (rows : List Row) (i : FourIndexes)
+pub near_entries : (gap : ℕ) (t : Subject) (x : Received) (rows : List Row) (i : FourIndexes)
     → AreIndexesOf rows i → IsReported t (key_of x.frame) → FitsInPlace gap rows x → HaveEntries t i
 near_entries gap t x rows i h reported f = λ topic bytes e.
     entry_there (topic_bytes topic) rows (index_of topic i) bytes f.row (h topic) f.member
@@ -117,7 +99,7 @@ near_entries gap t x rows i h reported f = λ topic bytes e.
 -- ---- what reports are about
 
 reported_position : (call : Call) (v : Value)
-    → report_bytes positions call v ≡ (if is_position v then Some (call_bytes call) else None)
+    → report_bytes positions call v ≡ (if is_position_report v then Some (call_bytes call) else None)
 reported_position call (position messaging stamp place symbol comment) = refl
 reported_position call (object name live stamp place symbol comment) = refl
 reported_position call (item name live place symbol comment) = refl
@@ -128,7 +110,7 @@ reported_position call (status stamp text) = refl
 reported_position call raw = refl
 
 reported_status : (call : Call) (v : Value)
-    → report_bytes statuses call v ≡ (if is_status v then Some (call_bytes call) else None)
+    → report_bytes statuses call v ≡ (if is_status_report v then Some (call_bytes call) else None)
 reported_status call (position messaging stamp place symbol comment) = refl
 reported_status call (object name live stamp place symbol comment) = refl
 reported_status call (item name live place symbol comment) = refl
@@ -139,7 +121,7 @@ reported_status call (status stamp text) = refl
 reported_status call raw = refl
 
 reported_object : (wanted : List ℕ) (call : Call) (v : Value)
-    → has_bytes wanted (report_bytes objects call v) ≡ is_object wanted v
+    → has_bytes wanted (report_bytes objects call v) ≡ is_object_named wanted v
 reported_object wanted call (position messaging stamp place symbol comment) = refl
 reported_object wanted call (object name live stamp place symbol comment) = refl
 reported_object wanted call (item name live place symbol comment) = refl
@@ -150,7 +132,7 @@ reported_object wanted call (status stamp text) = refl
 reported_object wanted call raw = refl
 
 reported_item : (wanted : List ℕ) (call : Call) (v : Value)
-    → has_bytes wanted (report_bytes items call v) ≡ is_item wanted v
+    → has_bytes wanted (report_bytes items call v) ≡ is_item_named wanted v
 reported_item wanted call (position messaging stamp place symbol comment) = refl
 reported_item wanted call (object name live stamp place symbol comment) = refl
 reported_item wanted call (item name live place symbol comment) = refl
@@ -164,7 +146,7 @@ reported_item wanted call raw = refl
 
 -- an index by bytes knows what a test of keys finds
 pub by_bytes : (gap : ℕ) (rows : List Row) (test : Key → Bool) (topic : Topic) (bytes : List ℕ)
-    (i : FourIndexes) (known : Option Heard) → AreIndexesOf rows i
+    (i : FourIndexes) (known : Option Received) → AreIndexesOf rows i
     → ((k : Key) → is_report_on (topic_bytes topic) bytes k ≡ test k)
     → known ≡ known_at bytes (index_of topic i)
     → IsLastKnown gap rows test known
@@ -213,21 +195,21 @@ call_same a b =
 
 of_call : (own : Bool) (call : Call) (k : Key)
     → has_bytes (call_bytes call) (if own then Some (call_bytes k.source) else None)
-    ≡ is_from call k && own
-of_call true call k = call_same k.source call ∙ sym (and-true (is_from call k))
-of_call false call k = sym (and-false (is_from call k))
+    ≡ has_source call k && own
+of_call true call k = call_same k.source call ∙ sym (and-true (has_source call k))
+of_call false call k = sym (and-false (has_source call k))
 
 pub reports_of_position : (call : Call) (k : Key)
     → is_report_on (topic_bytes positions) (call_bytes call) k ≡ reports_position call k
 reports_of_position call k =
     ap (has_bytes (call_bytes call)) (reported_position k.source (report_of k))
-    ∙ of_call (is_position (report_of k)) call k
+    ∙ of_call (is_position_report (report_of k)) call k
 
 pub reports_of_status : (call : Call) (k : Key)
     → is_report_on (topic_bytes statuses) (call_bytes call) k ≡ reports_status call k
 reports_of_status call k =
     ap (has_bytes (call_bytes call)) (reported_status k.source (report_of k))
-    ∙ of_call (is_status (report_of k)) call k
+    ∙ of_call (is_status_report (report_of k)) call k
 
 pub reports_of_object : (name : List ℕ) (k : Key)
     → is_report_on (topic_bytes objects) (without_spaces name) k ≡ reports_object name k

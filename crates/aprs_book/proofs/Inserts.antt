@@ -1,14 +1,5 @@
 -- An entry that is put among others in order.
-use Rattle.std.proofs.Common.{◌≡◌, ◌∙◌, List, [], ◌∷◌, Some, refl, ap}
-use Rattle.std.specs.List.{AllByRecursion}
-use Rattle.std.specs.List.Sorted.{IsStrictlySortedBy}
-use Rattle.std.specs.Map.{lookup, keys_of}
-use Rattle.std.specs.BTreeMap.{is_at, insert_entry}
-use Rattle.std.specs.Cmp.{IsTotalOrder}
-use Rattle.std.specs.Ordering.{ordering_reverse}
-use Rattle.std.specs.declared.cmp.Ordering.{Ordering}
-use Rattle.std.specs.declared.cmp.Ordering.TheVariants.{Less, Equal, Greater}
-use Rattle.std.proofs.lemmas.Cmp.{tied_itself}
+use Rattle.aprs_book.proofs.Common.{◌≡◌, ◌∙◌, List, [], ◌∷◌, Some, refl, ap, AllByRecursion, IsStrictlySortedBy, lookup, keys_of, is_at, insert_entry, IsTotalOrder, ordering_reverse, Ordering, Less, Equal, Greater, tied_itself}
 
 module _ {K : Type 0} (R : K → K → Ordering) (total : IsTotalOrder R) where
   above : (k e : K) → R k e ≡ Greater → R e k ≡ Less

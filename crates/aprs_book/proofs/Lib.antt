@@ -4,6 +4,7 @@ mod IndexSteps
 mod Entries
 mod Searches
 mod EntryEnds
+pub mod Common
 pub mod InStore
 pub mod Slots
 pub mod Taking

@@ -1,21 +1,5 @@
 -- The messages of rows.
-use Rattle.std.proofs.Common.{◌≡◌, ◌∙◌, ℕ, ◌≤◌, min, max, true, List, Option, Some, None, sym, ap, refl, subst, inl, inr, arith, Bor, Result, Ok, Err, is_ok, OnOk}
-use Rattle.std.specs.Map.{lookup, keys_of}
-use Rattle.std.specs.BTreeMap.{is_at, insert_entry}
-use Rattle.std.specs.List.Sorted.{IsStrictlySortedBy}
-use Rattle.std.specs.Option.{option_cmp, option_map}
-use Rattle.std.specs.Cmp.{IsTotalOrder}
-use Rattle.std.specs.Cmp.Lexicographic.{options_total}
-use Rattle.std.specs.Ordering.{ordering_then}
-use Rattle.std.specs.declared.cmp.Ordering.{Ordering}
-use Rattle.std.proofs.lemmas.Cmp.{on_total, then_total}
-use Rattle.std.proofs.lemmas.Bool.{cases_lt}
-use Rattle.std.proofs.lemmas.Map.Lookups.{CmpEqualImpliesEq, exact_pairs}
-use Rattle.aprs_ax25.specs.Callsign.{Call, call_cmp}
-use Rattle.aprs_log.specs.Reception.{bytes_cmp}
-use Rattle.aprs_laws.specs.Lists.{◌∈◌}
-use Rattle.aprs_laws.specs.Row.{Row, row_key, last_of}
-use Rattle.aprs_laws.proofs.Orders.{call_total, call_exact, bytes_total, bytes_exact}
+use Rattle.aprs_book.proofs.Common.{◌≡◌, ◌∙◌, ℕ, ◌≤◌, min, max, true, List, Option, Some, None, sym, ap, refl, subst, inl, inr, arith, Bor, Result, Ok, Err, is_ok, OnOk, lookup, keys_of, is_at, insert_entry, IsStrictlySortedBy, option_cmp, option_map, IsTotalOrder, options_total, ordering_then, Ordering, on_total, then_total, cases_lt, CmpEqualImpliesEq, exact_pairs, Call, call_cmp, bytes_cmp, ◌∈◌, Row, row_key, last_of, call_total, call_exact, bytes_total, bytes_exact}
 use Rattle.aprs_book.specs.declared.lists.message_key.Span.{Span}
 use Rattle.aprs_book.specs.Messages.{Message, ReportsIt, message_in, message_cmp}
 use Rattle.aprs_book.specs.declared.lists.message_key.MessageKey.{MessageKey}

@@ -1,17 +1,7 @@
 -- What rows report of messages is what their set has.
-use Rattle.std.proofs.Common.{◌≡◌, ◌∙◌, ℕ, List, [], ◌∷◌, Option, Some, None, Result, Ok, Err, IfOk, sym, refl, subst}
-use Rattle.aprs_ax25.specs.Callsign.{Call}
-use Rattle.aprs_ax25.specs.CallText.{CallText}
-use Rattle.aprs_log.specs.Reception.{Heard, heard_cmp}
-use Rattle.aprs_laws.specs.Lists.{◌∈◌, Ordered}
-use Rattle.aprs_laws.specs.Order.{IsBelow, IsUpTo}
-use Rattle.aprs_laws.specs.Key.{Key, key_of}
-use Rattle.aprs_laws.specs.Row.{Row, row_key}
-use Rattle.aprs_laws.specs.Book.{BookOf}
-use Rattle.aprs_laws.specs.Best.{LastKnown, IsBest}
+use Rattle.aprs_book.proofs.Common.{◌≡◌, ◌∙◌, ℕ, List, [], ◌∷◌, Option, Some, None, Result, Ok, Err, IfOk, sym, refl, subst, Call, SpellsCall, Received, heard_cmp, ◌∈◌, Ordered, IsBelow, IsUpTo, Key, key_of, Row, row_key, BookOf, LastKnown, IsBest, a_row, best_of_rows, none_of_rows}
 use Rattle.aprs_laws.specs.Spans.{IsFirstMoment, IsLastMoment}
 use Rattle.aprs_laws.proofs.Spans.{first_moment, last_moment}
-use Rattle.aprs_laws.proofs.Views.{a_row, best_of_rows, none_of_rows}
 use Rattle.aprs_book.specs.declared.lists.message.MessageRow.{MessageRow}
 use Rattle.aprs_book.specs.declared.lists.message.MessageState.{MessageState}
 use Rattle.aprs_book.specs.declared.lists.message_key.MessageKey.{MessageKey}
@@ -35,15 +25,15 @@ answers_by : (m : Message) (a : Answer) (k : Key) (id : List ℕ) → IsFor m id
 answers_by m a k id f r =
     subst (λ (i : List ℕ). AnswersIt m i k) f.same_id (record {
       addressee = r.addressee;
-      sender = subst (λ (c : Call). CallText c m.addressee) (sym r.sender) f.addressee;
-      to = subst (λ (c : Call). CallText c r.addressee) f.source r.to;
+      sender = subst (λ (c : Call). SpellsCall c m.addressee) (sym r.sender) f.addressee;
+      to = subst (λ (c : Call). SpellsCall c r.addressee) f.source r.to;
       answer = r.answer;
     })
 
-module _ (gap : ℕ) (S : List Heard) (rows : List Row) (b : BookOf gap S rows) where
-  module _ (es : List (AnswerKey × Heard)) (c : AreAnswers rows es) (m : Message)
+module _ (gap : ℕ) (S : List Received) (rows : List Row) (b : BookOf gap S rows) where
+  module _ (es : List (AnswerKey × Received)) (c : AreAnswers rows es) (m : Message)
       (id : List ℕ) where
-    pub answer_known : (answer : Option Heard) → ReportsAnswer es m id answer
+    pub answer_known : (answer : Option Received) → ReportsAnswer es m id answer
         → LastKnown S (AnswersIt m id) answer
     answer_known None t =
         none_of_rows gap S rows (AnswersIt m id) b
@@ -63,13 +53,13 @@ module _ (gap : ℕ) (S : List Heard) (rows : List Row) (b : BookOf gap S rows) 
         (subst (λ (q : Answer). GivesAnswer q (row_key y))
         (t.3 (record { source = m.source; addressee = (row_key y).source; id = id }) a.1) a.0))))
 
-  stands : (es : List (AnswerKey × Heard)) → AreAnswers rows es → (m : Message) (first : ℕ)
+  stands : (es : List (AnswerKey × Received)) → AreAnswers rows es → (m : Message) (first : ℕ)
       (id : Option (List ℕ)) (state : MessageState) → StateFrom es m first id state
       → StandsBy S m first id state
   stands es c m first None state h = h
   stands es c m first (Some id) state h = (h.0, answer_known es c m id h.0 h.1, h.2)
 
-  module _ (es : List (MessageKey × Span)) (rs : List (AnswerKey × Heard)) (xs : List MessageRow)
+  module _ (es : List (MessageKey × Span)) (rs : List (AnswerKey × Received)) (xs : List MessageRow)
       (cs : AreSpans rows es) (ca : AreAnswers rows rs) (o : Ordered IsKeyBefore es)
       (z : Zipped (IsRowOfMessage rs) es xs) where
     each_row : (x : MessageRow) → x ∈ xs → IsMessageRow S x
@@ -94,7 +84,7 @@ module _ (gap : ℕ) (S : List Heard) (rows : List Row) (b : BookOf gap S rows) 
         }
 
     sent : (m : Message) → (x : MessageRow) × (x ∈ xs) × (shown_message x ≡ m)
-        → (s : Heard) × (s ∈ S) × ReportsIt m (key_of s.frame)
+        → (s : Received) × (s ∈ S) × ReportsIt m (key_of s.frame)
     sent m h =
         let e = in_zip_right (IsRowOfMessage rs) es xs h.0 z h.1 in
         let r = (cs.each e.0 e.1).first.row in (
@@ -103,7 +93,7 @@ module _ (gap : ℕ) (S : List Heard) (rows : List Row) (b : BookOf gap S rows) 
           subst (λ (n : Message). ReportsIt n (row_key r.0)) (sym e.2.message ∙ h.2) r.2,
         )
 
-    listed_there : (m : Message) → (s : Heard) × (s ∈ S) × ReportsIt m (key_of s.frame)
+    listed_there : (m : Message) → (s : Received) × (s ∈ S) × ReportsIt m (key_of s.frame)
         → (x : MessageRow) × (x ∈ xs) × (shown_message x ≡ m)
     listed_there m h =
         let y = a_row gap S rows b h.0 h.1 in
@@ -132,7 +122,7 @@ module _ (gap : ℕ) (S : List Heard) (rows : List Row) (b : BookOf gap S rows) 
 
 pub messages_of_book : {E : Type 0} (gap : ℕ) (A : Type 0) (items : A → List MessageRow)
     (r : Result A E)
-    (kept again rows : List Row) (es : List (MessageKey × Span)) (rs : List (AnswerKey × Heard))
+    (kept again rows : List Row) (es : List (MessageKey × Span)) (rs : List (AnswerKey × Received))
     → kept ≡ rows → again ≡ rows → AreSpans kept es → AreAnswers again rs → Ordered IsKeyBefore es
     → IfOk r (λ v. Zipped (IsRowOfMessage rs) es (items v))
     → IfOk r (λ v. ReportsMessages gap rows (items v))

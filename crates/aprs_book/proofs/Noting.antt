@@ -1,16 +1,10 @@
 -- What is noted after one more row.
-use Rattle.std.proofs.Common.{◌≡◌, ◌∙◌, ℕ, Bool, true, false, List, [], ◌∷◌, ◌++◌, Option, Some, None, if◌then◌else◌, map, refl, sym, ap, subst}
-use Rattle.aprs_log.specs.Reception.{Heard}
-use Rattle.aprs_laws.specs.Row.{Row, row_key}
-use Rattle.aprs_laws.specs.JoinRow.{greater}
-use Rattle.aprs_laws.specs.Best.{LastKnown, greater_known}
-use Rattle.aprs_laws.specs.BestLaws.{Passes}
-use Rattle.aprs_laws.proofs.Joins.{greatest_laws, is_greater_of}
+use Rattle.aprs_book.proofs.Common.{◌≡◌, ◌∙◌, ℕ, Bool, true, false, List, [], ◌∷◌, ◌++◌, Option, Some, None, if◌then◌else◌, map, refl, sym, ap, subst, Received, Row, row_key, greater, LastKnown, greater_known, Passes, greatest_laws, is_greater_of}
 use Rattle.aprs_book.specs.Known.{Topic, has_bytes, topic_bytes, is_report_on, greatest_of}
 use Rattle.aprs_book.proofs.IndexSteps.{pushes_note}
 
 -- the greatest of three
-greater_three : (k : Option Heard) (x y : Heard)
+greater_three : (k : Option Received) (x y : Received)
     → greater (greater_known k x) y ≡ greater_known k (greater x y)
 greater_three None x y = refl
 greater_three (Some g) x y =
@@ -18,7 +12,7 @@ greater_three (Some g) x y =
     (greater g (greater x y)) (is_greater_of g x) (is_greater_of (greater g x) y)
     (is_greater_of x y) (is_greater_of g (greater x y))
 
-one_more : (b : Bool) (k : Option Heard) (x y : Heard)
+one_more : (b : Bool) (k : Option Received) (x y : Received)
     → (if b then Some (greater_known (if b then Some (greater_known k x) else k) y)
     else (if b then Some (greater_known k x) else k))
     ≡ (if b then Some (greater_known k (greater x y)) else k)
@@ -26,9 +20,9 @@ one_more true k x y = ap Some (greater_three k x y)
 one_more false k x y = refl
 
 module _ (rows : List Row) (r : Row) (topic : Topic) (bytes : List ℕ) (o : Option (List ℕ))
-    (same : o ≡ topic_bytes topic (row_key r)) (k : Option Heard) where
+    (same : o ≡ topic_bytes topic (row_key r)) (k : Option Received) where
   -- a row that reports on what the last ones do
-  pub run_grows : (x : Heard)
+  pub run_grows : (x : Received)
       → LastKnown (map greatest_of rows) (Passes (is_report_on (topic_bytes topic) bytes))
       (if has_bytes bytes o then Some (greater_known k x) else k)
       → LastKnown (map greatest_of (rows ++ r ∷ []))
@@ -56,7 +50,7 @@ module _ (rows : List Row) (r : Row) (topic : Topic) (bytes : List ℕ) (o : Opt
       (pushes_note rows r (is_report_on (topic_bytes topic) bytes) k h)
 
   -- a row that reports on something else
-  pub run_begins : (x : Heard) → x ≡ r.greatest → (was : Option Heard) → k ≡ was
+  pub run_begins : (x : Received) → x ≡ r.greatest → (was : Option Received) → k ≡ was
       → LastKnown (map greatest_of rows) (Passes (is_report_on (topic_bytes topic) bytes)) was
       → LastKnown (map greatest_of (rows ++ r ∷ []))
       (Passes (is_report_on (topic_bytes topic) bytes))
@@ -65,6 +59,6 @@ module _ (rows : List Row) (r : Row) (topic : Topic) (bytes : List ℕ) (o : Opt
       let P = Passes (is_report_on (topic_bytes topic) bytes) in
       subst (LastKnown (map greatest_of (rows ++ r ∷ [])) P)
       (ap (λ p. if has_bytes bytes p then Some (greater_known k r.greatest) else k) (sym same)
-      ∙ ap (λ (y : Heard). if has_bytes bytes o then Some (greater_known k y) else k) (sym is))
+      ∙ ap (λ (y : Received). if has_bytes bytes o then Some (greater_known k y) else k) (sym is))
       (pushes_note rows r (is_report_on (topic_bytes topic) bytes) k
       (subst (LastKnown (map greatest_of rows) P) (sym e) h))

@@ -1,16 +1,5 @@
 -- The end of rows refuses what the rows refuse.
-use Rattle.std.proofs.Common.{◌≡◌, ◌∙◌, ℕ, ◌==◌, ◌<◌, false, not, ◌&&◌, ltb, List, [], ◌∷◌, ◌++◌, inl, inr, None, length, append_assoc, append-nil, arith, refl, sym, ap, subst, IfSome}
-use Rattle.std.specs.List.{last_or, list_any}
-use Rattle.std.specs.Option.{option_map_or}
-use Rattle.std.specs.Ordering.{is_lt, is_gt, ordering_then}
-use Rattle.std.specs.declared.cmp.Ordering.{Ordering}
-use Rattle.std.specs.declared.cmp.Ordering.TheVariants.{Less, Equal, Greater}
-use Rattle.aprs_laws.specs.Key.{key_cmp}
-use Rattle.aprs_laws.specs.Row.{Row, row_key, last_of}
-use Rattle.aprs_laws.specs.Sound.{ComesAfter}
-use Rattle.aprs_laws.proofs.Pushes.{empty_or_last}
-use Rattle.aprs_rows.specs.Refusal.{is_of_last, is_out_of_order, is_too_near, is_ascending, is_same_name, refusal}
-use Rattle.aprs_rows.proofs.Refusals.{last_after, first_of, refused_first, free_of_none, next_of_free}
+use Rattle.aprs_book.proofs.Common.{◌≡◌, ◌∙◌, ℕ, ◌==◌, ◌<◌, false, not, ◌&&◌, ltb, List, [], ◌∷◌, ◌++◌, inl, inr, None, length, append_assoc, append-nil, arith, refl, sym, ap, subst, IfSome, last_or, list_any, option_map_or, is_lt, is_gt, ordering_then, Ordering, Less, Equal, Greater, key_cmp, Row, row_key, last_of, ComesAfter, empty_or_last, is_of_last, is_out_of_order, is_too_near, is_ascending, is_same_name, refusal, last_after, first_of, refused_first, free_of_none, next_of_free}
 use Rattle.aprs_book.specs.Keyed.{LastKeyIsUpTo, IsEndOf}
 
 same_last : (end all : List Row) → IsEndOf end all → last_or None end ≡ last_or None all

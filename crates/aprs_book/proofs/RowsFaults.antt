@@ -1,20 +1,10 @@
 -- Rows are sound, or have one fault that isn't of memory.
-use Rattle.std.proofs.Common.{◌≡◌, ◌≢◌, ◌∙◌, ℕ, zero, suc, ◌+◌, ◌<◌, ◌≤◌, ◌⊎◌, inl, inr, List, [], ◌∷◌, ◌++◌, Option, None, Some, Err, get_or, length, take, drop, take-take, take_all, take-append-drop, refl, sym, ap, subst, arith}
-use Rattle.std.specs.List.{slice_get}
-use Rattle.std.proofs.lemmas.Bool.{cases_lt}
-use Rattle.std.proofs.lemmas.List.{take_more}
+use Rattle.aprs_book.proofs.Common.{◌≡◌, ◌≢◌, ◌∙◌, ℕ, zero, suc, ◌+◌, ◌<◌, ◌≤◌, ◌⊎◌, inl, inr, List, [], ◌∷◌, ◌++◌, Option, None, Some, Err, get_or, length, take, drop, take-take, take-append-drop, refl, sym, ap, subst, arith, slice_get, cases_lt, take_more, Row, Sound, sound_prefix, sound, book_of_nothing, RowCause, refusal, Answers, none_exactly, never_memory}
+use Rattle.std.proofs.Common.{take_all}
 use Rattle.std.proofs.lemmas.Option.{slice_get_cases, slice_get_read, slice_get_within, get_or_from_slice_get}
-use Rattle.aprs_laws.specs.Row.{Row}
-use Rattle.aprs_laws.specs.Sound.{Sound}
-use Rattle.aprs_laws.proofs.Pushes.{sound_prefix}
-use Rattle.aprs_laws.proofs.Soundness.{sound}
-use Rattle.aprs_laws.proofs.RunRows.{book_of_nothing}
-use Rattle.aprs_laws.specs.declared.row_cause.RowCause.{RowCause}
 use Rattle.aprs_laws.specs.declared.row_cause.RowCause.TheVariants.{Memory}
 use Rattle.aprs_book.specs.declared.from_parts.RowsFault.{RowsFault}
-use Rattle.aprs_rows.specs.Refusal.{refusal}
 use Rattle.aprs_book.specs.RowsFault.{IsRowsFault, AreSoundOrFaulty, SoundRowsAreFaultless, HaveOneRowsFault}
-use Rattle.aprs_rows.proofs.Refusals.{Answers, none_exactly, never_memory}
 
 -- ---- prefixes of rows
 

@@ -1,33 +1,14 @@
 -- The place of a reception among the rows of its head, found by halves.
-use Rattle.std.proofs.Common.{◌≡◌, ◌∙◌, ℕ, zero, suc, ◌+◌, ◌<◌, ◌≤◌, Bool, true, false, List, [], ◌∷◌, ◌++◌, Some, length, take, drop, get_or, refl, sym, ap, subst, inl, inr, arith}
-use Rattle.std.proofs.lemmas.List.{drop_all}
+use Rattle.aprs_book.proofs.Common.{◌≡◌, ◌∙◌, ℕ, zero, suc, ◌+◌, ◌<◌, ◌≤◌, Bool, true, false, List, [], ◌∷◌, ◌++◌, Some, length, take, drop, get_or, refl, sym, ap, subst, inl, inr, arith, drop_all, IsPartitionedBy, IsPartitionPoint, lookup, is_lt, is_gt, MatchOrdering, Ordering, Less, Equal, Greater, Received, ◌∈◌, Ordered, IsBelow, Row, last_of, row_cmp, single, IsNear, compare_near_to, grow_row, insert_heard, has_place_for, IsFar, Sound, in_right, IsBefore, before_trans, place_means, IsSound, one_relation, sound_prefix, by_order, head_cmp, KeyPrefix}
 use Rattle.std.proofs.lemmas.List.Sorted.{IsPartitionPoint-from_clause}
-use Rattle.std.specs.List.Sorted.{IsPartitionedBy, IsPartitionPoint}
 use Rattle.std.specs.Fn.{Called, ComputesKey}
-use Rattle.std.specs.Map.{lookup}
 use denote.Ref.{Bor}
 use denote.Param.Members.{Mut}
-use Rattle.std.specs.Ordering.{is_lt, is_gt, MatchOrdering}
-use Rattle.std.specs.declared.cmp.Ordering.{Ordering}
-use Rattle.std.specs.declared.cmp.Ordering.TheVariants.{Less, Equal, Greater}
-use Rattle.aprs_log.specs.Reception.{Heard}
-use Rattle.aprs_laws.specs.Lists.{◌∈◌, Ordered}
-use Rattle.aprs_laws.specs.Order.{IsBelow}
-use Rattle.aprs_laws.specs.Row.{Row, last_of, row_cmp}
-use Rattle.aprs_laws.specs.JoinRow.{single, IsNear}
-use Rattle.aprs_laws.specs.Inserted.{side, grow_row, insert_heard, fits_in_place}
-use Rattle.aprs_laws.specs.Sound.{IsFar, Sound}
-use Rattle.aprs_laws.proofs.Lists.{in_right}
-use Rattle.aprs_laws.proofs.Rows.{IsBefore, before_trans, place_means}
 use Rattle.aprs_laws.proofs.Parts.{place_before}
-use Rattle.aprs_laws.proofs.Pushes.{IsSound, one_relation, sound_prefix}
 use Rattle.aprs_book.proofs.Slots.{here, two_at, one_at, alone_end, alone_next}
-use Rattle.aprs_rows.proofs.Cases.{by_order}
-use Rattle.aprs_rows.specs.HeadSteps.{head_cmp}
-use Rattle.aprs_rows.specs.declared.row.head.Head.{Head}
 use Rattle.aprs_book.proofs.Entries.{test}
 use Rattle.aprs_book.specs.Slots.{IsNewAt, GrowsAt, BridgesAt}
-use Rattle.aprs_book.specs.Keyed.{rows_of}
+use Rattle.aprs_book.specs.Keyed.{rows_by_key}
 
 in_get : {X : Type 0} (xs : List X) (i : ℕ) (d : X) → i < length xs → get_or xs i d ∈ xs
 in_get [] i d h = absurd (omega (arith, h))
@@ -65,16 +46,16 @@ neither_is Less e f = absurd (cc)
 neither_is Equal e f = refl
 neither_is Greater e f = absurd (cc)
 
-module _ (gap : ℕ) (x : Heard) where
+module _ (gap : ℕ) (x : Received) where
   -- a row that lies before x
   abbrev pub is_before : Row → Bool
-  is_before r = is_lt (side gap r x)
+  is_before r = is_lt (compare_near_to gap r x)
 
   -- and one that lies after x
   abbrev pub is_after : Row → Bool
-  is_after r = is_gt (side gap r x)
+  is_after r = is_gt (compare_near_to gap r x)
 
-  lies_before : (r : Row) → side gap r x ≡ Less → IsBefore gap r (single x)
+  lies_before : (r : Row) → compare_near_to gap r x ≡ Less → IsBefore gap r (single x)
   lies_before r e =
       subst (λ (o : Ordering). MatchOrdering o (IsBefore gap r (single x)) (IsNear gap r (single x))
       (IsBefore gap (single x) r)) e (place_means gap r (single x))
@@ -84,7 +65,7 @@ module _ (gap : ℕ) (x : Heard) where
       → is_before q ≡ true
   passes q r l b e =
       ap is_lt (place_before gap q (single x) (before_trans gap q r (single x) l b
-      (lies_before r (less_is (side gap r x) e))))
+      (lies_before r (less_is (compare_near_to gap r x) e))))
 
   parted : (rows : List Row) → IsSound gap rows → IsPartitionedBy is_before rows
   parted [] s i j d l w e = absurd (omega (arith, w))
@@ -120,18 +101,18 @@ module _ (gap : ℕ) (x : Heard) where
   passed : (rows : List Row) (i : ℕ) → i ≤ length rows
       → ((k : ℕ) (d : Row) → k < i → is_before (get_or rows k d) ≡ true)
       → (insert_heard gap x rows ≡ take i rows ++ insert_heard gap x (drop i rows))
-      × (fits_in_place gap x rows ≡ fits_in_place gap x (drop i rows))
+      × (has_place_for gap x rows ≡ has_place_for gap x (drop i rows))
   passed rows zero w b = (refl, refl)
   passed [] (suc i) w b = absurd (omega (arith, w))
   passed (r ∷ rows) (suc i) w b =
       let first : is_before r ≡ true = b 0 r (omega arith) in
       let rest = passed rows i (omega (arith, w)) (λ k d l. b (suc k) d (omega (arith, l))) in
-      let at = less_is (side gap r x) first in
+      let at = less_is (compare_near_to gap r x) first in
       (rw at (ap (λ t. r ∷ t) rest.0), rw at rest.1)
 
   split : (rows : List Row) (i : ℕ) → IsFound rows i
       → (insert_heard gap x rows ≡ take i rows ++ insert_heard gap x (drop i rows))
-      × (fits_in_place gap x rows ≡ fits_in_place gap x (drop i rows))
+      × (has_place_for gap x rows ≡ has_place_for gap x (drop i rows))
   split rows i f = passed rows i f.within (λ k d l. f.point.0 k d (omega arith) l)
 
   -- a row from there on is not before x
@@ -140,8 +121,8 @@ module _ (gap : ℕ) (x : Heard) where
   not_before rows i j r f l w e = ap is_before e ∙ f.point.1 j r l w
 
   is_near : (rows : List Row) (i j : ℕ) (r : Row) → IsFound rows i → i ≤ j → j < length rows
-      → r ≡ get_or rows j r → is_after r ≡ false → side gap r x ≡ Equal
-  is_near rows i j r f l w e a = neither_is (side gap r x) (not_before rows i j r f l w e) a
+      → r ≡ get_or rows j r → is_after r ≡ false → compare_near_to gap r x ≡ Equal
+  is_near rows i j r f l w e a = neither_is (compare_near_to gap r x) (not_before rows i j r f l w e) a
 
   -- ---- what the code does
 
@@ -154,7 +135,7 @@ module _ (gap : ℕ) (x : Heard) where
         inserts =
             s.0 ∙ ap (λ t. take i rows ++ insert_heard gap x t) none
             ∙ ap (λ t. take i rows ++ single x ∷ t) (sym none);
-        in_place = s.1 ∙ ap (λ t. fits_in_place gap x t) none;
+        in_place = s.1 ∙ ap (λ t. has_place_for gap x t) none;
       }
 
   pub new_before : (rows : List Row) (i : ℕ) (r : Row) → IsFound rows i → i < length rows
@@ -162,12 +143,12 @@ module _ (gap : ℕ) (x : Heard) where
   new_before rows i r f w e a =
       let s = split rows i f in
       let at = here rows i r w e in
-      let far = greater_is (side gap r x) a in record {
+      let far = greater_is (compare_near_to gap r x) a in record {
         within = f.within;
         inserts =
             s.0 ∙ ap (λ t. take i rows ++ insert_heard gap x t) at
             ∙ rw far (ap (λ t. take i rows ++ single x ∷ t) (sym at));
-        in_place = s.1 ∙ ap (λ t. fits_in_place gap x t) at ∙ rw far refl;
+        in_place = s.1 ∙ ap (λ t. has_place_for gap x t) at ∙ rw far refl;
       }
 
   pub grows_last : (rows : List Row) (i : ℕ) (r : Row) → IsFound rows i → i + 1 ≡ length rows
@@ -186,7 +167,7 @@ module _ (gap : ℕ) (x : Heard) where
   grows_before rows i r n f w e a e' a' =
       let s = split rows i f in
       let within : i < length rows = omega (arith, w) in
-      let far = greater_is (side gap n x) a' in
+      let far = greater_is (compare_near_to gap n x) a' in
       let alone =
       alone_next gap x (grow_row r x) n _ _ (here rows (suc i) n w e')
       (λ o. absurd (let no : Greater ≡ Equal = sym far ∙ o in cc)) in
@@ -207,17 +188,17 @@ module _ (gap : ℕ) (x : Heard) where
 -- ---- a key's rows among those of all keys
 
 module _ {V : Type 0} (rows : V → List Row) where
-  pub found_sound : (gap : ℕ) (k : Head) (es : List (Head × V)) (old : V)
-      → Sound gap (rows_of rows es) → lookup (test k) es ≡ Some old
+  pub found_sound : (gap : ℕ) (k : KeyPrefix) (es : List (KeyPrefix × V)) (old : V)
+      → Sound gap (rows_by_key rows es) → lookup (test k) es ≡ Some old
       → Sound gap (rows old)
   found_sound gap k [] old s found = absurd (cc)
   found_sound gap k (e ∷ es) old s found =
-      let others = sound_back gap (rows e.1) (rows_of rows es) s in
+      let others = sound_back gap (rows e.1) (rows_by_key rows es) s in
       by_order (head_cmp k e.0)
       (λ o. found_sound gap k es old others (rw o at found))
       (λ o.
       let f : Some e.1 ≡ Some old = rw o at found in
       let r : e.1 ≡ old = cc in
       subst (λ (v : V). Sound gap (rows v)) r (sound_prefix gap (rows e.1)
-      (rows_of rows es) s))
+      (rows_by_key rows es) s))
       (λ o. found_sound gap k es old others (rw o at found))

@@ -1,22 +1,5 @@
 -- The objects and items that the indexes know.
-use Rattle.std.proofs.Common.{◌≡◌, ◌∙◌, ℕ, Bool, true, false, List, [], ◌∷◌, ◌++◌, map, Option, Some, None, sym, ap, refl, subst, inl, inr}
-use Rattle.std.specs.Prelude.{IsTrue}
-use Rattle.std.specs.Cmp.{IsTotalOrder, bool_cmp_total}
-use Rattle.std.specs.Ordering.{is_eq, ordering_then, bool_cmp}
-use Rattle.std.proofs.lemmas.Cmp.{tied_itself, on_total, then_total}
-use Rattle.std.proofs.lemmas.Map.Lookups.{CmpEqualImpliesEq, exact_pairs}
-use Rattle.aprs_ax25.specs.Callsign.{Call}
-use Rattle.aprs_log.specs.Reception.{Heard, bytes_cmp}
-use Rattle.aprs_report.specs.Reading.{Value, position, object, item, message, ack, rej, status, raw}
-use Rattle.aprs_laws.specs.Lists.{◌∈◌, Ordered}
-use Rattle.aprs_laws.specs.Order.{IsBelow}
-use Rattle.aprs_laws.specs.Key.{Key, key_of}
-use Rattle.aprs_laws.specs.Row.{Row}
-use Rattle.aprs_laws.specs.Book.{BookOf}
-use Rattle.aprs_laws.specs.Best.{IsBest, LastKnown}
-use Rattle.aprs_laws.specs.BestLaws.{Passes}
-use Rattle.aprs_laws.proofs.Lists.{in_left, in_right, in_either, in_map, from_map}
-use Rattle.aprs_laws.proofs.Orders.{bytes_total, bytes_exact}
+use Rattle.aprs_book.proofs.Common.{◌≡◌, ◌∙◌, ℕ, Bool, true, false, List, [], ◌∷◌, ◌++◌, map, Option, Some, None, sym, ap, refl, subst, inl, inr, IsTrue, IsTotalOrder, bool_cmp_total, is_eq, ordering_then, bool_cmp, tied_itself, on_total, then_total, CmpEqualImpliesEq, exact_pairs, Call, Received, bytes_cmp, Value, position, object, item, message, ack, rej, status, raw, ◌∈◌, Ordered, IsBelow, Key, key_of, Row, BookOf, IsBest, LastKnown, Passes, in_left, in_right, in_either, in_map, from_map, bytes_total, bytes_exact, by_order}
 use Rattle.aprs_book.specs.declared.lists.named.Named.{Named}
 use Rattle.aprs_book.specs.Reports.{report_of}
 use Rattle.aprs_book.specs.Names.{Thing, reported_thing, thing_cmp, ReportsOf, shown_thing, IsNamedBefore, AreNamed, ReportsNamed}
@@ -24,7 +7,6 @@ use Rattle.aprs_book.specs.NamedRows.{shown_report, report_in, reports_in}
 use Rattle.aprs_book.specs.Known.{Entries, FourIndexes, Topic, objects, items, index_of, entry_at, entry_known, known_at, has_bytes, is_report_on, report_bytes, topic_bytes, IsEntryBefore, AreIndexesOf}
 use Rattle.aprs_book.proofs.Collected.{found, absent, one_entry}
 use Rattle.aprs_book.proofs.IndexSteps.{entry_reports}
-use Rattle.aprs_rows.proofs.Cases.{by_order}
 
 thing_total : IsTotalOrder thing_cmp
 thing_total =
@@ -106,43 +88,43 @@ reports_by t k e =
 abbrev itself : List ℕ → List ℕ
 itself bytes = bytes
 
-known_entry : (es : Entries) (name : List ℕ) (g : Heard) → known_at name es ≡ Some g
+known_entry : (es : Entries) (name : List ℕ) (g : Received) → known_at name es ≡ Some g
     → (name, Some g) ∈ es
 known_entry es name g h = case (entry_at name es) refl where
-  case : (o : Option (Option Heard)) → entry_at name es ≡ o → (name, Some g) ∈ es
+  case : (o : Option (Option Received)) → entry_at name es ≡ o → (name, Some g) ∈ es
   case None e = absurd (let n : None ≡ Some g = sym (ap entry_known e) ∙ h in cc)
   case (Some known) e =
       let f = found itself bytes_cmp bytes_total bytes_exact name known es e in
       let same : known ≡ Some g = sym (ap entry_known e) ∙ h in
       subst (λ (n : List ℕ). (n, Some g) ∈ es) (sym f.2)
-      (subst (λ (k : Option Heard). (f.0.0, k) ∈ es) (f.3 ∙ same) f.1)
+      (subst (λ (k : Option Received). (f.0.0, k) ∈ es) (f.3 ∙ same) f.1)
 
-entry_is_known : (es : Entries) (name : List ℕ) (g : Heard) → Ordered IsEntryBefore es
+entry_is_known : (es : Entries) (name : List ℕ) (g : Received) → Ordered IsEntryBefore es
     → (name, Some g) ∈ es → known_at name es ≡ Some g
 entry_is_known es name g o m = case (entry_at name es) refl where
-  case : (o : Option (Option Heard)) → entry_at name es ≡ o → known_at name es ≡ Some g
+  case : (o : Option (Option Received)) → entry_at name es ≡ o → known_at name es ≡ Some g
   case None e =
       absurd (absent itself bytes_cmp bytes_total bytes_exact name es e (name, Some g) m refl)
   case (Some known) e =
       let f = found itself bytes_cmp bytes_total bytes_exact name known es e in
       let one =
       one_entry itself bytes_cmp bytes_total bytes_exact es o f.0 (name, Some g) f.1 m (sym f.2) in
-      ap entry_known e ∙ sym f.3 ∙ ap (λ (p : List ℕ × Option Heard). p.1) one
+      ap entry_known e ∙ sym f.3 ∙ ap (λ (p : List ℕ × Option Received). p.1) one
 
 -- ---- the reports of one index
 
-first_report : (is_item : Bool) (name : List ℕ) (known : Option Heard) (t : Thing) (g : Heard)
+first_report : (is_item : Bool) (name : List ℕ) (known : Option Received) (t : Thing) (g : Received)
     → (t, g) ∈ report_in is_item name known
     → (t.is_item ≡ is_item) × (name ≡ t.name) × (known ≡ Some g)
 first_report is_item name None t g h = absurd h
 first_report is_item name (Some x) t g (inl e) = (
-  sym (ap (λ (p : Thing × Heard). p.0.is_item) e),
-  ap (λ (p : Thing × Heard). p.0.name) e,
-  ap (λ (p : Thing × Heard). Some p.1) e,
+  sym (ap (λ (p : Thing × Received). p.0.is_item) e),
+  ap (λ (p : Thing × Received). p.0.name) e,
+  ap (λ (p : Thing × Received). Some p.1) e,
 )
 first_report is_item name (Some x) t g (inr j) = absurd j
 
-report_entry : (is_item : Bool) (es : Entries) (t : Thing) (g : Heard)
+report_entry : (is_item : Bool) (es : Entries) (t : Thing) (g : Received)
     → (t, g) ∈ reports_in is_item es → (t.is_item ≡ is_item) × ((t.name, Some g) ∈ es)
 report_entry is_item [] t g h = absurd h
 report_entry is_item (e ∷ es) t g h =
@@ -151,17 +133,17 @@ report_entry is_item (e ∷ es) t g h =
           let f = first_report is_item e.0 e.1 t g j in (
             f.0,
             subst (λ (n : List ℕ). (n, Some g) ∈ (e ∷ es)) f.1
-                (subst (λ (k : Option Heard). (e.0, k) ∈ (e ∷ es)) f.2 (inl refl)),
+                (subst (λ (k : Option Received). (e.0, k) ∈ (e ∷ es)) f.2 (inl refl)),
           )
       | inr j ↦ let r = report_entry is_item es t g j in (r.0, inr r.1)
     ]
 
-entry_report : (is_item : Bool) (es : Entries) (name : List ℕ) (g : Heard) → (name, Some g) ∈ es
+entry_report : (is_item : Bool) (es : Entries) (name : List ℕ) (g : Received) → (name, Some g) ∈ es
     → (thing is_item name, g) ∈ reports_in is_item es
 entry_report is_item [] name g h = absurd h
 entry_report is_item (e ∷ es) name g (inl s) =
     in_left (thing is_item name, g) (report_in is_item e.0 e.1) (reports_in is_item es)
-    (subst (λ (p : List ℕ × Option Heard). (thing is_item name, g) ∈ report_in is_item p.0 p.1)
+    (subst (λ (p : List ℕ × Option Received). (thing is_item name, g) ∈ report_in is_item p.0 p.1)
     (sym s) (inl refl))
 entry_report is_item (e ∷ es) name g (inr j) =
     in_right (thing is_item name, g) (report_in is_item e.0 e.1) (reports_in is_item es)
@@ -169,7 +151,7 @@ entry_report is_item (e ∷ es) name g (inr j) =
 
 -- ---- in order
 
-abbrev IsReportBefore : Thing × Heard → Thing × Heard → Type 0
+abbrev IsReportBefore : Thing × Received → Thing × Received → Type 0
 IsReportBefore a b = IsBelow thing_cmp a.0 b.0
 
 by_name : (is_item : Bool) (a b : List ℕ) → IsBelow bytes_cmp a b
@@ -182,9 +164,9 @@ items_later a b e f =
     ap (λ o. ordering_then o (bytes_cmp a.name b.name))
     (ap (λ t. bool_cmp t b.is_item) e ∙ ap (bool_cmp false) f)
 
-report_first : (is_item : Bool) (name : List ℕ) (known : Option Heard)
-    (later : List (Thing × Heard))
-    → ((x : Thing × Heard) → x ∈ later → IsBelow thing_cmp (thing is_item name) x.0)
+report_first : (is_item : Bool) (name : List ℕ) (known : Option Received)
+    (later : List (Thing × Received))
+    → ((x : Thing × Received) → x ∈ later → IsBelow thing_cmp (thing is_item name) x.0)
     → Ordered IsReportBefore later → Ordered IsReportBefore (report_in is_item name known ++ later)
 report_first is_item name None later f o = o
 report_first is_item name (Some g) later f o = (f, o)
@@ -217,13 +199,13 @@ named_ascend (x ∷ xs) o = (
 
 -- ---- the reports of both indexes
 
-abbrev all_reports : FourIndexes → List (Thing × Heard)
+abbrev all_reports : FourIndexes → List (Thing × Received)
 all_reports i = reports_in false i.objects ++ reports_in true i.items
 
-abbrev known_of : FourIndexes → Thing → Option Heard
+abbrev known_of : FourIndexes → Thing → Option Received
 known_of i t = known_at t.name (index_of (topic_of t.is_item) i)
 
-known_report : (i : FourIndexes) (is_item : Bool) (name : List ℕ) (g : Heard)
+known_report : (i : FourIndexes) (is_item : Bool) (name : List ℕ) (g : Received)
     → known_of i (thing is_item name) ≡ Some g → (thing is_item name, g) ∈ all_reports i
 known_report i false name g h =
     in_left (thing false name, g) (reports_in false i.objects) (reports_in true i.items)
@@ -234,7 +216,7 @@ known_report i true name g h =
 
 module _ (i : FourIndexes) (o : Ordered IsEntryBefore i.objects)
     (p : Ordered IsEntryBefore i.items) where
-  report_known : (t : Thing) (g : Heard) → (t, g) ∈ all_reports i → known_of i t ≡ Some g
+  report_known : (t : Thing) (g : Received) → (t, g) ∈ all_reports i → known_of i t ≡ Some g
   report_known t g h =
       elim (in_either (t, g) (reports_in false i.objects) (reports_in true i.items) h) [
         | inl j ↦
@@ -256,7 +238,7 @@ module _ (i : FourIndexes) (o : Ordered IsEntryBefore i.objects)
 
   -- ---- of a set
 
-  module _ (gap : ℕ) (S : List Heard) (rows : List Row) (b : BookOf gap S rows)
+  module _ (gap : ℕ) (S : List Received) (rows : List Row) (b : BookOf gap S rows)
       (h : AreIndexesOf rows i) (xs : List Named) (e : map shown_report xs ≡ all_reports i) where
     last_known : (t : Thing) → LastKnown S (Passes (reports_thing t)) (known_of i t)
     last_known t =
@@ -267,7 +249,7 @@ module _ (i : FourIndexes) (o : Ordered IsEntryBefore i.objects)
         let t = shown_thing x in
         let known =
         report_known t x.heard
-        (subst (λ (l : List (Thing × Heard)). shown_report x ∈ l) e (in_map shown_report x xs m)) in
+        (subst (λ (l : List (Thing × Received)). shown_report x ∈ l) e (in_map shown_report x xs m)) in
         let g : IsBest S (Passes (reports_thing t)) x.heard =
         subst (LastKnown S (Passes (reports_thing t))) known (last_known t) in
         record {
@@ -277,25 +259,25 @@ module _ (i : FourIndexes) (o : Ordered IsEntryBefore i.objects)
         }
 
     reported_of : (t : Thing) → (x : Named) × (x ∈ xs) × (shown_thing x ≡ t)
-        → (s : Heard) × (s ∈ S) × ReportsOf t (key_of s.frame)
+        → (s : Received) × (s ∈ S) × ReportsOf t (key_of s.frame)
     reported_of t n =
         let k = best n.0 n.1 in
         let reported = subst (λ (u : Thing). ReportsOf u (key_of n.0.heard.frame)) n.2 k.property in
         (n.0.heard, k.member, reported)
 
-    listed_of : (t : Thing) → (s : Heard) × (s ∈ S) × ReportsOf t (key_of s.frame)
+    listed_of : (t : Thing) → (s : Received) × (s ∈ S) × ReportsOf t (key_of s.frame)
         → (x : Named) × (x ∈ xs) × (shown_thing x ≡ t)
     listed_of t n = there (known_of i t) refl (last_known t) where
-      there : (known : Option Heard) → known_of i t ≡ known
+      there : (known : Option Received) → known_of i t ≡ known
           → LastKnown S (Passes (reports_thing t)) known
           → (x : Named) × (x ∈ xs) × (shown_thing x ≡ t)
       there None k none = absurd (none n.0 n.1 (reports_by t (key_of n.0.frame) n.2))
       there (Some g) k h =
           let m =
-          subst (λ (l : List (Thing × Heard)). (t, g) ∈ l) (sym e)
+          subst (λ (l : List (Thing × Received)). (t, g) ∈ l) (sym e)
           (known_report i t.is_item t.name g k) in
           let f = from_map shown_report (t, g) xs m in
-          (f.0, f.1, ap (λ (r : Thing × Heard). r.0) f.2)
+          (f.0, f.1, ap (λ (r : Thing × Received). r.0) f.2)
 
     named_of_set : AreNamed S xs
     named_of_set = record {

@@ -1,18 +1,6 @@
 -- Worked examples.
-use Rattle.std.proofs.Common.{◌≡◌, ℕ, true, false, None, List, [], ◌∷◌, ◌++◌, codes, inl, inr, refl, sym, ap, ◌∙◌, subst, arith}
-use Rattle.aprs_ax25.specs.CallText.{CallText}
+use Rattle.aprs_book.proofs.Common.{◌≡◌, ℕ, true, false, None, List, [], ◌∷◌, ◌++◌, codes, inl, inr, refl, sym, ap, ◌∙◌, subst, arith, SpellsCall, Received, heard_cmp, message, ack, rej, report_by_form, message_with, addressee_and_part_of, answer_at, text_and_id_of, object_of, item_of, item_field_of, stamp_at, place_of, plain_of, angle_of, minutes_of, numeral_of, cut_end, IsUpTo, Key, key_of, IsBest, LastKnown, n0call, known_once, heard_total, up_to_itself}
 use Rattle.aprs_ax25.proofs.Calls.{ssid_text-one}
-use Rattle.aprs_log.specs.Reception.{Heard, heard_cmp}
-use Rattle.aprs_report.specs.Reading.{message, ack, rej}
-use Rattle.aprs_report.specs.Reader.{report_by_form, message_of, addressee_and_part_of, answer_at, text_and_id_of}
-use Rattle.aprs_report.specs.Reader.{object_of, item_of, item_field_of, stamp_at, place_of, plain_of, angle_of, minutes_of, numeral_of}
-use Rattle.aprs_report.specs.Reader.{cut_end}
-use Rattle.aprs_laws.specs.Order.{IsUpTo}
-use Rattle.aprs_laws.specs.Key.{Key, key_of}
-use Rattle.aprs_laws.specs.Best.{IsBest, LastKnown}
-use Rattle.aprs_laws.specs.Examples.{n0call}
-use Rattle.aprs_laws.proofs.Known.{known_once}
-use Rattle.aprs_laws.proofs.Orders.{heard_total, up_to_itself}
 use Rattle.aprs_book.specs.declared.lists.message.MessageState.{MessageState}
 use Rattle.aprs_book.specs.Reports.{report_of}
 use Rattle.aprs_book.specs.Names.{ReportsOf}
@@ -21,13 +9,13 @@ use Rattle.aprs_book.specs.Examples.{hi_message, one, asked_at, acknowledged_at,
 
 -- ---- texts of callsigns
 
-pub seven_text : CallText (n0call 7) (codes "N0CALL-7")
+pub seven_text : SpellsCall (n0call 7) (codes "N0CALL-7")
 seven_text = record {
   call = record { some = omega arith; most = omega arith; bytes = refl; ssid = omega arith };
   spelled = ap (λ ssid. codes "N0CALL" ++ ssid) (sym (ssid_text-one 7 (omega arith) (omega arith)));
 }
 
-pub eight_text : CallText (n0call 8) (codes "N0CALL-8")
+pub eight_text : SpellsCall (n0call 8) (codes "N0CALL-8")
 eight_text = record {
   call = record { some = omega arith; most = omega arith; bytes = refl; ssid = omega arith };
   spelled = ap (λ ssid. codes "N0CALL" ++ ssid) (sym (ssid_text-one 8 (omega arith) (omega arith)));
@@ -37,24 +25,24 @@ eight_text = record {
 
 pub asked_reads : report_of (key_of (asked_at 0).frame)
     ≡ message (codes "N0CALL-8") (codes "Hi") one
-unfolding key_of report_by_form message_of addressee_and_part_of answer_at text_and_id_of cut_end
+unfolding key_of report_by_form message_with addressee_and_part_of answer_at text_and_id_of cut_end
 asked_reads = refl
 
 pub acknowledged_reads : report_of (key_of (acknowledged_at 0).frame)
     ≡ ack (codes "N0CALL-7") (codes "1")
-unfolding key_of report_by_form message_of addressee_and_part_of answer_at text_and_id_of cut_end
+unfolding key_of report_by_form message_with addressee_and_part_of answer_at text_and_id_of cut_end
 acknowledged_reads = refl
 
 pub rejected_reads : report_of (key_of (rejected_at 0).frame) ≡ rej (codes "N0CALL-7") (codes "1")
-unfolding key_of report_by_form message_of addressee_and_part_of answer_at text_and_id_of cut_end
+unfolding key_of report_by_form message_with addressee_and_part_of answer_at text_and_id_of cut_end
 rejected_reads = refl
 
 pub asked_is : ReportsIt (hi_message one) (key_of (asked_at 0).frame)
-unfolding key_of report_by_form message_of addressee_and_part_of answer_at text_and_id_of cut_end
+unfolding key_of report_by_form message_with addressee_and_part_of answer_at text_and_id_of cut_end
 asked_is = refl
 
 pub acknowledged_is : message_in (key_of (acknowledged_at 0).frame) ≡ None
-unfolding key_of report_by_form message_of addressee_and_part_of answer_at text_and_id_of cut_end
+unfolding key_of report_by_form message_with addressee_and_part_of answer_at text_and_id_of cut_end
 acknowledged_is = refl
 
 -- ---- answers
@@ -88,11 +76,11 @@ no_answer a = elim a.answer [
 ]
 
 -- a member of a set that is this one
-is_up_to : (x y s : Heard) → x ≡ s → IsUpTo heard_cmp x y → IsUpTo heard_cmp s y
-is_up_to x y s e u = subst (λ (t : Heard). IsUpTo heard_cmp t y) e u
+is_up_to : (x y s : Received) → x ≡ s → IsUpTo heard_cmp x y → IsUpTo heard_cmp s y
+is_up_to x y s e u = subst (λ (t : Received). IsUpTo heard_cmp t y) e u
 
-asked_answers_not : (m : ℕ) (s : Heard) → asked_at m ≡ s → Answers (key_of s.frame) → ⊥
-asked_answers_not m s e a = no_answer (subst (λ (t : Heard). Answers (key_of t.frame)) (sym e) a)
+asked_answers_not : (m : ℕ) (s : Received) → asked_at m ≡ s → Answers (key_of s.frame) → ⊥
+asked_answers_not m s e a = no_answer (subst (λ (t : Received). Answers (key_of t.frame)) (sym e) a)
 
 pub none_answers : LastKnown (asked_at 0 ∷ []) Answers None
 none_answers = λ s h a. elim h [ inl e ↦ asked_answers_not 0 s e a | inr j ↦ j ]
@@ -148,7 +136,7 @@ answered_once = record {
 }
 
 -- a message has one state
-pub one_state : (S : List Heard) (first : ℕ) (a b : MessageState)
+pub one_state : (S : List Received) (first : ℕ) (a b : MessageState)
     → StandsBy S (hi_message one) first one a → StandsBy S (hi_message one) first one b → a ≡ b
 one_state S first a b s t = s.2
     ∙ (ap (state_by first) (known_once S S Answers s.0 t.0 (λ x. (λ h. h, λ h. h)) s.1 t.1)

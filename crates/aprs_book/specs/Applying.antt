@@ -1,20 +1,20 @@
 -- What applying one step does. No public clause cites this module.
 use Rattle.std.specs.Prelude.{◌≡◌, ℕ, List, [], ◌∷◌, ◌++◌, get_or, slice_set}
-use Rattle.aprs_log.specs.Reception.{Heard}
+use Rattle.aprs_log.specs.Reception.{Received}
 use Rattle.aprs_laws.specs.BookValue.{BookValue}
 use Rattle.aprs_book.specs.Replay.{HoldsUnder, empty_book}
 use Rattle.aprs_book.specs.declared.steps.Step.{Step}
 use Rattle.aprs_book.specs.declared.steps.Step.TheVariants.{Take, Merge}
 
 -- Whatever set the old book holds, the new one holds that set and x.
-abbrev pub TakesUnder : ℕ → BookValue → Heard → BookValue → Type 0
+abbrev pub TakesUnder : ℕ → BookValue → Received → BookValue → Type 0
 TakesUnder gap old x new =
-    (S : List Heard) → HoldsUnder gap S old → HoldsUnder gap (S ++ x ∷ []) new
+    (S : List Received) → HoldsUnder gap S old → HoldsUnder gap (S ++ x ∷ []) new
 
 -- Whatever sets the books hold, `both` holds them together.
 abbrev pub MergesUnder : ℕ → BookValue → BookValue → BookValue → Type 0
 MergesUnder gap a b both =
-    (S T : List Heard) → HoldsUnder gap S a → HoldsUnder gap T b → HoldsUnder gap (S ++ T) both
+    (S T : List Received) → HoldsUnder gap S a → HoldsUnder gap T b → HoldsUnder gap (S ++ T) both
 
 -- The step's first place has a new book, which has taken what the step says, and the others stay.
 abbrev pub IsApplied : ℕ → Step → List BookValue → List BookValue → Type 0

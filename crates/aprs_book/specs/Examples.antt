@@ -1,9 +1,9 @@
 -- Receptions and rows of the lists that the worked examples are about.
 use Rattle.std.specs.Prelude.{ℕ, ◌+◌, ◌*◌, Bool, List, [], ◌∷◌, Option, Some, codes}
 use denote.Ref.{Bor}
-use Rattle.aprs_log.specs.Reception.{Heard}
+use Rattle.aprs_log.specs.Reception.{Received}
 use Rattle.aprs_laws.specs.Row.{Row}
-use Rattle.aprs_laws.specs.Examples.{n0call, rx1, heard, row_of}
+use Rattle.aprs_laws.specs.Examples.{n0call, rx1, reception_at, example_row}
 use Rattle.aprs_book.specs.declared.lists.message.MessageRow.{MessageRow}
 use Rattle.aprs_book.specs.declared.lists.message.MessageState.{MessageState}
 use Rattle.aprs_book.specs.declared.lists.named.Named.{Named}
@@ -16,9 +16,9 @@ frame_by ssid info =
     0x82 ∷ 0xA0 ∷ 0xA4 ∷ 0xA6 ∷ 0x40 ∷ 0x40 ∷ 0xE0
     ∷ 0x9C ∷ 0x60 ∷ 0x86 ∷ 0x82 ∷ 0x98 ∷ 0x98 ∷ (0x61 + 2 * ssid) ∷ 0x03 ∷ 0xF0 ∷ info
 
--- That frame, as RX1 heard it at a moment.
-abbrev pub heard_by : ℕ → ℕ → List ℕ → Heard
-heard_by ssid moment info = heard moment rx1 (frame_by ssid info)
+-- That frame, as RX1 reception_at it at a moment.
+abbrev pub heard_by : ℕ → ℕ → List ℕ → Received
+heard_by ssid moment info = reception_at moment rx1 (frame_by ssid info)
 
 -- Bytes that are lent.
 abbrev pub lent : List ℕ → Bor (List ℕ)
@@ -39,16 +39,16 @@ hi_message id = message_by 7 (codes "N0CALL-8") (codes "Hi") id
 abbrev pub one : Option (List ℕ)
 one = Some (codes "1")
 
--- That message with the id 1, as it is heard.
-abbrev pub asked_at : ℕ → Heard
+-- That message with the id 1, as it is reception_at.
+abbrev pub asked_at : ℕ → Received
 asked_at moment = heard_by 7 moment (codes ":N0CALL-8 :Hi{1")
 
 -- Its acknowledgement.
-abbrev pub acknowledged_at : ℕ → Heard
+abbrev pub acknowledged_at : ℕ → Received
 acknowledged_at moment = heard_by 8 moment (codes ":N0CALL-7 :ack1")
 
 -- Its rejection.
-abbrev pub rejected_at : ℕ → Heard
+abbrev pub rejected_at : ℕ → Received
 rejected_at moment = heard_by 8 moment (codes ":N0CALL-7 :rej1")
 
 -- Its row of the list, of these moments and this state.
@@ -64,31 +64,31 @@ hi_listed first last state = record {
 }
 
 -- It is sent, acknowledged, and sent once more.
-abbrev pub asked_again : List Heard
+abbrev pub asked_again : List Received
 asked_again = asked_at 0 ∷ acknowledged_at 10 ∷ asked_at 20 ∷ []
 
 -- ---- stations
 
 -- A status of N0CALL with this SSID.
-abbrev pub status_at : ℕ → ℕ → Heard
+abbrev pub status_at : ℕ → ℕ → Received
 status_at ssid moment = heard_by ssid moment (codes ">Hi")
 
 -- A position of N0CALL-7.
-abbrev pub position_at : ℕ → Heard
+abbrev pub position_at : ℕ → Received
 position_at moment = heard_by 7 moment (codes "!4903.50N/07201.75W-")
 
--- A status of N0CALL-7, which is heard twice in one transmission, its position, and a status of
+-- A status of N0CALL-7, which is reception_at twice in one transmission, its position, and a status of
 -- N0CALL-8.
-abbrev pub two_stations : List Heard
+abbrev pub two_stations : List Received
 two_stations = status_at 7 0 ∷ status_at 7 30000 ∷ position_at 0 ∷ status_at 8 0 ∷ []
 
 -- The rows of `two_stations`.
 abbrev pub two_stations_rows : List Row
-two_stations_rows = row_of 0 (rx1 ∷ []) (position_at 0) ∷ row_of 0 (rx1 ∷ []) (status_at 7 30000)
-    ∷ row_of 0 (rx1 ∷ []) (status_at 8 0) ∷ []
+two_stations_rows = example_row 0 (rx1 ∷ []) (position_at 0) ∷ example_row 0 (rx1 ∷ []) (status_at 7 30000)
+    ∷ example_row 0 (rx1 ∷ []) (status_at 8 0) ∷ []
 
 -- A station of the list, N0CALL with this SSID.
-abbrev pub station_of : ℕ → ℕ → Option Heard → Option Heard → Station
+abbrev pub station_of : ℕ → ℕ → Option Received → Option Received → Station
 station_of ssid transmissions position status = record {
   call = n0call ssid;
   transmissions = transmissions;
@@ -99,21 +99,21 @@ station_of ssid transmissions position status = record {
 -- ---- objects and items
 
 -- N0CALL-7 reports the object LEADER.
-abbrev pub object_at : ℕ → Heard
+abbrev pub object_at : ℕ → Received
 object_at moment = heard_by 7 moment (codes ";LEADER   *092345z4903.50N/07201.75W>")
 
 -- N0CALL-8 kills it.
-abbrev pub killed_at : ℕ → Heard
+abbrev pub killed_at : ℕ → Received
 killed_at moment = heard_by 8 moment (codes ";LEADER   _092345z4903.50N/07201.75W>")
 
 -- N0CALL-7 reports the item LEADER.
-abbrev pub item_at : ℕ → Heard
+abbrev pub item_at : ℕ → Received
 item_at moment = heard_by 7 moment (codes ")LEADER!4903.50N/07201.75W>")
 
 -- An object LEADER that another station kills, and an item LEADER.
-abbrev pub two_leaders : List Heard
+abbrev pub two_leaders : List Received
 two_leaders = item_at 20 ∷ object_at 0 ∷ killed_at 10 ∷ []
 
 -- LEADER in the list, an item or an object.
-abbrev pub leader_listed : Bool → Heard → Named
-leader_listed is_item heard = record { is_item = is_item; name = lent (codes "LEADER"); heard = heard }
+abbrev pub leader_listed : Bool → Received → Named
+leader_listed is_item reception_at = record { is_item = is_item; name = lent (codes "LEADER"); reception_at = reception_at }

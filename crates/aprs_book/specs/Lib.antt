@@ -15,7 +15,7 @@ pub mod LastKnown
 pub mod Stations
 pub mod Messages
 pub mod Exchange
-pub mod Survey
+pub mod SummaryBuilder
 pub mod MessageRows
 pub mod Names
 pub mod NamedRows

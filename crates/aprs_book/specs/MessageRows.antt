@@ -4,8 +4,8 @@ use Rattle.std.specs.Option.{option_map}
 use Rattle.std.specs.Ordering.{on, then_cmp}
 use Rattle.std.specs.declared.cmp.Ordering.{Ordering}
 use Rattle.aprs_ax25.specs.Callsign.{Call, call_cmp}
-use Rattle.aprs_ax25.specs.CallText.{CallText}
-use Rattle.aprs_log.specs.Reception.{Heard, bytes_cmp, heard_cmp}
+use Rattle.aprs_ax25.specs.CallText.{SpellsCall}
+use Rattle.aprs_log.specs.Reception.{Received, bytes_cmp, heard_cmp}
 use Rattle.aprs_report.specs.Reading.{Value, ack, rej}
 use Rattle.aprs_laws.specs.Lists.{◌∈◌}
 use Rattle.aprs_laws.specs.Order.{IsBelow, IsUpTo}
@@ -22,9 +22,9 @@ use Rattle.aprs_book.specs.declared.lists.message.MessageState.TheVariants.{Unnu
 use Rattle.aprs_book.specs.Messages.{Message, ReportsIt, message_cmp, shown_message, state_by}
 
 -- Whether information begins with a colon, as that of messages and their answers does.
-abbrev pub is_addressed : List ℕ → Bool
-is_addressed [] = false
-is_addressed (b ∷ bytes) = b == 58
+abbrev pub begins_with_colon : List ℕ → Bool
+begins_with_colon [] = false
+begins_with_colon (b ∷ bytes) = b == 58
 
 -- ---- spans
 
@@ -74,11 +74,11 @@ answer_of x = record { source = x.source; addressee = x.addressee; id = x.id.now
 pub record GivesAnswer (a : Answer) (k : Key) : Type 0 where
   pub addressee : List ℕ
   pub sender : k.source ≡ a.addressee
-  pub to : CallText a.source addressee
+  pub to : SpellsCall a.source addressee
   pub answer : (report_of k ≡ ack addressee a.id) ⊎ (report_of k ≡ rej addressee a.id)
 
 -- g is the greatest of the greatest receptions of the rows that answer.
-pub record IsGreatestAnswer (rows : List Row) (a : Answer) (g : Heard) : Type 0 where
+pub record IsGreatestAnswer (rows : List Row) (a : Answer) (g : Received) : Type 0 where
   pub row : (x : Row) × (x ∈ rows) × GivesAnswer a (row_key x) × (x.greatest ≡ g)
   pub greatest : (x : Row) → x ∈ rows → GivesAnswer a (row_key x) → IsUpTo heard_cmp x.greatest g
 
@@ -102,7 +102,7 @@ abbrev pub AreSpans : List Row → List (MessageKey × Span) → Type 0
 AreSpans rows entries = IsCollected message_of ReportsIt IsSpan rows entries
 
 -- One greatest reception for each answer of the rows.
-abbrev pub AreAnswers : List Row → List (AnswerKey × Heard) → Type 0
+abbrev pub AreAnswers : List Row → List (AnswerKey × Received) → Type 0
 AreAnswers rows entries = IsCollected answer_of GivesAnswer IsGreatestAnswer rows entries
 
 -- ---- rows of the listing
@@ -110,27 +110,27 @@ AreAnswers rows entries = IsCollected answer_of GivesAnswer IsGreatestAnswer row
 -- An answer that is one to this id of a message.
 pub record IsFor (m : Message) (id : List ℕ) (a : Answer) : Type 0 where
   pub source : a.source ≡ m.source
-  pub addressee : CallText a.addressee m.addressee
+  pub addressee : SpellsCall a.addressee m.addressee
   pub same_id : a.id ≡ id
 
 -- The greatest answer to this id of a message: that of the one entry which is for it, or none
 -- where no entry is.
-abbrev pub ReportsAnswer : List (AnswerKey × Heard) → Message → List ℕ → Option Heard → Type 0
+abbrev pub ReportsAnswer : List (AnswerKey × Received) → Message → List ℕ → Option Received → Type 0
 ReportsAnswer entries m id None =
-    (e : AnswerKey × Heard) → e ∈ entries → IsFor m id (answer_of e.0) → ⊥
+    (e : AnswerKey × Received) → e ∈ entries → IsFor m id (answer_of e.0) → ⊥
 ReportsAnswer entries m id (Some g) =
-    (e : AnswerKey × Heard) × (e ∈ entries) × IsFor m id (answer_of e.0)
+    (e : AnswerKey × Received) × (e ∈ entries) × IsFor m id (answer_of e.0)
     × ((a : Answer) → IsFor m id a → a ≡ answer_of e.0) × (e.1 ≡ g)
 
 -- The state of a message of this first moment and id, by the greatest answer among the entries.
-abbrev pub StateFrom : List (AnswerKey × Heard) → Message → ℕ → Option (List ℕ) → MessageState
+abbrev pub StateFrom : List (AnswerKey × Received) → Message → ℕ → Option (List ℕ) → MessageState
     → Type 0
 StateFrom entries m first None state = state ≡ Unnumbered
 StateFrom entries m first (Some id) state =
-    (answer : Option Heard) × ReportsAnswer entries m id answer × (state ≡ state_by first answer)
+    (answer : Option Received) × ReportsAnswer entries m id answer × (state ≡ state_by first answer)
 
 -- The row of a message and its span.
-pub record IsRowOfMessage (entries : List (AnswerKey × Heard)) (e : MessageKey × Span)
+pub record IsRowOfMessage (entries : List (AnswerKey × Received)) (e : MessageKey × Span)
     (x : MessageRow) : Type 0 where
   pub message : shown_message x ≡ message_of e.0
   pub first : x.first ≡ e.1.first

@@ -4,8 +4,8 @@ use Rattle.std.specs.Option.{option_cmp, option_map}
 use Rattle.std.specs.Ordering.{on, then_cmp}
 use Rattle.std.specs.declared.cmp.Ordering.{Ordering}
 use Rattle.aprs_ax25.specs.Callsign.{Call, call_cmp}
-use Rattle.aprs_ax25.specs.CallText.{CallText}
-use Rattle.aprs_log.specs.Reception.{Heard, bytes_cmp}
+use Rattle.aprs_ax25.specs.CallText.{SpellsCall}
+use Rattle.aprs_log.specs.Reception.{Received, bytes_cmp}
 use Rattle.aprs_report.specs.Reading.{Value, message, ack, rej}
 use Rattle.aprs_laws.specs.Lists.{◌∈◌, Ordered}
 use Rattle.aprs_laws.specs.Order.{IsBelow}
@@ -53,8 +53,8 @@ message_cmp = then_cmp (on (λ m. m.source) call_cmp)
 -- and it is addressed to the message's sender.
 pub record AnswersIt (m : Message) (id : List ℕ) (k : Key) : Type 0 where
   pub addressee : List ℕ
-  pub sender : CallText k.source m.addressee
-  pub to : CallText m.source addressee
+  pub sender : SpellsCall k.source m.addressee
+  pub to : SpellsCall m.source addressee
   pub answer : (report_of k ≡ ack addressee id) ⊎ (report_of k ≡ rej addressee id)
 
 -- A rejection rejects, and an acknowledgement acknowledges.
@@ -64,17 +64,17 @@ reported_state v = Acknowledged
 
 -- The state of a message by its greatest answer, which counts only if it was heard at the
 -- message's first moment or later.
-abbrev pub state_by : ℕ → Option Heard → MessageState
+abbrev pub state_by : ℕ → Option Received → MessageState
 state_by first None = Unanswered
 state_by first (Some a) =
     if nat_lt a.moment first then Unanswered else reported_state (report_of (key_of a.frame))
 
 -- The state of a message of S with this first moment and id: without an id it can't be answered;
 -- otherwise its greatest answer in S says it.
-abbrev pub StandsBy : List Heard → Message → ℕ → Option (List ℕ) → MessageState → Type 0
+abbrev pub StandsBy : List Received → Message → ℕ → Option (List ℕ) → MessageState → Type 0
 StandsBy S m first None state = state ≡ Unnumbered
 StandsBy S m first (Some id) state =
-    (answer : Option Heard) × LastKnown S (AnswersIt m id) answer × (state ≡ state_by first answer)
+    (answer : Option Received) × LastKnown S (AnswersIt m id) answer × (state ≡ state_by first answer)
 
 -- ---- all messages
 
@@ -88,21 +88,21 @@ shown_message x = record {
 }
 
 -- S has a reception of this message.
-abbrev pub IsSent : List Heard → Message → Type 0
-IsSent S m = (s : Heard) × (s ∈ S) × ReportsIt m (key_of s.frame)
+abbrev pub IsSent : List Received → Message → Type 0
+IsSent S m = (s : Received) × (s ∈ S) × ReportsIt m (key_of s.frame)
 
 -- The one's message is below the other's.
 abbrev pub IsListedBefore : MessageRow → MessageRow → Type 0
 IsListedBefore x y = IsBelow message_cmp (shown_message x) (shown_message y)
 
 -- A row of the list has the message's first and last moment in S, and what came of it in S.
-pub record IsMessageRow (S : List Heard) (x : MessageRow) : Type 0 where
+pub record IsMessageRow (S : List Received) (x : MessageRow) : Type 0 where
   pub first : IsFirstMoment S (ReportsIt (shown_message x)) x.first
   pub last : IsLastMoment S (ReportsIt (shown_message x)) x.last
   pub state : StandsBy S (shown_message x) x.first (shown_message x).id x.state
 
 -- One row for each message in S, in order.
-pub record AreMessages (S : List Heard) (xs : List MessageRow) : Type 0 where
+pub record AreMessages (S : List Received) (xs : List MessageRow) : Type 0 where
   pub ascending : Ordered IsListedBefore xs
   pub messages : (m : Message)
       → ((x : MessageRow) × (x ∈ xs) × (shown_message x ≡ m)) ↔ IsSent S m
@@ -110,4 +110,4 @@ pub record AreMessages (S : List Heard) (xs : List MessageRow) : Type 0 where
 
 -- Whatever set the rows are the book of, these are its messages.
 abbrev pub ReportsMessages : ℕ → List Row → List MessageRow → Type 0
-ReportsMessages gap rows xs = (S : List Heard) → BookOf gap S rows → AreMessages S xs
+ReportsMessages gap rows xs = (S : List Received) → BookOf gap S rows → AreMessages S xs

@@ -2,7 +2,7 @@
 use Rattle.std.specs.Prelude.{◌≡◌, ◌↔◌, ℕ, Bool, true, false, List, Option, Some, None}
 use Rattle.std.specs.Ordering.{on, then_cmp, bool_cmp}
 use Rattle.std.specs.declared.cmp.Ordering.{Ordering}
-use Rattle.aprs_log.specs.Reception.{Heard, bytes_cmp}
+use Rattle.aprs_log.specs.Reception.{Received, bytes_cmp}
 use Rattle.aprs_report.specs.Reading.{Value, object, item}
 use Rattle.aprs_laws.specs.Lists.{◌∈◌, Ordered}
 use Rattle.aprs_laws.specs.Order.{IsBelow}
@@ -43,12 +43,12 @@ IsNamedBefore x y = IsBelow thing_cmp (shown_thing x) (shown_thing y)
 
 -- One row for each thing that S has a report of, in order, with the greatest reception that
 -- reports it.
-pub record AreNamed (S : List Heard) (xs : List Named) : Type 0 where
+pub record AreNamed (S : List Received) (xs : List Named) : Type 0 where
   pub ascending : Ordered IsNamedBefore xs
   pub things : (t : Thing) → ((x : Named) × (x ∈ xs) × (shown_thing x ≡ t))
-      ↔ ((s : Heard) × (s ∈ S) × ReportsOf t (key_of s.frame))
+      ↔ ((s : Received) × (s ∈ S) × ReportsOf t (key_of s.frame))
   pub each : (x : Named) → x ∈ xs → IsBest S (ReportsOf (shown_thing x)) x.heard
 
 -- Whatever set the rows are the book of, these are its objects and items.
 abbrev pub ReportsNamed : ℕ → List Row → List Named → Type 0
-ReportsNamed gap rows xs = (S : List Heard) → BookOf gap S rows → AreNamed S xs
+ReportsNamed gap rows xs = (S : List Received) → BookOf gap S rows → AreNamed S xs

@@ -1,15 +1,15 @@
 -- What is noted of rows, one after another. No public clause cites this module.
 use Rattle.std.specs.Prelude.{ℕ, List, Option, Some, None, if◌then◌else◌, map}
-use Rattle.aprs_log.specs.Reception.{Heard}
+use Rattle.aprs_log.specs.Reception.{Received}
 use Rattle.aprs_laws.specs.Row.{Row}
 use Rattle.aprs_laws.specs.Best.{LastKnown, greater_known}
 use Rattle.aprs_laws.specs.BestLaws.{Passes}
 use Rattle.aprs_book.specs.declared.known.notes.Notes.{Notes}
-use Rattle.aprs_book.specs.declared.known.notes.Run.{Run}
+use Rattle.aprs_book.specs.declared.known.notes.Streak.{Streak}
 use Rattle.aprs_book.specs.Known.{FourIndexes, Topic, index_of, has_bytes, known_at, subject_bytes, topic_bytes, is_report_on, greatest_of}
 
 -- What the indexes know of what has these bytes, with what the last rows report.
-abbrev pub known_with : Option Run → Topic → List ℕ → FourIndexes → Option Heard
+abbrev pub known_with : Option Streak → Topic → List ℕ → FourIndexes → Option Received
 known_with None topic bytes indexes = known_at bytes (index_of topic indexes)
 known_with (Some run) topic bytes indexes =
     if has_bytes bytes (subject_bytes topic run.subject)

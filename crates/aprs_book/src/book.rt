@@ -124,9 +124,9 @@ impl<A: Allocator + Copy> Book<A> {
     {
         let heard = ReceptionView::of(x);
         let subject = heard.subject();
-        self.indexes.place(&subject)?;
+        self.indexes.reserve(&subject)?;
         // If no memory is left for this, an empty entry may stay, which says nothing.
-        self.rows.take(Millis::of(self.gap), x)?;
+        self.rows.insert(Millis::of(self.gap), x)?;
         self.indexes.note(&subject, &heard);
         Ok(())
     }
@@ -165,7 +165,7 @@ impl<A: Allocator + Copy> Book<A> {
     {
         let heard = parts.heard();
         let subject = heard.subject();
-        self.indexes.place(&subject)?;
+        self.indexes.reserve(&subject)?;
         // If no memory is left for this, an empty entry may stay, which says nothing.
         self.rows
             .append(KeptRow::of(self.rows.allocator(), parts)?)?;

@@ -1,29 +1,14 @@
 -- The text of a book is read, unless an allocation or a read fails.
-use Rattle.std.proofs.Common.{◌≡◌, ℕ, ◌+◌, ◌*◌, ◌/◌, ◌%◌, ◌^◌, ◌<◌, ◌≤◌, List, [], ◌∷◌, ◌++◌, length, map, Option, None, Some, IfSome, IfOk, IfErr, Result, Ok, Err, inl, inr, refl, sym, ap, ◌∙◌, subst, append-nil, length-append, arith}
-use Rattle.std.proofs.lemmas.List.{length-map}
-use Rattle.std.proofs.lemmas.List.Elements.{All-weaker}
-use Rattle.std.proofs.lemmas.Result.{IfErr-weaker}
-use Rattle.aprs_io.specs.Device.{Rose}
-use Rattle.aprs_io.specs.declared.device.Counted.{Counted}
-use Rattle.aprs_io.specs.Input.{most_input, Gets}
-use Rattle.aprs_log.specs.Moment.{IsWritable, date_text, day_after, moment_text_in, time_text}
-use Rattle.aprs_log.specs.Reception.{Heard}
-use Rattle.aprs_io.specs.declared.input.Ending.{Ending}
-use Rattle.aprs_io.specs.declared.input.Ending.TheVariants as ending
-use Rattle.aprs_log.specs.declared.moment_form.MomentForm.{MomentForm}
-use Rattle.aprs_log.specs.declared.moment_form.MomentForm.TheVariants.{Seconds, Millis}
-use Rattle.aprs_laws.specs.BookValue.{BookValue, Holds}
-use Rattle.aprs_laws.specs.Gap.{IsGap, millis_of, standard_gap}
-use Rattle.aprs_laws.specs.Row.{Row, last_of}
+use Rattle.aprs_booktext.proofs.Common.{◌≡◌, ℕ, ◌+◌, ◌*◌, ◌/◌, ◌%◌, ◌^◌, ◌<◌, ◌≤◌, List, [], ◌∷◌, ◌++◌, length, map, Option, None, Some, IfSome, IfOk, IfErr, Result, Ok, Err, inl, inr, refl, sym, ap, ◌∙◌, subst, append-nil, length-append, arith, length-map, All-weaker, IfErr-weaker, Rose, Counted, most_input, Gets, IsWritable, date_text, day_after, moment_text_in, time_text, Received, InputEnd, MomentForm, Seconds, Millis, BookValue, Holds, IsGap, millis_of, standard_gap, Row, last_of, text_of_lines}
+use Rattle.aprs_io.specs.declared.input.InputEnd.TheVariants as ending
 use Rattle.aprs_laws.specs.Scaling.{scaled_rows, scaled_heard}
 use Rattle.aprs_laws.proofs.Scaling.{scaled_book}
 use Rattle.aprs_booktext.specs.FirstFault.{FirstFault}
 use Rattle.aprs_booktext.specs.Law.{IsWrittenBack}
 use Rattle.aprs_booktext.specs.Reading.{IsAnswered}
 use Rattle.aprs_booktext.specs.Seconds.{AreWrittenToTheSecond, IsTextInSeconds, ReadsSeconds}
-use Rattle.aprs_booktext.specs.Text.{row_line, lines_of, book_of, book_text, IsBookRow, IsBookRows, written_version}
+use Rattle.aprs_booktext.specs.Text.{row_line, lines_of, book_of_version, book_text, IsBookRow, IsBookRows, written_version}
 use Rattle.aprs_booktext.specs.RowLines.{ended_by_lf}
-use Rattle.aprs_log.specs.LogText.{text_of_lines}
 use Rattle.aprs_booktext.specs.BookAnswers.{AcceptsBook, IsBookOrMemory, ReadsBook}
 use Rattle.aprs_booktext.specs.Version.{form_of, gap_of}
 use Rattle.aprs_booktext.specs.declared.fault.BookCause.TheVariants as cause
@@ -75,17 +60,17 @@ module _ (limit : ℕ) (head rest : List ℕ) (after : Option (List ℕ)) (v : V
     (text_is : head ++ rest ≡ book_text v rows) where
   -- what was read is the book of the rows
   pub same_read : (found : BookValue) → ReadsBook limit head rest after (Ok found)
-      → found ≡ book_of v rows
+      → found ≡ book_of_version v rows
   same_read found h =
       let t = text_of_read limit head rest after found h in
       let one = one_text t.version v found.rows rows t.is is (t.text_is ∙ text_is) in
-      same_book found (book_of v rows) (t.gap_is ∙ ap gap_of one.0) one.1
+      same_book found (book_of_version v rows) (t.gap_is ∙ ap gap_of one.0) one.1
 
   module _ (fits : length (head ++ rest) ≤ limit) where
     few : length rows < 2 ^ 64
     few = omega (arith, rows_few v rows, ap length text_is, small, fits)
 
-    faultless : (e : Ending) (text : List ℕ) (f : BookFault)
+    faultless : (e : InputEnd) (text : List ℕ) (f : BookFault)
         → Gets limit (head ++ rest) after text e → (f.cause ≡ cause.Read → ⊥) → FirstFault text e f
         → ⊥
     faultless ending.End text f gets read first =
@@ -98,7 +83,7 @@ module _ (limit : ℕ) (head rest : List ℕ) (after : Option (List ℕ)) (v : V
         omega (arith, ap length gets.whole, length-append text gets.rest, gets.ends, fits)
 
     pub accepted : (r : Result BookValue BookFault) → ReadsBook limit head rest after r
-        → IfErr r (λ f. f.cause ≡ cause.Read → ⊥) → IsBookOrMemory r (book_of v rows)
+        → IfErr r (λ f. f.cause ≡ cause.Read → ⊥) → IsBookOrMemory r (book_of_version v rows)
     accepted (Ok found) h read = same_read found h
     accepted (Err f) h read = elim (memory_or_first (head ++ h.got) h.ending f h.reads) [
       | inl m ↦ m.refused
@@ -112,7 +97,7 @@ pub accepts : (known after : Option (List ℕ)) (limit : ℕ) (head : List ℕ)
     → IfErr r (λ f. f.cause ≡ cause.Read → Q)
     → IfSome known (λ input. (v : Version) (rows : List Row) → IsBookRows v rows
     → head ++ input ≡ book_text v rows → length (head ++ input) ≤ limit → (Q → ⊥)
-    → IsBookOrMemory r (book_of v rows))
+    → IsBookOrMemory r (book_of_version v rows))
 accepts None after limit head r Q small h read = tt
 accepts (Some input) after limit head r Q small h read =
     λ v rows is text_is fits good. accepted limit head input after v rows small is text_is fits r h
@@ -121,13 +106,13 @@ accepts (Some input) after limit head r Q small h read =
 -- ---- texts of version 1
 
 module _ (limit : ℕ) (head : List ℕ) (after : Option (List ℕ)) (small : limit ≤ most_input) where
-  in_seconds : (input : List ℕ) (S : List Heard) → IsTextInSeconds S (head ++ input)
+  in_seconds : (input : List ℕ) (S : List Received) → IsTextInSeconds S (head ++ input)
       → (r : Result BookValue BookFault) → ReadsBook limit head input after r
       → IfOk r (λ book. (book.gap ≡ standard_gap) × Holds (map (scaled_heard 1000) S) book)
   in_seconds input S t (Err f) h = tt
   in_seconds input S t (Ok found) h =
       let rows = scaled_rows 1000 t.rows in
-      let book : Holds (map (scaled_heard 1000) S) (book_of One rows) =
+      let book : Holds (map (scaled_heard 1000) S) (book_of_version One rows) =
       scaled_book 1000 standard_gap (omega arith) S t.rows t.book in
       let is : IsBookRows One rows = record {
         version = standard_range;
@@ -142,7 +127,7 @@ module _ (limit : ℕ) (head : List ℕ) (after : Option (List ℕ)) (small : li
 
   pub reads_seconds : (known : Option (List ℕ)) (r : Result BookValue BookFault)
       → IfSome known (λ input. ReadsBook limit head input after r)
-      → IfSome known (λ input. (S : List Heard) → IsTextInSeconds S (head ++ input)
+      → IfSome known (λ input. (S : List Received) → IsTextInSeconds S (head ++ input)
       → IfOk r (λ book. (book.gap ≡ standard_gap) × Holds (map (scaled_heard 1000) S) book))
   reads_seconds None r h = tt
   reads_seconds (Some input) r h = λ S t. in_seconds input S t r h
@@ -191,7 +176,7 @@ rows_more : (v : Version) (gap : ℕ) (rows : List Row) → gap ≡ gap_of v →
     → IsBookRows (Three gap) rows
 rows_more v gap rows e h = record {
   version = subst IsGap (sym e) h.version;
-  book = subst (λ g. (S : List Heard) × BookOf (millis_of g) S rows) (sym e) h.book;
+  book = subst (λ g. (S : List Received) × BookOf (millis_of g) S rows) (sym e) h.book;
   each = All-weaker (IsBookRow (form_of v)) (IsBookRow Millis) (row_more (form_of v)) rows h.each;
 }
 

@@ -1,15 +1,9 @@
 -- Lemmas on what is asked of the reader of a book's text.
-use Rattle.std.proofs.Common.{◌≡◌, ℕ, List, Option, None, Some, IfSome, IfErr, Result, Ok, Err, inl, inr, refl, sym, subst}
-use Rattle.aprs_io.specs.Device.{Calls, Going, Fault, Rose}
-use Rattle.aprs_io.specs.Input.{last_of_ending}
-use Rattle.aprs_io.specs.declared.device.Counted.{Counted}
-use Rattle.aprs_io.specs.declared.input.Ending.{Ending}
-use Rattle.aprs_io.specs.declared.input.Ending.TheVariants as how
-use Rattle.aprs_io.proofs.Sends.{Calls-then}
-use Rattle.aprs_laws.specs.BookValue.{BookValue}
+use Rattle.aprs_booktext.proofs.Common.{◌≡◌, ℕ, List, Option, None, Some, IfSome, IfErr, Result, Ok, Err, inl, inr, refl, sym, subst, Calls, Going, Fault, Rose, last_of_ending, Counted, InputEnd, Calls-then, BookValue}
+use Rattle.aprs_io.specs.declared.input.InputEnd.TheVariants as how
 use Rattle.aprs_booktext.specs.Asking.{Asks, AsksAt, Takes, TakesAt, TakesAtMost}
 use Rattle.aprs_booktext.specs.Fault.{ending_cause}
-use Rattle.aprs_booktext.specs.Reader.{EndsIn, IsOfText}
+use Rattle.aprs_booktext.specs.Reader.{AgreesWithEnding, IsOfText}
 use Rattle.aprs_booktext.specs.declared.fault.BookCause.{BookCause}
 use Rattle.aprs_booktext.specs.declared.fault.BookCause.TheVariants as why
 use Rattle.aprs_booktext.specs.declared.fault.BookFault.{BookFault}
@@ -25,13 +19,13 @@ module _ {R : Type 0} {a b : Counted R} (calls : Calls Going a b) where
   Asks-fault f of = asks_at f.cause of
 
   module _ {c : Counted R} where
-    ends_at : (way : Ending) → Calls (last_of_ending way) b c → AsksAt (ending_cause way) a c
+    ends_at : (way : InputEnd) → Calls (last_of_ending way) b c → AsksAt (ending_cause way) a c
     ends_at how.End last = inr (Calls-then calls last)
     ends_at how.Read last = Calls-then calls last
     ends_at how.TooLong last = Calls-then calls last
 
     -- the input ends
-    pub Asks-end : (way : Ending) (r : Result BookValue BookFault) → EndsIn way r
+    pub Asks-end : (way : InputEnd) (r : Result BookValue BookFault) → AgreesWithEnding way r
         → Calls (last_of_ending way) b c → Asks r a c
     Asks-end way (Ok book) is last =
         Calls-then calls (subst (λ w. Calls (last_of_ending w) b c) is last)
@@ -51,7 +45,7 @@ module _ (most : ℕ) (input : List ℕ) (after : Option (List ℕ)) where
   takes_at cause of takes = takes
 
   -- the input ends so
-  pub Takes-end : (way : Ending) (r : Result BookValue BookFault) → EndsIn way r
+  pub Takes-end : (way : InputEnd) (r : Result BookValue BookFault) → AgreesWithEnding way r
       → TakesAt (ending_cause way) most input after → Takes r most input after
   Takes-end way (Ok book) is takes =
       subst (λ w. TakesAt (ending_cause w) most input after) is takes

@@ -1,11 +1,5 @@
 -- The rows of a book's text are sound.
-use Rattle.std.proofs.Common.{List}
-use Rattle.std.specs.Prelude.{All}
-use Rattle.aprs_laws.specs.Gap.{millis_of}
-use Rattle.aprs_laws.specs.Row.{Row}
-use Rattle.aprs_laws.specs.Sound.{Sound}
-use Rattle.aprs_laws.specs.Witnesses.{witnesses}
-use Rattle.aprs_laws.proofs.Soundness.{sound, witnessed}
+use Rattle.aprs_booktext.proofs.Common.{List, All, millis_of, Row, Sound, witnesses, sound, witnessed}
 use Rattle.aprs_booktext.specs.Text.{IsBookRow, IsBookRows}
 use Rattle.aprs_booktext.specs.Version.{form_of, gap_of, IsVersion}
 use Rattle.aprs_booktext.specs.declared.version.Version.{Version}

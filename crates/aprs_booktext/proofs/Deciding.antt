@@ -1,36 +1,12 @@
 -- Each line spells a row or none, and each text is a book's or has a first fault.
-use Rattle.std.proofs.Common.{◌≡◌, ℕ, zero, suc, ◌+◌, ◌<◌, ◌≤◌, Bool, true, false, cond, List, [], ◌∷◌, ◌++◌, length, Option, Some, None, Result, Ok, Err, ◌⊎◌, inl, inr, refl, sym, ap, ◌∙◌, subst, append_assoc, append-nil, length-append, arith}
-use Rattle.std.specs.Prelude.{◌≢◌, All, codes}
-use Rattle.std.specs.Str.{bytes_eq}
-use Rattle.std.specs.List.{AllByRecursion, join_with_byte}
-use Rattle.std.proofs.lemmas.Bool.{cases_lt}
-use Rattle.std.proofs.lemmas.List.{nil_from_length}
-use Rattle.std.proofs.lemmas.Slice.Eq.{bytes_eq-Decides}
-use Rattle.std.proofs.lemmas.List.Elements.{All-from_recursion, recursion_from_All}
-use Rattle.hex.specs.Hex.{encode_lower, decode_of}
+use Rattle.aprs_booktext.proofs.Common.{◌≡◌, ℕ, zero, suc, ◌+◌, ◌<◌, ◌≤◌, Bool, true, false, cond, List, [], ◌∷◌, ◌++◌, length, Option, Some, None, Result, Ok, Err, ◌⊎◌, inl, inr, refl, sym, ap, ◌∙◌, subst, append_assoc, append-nil, length-append, arith, ◌≢◌, All, codes, bytes_eq, AllByRecursion, join_with_byte, cases_lt, nil_from_length, bytes_eq-Decides, All-from_recursion, recursion_from_All, encode_lower, decode_of, decode_of-ok, frame_or_fault, frame_of-is, is-frame_of, FrameFault, moment_text_in, IsWritable, moment_in, IsName, is_receiver, MomentForm, moment_in-text, InputEnd, greatest_gap, IsGap, millis_of, Row, last_of, refusal, is_refused, row_with, RowCause, is_byte}
 use Rattle.hex.specs.declared.error.FromHexError.{FromHexError}
-use Rattle.hex.proofs.HexLemmas.{decode_of-ok}
-use Rattle.aprs_ax25.specs.FrameFault.{frame_of}
-use Rattle.aprs_ax25.proofs.UiFrames.{frame_of-is, is-frame_of}
-use Rattle.aprs_ax25.specs.declared.fault.FrameFault.{FrameFault}
-use Rattle.aprs_log.specs.Moment.{moment_text_in, IsWritable}
-use Rattle.aprs_log.specs.MomentReading.{moment_in}
-use Rattle.aprs_log.specs.Receiver.{IsName, is_name}
-use Rattle.aprs_log.specs.declared.moment_form.MomentForm.{MomentForm}
-use Rattle.aprs_log.proofs.Moments.{moment_in-text}
-use Rattle.aprs_io.specs.declared.input.Ending.{Ending}
-use Rattle.aprs_laws.specs.Gap.{greatest_gap, IsGap, millis_of}
-use Rattle.aprs_laws.specs.Row.{Row, last_of}
-use Rattle.aprs_rows.specs.Refusal.{refusal, is_refused}
-use Rattle.aprs_book.specs.Shown.{row_of}
-use Rattle.aprs_laws.specs.declared.row_cause.RowCause.{RowCause}
 use Rattle.aprs_laws.specs.declared.row_cause.RowCause.TheVariants as row
 use Rattle.aprs_booktext.specs.FirstFault.{FirstFault}
 use Rattle.aprs_booktext.specs.TextFault.{is_end}
 use Rattle.aprs_booktext.specs.Law.{IsBookText}
 use Rattle.aprs_booktext.specs.Lines.{Lacks, pieces}
-use Rattle.aprs_io.specs.Cut.{is_byte}
-use Rattle.aprs_booktext.specs.Reader.{JudgesLine, StandsAfter, is_done, line_number, may_end}
+use Rattle.aprs_booktext.specs.Reader.{JudgesLine, HasReadLines, is_done, line_number, may_end}
 use Rattle.aprs_booktext.specs.RowFields.{SpellsBytes}
 use Rattle.aprs_booktext.specs.Text.{row_line, end_line, lines_of, book_text, most_frame_bytes, IsSpelled, IsBookRow}
 use Rattle.aprs_booktext.specs.Version.{form_of, gap_of, header_of}
@@ -78,8 +54,8 @@ moment_or_none form t = by (moment_in form t) refl where
 
 all_names : (ps : List (List ℕ)) → AllByRecursion IsName ps ⊎ (AllByRecursion IsName ps → ⊥)
 all_names [] = inl tt
-all_names (p ∷ ps) = by (all_names ps) (is_name p) refl where
-  by : AllByRecursion IsName ps ⊎ (AllByRecursion IsName ps → ⊥) → (b : Bool) → is_name p ≡ b
+all_names (p ∷ ps) = by (all_names ps) (is_receiver p) refl where
+  by : AllByRecursion IsName ps ⊎ (AllByRecursion IsName ps → ⊥) → (b : Bool) → is_receiver p ≡ b
       → AllByRecursion IsName (p ∷ ps) ⊎ (AllByRecursion IsName (p ∷ ps) → ⊥)
   by others false e = inr (λ h. let f : false ≡ true = sym e ∙ h.0 in absurd cc)
   by others true e = elim others [
@@ -181,7 +157,7 @@ module _ (form : MomentForm) (line t f l n w d : List ℕ)
                     few = h.few;
                   }))
               | inl bytes ↦ inl (record {
-                row = row_of first.0 last.0 names.0 w bytes.0;
+                row = row_with first.0 last.0 names.0 w bytes.0;
                 is = record {
                   first = first.1.0;
                   last = last.1.0;
@@ -194,7 +170,7 @@ module _ (form : MomentForm) (line t f l n w d : List ℕ)
                       bytes.1.few;
                 };
                 line_is = spelled_by form line t f l n w d is
-                    (row_of first.0 last.0 names.0 w bytes.0)
+                    (row_with first.0 last.0 names.0 w bytes.0)
                     (record {
                       tag = tag;
                       first = first.1.1;
@@ -370,7 +346,7 @@ module _ (v : Version) (rows : List Row) (line : List ℕ) (s : SpelledRow (form
   judge_row (Some why) e is = judge_why why e is
 
   judge_frame : (r : Result (List ℕ) FrameFault)
-      → frame_of s.row.greatest.frame ≡ r → Judged (Rows v) rows line
+      → frame_or_fault s.row.greatest.frame ≡ r → Judged (Rows v) rows line
   judge_frame (Err fault) e = record {
     result = Err cause.Frame;
     new = rows;
@@ -412,7 +388,7 @@ judge_line v rows line = by (is_end line) refl where
     }
   ]
   by false e = elim (by_fields (form_of v) line (pieces 32 line) refl) [
-    | inl s ↦ judge_frame v rows line s (frame_of s.row.greatest.frame) refl
+    | inl s ↦ judge_frame v rows line s (frame_or_fault s.row.greatest.frame) refl
     | inr none ↦ record {
       result = Err cause.RowSyntax;
       new = rows;
@@ -464,16 +440,16 @@ cut_text (b ∷ text) = by (cut_text text) (is_byte 10 b) refl where
   ]
 
 -- it is a book's, or has a first fault
-pub record HasFault (text : List ℕ) (e : Ending) : Type 0 where
+pub record HasFault (text : List ℕ) (e : InputEnd) : Type 0 where
   pub fault : BookFault
   pub first : FirstFault text e fault
 
-abbrev pub Found : List ℕ → Ending → Type 0
+abbrev pub Found : List ℕ → InputEnd → Type 0
 Found text e = IsBookText text e ⊎ HasFault text e
 
 -- the text ends in this line
-at_end : (stage : Stage) (rows : List Row) (line t : List ℕ) (e : Ending)
-    → StandsAfter stage rows line t → Found t e
+at_end : (stage : Stage) (rows : List Row) (line t : List ℕ) (e : InputEnd)
+    → HasReadLines stage rows line t → Found t e
 at_end stage rows line t e s = by (may_end stage e) refl where
   by : (b : Bool) → may_end stage e ≡ b → Found t e
   by true may = let r = ended_whole stage rows line t e may s in
@@ -489,15 +465,15 @@ at_end stage rows line t e s = by (may_end stage e) refl where
 
 -- of a line that goes on
 goes_on : (stage : Stage) (rows : List Row) (line t : List ℕ) → (is_done stage ≡ true → ⊥)
-    → Lacks 10 line → StandsAfter stage rows [] t → StandsAfter stage rows line (t ++ line)
+    → Lacks 10 line → HasReadLines stage rows [] t → HasReadLines stage rows line (t ++ line)
 goes_on stage rows line t going one s = held_stands stage rows [] t line
     (undone (is_done stage) going) one s where
       undone : (b : Bool) → (b ≡ true → ⊥) → b ≡ false
       undone true h = absurd (h refl)
       undone false h = refl
 
-after_last : (v : Version) (rows : List Row) (rest t : List ℕ) (e : Ending) → 0 < length rest
-    → StandsAfter (Done v) rows [] t → HasFault (t ++ rest) e
+after_last : (v : Version) (rows : List Row) (rest t : List ℕ) (e : InputEnd) → 0 < length rest
+    → HasReadLines (Done v) rows [] t → HasFault (t ++ rest) e
 after_last v rows rest t e some s = record {
   fault = record { line = length (lines_of v rows) + 1; cause = cause.After };
   first = record {
@@ -516,13 +492,13 @@ after_last v rows rest t e some s = record {
   };
 }
 
-abbrev FoundAfter : Ending → List ℕ → Type 0
-FoundAfter e rest = (stage : Stage) (rows : List Row) (t : List ℕ) → StandsAfter stage rows [] t
+abbrev FoundAfter : InputEnd → List ℕ → Type 0
+FoundAfter e rest = (stage : Stage) (rows : List Row) (t : List ℕ) → HasReadLines stage rows [] t
     → Found (t ++ rest) e
 
 -- one line more, and then what is found after it
-step : (e : Ending) (rest : List ℕ) (stage : Stage) (rows : List Row) (t : List ℕ)
-    → (is_done stage ≡ true → ⊥) → StandsAfter stage rows [] t
+step : (e : InputEnd) (rest : List ℕ) (stage : Stage) (rows : List Row) (t : List ℕ)
+    → (is_done stage ≡ true → ⊥) → HasReadLines stage rows [] t
     → ((more : List ℕ) → length more < length rest → FoundAfter e more) → Found (t ++ rest) e
 step e rest stage rows t going s next = elim (cut_text rest) [
   | inl lacks ↦ at_end stage rows rest (t ++ rest) e (goes_on stage rows rest t going lacks s)
@@ -535,7 +511,7 @@ step e rest stage rows t going s next = elim (cut_text rest) [
   shorter c = let l = length-append c.line (10 ∷ c.more) in omega (arith, l, ap length c.is)
 
   whole : (c : CutsLine rest) (r : Result Stage BookCause) (new : List Row)
-      → StandsAfter stage rows c.line (t ++ c.line) → JudgesLine stage r rows c.line new
+      → HasReadLines stage rows c.line (t ++ c.line) → JudgesLine stage r rows c.line new
       → r ≢ Err cause.Memory → Found (t ++ rest) e
   whole c (Ok after) new stands judged known =
       subst (λ l. Found l e) (append_assoc (t ++ c.line) (10 ∷ []) c.more ∙ text_is c)
@@ -552,15 +528,15 @@ step e rest stage rows t going s next = elim (cut_text rest) [
         })
       ]
 
-  by : (c : CutsLine rest) → StandsAfter stage rows c.line (t ++ c.line) → Judged stage rows c.line
+  by : (c : CutsLine rest) → HasReadLines stage rows c.line (t ++ c.line) → Judged stage rows c.line
       → Found (t ++ rest) e
   by c stands j = whole c j.result j.new stands j.judged j.known
 
-run : (n : ℕ) (e : Ending) (rest : List ℕ) → length rest ≤ n → FoundAfter e rest
+run : (n : ℕ) (e : InputEnd) (rest : List ℕ) → length rest ≤ n → FoundAfter e rest
 run n e rest fits (Done v) rows t s = elim (cases_lt 0 (length rest)) [
   | inl some ↦ inr (after_last v rows rest t e some s)
   | inr none ↦ subst (λ l. Found (t ++ l) e) (sym (nil_from_length rest (omega (arith, none))))
-      (at_end (Done v) rows [] (t ++ []) e (subst (λ l. StandsAfter (Done v) rows [] l)
+      (at_end (Done v) rows [] (t ++ []) e (subst (λ l. HasReadLines (Done v) rows [] l)
       (sym (append-nil t)) s))
 ]
 run zero e rest fits Header rows t s = step e rest Header rows t
@@ -576,11 +552,11 @@ run (suc n) e rest fits (Rows v) rows t s = step e rest (Rows v) rows t
     (λ done. absurd (let f : false ≡ true = done in cc)) s
     (λ more less. run n e more (omega (arith, less, fits)))
 
-found : (text : List ℕ) (e : Ending) → Found text e
+found : (text : List ℕ) (e : InputEnd) → Found text e
 found text e = run (length text) e text (omega arith) Header [] []
     (record { text_is = refl; one = tt; holds = refl })
 
-pub book_or_fault : (text : List ℕ) (e : Ending)
+pub book_or_fault : (text : List ℕ) (e : InputEnd)
     → IsBookText text e ⊎ ((f : BookFault) × FirstFault text e f)
 book_or_fault text e = elim (found text e) [
   | inl whole ↦ inl whole

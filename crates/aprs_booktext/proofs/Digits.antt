@@ -1,7 +1,5 @@
 -- Lemmas on digits and the bytes that they spell.
-use Rattle.std.proofs.Common.{◌≡◌, ◌∙◌, ℕ, ◌*◌, List, length, Ok, ap}
-use Rattle.hex.specs.Hex.{decode_of, lower_digits}
-use Rattle.hex.proofs.HexLemmas.{decode_of-encode_lower, length-encode_with}
+use Rattle.aprs_booktext.proofs.Common.{◌≡◌, ◌∙◌, ℕ, ◌*◌, List, length, Ok, ap, decode_of, lower_digits, decode_of-encode_lower, length-encode_with}
 use Rattle.aprs_booktext.specs.RowFields.{SpellsBytes}
 
 pub length-spelled : (digits bytes : List ℕ) → SpellsBytes digits bytes

@@ -1,21 +1,14 @@
 -- Lemmas on what was got of an input.
-use Rattle.std.proofs.Common.{◌≡◌, ℕ, ◌+◌, ◌-◌, ◌≤◌, List, [], ◌++◌, length, drop, Option, None, Some, IfSome, Result, Ok, Err, inl, inr, refl, sym, ap, ◌∙◌, subst, append_assoc, append-nil, length-append, arith}
-use Rattle.std.proofs.Math.Seq.{drop-append-add}
+use Rattle.aprs_booktext.proofs.Common.{◌≡◌, ℕ, ◌+◌, ◌-◌, ◌≤◌, List, [], ◌++◌, length, drop, Option, None, Some, IfSome, Result, Ok, Err, inl, inr, refl, sym, ap, ◌∙◌, subst, append_assoc, append-nil, length-append, arith, drop-append-add, Calls, Going, Counted, EndsHere, EndsSo, Gets, last_of_ending, InputEnd, BookValue, Row}
 use Rattle.std.specs.Io.KnownBytes.{Consumes}
 use Rattle.std.proofs.KnownBytes.{Consumes-nil, Consumes-trans}
-use Rattle.aprs_io.specs.Device.{Calls, Going}
-use Rattle.aprs_io.specs.declared.device.Counted.{Counted}
-use Rattle.aprs_io.specs.Input.{EndsHere, EndsSo, Gets, last_of_ending}
-use Rattle.aprs_io.specs.declared.input.Ending.{Ending}
-use Rattle.aprs_io.specs.declared.input.Ending.TheVariants as ending
-use Rattle.aprs_laws.specs.BookValue.{BookValue}
-use Rattle.aprs_laws.specs.Row.{Row}
+use Rattle.aprs_io.specs.declared.input.InputEnd.TheVariants as ending
 use Rattle.aprs_booktext.specs.StoredRows.{book_read, rows_after}
 use Rattle.aprs_booktext.specs.Asking.{Takes, TakesAt, TakesAtMost}
 use Rattle.aprs_booktext.specs.TextFault.{most_ahead}
 use Rattle.aprs_booktext.specs.BookAnswers.{ReadsBook, IsAnswerFor}
 use Rattle.aprs_booktext.specs.Fault.{ending_cause}
-use Rattle.aprs_booktext.specs.Reader.{EndsIn, IsFault, IsOfText}
+use Rattle.aprs_booktext.specs.Reader.{AgreesWithEnding, IsFault, IsOfText}
 use Rattle.aprs_booktext.specs.Reading.{Got, IsAnswered}
 use Rattle.aprs_booktext.specs.declared.fault.BookFault.{BookFault}
 use Rattle.aprs_booktext.proofs.Asking.{Asks-end, Asks-fault, Takes-end, Takes-fault}
@@ -51,14 +44,14 @@ module _ (P : List ℕ → Type 0) (head : List ℕ) (old now : Option (List ℕ
         ∙ length-append (head ++ p.got) piece in omega (arith, len, p.size, e);
   }
 
-  ends_so : (e : Ending) (rest : List ℕ) (after : Option (List ℕ)) → EndsSo e left [] rest after
+  ends_so : (e : InputEnd) (rest : List ℕ) (after : Option (List ℕ)) → EndsSo e left [] rest after
       → EndsSo e limit (head ++ p.got) rest after
   ends_so ending.End rest after h = (h.0, omega (arith, p.size))
   ends_so ending.Read rest after h = (h.0, omega (arith, p.size))
   ends_so ending.TooLong rest after h = (h.0, omega (arith, p.size, h.1), h.2)
 
   -- nothing more is got, since the input ends so
-  pub Gets-here : (e : Ending) (after : Option (List ℕ))
+  pub Gets-here : (e : InputEnd) (after : Option (List ℕ))
       → IfSome now (λ rest. Gets left rest after [] e)
       → IfSome old (λ input. Gets limit (head ++ input) after (head ++ p.got) e)
   Gets-here e after h = here old now p.took h where
@@ -101,7 +94,7 @@ module _ (P : List ℕ → Type 0) (head : List ℕ) (old now : Option (List ℕ
     takes (Some input) None took = tt
     takes (Some input) (Some y) took = at_most input y y took (omega arith)
 
-  taken : (e : Ending) (input y : List ℕ) (after : Option (List ℕ)) → input ≡ p.got ++ y
+  taken : (e : InputEnd) (input y : List ℕ) (after : Option (List ℕ)) → input ≡ p.got ++ y
       → Gets left y after [] e → TakesAt (ending_cause e) (limit - length head) input after
   taken ending.End input y None took gets = tt
   taken ending.End input y (Some rest) took gets =
@@ -119,8 +112,8 @@ module _ (P : List ℕ → Type 0) (head : List ℕ) (old now : Option (List ℕ
       ∙ ap (drop (length p.got + 1)) took ∙ drop-append-add p.got y 1))
 
   -- the input ends so, and the answer says it
-  pub Takes-here : (e : Ending) (after : Option (List ℕ)) (r : Result BookValue BookFault)
-      → EndsIn e r → IfSome now (λ rest. Gets left rest after [] e)
+  pub Takes-here : (e : InputEnd) (after : Option (List ℕ)) (r : Result BookValue BookFault)
+      → AgreesWithEnding e r → IfSome now (λ rest. Gets left rest after [] e)
       → IfSome old (λ input. Takes r (limit - length head) input after)
   Takes-here e after r is gets = here old now p.took gets where
     here : (old now : Option (List ℕ)) → Consumes old now p.got
@@ -132,7 +125,7 @@ module _ (P : List ℕ → Type 0) (head : List ℕ) (old now : Option (List ℕ
         Takes-end (limit - length head) input after e r is (taken e input y after took gets)
 
 -- what was got is read so
-pub ReadsBook-got : (old after : Option (List ℕ)) (limit : ℕ) (head got : List ℕ) (e : Ending)
+pub ReadsBook-got : (old after : Option (List ℕ)) (limit : ℕ) (head got : List ℕ) (e : InputEnd)
     (r : Result BookValue BookFault) → IfSome old
     (λ input. Gets limit (head ++ input) after (head ++ got) e)
     → IsAnswerFor r (head ++ got) e → IfSome old (λ input. ReadsBook limit head input after r)
@@ -140,7 +133,7 @@ ReadsBook-got None after limit head got e r gets reads = tt
 ReadsBook-got (Some input) after limit head got e r gets reads =
     record { got = got; ending = e; gets = gets; reads = reads }
 
-pub fault_reads : (f : BookFault) (t : List ℕ) (e : Ending) → IsFault most_ahead f t
+pub fault_reads : (f : BookFault) (t : List ℕ) (e : InputEnd) → IsFault most_ahead f t
     → IsAnswerFor (Err f) t e
 fault_reads f t e h = elim h [
   | inl m ↦ memory_is t e f m
@@ -171,9 +164,9 @@ module _ {R : Type 0} (remaining : R → Option (List ℕ)) (limit : ℕ) (head 
   }
 
   -- the input ends
-  pub IsAnswered-end : (P : List ℕ → Type 0) (c : Counted R) (way : Ending)
+  pub IsAnswered-end : (P : List ℕ → Type 0) (c : Counted R) (way : InputEnd)
       (r : Result BookValue BookFault)
-      → Got P head (remaining a.device) (remaining b.device) limit left → EndsIn way r
+      → Got P head (remaining a.device) (remaining b.device) limit left → AgreesWithEnding way r
       → EndsHere way left (remaining b.device) (remaining c.device)
       → Calls (last_of_ending way) b c → ((t : List ℕ) → P t → IsAnswerFor r t way)
       → IsAnswered remaining limit head r a c
@@ -185,8 +178,8 @@ module _ {R : Type 0} (remaining : R → Option (List ℕ)) (limit : ℕ) (head 
   }
 
 -- a book's answer is at the end alone, as that of its gap
-pub EndsIn-book : (e : Ending) (r : Result ℕ BookFault) (old new : List Row) → EndsIn e r
-    → EndsIn e (book_read r old new)
+pub EndsIn-book : (e : InputEnd) (r : Result ℕ BookFault) (old new : List Row) → AgreesWithEnding e r
+    → AgreesWithEnding e (book_read r old new)
 EndsIn-book e (Ok gap) old new is = is
 EndsIn-book e (Err f) old new is = is
 

@@ -1,11 +1,8 @@
 -- A refused allocation after the last line was read.
-use Rattle.std.proofs.Common.{◌≡◌, ℕ, ◌+◌, ◌<◌, ◌^◌, true, false, List, [], ◌∷◌, ◌++◌, length, map, inl, inr, refl, ap, ◌∙◌, append-nil, arith}
-use Rattle.std.proofs.lemmas.List.Concat.{flat_map-append}
-use Rattle.aprs_laws.specs.Row.{Row}
-use Rattle.aprs_booktext.specs.Reader.{HoldsIn, IsFault, StandsAfter, gap_in, is_done}
+use Rattle.aprs_booktext.proofs.Common.{◌≡◌, ℕ, ◌+◌, ◌<◌, ◌^◌, true, false, List, [], ◌∷◌, ◌++◌, length, map, inl, inr, refl, ap, ◌∙◌, append-nil, arith, flat_map-append, Row, text_of_lines, IsSoundBook}
+use Rattle.aprs_booktext.specs.Reader.{HoldsIn, IsFault, HasReadLines, gap_in, is_done}
 use Rattle.aprs_booktext.specs.Text.{row_line, end_line, lines_of}
 use Rattle.aprs_booktext.specs.RowLines.{ended_by_lf}
-use Rattle.aprs_log.specs.LogText.{text_of_lines}
 use Rattle.aprs_booktext.specs.Version.{form_of, header_of}
 use Rattle.aprs_booktext.specs.declared.fault.BookCause.TheVariants as cause
 use Rattle.aprs_booktext.specs.declared.reader.Stage.{Stage}
@@ -13,7 +10,6 @@ use Rattle.aprs_booktext.specs.declared.reader.Stage.TheVariants.{Header, Rows, 
 use Rattle.aprs_booktext.specs.declared.version.Version.{Version}
 use Rattle.aprs_booktext.proofs.OneText.{end_lacks}
 use Rattle.aprs_booktext.proofs.Standing.{number_is}
-use Rattle.aprs_laws.specs.BookValue.{IsSoundBook}
 use Rattle.aprs_booktext.proofs.BookRows.{rows_sound}
 
 module _ (v : Version) (rows : List Row) where
@@ -29,7 +25,7 @@ module _ (v : Version) (rows : List Row) where
 
 -- an allocation that failed there failed in the last line
 pub done_refused : (stage : Stage) (rows : List Row) (line t : List ℕ) → is_done stage ≡ true
-    → length rows < 2 ^ 64 → StandsAfter stage rows line t
+    → length rows < 2 ^ 64 → HasReadLines stage rows line t
     → IsFault 1 (record { line = length rows + 2; cause = cause.Memory }) t
 done_refused Header rows line t done few s = absurd (let f : false ≡ true = done in cc)
 done_refused (Rows v) rows line t done few s = absurd (let f : false ≡ true = done in cc)

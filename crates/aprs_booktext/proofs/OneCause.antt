@@ -1,13 +1,7 @@
 -- A line is wrong for one cause at most.
-use Rattle.std.proofs.Common.{◌≡◌, ℕ, false, true, List, Some, ◌⊎◌, inl, inr, refl, sym, ap, ◌∙◌, subst}
-use Rattle.std.specs.Prelude.{◌≢◌}
-use Rattle.aprs_ax25.specs.UiFrame.{IsUiFrame}
-use Rattle.aprs_log.specs.declared.moment_form.MomentForm.{MomentForm}
-use Rattle.aprs_laws.specs.Row.{Row}
-use Rattle.aprs_rows.specs.Refusal.{refusal}
-use Rattle.aprs_laws.specs.declared.row_cause.RowCause.{RowCause}
+use Rattle.aprs_booktext.proofs.Common.{◌≡◌, ℕ, false, true, List, Some, ◌⊎◌, inl, inr, refl, sym, ap, ◌∙◌, subst, ◌≢◌, IsUiFrame, MomentForm, Row, refusal, RowCause}
 use Rattle.aprs_laws.specs.declared.row_cause.RowCause.TheVariants as row
-use Rattle.aprs_booktext.specs.TextFault.{HasNoFrame, IsRefused, IsWrong, is_end}
+use Rattle.aprs_booktext.specs.TextFault.{HasNoFrame, SpellsRefusedRow, IsWrong, is_end}
 use Rattle.aprs_booktext.specs.Fault.{book_cause_of}
 use Rattle.aprs_booktext.specs.Text.{row_line, IsSpelled}
 use Rattle.aprs_booktext.specs.declared.fault.BookCause.{BookCause}
@@ -16,7 +10,7 @@ use Rattle.aprs_booktext.proofs.OneText.{same_row}
 
 -- a row can't be refused in two ways
 same_why : (gap : ℕ) (form : MomentForm) (rows : List Row) (line : List ℕ) (a b : RowCause)
-    → IsRefused gap form rows line a → IsRefused gap form rows line b → a ≡ b
+    → SpellsRefusedRow gap form rows line a → SpellsRefusedRow gap form rows line b → a ≡ b
 same_why gap form rows line a b h k =
     let same = same_row form h.row k.row h.is.spelled k.is.spelled (sym h.spelled ∙ k.spelled) in
     let some : Some a ≡ Some b = sym h.refused ∙ ap (λ (r : Row). refusal gap rows r) same
@@ -24,7 +18,7 @@ same_why gap form rows line a b h k =
     cc
 
 no_frame : (gap : ℕ) (form : MomentForm) (rows : List Row) (line : List ℕ) (why : RowCause)
-    → HasNoFrame form line → IsRefused gap form rows line why → ⊥
+    → HasNoFrame form line → SpellsRefusedRow gap form rows line why → ⊥
 no_frame gap form rows line why h k =
     let same = same_row form h.row k.row h.is k.is.spelled (sym h.spelled ∙ k.spelled) in
     h.refused (subst (λ (r : Row). IsUiFrame r.greatest.frame) (sym same) k.is.frame)
@@ -39,7 +33,7 @@ Wrong gap form rows line c = ((c ≡ cause.Ending) × (is_end line ≡ true))
     ⊎ (((c ≡ cause.RowSyntax) × (is_end line ≡ false) × ((x : Row) → IsSpelled form x
     → line ≢ row_line form x))
     ⊎ (((c ≡ cause.Frame) × HasNoFrame form line)
-    ⊎ ((why : RowCause) × (c ≡ book_cause_of why) × IsRefused gap form rows line why)))
+    ⊎ ((why : RowCause) × (c ≡ book_cause_of why) × SpellsRefusedRow gap form rows line why)))
 
 pub wrong : (gap : ℕ) (form : MomentForm) (rows : List Row) (line : List ℕ) (c : BookCause)
     → IsWrong gap form rows line c → Wrong gap form rows line c

@@ -1,19 +1,9 @@
 -- A text has one first fault at most.
-use Rattle.std.proofs.Common.{◌≡◌, ℕ, ◌+◌, ◌^◌, ◌<◌, ◌≤◌, List, [], ◌∷◌, ◌++◌, length, map, ◌⊎◌, inl, inr, refl, sym, ap, ◌∙◌, subst, append_assoc, append-nil, length-append, arith}
-use Rattle.std.specs.Prelude.{All}
-use Rattle.std.specs.List.{AllByRecursion}
-use Rattle.std.proofs.lemmas.List.{length-map}
-use Rattle.std.proofs.lemmas.List.Elements.{All-head, All-tail}
-use Rattle.aprs_io.specs.declared.input.Ending.{Ending}
-use Rattle.aprs_log.specs.declared.moment_form.MomentForm.{MomentForm}
-use Rattle.aprs_laws.specs.Gap.{millis_of}
-use Rattle.aprs_laws.specs.Row.{Row}
-use Rattle.aprs_laws.specs.Sound.{Sound}
-use Rattle.aprs_booktext.specs.FirstFault.{AmongRows, EndFault, FaultAfter, FirstFault, HeaderFault, IsCut, LineFault, PastEnd}
+use Rattle.aprs_booktext.proofs.Common.{◌≡◌, ℕ, ◌+◌, ◌^◌, ◌<◌, ◌≤◌, List, [], ◌∷◌, ◌++◌, length, map, ◌⊎◌, inl, inr, refl, sym, ap, ◌∙◌, subst, append_assoc, append-nil, length-append, arith, All, AllByRecursion, length-map, All-head, All-tail, InputEnd, MomentForm, millis_of, Row, Sound, text_of_lines}
+use Rattle.aprs_booktext.specs.FirstFault.{AmongRows, EndFault, RestIsAtFault, FirstFault, HeaderFault, IsCut, LineFault, PastEnd}
 use Rattle.aprs_booktext.specs.TextFault.{IsWrong}
 use Rattle.aprs_booktext.specs.Lines.{Lacks}
 use Rattle.aprs_booktext.specs.Text.{row_line, end_line, lines_of, IsBookRow, IsBookRows}
-use Rattle.aprs_log.specs.LogText.{text_of_lines}
 use Rattle.aprs_booktext.specs.Version.{form_of, gap_of, header_of, IsVersion}
 use Rattle.aprs_booktext.specs.declared.fault.BookCause.{BookCause}
 use Rattle.aprs_booktext.specs.declared.fault.BookFault.{BookFault}
@@ -205,8 +195,8 @@ no_last form a b n more h k e = let r = rows_on form a b (end_line n) more h k e
 abbrev lines_in : Version → List Row → List (List ℕ)
 lines_in v rows = map (row_line (form_of v)) rows
 
-lines_lack : (lines : List (List ℕ)) (rest text : List ℕ) (e : Ending) (c : BookCause)
-    → length text < 2 ^ 64 → text ≡ text_of_lines lines ++ rest → FaultAfter lines rest e c
+lines_lack : (lines : List (List ℕ)) (rest text : List ℕ) (e : InputEnd) (c : BookCause)
+    → length text < 2 ^ 64 → text ≡ text_of_lines lines ++ rest → RestIsAtFault lines rest e c
     → AllByRecursion (Lacks 10) lines
 lines_lack lines rest text e c small whole h = elim h [
   | inl start ↦ subst (AllByRecursion (Lacks 10)) (sym start.none_read) tt
@@ -245,11 +235,11 @@ lines_lack lines rest text e c small whole h = elim h [
 
 -- ---- no prefix goes on after a fault
 
-not_cut : (rest line tail : List ℕ) (e : Ending) (c : BookCause) → rest ≡ line ++ 10 ∷ tail
+not_cut : (rest line tail : List ℕ) (e : InputEnd) (c : BookCause) → rest ≡ line ++ 10 ∷ tail
     → IsCut rest e c → ⊥
 not_cut rest line tail e c is h = has_line 10 line tail (subst (Lacks 10) is h.0)
 
-wrong_on : (v : Version) (a b : List Row) (line rest tail : List ℕ) (e : Ending) (c : BookCause)
+wrong_on : (v : Version) (a b : List Row) (line rest tail : List ℕ) (e : InputEnd) (c : BookCause)
     → IsBookRows v b → RowsGoOn (form_of v) a b line → rest ≡ line ++ 10 ∷ tail → Lacks 10 line
     → LineFault v a rest e c → ⊥
 wrong_on v a b line rest tail e c is on text one h = elim h [
@@ -265,7 +255,7 @@ wrong_on v a b line rest tail e c is on text one h = elim h [
       (subst (λ l. IsWrong gap form a l c) same w.holds)
 ]
 
-wrong_at_end : (v : Version) (a b : List Row) (line rest tail : List ℕ) (e : Ending) (c : BookCause)
+wrong_at_end : (v : Version) (a b : List Row) (line rest tail : List ℕ) (e : InputEnd) (c : BookCause)
     → a ≡ b → line ≡ end_line (length b) → rest ≡ line ++ 10 ∷ tail → Lacks 10 line
     → LineFault v a rest e c → ⊥
 wrong_at_end v a b line rest tail e c same is text one h = elim h [
@@ -287,7 +277,7 @@ record HaveHeader (lines : List (List ℕ)) : Type 0 where
   more : List (List ℕ)
   lines_are : lines ≡ header_of version ∷ more
 
-abbrev row_header : (lines : List (List ℕ)) (rest : List ℕ) (e : Ending) (c : BookCause)
+abbrev row_header : (lines : List (List ℕ)) (rest : List ℕ) (e : InputEnd) (c : BookCause)
     → AmongRows lines rest e c → HaveHeader lines
 row_header lines rest e c h = record {
   version = h.version;
@@ -296,7 +286,7 @@ row_header lines rest e c h = record {
   lines_are = h.read;
 }
 
-abbrev end_header : (lines : List (List ℕ)) (rest : List ℕ) (e : Ending) (c : BookCause)
+abbrev end_header : (lines : List (List ℕ)) (rest : List ℕ) (e : InputEnd) (c : BookCause)
     → PastEnd lines rest e c → HaveHeader lines
 end_header lines rest e c h = record {
   version = h.version;
@@ -306,8 +296,8 @@ end_header lines rest e c h = record {
 }
 
 -- the lines before a fault, if any, begin with a header
-some_header : (lines : List (List ℕ)) (rest line : List ℕ) (more : List (List ℕ)) (e : Ending)
-    (c : BookCause) → FaultAfter lines rest e c → lines ≡ line ∷ more → HaveHeader lines
+some_header : (lines : List (List ℕ)) (rest line : List ℕ) (more : List (List ℕ)) (e : InputEnd)
+    (c : BookCause) → RestIsAtFault lines rest e c → lines ≡ line ∷ more → HaveHeader lines
 some_header lines rest line more e c h is = elim h [
   | inl start ↦ absurd (let l = ap length (sym start.none_read ∙ is) in omega (arith, l))
   | inr k ↦ elim k [
@@ -326,8 +316,8 @@ same_version lines v more h is e =
     headers_differ h.version v h.is is
     (cons_first (header_of h.version) h.more (header_of v) more (sym h.lines_are ∙ e))
 
-module _ (lines b : List (List ℕ)) (rest other : List ℕ) (e : Ending) (c d : BookCause)
-    (k : FaultAfter b other e d) (on : GoesOn lines b rest) where
+module _ (lines b : List (List ℕ)) (rest other : List ℕ) (e : InputEnd) (c d : BookCause)
+    (k : RestIsAtFault b other e d) (on : GoesOn lines b rest) where
   after_start : lines ≡ [] → HeaderFault rest e c → ⊥
   after_start none h = elim h [
     | inl cut ↦ not_cut rest on.line on.tail e c on.text_is cut
@@ -435,7 +425,7 @@ module _ (lines b : List (List ℕ)) (rest other : List ℕ) (e : Ending) (c d :
                 )
           ]
 
-  no_further : FaultAfter lines rest e c → ⊥
+  no_further : RestIsAtFault lines rest e c → ⊥
   no_further h = elim h [
     | inl start ↦ after_start start.none_read start.fault
     | inr k ↦ elim k [
@@ -446,7 +436,7 @@ module _ (lines b : List (List ℕ)) (rest other : List ℕ) (e : Ending) (c d :
 
 -- ---- after the same lines the cause is one
 
-module _ (rest : List ℕ) (e : Ending) (c d : BookCause) where
+module _ (rest : List ℕ) (e : InputEnd) (c d : BookCause) where
   start_once : HeaderFault rest e c → HeaderFault rest e d → c ≡ d
   start_once h k = elim h [
     | inl cut ↦ elim k [
@@ -520,7 +510,7 @@ module _ (rest : List ℕ) (e : Ending) (c d : BookCause) where
         (cons_others (header_of v) (lines_in v h.rows) (header_of v) (lines_in v k.rows ++ last)
         (sym h.read ∙ read))
 
-    one_cause : FaultAfter lines rest e c → FaultAfter lines rest e d → c ≡ d
+    one_cause : RestIsAtFault lines rest e c → RestIsAtFault lines rest e d → c ≡ d
     one_cause h k = elim h [
       | inl start ↦ elim k [
         | inl too ↦ start_once start.fault too.fault
@@ -547,16 +537,16 @@ module _ (rest : List ℕ) (e : Ending) (c d : BookCause) where
       ]
     ]
 
-pub one_fault : (text : List ℕ) (e : Ending) (f g : BookFault) → length text < 2 ^ 64
+pub one_fault : (text : List ℕ) (e : InputEnd) (f g : BookFault) → length text < 2 ^ 64
     → FirstFault text e f → FirstFault text e g → f ≡ g
 one_fault text e f g small h k =
     elim (two_prefixes h.lines k.lines h.rest k.rest first second (sym h.whole ∙ k.whole)) [
       | inl same ↦
           let line : f.line ≡ g.line
           = h.line ∙ ap (λ (l : List (List ℕ)). length l + 1) same.0 ∙ sym k.line in
-          let other : FaultAfter h.lines h.rest e g.cause
-          = subst (λ r. FaultAfter h.lines r e g.cause) (sym same.1)
-          (subst (λ l. FaultAfter l k.rest e g.cause) (sym same.0) k.fault) in
+          let other : RestIsAtFault h.lines h.rest e g.cause
+          = subst (λ r. RestIsAtFault h.lines r e g.cause) (sym same.1)
+          (subst (λ l. RestIsAtFault l k.rest e g.cause) (sym same.0) k.fault) in
           fault_is f g line (one_cause h.rest e f.cause g.cause h.lines h.fault other)
       | inr on ↦ absurd (elim on [
         | inl further ↦ no_further h.lines k.lines h.rest k.rest e f.cause g.cause k.fault further

@@ -1,34 +1,12 @@
 -- The text of a book's rows is that of no others, and has no fault but that it may be cut short.
-use Rattle.std.proofs.Common.{◌≡◌, ℕ, ◌+◌, ◌^◌, ◌<◌, true, false, eqb, List, [], ◌∷◌, ◌++◌, length, get_or, map, Some, None, Ok, inl, inr, refl, sym, ap, ◌∙◌, subst, append_assoc, append-nil, length-append, arith}
-use Rattle.std.specs.Prelude.{◌≢◌, All, codes}
-use Rattle.std.specs.List.{join_with_byte}
-use Rattle.std.proofs.lemmas.List.Elements.{All-head, All-tail}
-use Rattle.std.proofs.lemmas.Bool.{false≢true}
-use Rattle.std.proofs.lemmas.List.{nil_from_length}
-use Rattle.std.proofs.lemmas.List.Concat.{flat_map-append}
-use Rattle.hex.specs.Hex.{encode_lower, decode_of}
-use Rattle.hex.proofs.HexLemmas.{decode_of-encode_lower}
-use Rattle.aprs_ax25.specs.UiFrame.{IsUiFrame}
-use Rattle.aprs_log.specs.Moment.{moment_text_in, IsWritable}
-use Rattle.aprs_log.specs.MomentReading.{moment_in}
-use Rattle.aprs_log.specs.declared.moment_form.MomentForm.{MomentForm}
-use Rattle.aprs_io.specs.declared.input.Ending.{Ending}
-use Rattle.aprs_io.specs.declared.input.Ending.TheVariants as ending
-use Rattle.aprs_laws.specs.BookValue.{BookValue}
-use Rattle.aprs_laws.specs.Gap.{millis_of}
-use Rattle.aprs_laws.specs.Row.{Row, last_of}
-use Rattle.aprs_laws.specs.Sound.{Sound}
+use Rattle.aprs_booktext.proofs.Common.{◌≡◌, ℕ, ◌+◌, ◌^◌, ◌<◌, true, false, eqb, List, [], ◌∷◌, ◌++◌, length, get_or, map, Some, None, Ok, inl, inr, refl, sym, ap, ◌∙◌, subst, append_assoc, append-nil, length-append, arith, ◌≢◌, All, codes, join_with_byte, All-head, All-tail, false≢true, nil_from_length, flat_map-append, encode_lower, decode_of, decode_of-encode_lower, IsUiFrame, moment_text_in, IsWritable, moment_in, MomentForm, InputEnd, BookValue, millis_of, Row, last_of, Sound, refusal, row_with, RowCause, none_exactly, text_of_lines}
+use Rattle.aprs_io.specs.declared.input.InputEnd.TheVariants as ending
 use Rattle.aprs_laws.proofs.Pushes.{sound_prefix}
-use Rattle.aprs_rows.specs.Refusal.{refusal}
-use Rattle.aprs_book.specs.Shown.{row_of}
-use Rattle.aprs_laws.specs.declared.row_cause.RowCause.{RowCause}
-use Rattle.aprs_rows.proofs.Refusals.{none_exactly}
-use Rattle.aprs_booktext.specs.FirstFault.{EndFault, FaultAfter, FirstFault, HasLine, HeaderFault, IsCut, LineFault}
-use Rattle.aprs_booktext.specs.TextFault.{IsRefused, IsWrong}
+use Rattle.aprs_booktext.specs.FirstFault.{EndFault, RestIsAtFault, FirstFault, HasLine, HeaderFault, IsCut, LineFault}
+use Rattle.aprs_booktext.specs.TextFault.{SpellsRefusedRow, IsWrong}
 use Rattle.aprs_booktext.specs.Lines.{Lacks, pieces}
 use Rattle.aprs_booktext.specs.Text.{fields_of, row_line, end_line, book_text, IsSpelled, IsBookRow, IsBookRows, written_text, written_version}
 use Rattle.aprs_booktext.specs.RowLines.{ended_by_lf}
-use Rattle.aprs_log.specs.LogText.{text_of_lines}
 use Rattle.aprs_booktext.specs.Fault.{ending_cause}
 use Rattle.aprs_booktext.specs.Version.{form_of, gap_of, header_of, IsVersion}
 use Rattle.aprs_booktext.specs.declared.fault.BookCause.{BookCause}
@@ -109,11 +87,11 @@ same_row form x y h k e =
     sym (decode_of-encode_lower x.greatest.frame h.bytes) ∙ ap decode_of digits
     ∙ decode_of-encode_lower y.greatest.frame k.bytes in
     let frame : x.greatest.frame ≡ y.greatest.frame = cc in
-    ap (λ m. row_of m (last_of x) x.receivers x.greatest.receiver x.greatest.frame) first
-    ∙ ap (λ m. row_of y.first m x.receivers x.greatest.receiver x.greatest.frame) last
-    ∙ ap (λ r. row_of y.first (last_of y) r x.greatest.receiver x.greatest.frame) names
-    ∙ ap (λ r. row_of y.first (last_of y) y.receivers r x.greatest.frame) who
-    ∙ ap (λ b. row_of y.first (last_of y) y.receivers y.greatest.receiver b) frame
+    ap (λ m. row_with m (last_of x) x.receivers x.greatest.receiver x.greatest.frame) first
+    ∙ ap (λ m. row_with y.first m x.receivers x.greatest.receiver x.greatest.frame) last
+    ∙ ap (λ r. row_with y.first (last_of y) r x.greatest.receiver x.greatest.frame) names
+    ∙ ap (λ r. row_with y.first (last_of y) y.receivers r x.greatest.frame) who
+    ∙ ap (λ b. row_with y.first (last_of y) y.receivers y.greatest.receiver b) frame
 
 -- ---- the last line
 
@@ -270,7 +248,7 @@ All-middle P (y ∷ a) x b h = All-middle P a x b (All-tail P y (a ++ x ∷ b) h
 -- no cause refuses a row after those that it follows
 refused : (gap : ℕ) (form : MomentForm) (rows more : List Row) (x : Row) (why : RowCause)
     → IsBookRow form x → Sound gap (rows ++ x ∷ more)
-    → IsRefused gap form rows (row_line form x) why → ⊥
+    → SpellsRefusedRow gap form rows (row_line form x) why → ⊥
 refused gap form rows more x why h s w =
     let same = same_row form x w.row h.spelled w.is.spelled w.spelled in
     let first : Sound gap (rows ++ x ∷ []) = sound_prefix gap (rows ++ x ∷ []) more
@@ -318,10 +296,10 @@ wrong_end gap form rows cause.Memory w = w
 -- ---- the fault of a prefix of a book's text is that it is cut there
 
 -- the byte that is missing, if it is a byte
-abbrev pub IsCutShort : Ending → List ℕ → BookCause → Type 0
+abbrev pub IsCutShort : InputEnd → List ℕ → BookCause → Type 0
 IsCutShort e more c = (c ≡ ending_cause e) × (e ≡ ending.End → more ≢ [])
 
-cut_at_line : (rest more line tail : List ℕ) (e : Ending) (c : BookCause)
+cut_at_line : (rest more line tail : List ℕ) (e : InputEnd) (c : BookCause)
     → rest ++ more ≡ line ++ 10 ∷ tail → IsCut rest e c → IsCutShort e more c
 cut_at_line rest more line tail e c is h = (
   h.1,
@@ -330,7 +308,7 @@ cut_at_line rest more line tail e c is h = (
 )
 
 module _ (v : Version) (rows : List Row) (is : IsBookRows v rows) (small : length rows < 2 ^ 64)
-    (more : List ℕ) (e : Ending) (c : BookCause) where
+    (more : List ℕ) (e : InputEnd) (c : BookCause) where
   at_start : (rest : List ℕ) → rest ++ more ≡ book_text v rows → HeaderFault rest e c
       → IsCutShort e more c
   at_start rest whole h = elim h [
@@ -397,7 +375,7 @@ module _ (v : Version) (rows : List Row) (is : IsBookRows v rows) (small : lengt
   pub cut_short : (text : List ℕ) (f : BookFault) → text ++ more ≡ book_text v rows → f.cause ≡ c
       → FirstFault text e f → IsCutShort e more c
   cut_short text f whole cause_is first = go (subst
-      (FaultAfter first.lines first.rest e) cause_is first.fault) where
+      (RestIsAtFault first.lines first.rest e) cause_is first.fault) where
         all : (lines : List (List ℕ)) → first.lines ≡ lines
             → text_of_lines lines ++ (first.rest ++ more) ≡ book_text v rows
         all lines same =
@@ -405,7 +383,7 @@ module _ (v : Version) (rows : List Row) (is : IsBookRows v rows) (small : lengt
             ∙ sym (append_assoc (text_of_lines first.lines) first.rest more)
             ∙ ap (λ l. l ++ more) (sym first.whole) ∙ whole
 
-        go : FaultAfter first.lines first.rest e c → IsCutShort e more c
+        go : RestIsAtFault first.lines first.rest e c → IsCutShort e more c
         go h = elim h [
           | inl start ↦ at_start first.rest (all [] start.none_read) start.fault
           | inr k ↦ elim k [

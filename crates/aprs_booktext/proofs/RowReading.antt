@@ -1,18 +1,6 @@
 -- Lemmas on reading a row's line field by field.
-use Rattle.std.proofs.Common.{◌≡◌, ℕ, ◌<◌, List, [], ◌∷◌, ◌++◌, length, get_or, take, drop, IsErr, Option, Some, None, inl, inr, refl, sym, ap, ◌∙◌, subst, length-append, arith}
-use Rattle.std.proofs.Math.Seq.{take-append_seam}
-use Rattle.std.specs.Prelude.{◌≢◌, All, IfNone}
-use Rattle.std.proofs.lemmas.Bool.{false≢true}
-use Rattle.std.specs.List.{join_with_byte}
-use Rattle.hex.specs.Hex.{encode_lower}
-use Rattle.aprs_ax25.specs.FrameFault.{frame_of}
-use Rattle.aprs_ax25.proofs.UiFrames.{frame_of-is, is-frame_of}
+use Rattle.aprs_booktext.proofs.Common.{◌≡◌, ℕ, ◌<◌, List, [], ◌∷◌, ◌++◌, length, get_or, take, drop, IsErr, Option, Some, None, inl, inr, refl, sym, ap, ◌∙◌, subst, length-append, arith, take-append_seam, ◌≢◌, All, IfNone, false≢true, join_with_byte, encode_lower, frame_or_fault, frame_of-is, is-frame_of, moment_text_in, IsWritable, MomentForm, Seconds, Millis, IsName, Row, last_of}
 use Rattle.aprs_log.specs.Clock.{form_size}
-use Rattle.aprs_log.specs.Moment.{moment_text_in, IsWritable}
-use Rattle.aprs_log.specs.declared.moment_form.MomentForm.{MomentForm}
-use Rattle.aprs_log.specs.declared.moment_form.MomentForm.TheVariants.{Seconds, Millis}
-use Rattle.aprs_log.specs.Receiver.{IsName}
-use Rattle.aprs_laws.specs.Row.{Row, last_of}
 use Rattle.aprs_rows.specs.Names.{row_of_text}
 use Rattle.aprs_booktext.specs.Lines.{Lacks, pieces}
 use Rattle.aprs_booktext.specs.TextFault.{HasNoFrame}
@@ -199,7 +187,7 @@ module _ (form : MomentForm) (line a : List ℕ) (tag_is : line ≡ 84 ∷ 32 �
                 × (line ≡ row_line form (row_of_text first last n w frame))
             row_found h = (record { spelled = spelled h.spelled; frame = frame_of-is frame frame h.is }, lined h.spelled)
 
-            no_frame : SpellsBytes g frame → IsErr (frame_of frame) → HasNoFrame form line
+            no_frame : SpellsBytes g frame → IsErr (frame_or_fault frame) → HasNoFrame form line
             no_frame h err = record {
               row = row_of_text first last n w frame;
               is = spelled h;

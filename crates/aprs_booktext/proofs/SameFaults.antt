@@ -1,16 +1,8 @@
 -- A text's fault is its first, as it is found, or Memory.
-use Rattle.std.proofs.Common.{◌≡◌, ◌∙◌, ℕ, ◌<◌, ◌≤◌, false, true, List, [], ◌∷◌, ◌++◌, ◌⊎◌, inl, inr, length, refl, sym, ap, subst, append-nil, arith}
-use Rattle.std.specs.Prelude.{◌≢◌}
-use Rattle.std.proofs.lemmas.List.Elements.{All-nil, All-cons, All-head, All-tail}
-use Rattle.std.proofs.lemmas.Bool.Decides.{nat_tests}
-use Rattle.aprs_io.specs.Cut.{is_byte}
-use Rattle.aprs_io.specs.declared.input.Ending.{Ending}
-use Rattle.aprs_io.specs.declared.input.Ending.TheVariants as how
-use Rattle.aprs_log.specs.LogText.{HasNoLf, text_of_lines}
-use Rattle.aprs_laws.specs.Gap.{millis_of}
-use Rattle.aprs_laws.specs.Row.{Row}
+use Rattle.aprs_booktext.proofs.Common.{◌≡◌, ◌∙◌, ℕ, ◌<◌, ◌≤◌, false, true, List, [], ◌∷◌, ◌++◌, ◌⊎◌, inl, inr, length, refl, sym, ap, subst, append-nil, arith, ◌≢◌, All-nil, All-cons, All-head, All-tail, nat_tests, is_byte, InputEnd, HasNoLf, text_of_lines, millis_of, Row}
+use Rattle.aprs_io.specs.declared.input.InputEnd.TheVariants as how
 use Rattle.aprs_booktext.specs.Fault.{ending_cause}
-use Rattle.aprs_booktext.specs.FirstFault.{EndFault, FaultAfter, FirstFault, HeaderFault, IsMemoryAt, LineFault}
+use Rattle.aprs_booktext.specs.FirstFault.{EndFault, RestIsAtFault, FirstFault, HeaderFault, IsMemoryAt, LineFault}
 use Rattle.aprs_booktext.specs.Lines.{Lacks}
 use Rattle.aprs_booktext.specs.TextFault.{AreBook, AreOfRows, BeginBook, EndsLine, HasBookFault, IsWrong, IsWrongRest, most_ahead, StopsIn}
 use Rattle.aprs_booktext.specs.Version.{form_of, gap_of, header_of, IsVersion}
@@ -39,19 +31,19 @@ lacks (b ∷ l) h =
 -- ---- from the first fault
 
 -- a cut has this cause
-stops : (lines : List (List ℕ)) (line : List ℕ) (e : Ending) → BeginBook lines
+stops : (lines : List (List ℕ)) (line : List ℕ) (e : InputEnd) → BeginBook lines
     → IsWrongRest lines line [] e (ending_cause e)
 stops lines line how.End b = inl (refl, b, refl, refl)
 stops lines line how.Read b = ((refl, inl b), refl)
 stops lines line how.TooLong b = ((refl, inl b), refl)
 
-stops_after : (lines : List (List ℕ)) (e : Ending) → AreBook lines → e ≢ how.End
+stops_after : (lines : List (List ℕ)) (e : InputEnd) → AreBook lines → e ≢ how.End
     → IsWrongRest lines [] [] e (ending_cause e)
 stops_after lines how.End b not_end = absurd (not_end refl)
 stops_after lines how.Read b not_end = ((refl, inr (b, refl)), refl)
 stops_after lines how.TooLong b not_end = ((refl, inr (b, refl)), refl)
 
-module _ (lines : List (List ℕ)) (line more : List ℕ) (e : Ending) where
+module _ (lines : List (List ℕ)) (line more : List ℕ) (e : InputEnd) where
   -- a wrong line after those of rows
   at_row : (v : Version) (rows : List Row) → AreOfRows v rows lines → (c : BookCause)
       → IsWrong (millis_of (gap_of v)) (form_of v) rows line c
@@ -78,7 +70,7 @@ module _ (lines : List (List ℕ)) (line more : List ℕ) (e : Ending) where
   at_row v rows are why.TooLong w = absurd w
   at_row v rows are why.Memory w = absurd w
 
-module _ (text : List ℕ) (e : Ending) (fault : BookFault) (h : FirstFault text e fault) where
+module _ (text : List ℕ) (e : InputEnd) (fault : BookFault) (h : FirstFault text e fault) where
   has : (line more : List ℕ) → h.rest ≡ line ++ more → Lacks 10 line
       → IsWrongRest h.lines line more e fault.cause → HasBookFault text e fault
   has line more is one wrong = record {
@@ -125,7 +117,7 @@ module _ (text : List ℕ) (e : Ending) (fault : BookFault) (h : FirstFault text
     ]
   ]
 
-pub memory_is : (text : List ℕ) (e : Ending) (fault : BookFault) → IsMemoryAt most_ahead text fault
+pub memory_is : (text : List ℕ) (e : InputEnd) (fault : BookFault) → IsMemoryAt most_ahead text fault
     → HasBookFault text e fault
 memory_is text e fault m = record {
   lines = m.lines;
@@ -139,13 +131,13 @@ memory_is text e fault m = record {
 
 -- ---- to the first fault
 
-module _ (lines : List (List ℕ)) (line more : List ℕ) (e : Ending) (one : Lacks 10 line) where
+module _ (lines : List (List ℕ)) (line more : List ℕ) (e : InputEnd) (one : Lacks 10 line) where
   all_of : more ≡ [] → line ++ more ≡ line
   all_of none = ap (λ m. line ++ m) none ∙ append-nil line
 
   -- the text stops in a line
   cut_after : (c : BookCause) → BeginBook lines → more ≡ [] → c ≡ ending_cause e
-      → FaultAfter lines (line ++ more) e c
+      → RestIsAtFault lines (line ++ more) e c
   cut_after c (inl none) no_more is =
       inl (record {
         none_read = none;
@@ -160,7 +152,7 @@ module _ (lines : List (List ℕ)) (line more : List ℕ) (e : Ending) (one : La
   }))
 
   stopped : (c : BookCause) → StopsIn lines line more → c ≡ ending_cause e → e ≢ how.End
-      → FaultAfter lines (line ++ more) e c
+      → RestIsAtFault lines (line ++ more) e c
   stopped c (no_more, inl begins) is not_end = cut_after c begins no_more is
   stopped c (no_more, inr book) is not_end = inr (inr (record {
     version = book.0.0;
@@ -171,7 +163,7 @@ module _ (lines : List (List ℕ)) (line more : List ℕ) (e : Ending) (one : La
   }))
 
   header_after : (lines ≡ []) × ((v : Version) → IsVersion v → line ≢ header_of v) × EndsLine more
-      → FaultAfter lines (line ++ more) e why.Header
+      → RestIsAtFault lines (line ++ more) e why.Header
   header_after h = inl (record {
     none_read = h.0;
     fault = inr (record {
@@ -183,7 +175,7 @@ module _ (lines : List (List ℕ)) (line more : List ℕ) (e : Ending) (one : La
     });
   })
 
-  past_book : AreBook lines → line ++ more ≢ [] → FaultAfter lines (line ++ more) e why.After
+  past_book : AreBook lines → line ++ more ≢ [] → RestIsAtFault lines (line ++ more) e why.After
   past_book b some = inr (inr (record {
     version = b.0;
     rows = b.1;
@@ -198,7 +190,7 @@ module _ (lines : List (List ℕ)) (line more : List ℕ) (e : Ending) (one : La
   -- the text stops in a line, or a line can't come after rows
   other : (c : BookCause) → ((c ≡ why.Ending) × BeginBook lines × (more ≡ []) × (e ≡ how.End))
       ⊎ ((v : Version) × (rows : List Row) × AreOfRows v rows lines × EndsLine more
-      × IsWrong (millis_of (gap_of v)) (form_of v) rows line c) → FaultAfter lines (line ++ more) e c
+      × IsWrong (millis_of (gap_of v)) (form_of v) rows line c) → RestIsAtFault lines (line ++ more) e c
   other c (inl h) = cut_after c h.1 h.2 (h.0 ∙ sym (ap ending_cause h.3))
   other c (inr h) = inr (inl (record {
     version = h.0;
@@ -218,7 +210,7 @@ module _ (lines : List (List ℕ)) (line more : List ℕ) (e : Ending) (one : La
   IsMemory c = (c ≡ why.Memory) × BeginBook lines × (length more ≤ most_ahead)
 
   fault_after : (c : BookCause) → IsWrongRest lines line more e c
-      → IsMemory c ⊎ FaultAfter lines (line ++ more) e c
+      → IsMemory c ⊎ RestIsAtFault lines (line ++ more) e c
   fault_after why.Header w = inr (header_after w)
   fault_after why.After w = inr (past_book w.0 w.1)
   fault_after why.Read w = inr (stopped why.Read w.0 (sym (ap ending_cause w.1))
@@ -236,7 +228,7 @@ module _ (lines : List (List ℕ)) (line more : List ℕ) (e : Ending) (one : La
   fault_after why.NotGreatest w = inr (other why.NotGreatest w)
 
 -- a text's fault is Memory, or the first
-pub memory_or_first : (text : List ℕ) (e : Ending) (fault : BookFault)
+pub memory_or_first : (text : List ℕ) (e : InputEnd) (fault : BookFault)
     → HasBookFault text e fault → IsMemoryAt most_ahead text fault ⊎ FirstFault text e fault
 memory_or_first text e fault h =
     let one = lacks h.line h.one in
@@ -261,21 +253,21 @@ memory_or_first text e fault h =
       })
     ]
 
-pub first_of : (text : List ℕ) (e : Ending) (fault : BookFault) → HasBookFault text e fault
+pub first_of : (text : List ℕ) (e : InputEnd) (fault : BookFault) → HasBookFault text e fault
     → fault.cause ≢ why.Memory → FirstFault text e fault
 first_of text e fault h other = elim (memory_or_first text e fault h) [
   | inl m ↦ absurd (other m.refused)
   | inr first ↦ first
 ]
 
-ending_other : (e : Ending) → ending_cause e ≡ why.Memory → ⊥
+ending_other : (e : InputEnd) → ending_cause e ≡ why.Memory → ⊥
 ending_other how.End h = cc
 ending_other how.Read h = cc
 ending_other how.TooLong h = cc
 
 -- a first fault isn't Memory
-not_memory : (lines : List (List ℕ)) (rest : List ℕ) (e : Ending) (c : BookCause)
-    → FaultAfter lines rest e c → c ≢ why.Memory
+not_memory : (lines : List (List ℕ)) (rest : List ℕ) (e : InputEnd) (c : BookCause)
+    → RestIsAtFault lines rest e c → c ≢ why.Memory
 not_memory lines rest e c (inl start) is = header start.fault where
   header : HeaderFault rest e c → ⊥
   header (inl k) = ending_other e (sym k.1 ∙ is)
@@ -290,6 +282,6 @@ not_memory lines rest e c (inr (inr p)) is = past p.fault where
   past (inl k) = let bad : why.After ≡ why.Memory = sym k.1 ∙ is in cc
   past (inr k) = ending_other e (sym k.2 ∙ is)
 
-pub first_other : (text : List ℕ) (e : Ending) (fault : BookFault) → FirstFault text e fault
+pub first_other : (text : List ℕ) (e : InputEnd) (fault : BookFault) → FirstFault text e fault
     → fault.cause ≢ why.Memory
 first_other text e fault h = not_memory h.lines h.rest e fault.cause h.fault

@@ -1,29 +1,14 @@
 -- Lemmas on the fields of a row's line.
-use Rattle.std.proofs.Common.{◌≡◌, ℕ, zero, suc, ◌/◌, ◌%◌, ◌<◌, ◌≤◌, Bool, true, List, [], ◌∷◌, ◌++◌, length, get_or, Option, Some, None, Ok, refl, sym, ap, ◌∙◌, subst, append_assoc, arith, rules}
-use Rattle.std.specs.Prelude.{◌↔◌, All, IsTrue, codes}
-use Rattle.std.specs.List.{join_with_byte, AllByRecursion, list_all}
-use Rattle.std.proofs.lemmas.Bool.{and_parts}
-use Rattle.std.proofs.lemmas.Bool.Decides.{nat_tests}
-use Rattle.std.proofs.lemmas.List.Elements.{All-nil, All-push, recursion_from_All}
-use Rattle.hex.specs.Hex.{encode_lower, encode_with, lower_digits, IsBytes}
-use Rattle.aprs_log.specs.Moment.{moment_text_in, fraction_text, two_digits, IsWritable}
-use Rattle.aprs_log.specs.CivilMoment.{MomentTextIn, civil_after}
-use Rattle.aprs_log.specs.MomentReading.{moment_in, civil_text, Civil}
-use Rattle.aprs_log.specs.declared.moment_form.MomentForm.{MomentForm}
-use Rattle.aprs_log.specs.declared.moment_form.MomentForm.TheVariants.{Seconds, Millis}
-use Rattle.aprs_log.specs.Receiver.{IsName, is_name_byte}
-use Rattle.aprs_log.proofs.Moments.{text-moment_in, one_text, moment_text-is, millis_kept, same_text}
-use Rattle.aprs_laws.specs.Row.{Row, last_of}
+use Rattle.aprs_booktext.proofs.Common.{◌≡◌, ℕ, zero, suc, ◌/◌, ◌%◌, ◌<◌, ◌≤◌, Bool, true, List, [], ◌∷◌, ◌++◌, length, get_or, Option, Some, None, Ok, refl, sym, ap, ◌∙◌, subst, append_assoc, arith, rules, ◌↔◌, All, IsTrue, codes, join_with_byte, AllByRecursion, list_all, and_parts, nat_tests, All-nil, All-push, recursion_from_All, encode_lower, encode_with, lower_digits, IsBytes, moment_text_in, fraction_text, two_digits, IsWritable, moment_in, civil_text, Civil, MomentForm, Seconds, Millis, IsName, is_name_byte, text-moment_in, one_text, moment_text-is, millis_kept, same_text, Row, last_of, frame_or_fault, frame_fault, unless_fault, FrameFault}
+use Rattle.aprs_log.specs.CivilMoment.{IsMomentTextIn, civil_after}
 use Rattle.aprs_booktext.specs.Lines.{Lacks, pieces}
-use Rattle.aprs_ax25.specs.FrameFault.{frame_of, frame_fault, unless_fault}
-use Rattle.aprs_ax25.specs.declared.fault.FrameFault.{FrameFault}
 use Rattle.aprs_booktext.specs.Text.{fields_of, row_line, IsSpelled}
 use Rattle.aprs_booktext.proofs.Cuts.{lacks_joined, pieces_joined, joined_pieces}
 
 -- ---- moments
 
 pub moment_found : (form : MomentForm) (t : List ℕ) (m : ℕ) → m ≤ 4102444799999
-    → MomentTextIn form m t
+    → IsMomentTextIn form m t
     → IsWritable form m × (t ≡ moment_text_in form m)
 moment_found form t m h is =
     let whole = millis_kept form m t is in (
@@ -244,7 +229,7 @@ NamesFirst-last ps last rest n e answer d =
     )
 
 -- a frame is its bytes
-pub frame_is : (bytes frame : List ℕ) → frame_of bytes ≡ Ok frame → frame ≡ bytes
+pub frame_is : (bytes frame : List ℕ) → frame_or_fault bytes ≡ Ok frame → frame ≡ bytes
 frame_is bytes frame e = go (frame_fault bytes) e where
   go : (o : Option FrameFault) → unless_fault bytes o ≡ Ok frame → frame ≡ bytes
   go None e = cc

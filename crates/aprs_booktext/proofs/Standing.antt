@@ -1,26 +1,13 @@
 -- Lemmas on what a reader of a book holds.
-use Rattle.std.proofs.Common.{◌≡◌, ℕ, ◌+◌, ◌<◌, ◌≤◌, true, false, List, [], ◌∷◌, ◌++◌, length, drop, map, Option, None, Some, Result, Ok, Err, inl, inr, refl, sym, ap, ◌∙◌, subst, append_assoc, append-nil, length-append, arith}
-use Rattle.std.specs.Prelude.{◌≢◌, All, IfErr, IfNone, IfSome}
-use Rattle.std.specs.List.{last_or}
-use Rattle.std.proofs.lemmas.List.{length-map, map_push}
-use Rattle.std.proofs.lemmas.List.Concat.{flat_map-append}
-use Rattle.std.proofs.Math.Seq.{drop-append_seam}
-use Rattle.std.proofs.lemmas.List.Elements.{All-nil, All-push}
-use Rattle.aprs_io.specs.declared.input.Ending.{Ending}
-use Rattle.aprs_io.specs.declared.input.Ending.TheVariants as ending
-use Rattle.aprs_laws.specs.Gap.{millis_of}
-use Rattle.aprs_laws.specs.Row.{Row}
-use Rattle.aprs_laws.specs.Sound.{Sound}
+use Rattle.aprs_booktext.proofs.Common.{◌≡◌, ℕ, ◌+◌, ◌<◌, ◌≤◌, true, false, List, [], ◌∷◌, ◌++◌, length, drop, map, Option, None, Some, Result, Ok, Err, inl, inr, refl, sym, ap, ◌∙◌, subst, append_assoc, append-nil, length-append, arith, ◌≢◌, All, IfErr, IfNone, IfSome, last_or, length-map, map_push, flat_map-append, drop-append_seam, All-nil, All-push, InputEnd, millis_of, Row, Sound, refusal, none_exactly, text_of_lines}
+use Rattle.aprs_io.specs.declared.input.InputEnd.TheVariants as ending
 use Rattle.aprs_booktext.specs.Lines.{Lacks}
 use Rattle.aprs_booktext.proofs.Cuts.{lacks_append}
-use Rattle.aprs_rows.specs.Refusal.{refusal}
-use Rattle.aprs_rows.proofs.Refusals.{none_exactly}
 use Rattle.aprs_booktext.specs.FirstFault.{FirstFault}
-use Rattle.aprs_booktext.specs.Reader.{HoldsIn, StandsAfter, IsFault, JudgesLine, EndsWithRows, EndsWithSuch, StopsAt, EndsIn, gap_in, is_done, line_number, lines_read, may_end}
+use Rattle.aprs_booktext.specs.Reader.{HoldsIn, HasReadLines, IsFault, JudgesLine, EndsWithRows, EndsWithSuch, StopsAt, AgreesWithEnding, gap_in, is_done, line_number, lines_read, may_end}
 use Rattle.aprs_booktext.specs.StoredRows.{IsNextLine, StopsAfter, rows_after}
 use Rattle.aprs_booktext.specs.Text.{row_line, end_line, lines_of, book_text, IsBookRow, IsBookRows}
 use Rattle.aprs_booktext.specs.RowLines.{ended_by_lf}
-use Rattle.aprs_log.specs.LogText.{text_of_lines}
 use Rattle.aprs_booktext.specs.BookAnswers.{IsAnswerFor}
 use Rattle.aprs_booktext.specs.Fault.{ending_cause}
 use Rattle.aprs_booktext.specs.Version.{form_of, gap_of, header_of, IsVersion}
@@ -82,8 +69,8 @@ no_rows v h = rows_are v [] h
     (All-nil (IsBookRow (form_of v)))
 
 ended_header : (v : Version) (old new : List Row) (line t : List ℕ) → IsVersion v
-    → line ≡ header_of v → new ≡ old → StandsAfter Header old line t
-    → StandsAfter (Rows v) new [] (t ++ 10 ∷ [])
+    → line ≡ header_of v → new ≡ old → HasReadLines Header old line t
+    → HasReadLines (Rows v) new [] (t ++ 10 ∷ [])
 ended_header v old new line t h is same s =
     let none : new ≡ [] = same ∙ s.holds in
     let lines : line ∷ [] ≡ header_of v ∷ map (row_line (form_of v)) new
@@ -99,7 +86,7 @@ ended_header v old new line t h is same s =
 ended_row : (v : Version) (old new : List Row) (x : Row) (line t : List ℕ) → IsBookRow (form_of v) x
     → line ≡ row_line (form_of v) x → new ≡ old ++ x ∷ []
     → refusal (millis_of (gap_of v)) old x ≡ None
-    → StandsAfter (Rows v) old line t → StandsAfter (Rows v) new [] (t ++ 10 ∷ [])
+    → HasReadLines (Rows v) old line t → HasReadLines (Rows v) new [] (t ++ 10 ∷ [])
 ended_row v old new x line t is line_is grown free s =
     let lines : header_of v ∷ map (row_line (form_of v)) old ++ line ∷ [] ≡ header_of v
     ∷ map (row_line (form_of v)) new
@@ -118,7 +105,7 @@ ended_row v old new x line t is line_is grown free s =
     }
 
 ended_last : (v : Version) (old new : List Row) (line t : List ℕ) → line ≡ end_line (length old)
-    → new ≡ old → StandsAfter (Rows v) old line t → StandsAfter (Done v) new [] (t ++ 10 ∷ [])
+    → new ≡ old → HasReadLines (Rows v) old line t → HasReadLines (Done v) new [] (t ++ 10 ∷ [])
 ended_last v old new line t is same s =
     let lines : header_of v ∷ map (row_line (form_of v)) old ++ line ∷ [] ≡ lines_of v new
     = ap (λ l. header_of v ∷ map (row_line (form_of v)) old ++ l ∷ []) is
@@ -131,17 +118,17 @@ ended_last v old new line t is same s =
     }
 
 pub ended_stands : (stage next : Stage) (old new : List Row) (line t : List ℕ)
-    → JudgesLine stage (Ok next) old line new → StandsAfter stage old line t
-    → StandsAfter next new [] (t ++ 10 ∷ [])
+    → JudgesLine stage (Ok next) old line new → HasReadLines stage old line t
+    → HasReadLines next new [] (t ++ 10 ∷ [])
 ended_stands Header Header old new line t j s = absurd j
 ended_stands Header (Rows v) old new line t j s = ended_header v old new line t j.0 j.1 j.2 s
 ended_stands Header (Done v) old new line t j s = absurd j
 ended_stands (Rows v) Header old new line t j s = absurd j
 ended_stands (Rows v) (Rows w) old new line t j s =
-    subst (λ (u : Version). StandsAfter (Rows u) new [] (t ++ 10 ∷ [])) (sym j.0)
+    subst (λ (u : Version). HasReadLines (Rows u) new [] (t ++ 10 ∷ [])) (sym j.0)
     (ended_row v old new j.1 line t j.2 j.3 j.4 j.5 s)
 ended_stands (Rows v) (Done w) old new line t j s =
-    subst (λ (u : Version). StandsAfter (Done u) new [] (t ++ 10 ∷ [])) (sym j.0)
+    subst (λ (u : Version). HasReadLines (Done u) new [] (t ++ 10 ∷ [])) (sym j.0)
     (ended_last v old new line t j.1 j.2 s)
 ended_stands (Done v) next old new line t j s =
     absurd (let e : Ok next ≡ Err cause.After = j.0 in cc)
@@ -157,13 +144,13 @@ number_is (Done v) rows =
     simp length-append (omega arith) in
     omega (arith, length-map rows (row_line (form_of v)), e)
 
-and_more : (stage : Stage) (rows : List Row) (line t more : List ℕ) → StandsAfter stage rows line t
+and_more : (stage : Stage) (rows : List Row) (line t more : List ℕ) → HasReadLines stage rows line t
     → t ++ more ≡ text_of_lines (lines_read stage rows) ++ (line ++ more)
 and_more stage rows line t more s = ap (λ l. l ++ more) s.text_is
     ∙ append_assoc (text_of_lines (lines_read stage rows)) line more
 
 pub ended_fault : (stage : Stage) (old new : List Row) (line t more : List ℕ) (c : BookCause)
-    → JudgesLine stage (Err c) old line new → StandsAfter stage old line t
+    → JudgesLine stage (Err c) old line new → HasReadLines stage old line t
     → IsFault (length more + 1) (record { line = line_number stage (length new); cause = c })
     (t ++ 10 ∷ more)
 ended_fault Header old new line t more c j s = inr (λ e. record {
@@ -220,7 +207,7 @@ ended_fault (Done v) old new line t more c j s =
 
 -- an allocation fails in the line that is read
 pub held_fault : (stage : Stage) (rows : List Row) (line t bytes more : List ℕ)
-    → is_done stage ≡ false → StandsAfter stage rows line t
+    → is_done stage ≡ false → HasReadLines stage rows line t
     → IsFault (length bytes + length more) (record {
       line = line_number stage (length rows);
       cause =
@@ -252,8 +239,8 @@ held_fault (Done v) rows line t bytes more going s = absurd (let f : true ≡ fa
 
 -- bytes that are held after those of the line
 pub held_stands : (stage : Stage) (rows : List Row) (line t bytes : List ℕ) → is_done stage ≡ false
-    → Lacks 10 bytes → StandsAfter stage rows line t
-    → StandsAfter stage rows (line ++ bytes) (t ++ bytes)
+    → Lacks 10 bytes → HasReadLines stage rows line t
+    → HasReadLines stage rows (line ++ bytes) (t ++ bytes)
 held_stands stage rows line t bytes going lacks s = record {
   text_is = ap (λ l. l ++ bytes) s.text_is ∙ append_assoc
       (text_of_lines (lines_read stage rows)) line bytes;
@@ -268,7 +255,7 @@ held_stands stage rows line t bytes going lacks s = record {
 
 -- none may be held after the last line
 pub after_fault : (stage : Stage) (rows : List Row) (line t bytes more : List ℕ)
-    → is_done stage ≡ true → 0 < length bytes → StandsAfter stage rows line t
+    → is_done stage ≡ true → 0 < length bytes → HasReadLines stage rows line t
     → IsFault (length bytes + length more) (record {
       line = line_number stage (length rows);
       cause =
@@ -309,13 +296,13 @@ fault_near few most f t less h = elim h [
 
 -- ---- the end
 
-pub may_end-going : (stage : Stage) (e : Ending) → is_done stage ≡ false → may_end stage e ≡ false
+pub may_end-going : (stage : Stage) (e : InputEnd) → is_done stage ≡ false → may_end stage e ≡ false
 may_end-going Header e going = refl
 may_end-going (Rows v) e going = refl
 may_end-going (Done v) e going = absurd (let f : true ≡ false = going in cc)
 
-pub cut_fault : (stage : Stage) (rows : List Row) (line t : List ℕ) (e : Ending)
-    → may_end stage e ≡ false → StandsAfter stage rows line t
+pub cut_fault : (stage : Stage) (rows : List Row) (line t : List ℕ) (e : InputEnd)
+    → may_end stage e ≡ false → HasReadLines stage rows line t
     → FirstFault t e (record { line = line_number stage (length rows); cause = ending_cause e })
 cut_fault Header rows line t e may s = record {
   lines = [];
@@ -351,21 +338,21 @@ cut_fault (Done v) rows line t e may s = record {
     fault = inr (s.holds.1, not_end e may, refl);
   }));
 } where
-  not_end : (e : Ending) → may_end (Done v) e ≡ false → e ≢ ending.End
+  not_end : (e : InputEnd) → may_end (Done v) e ≡ false → e ≢ ending.End
   not_end ending.End may = λ x. (let f : true ≡ false = may in cc)
   not_end ending.Read may = λ x. cc
   not_end ending.TooLong may = λ x. cc
 
 -- the whole text was read
-pub record IsWhole (stage : Stage) (rows : List Row) (t : List ℕ) (e : Ending) : Type 0 where
+pub record IsWhole (stage : Stage) (rows : List Row) (t : List ℕ) (e : InputEnd) : Type 0 where
   pub version : Version
   pub stage_is : stage ≡ Done version
   pub text_is : t ≡ book_text version rows
   pub is : IsBookRows version rows
   pub ended : e ≡ ending.End
 
-pub ended_whole : (stage : Stage) (rows : List Row) (line t : List ℕ) (e : Ending)
-    → may_end stage e ≡ true → StandsAfter stage rows line t → IsWhole stage rows t e
+pub ended_whole : (stage : Stage) (rows : List Row) (line t : List ℕ) (e : InputEnd)
+    → may_end stage e ≡ true → HasReadLines stage rows line t → IsWhole stage rows t e
 ended_whole Header rows line t e may s = absurd (let f : false ≡ true = may in cc)
 ended_whole (Rows v) rows line t e may s = absurd (let f : false ≡ true = may in cc)
 ended_whole (Done v) rows line t e may s = record {
@@ -375,13 +362,13 @@ ended_whole (Done v) rows line t e may s = record {
   is = s.holds.0;
   ended = is_end e may;
 } where
-  is_end : (e : Ending) → may_end (Done v) e ≡ true → e ≡ ending.End
+  is_end : (e : InputEnd) → may_end (Done v) e ≡ true → e ≡ ending.End
   is_end ending.End may = refl
   is_end ending.Read may = absurd (let f : false ≡ true = may in cc)
   is_end ending.TooLong may = absurd (let f : false ≡ true = may in cc)
 
-pub ended_read : (stage : Stage) (rows : List Row) (line t : List ℕ) (e : Ending)
-    → may_end stage e ≡ true → StandsAfter stage rows line t
+pub ended_read : (stage : Stage) (rows : List Row) (line t : List ℕ) (e : InputEnd)
+    → may_end stage e ≡ true → HasReadLines stage rows line t
     → IsAnswerFor (Ok (record { gap = gap_in stage; rows = rows })) t e
 ended_read stage rows line t e may s =
     let w = ended_whole stage rows line t e may s in
@@ -442,26 +429,26 @@ Fed-rest P Q piece rest part after p cuts =
 
 -- nothing more is kept of a line
 pub held_stop : (stage : Stage) (rows : List Row) (line t : List ℕ) → is_done stage ≡ false
-    → StandsAfter stage rows line t → IsNextLine (line_number stage (length rows)) rows
+    → HasReadLines stage rows line t → IsNextLine (line_number stage (length rows)) rows
 held_stop Header rows line t going s = inl (refl, s.holds)
 held_stop (Rows v) rows line t going s = inr refl
 held_stop (Done v) rows line t going s = absurd (let f : true ≡ false = going in cc)
 
 -- a line isn't judged
 pub judged_stop : (stage : Stage) (old new : List Row) (line read t : List ℕ) (c : BookCause)
-    → JudgesLine stage (Err c) old read new → StandsAfter stage old line t → c ≡ cause.Memory
+    → JudgesLine stage (Err c) old read new → HasReadLines stage old line t → c ≡ cause.Memory
     → IsNextLine (line_number stage (length new)) new
 judged_stop Header old new line read t c j s e = inl (refl, j.1 ∙ s.holds)
 judged_stop (Rows v) old new line read t c j s e = inr refl
 judged_stop (Done v) old new line read t c j s e = absurd (let f = j.0 in cc)
 
 -- the input ended
-pub ending_not_memory : (e : Ending) → ending_cause e ≢ cause.Memory
+pub ending_not_memory : (e : InputEnd) → ending_cause e ≢ cause.Memory
 ending_not_memory ending.End = λ x. cc
 ending_not_memory ending.Read = λ x. cc
 ending_not_memory ending.TooLong = λ x. cc
 
-pub ending_stop : (e : Ending) (line : ℕ) (before : List Row) (count : ℕ) (store : List Row)
+pub ending_stop : (e : InputEnd) (line : ℕ) (before : List Row) (count : ℕ) (store : List Row)
     (P : List Row → Type 0) → EndsWithSuch before count store P
     → StopsAt before (record { line = line; cause = ending_cause e }) count store
 ending_stop e line before count store P s =
@@ -476,7 +463,7 @@ stopped_after before f count store s e =
       subst (IsNextLine f.line) (sym rows) (s.holds e),
     )
 
-pub ends_err : {A : Type 0} (e : Ending) (r : Result A BookFault) → EndsIn e r
+pub ends_err : {A : Type 0} (e : InputEnd) (r : Result A BookFault) → AgreesWithEnding e r
     → IfErr r (λ f. f.cause ≡ ending_cause e)
 ends_err e (Ok value) is = tt
 ends_err e (Err f) is = is

@@ -1,18 +1,7 @@
 -- Lemmas on the parts of a book's text.
-use Rattle.std.proofs.Common.{◌≡◌, ℕ, ◌+◌, ◌<◌, List, [], ◌∷◌, ◌++◌, length, take, drop, map, refl, sym, ap, ◌∙◌, append_assoc, append-nil}
+use Rattle.aprs_booktext.proofs.Common.{◌≡◌, ℕ, ◌+◌, ◌<◌, List, [], ◌∷◌, ◌++◌, length, take, drop, map, refl, sym, ap, ◌∙◌, append_assoc, append-nil, drop-append-add, take-append-add, take_more_set, flat_map-append, flat_map, join_with_byte, codes, encode_lower, moment_text, Millis, BookValue, Row, last_of, row_with}
 use Rattle.std.proofs.Math.ListN.{replicate, set}
-use Rattle.std.proofs.Math.Seq.{drop-append-add, take-append-add}
-use Rattle.std.proofs.lemmas.List.{take_more_set}
 use borrow.Rule.Slice.PartMut.{put_mid}
-use Rattle.std.proofs.lemmas.List.Concat.{flat_map-append}
-use Rattle.std.specs.List.{flat_map, join_with_byte}
-use Rattle.std.specs.Prelude.{codes}
-use Rattle.hex.specs.Hex.{encode_lower}
-use Rattle.aprs_log.specs.Moment.{moment_text}
-use Rattle.aprs_log.specs.declared.moment_form.MomentForm.TheVariants.{Millis}
-use Rattle.aprs_laws.specs.BookValue.{BookValue}
-use Rattle.aprs_laws.specs.Row.{Row, last_of}
-use Rattle.aprs_book.specs.Shown.{row_of}
 use Rattle.aprs_booktext.specs.RowLines.{line_and_lf, ended_by_lf}
 use Rattle.aprs_booktext.specs.Text.{row_line, end_line, written_text}
 use Rattle.aprs_booktext.specs.Version.{header_of}
@@ -56,13 +45,13 @@ row_parts row head tail h t =
 
 -- the same of a row that is told by its parts
 pub told_parts : (row : Row) (start end : ℕ) (names : List (List ℕ)) (who bytes : List ℕ)
-    → row_of start end names who bytes ≡ row → (head tail : List ℕ)
+    → row_with start end names who bytes ≡ row → (head tail : List ℕ)
     → head ≡ codes "T " ++ moment_text start ++ 32 ∷ moment_text end ++ 32 ∷ []
     → tail ≡ 32 ∷ who ++ 32 ∷ encode_lower bytes ++ 10 ∷ []
     → ended_by_lf (row_line Millis row) ≡ head ++ (join_with_byte 44 names ++ tail)
 told_parts row start end names who bytes is head tail h t =
     ap (λ (x : Row). ended_by_lf (row_line Millis x)) (sym is)
-    ∙ row_parts (row_of start end names who bytes) head tail h t
+    ∙ row_parts (row_with start end names who bytes) head tail h t
 
 -- ---- the parts of a line, as they are put at their places
 

@@ -1,14 +1,6 @@
 -- Lemmas on versions of book files.
-use Rattle.std.proofs.Common.{◌≡◌, ℕ, ◌+◌, ◌%◌, ◌^◌, ◌<◌, ◌≤◌, Bool, true, false, List, [], ◌∷◌, length, Option, None, Some, get_or, refl, sym, ap, ◌∙◌, arith}
-use Rattle.std.specs.Prelude.{◌≢◌}
-use Rattle.std.specs.Fmt.{decimal}
-use Rattle.std.specs.Str.{bytes_eq}
-use Rattle.std.proofs.lemmas.Bool.Decides.{nat_tests}
-use Rattle.std.proofs.lemmas.Fmt.{decimal_by_steps, decimal_injective, length-decimal-le}
-use Rattle.std.proofs.lemmas.Slice.Eq.{bytes_eq-Decides}
-use Rattle.aprs_laws.specs.Gap.{IsGap, millis_of, standard_gap}
+use Rattle.aprs_booktext.proofs.Common.{◌≡◌, ℕ, ◌+◌, ◌%◌, ◌^◌, ◌<◌, ◌≤◌, Bool, true, false, List, [], ◌∷◌, length, Option, None, Some, get_or, refl, sym, ap, ◌∙◌, arith, ◌≢◌, decimal, bytes_eq, nat_tests, decimal_by_steps, decimal_injective, length-decimal-le, bytes_eq-Decides, IsGap, millis_of, standard_gap, is_byte}
 use Rattle.aprs_booktext.specs.Lines.{Lacks}
-use Rattle.aprs_io.specs.Cut.{is_byte}
 use Rattle.aprs_booktext.specs.Version.{gap_of, header_of, IsVersion}
 use Rattle.aprs_booktext.specs.declared.version.Version.{Version}
 use Rattle.aprs_booktext.specs.declared.version.Version.TheVariants.{One, Two, Three}

@@ -1,30 +1,12 @@
 -- Worked examples of what is at fault in a text.
-use Rattle.std.proofs.Common.{◌≡◌, ◌∙◌, ℕ, zero, suc, ◌^◌, ◌+◌, ◌<◌, ◌≤◌, Bool, cond, false, true, List, [], ◌∷◌, ◌++◌, get_or, length, codes, Some, inl, inr, refl, ap, subst, arith}
-use Rattle.std.specs.Prelude.{◌≢◌, nat_lt}
-use Rattle.std.specs.List.{list_all}
-use Rattle.std.proofs.lemmas.Bool.Decides.{nat_tests}
-use Rattle.std.proofs.lemmas.Fmt.{decimal_digit}
-use Rattle.std.proofs.lemmas.List.Elements.{All-cons, All-nil}
-use Rattle.hex.specs.Hex.{encode_with, IsBytes}
-use Rattle.aprs_ax25.specs.UiFrame.{IsUiFrame}
-use Rattle.aprs_ax25.proofs.UiFrames.{frame_of-is}
-use Rattle.aprs_io.specs.Cut.{is_byte}
-use Rattle.aprs_io.specs.declared.input.Ending.TheVariants.{End}
+use Rattle.aprs_booktext.proofs.Common.{◌≡◌, ◌∙◌, ℕ, zero, suc, ◌^◌, ◌+◌, ◌<◌, ◌≤◌, Bool, cond, false, true, List, [], ◌∷◌, ◌++◌, get_or, length, codes, Some, inl, inr, refl, ap, subst, arith, ◌≢◌, nat_lt, list_all, nat_tests, decimal_digit, All-cons, All-nil, encode_with, IsBytes, IsUiFrame, frame_of-is, is_byte, text_of_lines, day_after, moment_text_in, IsName, bytes_cmp, Millis, millis_of, standard_gap, Row, IsSoundRow, Sound, refusal}
+use Rattle.aprs_io.specs.declared.input.InputEnd.TheVariants.{End}
 use Rattle.aprs_log.specs.Examples.{hi_frame}
-use Rattle.aprs_log.specs.LogText.{text_of_lines}
-use Rattle.aprs_log.specs.Moment.{day_after, moment_text_in}
-use Rattle.aprs_log.specs.Receiver.{IsName}
-use Rattle.aprs_log.specs.Reception.{bytes_cmp}
-use Rattle.aprs_log.specs.declared.moment_form.MomentForm.TheVariants.{Millis}
 use Rattle.aprs_log.proofs.Lines.{both}
-use Rattle.aprs_laws.specs.Gap.{millis_of, standard_gap}
 use Rattle.aprs_laws.specs.Key.{key_cmp, key_of}
 use Rattle.aprs_laws.specs.Order.{IsUpTo}
-use Rattle.aprs_laws.specs.Row.{Row}
-use Rattle.aprs_laws.specs.Sound.{IsSoundRow, Sound}
 use Rattle.aprs_laws.specs.declared.row_cause.RowCause.TheVariants.{Order}
 use Rattle.aprs_laws.proofs.Orders.{bytes_total, up_to_itself}
-use Rattle.aprs_rows.specs.Refusal.{refusal}
 use Rattle.aprs_booktext.specs.Examples.{fault_in, miscounted_text, disordered_text, unfinished_text}
 use Rattle.aprs_booktext.specs.Text.{end_line, row_line, IsBookRow, IsBookRows, IsSpelled}
 use Rattle.aprs_booktext.specs.TextFault.{AreOfRows, HasBookFault}

@@ -1,20 +1,8 @@
 -- Rows that were written can be read.
-use Rattle.std.proofs.Common.{◌≡◌, ℕ, ◌+◌, ◌<◌, List, [], ◌∷◌, ◌++◌, length, Option, Result, Ok, Err, inl, refl, sym, ap, ◌∙◌, subst, append_assoc, append-nil, arith}
-use Rattle.std.specs.Prelude.{All}
-use Rattle.std.specs.List.{flat_map}
-use Rattle.std.specs.Result.{IsErr}
-use Rattle.std.proofs.lemmas.List.{flat_map_more}
-use Rattle.std.proofs.lemmas.List.Concat.{flat_map-append}
-use Rattle.std.proofs.lemmas.List.Elements.{All-nil, All-push}
+use Rattle.aprs_booktext.proofs.Common.{◌≡◌, ℕ, ◌+◌, ◌<◌, List, [], ◌∷◌, ◌++◌, length, Option, Result, Ok, Err, inl, refl, sym, ap, ◌∙◌, subst, append_assoc, append-nil, arith, All, flat_map, IsErr, flat_map_more, flat_map-append, All-nil, All-push, Puts, Puts-fails, Puts-is, Puts-none, Puts-then, Millis, BookValue, IsSoundBook, Row, Sound}
 use Rattle.aprs_io.specs.declared.device.WriteFault.{WriteFault}
-use Rattle.aprs_io.specs.Outlet.{Puts}
 use Rattle.aprs_io.specs.declared.outlet.Outlet.{Outlet}
-use Rattle.aprs_io.proofs.Outlets.{Puts-fails, Puts-is, Puts-none, Puts-then}
-use Rattle.aprs_log.specs.declared.moment_form.MomentForm.TheVariants.{Millis}
-use Rattle.aprs_laws.specs.BookValue.{BookValue, IsSoundBook}
 use Rattle.aprs_laws.specs.Lists.{◌∈◌}
-use Rattle.aprs_laws.specs.Row.{Row}
-use Rattle.aprs_laws.specs.Sound.{Sound}
 use Rattle.aprs_laws.proofs.Lists.{in_right}
 use Rattle.aprs_booktext.specs.RowLines.{line_and_lf}
 use Rattle.aprs_booktext.specs.Text.{IsBookRow, IsBookRows, written_version}

@@ -1,11 +1,11 @@
 -- What is answered where a book is read of an input.
 use Rattle.std.specs.Prelude.{◌≡◌, ℕ, ◌≤◌, List, ◌++◌, length, Option, Result, Ok, Err}
 use Rattle.aprs_io.specs.Input.{Gets}
-use Rattle.aprs_io.specs.declared.input.Ending.{Ending}
-use Rattle.aprs_io.specs.declared.input.Ending.TheVariants as how
+use Rattle.aprs_io.specs.declared.input.InputEnd.{InputEnd}
+use Rattle.aprs_io.specs.declared.input.InputEnd.TheVariants as how
 use Rattle.aprs_laws.specs.BookValue.{BookValue}
 use Rattle.aprs_laws.specs.Row.{Row}
-use Rattle.aprs_booktext.specs.Text.{book_of, book_text, IsBookRows}
+use Rattle.aprs_booktext.specs.Text.{book_of_version, book_text, IsBookRows}
 use Rattle.aprs_booktext.specs.TextFault.{HasBookFault}
 use Rattle.aprs_booktext.specs.Version.{gap_of}
 use Rattle.aprs_booktext.specs.declared.fault.BookCause.TheVariants as why
@@ -14,7 +14,7 @@ use Rattle.aprs_booktext.specs.declared.version.Version.{Version}
 
 -- A book is the answer where the text is that of its rows in some version of its gap, and the end
 -- came after it; a fault is where the text has it.
-abbrev pub IsAnswerFor : Result BookValue BookFault → List ℕ → Ending → Type 0
+abbrev pub IsAnswerFor : Result BookValue BookFault → List ℕ → InputEnd → Type 0
 IsAnswerFor (Ok book) text ending = (version : Version) × (book.gap ≡ gap_of version)
     × (text ≡ book_text version book.rows) × IsBookRows version book.rows × (ending ≡ how.End)
 IsAnswerFor (Err fault) text ending = HasBookFault text ending fault
@@ -24,7 +24,7 @@ IsAnswerFor (Err fault) text ending = HasBookFault text ending fault
 pub record ReadsBook (limit : ℕ) (head input : List ℕ) (after : Option (List ℕ))
     (answer : Result BookValue BookFault) : Type 0 where
   pub got : List ℕ
-  pub ending : Ending
+  pub ending : InputEnd
   pub gets : Gets limit (head ++ input) after (head ++ got) ending
   pub reads : IsAnswerFor answer (head ++ got) ending
 
@@ -37,4 +37,4 @@ IsBookOrMemory (Err fault) book = fault.cause ≡ why.Memory
 abbrev pub AcceptsBook : ℕ → List ℕ → Result BookValue BookFault → Type 0 → Type 0
 AcceptsBook limit text answer Failed = (version : Version) (rows : List Row)
     → IsBookRows version rows → text ≡ book_text version rows → length text ≤ limit
-    → (Failed → ⊥) → IsBookOrMemory answer (book_of version rows)
+    → (Failed → ⊥) → IsBookOrMemory answer (book_of_version version rows)

@@ -1,7 +1,7 @@
 -- Numbers and names of causes.
 use Rattle.std.specs.Prelude.{ℕ, List, codes}
-use Rattle.aprs_io.specs.declared.input.Ending.{Ending}
-use Rattle.aprs_io.specs.declared.input.Ending.TheVariants as how
+use Rattle.aprs_io.specs.declared.input.InputEnd.{InputEnd}
+use Rattle.aprs_io.specs.declared.input.InputEnd.TheVariants as how
 use Rattle.aprs_laws.specs.declared.row_cause.RowCause.{RowCause}
 use Rattle.aprs_laws.specs.declared.row_cause.RowCause.TheVariants as row
 use Rattle.aprs_booktext.specs.declared.fault.BookCause.{BookCause}
@@ -49,7 +49,7 @@ book_cause_of row.NotGreatest = cause.NotGreatest
 book_cause_of row.Memory = cause.Memory
 
 -- The cause of a fault where a byte had to come and the input ended so.
-abbrev pub ending_cause : Ending → BookCause
+abbrev pub ending_cause : InputEnd → BookCause
 ending_cause how.End = cause.Ending
 ending_cause how.Read = cause.Read
 ending_cause how.TooLong = cause.TooLong

@@ -2,8 +2,8 @@
 -- prefix of lines that a book's text may begin with, in some version. No public clause cites this
 -- module.
 use Rattle.std.specs.Prelude.{◌≡◌, ◌≢◌, ℕ, ◌+◌, ◌<◌, ◌≤◌, ◌⊎◌, List, [], ◌∷◌, ◌++◌, length, map}
-use Rattle.aprs_io.specs.declared.input.Ending.{Ending}
-use Rattle.aprs_io.specs.declared.input.Ending.TheVariants as how
+use Rattle.aprs_io.specs.declared.input.InputEnd.{InputEnd}
+use Rattle.aprs_io.specs.declared.input.InputEnd.TheVariants as how
 use Rattle.aprs_log.specs.LogText.{text_of_lines}
 use Rattle.aprs_laws.specs.Gap.{millis_of}
 use Rattle.aprs_laws.specs.Row.{Row}
@@ -27,7 +27,7 @@ IsNoHeader line cause =
 -- ---- what is wrong with the rest of a text, after whole lines
 
 -- The rest is a line that isn't finished: it has no LF, and the cause says how the input ended.
-abbrev pub IsCut : List ℕ → Ending → BookCause → Type 0
+abbrev pub IsCut : List ℕ → InputEnd → BookCause → Type 0
 IsCut rest ending cause = Lacks 10 rest × (cause ≡ ending_cause ending)
 
 -- The rest begins with a whole line, of which P holds.
@@ -39,32 +39,32 @@ pub record HasLine (rest : List ℕ) (P : List ℕ → Type 0) : Type 0 where
   pub holds : P line
 
 -- The first line isn't finished, or it is no header.
-abbrev pub HeaderFault : List ℕ → Ending → BookCause → Type 0
+abbrev pub HeaderFault : List ℕ → InputEnd → BookCause → Type 0
 HeaderFault rest ending cause =
     IsCut rest ending cause ⊎ HasLine rest (λ line. IsNoHeader line cause)
 
 -- The line after these rows isn't finished, or it is wrong.
-abbrev pub LineFault : Version → List Row → List ℕ → Ending → BookCause → Type 0
+abbrev pub LineFault : Version → List Row → List ℕ → InputEnd → BookCause → Type 0
 LineFault version rows rest ending cause = IsCut rest ending cause
     ⊎ HasLine rest
     (λ line. IsWrong (millis_of (gap_of version)) (form_of version) rows line cause)
 
 -- Something follows the last line, or it wasn't seen that nothing does.
-abbrev pub EndFault : List ℕ → Ending → BookCause → Type 0
+abbrev pub EndFault : List ℕ → InputEnd → BookCause → Type 0
 EndFault rest ending cause = ((0 < length rest) × (cause ≡ why.After))
     ⊎ ((rest ≡ []) × (ending ≢ how.End) × (cause ≡ ending_cause ending))
 
 -- ---- the three places of a fault
 
 -- A fault at the header: no line was read before it.
-pub record AtHeader (lines : List (List ℕ)) (rest : List ℕ) (ending : Ending) (cause : BookCause)
+pub record AtHeader (lines : List (List ℕ)) (rest : List ℕ) (ending : InputEnd) (cause : BookCause)
     : Type 0 where
   pub none_read : lines ≡ []
   pub fault : HeaderFault rest ending cause
 
 -- A fault among the rows: a version's header and the lines of sound rows were read before it, and
 -- the next line is at fault.
-pub record AmongRows (lines : List (List ℕ)) (rest : List ℕ) (ending : Ending) (cause : BookCause)
+pub record AmongRows (lines : List (List ℕ)) (rest : List ℕ) (ending : InputEnd) (cause : BookCause)
     : Type 0 where
   pub version : Version
   pub rows : List Row
@@ -74,7 +74,7 @@ pub record AmongRows (lines : List (List ℕ)) (rest : List ℕ) (ending : Endin
 
 -- A fault past the end: all lines of a book were read before it, and something follows the last, or
 -- the input's end wasn't seen.
-pub record PastEnd (lines : List (List ℕ)) (rest : List ℕ) (ending : Ending) (cause : BookCause)
+pub record PastEnd (lines : List (List ℕ)) (rest : List ℕ) (ending : InputEnd) (cause : BookCause)
     : Type 0 where
   pub version : Version
   pub rows : List Row
@@ -83,18 +83,18 @@ pub record PastEnd (lines : List (List ℕ)) (rest : List ℕ) (ending : Ending)
   pub fault : EndFault rest ending cause
 
 -- After these lines, the rest is at fault: at the header, among the rows or past the end.
-abbrev pub FaultAfter : List (List ℕ) → List ℕ → Ending → BookCause → Type 0
-FaultAfter lines rest ending cause = AtHeader lines rest ending cause
+abbrev pub RestIsAtFault : List (List ℕ) → List ℕ → InputEnd → BookCause → Type 0
+RestIsAtFault lines rest ending cause = AtHeader lines rest ending cause
     ⊎ (AmongRows lines rest ending cause ⊎ PastEnd lines rest ending cause)
 
 -- The first fault of a text after which this ending came: the text is some lines and a rest that is
 -- at fault after them, and the fault's line is the one after those.
-pub record FirstFault (text : List ℕ) (ending : Ending) (found : BookFault) : Type 0 where
+pub record FirstFault (text : List ℕ) (ending : InputEnd) (found : BookFault) : Type 0 where
   pub lines : List (List ℕ)
   pub rest : List ℕ
   pub whole : text ≡ text_of_lines lines ++ rest
   pub line : found.line ≡ length lines + 1
-  pub fault : FaultAfter lines rest ending found.cause
+  pub fault : RestIsAtFault lines rest ending found.cause
 
 -- ---- where an allocation failed
 

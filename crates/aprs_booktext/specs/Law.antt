@@ -1,14 +1,14 @@
 -- What holds of all texts of books.
 use Rattle.std.specs.Prelude.{◌≡◌, ◌≢◌, ℕ, ◌^◌, ◌<◌, ◌≤◌, ◌⊎◌, ◌↔◌, List, [], ◌++◌, length, All, Option, Result, Ok, IfErr}
 use Rattle.aprs_io.specs.Input.{most_input}
-use Rattle.aprs_io.specs.declared.input.Ending.{Ending}
-use Rattle.aprs_io.specs.declared.input.Ending.TheVariants as how
-use Rattle.aprs_log.specs.Reception.{Heard}
+use Rattle.aprs_io.specs.declared.input.InputEnd.{InputEnd}
+use Rattle.aprs_io.specs.declared.input.InputEnd.TheVariants as how
+use Rattle.aprs_log.specs.Reception.{Received}
 use Rattle.aprs_laws.specs.BookValue.{BookValue, Holds}
 use Rattle.aprs_laws.specs.Row.{Row}
 use Rattle.aprs_booktext.specs.BookAnswers.{IsBookOrMemory, ReadsBook}
 use Rattle.aprs_booktext.specs.Fault.{ending_cause}
-use Rattle.aprs_booktext.specs.Text.{book_of, book_text, IsBookRow, IsBookRows, written_text, written_version}
+use Rattle.aprs_booktext.specs.Text.{book_of_version, book_text, IsBookRow, IsBookRows, written_text, written_version}
 use Rattle.aprs_booktext.specs.TextFault.{HasBookFault}
 use Rattle.aprs_booktext.specs.Version.{form_of, gap_of, IsVersion}
 use Rattle.aprs_booktext.specs.declared.fault.BookCause.TheVariants as why
@@ -29,7 +29,7 @@ TellBooksApart = (a b : BookValue) → IsBookRows (written_version a) a.rows
 -- the input ended there, the prefix isn't the whole text.
 abbrev pub AreCutShort : Type 0
 AreCutShort = (v : Version) (rows : List Row) → IsBookRows v rows → length rows < 2 ^ 64
-    → (text more : List ℕ) (ending : Ending) (fault : BookFault) → text ++ more ≡ book_text v rows
+    → (text more : List ℕ) (ending : InputEnd) (fault : BookFault) → text ++ more ≡ book_text v rows
     → HasBookFault text ending fault → fault.cause ≢ why.Memory
     → (fault.cause ≡ ending_cause ending) × (ending ≡ how.End → more ≢ [])
 
@@ -40,16 +40,16 @@ AreReadBack = (v : Version) (rows : List Row) → IsBookRows v rows
     → (limit : ℕ) → limit ≤ most_input
     → length (book_text v rows) ≤ limit → (after : Option (List ℕ))
     → (answer : Result BookValue BookFault) → ReadsBook limit [] (book_text v rows) after answer
-    → IfErr answer (λ fault. fault.cause ≢ why.Read) → IsBookOrMemory answer (book_of v rows)
+    → IfErr answer (λ fault. fault.cause ≢ why.Read) → IsBookOrMemory answer (book_of_version v rows)
 
 -- A text has at most one fault but Memory, for each way of ending.
 abbrev pub HaveOneBookFault : Type 0
-HaveOneBookFault = (text : List ℕ) (ending : Ending) (f g : BookFault) → length text < 2 ^ 64
+HaveOneBookFault = (text : List ℕ) (ending : InputEnd) (f g : BookFault) → length text < 2 ^ 64
     → HasBookFault text ending f → f.cause ≢ why.Memory
     → HasBookFault text ending g → g.cause ≢ why.Memory → f ≡ g
 
 -- The text is that of a book in some version, and the end came after it.
-pub record IsBookText (text : List ℕ) (ending : Ending) : Type 0 where
+pub record IsBookText (text : List ℕ) (ending : InputEnd) : Type 0 where
   pub version : Version
   pub rows : List Row
   pub is : IsBookRows version rows
@@ -58,29 +58,29 @@ pub record IsBookText (text : List ℕ) (ending : Ending) : Type 0 where
 
 -- A text that isn't the whole text of a book has a fault that isn't Memory.
 abbrev pub HaveFaultOrBook : Type 0
-HaveFaultOrBook = (text : List ℕ) (ending : Ending)
+HaveFaultOrBook = (text : List ℕ) (ending : InputEnd)
     → IsBookText text ending
     ⊎ ((fault : BookFault) × HasBookFault text ending fault × (fault.cause ≢ why.Memory))
 
 -- A text that is the whole text of a book has no fault but Memory.
 abbrev pub BooksAreFaultless : Type 0
-BooksAreFaultless = (text : List ℕ) (ending : Ending) (fault : BookFault) → length text < 2 ^ 64
+BooksAreFaultless = (text : List ℕ) (ending : InputEnd) (fault : BookFault) → length text < 2 ^ 64
     → IsBookText text ending → HasBookFault text ending fault → fault.cause ≡ why.Memory
 
 -- The text is that of the book of these receptions in some version, under its gap, and each row
 -- can be spelled in it.
-pub record IsTextOfSet (S : List Heard) (text : List ℕ) : Type 0 where
+pub record IsTextOfSet (S : List Received) (text : List ℕ) : Type 0 where
   pub version : Version
   pub is : IsVersion version
   pub rows : List Row
-  pub holds : Holds S (book_of version rows)
+  pub holds : Holds S (book_of_version version rows)
   pub each : All (IsBookRow (form_of version)) rows
   pub text_is : text ≡ book_text version rows
 
 -- The whole texts of books are exactly the texts of sets' books.
 abbrev pub AreOfSets : Type 0
 AreOfSets = (text : List ℕ)
-    → IsBookText text how.End ↔ ((S : List Heard) × IsTextOfSet S text)
+    → IsBookText text how.End ↔ ((S : List Received) × IsTextOfSet S text)
 
 -- The text is that of the book's rows in some version of its gap, the book can be written too, and
 -- that gives the same text exactly if it is of the version that is written.

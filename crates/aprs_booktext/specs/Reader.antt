@@ -1,7 +1,7 @@
 -- What a reader of a book holds. No public clause cites this module.
 use Rattle.std.specs.Prelude.{◌≡◌, ◌≢◌, ℕ, ◌+◌, ◌⊎◌, Bool, true, false, List, [], ◌∷◌, ◌++◌, length, map, None, Result, Ok, Err}
-use Rattle.aprs_io.specs.declared.input.Ending.{Ending}
-use Rattle.aprs_io.specs.declared.input.Ending.TheVariants as how
+use Rattle.aprs_io.specs.declared.input.InputEnd.{InputEnd}
+use Rattle.aprs_io.specs.declared.input.InputEnd.TheVariants as how
 use Rattle.aprs_laws.specs.Gap.{millis_of, standard_gap}
 use Rattle.aprs_laws.specs.Row.{Row}
 use Rattle.aprs_rows.specs.Refusal.{refusal}
@@ -34,7 +34,7 @@ HoldsIn (Rows v) rows line = IsBookRows v rows
 HoldsIn (Done v) rows line = IsBookRows v rows × (line ≡ [])
 
 -- The reader has read this text: whole lines, and a prefix of a line.
-pub record StandsAfter (stage : Stage) (rows : List Row) (line text : List ℕ) : Type 0 where
+pub record HasReadLines (stage : Stage) (rows : List Row) (line text : List ℕ) : Type 0 where
   pub text_is : text ≡ text_of_lines (lines_read stage rows) ++ line
   pub one : Lacks 10 line
   pub holds : HoldsIn stage rows line
@@ -43,7 +43,7 @@ pub record StandsAfter (stage : Stage) (rows : List Row) (line text : List ℕ) 
 -- bytes of the text were not looked at.
 abbrev pub IsFault : ℕ → BookFault → List ℕ → Type 0
 IsFault most fault text =
-    IsMemoryAt most text fault ⊎ ((ending : Ending) → FirstFault text ending fault)
+    IsMemoryAt most text fault ⊎ ((ending : InputEnd) → FirstFault text ending fault)
 
 -- The number of the line that is read after the lines of so many rows.
 abbrev pub line_number : Stage → ℕ → ℕ
@@ -64,7 +64,7 @@ is_done (Rows v) = false
 is_done (Done v) = true
 
 -- Whether a book's text may end at this stage and in this way.
-abbrev pub may_end : Stage → Ending → Bool
+abbrev pub may_end : Stage → InputEnd → Bool
 may_end (Done v) how.End = true
 may_end (Done v) how.Read = false
 may_end (Done v) how.TooLong = false
@@ -76,9 +76,9 @@ abbrev pub IsOfText : BookCause → Type 0
 IsOfText cause = (cause ≢ why.Read) × (cause ≢ why.TooLong)
 
 -- `Ok` comes only where the input ended (`End`), and a fault has the cause of this ending.
-abbrev pub EndsIn : {A : Type 0} → Ending → Result A BookFault → Type 0
-EndsIn ending (Ok value) = ending ≡ how.End
-EndsIn ending (Err fault) = fault.cause ≡ ending_cause ending
+abbrev pub AgreesWithEnding : {A : Type 0} → InputEnd → Result A BookFault → Type 0
+AgreesWithEnding ending (Ok value) = ending ≡ how.End
+AgreesWithEnding ending (Err fault) = fault.cause ≡ ending_cause ending
 
 -- After the lines of the old rows of this version a line is judged so: it is a row's, which nothing
 -- refuses, and which is added to them, or the last line, or an allocation failed, or the line is
@@ -140,10 +140,10 @@ AddsRow v (Err cause) rows line old new = ((cause ≡ why.Memory)
 -- ---- a reader
 
 -- How many rows the reader has read, and how many bytes of a line it keeps, together.
-abbrev pub size_of : {A : Type 0} → BookReader A → ℕ
-size_of reader = reader.count + length reader.line.items
+abbrev pub read_size : {A : Type 0} → BookReader A → ℕ
+read_size reader = reader.count + length reader.line.items
 
 -- The reader has read this text, and its rows are in the store, after those from before it.
-abbrev pub Stands : {A : Type 0} → List Row → BookReader A → List Row → List ℕ → Type 0
-Stands before reader store text = EndsWithSuch before reader.count store
-    (λ rows. StandsAfter reader.stage rows reader.line.items text)
+abbrev pub HasRead : {A : Type 0} → List Row → BookReader A → List Row → List ℕ → Type 0
+HasRead before reader store text = EndsWithSuch before reader.count store
+    (λ rows. HasReadLines reader.stage rows reader.line.items text)

@@ -1,7 +1,7 @@
 -- The fields of a row's line, as they are read. No public clause cites this module.
 use Rattle.std.specs.Prelude.{◌≡◌, ◌≢◌, ◌<◌, ◌≤◌, ◌⊎◌, ℕ, List, length, Ok, IsErr}
 use Rattle.hex.specs.Hex.{encode_lower, IsBytes}
-use Rattle.aprs_ax25.specs.FrameFault.{frame_of}
+use Rattle.aprs_ax25.specs.FrameFault.{frame_or_fault}
 use Rattle.aprs_log.specs.declared.moment_form.MomentForm.{MomentForm}
 use Rattle.aprs_laws.specs.Row.{Row}
 use Rattle.aprs_booktext.specs.TextFault.{HasNoFrame}
@@ -18,14 +18,14 @@ pub record SpellsBytes (digits bytes : List ℕ) : Type 0 where
 -- The digits spell the bytes of this frame.
 pub record SpellsFrame (digits frame : List ℕ) : Type 0 where
   pub spelled : SpellsBytes digits frame
-  pub is : frame_of frame ≡ Ok frame
+  pub is : frame_or_fault frame ≡ Ok frame
 
 -- The digits spell no bytes, or bytes that aren't a UI frame.
 abbrev pub IsWrongFrame : List ℕ → BookCause → Type 0
 IsWrongFrame digits cause =
     ((cause ≡ why.RowSyntax) × ((bytes : List ℕ) → SpellsBytes digits bytes → ⊥))
     ⊎ ((cause ≡ why.Frame)
-    × ((bytes : List ℕ) × SpellsBytes digits bytes × IsErr (frame_of bytes)))
+    × ((bytes : List ℕ) × SpellsBytes digits bytes × IsErr (frame_or_fault bytes)))
 
 -- The line spells no row, or it spells one but for its frame, whose bytes aren't a UI frame.
 abbrev pub IsWrongRow : MomentForm → List ℕ → BookCause → Type 0

@@ -1,7 +1,7 @@
 -- Texts of version 1, whose moments are written to the second.
 use Rattle.std.specs.Prelude.{◌≡◌, ℕ, ◌*◌, ◌/◌, ◌%◌, ◌≤◌, List, ◌∷◌, ◌++◌, All, map, Result, IfOk}
 use Rattle.aprs_log.specs.Moment.{date_text, day_after, moment_text_in, time_text}
-use Rattle.aprs_log.specs.Reception.{Heard}
+use Rattle.aprs_log.specs.Reception.{Received}
 use Rattle.aprs_log.specs.declared.moment_form.MomentForm.TheVariants.{Seconds}
 use Rattle.aprs_laws.specs.Book.{BookOf}
 use Rattle.aprs_laws.specs.BookValue.{BookValue, Holds}
@@ -14,7 +14,7 @@ use Rattle.aprs_booktext.specs.declared.version.Version.TheVariants.{One}
 
 -- The text is that of version 1 of the book of these receptions, whose moments are in seconds, as
 -- the gap is.
-pub record IsTextInSeconds (S : List Heard) (text : List ℕ) : Type 0 where
+pub record IsTextInSeconds (S : List Received) (text : List ℕ) : Type 0 where
   pub rows : List Row
   pub book : BookOf standard_gap S rows
   pub each : All (IsBookRow Seconds) (scaled_rows 1000 rows)
@@ -23,7 +23,7 @@ pub record IsTextInSeconds (S : List Heard) (text : List ℕ) : Type 0 where
 -- The text of version 1 of the book of a set in seconds gives the book of that set in milliseconds,
 -- with the standard gap.
 abbrev pub ReadsSeconds : List ℕ → Result BookValue BookFault → Type 0
-ReadsSeconds text answer = (S : List Heard) → IsTextInSeconds S text
+ReadsSeconds text answer = (S : List Received) → IsTextInSeconds S text
     → IfOk answer (λ book. (book.gap ≡ standard_gap) × Holds (map (scaled_heard 1000) S) book)
 
 -- A moment of so many seconds is written as its date and its time of the day, without milliseconds.

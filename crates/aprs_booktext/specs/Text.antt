@@ -7,7 +7,7 @@ use Rattle.aprs_log.specs.LogText.{text_of_lines}
 use Rattle.aprs_log.specs.Moment.{IsWritable, moment_text_in}
 use Rattle.aprs_log.specs.declared.moment_form.MomentForm.{MomentForm}
 use Rattle.aprs_log.specs.Receiver.{IsName}
-use Rattle.aprs_log.specs.Reception.{Heard}
+use Rattle.aprs_log.specs.Reception.{Received}
 use Rattle.aprs_laws.specs.Book.{BookOf}
 use Rattle.aprs_laws.specs.BookValue.{BookValue}
 use Rattle.aprs_laws.specs.Gap.{millis_of}
@@ -43,8 +43,8 @@ abbrev pub book_text : Version → List Row → List ℕ
 book_text v rows = text_of_lines (lines_of v rows)
 
 -- The book of the rows of a text of this version.
-abbrev pub book_of : Version → List Row → BookValue
-book_of v rows = record { gap = gap_of v; rows = rows }
+abbrev pub book_of_version : Version → List Row → BookValue
+book_of_version v rows = record { gap = gap_of v; rows = rows }
 
 -- ---- the text that a book is written as
 
@@ -83,5 +83,5 @@ pub record IsBookRow (form : MomentForm) (x : Row) : Type 0 where
 -- this gap. A line can spell each row in the version's form, and each row's frame is a UI frame.
 pub record IsBookRows (v : Version) (rows : List Row) : Type 0 where
   pub version : IsVersion v
-  pub book : (S : List Heard) × BookOf (millis_of (gap_of v)) S rows
+  pub book : (S : List Received) × BookOf (millis_of (gap_of v)) S rows
   pub each : All (IsBookRow (form_of v)) rows

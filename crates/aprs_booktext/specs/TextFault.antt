@@ -2,8 +2,8 @@
 use Rattle.std.specs.Prelude.{◌≡◌, ◌≢◌, ℕ, ◌+◌, ◌≤◌, ◌==◌, ◌⊎◌, Bool, false, true, List, [], ◌∷◌, ◌++◌, length, map, codes, Some}
 use Rattle.std.specs.List.{starts_with}
 use Rattle.aprs_ax25.specs.UiFrame.{IsUiFrame}
-use Rattle.aprs_io.specs.declared.input.Ending.{Ending}
-use Rattle.aprs_io.specs.declared.input.Ending.TheVariants as how
+use Rattle.aprs_io.specs.declared.input.InputEnd.{InputEnd}
+use Rattle.aprs_io.specs.declared.input.InputEnd.TheVariants as how
 use Rattle.aprs_log.specs.LogText.{HasNoLf, text_of_lines}
 use Rattle.aprs_log.specs.declared.moment_form.MomentForm.{MomentForm}
 use Rattle.aprs_laws.specs.Gap.{millis_of}
@@ -25,7 +25,7 @@ abbrev pub is_end : List ℕ → Bool
 is_end line = starts_with ◌==◌ line (codes "END")
 
 -- The line spells a row that can't be added to these rows, for this reason.
-pub record IsRefused (gap : ℕ) (form : MomentForm) (rows : List Row) (line : List ℕ)
+pub record SpellsRefusedRow (gap : ℕ) (form : MomentForm) (rows : List Row) (line : List ℕ)
     (reason : RowCause) : Type 0 where
   pub row : Row
   pub is : IsBookRow form row
@@ -46,11 +46,11 @@ IsWrong gap form rows line why.Ending = (is_end line ≡ true) × (line ≢ end_
 IsWrong gap form rows line why.RowSyntax =
     (is_end line ≡ false) × ((x : Row) → IsSpelled form x → line ≢ row_line form x)
 IsWrong gap form rows line why.Frame = HasNoFrame form line
-IsWrong gap form rows line why.Order = IsRefused gap form rows line row.Order
-IsWrong gap form rows line why.Span = IsRefused gap form rows line row.Span
-IsWrong gap form rows line why.Near = IsRefused gap form rows line row.Near
-IsWrong gap form rows line why.Receivers = IsRefused gap form rows line row.Receivers
-IsWrong gap form rows line why.NotGreatest = IsRefused gap form rows line row.NotGreatest
+IsWrong gap form rows line why.Order = SpellsRefusedRow gap form rows line row.Order
+IsWrong gap form rows line why.Span = SpellsRefusedRow gap form rows line row.Span
+IsWrong gap form rows line why.Near = SpellsRefusedRow gap form rows line row.Near
+IsWrong gap form rows line why.Receivers = SpellsRefusedRow gap form rows line row.Receivers
+IsWrong gap form rows line why.NotGreatest = SpellsRefusedRow gap form rows line row.NotGreatest
 IsWrong gap form rows line why.Header = ⊥
 IsWrong gap form rows line why.After = ⊥
 IsWrong gap form rows line why.Read = ⊥
@@ -95,7 +95,7 @@ StopsIn lines line more = (more ≡ []) × (BeginBook lines ⊎ (AreBook lines �
 -- lines, and at most `most_ahead` bytes came after `line`. `Ending`: the input ended before a
 -- book's last line did. `Ending` or a row's cause: `line`, with its LF, is wrong after the rows
 -- (`IsWrong`).
-abbrev pub IsWrongRest : List (List ℕ) → List ℕ → List ℕ → Ending → BookCause → Type 0
+abbrev pub IsWrongRest : List (List ℕ) → List ℕ → List ℕ → InputEnd → BookCause → Type 0
 IsWrongRest lines line more ending why.Header =
     (lines ≡ []) × ((v : Version) → IsVersion v → line ≢ header_of v) × EndsLine more
 IsWrongRest lines line more ending why.After = AreBook lines × (line ++ more ≢ [])
@@ -110,7 +110,7 @@ IsWrongRest lines line more ending cause =
 -- A book file of which this text was got, with this ending, has this fault: the text is some lines
 -- that have no fault, and then `line`, which has no LF in it, and `more`, and these two are wrong.
 -- The fault's line is the one after the lines that have no fault.
-pub record HasBookFault (text : List ℕ) (ending : Ending) (fault : BookFault) : Type 0 where
+pub record HasBookFault (text : List ℕ) (ending : InputEnd) (fault : BookFault) : Type 0 where
   pub lines : List (List ℕ)
   pub line : List ℕ
   pub more : List ℕ

@@ -1,5 +1,5 @@
 //! Worked examples of what is at fault in a text, and near misses. The functions do nothing.
-ghost use Rattle.aprs_io.specs.declared.input.Ending.TheVariants.{End};
+ghost use Rattle.aprs_io.specs.declared.input.InputEnd.TheVariants.{End};
 ghost use Rattle.aprs_booktext.specs.Examples.{fault_in, miscounted_text, disordered_text, unfinished_text};
 ghost use Rattle.aprs_booktext.specs.TextFault.{HasBookFault};
 ghost use Rattle.aprs_booktext.specs.declared.fault.BookCause.TheVariants.{Ending, Memory, Order, RowSyntax, Span};

@@ -9,12 +9,12 @@ mod hexadecimal;
 mod laws;
 mod read;
 mod reader;
+mod row_buffers;
 mod row_line;
-mod row_room;
-mod scratch;
 mod version;
 mod write;
 mod write_transmissions;
+mod written_row;
 
 pub use example::{
     end_line_with_another_count_is_no_row, memory_is_refused_in_a_line, order_comes_before_span,

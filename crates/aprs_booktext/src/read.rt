@@ -7,7 +7,7 @@ ghost use Rattle.aprs_laws.specs.BookValue.{IsSoundBook};
 ghost use Rattle.aprs_laws.specs.Row.{Row};
 ghost use Rattle.aprs_booktext.specs.Asking.{Asks, Takes};
 ghost use Rattle.aprs_booktext.specs.BookAnswers.{AcceptsBook, ReadsBook};
-ghost use Rattle.aprs_booktext.specs.Reader.{gap_in, is_done, size_of, Stands, StopsAt};
+ghost use Rattle.aprs_booktext.specs.Reader.{gap_in, is_done, read_size, HasRead, StopsAt};
 ghost use Rattle.aprs_booktext.specs.Reading.{Got, IsAnswered};
 ghost use Rattle.aprs_booktext.specs.Seconds.{ReadsSeconds};
 ghost use Rattle.aprs_booktext.specs.StoredRows.{book_read, rows_after, StopsAfter};
@@ -64,7 +64,7 @@ pub fn read_book<R: Read, A: Allocator + Copy>(
     let mut reader = BookReader::new(alloc);
     let left = read_lines(limit, head, source, &mut reader, &mut store)?;
     let Ok(book) = book_in(alloc, reader.gap(), store) else {
-        return Err(reader.refusal_at_last());
+        return Err(reader.memory_fault_at_last());
     };
     gap_at_end(left, source, &reader)?;
     Ok(book)
@@ -76,8 +76,8 @@ pub fn read_book<R: Read, A: Allocator + Copy>(
 /// `TooLong`. Requires a limit of at most `MAX_INPUT` (1,073,741,824) and a head of at most 8 bytes
 /// and at most `limit`. A fault is the text's first, with the number of its line; `Memory` comes
 /// instead where an allocation failed before that fault, with the number of the line that was being
-/// read, and the rows of the lines before it are then in the store. After another fault anything may
-/// be there. Holds the store and one line.
+/// read, and the rows of the lines before it are then in the store. After another fault anything
+/// may be there. Holds the store and one line.
 pub fn read_rows<R: Read, A: Allocator + Copy>(
     alloc: A,
     limit: u64,
@@ -131,11 +131,11 @@ fn read_lines<R: Read, A: Allocator + Copy>(
     requires limit { limit ≤ most_input }
     requires head { length head.now ≤ 8 }
     requires within { length head.now ≤ limit }
-    requires none { size_of reader.old ≡ 0 }
-    requires stands { Stands store.old reader.old store.old [] }
+    requires none { read_size reader.old ≡ 0 }
+    requires stands { HasRead store.old reader.old store.old [] }
 
     // The reader has read `head` and what was got of the source, and the store has its rows.
-    ensures got { IfOk result (λ left. Got (Stands store.old reader.new store.new) head.now
+    ensures got { IfOk result (λ left. Got (HasRead store.old reader.new store.new) head.now
         (R.remaining (device_of source.old)) (R.remaining (device_of source.new)) limit left) }
     ensures few { OnOk result (reader.new.count ≤ most_input) }
     ensures done { OnOk result (is_done reader.new.stage ≡ true) }
@@ -176,7 +176,7 @@ fn gap_at_end<R: Read, A: Allocator + Copy>(
     // This is the answer for the whole text, where the reader got `head` and then what came since
     // the source was `first`.
     ensures answer { (before store : List Row) (head : List ℕ) (first : CountedValue R) (limit : ℕ)
-        → Got (Stands before reader.now store) head (R.remaining (device_of first))
+        → Got (HasRead before reader.now store) head (R.remaining (device_of first))
         (R.remaining (device_of source.old)) limit left → Calls Going first source.old
         → IsAnswered R.remaining limit head (book_read result before store) first source.new }
 {

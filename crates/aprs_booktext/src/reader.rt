@@ -15,11 +15,11 @@ ghost use Rattle.aprs_booktext.specs.Reader as Spec;
 use crate::cut::cut;
 use crate::end_line::end_line;
 use crate::fault::{BookCause, BookFault};
+use crate::row_buffers::RowBuffers;
 use crate::row_line::read_row;
-use crate::scratch::Scratch;
 use crate::version::Version;
 use aprs_book::{Gap, RowCause};
-use aprs_io::Ending;
+use aprs_io::InputEnd;
 use aprs_rows::{RowStore, RowView};
 use std::alloc::Allocator;
 
@@ -41,21 +41,21 @@ pub struct BookReader<A: Allocator> {
     count: usize,
     line: Vec<u8, A>,
     stage: Stage,
-    scratch: Scratch,
+    scratch: RowBuffers,
 }
 
 impl<A: Allocator + Copy> BookReader<A> {
     /// A reader that has read nothing of a text.
     pub fn new(alloc: A) -> BookReader<A>
         // Whatever the store has, no row of it is of this text.
-        ensures stands { (store : List Row) → Spec.Stands store result store [] }
-        ensures empty { Spec.size_of result ≡ 0 }
+        ensures stands { (store : List Row) → Spec.HasRead store result store [] }
+        ensures empty { Spec.read_size result ≡ 0 }
     {
         BookReader {
             count: 0,
             line: Vec::new(alloc),
             stage: Stage::Header,
-            scratch: Scratch::new(),
+            scratch: RowBuffers::new(),
         }
     }
 
@@ -83,23 +83,23 @@ impl<A: Allocator + Copy> BookReader<A> {
     /// never with `Read` or `TooLong`, and with `Memory` in the line in which an allocation failed;
     /// after that the rows of the lines before that one are in the store.
     pub fn feed(&mut self, store: &mut RowStore<A>, piece: &[u8]) -> Result<(), BookFault>
-        requires { Spec.size_of self.old + length piece.now ≤ most_input }
+        requires { Spec.read_size self.old + length piece.now ≤ most_input }
 
         // If the text `t` was read before, `t` and the piece are read now.
         ensures stands { OnOk result ((before : List Row) (t : List ℕ)
-            → Spec.Stands before self.old store.old t
-            → Spec.Stands before self.new store.new (t ++ piece.now)) }
+            → Spec.HasRead before self.old store.old t
+            → Spec.HasRead before self.new store.new (t ++ piece.now)) }
         ensures size { OnOk result
-            (Spec.size_of self.new ≤ Spec.size_of self.old + length piece.now) }
+            (Spec.read_size self.new ≤ Spec.read_size self.old + length piece.now) }
 
         // The fault is that of the text, whatever comes after; or an allocation failed.
         ensures fault { IfErr result (λ fault. (before : List Row) (t : List ℕ)
-            → Spec.Stands before self.old store.old t
+            → Spec.HasRead before self.old store.old t
             → Spec.IsFault (length piece.now) fault (t ++ piece.now)) }
         ensures cause { IfErr result (λ fault. Spec.IsOfText fault.cause) }
         // Where an allocation failed, it is in the line after those that were read.
         ensures rows { IfErr result (λ fault. (before : List Row) (t : List ℕ)
-            → Spec.Stands before self.old store.old t
+            → Spec.HasRead before self.old store.old t
             → Spec.StopsAt before fault self.new.count store.new) }
     {
         let mut rest = piece;
@@ -114,22 +114,22 @@ impl<A: Allocator + Copy> BookReader<A> {
     /// where there are any and the last line was read, and with `Memory` where an allocation
     /// failed.
     fn append(&mut self, bytes: &[u8]) -> Result<(), BookFault>
-        requires { Spec.size_of self.old ≤ most_input }
+        requires { Spec.read_size self.old ≤ most_input }
 
         // If the text `t` was read before, `t` and the bytes are read now.
         ensures stands { OnOk result ((before store : List Row) (t : List ℕ)
-            → Spec.Stands before self.old store t → Lacks 10 bytes.now
-            → Spec.Stands before self.new store (t ++ bytes.now)) }
+            → Spec.HasRead before self.old store t → Lacks 10 bytes.now
+            → Spec.HasRead before self.new store (t ++ bytes.now)) }
         ensures size { OnOk result
-            (Spec.size_of self.new ≤ Spec.size_of self.old + length bytes.now) }
+            (Spec.read_size self.new ≤ Spec.read_size self.old + length bytes.now) }
 
         // The fault is that of the text, whatever comes after; or an allocation failed.
         ensures fault { IfErr result (λ fault. (before store : List Row) (t more : List ℕ)
-            → Spec.Stands before self.old store t
+            → Spec.HasRead before self.old store t
             → Spec.IsFault (length bytes.now + length more) fault ((t ++ bytes.now) ++ more)) }
         ensures cause { IfErr result (λ fault. Spec.IsOfText fault.cause) }
         ensures rows { IfErr result (λ fault. (before store : List Row) (t : List ℕ)
-            → Spec.Stands before self.old store t
+            → Spec.HasRead before self.old store t
             → Spec.StopsAt before fault self.new.count store) }
     {
         if is_done(self.stage) {
@@ -150,7 +150,7 @@ impl<A: Allocator + Copy> BookReader<A> {
 
         // The fault is that of the text, whatever comes after; or an allocation failed.
         ensures fault { IfErr result (λ fault. (before store : List Row) (t more : List ℕ)
-            → Spec.Stands before self.now store t
+            → Spec.HasRead before self.now store t
             → Spec.IsFault (length bytes.now + length more) fault ((t ++ bytes.now) ++ more)) }
         ensures cause { IfErr result (λ fault. Spec.IsOfText fault.cause) }
         ensures after { IfErr result (λ fault. fault.cause ≡ BookCause.After) }
@@ -165,23 +165,23 @@ impl<A: Allocator + Copy> BookReader<A> {
     /// after those of the store. Where `part` is the whole line, it isn't copied first. Fails where
     /// the line is wrong, or where an allocation failed.
     fn end_line(&mut self, store: &mut RowStore<A>, part: &[u8]) -> Result<(), BookFault>
-        requires { Spec.size_of self.old + length part.now ≤ most_input }
+        requires { Spec.read_size self.old + length part.now ≤ most_input }
 
         // If the text `t` was read before, `t`, `part` and an LF are read now.
         ensures stands { OnOk result ((before : List Row) (t : List ℕ)
-            → Spec.Stands before self.old store.old t → Lacks 10 part.now
-            → Spec.Stands before self.new store.new ((t ++ part.now) ++ 10 ∷ [])) }
+            → Spec.HasRead before self.old store.old t → Lacks 10 part.now
+            → Spec.HasRead before self.new store.new ((t ++ part.now) ++ 10 ∷ [])) }
         ensures size { OnOk result
-            (Spec.size_of self.new ≤ Spec.size_of self.old + length part.now + 1) }
+            (Spec.read_size self.new ≤ Spec.read_size self.old + length part.now + 1) }
 
         // The fault is that of the text, whatever comes after; or an allocation failed.
         ensures fault { IfErr result (λ fault. (before : List Row) (t more : List ℕ)
-            → Spec.Stands before self.old store.old t → Lacks 10 part.now
+            → Spec.HasRead before self.old store.old t → Lacks 10 part.now
             → Spec.IsFault (length part.now + (length more + 1)) fault
             ((t ++ part.now) ++ 10 ∷ more)) }
         ensures cause { IfErr result (λ fault. Spec.IsOfText fault.cause) }
         ensures rows { IfErr result (λ fault. (before : List Row) (t : List ℕ)
-            → Spec.Stands before self.old store.old t → Lacks 10 part.now
+            → Spec.HasRead before self.old store.old t → Lacks 10 part.now
             → Spec.StopsAt before fault self.new.count store.new) }
     {
         if self.line.is_empty() && !is_done(self.stage) {
@@ -195,23 +195,23 @@ impl<A: Allocator + Copy> BookReader<A> {
     /// if it has one, after those of the store. Fails where the line is wrong, or where an
     /// allocation failed.
     fn take_line(&mut self, store: &mut RowStore<A>, line: &[u8]) -> Result<(), BookFault>
-        requires size { Spec.size_of self.old + length line.now ≤ most_input }
+        requires size { Spec.read_size self.old + length line.now ≤ most_input }
         requires none { self.old.line.items ≡ [] }
         requires going { Spec.is_done self.old.stage ≡ false }
 
         // If the text `t` was read before, `t`, the line and an LF are read now.
         ensures stands { OnOk result ((before : List Row) (t : List ℕ)
-            → Spec.Stands before self.old store.old t → Lacks 10 line.now
-            → Spec.Stands before self.new store.new ((t ++ line.now) ++ 10 ∷ [])) }
-        ensures size { OnOk result (Spec.size_of self.new ≤ Spec.size_of self.old + 1) }
+            → Spec.HasRead before self.old store.old t → Lacks 10 line.now
+            → Spec.HasRead before self.new store.new ((t ++ line.now) ++ 10 ∷ [])) }
+        ensures size { OnOk result (Spec.read_size self.new ≤ Spec.read_size self.old + 1) }
 
         // The fault is that of the text, whatever comes after; or an allocation failed.
         ensures fault { IfErr result (λ fault. (before : List Row) (t more : List ℕ)
-            → Spec.Stands before self.old store.old t → Lacks 10 line.now
+            → Spec.HasRead before self.old store.old t → Lacks 10 line.now
             → Spec.IsFault (length more + 1) fault ((t ++ line.now) ++ 10 ∷ more)) }
         ensures cause { IfErr result (λ fault. Spec.IsOfText fault.cause) }
         ensures rows { IfErr result (λ fault. (before : List Row) (t : List ℕ)
-            → Spec.Stands before self.old store.old t
+            → Spec.HasRead before self.old store.old t
             → Spec.StopsAt before fault self.new.count store.new) }
     {
         match judge(self.stage, store, &mut self.scratch, &mut self.count, line) {
@@ -226,21 +226,21 @@ impl<A: Allocator + Copy> BookReader<A> {
     /// Judges the kept bytes as a whole line, puts its row, if it has one, after those of the
     /// store, and then keeps nothing. Fails where the line is wrong, or where an allocation failed.
     fn take_kept_line(&mut self, store: &mut RowStore<A>) -> Result<(), BookFault>
-        requires { Spec.size_of self.old ≤ most_input }
+        requires { Spec.read_size self.old ≤ most_input }
 
         // If the text `t` was read before, `t` and an LF are read now.
         ensures stands { OnOk result ((before : List Row) (t : List ℕ)
-            → Spec.Stands before self.old store.old t
-            → Spec.Stands before self.new store.new (t ++ 10 ∷ [])) }
-        ensures size { OnOk result (Spec.size_of self.new ≤ Spec.size_of self.old + 1) }
+            → Spec.HasRead before self.old store.old t
+            → Spec.HasRead before self.new store.new (t ++ 10 ∷ [])) }
+        ensures size { OnOk result (Spec.read_size self.new ≤ Spec.read_size self.old + 1) }
 
         // The fault is that of the text, whatever comes after; or an allocation failed.
         ensures fault { IfErr result (λ fault. (before : List Row) (t more : List ℕ)
-            → Spec.Stands before self.old store.old t
+            → Spec.HasRead before self.old store.old t
             → Spec.IsFault (length more + 1) fault (t ++ 10 ∷ more)) }
         ensures cause { IfErr result (λ fault. Spec.IsOfText fault.cause) }
         ensures rows { IfErr result (λ fault. (before : List Row) (t : List ℕ)
-            → Spec.Stands before self.old store.old t
+            → Spec.HasRead before self.old store.old t
             → Spec.StopsAt before fault self.new.count store.new) }
     {
         let line = self.line.as_slice();
@@ -256,12 +256,12 @@ impl<A: Allocator + Copy> BookReader<A> {
 
     /// The gap of the text's book, where its last line was read and the input ended after it
     /// (`End`). Otherwise the fault of a text that ends in this way, in the line that comes next.
-    pub fn finish(&self, ending: Ending) -> Result<Gap, BookFault>
+    pub fn finish(&self, ending: InputEnd) -> Result<Gap, BookFault>
         requires { self.now.count ≤ most_input }
         // Where `t` is the text that was read, this is the answer for it with this ending.
-        ensures reads { (before store : List Row) (t : List ℕ) → Spec.Stands before self.now store t
+        ensures reads { (before store : List Row) (t : List ℕ) → Spec.HasRead before self.now store t
             → IsAnswerFor (book_read result before store) t ending }
-        ensures ending { Spec.EndsIn ending result }
+        ensures ending { Spec.AgreesWithEnding ending result }
         ensures gap { IfOk result (λ gap. gap ≡ Spec.gap_in self.now.stage) }
     {
         if may_end(self.stage, ending) {
@@ -272,7 +272,7 @@ impl<A: Allocator + Copy> BookReader<A> {
 
     /// The fault of a text that ends in this way where a book's text may not end: `Ending`, `Read`
     /// or `TooLong`, in the line that comes next.
-    pub fn fault_of_ending(&self, ending: Ending) -> BookFault
+    pub fn fault_of_ending(&self, ending: InputEnd) -> BookFault
         requires { self.now.count ≤ most_input }
         ensures { result ≡ record {
           line = Spec.line_number self.now.stage self.now.count;
@@ -284,7 +284,7 @@ impl<A: Allocator + Copy> BookReader<A> {
 
     /// The fault where memory is refused after the last line was read. It is in that line, which
     /// comes after the header and the rows.
-    pub fn refusal_at_last(&self) -> BookFault
+    pub fn memory_fault_at_last(&self) -> BookFault
         requires { self.now.count ≤ most_input }
         ensures { result ≡ record { line = self.now.count + 2; cause = BookCause.Memory } }
     {
@@ -323,10 +323,10 @@ fn is_done(stage: Stage) -> bool
 
 /// Whether a book's text may end at this stage and in this way: only after its last line, and where
 /// the input has no further byte.
-fn may_end(stage: Stage, ending: Ending) -> bool
+fn may_end(stage: Stage, ending: InputEnd) -> bool
     ensures { result ≡ Spec.may_end stage ending }
 {
-    is_done(stage) && ending == Ending::End
+    is_done(stage) && ending == InputEnd::End
 }
 
 /// Judges a whole line at this stage, and returns the stage after it. The last `count` rows of the
@@ -336,7 +336,7 @@ fn may_end(stage: Stage, ending: Ending) -> bool
 fn judge<A: Allocator + Copy>(
     stage: Stage,
     store: &mut RowStore<A>,
-    scratch: &mut Scratch,
+    scratch: &mut RowBuffers,
     count: &mut usize,
     line: &[u8],
 ) -> Result<Stage, BookCause>
@@ -379,7 +379,7 @@ fn judge_header(line: &[u8]) -> Result<Stage, BookCause>
 /// as before.
 fn judge_line<A: Allocator + Copy>(
     store: &mut RowStore<A>,
-    scratch: &mut Scratch,
+    scratch: &mut RowBuffers,
     count: &mut usize,
     version: Version,
     line: &[u8],
@@ -425,7 +425,7 @@ fn judge_end(line: &[u8], version: Version, rows: usize) -> Result<Stage, BookCa
 /// may not follow those of its text, or where an allocation failed.
 fn add_row<A: Allocator + Copy>(
     store: &mut RowStore<A>,
-    scratch: &mut Scratch,
+    scratch: &mut RowBuffers,
     count: usize,
     version: &Version,
     line: &[u8],
@@ -465,12 +465,12 @@ fn refusal<A: Allocator + Copy>(
 }
 
 /// The cause of the fault where a text may not end in the way in which its input ended.
-fn ending_cause(ending: Ending) -> BookCause
+fn ending_cause(ending: InputEnd) -> BookCause
     ensures { result ≡ ending_cause ending }
 {
     match ending {
-        Ending::End => BookCause::Ending,
-        Ending::Read => BookCause::Read,
-        Ending::TooLong => BookCause::TooLong,
+        InputEnd::End => BookCause::Ending,
+        InputEnd::Read => BookCause::Read,
+        InputEnd::TooLong => BookCause::TooLong,
     }
 }

@@ -10,7 +10,7 @@ ghost use Rattle.aprs_booktext.specs.Text.{row_line, IsBookRow};
 use crate::cut::cut_near;
 use crate::fault::BookCause;
 use crate::hexadecimal::decode_frame;
-use crate::scratch::Scratch;
+use crate::row_buffers::RowBuffers;
 use aprs_ax25::{Frame, MAX_UI_FRAME};
 use aprs_log::{Clock, Moment, MomentForm, Receiver};
 use aprs_rows::RowView;
@@ -19,7 +19,7 @@ use aprs_rows::RowView;
 /// spells no row, and with `Frame` where it spells one but for its frame, whose bytes aren't a UI
 /// frame. The frame is read into `scratch`, of which the row borrows it.
 pub fn read_row<'l>(
-    scratch: &'l mut Scratch,
+    scratch: &'l mut RowBuffers,
     form: MomentForm,
     line: &'l [u8],
 ) -> Result<RowView<'l>, BookCause>

@@ -15,8 +15,8 @@ ghost use Rattle.aprs_booktext.specs.Version.{header_of};
 ghost use Rattle.aprs_booktext.specs.declared.version.Version.TheVariants.{Three};
 
 use crate::end_line::{END_LINE, end_line};
-use crate::row_room::RowRoom;
 use crate::version::{MAX_HEADER, Version};
+use crate::written_row::WrittenRow;
 use aprs_book::{Book, Gap, Row};
 use aprs_io::{Counted, Outlet, WriteFault, push_all, put, put_hex};
 use aprs_log::{Moment, MomentWriter, Receiver};
@@ -26,7 +26,7 @@ use std::alloc::Allocator;
 use std::io::Write;
 
 /// The bytes of a row's line before its receivers.
-const ROW_HEAD: usize = 52;
+const ROW_START: usize = 52;
 
 /// The most bytes of a further receiver in a row's line, with the comma before it.
 const MAX_FURTHER: usize = 17;
@@ -74,7 +74,7 @@ fn put_rows<W: Write, A: Allocator + Copy>(
     ensures puts { Puts W.contents result out.old out.new (flat_map line_and_lf book.now.rows) }
     ensures spelled { OnOk result (Spec.IsBookRows (Spec.written_version book.now) book.now.rows) }
 {
-    let mut room = RowRoom::new();
+    let mut room = WrittenRow::new();
     for row in book.rows() {
         put_book_row(out, &mut room, &row)?;
     }
@@ -85,7 +85,7 @@ fn put_rows<W: Write, A: Allocator + Copy>(
 /// and of this line went out. The room is written over; it is kept from row to row.
 fn put_book_row<W: Write>(
     out: &mut Outlet<'_, W>,
-    room: &mut RowRoom,
+    room: &mut WrittenRow,
     row: &Row<'_>,
 ) -> Result<(), WriteFault>
     ensures puts { Puts W.contents result out.old out.new
@@ -93,7 +93,7 @@ fn put_book_row<W: Write>(
     // If the row has a receiver, a line can spell it, and its frame is a UI frame.
     ensures spelled { OnOk result (0 < length row.now.receivers → Spec.IsBookRow Millis row.now) }
 {
-    out.put(&row_head(&mut room.moments, row.first, row.last))?;
+    out.put(&row_start(&mut room.moments, row.first, row.last))?;
     put_names(out, row.receivers)?;
     out.put(row_tail(&mut room.tail, row.receiver.as_bytes(), row.frame.bytes()))
 }
@@ -102,7 +102,7 @@ fn put_book_row<W: Write>(
 /// what `out` held and of this line went out. The room is written over; it is kept from row to row.
 pub(crate) fn put_row<W: Write>(
     out: &mut Outlet<'_, W>,
-    room: &mut RowRoom,
+    room: &mut WrittenRow,
     row: &RowView<'_>,
 ) -> Result<(), WriteFault>
     ensures puts { Puts W.contents result out.old out.new
@@ -110,19 +110,19 @@ pub(crate) fn put_row<W: Write>(
     // If the row has a receiver, a line can spell it, and its frame is a UI frame.
     ensures spelled { OnOk result (0 < length row.now.receivers → Spec.IsBookRow Millis row.now) }
 {
-    out.put(&row_head(&mut room.moments, row.first(), row.last()))?;
+    out.put(&row_start(&mut room.moments, row.first(), row.last()))?;
     out.put(row.receivers())?;
     out.put(row_tail(&mut room.tail, row.receiver(), row.frame()))
 }
 
 /// The part before the receivers in a row's line: `T`, a space, the first moment, a space, the last
 /// moment and a space. Each moment has 24 bytes. `moments` keeps the date of the last one.
-fn row_head(moments: &mut MomentWriter, first: Moment, last: Moment) -> [u8; ROW_HEAD]
+fn row_start(moments: &mut MomentWriter, first: Moment, last: Moment) -> [u8; ROW_START]
     ensures text { result
         ≡ codes "T " ++ moment_text first ++ 32 ∷ moment_text last ++ 32 ∷ [] }
     ensures moments { IsWritable Millis first × IsWritable Millis last }
 {
-    let mut text = [b' '; ROW_HEAD];
+    let mut text = [b' '; ROW_START];
     text[0] = b'T';
     text[2..26].copy_from_slice(&moments.text(first));
     text[27..51].copy_from_slice(&moments.text(last));

@@ -5,8 +5,8 @@ ghost use Rattle.aprs_io.specs.Outlet.{Puts};
 ghost use Rattle.aprs_booktext.specs.RowLines.{line_and_lf};
 ghost use Rattle.aprs_booktext.specs.Text.{IsBookRows, written_text, written_version};
 
-use crate::row_room::RowRoom;
 use crate::write::{end_line_and_lf, header_line, put_row};
+use crate::written_row::WrittenRow;
 use aprs_io::{Counted, Outlet, WriteFault};
 use aprs_rows::Transmissions;
 use std::alloc::Allocator;
@@ -51,7 +51,7 @@ fn put_lines<W: Write, A: Allocator + Copy>(
     ensures puts { Puts W.contents result out.old out.new (flat_map line_and_lf rows.now.rows) }
     ensures spelled { OnOk result (IsBookRows (written_version rows.now) rows.now.rows) }
 {
-    let mut room = RowRoom::new();
+    let mut room = WrittenRow::new();
     for row in rows.rows() {
         put_row(out, &mut room, &row)?;
     }

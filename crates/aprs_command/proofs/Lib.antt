@@ -1,2 +1,3 @@
 -- Lemmas on arguments that are refused.
 mod Refusals
+pub mod Common

@@ -1,8 +1,6 @@
 -- Lemmas on arguments that are refused.
-use Rattle.std.proofs.Common.{◌≡◌, ℕ, List, sym, subst, inl, inr}
+use Rattle.aprs_command.proofs.Common.{◌≡◌, ℕ, List, sym, subst, inl, inr, HasKind, App, fault_of, kind_of}
 use Rattle.std.specs.Prelude.{◌⊎◌, ◌≢◌}
-use Rattle.clap.specs.Kinds.{HasKind}
-use Rattle.clap.specs.Words.{App, fault_of, kind_of}
 use Rattle.clap.specs.declared.error.Error.{Error}
 use Rattle.clap.specs.declared.error.kind.ErrorKind.TheVariants.{OutOfMemory}
 use Rattle.aprs_command.specs.Arguments.{RefusesSo}

@@ -13,7 +13,7 @@ use Rattle.clap.specs.declared.builder.value_parser.ValueParser.TheVariants as v
 use Rattle.clap.specs.declared.builder.possible_value.PossibleValue.{PossibleValue}
 use Rattle.aprs_laws.specs.Gap.{greatest_gap, standard_gap}
 use Rattle.aprs_log.specs.MomentReading.{moment_of}
-use Rattle.aprs_log.specs.Receiver.{is_name}
+use Rattle.aprs_log.specs.Receiver.{is_receiver}
 use Rattle.aprs_convert.specs.declared.form.Form.{Form}
 use Rattle.aprs_convert.specs.declared.form.Form.TheVariants as form
 use Rattle.aprs_command.specs.declared.jobs.HistoryJob.{HistoryJob}
@@ -132,7 +132,7 @@ history_app = with_gathered (versioned_app (codes "aprsbook-history"))
 
 -- The text as the name of a receiver, if it is one.
 abbrev pub receiver_of : Text → Option (List ℕ)
-receiver_of t = if is_name t then Some t else None
+receiver_of t = if is_receiver t then Some t else None
 
 -- A form but capture, which has neither option.
 abbrev pub plain_form_of : Form → Option Text → Option Text → Option Form

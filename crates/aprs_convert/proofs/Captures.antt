@@ -1,16 +1,9 @@
 -- Lemmas on what is written for a stream that is read chunk by chunk.
-use Rattle.std.proofs.Common.{◌≡◌, ◌≤◌, ℕ, ◌+◌, ◌∙◌, sym, ap, refl, List, [], ◌∷◌, ◌++◌, length, Option, None, Some, Err, IfSome, append_assoc, append-nil, length-append, subst, arith}
-use Rattle.std.specs.List.{flat_map}
-use Rattle.std.specs.Io.KnownBytes.{Appends, Consumes}
-use Rattle.std.proofs.KnownBytes.{Appends-nil, Appends-trans, Consumes-nil, Consumes-trans}
-use Rattle.aprs_kiss.specs.Device.{AppendsPrefix}
-use Rattle.aprs_kiss.proofs.Bytes.{AppendsPrefix-more, AppendsPrefix-then}
-use Rattle.aprs_kiss.specs.Stream.{rest_of, judgements_of}
-use Rattle.aprs_kiss.specs.Judgement.{Judgement}
+use Rattle.aprs_convert.proofs.Common.{◌≡◌, ◌≤◌, ℕ, ◌+◌, ◌∙◌, sym, ap, refl, List, [], ◌∷◌, ◌++◌, length, Option, None, Some, Err, IfSome, append_assoc, append-nil, subst, arith, flat_map, Appends, Consumes, Appends-nil, Appends-trans, Consumes-nil, Consumes-trans, AppendsPrefix, AppendsPrefix-more, AppendsPrefix-then, rest_of, judgements_of, Judgement, Gets}
+use Rattle.std.proofs.Common.{length-append}
 use Rattle.aprs_kiss.specs.Reader.{StandsAfter}
 use Rattle.aprs_kiss.specs.declared.reader.KissReader.{KissReader}
-use Rattle.aprs_log.specs.LogAnswers.{Gets}
-use Rattle.aprs_log.specs.declared.Ending.TheVariants as ending
+use Rattle.aprs_log.specs.declared.InputEnd.TheVariants as ending
 use Rattle.aprs_convert.specs.Plan.{RunsOver, capture_text, stream_plan}
 use Rattle.aprs_convert.specs.declared.fault.ConvertFault.TheVariants.{Write}
 use Rattle.aprs_kiss.proofs.Pieces.{cuts, rest_of-none, judgements_of-append, judgements_of-none}

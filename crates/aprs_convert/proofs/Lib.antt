@@ -1,3 +1,4 @@
+pub mod Common
 pub mod Gots
 pub mod Texts
 pub mod Seen

@@ -1,18 +1,7 @@
 -- What a conversion or a check writes of an input is one text, and so is the fault.
-use Rattle.std.proofs.Common.{◌≡◌, ◌∙◌, ℕ, ◌+◌, List, [], ◌∷◌, ◌++◌, length, map, Option, None, Some, Ok, inl, inr, sym, ap, append-nil}
-use Rattle.std.specs.List.{flat_map}
-use Rattle.aprs_kiss.specs.Stream.{judgements_of}
-use Rattle.aprs_log.specs.Line.{heard_or_passed, line_of}
-use Rattle.aprs_log.specs.LogAnswers.{log_answers, receptions_of}
-use Rattle.aprs_log.specs.LogText.{HasLogFault, IsLogText, text_of_lines}
-use Rattle.aprs_log.specs.Reception.{Heard}
-use Rattle.aprs_log.specs.declared.Ending.{Ending}
-use Rattle.aprs_log.specs.declared.fault.LogFault.{LogFault}
-use Rattle.aprs_log.specs.declared.fault.Reason.{Reason}
+use Rattle.aprs_convert.proofs.Common.{◌≡◌, ◌∙◌, ℕ, ◌+◌, List, [], ◌∷◌, ◌++◌, length, map, Option, None, Some, Ok, inl, inr, sym, ap, append-nil, flat_map, judgements_of, heard_or_passed, line_of, log_answers, receptions_of, HasLogFault, IsLogText, text_of_lines, InputEnd, LogFault, Reason, line_of-syntax, reports-line_of, log_fault-answers, log_text-answers}
+use Rattle.aprs_log.specs.Reception.{Received}
 use Rattle.aprs_log.specs.declared.line.Line.TheVariants as line
-use Rattle.aprs_log.proofs.Lines.{line_of-syntax}
-use Rattle.aprs_log.proofs.LineTexts.{reports-line_of}
-use Rattle.aprs_log.proofs.LogTexts.{log_fault-answers, log_text-answers}
 use Rattle.aprs_convert.specs.Check.{Checks, IsPassedFor, PassesOver, passed_line, totals_line}
 use Rattle.aprs_convert.specs.Conversion.{Converts, reception_text}
 use Rattle.aprs_convert.specs.Plan.{Plan, check_lines, check_plan, convert_plan, lines_plan, totals}
@@ -28,19 +17,19 @@ pub record IsPlan (plan : Plan) (fault : Option LogFault) (written : List ℕ) :
 
 -- ---- a conversion
 
-log_plan : (f : Form) (t : List ℕ) (c : Ending) (fault : Option LogFault) (S : List Heard)
+log_plan : (f : Form) (t : List ℕ) (c : InputEnd) (fault : Option LogFault) (S : List Received)
     (written : List ℕ) → (log_answers t c).fault ≡ fault
     → receptions_of (log_answers t c).given ≡ S → written ≡ flat_map (reception_text f) S
     → IsPlan (lines_plan f t c) fault written
 log_plan f t c fault S written at heard is =
     record { fault_is = at; text_is = heard_text f t c S heard ∙ sym is }
 
-none_plan : (f : Form) (t : List ℕ) (c : Ending) (S : List Heard) (written : List ℕ)
+none_plan : (f : Form) (t : List ℕ) (c : InputEnd) (S : List Received) (written : List ℕ)
     → IsLogText t c S → written ≡ flat_map (reception_text f) S → IsPlan (lines_plan f t c) None written
 none_plan f t c S written log is =
     let read = log_text-answers t c S log in log_plan f t c None S written read.0 read.1 is
 
-some_plan : (f : Form) (t : List ℕ) (c : Ending) (fault : LogFault) (S : List Heard)
+some_plan : (f : Form) (t : List ℕ) (c : InputEnd) (fault : LogFault) (S : List Received)
     (written : List ℕ) (log : HasLogFault t c fault) → S ≡ log.before.0
     → written ≡ flat_map (reception_text f) S → IsPlan (lines_plan f t c) (Some fault) written
 some_plan f t c fault S written log same is =
@@ -48,7 +37,7 @@ some_plan f t c fault S written log same is =
     log_plan f t c (Some fault) S written (log_fault-answers t c fault log)
     (ap receptions_of its.whole ∙ its.said.heard ∙ sym same) is
 
-pub converts_plan : (f : Form) (t : List ℕ) (c : Ending) (fault : Option LogFault)
+pub converts_plan : (f : Form) (t : List ℕ) (c : InputEnd) (fault : Option LogFault)
     (written : List ℕ) → Converts f fault t c written → IsPlan (convert_plan f t c) fault written
 converts_plan (Capture r m) t c fault written h = record {
   fault_is = sym h.1.0;
@@ -72,7 +61,7 @@ passed_read : (l : List ℕ) (reason : Reason) → IsPassedFor l reason
 passed_read l reason h =
     line_of-syntax l h.0 h.1 h.2 h.3 ∙ ap (λ r. Ok (heard_or_passed h.0 h.1 r)) h.4
 
-not_both : (l : List ℕ) (x : Heard) (reason : Reason) → line_of l ≡ Ok (line.Heard x)
+not_both : (l : List ℕ) (x : Received) (reason : Reason) → line_of l ≡ Ok (line.Heard x)
     → line_of l ≡ Ok (line.Passed reason) → ⊥
 not_both l x reason e f =
     let bad = same_line (line.Heard x) (line.Passed reason) (line_of l) e f in absurd cc
@@ -95,7 +84,7 @@ passed_same n (l ∷ lines) p q (inr a) (inr b) =
     a.4 ∙ ap (λ (r : Reason). (n, r) ∷ a.1) reason
     ∙ ap (λ ps. (n, b.0) ∷ ps) (passed_same (n + 1) lines a.1 b.1 a.3 b.3) ∙ sym b.4
 
-pub checks_plan : (t : List ℕ) (c : Ending) (fault : Option LogFault) (written : List ℕ)
+pub checks_plan : (t : List ℕ) (c : InputEnd) (fault : Option LogFault) (written : List ℕ)
     → Checks fault t c written → IsPlan (check_plan t c) fault written
 checks_plan t c None written h =
     let S = h.0 in

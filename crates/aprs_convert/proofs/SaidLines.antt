@@ -1,25 +1,13 @@
 -- Lemmas on lines that are in order: what a reader gives of them, and of the log that they are of.
-use Rattle.std.proofs.Common.{◌≡◌, ◌∙◌, ℕ, ◌+◌, List, [], ◌∷◌, ◌++◌, length, Option, None, Some, Result, Ok, Err, inl, inr, refl, sym, ap, append_assoc, append-nil, arith}
-use Rattle.std.specs.List.{AllZip, slice_split}
+use Rattle.aprs_convert.proofs.Common.{◌≡◌, ◌∙◌, ℕ, ◌+◌, List, [], ◌∷◌, ◌++◌, length, Option, None, Some, Result, Ok, Err, inl, inr, refl, sym, ap, append_assoc, append-nil, arith, AllZip, slice_split, log_cause_of, frame_in, heard_or_passed, line_of, Answers, answers_from, answers_of, fault_at, is_lf, log_answers, receptions_of, tail_cause, then_answers, HasLogFault, IsLogText, ReportAll, text_of_lines, InputEnd, LogFault, Reason, Line, HasFields, line_of-syntax, passed-line_of, reports-line_of, line_lacks, log_fault-answers}
 use Rattle.aprs_io.proofs.Cuts.{cut_at-append}
-use Rattle.aprs_log.specs.Fault.{log_cause_of}
-use Rattle.aprs_log.specs.Line.{frame_in, heard_or_passed, line_of}
 use Rattle.aprs_log.specs.LineText.{IsLine}
-use Rattle.aprs_log.specs.LogAnswers.{Answers, answers_from, answers_of, fault_at, is_lf, log_answers, receptions_of, tail_cause, then_answers}
-use Rattle.aprs_log.specs.LogText.{HasLogFault, IsLogText, ReportAll, text_of_lines}
-use Rattle.aprs_log.specs.Reception.{Heard}
-use Rattle.aprs_log.specs.declared.Ending.{Ending}
-use Rattle.aprs_log.specs.declared.Ending.TheVariants as how
+use Rattle.aprs_log.specs.Reception.{Received}
+use Rattle.aprs_log.specs.declared.InputEnd.TheVariants as how
 use Rattle.aprs_log.specs.declared.fault.LineFault.{LineFault}
 use Rattle.aprs_log.specs.declared.fault.LogCause.{LogCause}
-use Rattle.aprs_log.specs.declared.fault.LogFault.{LogFault}
-use Rattle.aprs_log.specs.declared.fault.Reason.{Reason}
-use Rattle.aprs_log.specs.declared.line.Line.{Line}
 use Rattle.aprs_log.specs.declared.line.Line.TheVariants as line
-use Rattle.aprs_log.proofs.Lines.{HasFields, line_of-syntax}
-use Rattle.aprs_log.proofs.LineTexts.{passed-line_of, reports-line_of}
 use Rattle.aprs_log.proofs.LogAnswers.{answers_from-line}
-use Rattle.aprs_log.proofs.LogTexts.{line_lacks, log_fault-answers}
 use Rattle.aprs_convert.specs.Check.{PassesOver}
 use Rattle.aprs_convert.proofs.Seen.{prepended}
 
@@ -52,13 +40,13 @@ abbrev IsGiven : List ℕ → Line → Type 0
 IsGiven l x = HasFields l × (line_of l ≡ Ok x)
 
 -- what a reader gives of lines from number n on, which report S
-pub record Said (n : ℕ) (lines : List (List ℕ)) (S : List Heard) : Type 0 where
+pub record Said (n : ℕ) (lines : List (List ℕ)) (S : List Received) : Type 0 where
   pub given : List Line
   pub each : AllZip IsGiven lines given
   pub heard : receptions_of given ≡ S
   pub passes : PassesOver n lines (passed_in n given)
 
-said : (n : ℕ) (lines : List (List ℕ)) (S : List Heard) → ReportAll lines S → Said n lines S
+said : (n : ℕ) (lines : List (List ℕ)) (S : List Received) → ReportAll lines S → Said n lines S
 said n [] S all = record { given = []; each = tt; heard = sym all; passes = refl }
 said n (l ∷ lines) S (inl passed) =
     let found = passed-line_of l passed.0 in
@@ -96,7 +84,7 @@ said n (l ∷ lines) S (inr one) =
     }
 
 -- the answers of these lines come before those of the rest
-answers_after : (n : ℕ) (lines : List (List ℕ)) (given : List Line) (rest : List ℕ) (e : Ending)
+answers_after : (n : ℕ) (lines : List (List ℕ)) (given : List Line) (rest : List ℕ) (e : InputEnd)
     → AllZip IsGiven lines given → answers_from n (text_of_lines lines ++ rest) e
     ≡ prepended given (answers_from (n + length lines) rest e)
 answers_after n [] [] rest e all =
@@ -131,7 +119,7 @@ number_by n (Err fault) rest f after is =
     let at = at_number n (Some (log_cause_of fault)) f is in omega (arith, at)
 
 -- a fault stands in the line after those that are given
-fault_number : (n : ℕ) (parts : List (List ℕ)) (e : Ending) (f : LogFault)
+fault_number : (n : ℕ) (parts : List (List ℕ)) (e : InputEnd) (f : LogFault)
     → (answers_of n parts e).fault ≡ Some f → f.line ≡ n + length (answers_of n parts e).given
 fault_number n [] e f is = absurd cc
 fault_number n (tail ∷ []) e f is =
@@ -146,12 +134,12 @@ none (x ∷ xs) e = absurd (omega (arith, e))
 -- ---- a whole log
 
 -- all that is given of a log is that of its lines
-pub record SaidWhole (text : List ℕ) (e : Ending) (S : List Heard) (lines : List (List ℕ))
+pub record SaidWhole (text : List ℕ) (e : InputEnd) (S : List Received) (lines : List (List ℕ))
     : Type 0 where
   pub said : Said 1 lines S
   pub whole : (log_answers text e).given ≡ said.given
 
-pub faultless_said : (t : List ℕ) (c : Ending) (S : List Heard) (log : IsLogText t c S)
+pub faultless_said : (t : List ℕ) (c : InputEnd) (S : List Received) (log : IsLogText t c S)
     → SaidWhole t c S log.lines
 faultless_said t c S log =
     let its = said 1 log.lines S log.report in
@@ -164,7 +152,7 @@ faultless_said t c S log =
           ∙ append-nil its.given;
     }
 
-pub faulty_said : (t : List ℕ) (c : Ending) (fault : LogFault) (log : HasLogFault t c fault)
+pub faulty_said : (t : List ℕ) (c : InputEnd) (fault : LogFault) (log : HasLogFault t c fault)
     → SaidWhole t c log.before.0 log.lines
 faulty_said t c fault log =
     let its = said 1 log.lines log.before.0 log.before.1 in

@@ -1,15 +1,5 @@
 -- Lemmas on a run over the lines that a reader gives.
-use Rattle.std.proofs.Common.{◌≡◌, ℕ, List, [], ◌∷◌, ◌++◌, Option, None, Some, Result, Ok, Err, IfSome, refl, ap, sym, ◌∙◌, append_assoc, append-nil, subst}
-use Rattle.std.specs.List.{flat_map}
-use Rattle.std.specs.Io.KnownBytes.{Appends}
-use Rattle.std.proofs.KnownBytes.{Appends-nil, Appends-trans}
-use Rattle.std.proofs.lemmas.List.{flat_map_more}
-use Rattle.aprs_kiss.specs.Device.{AppendsPrefix}
-use Rattle.aprs_kiss.proofs.Bytes.{AppendsPrefix-more, AppendsPrefix-then}
-use Rattle.aprs_log.specs.LogAnswers.{Answers, end_with, log_answers, prepend_line}
-use Rattle.aprs_log.specs.Reader.{AreAnswersOf}
-use Rattle.aprs_log.specs.declared.line.Line.{Line}
-use Rattle.aprs_log.specs.declared.fault.LogFault.{LogFault}
+use Rattle.aprs_convert.proofs.Common.{◌≡◌, ℕ, List, [], ◌∷◌, ◌++◌, Option, None, Some, Result, Ok, Err, IfSome, refl, ap, sym, ◌∙◌, append_assoc, append-nil, subst, flat_map, Appends, Appends-nil, Appends-trans, flat_map_more, AppendsPrefix, AppendsPrefix-more, AppendsPrefix-then, Answers, end_with, log_answers, prepend_line, AreAnswersOf, Line, LogFault}
 use Rattle.aprs_convert.specs.Plan.{EndsAsPlanned, RunsOver, line_text, lines_plan}
 use Rattle.aprs_convert.specs.declared.fault.ConvertFault.{ConvertFault}
 use Rattle.aprs_convert.specs.declared.fault.ConvertFault.TheVariants.{Log, Write}

@@ -1,7 +1,5 @@
 -- Lemmas on names.
-use Rattle.std.proofs.Common.{ℕ, ◌≤◌, length, arith}
-use Rattle.aprs_log.specs.Fault.{reason_name}
-use Rattle.aprs_log.specs.declared.fault.Reason.{Reason}
+use Rattle.aprs_convert.proofs.Common.{◌≤◌, length, arith, reason_name, Reason}
 use Rattle.aprs_log.specs.declared.fault.Reason.TheVariants as reason
 
 pub length-reason_name : (r : Reason) → length (reason_name r) ≤ 10

@@ -1,8 +1,8 @@
 -- A worked example of a check.
-use Rattle.std.proofs.Common.{◌≡◌, ℕ, get_or, List, [], ◌∷◌, ◌++◌, codes, None, refl, sym, ap, ◌∙◌, arith}
+use Rattle.aprs_convert.proofs.Common.{◌≡◌, ℕ, get_or, List, [], ◌∷◌, ◌++◌, codes, None, refl, sym, ap, ◌∙◌, arith}
 use Rattle.std.specs.Fmt.{decimal}
 use Rattle.std.proofs.lemmas.Fmt.{decimal_digit}
-use Rattle.aprs_io.specs.declared.input.Ending.TheVariants.{End, Read}
+use Rattle.aprs_io.specs.declared.input.InputEnd.TheVariants.{End, Read}
 use Rattle.aprs_convert.specs.Check.{Checks}
 use Rattle.aprs_convert.specs.Plan.{check_plan}
 use Rattle.aprs_convert.proofs.OneText.{checks_plan, one_text}

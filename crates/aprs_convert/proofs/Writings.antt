@@ -1,21 +1,10 @@
 -- What runs plan to write is what a conversion or a check writes.
-use Rattle.std.proofs.Common.{◌≡◌, ◌∙◌, ℕ, ◌+◌, List, [], ◌∷◌, ◌++◌, length, map, Option, None, Some, Result, Ok, Err, refl, sym, ap, append-nil, arith}
-use Rattle.std.specs.List.{cons_option, filter_map, flat_map}
+use Rattle.aprs_convert.proofs.Common.{◌≡◌, ◌∙◌, ℕ, ◌+◌, List, [], ◌∷◌, ◌++◌, length, map, Option, None, Some, Result, Ok, Err, refl, sym, ap, append-nil, arith, cons_option, filter_map, flat_map, Judgement, judgements_of, frame_or_fault, FrameFault, log_answers, receptions_of, text_of_lines, InputEnd, LogFault, Line, answers-log_fault, answers-log_text}
 use Rattle.std.specs.Option.{option_and_then}
 use Rattle.std.specs.Result.{result_ok}
 use Rattle.std.proofs.lemmas.List.Concat.{flat_map-append}
-use Rattle.aprs_kiss.specs.Judgement.{Judgement}
-use Rattle.aprs_kiss.specs.Stream.{judgements_of}
-use Rattle.aprs_ax25.specs.FrameFault.{frame_of}
-use Rattle.aprs_ax25.specs.declared.fault.FrameFault.{FrameFault}
-use Rattle.aprs_log.specs.LogAnswers.{log_answers, receptions_of}
-use Rattle.aprs_log.specs.LogText.{text_of_lines}
-use Rattle.aprs_log.specs.Reception.{Heard}
-use Rattle.aprs_log.specs.declared.Ending.{Ending}
-use Rattle.aprs_log.specs.declared.fault.LogFault.{LogFault}
-use Rattle.aprs_log.specs.declared.line.Line.{Line}
+use Rattle.aprs_log.specs.Reception.{Received}
 use Rattle.aprs_log.specs.declared.line.Line.TheVariants as line
-use Rattle.aprs_log.proofs.LogTexts.{answers-log_fault, answers-log_text}
 use Rattle.aprs_convert.specs.Check.{Checks, passed_line, totals_line}
 use Rattle.aprs_convert.specs.Conversion.{Converts, reception_text}
 use Rattle.aprs_convert.specs.Plan.{capture_text, check_lines, check_plan, convert_plan, count_heard, count_passed, frame_line, line_text, totals}
@@ -32,7 +21,7 @@ lines_text f [] = refl
 lines_text f (line.Heard x ∷ given) = ap (λ l. reception_text f x ++ l) (lines_text f given)
 lines_text f (line.Passed reason ∷ given) = lines_text f given
 
-pub heard_text : (f : Form) (t : List ℕ) (c : Ending) (S : List Heard)
+pub heard_text : (f : Form) (t : List ℕ) (c : InputEnd) (S : List Received)
     → receptions_of (log_answers t c).given ≡ S
     → flat_map (line_text f) (log_answers t c).given ≡ flat_map (reception_text f) S
 heard_text f t c S e =
@@ -42,7 +31,7 @@ abbrev IsCapture : Form → Type 0
 IsCapture (Capture r m) = Unit {0}
 IsCapture f = ⊥
 
-log_converts : (f : Form) → (IsCapture f → ⊥) → (t : List ℕ) (c : Ending)
+log_converts : (f : Form) → (IsCapture f → ⊥) → (t : List ℕ) (c : InputEnd)
     (fault : Option LogFault) → (log_answers t c).fault ≡ fault
     → Converts f fault t c (flat_map (line_text f) (log_answers t c).given)
 log_converts (Capture r m) not t c fault e = absurd (not tt)
@@ -61,11 +50,11 @@ log_converts f not t c (Some fault) e =
 -- ---- a capture
 
 module _ (r : List ℕ) (m : ℕ) where
-  abbrev heard_so : List ℕ → Heard
+  abbrev heard_so : List ℕ → Received
   heard_so frame = record { moment = m; receiver = r; frame = frame }
 
   abbrev frame_in_data : Judgement → Option (List ℕ)
-  frame_in_data j = option_and_then (λ found. result_ok (frame_of found.bytes)) (result_ok j)
+  frame_in_data j = option_and_then (λ found. result_ok (frame_or_fault found.bytes)) (result_ok j)
 
   frame_text : (found : Result (List ℕ) FrameFault) (rest : List ℕ) (frames : List (List ℕ))
       → rest ≡ flat_map (reception_text (Capture r m)) (map heard_so frames)
@@ -78,12 +67,12 @@ module _ (r : List ℕ) (m : ℕ) where
       ≡ flat_map (reception_text (Capture r m)) (map heard_so (filter_map frame_in_data js))
   stream_text [] = refl
   stream_text (Err fault ∷ js) = stream_text js
-  stream_text (Ok data_frame ∷ js) = frame_text (frame_of data_frame.bytes)
+  stream_text (Ok data_frame ∷ js) = frame_text (frame_or_fault data_frame.bytes)
       (flat_map (capture_text r m) js) (filter_map frame_in_data js) (stream_text js)
 
 -- ---- a conversion
 
-pub converts : (f : Form) (t : List ℕ) (c : Ending)
+pub converts : (f : Form) (t : List ℕ) (c : InputEnd)
     → Converts f (convert_plan f t c).fault t c (convert_plan f t c).text
 converts Text t c = log_converts Text (λ no. no) t c (log_answers t c).fault refl
 converts Kind t c = log_converts Kind (λ no. no) t c (log_answers t c).fault refl
@@ -111,7 +100,7 @@ so_many_passed n (line.Heard x ∷ given) = so_many_passed (n + 1) given
 so_many_passed n (line.Passed reason ∷ given) =
     let e = so_many_passed (n + 1) given in omega (arith, e)
 
-pub totals_text : (given : List Line) (S : List Heard) → receptions_of given ≡ S
+pub totals_text : (given : List Line) (S : List Received) → receptions_of given ≡ S
     → check_lines 1 given ++ totals None given
     ≡ text_of_lines (map passed_line (passed_in 1 given)
     ++ totals_line (length S) (length (passed_in 1 given)) ∷ [])
@@ -126,7 +115,7 @@ totals_text given S e =
     ∙ ap (λ l. text_of_lines (map passed_line passed) ++ l) (sym (append-nil (end ++ 10 ∷ [])))
     ∙ sym (flat_map-append (λ line. line ++ 10 ∷ []) (map passed_line passed) (end ∷ []))
 
-log_checks : (t : List ℕ) (c : Ending) (fault : Option LogFault) → (log_answers t c).fault ≡ fault
+log_checks : (t : List ℕ) (c : InputEnd) (fault : Option LogFault) → (log_answers t c).fault ≡ fault
     → Checks fault t c
     (check_lines 1 (log_answers t c).given ++ totals fault (log_answers t c).given)
 log_checks t c None e =
@@ -150,5 +139,5 @@ log_checks t c (Some fault) e =
           ∙ ap (check_lines 1) its.whole ∙ reports_text 1 its.said.given,
     )
 
-pub checks : (t : List ℕ) (c : Ending) → Checks (check_plan t c).fault t c (check_plan t c).text
+pub checks : (t : List ℕ) (c : InputEnd) → Checks (check_plan t c).fault t c (check_plan t c).text
 checks t c = log_checks t c (log_answers t c).fault refl

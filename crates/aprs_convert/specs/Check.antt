@@ -1,12 +1,12 @@
 -- What a check writes of a log.
 use Rattle.std.specs.Prelude.{◌≡◌, ◌⊎◌, ℕ, ◌+◌, List, [], ◌∷◌, ◌++◌, length, map, codes, Option, None, Some, Err}
 use Rattle.std.specs.Fmt.{decimal}
-use Rattle.aprs_io.specs.declared.input.Ending.{Ending}
+use Rattle.aprs_io.specs.declared.input.InputEnd.{InputEnd}
 use Rattle.aprs_log.specs.Fault.{reason_name}
 use Rattle.aprs_log.specs.Line.{frame_in}
 use Rattle.aprs_log.specs.LineText.{IsLine, Reports}
 use Rattle.aprs_log.specs.LogText.{HasLogFault, IsLogText, text_of_lines}
-use Rattle.aprs_log.specs.Reception.{Heard}
+use Rattle.aprs_log.specs.Reception.{Received}
 use Rattle.aprs_log.specs.declared.fault.LogFault.{LogFault}
 use Rattle.aprs_log.specs.declared.fault.Reason.{Reason}
 
@@ -29,15 +29,15 @@ IsPassedFor line reason = (m : ℕ) × (name : List ℕ) × (bytes : List ℕ)
 abbrev pub PassesOver : ℕ → List (List ℕ) → List (ℕ × Reason) → Type 0
 PassesOver n [] passed = passed ≡ []
 PassesOver n (line ∷ lines) passed =
-    ((x : Heard) × Reports line x × PassesOver (n + 1) lines passed)
+    ((x : Received) × Reports line x × PassesOver (n + 1) lines passed)
     ⊎ ((reason : Reason) × (more : List (ℕ × Reason)) × IsPassedFor line reason
     × PassesOver (n + 1) lines more × (passed ≡ (n, reason) ∷ more))
 
 -- A check writes this of a log up to this fault, if it has one: a line for each that is passed
 -- over; and where there is no fault, how many lines report a reception and how many are passed
 -- over.
-abbrev pub Checks : Option LogFault → List ℕ → Ending → List ℕ → Type 0
-Checks None text ending written = (S : List Heard) × (log : IsLogText text ending S)
+abbrev pub Checks : Option LogFault → List ℕ → InputEnd → List ℕ → Type 0
+Checks None text ending written = (S : List Received) × (log : IsLogText text ending S)
     × (passed : List (ℕ × Reason)) × PassesOver 1 log.lines passed × (written
     ≡ text_of_lines (map passed_line passed ++ totals_line (length S) (length passed) ∷ []))
 Checks (Some fault) text ending written = (log : HasLogFault text ending fault)

@@ -4,7 +4,7 @@ use Rattle.std.specs.Io.KnownBytes.{Appends}
 use Rattle.aprs_io.specs.declared.device.Counted.{Counted}
 use Rattle.aprs_kiss.specs.Device.{AppendsPrefix, Calls, Last, Going, Fault, End}
 use Rattle.aprs_log.specs.Awaits.{last_of_cause}
-use Rattle.aprs_log.specs.declared.Ending.{Ending}
+use Rattle.aprs_log.specs.declared.InputEnd.{InputEnd}
 use Rattle.aprs_log.specs.declared.fault.LogFault.{LogFault}
 use Rattle.aprs_convert.specs.Got.{OfGot}
 use Rattle.aprs_convert.specs.declared.fault.ConvertFault.{ConvertFault}
@@ -36,7 +36,7 @@ last_of_output answer = Going
 -- The run wrote what is to be written of what it got of its input. It asked the input no more after
 -- its end or a fault, and the output no more after a fault: it answers that, and the counts show
 -- it.
-pub record Runs {R W : Type 0} (Told : Option LogFault → List ℕ → Ending → List ℕ → Type 0)
+pub record Runs {R W : Type 0} (Told : Option LogFault → List ℕ → InputEnd → List ℕ → Type 0)
     (limit : ℕ) (remaining : R → Option (List ℕ)) (contents : W → Option (List ℕ))
     (answer : Result (Unit {0}) ConvertFault) (read_from now_read : Counted R)
     (written_to now_written : Counted W) : Type 0 where

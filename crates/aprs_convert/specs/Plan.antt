@@ -6,13 +6,13 @@ use Rattle.std.specs.List.{flat_map}
 use Rattle.aprs_kiss.specs.Device.{AppendsPrefix, Calls}
 use Rattle.aprs_kiss.specs.Judgement.{Judgement}
 use Rattle.aprs_kiss.specs.Stream.{judgements_of}
-use Rattle.aprs_ax25.specs.FrameFault.{frame_of}
+use Rattle.aprs_ax25.specs.FrameFault.{frame_or_fault}
 use Rattle.aprs_ax25.specs.declared.fault.FrameFault.{FrameFault}
 use Rattle.aprs_io.specs.declared.device.Counted.{Counted}
 use Rattle.aprs_log.specs.Line.{written_line}
 use Rattle.aprs_log.specs.LogAnswers.{Answers, log_answers}
-use Rattle.aprs_log.specs.declared.Ending.{Ending}
-use Rattle.aprs_log.specs.declared.Ending.TheVariants as how
+use Rattle.aprs_log.specs.declared.InputEnd.{InputEnd}
+use Rattle.aprs_log.specs.declared.InputEnd.TheVariants as how
 use Rattle.aprs_log.specs.declared.fault.LogCause.TheVariants as why
 use Rattle.aprs_log.specs.declared.fault.LogFault.{LogFault}
 use Rattle.aprs_log.specs.declared.line.Line.{Line}
@@ -39,7 +39,7 @@ line_text f (line.Heard x) = reception_text f x
 line_text f (line.Passed reason) = []
 
 -- What a conversion of a log does.
-abbrev pub lines_plan : Form → List ℕ → Ending → Plan
+abbrev pub lines_plan : Form → List ℕ → InputEnd → Plan
 lines_plan f text ending = record {
   text = flat_map (line_text f) (log_answers text ending).given;
   fault = (log_answers text ending).fault;
@@ -55,24 +55,24 @@ frame_line receiver moment (Err fault) = []
 -- The log line of a data frame that is a UI frame; anything else gives nothing.
 abbrev pub capture_text : List ℕ → ℕ → Judgement → List ℕ
 capture_text receiver moment (Ok data_frame) =
-    frame_line receiver moment (frame_of data_frame.bytes)
+    frame_line receiver moment (frame_or_fault data_frame.bytes)
 capture_text receiver moment (Err fault) = []
 
 -- What a capture of a stream does.
-abbrev pub stream_plan : List ℕ → ℕ → List ℕ → Ending → Plan
+abbrev pub stream_plan : List ℕ → ℕ → List ℕ → InputEnd → Plan
 stream_plan receiver moment text ending = record {
   text = flat_map (capture_text receiver moment) (judgements_of text);
   fault = stream_fault ending;
 }
 
 -- A run over a stream that ends so has this answer.
-abbrev pub EndsStream : Result (Unit {0}) ConvertFault → Ending → Type 0
+abbrev pub EndsStream : Result (Unit {0}) ConvertFault → InputEnd → Type 0
 EndsStream answer how.End = answer ≡ Ok tt
 EndsStream answer how.Read = answer ≡ Err (Log (record { line = 0; cause = why.Read }))
 EndsStream answer how.TooLong = answer ≡ Err (Log (record { line = 0; cause = why.TooLong }))
 
 -- What a conversion does: a capture reads a stream, and any other form a log.
-abbrev pub convert_plan : Form → List ℕ → Ending → Plan
+abbrev pub convert_plan : Form → List ℕ → InputEnd → Plan
 convert_plan form.Text text ending = lines_plan form.Text text ending
 convert_plan form.Kind text ending = lines_plan form.Kind text ending
 convert_plan form.Kiss text ending = lines_plan form.Kiss text ending
@@ -110,7 +110,7 @@ abbrev pub check_of : Answers → List ℕ
 check_of answers = check_lines 1 answers.given ++ totals answers.fault answers.given
 
 -- What a check of a log does.
-abbrev pub check_plan : List ℕ → Ending → Plan
+abbrev pub check_plan : List ℕ → InputEnd → Plan
 check_plan text ending = record {
   text = check_of (log_answers text ending);
   fault = (log_answers text ending).fault;
@@ -128,13 +128,13 @@ EndsAsPlanned (Err Write) old new plan = AppendsPrefix old new plan.text
 
 -- Of the input some bytes were got, at most `limit`, and the run did as planned for these bytes and
 -- their ending; the device then has `after`.
-abbrev pub RunsOver : (List ℕ → Ending → Plan) → ℕ → Option (List ℕ) → Option (List ℕ)
+abbrev pub RunsOver : (List ℕ → InputEnd → Plan) → ℕ → Option (List ℕ) → Option (List ℕ)
     → Result (Unit {0}) ConvertFault → Option (List ℕ) → Option (List ℕ) → Type 0
 RunsOver plan_of limit known after answer old new =
     OfGot limit known after (λ text ending. EndsAsPlanned answer old new (plan_of text ending))
 
 -- The run did as planned, and its devices were asked as `Runs` says.
-pub record RunsAsPlanned {R W : Type 0} (plan_of : List ℕ → Ending → Plan) (limit : ℕ)
+pub record RunsAsPlanned {R W : Type 0} (plan_of : List ℕ → InputEnd → Plan) (limit : ℕ)
     (remaining : R → Option (List ℕ)) (contents : W → Option (List ℕ))
     (answer : Result (Unit {0}) ConvertFault) (read_from now_read : Counted R)
     (written_to now_written : Counted W) : Type 0 where

@@ -3,7 +3,7 @@ ghost use Rattle.std.specs.Prelude.{◌≡◌, ◌≤◌, ◌++◌, ℕ, List, O
 ghost use Rattle.std.specs.List.{flat_map};
 ghost use Rattle.std.specs.Io.KnownBytes.{Appends};
 ghost use Rattle.aprs_io.specs.Input.{most_input};
-ghost use Rattle.aprs_ax25.specs.FrameFault.{frame_of};
+ghost use Rattle.aprs_ax25.specs.FrameFault.{frame_or_fault};
 ghost use Rattle.aprs_kiss.specs.Device.{device_of, AppendsPrefix, Calls, Sends, last_at};
 ghost use Rattle.aprs_kiss.specs.Reader.{StandsAfter};
 ghost use Rattle.aprs_kiss.specs.Answer.{judgements_in};
@@ -14,7 +14,7 @@ use crate::fault::ConvertFault;
 use aprs_ax25::Frame;
 use aprs_io::read_some;
 use aprs_kiss::{Counted, Fed, KissReader, WriteFault};
-use aprs_log::{Ending, LogCause, LogFault, LogWriter, Moment, Receiver, Reception};
+use aprs_log::{InputEnd, LogCause, LogFault, LogWriter, Moment, Receiver, Reception};
 use std::io::{Read, Write};
 
 /// How many bytes of the stream are read at once, at most.
@@ -54,13 +54,13 @@ pub fn capture<R: Read, W: Write>(
 
 /// The answer of a capture whose stream ended so: `Ok` where it has no further byte, and otherwise
 /// a fault in line 0, since a read failed or the stream is over the limit.
-fn stream_end(ending: Ending) -> Result<(), ConvertFault>
+fn stream_end(ending: InputEnd) -> Result<(), ConvertFault>
     ensures { Spec.EndsStream result ending }
 {
     match ending {
-        Ending::End => Ok(()),
-        Ending::Read => Err(fault_of_stream(LogCause::Read)),
-        Ending::TooLong => Err(fault_of_stream(LogCause::TooLong)),
+        InputEnd::End => Ok(()),
+        InputEnd::Read => Err(fault_of_stream(LogCause::Read)),
+        InputEnd::TooLong => Err(fault_of_stream(LogCause::TooLong)),
     }
 }
 
@@ -131,7 +131,7 @@ fn write_frame<W: Write>(
     bytes: &[u8],
 ) -> Result<(), WriteFault>
     ensures { Sends W.contents result w.old w.new
-        (Spec.frame_line receiver.now moment.now (frame_of bytes.now)) }
+        (Spec.frame_line receiver.now moment.now (frame_or_fault bytes.now)) }
 {
     match Frame::read(bytes) {
         Ok(frame) => log.write(w, &Reception::new(moment.copy(), receiver.copy(), frame)),

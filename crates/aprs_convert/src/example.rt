@@ -1,7 +1,7 @@
 //! A worked example of what a check writes, and near misses that it leaves out. The function does
 //! nothing.
 ghost use Rattle.std.specs.Prelude.{[], ◌∷◌, ◌++◌, ℕ, List, None, codes};
-ghost use Rattle.aprs_io.specs.declared.input.Ending.TheVariants.{End, Read};
+ghost use Rattle.aprs_io.specs.declared.input.InputEnd.TheVariants.{End, Read};
 ghost use Rattle.aprs_convert.specs.Check.{Checks};
 
 /// A check of a log of no line writes that no line is heard and none passed over, and no other

@@ -309,8 +309,8 @@ fn acks_and_rejs(rt: HostRuntime) {
     assert!(rt; are_kind(&acks, "ack") && are_kind(&rejs, "rej"));
 }
 
-/// Fields at the ends of what may stand in a place: the letters of a table that lies over another, a
-/// code, a stamp by the hour, a name, an id, and what is cut off at the end of a message.
+/// Fields at the ends of what may stand in a place: the letters of a table that lies over another,
+/// a code, a stamp by the hour, a name, an id, and what is cut off at the end of a message.
 const AT_THE_ENDS: &[(&[u8], Report<'static>)] = &[
     (
         b"!4903.50NZ07201.75W~",

@@ -1,8 +1,5 @@
 -- Lemmas on the bytes that go out of a writer.
-use Rattle.std.proofs.Common.{◌≡◌, Result, Ok, Err, OnErr, ℕ, ◌-◌, List, [], ◌++◌, refl, subst, append-nil, length, take, drop, Option, sym, ap, ◌∙◌, append_assoc, take-append-drop}
-use Rattle.std.proofs.lemmas.List.{take_rest}
-use Rattle.std.specs.Io.KnownBytes.{Appends}
-use Rattle.std.proofs.KnownBytes.{Appends-nil, Appends-trans}
+use Rattle.aprs_io.proofs.Common.{◌≡◌, Result, Ok, Err, OnErr, ℕ, ◌-◌, List, [], ◌++◌, refl, append-nil, length, take, drop, Option, sym, ap, ◌∙◌, append_assoc, take-append-drop, take_rest, Appends, Appends-nil, Appends-trans}
 use Rattle.aprs_io.specs.Device.{AppendsAllBut, AppendsPrefix}
 
 -- the writer took n bytes of what was left

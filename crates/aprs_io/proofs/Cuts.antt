@@ -1,12 +1,9 @@
 -- Lemmas on texts that are cut at a byte.
-use Rattle.std.proofs.Common.{◌≡◌, ℕ, ◌+◌, ◌-◌, ◌<◌, ◌≤◌, Bool, true, false, List, [], ◌∷◌, ◌++◌, length, get_or, take, drop, None, Some, cond, refl, arith, sym, ap, ◌∙◌, eqb-true, eq-eqb, length-append}
-use Rattle.std.specs.List.{position_or_len, before_first, after_first, AllByRecursion}
+use Rattle.aprs_io.proofs.Common.{◌≡◌, ℕ, ◌+◌, ◌-◌, ◌<◌, ◌≤◌, Bool, true, false, List, [], ◌∷◌, ◌++◌, length, get_or, take, drop, None, Some, cond, refl, arith, sym, ap, ◌∙◌, eq-eqb, length-append, position_or_len, before_first, after_first, AllByRecursion, take_rest, Option, unwrap_or, false_from_ne_true}
+use Rattle.std.proofs.Common.{eqb-true}
 use Rattle.std.proofs.lemmas.Bool.Decides.{nat_tests}
-use Rattle.std.proofs.lemmas.List.{take_rest}
 use Rattle.std.proofs.lemmas.List.Sums.{split_at_first, passes_at_first}
 use Rattle.std.proofs.Math.Seq.{take-append_seam, drop-append-add}
-use Rattle.std.specs.Prelude.{Option, unwrap_or}
-use Rattle.std.proofs.lemmas.Bool.{false_from_ne_true}
 use Rattle.std.proofs.lemmas.List.Sums.{position_or_len_is}
 use Rattle.memchr.specs.Find.{IsFirstByte, is_byte as is_sought}
 use Rattle.aprs_io.specs.Cut.{Cut, cut_at, first_cut, has_byte, is_byte}

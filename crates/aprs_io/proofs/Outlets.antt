@@ -1,9 +1,6 @@
 -- Lemmas on a writer with bytes on their way to it.
-use Rattle.std.proofs.Common.{◌≡◌, ◌<◌, ℕ, ◌+◌, List, [], ◌∷◌, ◌++◌, length, get_or, take, drop, Option, Result, Ok, Err, refl, sym, ap, ◌∙◌, append_assoc, append-nil, take-append-drop, subst}
-use Rattle.std.proofs.lemmas.List.{take_more, drop_more, flat_map_more}
+use Rattle.aprs_io.proofs.Common.{◌≡◌, ◌<◌, ℕ, ◌+◌, List, [], ◌∷◌, ◌++◌, length, get_or, take, drop, Option, Result, Ok, Err, refl, sym, ap, ◌∙◌, append_assoc, append-nil, take-append-drop, subst, take_more, drop_more, flat_map_more, flat_map, IsErr}
 use Rattle.std.proofs.lemmas.List.Concat.{flat_map-append}
-use Rattle.std.specs.List.{flat_map}
-use Rattle.std.specs.Result.{IsErr}
 use Rattle.aprs_io.specs.Device.{Sends, SendsAllBut}
 use Rattle.aprs_io.specs.declared.device.Counted.{Counted}
 use Rattle.aprs_io.proofs.Sends.{Sends-err, Sends-fails, Sends-is, Sends-last, Sends-ok, fails_of_both, left_all, left_of_both}

@@ -1,7 +1,5 @@
 -- Laws of what a function did to its device.
-use Rattle.std.proofs.Common.{◌≡◌, ◌≤◌, ℕ, List, [], ◌++◌, length, Option, Result, Ok, Err, refl, sym, ap, ◌∙◌, subst, append_assoc, length-append, arith}
-use Rattle.std.specs.Result.{IsErr, IsOk}
-use Rattle.std.proofs.KnownBytes.{Appends-nil, Appends-trans}
+use Rattle.aprs_io.proofs.Common.{◌≡◌, ◌≤◌, ℕ, List, [], ◌++◌, length, Option, Result, Ok, Err, refl, sym, ap, ◌∙◌, subst, append_assoc, length-append, arith, IsErr, IsOk, Appends-nil, Appends-trans}
 use Rattle.aprs_io.specs.Device.{Calls, Last, Going, Fault, End, Sends, SendsAllBut, faults_after, ends_after}
 use Rattle.aprs_io.specs.declared.device.Counted.{Counted}
 use Rattle.aprs_io.proofs.Bytes.{AppendsPrefix-more, AppendsPrefix-then}

@@ -1,12 +1,8 @@
 -- Lemmas on texts that are put together element by element, and on bytes as texts show them.
-use Rattle.std.proofs.Common.{◌≡◌, ℕ, ◌+◌, ◌≤◌, ◌<◌, List, [], ◌∷◌, ◌++◌, length, take, Some, None, Option, map, get_or, IfSome, ◌⊎◌, inl, inr, slice_get, refl, ap, sym, ◌∙◌, arith, Bool, true, false, cond}
-use Rattle.std.specs.List.{flat_map, list_all}
+use Rattle.aprs_io.proofs.Common.{◌≡◌, ℕ, ◌+◌, ◌≤◌, ◌<◌, List, [], ◌∷◌, ◌++◌, length, take, Some, None, Option, map, get_or, IfSome, ◌⊎◌, inl, inr, slice_get, refl, ap, sym, ◌∙◌, arith, Bool, true, false, cond, flat_map, list_all, take_more, flat_map_more, and_parts, encode_lower}
 use Rattle.std.specs.Option.{option_map}
-use Rattle.std.proofs.lemmas.List.{take_more, flat_map_more}
 use Rattle.std.proofs.lemmas.Option.{slice_get_within, slice_get_cases, slice_get-map, get_or_from_slice_get}
-use Rattle.std.proofs.lemmas.Bool.{and_parts}
-use Rattle.hex.specs.Hex.{encode_lower}
-use Rattle.aprs_io.specs.Shown.{is_shown, shown_text}
+use Rattle.aprs_io.specs.Shown.{is_shown_as_is, shown_text}
 
 -- one more element was shown
 pub shown-more : {X : Type 0} (f : X → List ℕ) (a b : List ℕ) (xs : List X) (i : ℕ) (x : X)
@@ -40,14 +36,14 @@ shown-each {X} f g a b xs i within out start done = by (slice_get xs i) refl out
         (slice_get-map g xs i ∙ ap (option_map g) is) out start done
 
 -- a byte that is shown as itself
-shown_byte-plain : (b : ℕ) (rest : List ℕ) (t : Bool) → is_shown b ≡ t → t ≡ true
+shown_byte-plain : (b : ℕ) (rest : List ℕ) (t : Bool) → is_shown_as_is b ≡ t → t ≡ true
     → b ∷ rest ≡ (cond t (b ∷ []) (92 ∷ 120 ∷ encode_lower (b ∷ []))) ++ rest
 shown_byte-plain b rest true is e = refl
 shown_byte-plain b rest false is e = absurd cc
 
 -- bytes that are shown as themselves
-pub shown-plain : (bytes : List ℕ) → list_all is_shown bytes ≡ true → bytes ≡ shown_text bytes
+pub shown-plain : (bytes : List ℕ) → list_all is_shown_as_is bytes ≡ true → bytes ≡ shown_text bytes
 shown-plain [] e = refl
 shown-plain (b ∷ bytes) e =
     let p = and_parts _ _ e in
-    ap (λ l. b ∷ l) (shown-plain bytes p.1) ∙ shown_byte-plain b (shown_text bytes) (is_shown b) refl p.0
+    ap (λ l. b ∷ l) (shown-plain bytes p.1) ∙ shown_byte-plain b (shown_text bytes) (is_shown_as_is b) refl p.0

@@ -3,11 +3,11 @@ use Rattle.std.specs.Prelude.{ℕ, ◌+◌, ◌≤◌, List, Option}
 use Rattle.aprs_io.specs.Device.{Calls, most_failures}
 use Rattle.aprs_io.specs.Input.{EndsHere, last_of_ending}
 use Rattle.aprs_io.specs.declared.device.Counted.{Counted}
-use Rattle.aprs_io.specs.declared.input.Ending.{Ending}
+use Rattle.aprs_io.specs.declared.input.InputEnd.{InputEnd}
 
 -- The input ends in this way, where the limit allows `left` bytes more. If the device was asked
 -- again after the end, or after a fault, its counts of answers would show it.
-pub record EndsInput {R : Type 0} (remaining : R → Option (List ℕ)) (way : Ending) (left : ℕ)
+pub record EndsInput {R : Type 0} (remaining : R → Option (List ℕ)) (way : InputEnd) (left : ℕ)
     (old new : Counted R) : Type 0 where
   pub end : EndsHere way left (remaining old.device) (remaining new.device)
   pub calls : Calls (last_of_ending way) old new

@@ -11,7 +11,7 @@ pub const MAX_INPUT: u64 = 1_073_741_824;
 
 /// How an input ends after the bytes that were read of it.
 #[derive(Clone, Copy, Debug, PartialEq, Eq)]
-pub enum Ending {
+pub enum InputEnd {
     /// The input has no further byte.
     End,
     /// The read after them failed.
@@ -28,7 +28,7 @@ pub fn read_some<R: Read>(
     source: &mut Counted<R>,
     room: &mut [u8],
     left: u64,
-) -> Result<usize, Ending>
+) -> Result<usize, InputEnd>
     requires { 0 < length room.old }
     ensures { GetsSome R.remaining result left source.old source.new room.new }
 {
@@ -37,22 +37,22 @@ pub fn read_some<R: Read>(
     }
     let most = left.min(room.len() as u64) as usize;
     match source.read(&mut room[..most]) {
-        Ok(0) => Err(Ending::End),
+        Ok(0) => Err(InputEnd::End),
         Ok(count) => Ok(count),
-        Err(DeviceFault) => Err(Ending::Read),
+        Err(DeviceFault) => Err(InputEnd::Read),
     }
 }
 
 /// How an input ends of which as many bytes were read as its limit. The device is asked for one
 /// byte more, which isn't kept: `TooLong` if it gives one, `End` if it gives none, `Read` if it
 /// fails.
-fn ending_at_limit<R: Read>(source: &mut Counted<R>) -> Ending
+fn ending_at_limit<R: Read>(source: &mut Counted<R>) -> InputEnd
     ensures { EndsInput R.remaining result 0 source.old source.new }
 {
     let mut one = [0];
     match source.read(&mut one) {
-        Ok(0) => Ending::End,
-        Ok(_) => Ending::TooLong,
-        Err(DeviceFault) => Ending::Read,
+        Ok(0) => InputEnd::End,
+        Ok(_) => InputEnd::TooLong,
+        Err(DeviceFault) => InputEnd::Read,
     }
 }

@@ -3,7 +3,7 @@ ghost use Rattle.std.specs.Prelude.{◌≡◌, ◌+◌, ◌≤◌, ◌++◌, ◌
 ghost use Rattle.std.specs.List.{list_all};
 ghost use Rattle.arrayvec.specs.ArrayVec.{array_vec_len};
 ghost use Rattle.hex.specs.Hex.{encode_lower};
-ghost use Rattle.aprs_io.specs.Shown.{is_shown, shown_byte};
+ghost use Rattle.aprs_io.specs.Shown.{is_shown_as_is, shown_byte};
 
 use crate::byte_vectors::push_all;
 use arrayvec::ArrayVec;
@@ -11,12 +11,12 @@ use arrayvec::ArrayVec;
 /// Whether `shown_byte` shows each of the bytes as itself; `true` where there are no bytes. Then
 /// they can be put as they are, in one piece. Takes no memory.
 pub fn are_shown(bytes: &[u8]) -> bool
-    ensures { result ≡ list_all is_shown bytes.now }
+    ensures { result ≡ list_all is_shown_as_is bytes.now }
 {
     // No early end, so that many bytes are looked at in one step.
     let mut all = true;
     for b in bytes {
-        all &= is_shown(*b);
+        all &= is_shown_as_is(*b);
     }
     all
 }
@@ -27,7 +27,7 @@ pub fn shown_byte(b: u8) -> ArrayVec<u8, 4>
     ensures { result.items ≡ shown_byte b }
 {
     let mut text = ArrayVec::new();
-    if is_shown(b) {
+    if is_shown_as_is(b) {
         text.push(b);
     } else {
         text.push(b'\\');
@@ -38,8 +38,8 @@ pub fn shown_byte(b: u8) -> ArrayVec<u8, 4>
 }
 
 /// Whether the byte is shown as itself: it is 0x20 to 0x7E and no backslash.
-fn is_shown(b: u8) -> bool
-    ensures { result ≡ is_shown b }
+fn is_shown_as_is(b: u8) -> bool
+    ensures { result ≡ is_shown_as_is b }
 {
     (b' '..=b'~').contains(&b) && b != b'\\'
 }

@@ -1,12 +1,6 @@
 -- Lemmas on what a list of bytes spells.
-use Rattle.std.proofs.Common.{◌≡◌, ◌≢◌, ℕ, ◌∙◌, sym, ap, refl, Bool, true, false, List, [], ◌∷◌, ◌++◌, map, append_assoc, append-nil, arith, ◌⊎◌, inl, inr, Option, None, Some}
-use Rattle.std.specs.List.{slice_split, onto_first, AllByRecursion}
+use Rattle.aprs_kiss.proofs.Common.{◌≡◌, ◌≢◌, ℕ, ◌∙◌, sym, ap, refl, Bool, true, false, List, [], ◌∷◌, ◌++◌, map, append_assoc, append-nil, arith, ◌⊎◌, inl, inr, Option, None, Some, slice_split, onto_first, AllByRecursion, option_map, eqb-true, nat_tests, recursion_from_All, slice_split-cons_no, slice_split-cons_yes}
 use Rattle.std.specs.Borrow.{Bor}
-use Rattle.std.specs.Option.{option_map}
-use Rattle.std.proofs.lemmas.Bool.{eqb-true}
-use Rattle.std.proofs.lemmas.Bool.Decides.{nat_tests}
-use Rattle.std.proofs.lemmas.List.Elements.{recursion_from_All}
-use Rattle.std.proofs.lemmas.List.Splits.{slice_split-cons_no, slice_split-cons_yes}
 use Rattle.std.proofs.lemmas.Grind.{flat_map-append}
 use Rattle.aprs_kiss.specs.Plain.{IsPlain, CutsPlain, is_special}
 use Rattle.aprs_kiss.specs.Spelling.{HasNoEnd, is_frame_end, is_escape, kiss_text, spelling_of_byte, spelling_of}

@@ -1,6 +1,5 @@
 -- Lemmas on the answers of a stream that is fed part by part.
-use Rattle.std.proofs.Common.{◌≡◌, ℕ, ◌∙◌, sym, ap, refl, List, [], ◌∷◌, ◌++◌, append_assoc, append-nil, take, drop, take-append-drop}
-use Rattle.std.specs.List.{FoldsTo}
+use Rattle.aprs_kiss.proofs.Common.{◌≡◌, ℕ, ◌∙◌, sym, ap, refl, List, [], ◌∷◌, ◌++◌, append_assoc, append-nil, take, drop, take-append-drop, FoldsTo}
 use Rattle.aprs_kiss.specs.Stream.{rest_of, judgements_of}
 use Rattle.aprs_kiss.specs.Judgement.{Judgement}
 use Rattle.aprs_kiss.specs.Reader.{StandsAfter}

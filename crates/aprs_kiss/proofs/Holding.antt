@@ -1,9 +1,5 @@
 -- Lemmas on what a reader holds as bytes come.
-use Rattle.std.proofs.Common.{◌≡◌, ◌≢◌, ℕ, ◌<◌, ◌≤◌, ◌∙◌, sym, ap, refl, false, List, [], ◌∷◌, ◌++◌, length, length-append, append_assoc, append-nil, arith, ◌==◌, subst, Option, None, Some, Err}
-use Rattle.std.specs.List.{All}
-use Rattle.std.specs.Option.{option_map}
-use Rattle.std.proofs.lemmas.Bool.{lt-ltb, le-ltb, eqb-false}
-use Rattle.std.proofs.lemmas.List.Elements.{recursion_from_All, All-weaker, All-take}
+use Rattle.aprs_kiss.proofs.Common.{◌≡◌, ◌≢◌, ℕ, ◌<◌, ◌≤◌, ◌∙◌, sym, ap, refl, false, List, [], ◌∷◌, ◌++◌, length, length-append, append_assoc, append-nil, arith, ◌==◌, subst, Option, None, Some, Err, All, option_map, lt-ltb, le-ltb, eqb-false, recursion_from_All, All-weaker, All-take, take-append_seam}
 use Rattle.aprs_kiss.specs.Plain.{IsPlain, is_special}
 use Rattle.aprs_kiss.specs.Spelling.{HasNoEnd, is_frame_end}
 use Rattle.aprs_kiss.specs.Unspelling.{spelled_bytes}
@@ -14,7 +10,6 @@ use Rattle.aprs_kiss.specs.declared.reader.State.{State}
 use Rattle.aprs_kiss.specs.declared.reader.State.TheVariants.{Ended, Plain, Escape, Long, LongEscape, Broken}
 use Rattle.aprs_kiss.specs.declared.fault.PassFault.TheVariants.{BadEscape, TooLong}
 use Rattle.aprs_kiss.proofs.Escapes.{not_end, unspelled-nil, unspelled-open, unspelled-append, unspelled-run, unspelled-twice}
-use Rattle.std.proofs.Math.Seq.{take-append_seam}
 
 pub HasNoEnd-prefix : (a b : List ℕ) → HasNoEnd (a ++ b) → HasNoEnd a
 HasNoEnd-prefix a b h =

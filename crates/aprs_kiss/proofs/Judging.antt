@@ -1,7 +1,5 @@
 -- Proofs of the laws on what a piece spells and how it is judged.
-use Rattle.std.proofs.Common.{◌≡◌, ◌≢◌, ℕ, ◌<◌, ◌≤◌, ◌%◌, ◌/◌, ◌∙◌, sym, ap, refl, subst, List, [], ◌∷◌, length, arith, ◌⊎◌, inl, inr, Option, None, Some, Ok, Err}
-use Rattle.std.proofs.lemmas.Bool.{lt-ltb, le-ltb, eq-eqb}
-use Rattle.std.proofs.lemmas.Bool.Decides.{eqb_tells, nat_tests}
+use Rattle.aprs_kiss.proofs.Common.{◌≡◌, ◌≢◌, ℕ, ◌<◌, ◌≤◌, ◌%◌, ◌/◌, ◌∙◌, sym, ap, refl, subst, List, [], ◌∷◌, length, arith, ◌⊎◌, inl, inr, Option, None, Some, Ok, Err, lt-ltb, le-ltb, eq-eqb, eqb_tells, nat_tests}
 use Rattle.aprs_kiss.specs.Spelling.{HasNoEnd, Spells, spelling_of}
 use Rattle.aprs_kiss.specs.Unspelling.{spelled_bytes}
 use Rattle.aprs_kiss.specs.Judgement.{Judgement, Judged, judgement_of, judgement_by, data_frame_of}

@@ -1,9 +1,6 @@
 -- Lemmas on where the first special byte stands.
-use Rattle.std.proofs.Common.{◌≡◌, ℕ, ◌<◌, ◌≤◌, true, false, List, length, take, get_or, slice_index, Option, Some, None, ap, ◌∙◌, arith}
+use Rattle.aprs_kiss.proofs.Common.{◌≡◌, ℕ, ◌<◌, ◌≤◌, true, false, List, length, take, get_or, slice_index, Option, Some, None, ap, ◌∙◌, arith, false_from_ne_true, get_or-take, length-take-le, All-from_get_or}
 use Rattle.std.specs.Prelude.{unwrap_or}
-use Rattle.std.proofs.lemmas.Bool.{false_from_ne_true}
-use Rattle.std.proofs.lemmas.List.{get_or-take, length-take-le}
-use Rattle.std.proofs.lemmas.List.Elements.{All-from_get_or}
 use Rattle.memchr.specs.Find.{IsFirstByte, is_byte2}
 use Rattle.aprs_kiss.specs.Plain.{IsPlain, is_special}
 

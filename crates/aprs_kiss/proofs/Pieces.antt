@@ -1,10 +1,5 @@
 -- Lemmas on the pieces of a stream and its rest, however it is cut.
-use Rattle.std.proofs.Common.{sym, All, ◌≡◌, ℕ, ◌<◌, ◌∙◌, ap, refl, false, List, [], ◌∷◌, ◌++◌, length, map, filter, append_assoc, append-nil, arith, ◌⊎◌, inl, inr}
-use Rattle.std.proofs.lemmas.Bool.Decides.{nat_tests}
-use Rattle.std.specs.List.{slice_split, flat_map}
-use Rattle.std.proofs.lemmas.List.{map-append}
-use Rattle.std.proofs.lemmas.List.Elements.{filter-append, All-append, All-cons, All-nil}
-use Rattle.std.proofs.lemmas.List.Splits.{slice_split_none, slice_split_at, length-slice_split}
+use Rattle.aprs_kiss.proofs.Common.{sym, All, ◌≡◌, ℕ, ◌<◌, ◌∙◌, ap, refl, false, List, [], ◌∷◌, ◌++◌, length, map, filter, append_assoc, append-nil, arith, ◌⊎◌, inl, inr, nat_tests, slice_split, flat_map, map-append, filter-append, All-append, All-cons, All-nil, slice_split_none, slice_split_at, length-slice_split}
 use Rattle.aprs_kiss.specs.Spelling.{HasNoEnd, is_frame_end}
 use Rattle.aprs_kiss.specs.Stream.{all_but_last, last_part, pieces_of, rest_of, is_nonempty, nonempty_pieces_of, judgements_of}
 use Rattle.aprs_kiss.specs.Judgement.{judgement_of}

@@ -1,7 +1,5 @@
 -- Lemmas on a reader that reads a piece of a stream.
-use Rattle.std.proofs.Common.{◌≡◌, ◌≢◌, ℕ, ◌-◌, ◌<◌, ◌∙◌, sym, ap, refl, subst, List, [], ◌∷◌, ◌++◌, length, length-append, take, append_assoc, append-nil, arith, Bool, true, false}
-use Rattle.std.proofs.lemmas.Bool.Decides.{nat_tests}
-use Rattle.std.proofs.Math.Seq.{take-append_seam, take-length}
+use Rattle.aprs_kiss.proofs.Common.{◌≡◌, ◌≢◌, ℕ, ◌-◌, ◌<◌, ◌∙◌, sym, ap, refl, subst, List, [], ◌∷◌, ◌++◌, length, length-append, take, append_assoc, append-nil, arith, Bool, true, false, nat_tests, take-append_seam, take-length}
 use Rattle.aprs_kiss.specs.Plain.{is_special}
 use Rattle.aprs_kiss.specs.Stream.{EndsPiece, pieces_of, rest_of, judgements_of}
 use Rattle.aprs_kiss.specs.Judgement.{Judgement, judgement_of}

@@ -1,6 +1,5 @@
 -- Proofs of the laws on frames that are written and read.
-use Rattle.std.proofs.Common.{◌≡◌, ℕ, ◌<◌, ◌≤◌, ◌∙◌, sym, ap, refl, List, [], ◌∷◌, ◌++◌, length, append_assoc, arith, inl, inr, Ok, Err, false}
-use Rattle.std.proofs.lemmas.Bool.{lt-ltb, le-ltb}
+use Rattle.aprs_kiss.proofs.Common.{◌≡◌, ℕ, ◌<◌, ◌≤◌, ◌∙◌, sym, ap, refl, List, [], ◌∷◌, ◌++◌, length, append_assoc, arith, inl, inr, Ok, Err, false, lt-ltb, le-ltb}
 use Rattle.aprs_kiss.specs.Spelling.{HasNoEnd, is_frame_end, is_escape, kiss_text, spelling_of, spelling_of_byte}
 use Rattle.aprs_kiss.specs.Stream.{judgements_of, rest_of}
 use Rattle.aprs_kiss.specs.Judgement.{Judgement, judgement_of, judgement_by}

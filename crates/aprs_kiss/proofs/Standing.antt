@@ -1,6 +1,5 @@
 -- A reader always stands after some bytes.
-use Rattle.std.proofs.Common.{◌≡◌, ◌<◌, ◌+◌, ℕ, List, [], ◌∷◌, ◌++◌, length, Some, replicate, refl, sym, ap, ◌∙◌, arith}
-use Rattle.std.proofs.lemmas.List.{length-replicate}
+use Rattle.aprs_kiss.proofs.Common.{◌≡◌, ◌<◌, ◌+◌, ℕ, List, [], ◌∷◌, ◌++◌, length, Some, replicate, refl, sym, ap, ◌∙◌, arith, length-replicate}
 use Rattle.aprs_kiss.specs.Reader.{HoldsAfter, StandsAfter}
 use Rattle.aprs_kiss.specs.ReaderSteps.{HoldsSome}
 use Rattle.aprs_kiss.specs.Sizes.{most_bytes}

@@ -19,7 +19,7 @@ use arrayvec::ArrayVec;
 pub const MAX_FRAME: usize = 1024;
 
 /// What a reader returns for the bytes that it was fed.
-#[derive(Clone, Copy, Debug, PartialEq, Eq)]
+#[derive(Clone, Copy, Debug)]
 pub enum Fed<'a> {
     /// No nonempty piece ended: all bytes were used.
     Nothing,

@@ -1,6 +1,5 @@
 -- Books with their gaps.
-use Rattle.std.proofs.Common.{◌≡◌, ℕ, ◌≤◌, List, ◌++◌, ◌↔◌, refl, subst, arith}
-use Rattle.aprs_log.specs.Reception.{Heard}
+use Rattle.aprs_laws.proofs.Common.{◌≡◌, ℕ, ◌≤◌, List, ◌++◌, ◌↔◌, refl, subst, arith, Received}
 use Rattle.aprs_laws.specs.Gap.{IsGap, millis_of}
 use Rattle.aprs_laws.specs.Book.{BookOf}
 use Rattle.aprs_laws.specs.Sound.{Sound}
@@ -10,7 +9,7 @@ use Rattle.aprs_laws.proofs.RunRows.{union_is_joined}
 use Rattle.aprs_laws.proofs.Widening.{widens_book, widens_joined}
 
 -- what holds under a gap holds under an equal one
-moved : (g h : ℕ) (S : List Heard) (b : BookValue) → g ≡ h → BookOf (millis_of g) S b.rows
+moved : (g h : ℕ) (S : List Received) (b : BookValue) → g ≡ h → BookOf (millis_of g) S b.rows
     → BookOf (millis_of h) S b.rows
 moved g h S b e k = subst (λ (n : ℕ). BookOf (millis_of n) S b.rows) e k
 
@@ -18,7 +17,7 @@ sound_under : (g h : ℕ) (b : BookValue) → g ≡ h → Sound (millis_of g) b.
     → Sound (millis_of h) b.rows
 sound_under g h b e k = subst (λ (n : ℕ). Sound (millis_of n) b.rows) e k
 
-pub union_has_joined_book : (S T : List Heard) (a b c : BookValue) → IsGap c.gap → a.gap ≡ c.gap
+pub union_has_joined_book : (S T : List Received) (a b c : BookValue) → IsGap c.gap → a.gap ≡ c.gap
     → b.gap ≡ c.gap → Holds S a → Holds T b → Holds (S ++ T) c ↔ AreJoined a b c
 union_has_joined_book S T a b c r d e h k =
     let u = union_is_joined (millis_of c.gap) (some_millis c.gap r) S T a.rows b.rows c.rows
@@ -27,7 +26,7 @@ union_has_joined_book S T a b c r d e h k =
       λ j. u.1 j.rows,
     )
 
-pub widened_holds : (gap : ℕ) (S : List Heard) (b : BookValue) → b.gap ≤ gap → Holds S b
+pub widened_holds : (gap : ℕ) (S : List Received) (b : BookValue) → b.gap ≤ gap → Holds S b
     → Holds S (widened_to gap b)
 widened_holds gap S b l h =
     widens_book (millis_of b.gap) (millis_of gap) S b.rows (omega (arith, l)) h

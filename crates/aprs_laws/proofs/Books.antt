@@ -1,13 +1,5 @@
 -- Rows that keep S are the book of S, and no other rows are.
-use Rattle.std.proofs.Common.{◌≡◌, ℕ, zero, suc, ◌+◌, ◌-◌, ◌<◌, ◌≤◌, List, inl, inr, sym, refl, ap, ◌∙◌, subst, arith}
-use Rattle.std.proofs.lemmas.Bool.{cases_lt}
-use Rattle.std.proofs.lemmas.Bool.Decides.{nat_tests}
-use Rattle.std.proofs.lemmas.Cmp.{then_total, on_total, nat_cmp_total, tied_itself}
-use Rattle.std.specs.Cmp.{IsTotalOrder}
-use Rattle.std.specs.Ordering.{nat_cmp, ordering_then}
-use Rattle.std.specs.declared.cmp.Ordering.{Ordering}
-use Rattle.std.specs.declared.cmp.Ordering.TheVariants.{Less, Equal}
-use Rattle.aprs_log.specs.Reception.{Heard, bytes_cmp}
+use Rattle.aprs_laws.proofs.Common.{◌≡◌, ℕ, zero, suc, ◌+◌, ◌-◌, ◌<◌, ◌≤◌, List, inl, inr, sym, refl, ap, ◌∙◌, subst, arith, cases_lt, nat_tests, then_total, on_total, nat_cmp_total, tied_itself, IsTotalOrder, nat_cmp, ordering_then, Ordering, Less, Equal, Received, bytes_cmp}
 use Rattle.aprs_laws.specs.Lists.{◌∈◌, SameMembers}
 use Rattle.aprs_laws.specs.Order.{IsBelow}
 use Rattle.aprs_laws.specs.Key.{Key, key_cmp}
@@ -21,11 +13,11 @@ use Rattle.aprs_laws.proofs.Rows.{IsBefore}
 use Rattle.aprs_laws.proofs.Made.{IsPart, part_of, row_of, span, Keeps, keeps_book}
 
 -- a row's greatest reception is of the row
-pub own_of : (gap : ℕ) (S : List Heard) (x : Row) → RowOf gap S x → IsOf x x.greatest
+pub own_of : (gap : ℕ) (S : List Received) (x : Row) → RowOf gap S x → IsOf x x.greatest
 own_of gap S x r = record { key = refl; from = r.run.in_order; to = omega arith }
 
-module _ (gap : ℕ) (S : List Heard) (x : Row) (p : IsPart gap S x) where
-  inside : (s : Heard) → s ∈ S → IsOf x s → s ∈ p.X
+module _ (gap : ℕ) (S : List Received) (x : Row) (p : IsPart gap S x) where
+  inside : (s : Received) → s ∈ S → IsOf x s → s ∈ p.X
   inside s h i = elim (p.others s h) [
     | inl k ↦ k
     | inr f ↦ absurd
@@ -63,7 +55,7 @@ module _ (gap : ℕ) (S : List Heard) (x : Row) (p : IsPart gap S x) where
     greatest = λ s h i. p.makes.greatest s (inside s h i);
   }
 
-module _ (gap : ℕ) (S : List Heard) (k : Key) (a b : ℕ) (r : Run gap S k a b) where
+module _ (gap : ℕ) (S : List Received) (k : Key) (a b : ℕ) (r : Run gap S k a b) where
   -- from a moment up to m, some steps lead past m
   walk : (m : ℕ) → m < b → (fuel p : ℕ) → HeardAt S k p → a ≤ p → p ≤ m → m ≤ p + fuel
       → (n : ℕ) × (m < n) × (n ≤ m + gap) × HeardAt S k n
@@ -80,7 +72,7 @@ module _ (gap : ℕ) (S : List Heard) (k : Key) (a b : ℕ) (r : Run gap S k a b
   pub dense : (m : ℕ) → a ≤ m → m < b → (n : ℕ) × (m < n) × (n ≤ m + gap) × HeardAt S k n
   dense m l u = walk m u (m - a) a r.at_first (omega arith) l (omega arith)
 
-module _ (gap : ℕ) (S : List Heard) (k : Key) (a b c d m : ℕ) (r : Run gap S k a b)
+module _ (gap : ℕ) (S : List Received) (k : Key) (a b c d m : ℕ) (r : Run gap S k a b)
     (q : Run gap S k c d) (am : a ≤ m) (mb : m ≤ b) (cm : c ≤ m) (md : m ≤ d) where
   pub not_before : c < a → ⊥
   not_before l = elim (cases_lt (c + gap) a) [
@@ -94,7 +86,7 @@ module _ (gap : ℕ) (S : List Heard) (k : Key) (a b c d m : ℕ) (r : Run gap S
   not_beyond l = let t = q.linked b r.at_last (omega arith) l in r.none_after t.0 t.1 t.2 t.3
 
 -- runs of one key that share a moment are one
-pub runs_same : (gap : ℕ) (S : List Heard) (k : Key) (a b c d m : ℕ) → Run gap S k a b
+pub runs_same : (gap : ℕ) (S : List Received) (k : Key) (a b c d m : ℕ) → Run gap S k a b
     → Run gap S k c d → a ≤ m → m ≤ b → c ≤ m → m ≤ d → (a ≡ c) × (b ≡ d)
 runs_same gap S k a b c d m r q am mb cm md =
     let f = not_before gap S k a b c d m r q am mb cm md in
@@ -109,7 +101,7 @@ pub same_row : (x y : Row) → x.first ≡ y.first → x.receivers ≡ y.receive
 same_row x y f r g = λ i. record { first = f i; receivers = r i; greatest = g i }
 
 -- rows of one set that share a reception are one
-pub rows_same : (gap : ℕ) (S : List Heard) (x y : Row) (s : Heard) → RowOf gap S x → RowOf gap S y
+pub rows_same : (gap : ℕ) (S : List Received) (x y : Row) (s : Received) → RowOf gap S x → RowOf gap S y
     → IsOf x s → IsOf y s → x ≡ y
 rows_same gap S x y s p q i j = same_row x y ends.0 receivers greatest where
   ek : row_key x ≡ row_key y
@@ -120,7 +112,7 @@ rows_same gap S x y s p q i j = same_row x y ends.0 receivers greatest where
       runs_same gap S (row_key x) x.first (last_of x) y.first (last_of y) s.moment p.run
       (subst (λ (k : Key). Run gap S k y.first (last_of y)) (sym ek) q.run) i.from i.to j.from j.to
 
-  to : (t : Heard) → IsOf x t → IsOf y t
+  to : (t : Received) → IsOf x t → IsOf y t
   to t h =
       record {
         key = h.key
@@ -129,7 +121,7 @@ rows_same gap S x y s p q i j = same_row x y ends.0 receivers greatest where
         to = omega (arith, ends, h.to);
       }
 
-  back : (t : Heard) → IsOf y t → IsOf x t
+  back : (t : Received) → IsOf y t → IsOf x t
   back t h =
       record {
         key = h.key
@@ -160,7 +152,7 @@ below gap x y l (inr h) =
     let n : nat_cmp x.first y.first ≡ Less = grind (arith, nat_tests, h.1) in
     ap (λ (o : Ordering). ordering_then o (nat_cmp x.first y.first)) e ∙ n
 
-pub book_of_keeps : (gap : ℕ) (S : List Heard) (rows : List Row) → Keeps gap S rows
+pub book_of_keeps : (gap : ℕ) (S : List Received) (rows : List Row) → Keeps gap S rows
     → BookOf gap S rows
 book_of_keeps gap S rows k = record {
   ascending =
@@ -186,7 +178,7 @@ book_of_keeps gap S rows k = record {
       (rows_same gap S t.0 x f.0 (row_of_part gap S t.0 (part t.0 t.1)) r t.2 i) t.1
 
 -- the same members, the same rows
-pub row_carries : (gap : ℕ) (S T : List Heard) → SameMembers S T → (x : Row) → RowOf gap S x
+pub row_carries : (gap : ℕ) (S T : List Received) → SameMembers S T → (x : Row) → RowOf gap S x
     → RowOf gap T x
 row_carries gap S T e x r = record {
   run = record {
@@ -211,10 +203,10 @@ row_carries gap S T e x r = record {
   back : (m : ℕ) → HeardAt T (row_key x) m → HeardAt S (row_key x) m
   back m h = (h.0, (e h.0).1 h.1, h.2, h.3)
 
-pub turn : (S T : List Heard) → SameMembers S T → SameMembers T S
+pub turn : (S T : List Received) → SameMembers S T → SameMembers T S
 turn S T e s = ((e s).1, (e s).0)
 
-pub book_carries : (gap : ℕ) (S T : List Heard) (p : List Row) → SameMembers S T → BookOf gap S p
+pub book_carries : (gap : ℕ) (S T : List Received) (p : List Row) → SameMembers S T → BookOf gap S p
     → BookOf gap T p
 book_carries gap S T p e b = record {
   ascending = b.ascending;
@@ -231,17 +223,17 @@ row_total =
     then_total (on_total (λ (x : Row). (row_key x)) key_total)
     (on_total (λ (x : Row). x.first) nat_cmp_total)
 
-pub one_book : (gap : ℕ) (S : List Heard) (p q : List Row) → BookOf gap S p → BookOf gap S q → p ≡ q
+pub one_book : (gap : ℕ) (S : List Received) (p q : List Row) → BookOf gap S p → BookOf gap S q → p ≡ q
 one_book gap S p q b c =
     ordered_same (IsBelow row_cmp) (λ x y. not_both row_total x y) p q b.ascending c.ascending
     (λ x h. (c.exactly x).1 ((b.exactly x).0 h))
     (λ x h. (b.exactly x).1 ((c.exactly x).0 h))
 
-pub unique : (gap : ℕ) (S T : List Heard) (p q : List Row) → SameMembers S T → BookOf gap S p
+pub unique : (gap : ℕ) (S T : List Received) (p q : List Row) → SameMembers S T → BookOf gap S p
     → BookOf gap T q → p ≡ q
 unique gap S T p q e b c = one_book gap T p q (book_carries gap S T p e b) c
 
-pub keeps_of_book : (gap : ℕ) (S : List Heard) (p : List Row) → BookOf gap S p → Keeps gap S p
+pub keeps_of_book : (gap : ℕ) (S : List Received) (p : List Row) → BookOf gap S p → Keeps gap S p
 keeps_of_book gap S p b =
     subst (λ (q : List Row). Keeps gap S q)
     (one_book gap S (plain_book gap S) p

@@ -1,10 +1,6 @@
 -- Rows in order, where each joins the one before it that it is near to, are the book of what they
 -- stand for.
-use Rattle.std.proofs.Common.{◌≡◌, ℕ, ◌<◌, ◌≤◌, ◌+◌, List, [], ◌∷◌, ◌++◌, ◌↔◌, map, inl, inr, refl, sym, ap, ◌∙◌, subst, arith, false}
-use Rattle.std.specs.Ordering.{nat_cmp, ordering_then, is_gt, MatchOrdering}
-use Rattle.std.specs.declared.cmp.Ordering.{Ordering}
-use Rattle.std.specs.declared.cmp.Ordering.TheVariants.{Less, Equal, Greater}
-use Rattle.aprs_log.specs.Reception.{Heard}
+use Rattle.aprs_laws.proofs.Common.{◌≡◌, ℕ, ◌<◌, ◌≤◌, ◌+◌, List, [], ◌∷◌, ◌++◌, ◌↔◌, map, inl, inr, refl, sym, ap, ◌∙◌, subst, arith, false, nat_cmp, ordering_then, is_gt, MatchOrdering, Ordering, Less, Equal, Greater, Received}
 use Rattle.aprs_laws.specs.Lists.{◌∈◌, SameMembers}
 use Rattle.aprs_laws.specs.Order.{IsUpTo}
 use Rattle.aprs_laws.specs.Row.{Row, row_key, last_of, row_cmp}
@@ -12,7 +8,7 @@ use Rattle.aprs_laws.specs.Book.{BookOf}
 use Rattle.aprs_laws.specs.Sound.{IsSoundRow, Sound}
 use Rattle.aprs_laws.specs.Witnesses.{witnesses_of_row, witnesses}
 use Rattle.aprs_laws.specs.Joining.{Joined}
-use Rattle.aprs_laws.specs.JoinRow.{choose, single, IsNear, combine, place, coalesce, coalesced_rows}
+use Rattle.aprs_laws.specs.JoinRow.{choose, single, IsNear, combine, compare_near, coalesce, coalesced_rows}
 use Rattle.aprs_laws.specs.Coalescing.{AreInOrder, StandFor, append_or_join}
 use Rattle.aprs_laws.proofs.Lists.{in_left, in_right, in_either}
 use Rattle.aprs_laws.proofs.Made.{Made, Keeps, makes_single}
@@ -25,7 +21,7 @@ use Rattle.aprs_laws.proofs.Streams.{combined_up_to, down, made_coalesce, ordere
 
 -- ---- the book of what rows in order are made of
 
-pub keeps_coalesced : (gap : ℕ) (S : List Heard) (rows : List Row) → Made gap S rows
+pub keeps_coalesced : (gap : ℕ) (S : List Received) (rows : List Row) → Made gap S rows
     → AreInOrder rows → Keeps gap S (coalesced_rows gap rows)
 keeps_coalesced gap S [] m o = record { made = m; ordered = tt }
 keeps_coalesced gap S (x ∷ xs) m o = record {
@@ -33,7 +29,7 @@ keeps_coalesced gap S (x ∷ xs) m o = record {
   ordered = ordered_coalesce gap m.0 m.1 x xs m.3 m.4 o.0 o.1;
 }
 
-pub made_is_book : (gap : ℕ) (S : List Heard) (rows : List Row) → Made gap S rows
+pub made_is_book : (gap : ℕ) (S : List Received) (rows : List Row) → Made gap S rows
     → AreInOrder rows → BookOf gap S (coalesced_rows gap rows)
 made_is_book gap S rows m o =
     book_of_keeps gap S (coalesced_rows gap rows) (keeps_coalesced gap S rows m o)
@@ -53,7 +49,7 @@ same_witnesses p q e s = (
   λ h. let t = (in_witnesses q s).0 h in (in_witnesses p s).1 (t.0, (e t.0).1 t.1, t.2),
 )
 
-pub coalesces_book : (gap : ℕ) → 0 < gap → (S : List Heard) (told rows : List Row)
+pub coalesces_book : (gap : ℕ) → 0 < gap → (S : List Received) (told rows : List Row)
     → StandFor told S → SameMembers told rows → AreInOrder rows
     → BookOf gap S (coalesced_rows gap rows)
 coalesces_book gap pos S told rows f e o =
@@ -74,34 +70,34 @@ witnesses_append [] q = refl
 witnesses_append (x ∷ p) q =
     ap (λ ys. witnesses_of_row x ++ ys) (witnesses_append p q)
     ∙ sym (assoc (witnesses_of_row x) (witnesses p) (witnesses q)) where
-      assoc : (a b c : List Heard) → (a ++ b) ++ c ≡ a ++ (b ++ c)
+      assoc : (a b c : List Received) → (a ++ b) ++ c ≡ a ++ (b ++ c)
       assoc [] b c = refl
       assoc (s ∷ a) b c = ap (λ ys. s ∷ ys) (assoc a b c)
 
-pub unions_stand : (p q : List Row) (S T : List Heard) → StandFor p S → StandFor q T
+pub unions_stand : (p q : List Row) (S T : List Received) → StandFor p S → StandFor q T
     → StandFor (p ++ q) (S ++ T)
 unions_stand p q S T f g = record {
   each = λ x h. elim (in_either x p q h) [ inl k ↦ f.each x k | inr k ↦ g.each x k ];
   members = λ s. subst (λ U. (s ∈ U → s ∈ (S ++ T)) × (s ∈ (S ++ T) → s ∈ U))
       (sym (witnesses_append p q)) (to s, from s);
 } where
-  to : (s : Heard) → s ∈ (witnesses p ++ witnesses q) → s ∈ (S ++ T)
+  to : (s : Received) → s ∈ (witnesses p ++ witnesses q) → s ∈ (S ++ T)
   to s h = elim (in_either s (witnesses p) (witnesses q) h) [
     | inl k ↦ in_left s S T ((f.members s).0 k)
     | inr k ↦ in_right s S T ((g.members s).0 k)
   ]
 
-  from : (s : Heard) → s ∈ (S ++ T) → s ∈ (witnesses p ++ witnesses q)
+  from : (s : Received) → s ∈ (S ++ T) → s ∈ (witnesses p ++ witnesses q)
   from s h = elim (in_either s S T h) [
     | inl k ↦ in_left s (witnesses p) (witnesses q) ((f.members s).1 k)
     | inr k ↦ in_right s (witnesses p) (witnesses q) ((g.members s).1 k)
   ]
 
 -- the row of one reception is sound, and has that reception as its only witness
-pub single_is_sound : (s : Heard) → IsSoundRow (single s)
+pub single_is_sound : (s : Received) → IsSoundRow (single s)
 single_is_sound s = sound_row 1 (s ∷ []) (single s) (makes_single 1 s)
 
-pub only_witness : (s t : Heard) → t ∈ witnesses_of_row (single s) → s ≡ t
+pub only_witness : (s t : Received) → t ∈ witnesses_of_row (single s) → s ≡ t
 only_witness s t h =
     from_witness 1 (single s) (single_is_sound s) (omega arith) (λ t. s ≡ t)
     (λ m l u. λ i. record {
@@ -116,10 +112,10 @@ only_witness s t h =
       between : (m : ℕ) → s.moment ≤ m → m ≤ s.moment → s.moment ≡ m
       between m l u = omega (arith, l, u)
 
-pub its_witness : (s : Heard) → s ∈ witnesses_of_row (single s)
+pub its_witness : (s : Received) → s ∈ witnesses_of_row (single s)
 its_witness s = has_witness_by 1 (single s) (single_is_sound s) (omega arith) s.receiver (inl refl)
 
-pub singles_stand : (S : List Heard) → StandFor (map single S) S
+pub singles_stand : (S : List Received) → StandFor (map single S) S
 singles_stand [] = record { each = λ x h. absurd h; members = λ s. (λ h. h, λ h. h) }
 singles_stand (x ∷ S) = let f = singles_stand S in record {
   each = λ y h. elim h [
@@ -142,7 +138,7 @@ singles_stand (x ∷ S) = let f = singles_stand S in record {
 
 -- ---- what follows for receptions, and for two books
 
-singles_made : (gap : ℕ) (S : List Heard) → Made gap S (map single S)
+singles_made : (gap : ℕ) (S : List Received) → Made gap S (map single S)
 singles_made gap [] = λ s h. h
 singles_made gap (s ∷ S) = (
   s ∷ [],
@@ -155,7 +151,7 @@ singles_made gap (s ∷ S) = (
   singles_made gap S,
 )
 
-pub coalesces_receptions : (gap : ℕ) (S : List Heard) → AreInOrder (map single S)
+pub coalesces_receptions : (gap : ℕ) (S : List Received) → AreInOrder (map single S)
     → BookOf gap S (coalesced_rows gap (map single S))
 coalesces_receptions gap S o = made_is_book gap S (map single S) (singles_made gap S) o
 
@@ -172,7 +168,7 @@ after_first : (gap : ℕ) (k l : Row) (xs : List Row) (x : Row)
     → append_or_join gap (k ∷ coalesce gap l xs) x ≡ k ∷ append_or_join gap (coalesce gap l xs) x
 after_first gap k l [] x = refl
 after_first gap k l (y ∷ xs) x =
-    by_case (place gap l y) (after_first gap k (combine l y) xs x) where
+    by_case (compare_near gap l y) (after_first gap k (combine l y) xs x) where
       by_case : (o : Ordering)
           → append_or_join gap (k ∷ coalesce gap (combine l y) xs) x
           ≡ k ∷ append_or_join gap (coalesce gap (combine l y) xs) x
@@ -188,7 +184,7 @@ pub coalesce_one_more : (gap : ℕ) (l : Row) (xs : List Row) (x : Row)
     → coalesce gap l (xs ++ x ∷ []) ≡ append_or_join gap (coalesce gap l xs) x
 coalesce_one_more gap l [] x = refl
 coalesce_one_more gap l (y ∷ xs) x =
-    by_case (place gap l y)
+    by_case (compare_near gap l y)
     (ap (λ zs. l ∷ zs) (coalesce_one_more gap y xs x) ∙ sym (after_first gap l y xs x))
     (coalesce_one_more gap (combine l y) xs x) where
       by_case : (o : Ordering)
@@ -220,7 +216,7 @@ up_to_next gap x l [] u f = λ y i. elim i [
 ]
 up_to_next gap x l (z ∷ zs) u f =
     by_choice (λ (rows : List Row). (y : Row) → y ∈ rows → IsUpTo row_cmp y x) _ _ _ _ _ _
-    (place gap l z) (place_means gap l z)
+    (compare_near gap l z) (place_means gap l z)
     (λ _. λ y i. elim i [
       | inl e ↦ subst (λ (w : Row). IsUpTo row_cmp w x) e u
       | inr k ↦ up_to_next gap x z zs (f z (inl refl)) (λ w h. f w (inr h)) y k
@@ -255,9 +251,9 @@ first_up_to l x e u =
 pub joins_last : (gap : ℕ) (rows done : List Row) (l x : Row)
     → coalesced_rows gap rows ≡ done ++ l ∷ []
     → AreInOrder (rows ++ x ∷ []) → IsSoundRow x
-    → (place gap l x ≡ Equal) ↔ ((row_key l ≡ row_key x) × (x.first ≤ last_of l + gap))
+    → (compare_near gap l x ≡ Equal) ↔ ((row_key l ≡ row_key x) × (x.first ≤ last_of l + gap))
 joins_last gap rows done l x c o w = (near, test) where
-  near : place gap l x ≡ Equal → (row_key l ≡ row_key x) × (x.first ≤ last_of l + gap)
+  near : compare_near gap l x ≡ Equal → (row_key l ≡ row_key x) × (x.first ≤ last_of l + gap)
   near e = let n =
       subst (λ (p : Ordering). MatchOrdering p (IsBefore gap l x) (IsNear gap l x)
       (IsBefore gap x l))
@@ -266,7 +262,7 @@ joins_last gap rows done l x c o w = (near, test) where
   is_last : l ∈ coalesced_rows gap rows
   is_last = subst (λ (ys : List Row). l ∈ ys) (sym c) (in_right l done (l ∷ []) (inl refl))
 
-  test : (row_key l ≡ row_key x) × (x.first ≤ last_of l + gap) → place gap l x ≡ Equal
+  test : (row_key l ≡ row_key x) × (x.first ≤ last_of l + gap) → compare_near gap l x ≡ Equal
   test t =
       let u = first_up_to l x t.0 (coalesced_up_to gap rows x o l is_last) in
       place_near gap l x

@@ -1,6 +1,6 @@
 -- What follows from the laws of joining alone: a fold is the same for items in another order, or
 -- with repeats.
-use Rattle.std.proofs.Common.{◌≡◌, List, [], ◌∷◌, ◌++◌, inl, inr, sym, refl, subst}
+use Rattle.aprs_laws.proofs.Common.{◌≡◌, List, [], ◌∷◌, ◌++◌, inl, inr, sym, refl, subst}
 use Rattle.aprs_laws.specs.Lists.{◌∈◌}
 use Rattle.aprs_laws.specs.Joining.{JoinLaws, FoldsTo, FoldsFreely}
 

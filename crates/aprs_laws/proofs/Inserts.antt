@@ -1,17 +1,13 @@
 -- For sound rows, what code makes of one more reception is the joined step.
-use Rattle.std.proofs.Common.{◌≡◌, ℕ, ◌<◌, ◌≤◌, min, Bool, true, false, ◌&&◌, not, List, [], ◌∷◌, ◌++◌, inl, inr, refl, sym, ap, ◌∙◌, subst, arith}
-use Rattle.std.specs.Ordering.{MatchOrdering}
-use Rattle.std.specs.declared.cmp.Ordering.{Ordering}
-use Rattle.std.specs.declared.cmp.Ordering.TheVariants.{Less, Equal, Greater}
-use Rattle.aprs_log.specs.Reception.{Heard, bytes_cmp}
+use Rattle.aprs_laws.proofs.Common.{◌≡◌, ℕ, ◌<◌, ◌≤◌, min, Bool, true, false, ◌&&◌, not, List, [], ◌∷◌, ◌++◌, inl, inr, refl, sym, ap, ◌∙◌, subst, arith, MatchOrdering, Ordering, Less, Equal, Greater, Received, bytes_cmp}
 use Rattle.aprs_laws.specs.Lists.{◌∈◌, Ordered}
 use Rattle.aprs_laws.specs.Order.{IsBelow}
 use Rattle.aprs_laws.specs.Row.{Row, last_of}
 use Rattle.aprs_laws.specs.Book.{BookOf}
 use Rattle.aprs_laws.specs.Sound.{IsSoundRow, Sound}
 use Rattle.aprs_laws.specs.Witnesses.{witnesses}
-use Rattle.aprs_laws.specs.JoinRow.{choose, greater, single, IsNear, combine, place, join_row}
-use Rattle.aprs_laws.specs.Inserted.{grow_row, bridge_row, insert_heard, FitsInPlace, is_listed, is_near_first, fits_in_place}
+use Rattle.aprs_laws.specs.JoinRow.{choose, greater, single, IsNear, combine, compare_near, join_row}
+use Rattle.aprs_laws.specs.Inserted.{grow_row, bridge_row, insert_heard, FitsInPlace, is_listed, is_near_first, has_place_for}
 use Rattle.aprs_laws.proofs.Orders.{bytes_total, bytes_exact, heard_total, heard_exact, same_greatest, compared, not_both}
 use Rattle.aprs_laws.proofs.Choices.{union_one, union_flip, union_ordered}
 use Rattle.aprs_laws.proofs.Rows.{IsBefore, the_greater, place_means, before_trans, combined_last}
@@ -23,13 +19,13 @@ use Rattle.aprs_laws.proofs.NearRows.{far_of_before, not_three}
 use Rattle.aprs_laws.proofs.TakenSteps.{taken_last}
 
 -- a row grown is a row combined with that of the reception
-pub grown_is_combined : (r : Row) (s : Heard) → Ordered (IsBelow bytes_cmp) r.receivers
+pub grown_is_combined : (r : Row) (s : Received) → Ordered (IsBelow bytes_cmp) r.receivers
     → grow_row r s ≡ combine r (single s)
 grown_is_combined r s p =
     same_row (grow_row r s) (combine r (single s)) refl
     (sym (union_one bytes_total bytes_exact r.receivers s.receiver p)) refl
 
-pub greater_flip : (a b : Heard) → greater a b ≡ greater b a
+pub greater_flip : (a b : Received) → greater a b ≡ greater b a
 greater_flip a b = elim (the_greater a b) [
   | inl p ↦ elim (the_greater b a) [
     | inl q ↦ p.0 ∙ same_greatest heard_total heard_exact a b q.1 p.1 ∙ sym q.0
@@ -65,28 +61,28 @@ third Equal P Q R h f g = absurd (g h)
 third Greater P Q R h f g = h
 
 -- what follows a row that is near to s does not lie before s
-pub not_before_s : (gap : ℕ) (s : Heard) (r x : Row) → IsNear gap r (single s) → IsBefore gap r x
+pub not_before_s : (gap : ℕ) (s : Received) (r x : Row) → IsNear gap r (single s) → IsBefore gap r x
     → x.first ≤ last_of x → IsBefore gap x (single s) → ⊥
 not_before_s gap s r x n b l h =
     near_not_before gap r (single s) n (before_trans gap r x (single s) l b h)
 
 -- what follows two rows that are near to s lies after s
-pub after_two : (gap : ℕ) (s : Heard) (r x y : Row) → IsNear gap r (single s)
+pub after_two : (gap : ℕ) (s : Received) (r x y : Row) → IsNear gap r (single s)
     → IsNear gap x (single s) → x.first ≤ last_of x → y.first ≤ last_of y → IsBefore gap r x
     → IsBefore gap x y → IsBefore gap (single s) y
 after_two gap s r x y n m lx ly b c =
-    third (place gap y (single s)) (IsBefore gap y (single s)) (IsNear gap y (single s))
+    third (compare_near gap y (single s)) (IsBefore gap y (single s)) (IsNear gap y (single s))
     (IsBefore gap (single s) y) (place_means gap y (single s))
     (λ h. not_before_s gap s x y m c ly h)
     (λ h. not_three gap s r x y lx b c n m h)
 
 -- a row near to s, grown by s, and the rows after it
-bridged_is_joined : (gap : ℕ) (s : Heard) (r : Row) (rows : List Row) → IsNear gap r (single s)
+bridged_is_joined : (gap : ℕ) (s : Received) (r : Row) (rows : List Row) → IsNear gap r (single s)
     → IsSoundRow r → ((x : Row) → x ∈ rows → IsSoundRow x) → Ordered (IsBefore gap) (r ∷ rows)
     → bridge_row gap s (combine r (single s)) rows ≡ join_row gap rows (combine r (single s))
 bridged_is_joined gap s r [] n w v o = refl
 bridged_is_joined gap s r (x ∷ xs) n w v o =
-    by_case (place gap x (single s)) (place_means gap x (single s)) where
+    by_case (compare_near gap x (single s)) (place_means gap x (single s)) where
       spans : (combine r (single s)).first ≤ last_of (combine r (single s))
       spans = omega (arith, w.in_order, combined_last r (single s))
 
@@ -133,11 +129,11 @@ bridged_is_joined gap s r (x ∷ xs) n w v o =
       by_case Equal h = sym (near h)
       by_case Greater h = sym (after h)
 
-pub inserted_is_joined : (gap : ℕ) (s : Heard) (rows : List Row) → IsSound gap rows
+pub inserted_is_joined : (gap : ℕ) (s : Received) (rows : List Row) → IsSound gap rows
     → insert_heard gap s rows ≡ join_row gap rows (single s)
 inserted_is_joined gap s [] w = refl
 inserted_is_joined gap s (r ∷ rows) w =
-    by_case (place gap r (single s)) (place_means gap r (single s))
+    by_case (compare_near gap r (single s)) (place_means gap r (single s))
     (inserted_is_joined gap s rows
     (record { ordered = w.ordered.1; each = λ x h. w.each x (inr h) })) where
       own : IsSoundRow r
@@ -156,20 +152,20 @@ inserted_is_joined gap s (r ∷ rows) w =
       by_case Greater h e = refl
 
 -- so it turns the book of S into that of S and s
-pub inserted_is_book : (gap : ℕ) (S : List Heard) (s : Heard) (rows : List Row) → BookOf gap S rows
+pub inserted_is_book : (gap : ℕ) (S : List Received) (s : Received) (rows : List Row) → BookOf gap S rows
     → BookOf gap (S ++ s ∷ []) (insert_heard gap s rows)
 inserted_is_book gap S s rows b =
     subst (λ (p : List Row). BookOf gap (S ++ s ∷ []) p)
     (sym (inserted_is_joined gap s rows (one_relation gap rows (sound gap S rows b))))
     (taken_last gap S s rows b)
 
-pub inserted_is_sound : (gap : ℕ) → 0 < gap → (s : Heard) (rows : List Row) → Sound gap rows
+pub inserted_is_sound : (gap : ℕ) → 0 < gap → (s : Received) (rows : List Row) → Sound gap rows
     → Sound gap (insert_heard gap s rows)
 inserted_is_sound gap pos s rows w =
     sound gap (witnesses rows ++ s ∷ []) (insert_heard gap s rows)
     (inserted_is_book gap (witnesses rows) s rows (witnessed gap rows pos w))
 
--- ---- what changes in place
+-- ---- what changes in compare_near
 
 listed : (r : List ℕ) (xs : List (List ℕ)) → Ordered (IsBelow bytes_cmp) xs → r ∈ xs
     → is_listed r xs ≡ true
@@ -190,11 +186,11 @@ listed r (x ∷ xs) o h =
       by_case Greater f b (inr k) = f k
 
 -- of sound rows, the test says what it should
-pub fits_by_test : (gap : ℕ) (s : Heard) (rows : List Row) → IsSound gap rows
-    → FitsInPlace gap rows s → fits_in_place gap s rows ≡ true
+pub fits_by_test : (gap : ℕ) (s : Received) (rows : List Row) → IsSound gap rows
+    → FitsInPlace gap rows s → has_place_for gap s rows ≡ true
 fits_by_test gap s [] w f = absurd f.member
 fits_by_test gap s (r ∷ rows) w f =
-    by_case (place gap r (single s))
+    by_case (compare_near gap r (single s))
     (λ g. fits_by_test gap s rows
     (record { ordered = w.ordered.1; each = λ x m. w.each x (inr m) }) g)
     (place_means gap r (single s)) f.member where
@@ -204,7 +200,7 @@ fits_by_test gap s (r ∷ rows) w f =
       none_near : (rows : List Row) → ((x : Row) → x ∈ rows → IsNear gap x (single s) → ⊥)
           → is_near_first gap s rows ≡ false
       none_near [] g = refl
-      none_near (x ∷ xs) g = first (place gap x (single s)) (place_means gap x (single s)) where
+      none_near (x ∷ xs) g = first (compare_near gap x (single s)) (place_means gap x (single s)) where
         first : (q : Ordering)
             → MatchOrdering q (IsBefore gap x (single s)) (IsNear gap x (single s))
             (IsBefore gap (single s) x) → choose q false true false ≡ false
@@ -222,10 +218,10 @@ fits_by_test gap s (r ∷ rows) w f =
       both : (p q : Bool) → p ≡ true → q ≡ false → p && not q ≡ true
       both p q g h = rw (g, h) refl
 
-      by_case : (q : Ordering) → (FitsInPlace gap rows s → fits_in_place gap s rows ≡ true)
+      by_case : (q : Ordering) → (FitsInPlace gap rows s → has_place_for gap s rows ≡ true)
           → MatchOrdering q (IsBefore gap r (single s)) (IsNear gap r (single s))
           (IsBefore gap (single s) r) → f.row ∈ (r ∷ rows)
-          → choose q (fits_in_place gap s rows)
+          → choose q (has_place_for gap s rows)
           (is_listed s.receiver r.receivers && not (is_near_first gap s rows)) false ≡ true
       by_case Less ih h (inl e) =
           absurd

@@ -1,10 +1,5 @@
 -- The laws of joining, for receptions, lists of receivers and rows.
-use Rattle.std.proofs.Common.{◌≡◌, ℕ, ◌<◌, List, ◌++◌, ◌⊎◌, ◌↔◌, inl, inr, sym, refl, ◌∙◌, subst, arith}
-use Rattle.std.proofs.lemmas.Cmp.{upto}
-use Rattle.std.specs.Cmp.{IsTotalOrder}
-use Rattle.std.specs.declared.cmp.Ordering.{Ordering}
-use Rattle.std.proofs.lemmas.Map.Lookups.{CmpEqualImpliesEq}
-use Rattle.aprs_log.specs.Reception.{Heard, heard_cmp}
+use Rattle.aprs_laws.proofs.Common.{◌≡◌, ℕ, ◌<◌, List, ◌++◌, ◌⊎◌, ◌↔◌, inl, inr, sym, refl, ◌∙◌, subst, arith, upto, IsTotalOrder, Ordering, CmpEqualImpliesEq, Received, heard_cmp}
 use Rattle.aprs_laws.specs.Lists.{◌∈◌, Ordered}
 use Rattle.aprs_laws.specs.Order.{IsBelow, IsUpTo}
 use Rattle.aprs_laws.specs.Gap.{IsGap, millis_of}
@@ -164,35 +159,35 @@ receivers_laws {X} {R} t e = record {
   either (inr h) = h
 
 -- a greatest of a and b is up to what both are up to
-least : (a b c d : Heard) → IsGreaterOf a b c → IsUpTo heard_cmp a d → IsUpTo heard_cmp b d
+least : (a b c d : Received) → IsGreaterOf a b c → IsUpTo heard_cmp a d → IsUpTo heard_cmp b d
     → IsUpTo heard_cmp c d
 least a b c d g h k = elim g.one [
-  | inl e ↦ subst (λ (s : Heard). IsUpTo heard_cmp s d) (sym e) h
-  | inr e ↦ subst (λ (s : Heard). IsUpTo heard_cmp s d) (sym e) k
+  | inl e ↦ subst (λ (s : Received). IsUpTo heard_cmp s d) (sym e) h
+  | inr e ↦ subst (λ (s : Received). IsUpTo heard_cmp s d) (sym e) k
 ]
 
-then : (a b c : Heard) → IsUpTo heard_cmp a b → IsUpTo heard_cmp b c → IsUpTo heard_cmp a c
+then : (a b c : Received) → IsUpTo heard_cmp a b → IsUpTo heard_cmp b c → IsUpTo heard_cmp a c
 then a b c h k = upto heard_total a b c h k
 
-same : (a b : Heard) → IsUpTo heard_cmp a b → IsUpTo heard_cmp b a → a ≡ b
+same : (a b : Received) → IsUpTo heard_cmp a b → IsUpTo heard_cmp b a → a ≡ b
 same a b h k = same_greatest heard_total heard_exact a b h k
 
 -- the greater of two is their joined value
-pub is_greater_of : (a b : Heard) → IsGreaterOf a b (greater a b)
+pub is_greater_of : (a b : Received) → IsGreaterOf a b (greater a b)
 is_greater_of a b = elim (the_greater a b) as (λ _. IsGreaterOf a b (greater a b)) [
   | inl g ↦ record {
     one = inl g.0;
-    left = subst (λ (c : Heard). IsUpTo heard_cmp a c) (sym g.0)
+    left = subst (λ (c : Received). IsUpTo heard_cmp a c) (sym g.0)
         (up_to_itself heard_total a);
     right =
-        subst (λ (c : Heard). IsUpTo heard_cmp b c) (sym g.0) g.1;
+        subst (λ (c : Received). IsUpTo heard_cmp b c) (sym g.0) g.1;
   }
   | inr g ↦ record {
     one = inr g.0;
-    left = subst (λ (c : Heard). IsUpTo heard_cmp a c)
+    left = subst (λ (c : Received). IsUpTo heard_cmp a c)
         (sym g.0) g.1;
     right =
-        subst (λ (c : Heard). IsUpTo heard_cmp b c) (sym g.0) (up_to_itself heard_total b);
+        subst (λ (c : Received). IsUpTo heard_cmp b c) (sym g.0) (up_to_itself heard_total b);
   }
 ]
 
@@ -213,7 +208,7 @@ greatest_laws = record {
       };
   idempotent = λ a x v. (
     λ j. elim j.one [ inl e ↦ e | inr e ↦ e ],
-    λ e. subst (λ (c : Heard). IsGreaterOf a a c) (sym e)
+    λ e. subst (λ (c : Received). IsGreaterOf a a c) (sym e)
         (record {
           one = inl refl;
           left = up_to_itself heard_total a;

@@ -1,5 +1,5 @@
 -- Members of lists, and lists in order.
-use Rattle.std.proofs.Common.{◌≡◌, List, [], ◌∷◌, ◌++◌, ◌⊎◌, inl, inr, sym, refl, ap, ◌∙◌, subst, map}
+use Rattle.aprs_laws.proofs.Common.{◌≡◌, List, [], ◌∷◌, ◌++◌, ◌⊎◌, inl, inr, sym, refl, ap, ◌∙◌, subst, map}
 use Rattle.aprs_laws.specs.Lists.{◌∈◌, Ordered}
 
 pub in_left : {X : Type 0} (z : X) (xs ys : List X) → z ∈ xs → z ∈ (xs ++ ys)

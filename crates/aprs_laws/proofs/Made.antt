@@ -1,33 +1,29 @@
 -- Rows that are made of sets, one each: what a row that joins them makes.
-use Rattle.std.proofs.Common.{◌≡◌, ℕ, ◌+◌, ◌<◌, ◌≤◌, List, [], ◌∷◌, ◌++◌, ◌⊎◌, ◌↔◌, inl, inr, sym, refl, ap, ◌∙◌, subst, arith}
-use Rattle.std.proofs.lemmas.Cmp.{tied_itself}
-use Rattle.std.specs.Ordering.{is_gt}
-use Rattle.std.specs.declared.cmp.Ordering.TheVariants.{Less}
-use Rattle.aprs_log.specs.Reception.{Heard, heard_cmp}
+use Rattle.aprs_laws.proofs.Common.{◌≡◌, ℕ, ◌+◌, ◌<◌, ◌≤◌, List, [], ◌∷◌, ◌++◌, ◌⊎◌, ◌↔◌, inl, inr, sym, refl, ap, ◌∙◌, subst, arith, tied_itself, is_gt, Less, Received, heard_cmp}
 use Rattle.aprs_laws.specs.Lists.{◌∈◌, Ordered}
 use Rattle.aprs_laws.specs.Order.{IsUpTo}
 use Rattle.aprs_laws.specs.Key.{Key, key_of, key_cmp}
 use Rattle.aprs_laws.specs.Row.{Row, row_key, last_of, IsOf}
-use Rattle.aprs_laws.specs.JoinRow.{single, combine, place, join_row, merge, plain_book}
+use Rattle.aprs_laws.specs.JoinRow.{single, combine, compare_near, join_row, merge, plain_book}
 use Rattle.aprs_laws.proofs.Lists.{in_left, in_right, in_either}
 use Rattle.aprs_laws.proofs.Orders.{not_both, key_total, heard_total}
 use Rattle.aprs_laws.proofs.Choices.{by_choice}
 use Rattle.aprs_laws.proofs.Rows.{Makes, IsBefore, combined, combines, place_means, before_combined, before_trans}
 
 -- S has the members of X and of Y, and no others
-abbrev pub IsUnion : List Heard → List Heard → List Heard → Type 0
-IsUnion S X Y = (s : Heard) → (s ∈ S) ↔ ((s ∈ X) ⊎ (s ∈ Y))
+abbrev pub IsUnion : List Received → List Received → List Received → Type 0
+IsUnion S X Y = (s : Received) → (s ∈ S) ↔ ((s ∈ X) ⊎ (s ∈ Y))
 
 -- S is a union of sets, one for each row
-abbrev pub Made : ℕ → List Heard → List Row → Type 0
-Made gap S [] = (s : Heard) → s ∈ S → ⊥
-Made gap S (x ∷ xs) = (X T : List Heard) × IsUnion S X T × Makes gap X x × Made gap T xs
+abbrev pub Made : ℕ → List Received → List Row → Type 0
+Made gap S [] = (s : Received) → s ∈ S → ⊥
+Made gap S (x ∷ xs) = (X T : List Received) × IsUnion S X T × Makes gap X x × Made gap T xs
 
-pub appended : (X Y : List Heard) → IsUnion (X ++ Y) X Y
+pub appended : (X Y : List Received) → IsUnion (X ++ Y) X Y
 appended X Y s =
     (in_either s X Y, λ h. elim h [ inl k ↦ in_left s X Y k | inr k ↦ in_right s X Y k ])
 
-pub swapped : (S X Y : List Heard) → IsUnion S X Y → IsUnion S Y X
+pub swapped : (S X Y : List Received) → IsUnion S X Y → IsUnion S Y X
 swapped S X Y u s = (
   λ h. elim
       ((u s).0 h) [ inl k ↦ inr k | inr k ↦ inl k ],
@@ -39,7 +35,7 @@ swapped S X Y u s = (
 )
 
 -- (X + Y) + T as X + (Y + T)
-pub moved : (U S X Y T : List Heard) → IsUnion U S T → IsUnion S X Y → IsUnion U X (Y ++ T)
+pub moved : (U S X Y T : List Received) → IsUnion U S T → IsUnion S X Y → IsUnion U X (Y ++ T)
 moved U S X Y T u v s = (
   λ h. elim ((u s).0 h) [
     | inl k ↦ elim ((v s).0 k) [ inl j ↦ inl j | inr j ↦ inr (in_left s Y T j) ]
@@ -53,10 +49,10 @@ moved U S X Y T u v s = (
 )
 
 -- (X + Y) + T as Y + (X + T)
-pub turned : (U S X Y T : List Heard) → IsUnion U S T → IsUnion S X Y → IsUnion U Y (X ++ T)
+pub turned : (U S X Y T : List Received) → IsUnion U S T → IsUnion S X Y → IsUnion U Y (X ++ T)
 turned U S X Y T u v = moved U S Y X T u (swapped S X Y v)
 
-pub made_join : (gap : ℕ) (U S T : List Heard) (rows : List Row) (r : Row) → IsUnion U S T
+pub made_join : (gap : ℕ) (U S T : List Received) (rows : List Row) (r : Row) → IsUnion U S T
     → Made gap S rows → Makes gap T r → Made gap U (join_row gap rows r)
 made_join gap U S T [] r u m t = (
   T,
@@ -74,7 +70,7 @@ made_join gap U S T [] r u m t = (
   λ s h. h,
 )
 made_join gap U S T (x ∷ xs) r u m t =
-    by_choice (λ (rows : List Row). Made gap U rows) _ _ _ _ _ _ (place gap x r)
+    by_choice (λ (rows : List Row). Made gap U rows) _ _ _ _ _ _ (compare_near gap x r)
     (place_means gap x r)
     (λ _. (
       m.0,
@@ -89,14 +85,14 @@ made_join gap U S T (x ∷ xs) r u m t =
     (λ _. (T, S, swapped U S T u, t, m))
 
 -- what is before all rows and before r is before all joined rows
-pub before_join : (gap : ℕ) (S T : List Heard) (w : Row) (rows : List Row) (r : Row)
+pub before_join : (gap : ℕ) (S T : List Received) (w : Row) (rows : List Row) (r : Row)
     → Made gap S rows → Makes gap T r → ((y : Row) → y ∈ rows → IsBefore gap w y) → IsBefore gap w r
     → (y : Row) → y ∈ join_row gap rows r → IsBefore gap w y
 before_join gap S T w [] r m t f h =
     λ y i. elim i [ inl e ↦ subst (λ (z : Row). IsBefore gap w z) e h | inr k ↦ absurd k ]
 before_join gap S T w (x ∷ xs) r m t f h =
     by_choice (λ (rows : List Row). (y : Row) → y ∈ rows → IsBefore gap w y) _ _ _ _ _ _
-    (place gap x r) (place_means gap x r)
+    (compare_near gap x r) (place_means gap x r)
     (λ _. λ y i. elim i [
       | inl e ↦ f y (inl e)
       | inr k ↦ before_join gap m.1 T w xs r m.4 t
@@ -110,14 +106,14 @@ before_join gap S T w (x ∷ xs) r m t f h =
     (λ _. λ y i. elim i [ inl e ↦ subst (λ (z : Row). IsBefore gap w z) e h | inr k ↦ f y k ])
 
 -- a row does not end before it begins
-pub span : (gap : ℕ) (X : List Heard) (x : Row) → Makes gap X x → x.first ≤ last_of x
+pub span : (gap : ℕ) (X : List Received) (x : Row) → Makes gap X x → x.first ≤ last_of x
 span gap X x m = let o = m.own x.greatest m.member in omega arith
 
-pub join_ordered : (gap : ℕ) (S T : List Heard) (rows : List Row) (r : Row) → Made gap S rows
+pub join_ordered : (gap : ℕ) (S T : List Received) (rows : List Row) (r : Row) → Made gap S rows
     → Makes gap T r → Ordered (IsBefore gap) rows → Ordered (IsBefore gap) (join_row gap rows r)
 join_ordered gap S T [] r m t o = (λ y h. absurd h, tt)
 join_ordered gap S T (x ∷ xs) r m t o =
-    by_choice (λ (rows : List Row). Ordered (IsBefore gap) rows) _ _ _ _ _ _ (place gap x r)
+    by_choice (λ (rows : List Row). Ordered (IsBefore gap) rows) _ _ _ _ _ _ (compare_near gap x r)
     (place_means gap x r)
     (λ h. (before_join gap m.1 T x xs r m.4 t o.0 h, join_ordered gap m.1 T xs r m.4 t o.1))
     (λ n. join_ordered gap m.1 (m.0 ++ T) xs (combine x r) m.4
@@ -133,16 +129,16 @@ join_ordered gap S T (x ∷ xs) r m t o =
     ))
 
 -- what a row in `rows` is made of, and where all else of S lies
-pub record IsPart (gap : ℕ) (S : List Heard) (x : Row) : Type 0 where
-  pub X : List Heard
+pub record IsPart (gap : ℕ) (S : List Received) (x : Row) : Type 0 where
+  pub X : List Received
   pub makes : Makes gap X x
-  pub within : (s : Heard) → s ∈ X → s ∈ S
-  pub others : (s : Heard) → s ∈ S
+  pub within : (s : Received) → s ∈ X → s ∈ S
+  pub others : (s : Received) → s ∈ S
       → (s ∈ X) ⊎
       (key_of s.frame ≡ row_key x → (s.moment + gap < x.first) ⊎ (last_of x + gap < s.moment))
 
 -- each member of S is of a row
-pub row_of : (gap : ℕ) (S : List Heard) (rows : List Row) → Made gap S rows → (s : Heard) → s ∈ S
+pub row_of : (gap : ℕ) (S : List Received) (rows : List Row) → Made gap S rows → (s : Received) → s ∈ S
     → (x : Row) × (x ∈ rows) × IsOf x s
 row_of gap S [] m s h = absurd (m s h)
 row_of gap S (x ∷ xs) m s h = elim ((m.2 s).0 h) [
@@ -151,7 +147,7 @@ row_of gap S (x ∷ xs) m s h = elim ((m.2 s).0 h) [
 ]
 
 -- what is of a row before x is away from x
-pub away_before : (gap : ℕ) (x y : Row) (s : Heard) → IsBefore gap y x → IsOf y s
+pub away_before : (gap : ℕ) (x y : Row) (s : Received) → IsBefore gap y x → IsOf y s
     → key_of s.frame ≡ row_key x → (s.moment + gap < x.first) ⊎ (last_of x + gap < s.moment)
 away_before gap x y s (inl h) i e =
     let r =
@@ -159,7 +155,7 @@ away_before gap x y s (inl h) i e =
     absurd (not_both key_total (row_key x) (row_key x) r r)
 away_before gap x y s (inr h) i e = inl (omega (arith, i.to))
 
-pub away_after : (gap : ℕ) (x y : Row) (s : Heard) → IsBefore gap x y → IsOf y s
+pub away_after : (gap : ℕ) (x y : Row) (s : Received) → IsBefore gap x y → IsOf y s
     → key_of s.frame ≡ row_key x → (s.moment + gap < x.first) ⊎ (last_of x + gap < s.moment)
 away_after gap x y s (inl h) i e =
     let r =
@@ -167,7 +163,7 @@ away_after gap x y s (inl h) i e =
     absurd (not_both key_total (row_key x) (row_key x) r r)
 away_after gap x y s (inr h) i e = inr (omega (arith, i.from))
 
-pub part_of : (gap : ℕ) (S : List Heard) (rows : List Row) → Made gap S rows
+pub part_of : (gap : ℕ) (S : List Received) (rows : List Row) → Made gap S rows
     → Ordered (IsBefore gap) rows → (x : Row) → x ∈ rows → IsPart gap S x
 part_of gap S [] m o x h = absurd h
 part_of gap S (y ∷ ys) m o x (inl e) = subst (λ (z : Row). IsPart gap S z) e (record {
@@ -190,24 +186,24 @@ part_of gap S (y ∷ ys) m o x (inr h) = let p = part_of gap m.1 ys m.4 o.1 x h 
 }
 
 -- rows with what they are made of, in order
-pub record Keeps (gap : ℕ) (S : List Heard) (rows : List Row) : Type 0 where
+pub record Keeps (gap : ℕ) (S : List Received) (rows : List Row) : Type 0 where
   pub made : Made gap S rows
   pub ordered : Ordered (IsBefore gap) rows
 
-pub keeps_join : (gap : ℕ) (U S T : List Heard) (rows : List Row) (r : Row) → IsUnion U S T
+pub keeps_join : (gap : ℕ) (U S T : List Received) (rows : List Row) (r : Row) → IsUnion U S T
     → Keeps gap S rows → Makes gap T r → Keeps gap U (join_row gap rows r)
 keeps_join gap U S T rows r u k t = record {
   made = made_join gap U S T rows r u k.made t;
   ordered = join_ordered gap S T rows r k.made t k.ordered;
 }
 
-pub keeps_merge : (gap : ℕ) (U S T : List Heard) (p q : List Row) → IsUnion U S T → Keeps gap S p
+pub keeps_merge : (gap : ℕ) (U S T : List Received) (p q : List Row) → IsUnion U S T → Keeps gap S p
     → Made gap T q → Keeps gap U (merge gap p q)
 keeps_merge gap U S T p [] u k m = record { made = same_made p k.made; ordered = k.ordered } where
-  to : (s : Heard) → s ∈ U → s ∈ S
+  to : (s : Received) → s ∈ U → s ∈ S
   to s h = elim ((u s).0 h) [ inl j ↦ j | inr j ↦ absurd (m s j) ]
 
-  from : (s : Heard) → s ∈ S → s ∈ U
+  from : (s : Received) → s ∈ S → s ∈ U
   from s h = (u s).1 (inl h)
 
   same_made : (p : List Row) → Made gap S p → Made gap U p
@@ -234,11 +230,11 @@ keeps_merge gap U S T p (r ∷ rs) u k m =
         ],
       )
 
-pub makes_single : (gap : ℕ) (s : Heard) → Makes gap (s ∷ []) (single s)
+pub makes_single : (gap : ℕ) (s : Received) → Makes gap (s ∷ []) (single s)
 makes_single gap s = record {
   own =
       λ t h. elim h [
-        | inl e ↦ subst (λ (t : Heard). IsOf (single s) t) e
+        | inl e ↦ subst (λ (t : Received). IsOf (single s) t) e
             (record { key = refl; from = omega arith; to = omega arith })
         | inr k ↦ absurd k
       ];
@@ -250,21 +246,21 @@ makes_single gap s = record {
         λ h. elim h [ inl e ↦ (s, inl refl, e) | inr k ↦ absurd k ],
         λ t. elim t.1 [
           | inl e ↦ inl
-              (ap (λ (u : Heard). u.receiver) e ∙ t.2)
+              (ap (λ (u : Received). u.receiver) e ∙ t.2)
           | inr k ↦ absurd k
         ],
       );
   member = inl refl;
   greatest =
       λ t h. elim h [
-        | inl e ↦ subst (λ (t : Heard). IsUpTo heard_cmp t s) e
+        | inl e ↦ subst (λ (t : Received). IsUpTo heard_cmp t s) e
             (ap is_gt (tied_itself heard_total s))
         | inr k ↦ absurd k
       ];
 }
 
 -- the plain book of S keeps S
-pub keeps_book : (gap : ℕ) (S : List Heard) → Keeps gap S (plain_book gap S)
+pub keeps_book : (gap : ℕ) (S : List Received) → Keeps gap S (plain_book gap S)
 keeps_book gap [] = record { made = λ s h. h; ordered = tt }
 keeps_book gap (s ∷ S) = keeps_join gap (s ∷ S) S (s ∷ []) (plain_book gap S) (single s)
     (λ t. (

@@ -1,6 +1,5 @@
 -- Under a lesser gap the rows don't decide the book.
-use Rattle.std.proofs.Common.{◌≡◌, ℕ, ◌<◌, List, [], ◌∷◌, inl, inr, refl, ap, ◌∙◌, subst, arith}
-use Rattle.aprs_log.specs.Reception.{Heard, heard_cmp}
+use Rattle.aprs_laws.proofs.Common.{◌≡◌, ℕ, ◌<◌, List, [], ◌∷◌, inl, inr, refl, ap, ◌∙◌, subst, arith, Received, heard_cmp}
 use Rattle.aprs_laws.specs.Order.{IsUpTo}
 use Rattle.aprs_laws.specs.Row.{Row, IsOf}
 use Rattle.aprs_laws.specs.Book.{BookOf}
@@ -14,13 +13,13 @@ use Rattle.aprs_laws.proofs.Pushes.{push_first}
 
 module _ (narrow wide : ℕ) (pos : 0 < narrow) (less : narrow < wide)
     (narrowed : List Row → List Row)
-    (gives : (S : List Heard) (rows : List Row) → BookOf wide S rows
+    (gives : (S : List Received) (rows : List Row) → BookOf wide S rows
     → BookOf narrow S (narrowed rows)) where
   -- two receptions as far apart as the wide gap allows, and their row
-  abbrev at : ℕ → Heard
+  abbrev at : ℕ → Received
   at m = record { moment = m; receiver = []; frame = [] }
 
-  abbrev pair : List Heard
+  abbrev pair : List Received
   pair = at 0 ∷ at wide ∷ []
 
   abbrev row : Row
@@ -37,10 +36,10 @@ module _ (narrow wide : ℕ) (pos : 0 < narrow) (less : narrow < wide)
   makes_pair : Makes wide pair row
   makes_pair = record {
     own = λ s h. elim h [
-      | inl e ↦ subst (λ (t : Heard). IsOf row t) e
+      | inl e ↦ subst (λ (t : Received). IsOf row t) e
           (record { key = refl; from = omega arith; to = omega arith })
       | inr k ↦ elim k [
-        | inl e ↦ subst (λ (t : Heard). IsOf row t) e
+        | inl e ↦ subst (λ (t : Received). IsOf row t) e
             (record { key = refl; from = omega arith; to = omega arith })
         | inr j ↦ absurd j
       ]
@@ -51,19 +50,19 @@ module _ (narrow wide : ℕ) (pos : 0 < narrow) (less : narrow < wide)
     receivers = λ r. (
       λ h. elim h [ inl e ↦ (at 0, inl refl, e) | inr k ↦ absurd k ],
       λ t. elim t.1 [
-        | inl e ↦ inl (ap (λ (s : Heard). s.receiver) e ∙ t.2)
+        | inl e ↦ inl (ap (λ (s : Received). s.receiver) e ∙ t.2)
         | inr k ↦ elim k [
-          | inl e ↦ inl (ap (λ (s : Heard). s.receiver) e ∙ t.2)
+          | inl e ↦ inl (ap (λ (s : Received). s.receiver) e ∙ t.2)
           | inr j ↦ absurd j
         ]
       ],
     );
     member = inr (inl refl);
     greatest = λ s h. elim h [
-      | inl e ↦ subst (λ (t : Heard). IsUpTo heard_cmp t (at wide)) e
+      | inl e ↦ subst (λ (t : Received). IsUpTo heard_cmp t (at wide)) e
           (up_to_moment (at 0) (at wide) (omega arith))
       | inr k ↦ elim k [
-        | inl e ↦ subst (λ (t : Heard). IsUpTo heard_cmp t (at wide)) e
+        | inl e ↦ subst (λ (t : Received). IsUpTo heard_cmp t (at wide)) e
             (up_to_itself heard_total (at wide))
         | inr j ↦ absurd j
       ]
@@ -101,16 +100,16 @@ module _ (narrow wide : ℕ) (pos : 0 < narrow) (less : narrow < wide)
       let r = ((b.exactly row).0 (inl refl)).run in
       let t = r.linked 0 r.at_first (omega arith) (omega arith) in
       elim t.3.1 [
-        | inl e ↦ let m : 0 ≡ t.3.0.moment = ap (λ (s : Heard). s.moment) e in
+        | inl e ↦ let m : 0 ≡ t.3.0.moment = ap (λ (s : Received). s.moment) e in
             omega (arith, t.1, t.3.3, m)
         | inr k ↦ elim k [
-          | inl e ↦ let m : wide ≡ t.3.0.moment = ap (λ (s : Heard). s.moment) e in
+          | inl e ↦ let m : wide ≡ t.3.0.moment = ap (λ (s : Received). s.moment) e in
               omega (arith, t.2, t.3.3, m)
           | inr j ↦ absurd j
         ]
       ]
 
 pub narrows_not : (narrow wide : ℕ) (narrowed : List Row → List Row) → 0 < narrow → narrow < wide
-    → ((S : List Heard) (rows : List Row) → BookOf wide S rows → BookOf narrow S (narrowed rows))
+    → ((S : List Received) (rows : List Row) → BookOf wide S rows → BookOf narrow S (narrowed rows))
     → ⊥
 narrows_not narrow wide narrowed pos less gives = not_narrowed narrow wide pos less narrowed gives

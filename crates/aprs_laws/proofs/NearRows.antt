@@ -1,7 +1,5 @@
 -- One reception is near to at most two rows, which are neighbours.
-use Rattle.std.proofs.Common.{◌≡◌, ℕ, ◌+◌, ◌<◌, ◌≤◌, List, [], ◌∷◌, ◌⊎◌, inl, inr, sym, ◌∙◌, subst, arith}
-use Rattle.std.specs.declared.cmp.Ordering.TheVariants.{Less}
-use Rattle.aprs_log.specs.Reception.{Heard}
+use Rattle.aprs_laws.proofs.Common.{◌≡◌, ℕ, ◌+◌, ◌<◌, ◌≤◌, List, [], ◌∷◌, ◌⊎◌, inl, inr, sym, ◌∙◌, subst, arith, Less, Received}
 use Rattle.aprs_laws.specs.Lists.{◌∈◌, Ordered}
 use Rattle.aprs_laws.specs.Key.{Key, key_cmp}
 use Rattle.aprs_laws.specs.Row.{Row, row_key, last_of}
@@ -21,7 +19,7 @@ far_of_before gap x y e (inl h) =
 far_of_before gap x y e (inr h) = h.1
 
 -- no reception is near to three rows, each before the next
-pub not_three : (gap : ℕ) (s : Heard) (x y z : Row) → y.first ≤ last_of y → IsBefore gap x y
+pub not_three : (gap : ℕ) (s : Received) (x y z : Row) → y.first ≤ last_of y → IsBefore gap x y
     → IsBefore gap y z → IsNear gap x (single s) → IsNear gap y (single s) → IsNear gap z (single s)
     → ⊥
 not_three gap s x y z l b c i j k =
@@ -42,7 +40,7 @@ one_or_ordered {X} R (w ∷ ws) x y o (inr h) (inl k) =
     inr (inr (subst (λ (v : X). R v x) k (o.0 x h)))
 one_or_ordered R (w ∷ ws) x y o (inr h) (inr k) = one_or_ordered R ws x y o.1 h k
 
-pub two_of_three : (gap : ℕ) (p : List Row) (s : Heard) (x y z : Row) → Sound gap p → x ∈ p → y ∈ p
+pub two_of_three : (gap : ℕ) (p : List Row) (s : Received) (x y z : Row) → Sound gap p → x ∈ p → y ∈ p
     → z ∈ p → IsNear gap x (single s) → IsNear gap y (single s) → IsNear gap z (single s)
     → (x ≡ y) ⊎ (y ≡ z) ⊎ (x ≡ z)
 two_of_three gap p s x y z w hx hy hz nx ny nz = elim (lie x y hx hy) [

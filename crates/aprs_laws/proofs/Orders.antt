@@ -1,14 +1,6 @@
 -- The orders of callsigns, keys and receptions: each is total, and equals are identical.
-use Rattle.std.proofs.Common.{◌≡◌, ℕ, ◌<◌, ◌≤◌, List, refl, ap, ◌∙◌, subst, false, arith}
-use Rattle.std.specs.Cmp.{IsTotalOrder}
-use Rattle.std.specs.Ordering.{nat_cmp, ordering_then, ordering_reverse, is_gt, MatchOrdering}
-use Rattle.std.specs.declared.cmp.Ordering.{Ordering}
-use Rattle.std.specs.declared.cmp.Ordering.TheVariants.{Less, Equal, Greater}
-use Rattle.std.proofs.lemmas.Cmp.{then_total, on_total, nat_cmp_total, nat_list_cmp_total, tied_itself}
-use Rattle.std.proofs.lemmas.Bool.Decides.{nat_tests}
-use Rattle.std.proofs.lemmas.Map.Lookups.{CmpEqualImpliesEq, exact_pairs, exact_unsigned, exact_bytes}
+use Rattle.aprs_laws.proofs.Common.{◌≡◌, ℕ, ◌<◌, ◌≤◌, List, refl, ap, ◌∙◌, subst, false, arith, IsTotalOrder, nat_cmp, ordering_then, ordering_reverse, is_gt, MatchOrdering, Ordering, Less, Equal, Greater, then_total, on_total, nat_cmp_total, nat_list_cmp_total, tied_itself, nat_tests, CmpEqualImpliesEq, exact_pairs, exact_unsigned, exact_bytes, Received, bytes_cmp, heard_cmp}
 use Rattle.aprs_ax25.specs.Callsign.{Call, call_cmp}
-use Rattle.aprs_log.specs.Reception.{Heard, bytes_cmp, heard_cmp}
 use Rattle.aprs_laws.specs.Order.{IsUpTo}
 use Rattle.aprs_laws.specs.Key.{key_cmp}
 
@@ -87,7 +79,7 @@ heard_exact a b h =
     (b.moment, (b.receiver, b.frame)) h)
 
 -- a reception is not after one of a greater or equal moment
-pub moment_up_to : (s t : Heard) → IsUpTo heard_cmp s t → s.moment ≤ t.moment
+pub moment_up_to : (s t : Received) → IsUpTo heard_cmp s t → s.moment ≤ t.moment
 moment_up_to s t h = by_case (bytes_cmp s.receiver t.receiver) h where
   by_case : (r : Ordering)
       → is_gt
@@ -96,14 +88,14 @@ moment_up_to s t h = by_case (bytes_cmp s.receiver t.receiver) h where
   by_case r h = grind (arith, nat_tests)
 
 -- a reception of a smaller moment is not after
-pub up_to_moment : (s t : Heard) → s.moment < t.moment → IsUpTo heard_cmp s t
+pub up_to_moment : (s t : Received) → s.moment < t.moment → IsUpTo heard_cmp s t
 up_to_moment s t l =
     by_case (ordering_then (bytes_cmp s.receiver t.receiver) (bytes_cmp s.frame t.frame)) where
       by_case : (o : Ordering) → is_gt (ordering_then (nat_cmp s.moment t.moment) o) ≡ false
       by_case o = grind (arith, nat_tests)
 
 -- one by a receiver that is not after, of the same moment and frame, is not after
-pub up_to_receiver : (s t : Heard) → s.moment ≡ t.moment → IsUpTo bytes_cmp s.receiver t.receiver
+pub up_to_receiver : (s t : Received) → s.moment ≡ t.moment → IsUpTo bytes_cmp s.receiver t.receiver
     → s.frame ≡ t.frame → IsUpTo heard_cmp s t
 up_to_receiver s t e h f =
     by_case (bytes_cmp s.receiver t.receiver) (bytes_cmp s.frame t.frame) h
@@ -115,7 +107,7 @@ up_to_receiver s t e h f =
       by_case Greater p h k = absurd (cc h)
 
 -- receptions of one moment are in the order of their receivers
-pub receiver_up_to : (s t : Heard) → s.moment ≡ t.moment → IsUpTo heard_cmp s t
+pub receiver_up_to : (s t : Received) → s.moment ≡ t.moment → IsUpTo heard_cmp s t
     → IsUpTo bytes_cmp s.receiver t.receiver
 receiver_up_to s t e h = by_case (bytes_cmp s.receiver t.receiver) h where
   by_case : (o : Ordering)

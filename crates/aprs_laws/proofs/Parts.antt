@@ -1,17 +1,11 @@
 -- What code does with rows: it keeps what lies before, joins what is near, and keeps what lies
 -- after.
-use Rattle.std.proofs.Common.{◌≡◌, ℕ, ◌+◌, ◌<◌, ◌≤◌, List, [], ◌∷◌, ◌++◌, inl, inr, sym, refl, ap, ◌∙◌, subst, arith, if◌then◌else◌, false}
-use Rattle.std.specs.Prelude.{nat_lt}
-use Rattle.std.proofs.lemmas.Bool.Decides.{nat_tests}
-use Rattle.std.proofs.lemmas.Cmp.{tied_itself}
-use Rattle.std.specs.Ordering.{nat_cmp, is_gt, MatchOrdering, ordering_then, ordering_reverse}
-use Rattle.std.specs.declared.cmp.Ordering.{Ordering}
-use Rattle.std.specs.declared.cmp.Ordering.TheVariants.{Less, Equal, Greater}
+use Rattle.aprs_laws.proofs.Common.{◌≡◌, ℕ, ◌+◌, ◌<◌, ◌≤◌, List, [], ◌∷◌, ◌++◌, inl, inr, sym, refl, ap, ◌∙◌, subst, arith, if◌then◌else◌, false, nat_lt, nat_tests, tied_itself, nat_cmp, is_gt, MatchOrdering, ordering_then, ordering_reverse, Ordering, Less, Equal, Greater}
 use Rattle.aprs_laws.specs.Lists.{◌∈◌, Ordered}
 use Rattle.aprs_laws.specs.Order.{IsUpTo}
 use Rattle.aprs_laws.specs.Key.{Key, key_cmp}
 use Rattle.aprs_laws.specs.Row.{Row, row_key, last_of, row_cmp}
-use Rattle.aprs_laws.specs.JoinRow.{choose, IsNear, combine, by_moments, place, join_row}
+use Rattle.aprs_laws.specs.JoinRow.{choose, IsNear, combine, by_moments, compare_near, join_row}
 use Rattle.aprs_laws.proofs.Lists.{in_right}
 use Rattle.aprs_laws.proofs.Orders.{compared, key_total, key_exact}
 use Rattle.aprs_laws.proofs.Rows.{IsBefore, combined_key, combined_last}
@@ -21,10 +15,10 @@ one_key x y e =
     subst (λ (k : Key). key_cmp (row_key x) k ≡ Equal) e (tied_itself key_total (row_key x))
 
 at_key : (gap : ℕ) (x y : Row) (o : Ordering) → key_cmp (row_key x) (row_key y) ≡ o
-    → place gap x y ≡ ordering_then o (by_moments gap x y)
+    → compare_near gap x y ≡ ordering_then o (by_moments gap x y)
 at_key gap x y o h = ap (λ (p : Ordering). ordering_then p (by_moments gap x y)) h
 
-pub place_before : (gap : ℕ) (x y : Row) → IsBefore gap x y → place gap x y ≡ Less
+pub place_before : (gap : ℕ) (x y : Row) → IsBefore gap x y → compare_near gap x y ≡ Less
 place_before gap x y (inl h) = at_key gap x y Less h
 place_before gap x y (inr h) =
     at_key gap x y Equal (one_key x y h.0) ∙ tests (last_of x) x.first (last_of y) y.first h.1 where
@@ -33,7 +27,7 @@ place_before gap x y (inr h) =
           ≡ Less
       tests a b c d l = grind (arith, nat_tests)
 
-pub place_near : (gap : ℕ) (x y : Row) → IsNear gap x y → place gap x y ≡ Equal
+pub place_near : (gap : ℕ) (x y : Row) → IsNear gap x y → compare_near gap x y ≡ Equal
 place_near gap x y n =
     at_key gap x y Equal (one_key x y n.key)
     ∙ tests (last_of x) x.first (last_of y) y.first n.after n.before where
@@ -43,7 +37,7 @@ place_near gap x y n =
       tests a b c d l m = grind (arith, nat_tests)
 
 pub place_after : (gap : ℕ) (x y : Row) → x.first ≤ last_of x → y.first ≤ last_of y
-    → IsBefore gap y x → place gap x y ≡ Greater
+    → IsBefore gap y x → compare_near gap x y ≡ Greater
 place_after gap x y p q (inl h) =
     at_key gap x y Greater (key_total.antisymm (row_key x) (row_key y) ∙ ap ordering_reverse h)
 place_after gap x y p q (inr h) =
@@ -59,7 +53,7 @@ abbrev pub gather : List Row → Row → Row
 gather [] r = r
 gather (x ∷ xs) r = gather xs (combine x r)
 
-chosen : (gap : ℕ) (x : Row) (xs : List Row) (r : Row) (o : Ordering) → place gap x r ≡ o
+chosen : (gap : ℕ) (x : Row) (xs : List Row) (r : Row) (o : Ordering) → compare_near gap x r ≡ o
     → join_row gap (x ∷ xs) r ≡ choose o (x ∷ join_row gap xs r) (join_row gap xs (combine x r))
     (r ∷ x ∷ xs)
 chosen gap x xs r o h =

@@ -1,32 +1,24 @@
 -- A row of its own members, and what two near rows make.
-use Rattle.std.proofs.Common.{◌≡◌, ℕ, ◌+◌, ◌<◌, ◌≤◌, min, max, List, ◌++◌, ◌⊎◌, ◌↔◌, inl, inr, sym, refl, ap, ◌∙◌, subst, arith, Bool, true, false, if◌then◌else◌}
-use Rattle.std.specs.Prelude.{nat_lt}
-use Rattle.std.proofs.lemmas.Bool.{cases_lt}
-use Rattle.std.proofs.lemmas.Bool.Decides.{nat_tests}
-use Rattle.std.proofs.lemmas.Cmp.{upto, tied_back}
-use Rattle.std.specs.Ordering.{ordering_then, ordering_reverse, is_gt, MatchOrdering}
-use Rattle.std.specs.declared.cmp.Ordering.{Ordering}
-use Rattle.std.specs.declared.cmp.Ordering.TheVariants.{Less, Equal, Greater}
-use Rattle.aprs_log.specs.Reception.{Heard, bytes_cmp, heard_cmp}
+use Rattle.aprs_laws.proofs.Common.{◌≡◌, ℕ, ◌+◌, ◌<◌, ◌≤◌, min, max, List, ◌++◌, ◌⊎◌, ◌↔◌, inl, inr, sym, refl, ap, ◌∙◌, subst, arith, Bool, true, false, if◌then◌else◌, nat_lt, cases_lt, nat_tests, upto, tied_back, ordering_then, ordering_reverse, is_gt, MatchOrdering, Ordering, Less, Equal, Greater, Received, bytes_cmp, heard_cmp}
 use Rattle.aprs_laws.specs.Lists.{◌∈◌, Ordered}
 use Rattle.aprs_laws.specs.Order.{IsBelow, IsUpTo}
 use Rattle.aprs_laws.specs.Key.{Key, key_of, key_cmp}
 use Rattle.aprs_laws.specs.Row.{Row, row_key, last_of, IsOf}
-use Rattle.aprs_laws.specs.JoinRow.{choose, greater, IsNear, combine, by_moments, place}
+use Rattle.aprs_laws.specs.JoinRow.{choose, greater, IsNear, combine, by_moments, compare_near}
 use Rattle.aprs_laws.proofs.Lists.{in_left, in_right, in_either}
 use Rattle.aprs_laws.proofs.Orders.{compared, key_total, key_exact, bytes_total, bytes_exact, heard_total, moment_up_to}
 use Rattle.aprs_laws.proofs.Choices.{in_union, union_ordered}
 
 -- X is one transmission, and x its row
-pub record Makes (gap : ℕ) (X : List Heard) (x : Row) : Type 0 where
-  pub own : (s : Heard) → s ∈ X → IsOf x s
-  pub at_first : (s : Heard) × (s ∈ X) × (s.moment ≡ x.first)
+pub record Makes (gap : ℕ) (X : List Received) (x : Row) : Type 0 where
+  pub own : (s : Received) → s ∈ X → IsOf x s
+  pub at_first : (s : Received) × (s ∈ X) × (s.moment ≡ x.first)
   pub linked : (m : ℕ) → x.first ≤ m → m < last_of x
-      → (s : Heard) × (s ∈ X) × (m < s.moment) × (s.moment ≤ m + gap)
+      → (s : Received) × (s ∈ X) × (m < s.moment) × (s.moment ≤ m + gap)
   pub ascending : Ordered (IsBelow bytes_cmp) x.receivers
-  pub receivers : (r : List ℕ) → (r ∈ x.receivers) ↔ ((s : Heard) × (s ∈ X) × (s.receiver ≡ r))
+  pub receivers : (r : List ℕ) → (r ∈ x.receivers) ↔ ((s : Received) × (s ∈ X) × (s.receiver ≡ r))
   pub member : x.greatest ∈ X
-  pub greatest : (s : Heard) → s ∈ X → IsUpTo heard_cmp s x.greatest
+  pub greatest : (s : Received) → s ∈ X → IsUpTo heard_cmp s x.greatest
 
 -- y comes after x, and too late to join it
 abbrev pub IsBefore : ℕ → Row → Row → Type 0
@@ -44,9 +36,9 @@ pub record IsCombined (x y z : Row) : Type 0 where
   pub greatest : ((z.greatest ≡ x.greatest) × IsUpTo heard_cmp y.greatest x.greatest) ⊎
       ((z.greatest ≡ y.greatest) × IsUpTo heard_cmp x.greatest y.greatest)
 
-module _ (gap : ℕ) (X Y : List Heard) (x y z : Row) (mx : Makes gap X x) (my : Makes gap Y y)
+module _ (gap : ℕ) (X Y : List Received) (x y z : Row) (mx : Makes gap X x) (my : Makes gap Y y)
     (n : IsNear gap x y) (c : IsCombined x y z) where
-  combined_own : (s : Heard) → (s ∈ X) ⊎ (s ∈ Y) → IsOf z s
+  combined_own : (s : Received) → (s ∈ X) ⊎ (s ∈ Y) → IsOf z s
   combined_own s (inl h) =
       let i = mx.own s h in record { key = i.key ∙ sym c.key; from = omega arith; to = omega arith }
   combined_own s (inr h) =
@@ -54,22 +46,22 @@ module _ (gap : ℕ) (X Y : List Heard) (x y z : Row) (mx : Makes gap X x) (my :
       my.own s h in
       record { key = i.key ∙ (sym n.key ∙ sym c.key); from = omega arith; to = omega arith }
 
-  combined_first : (s : Heard) × (s ∈ (X ++ Y)) × (s.moment ≡ z.first)
+  combined_first : (s : Received) × (s ∈ (X ++ Y)) × (s.moment ≡ z.first)
   combined_first = elim (cases_lt y.first x.first) [
     | inl l ↦ let f = my.at_first in (f.0, in_right f.0 X Y f.1, omega (arith, f.2))
     | inr l ↦ let f = mx.at_first in (f.0, in_left f.0 X Y f.1, omega (arith, f.2))
   ]
 
-  from_x : (m : ℕ) → (s : Heard) × (s ∈ X) × (m < s.moment) × (s.moment ≤ m + gap)
-      → (s : Heard) × (s ∈ (X ++ Y)) × (m < s.moment) × (s.moment ≤ m + gap)
+  from_x : (m : ℕ) → (s : Received) × (s ∈ X) × (m < s.moment) × (s.moment ≤ m + gap)
+      → (s : Received) × (s ∈ (X ++ Y)) × (m < s.moment) × (s.moment ≤ m + gap)
   from_x m t = (t.0, in_left t.0 X Y t.1, t.2, t.3)
 
-  from_y : (m : ℕ) → (s : Heard) × (s ∈ Y) × (m < s.moment) × (s.moment ≤ m + gap)
-      → (s : Heard) × (s ∈ (X ++ Y)) × (m < s.moment) × (s.moment ≤ m + gap)
+  from_y : (m : ℕ) → (s : Received) × (s ∈ Y) × (m < s.moment) × (s.moment ≤ m + gap)
+      → (s : Received) × (s ∈ (X ++ Y)) × (m < s.moment) × (s.moment ≤ m + gap)
   from_y m t = (t.0, in_right t.0 X Y t.1, t.2, t.3)
 
   combined_linked : (m : ℕ) → z.first ≤ m → m < last_of z
-      → (s : Heard) × (s ∈ (X ++ Y)) × (m < s.moment) × (s.moment ≤ m + gap)
+      → (s : Received) × (s ∈ (X ++ Y)) × (m < s.moment) × (s.moment ≤ m + gap)
   combined_linked m f l = elim (cases_lt m x.first) [
     | inl a ↦ elim (cases_lt m (last_of y)) [
       | inl b ↦ from_y m (my.linked m (omega arith) b)
@@ -85,7 +77,7 @@ module _ (gap : ℕ) (X Y : List Heard) (x y z : Row) (mx : Makes gap X x) (my :
   ]
 
   combined_receivers : (r : List ℕ)
-      → (r ∈ z.receivers) ↔ ((s : Heard) × (s ∈ (X ++ Y)) × (s.receiver ≡ r))
+      → (r ∈ z.receivers) ↔ ((s : Received) × (s ∈ (X ++ Y)) × (s.receiver ≡ r))
   combined_receivers r = (
     λ h. elim ((c.receivers r).0 h) [
       | inl k ↦ let t = (mx.receivers r).0 k in (t.0, in_left t.0 X Y t.1, t.2)
@@ -97,7 +89,7 @@ module _ (gap : ℕ) (X Y : List Heard) (x y z : Row) (mx : Makes gap X x) (my :
     ],
   )
 
-  combined_greatest : (s : Heard) → (s ∈ X) ⊎ (s ∈ Y) → IsUpTo heard_cmp s z.greatest
+  combined_greatest : (s : Received) → (s ∈ X) ⊎ (s ∈ Y) → IsUpTo heard_cmp s z.greatest
   combined_greatest s h = elim c.greatest [
     | inl g ↦ rw g.0
         (elim h [
@@ -132,7 +124,7 @@ module _ (gap : ℕ) (X Y : List Heard) (x y z : Row) (mx : Makes gap X x) (my :
   }
 
 -- the greater of two receptions, and that it is
-pub the_greater : (a b : Heard)
+pub the_greater : (a b : Received)
     → ((greater a b ≡ a) × IsUpTo heard_cmp b a) ⊎ ((greater a b ≡ b) × IsUpTo heard_cmp a b)
 the_greater a b = by_case (heard_cmp a b) refl where
   by_case : (o : Ordering) → heard_cmp a b ≡ o
@@ -145,14 +137,14 @@ the_greater a b = by_case (heard_cmp a b) refl where
 -- of two rows of one key
 pub combined_key : (x y : Row) → row_key x ≡ row_key y → row_key (combine x y) ≡ row_key x
 combined_key x y e = elim (the_greater x.greatest y.greatest) [
-  | inl g ↦ ap (λ (s : Heard). key_of s.frame) g.0
-  | inr g ↦ ap (λ (s : Heard). key_of s.frame) g.0 ∙ sym e
+  | inl g ↦ ap (λ (s : Received). key_of s.frame) g.0
+  | inr g ↦ ap (λ (s : Received). key_of s.frame) g.0 ∙ sym e
 ]
 
 pub combined_last : (x y : Row) → last_of (combine x y) ≡ max (last_of x) (last_of y)
 combined_last x y = elim (the_greater x.greatest y.greatest) [
-  | inl g ↦ ap (λ (s : Heard). s.moment) g.0 ∙ above (moment_up_to y.greatest x.greatest g.1)
-  | inr g ↦ ap (λ (s : Heard). s.moment) g.0 ∙ below (moment_up_to x.greatest y.greatest g.1)
+  | inl g ↦ ap (λ (s : Received). s.moment) g.0 ∙ above (moment_up_to y.greatest x.greatest g.1)
+  | inr g ↦ ap (λ (s : Received). s.moment) g.0 ∙ below (moment_up_to x.greatest y.greatest g.1)
 ] where
   above : last_of y ≤ last_of x → last_of x ≡ max (last_of x) (last_of y)
   above l = omega arith
@@ -160,7 +152,7 @@ combined_last x y = elim (the_greater x.greatest y.greatest) [
   below : last_of x ≤ last_of y → last_of y ≡ max (last_of x) (last_of y)
   below l = omega arith
 
-pub combines : (gap : ℕ) (X Y : List Heard) (x y : Row) → row_key x ≡ row_key y → Makes gap X x
+pub combines : (gap : ℕ) (X Y : List Received) (x y : Row) → row_key x ≡ row_key y → Makes gap X x
     → Makes gap Y y → IsCombined x y (combine x y)
 combines gap X Y x y e mx my = record {
   key = combined_key x y e;
@@ -172,7 +164,7 @@ combines gap X Y x y e mx my = record {
 }
 
 pub place_means : (gap : ℕ) (x y : Row)
-    → MatchOrdering (place gap x y) (IsBefore gap x y) (IsNear gap x y) (IsBefore gap y x)
+    → MatchOrdering (compare_near gap x y) (IsBefore gap x y) (IsNear gap x y) (IsBefore gap y x)
 place_means gap x y =
     by_key (key_cmp (row_key x) (row_key y))
     (compared key_total key_exact (row_key x) (row_key y)) where

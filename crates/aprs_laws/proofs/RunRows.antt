@@ -1,6 +1,5 @@
 -- Runs and rows of one set belong together one by one.
-use Rattle.std.proofs.Common.{◌≡◌, ℕ, ◌<◌, List, [], ◌∷◌, ◌++◌, ◌↔◌, inl, sym, refl, ◌∙◌, subst, arith}
-use Rattle.aprs_log.specs.Reception.{Heard}
+use Rattle.aprs_laws.proofs.Common.{◌≡◌, ℕ, ◌<◌, List, [], ◌∷◌, ◌++◌, ◌↔◌, inl, sym, refl, ◌∙◌, subst, arith, Received}
 use Rattle.aprs_laws.specs.Lists.{◌∈◌}
 use Rattle.aprs_laws.specs.Key.{Key}
 use Rattle.aprs_laws.specs.Run.{Run}
@@ -14,7 +13,7 @@ use Rattle.aprs_laws.proofs.Soundness.{sound, witnessed}
 use Rattle.aprs_laws.proofs.Unions.{around, congruence}
 use Rattle.aprs_laws.proofs.Views.{a_row}
 
-pub one_row_each : (gap : ℕ) (S : List Heard) (rows : List Row) → BookOf gap S rows
+pub one_row_each : (gap : ℕ) (S : List Received) (rows : List Row) → BookOf gap S rows
     → HasOneRowEach gap S rows
 one_row_each gap S rows b =
     record { some = some; only = only; run = λ x h. ((b.exactly x).0 h).run } where
@@ -46,22 +45,22 @@ one_row_each gap S rows b =
 pub book_of_nothing : (gap : ℕ) → BookOf gap [] []
 book_of_nothing gap = book_of_keeps gap [] [] (record { made = λ s h. h; ordered = tt })
 
-pub empty_book : (gap : ℕ) (S : List Heard) → BookOf gap S [] ↔ (S ≡ [])
+pub empty_book : (gap : ℕ) (S : List Received) → BookOf gap S [] ↔ (S ≡ [])
 empty_book gap S = (
   λ b. none S b,
-  λ e. subst (λ (T : List Heard). BookOf gap T []) (sym e)
+  λ e. subst (λ (T : List Received). BookOf gap T []) (sym e)
       (book_of_nothing gap),
 ) where
-  none : (S : List Heard) → BookOf gap S [] → S ≡ []
+  none : (S : List Received) → BookOf gap S [] → S ≡ []
   none [] b = refl
   none (s ∷ S) b = absurd (a_row gap (s ∷ S) [] b s (inl refl)).1
 
 pub sound_exactly : (gap : ℕ) → 0 < gap → (p : List Row)
-    → Sound gap p ↔ ((S : List Heard) × BookOf gap S p)
+    → Sound gap p ↔ ((S : List Received) × BookOf gap S p)
 sound_exactly gap pos p = (λ s. (witnesses p, witnessed gap p pos s), λ t. sound gap t.0 p t.1)
 
 -- the book of a union depends on the books alone
-pub books_decide_union : (gap : ℕ) (S S' T T' : List Heard) (p q c : List Row) → BookOf gap S p
+pub books_decide_union : (gap : ℕ) (S S' T T' : List Received) (p q c : List Row) → BookOf gap S p
     → BookOf gap S' p → BookOf gap T q → BookOf gap T' q → BookOf gap (S ++ T) c
     → BookOf gap (S' ++ T') c
 books_decide_union gap S S' T T' p q c bs bs' bt bt' b =
@@ -70,7 +69,7 @@ books_decide_union gap S S' T T' p q c bs bs' bt bt' b =
     (book_carries gap (S' ++ T) (T ++ S') c (around S' T) (congruence gap S S' T p c bs bs' b)))
 
 -- and is the joined value of the books
-pub union_is_joined : (gap : ℕ) → 0 < gap → (S T : List Heard) (a b c : List Row) → BookOf gap S a
+pub union_is_joined : (gap : ℕ) → 0 < gap → (S T : List Received) (a b c : List Row) → BookOf gap S a
     → BookOf gap T b → BookOf gap (S ++ T) c ↔ BookOf gap (witnesses a ++ witnesses b) c
 union_is_joined gap pos S T a b c p q =
     let ra = witnessed gap a pos (sound gap S a p) in

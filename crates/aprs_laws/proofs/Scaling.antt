@@ -1,13 +1,6 @@
 -- Books in another unit of time.
-use Rattle.std.proofs.Common.{◌≡◌, ℕ, ◌+◌, ◌*◌, ◌/◌, ◌<◌, ◌≤◌, List, [], ◌∷◌, map, ◌⊎◌, ◌↔◌, inl, inr, refl, ap, ◌∙◌, subst, arith}
+use Rattle.aprs_laws.proofs.Common.{◌≡◌, ℕ, ◌+◌, ◌*◌, ◌/◌, ◌<◌, ◌≤◌, List, [], ◌∷◌, map, ◌⊎◌, ◌↔◌, inl, inr, refl, ap, ◌∙◌, subst, arith, nat_cmp_is, nat_cmp, ordering_then, is_gt, MatchOrdering, Ordering, Less, Equal, Greater, nat_tests, exact_unsigned, Received, bytes_cmp, heard_cmp}
 use Rattle.std.proofs.Math.Nat.{add-mul, mul-le-mul_right, mul-lt-mul_of_pos_right, div-mul-le_self, lt-div-mul-add, le-div_iff_mul-le, div-lt_iff_lt-mul, eq_of_mul-eq-mul_right, lt_of_mul-lt-mul_right}
-use Rattle.std.specs.Cmp.{nat_cmp_is}
-use Rattle.std.specs.Ordering.{nat_cmp, ordering_then, is_gt, MatchOrdering}
-use Rattle.std.specs.declared.cmp.Ordering.{Ordering}
-use Rattle.std.specs.declared.cmp.Ordering.TheVariants.{Less, Equal, Greater}
-use Rattle.std.proofs.lemmas.Bool.Decides.{nat_tests}
-use Rattle.std.proofs.lemmas.Map.Lookups.{exact_unsigned}
-use Rattle.aprs_log.specs.Reception.{Heard, bytes_cmp, heard_cmp}
 use Rattle.aprs_laws.specs.Lists.{◌∈◌, Ordered}
 use Rattle.aprs_laws.specs.Order.{IsUpTo}
 use Rattle.aprs_laws.specs.Row.{Row, last_of, IsOf}
@@ -29,7 +22,7 @@ scaled_cmp a b k pos = nat_cmp_is a b (nat_cmp (a * k) (b * k))
       by_case Equal h = eq_of_mul-eq-mul_right k pos a b (exact_unsigned (a * k) (b * k) h)
       by_case Greater h = lt_of_mul-lt-mul_right k (grind (arith, nat_tests))
 
-scaled_heard_cmp : (k : ℕ) (s t : Heard) → 0 < k
+scaled_heard_cmp : (k : ℕ) (s t : Received) → 0 < k
     → heard_cmp (scaled_heard k s) (scaled_heard k t) ≡ heard_cmp s t
 scaled_heard_cmp k s t pos =
     ap
@@ -37,20 +30,20 @@ scaled_heard_cmp k s t pos =
     (ordering_then (bytes_cmp s.receiver t.receiver) (bytes_cmp s.frame t.frame)))
     (scaled_cmp s.moment t.moment k pos)
 
-scaled_up_to : (k : ℕ) (s t : Heard) → 0 < k → IsUpTo heard_cmp s t
+scaled_up_to : (k : ℕ) (s t : Received) → 0 < k → IsUpTo heard_cmp s t
     → IsUpTo heard_cmp (scaled_heard k s) (scaled_heard k t)
 scaled_up_to k s t pos u = ap is_gt (scaled_heard_cmp k s t pos) ∙ u
 
 module _ (k gap : ℕ) (pos : 0 < k) where
   -- each member of a scaled list is a scaled member
-  of_each : (P : Heard → Type 0) (X : List Heard) → ((s : Heard) → s ∈ X → P (scaled_heard k s))
-      → (t : Heard) → t ∈ map (scaled_heard k) X → P t
+  of_each : (P : Received → Type 0) (X : List Received) → ((s : Received) → s ∈ X → P (scaled_heard k s))
+      → (t : Received) → t ∈ map (scaled_heard k) X → P t
   of_each P X f t h = let u = from_map (scaled_heard k) t X h in subst P u.2 (f u.0 u.1)
 
   -- a moment between two moments of the old unit: the last one of these that isn't after it
-  scaled_linked : (X : List Heard) (x : Row) → Makes gap X x → (n : ℕ) → x.first * k ≤ n
+  scaled_linked : (X : List Received) (x : Row) → Makes gap X x → (n : ℕ) → x.first * k ≤ n
       → n < last_of x * k
-      → (s : Heard) × (s ∈ map (scaled_heard k) X) × (n < s.moment) × (s.moment ≤ n + gap * k)
+      → (s : Received) × (s ∈ map (scaled_heard k) X) × (n < s.moment) × (s.moment ≤ n + gap * k)
   scaled_linked X x m n l u =
       let t = m.linked (n / k) ((le-div_iff_mul-le pos).1 l)
       ((div-lt_iff_lt-mul pos).1 u) in
@@ -73,7 +66,7 @@ module _ (k gap : ℕ) (pos : 0 < k) where
         within : (a c m b : ℕ) → a ≤ m → b ≤ a + c → b ≤ m + c
         within a c m b h g = omega arith
 
-  scaled_makes : (X : List Heard) (x : Row) → Makes gap X x
+  scaled_makes : (X : List Received) (x : Row) → Makes gap X x
       → Makes (gap * k) (map (scaled_heard k) X) (scaled_row k x)
   scaled_makes X x m = record {
     own = of_each (λ t. IsOf (scaled_row k x) t) X
@@ -91,14 +84,14 @@ module _ (k gap : ℕ) (pos : 0 < k) where
       λ h. let t = (m.receivers r).0 h in
           (scaled_heard k t.0, in_map (scaled_heard k) t.0 X t.1, t.2),
       λ t. let u = from_map (scaled_heard k) t.0 X t.1 in
-          (m.receivers r).1 (u.0, u.1, ap (λ (s : Heard). s.receiver) u.2 ∙ t.2),
+          (m.receivers r).1 (u.0, u.1, ap (λ (s : Received). s.receiver) u.2 ∙ t.2),
     );
     member = in_map (scaled_heard k) x.greatest X m.member;
     greatest = of_each (λ t. IsUpTo heard_cmp t (scaled_heard k x.greatest)) X
         (λ s h. scaled_up_to k s x.greatest pos (m.greatest s h));
   }
 
-  scaled_union : (S X T : List Heard) → IsUnion S X T
+  scaled_union : (S X T : List Received) → IsUnion S X T
       → IsUnion (map (scaled_heard k) S) (map (scaled_heard k) X) (map (scaled_heard k) T)
   scaled_union S X T u t = (
     λ h. of_each (λ t. (t ∈ map (scaled_heard k) X) ⊎ (t ∈ map (scaled_heard k) T)) S
@@ -114,7 +107,7 @@ module _ (k gap : ℕ) (pos : 0 < k) where
     ],
   )
 
-  scaled_made : (S : List Heard) (rows : List Row) → Made gap S rows
+  scaled_made : (S : List Received) (rows : List Row) → Made gap S rows
       → Made (gap * k) (map (scaled_heard k) S) (scaled_rows k rows)
   scaled_made S [] m =
       λ t h. let u = from_map (scaled_heard k) t S h in m u.0 u.1
@@ -146,7 +139,7 @@ module _ (k gap : ℕ) (pos : 0 < k) where
     scaled_ordered xs o.1,
   )
 
-  pub scaled_book : (S : List Heard) (rows : List Row) → BookOf gap S rows
+  pub scaled_book : (S : List Received) (rows : List Row) → BookOf gap S rows
       → BookOf (gap * k) (map (scaled_heard k) S) (scaled_rows k rows)
   scaled_book S rows b =
       let w = keeps_of_book gap S rows b in
@@ -155,13 +148,13 @@ module _ (k gap : ℕ) (pos : 0 < k) where
 
   -- ---- and back, since no two moments scale to one
 
-  one_heard : (s t : Heard) → scaled_heard k s ≡ scaled_heard k t → s ≡ t
+  one_heard : (s t : Received) → scaled_heard k s ≡ scaled_heard k t → s ≡ t
   one_heard s t e =
-      let m = eq_of_mul-eq-mul_right k pos s.moment t.moment (ap (λ (u : Heard). u.moment) e) in
+      let m = eq_of_mul-eq-mul_right k pos s.moment t.moment (ap (λ (u : Received). u.moment) e) in
       λ i. record {
         moment = m i;
-        receiver = ap (λ (u : Heard). u.receiver) e i;
-        frame = ap (λ (u : Heard). u.frame) e i;
+        receiver = ap (λ (u : Received). u.receiver) e i;
+        frame = ap (λ (u : Received). u.frame) e i;
       }
 
   one_row : (x y : Row) → scaled_row k x ≡ scaled_row k y → x ≡ y
@@ -188,7 +181,7 @@ module _ (k gap : ℕ) (pos : 0 < k) where
       let t = one_scaled xs ys (ap tail e) in
       ap (λ z. z ∷ xs) h ∙ ap (λ zs. y ∷ zs) t
 
-pub scales_book : (k gap : ℕ) (S : List Heard) (rows : List Row) → 0 < k
+pub scales_book : (k gap : ℕ) (S : List Received) (rows : List Row) → 0 < k
     → BookOf gap S rows ↔ BookOf (gap * k) (map (scaled_heard k) S) (scaled_rows k rows)
 scales_book k gap S rows pos = (
   scaled_book k gap pos S rows,

@@ -1,11 +1,5 @@
 -- Sound rows are what some set has; two sets with one book add alike; joining books.
-use Rattle.std.proofs.Common.{◌≡◌, ℕ, zero, suc, ◌+◌, ◌-◌, ◌<◌, ◌≤◌, List, [], ◌∷◌, map, inl, inr, refl, ap, subst, arith}
-use Rattle.std.proofs.lemmas.Bool.{cases_lt}
-use Rattle.std.proofs.lemmas.Cmp.{tied_itself}
-use Rattle.std.specs.Ordering.{nat_cmp, ordering_then, is_gt}
-use Rattle.std.specs.declared.cmp.Ordering.{Ordering}
-use Rattle.std.specs.declared.cmp.Ordering.TheVariants.{Less, Equal, Greater}
-use Rattle.aprs_log.specs.Reception.{Heard, bytes_cmp, heard_cmp}
+use Rattle.aprs_laws.proofs.Common.{◌≡◌, ℕ, zero, suc, ◌+◌, ◌-◌, ◌<◌, ◌≤◌, List, [], ◌∷◌, map, inl, inr, refl, ap, subst, arith, cases_lt, tied_itself, nat_cmp, ordering_then, is_gt, Ordering, Less, Equal, Greater, Received, bytes_cmp, heard_cmp}
 use Rattle.aprs_laws.specs.Lists.{◌∈◌, Ordered}
 use Rattle.aprs_laws.specs.Order.{IsBelow, IsUpTo}
 use Rattle.aprs_laws.specs.Key.{Key, key_cmp}
@@ -22,7 +16,7 @@ use Rattle.aprs_laws.proofs.Books.{book_of_keeps, keeps_of_book}
 
 -- the sound rows of a book
 
-pub sound_row : (gap : ℕ) (X : List Heard) (x : Row) → Makes gap X x → IsSoundRow x
+pub sound_row : (gap : ℕ) (X : List Received) (x : Row) → Makes gap X x → IsSoundRow x
 sound_row gap X x m = record {
   in_order = span gap X x m;
   ascending = m.ascending;
@@ -34,7 +28,7 @@ sound_row gap X x m = record {
       (receiver_up_to t.0 x.greatest (omega (arith, e, i.from, i.to)) (m.greatest t.0 t.1));
 }
 
-pub sound_of_keeps : (gap : ℕ) (S : List Heard) (rows : List Row) → Keeps gap S rows
+pub sound_of_keeps : (gap : ℕ) (S : List Received) (rows : List Row) → Keeps gap S rows
     → Sound gap rows
 sound_of_keeps gap S rows k = record {
   ascending = (book_of_keeps gap S rows k).ascending;
@@ -77,9 +71,9 @@ module _ (gap : ℕ) (x : Row) (w : IsSoundRow x) (pos : 0 < gap) where
       (map (witness_by x) x.receivers) (in_map (witness_by x) r x.receivers h)
 
   -- each witness is one of these
-  pub from_witness : (P : Heard → Type 0) → ((m : ℕ) → x.first ≤ m → m ≤ last_of x
+  pub from_witness : (P : Received → Type 0) → ((m : ℕ) → x.first ≤ m → m ≤ last_of x
       → P (witness_at x m))
-      → ((r : List ℕ) → r ∈ x.receivers → P (witness_by x r)) → (s : Heard) → s ∈ witnesses_of_row x
+      → ((r : List ℕ) → r ∈ x.receivers → P (witness_by x r)) → (s : Received) → s ∈ witnesses_of_row x
       → P s
   from_witness P f g s h =
       elim
@@ -91,7 +85,7 @@ module _ (gap : ℕ) (x : Row) (w : IsSoundRow x) (pos : 0 < gap) where
         | inr k ↦ let t = from_map (witness_by x) s x.receivers k in subst P t.2 (g t.0 t.1)
       ]
 
-  greatest_witness : (s : Heard) → s ∈ witnesses_of_row x → IsUpTo heard_cmp s x.greatest
+  greatest_witness : (s : Received) → s ∈ witnesses_of_row x → IsUpTo heard_cmp s x.greatest
   greatest_witness = from_witness (λ s. IsUpTo heard_cmp s x.greatest)
       (λ m l u. elim (cases_lt m (last_of x)) [
         | inl c ↦ up_to_moment (witness_at x m) x.greatest (omega arith)
@@ -164,11 +158,11 @@ witnesses_keep gap pos rows w = record {
       (both (IsBelow row_cmp) (IsFar gap) rows w.ascending w.apart);
 }
 
-pub sound : (gap : ℕ) (S : List Heard) (p : List Row) → BookOf gap S p → Sound gap p
+pub sound : (gap : ℕ) (S : List Received) (p : List Row) → BookOf gap S p → Sound gap p
 sound gap S p b = sound_of_keeps gap S p (keeps_of_book gap S p b)
 
 pub witnessed : (gap : ℕ) (p : List Row) → 0 < gap → Sound gap p → BookOf gap (witnesses p) p
 witnessed gap p pos w = book_of_keeps gap (witnesses p) p (witnesses_keep gap pos p w)
 
-pub exists : (gap : ℕ) (S : List Heard) → (p : List Row) × BookOf gap S p
+pub exists : (gap : ℕ) (S : List Received) → (p : List Row) × BookOf gap S p
 exists gap S = (plain_book gap S, book_of_keeps gap S (plain_book gap S) (keeps_book gap S))

@@ -1,6 +1,5 @@
 -- From when to when something was heard, by the rows of a book.
-use Rattle.std.proofs.Common.{◌≡◌, ℕ, List, ◌↔◌, sym, subst, arith}
-use Rattle.aprs_log.specs.Reception.{Heard}
+use Rattle.aprs_laws.proofs.Common.{◌≡◌, ℕ, List, ◌↔◌, sym, subst, arith, Received}
 use Rattle.aprs_laws.specs.Lists.{◌∈◌}
 use Rattle.aprs_laws.specs.Key.{Key, key_of}
 use Rattle.aprs_laws.specs.Row.{Row, row_key, last_of}
@@ -8,16 +7,16 @@ use Rattle.aprs_laws.specs.Book.{BookOf}
 use Rattle.aprs_laws.specs.Spans.{IsFirstMoment, IsLastMoment, IsLeastFirst, IsGreatestLast}
 use Rattle.aprs_laws.proofs.Views.{a_row}
 
-module _ (gap : ℕ) (S : List Heard) (rows : List Row) (P : Key → Type 0) (b : BookOf gap S rows)
+module _ (gap : ℕ) (S : List Received) (rows : List Row) (P : Key → Type 0) (b : BookOf gap S rows)
   where
     -- a reception at the first moment of a row
     at_first : (x : Row) → x ∈ rows → P (row_key x)
-        → (s : Heard) × (s ∈ S) × P (key_of s.frame) × (s.moment ≡ x.first)
+        → (s : Received) × (s ∈ S) × P (key_of s.frame) × (s.moment ≡ x.first)
     at_first x h k = let t = ((b.exactly x).0 h).run.at_first in
         (t.0, t.1, subst P (sym t.2) k, t.3)
 
     at_last : (x : Row) → x ∈ rows → P (row_key x)
-        → (s : Heard) × (s ∈ S) × P (key_of s.frame) × (s.moment ≡ last_of x)
+        → (s : Received) × (s ∈ S) × P (key_of s.frame) × (s.moment ≡ last_of x)
     at_last x h k = let t = ((b.exactly x).0 h).run.at_last in (t.0, t.1, subst P (sym t.2) k, t.3)
 
     first_shown : (m : ℕ) → IsFirstMoment S P m → IsLeastFirst rows P m

@@ -1,17 +1,12 @@
 -- Merging in one pass: rows that come by key and first moment, from any number of books, join only
 -- the last one so far.
-use Rattle.std.proofs.Common.{◌≡◌, ℕ, ◌≤◌, min, List, [], ◌∷◌, ◌++◌, ◌↔◌, inl, inr, sym, refl, ap, ◌∙◌, subst, arith, false}
-use Rattle.std.proofs.lemmas.Bool.Decides.{nat_tests}
-use Rattle.std.specs.Ordering.{nat_cmp, ordering_then, ordering_reverse, is_gt}
-use Rattle.std.specs.declared.cmp.Ordering.{Ordering}
-use Rattle.std.specs.declared.cmp.Ordering.TheVariants.{Less, Equal, Greater}
-use Rattle.aprs_log.specs.Reception.{Heard}
+use Rattle.aprs_laws.proofs.Common.{◌≡◌, ℕ, ◌≤◌, min, List, [], ◌∷◌, ◌++◌, ◌↔◌, inl, inr, sym, refl, ap, ◌∙◌, subst, arith, false, nat_tests, nat_cmp, ordering_then, ordering_reverse, is_gt, Ordering, Less, Equal, Greater, Received}
 use Rattle.aprs_laws.specs.Lists.{◌∈◌, Ordered}
 use Rattle.aprs_laws.specs.Order.{IsUpTo}
 use Rattle.aprs_laws.specs.Key.{Key, key_cmp}
 use Rattle.aprs_laws.specs.Row.{Row, row_key, row_cmp}
 use Rattle.aprs_laws.specs.Witnesses.{witnesses_of_row, witnesses}
-use Rattle.aprs_laws.specs.JoinRow.{combine, place, coalesce}
+use Rattle.aprs_laws.specs.JoinRow.{combine, compare_near, coalesce}
 use Rattle.aprs_laws.proofs.Lists.{in_left, in_right, in_either}
 use Rattle.aprs_laws.proofs.Choices.{by_choice}
 use Rattle.aprs_laws.proofs.Rows.{Makes, IsBefore, combined, combined_key, combines, place_means, before_combined}
@@ -20,7 +15,7 @@ use Rattle.aprs_laws.proofs.Books.{below, row_total}
 use Rattle.aprs_laws.proofs.Parts.{before_up_to}
 
 -- U = L + (X + T) is (L + X) + T
-joined_left : (U L X T W : List Heard) → IsUnion U L W → IsUnion W X T → IsUnion U (L ++ X) T
+joined_left : (U L X T W : List Received) → IsUnion U L W → IsUnion W X T → IsUnion U (L ++ X) T
 joined_left U L X T W u v s = (
   λ h. elim
       ((u s).0 h) [
@@ -39,11 +34,11 @@ joined_left U L X T W u v s = (
   ],
 )
 
-pub made_coalesce : (gap : ℕ) (U L T : List Heard) (l : Row) (xs : List Row) → IsUnion U L T
+pub made_coalesce : (gap : ℕ) (U L T : List Received) (l : Row) (xs : List Row) → IsUnion U L T
     → Makes gap L l → Made gap T xs → Made gap U (coalesce gap l xs)
 made_coalesce gap U L T l [] u ml m = (L, T, u, ml, m)
 made_coalesce gap U L T l (x ∷ xs) u ml m =
-    by_choice (λ (rows : List Row). Made gap U rows) _ _ _ _ _ _ (place gap l x)
+    by_choice (λ (rows : List Row). Made gap U rows) _ _ _ _ _ _ (compare_near gap l x)
     (place_means gap l x)
     (λ _. (L, T, u, ml, made_coalesce gap T m.0 m.1 x xs m.2 m.3 m.4))
     (λ n. made_coalesce gap U (L ++ m.0) m.1 (combine l x) xs (joined_left U L m.0 m.1 T u m.2)
@@ -70,14 +65,14 @@ combined_up_to l x y e u =
       by_case Equal a b c u = up (min a b) c (let n = down a c u in omega arith)
       by_case Greater a b c u = u
 
-pub before_coalesce : (gap : ℕ) (L T : List Heard) (w l : Row) (xs : List Row) → Makes gap L l
+pub before_coalesce : (gap : ℕ) (L T : List Received) (w l : Row) (xs : List Row) → Makes gap L l
     → Made gap T xs → IsBefore gap w l → ((y : Row) → y ∈ xs → IsUpTo row_cmp l y)
     → Ordered (IsUpTo row_cmp) xs → (y : Row) → y ∈ coalesce gap l xs → IsBefore gap w y
 before_coalesce gap L T w l [] ml m b f o =
     λ y i. elim i [ inl e ↦ subst (λ (z : Row). IsBefore gap w z) e b | inr k ↦ absurd k ]
 before_coalesce gap L T w l (x ∷ xs) ml m b f o =
     by_choice (λ (rows : List Row). (y : Row) → y ∈ rows → IsBefore gap w y) _ _ _ _ _ _
-    (place gap l x) (place_means gap l x)
+    (compare_near gap l x) (place_means gap l x)
     (λ _. λ y i. elim i [
       | inl e ↦ subst
           (λ (z : Row). IsBefore gap w z) e b
@@ -96,12 +91,12 @@ before_coalesce gap L T w l (x ∷ xs) ml m b f o =
           (before_up_to gap w l x (f x (inl refl)) b) o.0 o.1 y k
     ])
 
-pub ordered_coalesce : (gap : ℕ) (L T : List Heard) (l : Row) (xs : List Row) → Makes gap L l
+pub ordered_coalesce : (gap : ℕ) (L T : List Received) (l : Row) (xs : List Row) → Makes gap L l
     → Made gap T xs → ((y : Row) → y ∈ xs → IsUpTo row_cmp l y) → Ordered (IsUpTo row_cmp) xs
     → Ordered (IsBefore gap) (coalesce gap l xs)
 ordered_coalesce gap L T l [] ml m f o = (λ y h. absurd h, tt)
 ordered_coalesce gap L T l (x ∷ xs) ml m f o =
-    by_choice (λ (rows : List Row). Ordered (IsBefore gap) rows) _ _ _ _ _ _ (place gap l x)
+    by_choice (λ (rows : List Row). Ordered (IsBefore gap) rows) _ _ _ _ _ _ (compare_near gap l x)
     (place_means gap l x)
     (λ b. (
       before_coalesce gap m.0 m.1 l x xs m.3 m.4 b o.0 o.1,
@@ -120,7 +115,7 @@ ordered_coalesce gap L T l (x ∷ xs) ml m f o =
             u,
           )
 
-pub in_witnesses : (rows : List Row) (s : Heard)
+pub in_witnesses : (rows : List Row) (s : Received)
     → (s ∈ witnesses rows) ↔ ((x : Row) × (x ∈ rows) × (s ∈ witnesses_of_row x))
 in_witnesses [] s = (λ h. absurd h, λ t. t.1)
 in_witnesses (x ∷ xs) s = (

@@ -1,6 +1,5 @@
 -- The book of two sets; two sets with one book add alike; joining books.
-use Rattle.std.proofs.Common.{◌≡◌, ℕ, ◌<◌, List, ◌++◌, ◌↔◌, inl, inr, sym, subst}
-use Rattle.aprs_log.specs.Reception.{Heard}
+use Rattle.aprs_laws.proofs.Common.{◌≡◌, ℕ, ◌<◌, List, ◌++◌, ◌↔◌, inl, inr, sym, subst, Received}
 use Rattle.aprs_laws.specs.Lists.{◌∈◌}
 use Rattle.aprs_laws.specs.Row.{Row}
 use Rattle.aprs_laws.specs.Book.{BookOf}
@@ -14,14 +13,14 @@ use Rattle.aprs_laws.proofs.Soundness.{witnessed, sound, exists}
 use Rattle.aprs_laws.proofs.Books.{book_of_keeps, book_carries, one_book, unique, keeps_of_book}
 
 -- the book of S and the book of T merge to that of both
-pub merged : (gap : ℕ) (S T : List Heard) (p q : List Row) → BookOf gap S p → BookOf gap T q
+pub merged : (gap : ℕ) (S T : List Received) (p q : List Row) → BookOf gap S p → BookOf gap T q
     → BookOf gap (S ++ T) (merge gap p q)
 merged gap S T p q b c =
     book_of_keeps gap (S ++ T) (merge gap p q)
     (keeps_merge gap (S ++ T) S T p q (appended S T) (keeps_of_book gap S p b)
     (keeps_of_book gap T q c).made)
 
-pub congruence : (gap : ℕ) (S T U : List Heard) (x p : List Row) → BookOf gap S x → BookOf gap T x
+pub congruence : (gap : ℕ) (S T U : List Received) (x p : List Row) → BookOf gap S x → BookOf gap T x
     → BookOf gap (S ++ U) p → BookOf gap (T ++ U) p
 congruence gap S T U x p b c d =
     let u = exists gap U in
@@ -29,7 +28,7 @@ congruence gap S T U x p b c d =
     (one_book gap (S ++ U) (merge gap x u.0) p (merged gap S U x u.0 b u.1) d)
     (merged gap T U x u.0 c u.1)
 
-pub around : (S T : List Heard) (s : Heard) → (s ∈ (S ++ T)) ↔ (s ∈ (T ++ S))
+pub around : (S T : List Received) (s : Received) → (s ∈ (S ++ T)) ↔ (s ∈ (T ++ S))
 around S T s = (
   λ h. elim (in_either s S T h) [ inl k ↦ in_right s T S k | inr k ↦ in_left s T S k ],
   λ h. elim
@@ -67,7 +66,7 @@ associative gap a b c x y p q pos abx xcp bcy ayq =
     congruence gap (witnesses y) (B ++ C) A y q (witnessed gap y pos (sound gap (B ++ C) y bcy)) bcy
     (commutative gap a y q ayq) in
     unique gap ((A ++ B) ++ C) ((B ++ C) ++ A) p q (λ s. cycle A B C s) f g where
-      cycle : (A B C : List Heard) (s : Heard) → (s ∈ ((A ++ B) ++ C)) ↔ (s ∈ ((B ++ C) ++ A))
+      cycle : (A B C : List Received) (s : Received) → (s ∈ ((A ++ B) ++ C)) ↔ (s ∈ ((B ++ C) ++ A))
       cycle A B C s = (
         λ h. elim (in_either s (A ++ B) C h) [
           | inl k ↦ elim

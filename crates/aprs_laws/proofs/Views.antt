@@ -1,8 +1,6 @@
 -- What follows of a set from its book: one more reception; the greatest reception whose key has a
 -- property.
-use Rattle.std.proofs.Common.{ℕ, ◌<◌, List, [], ◌∷◌, inl, inr, sym, subst}
-use Rattle.std.proofs.lemmas.Cmp.{upto}
-use Rattle.aprs_log.specs.Reception.{Heard, heard_cmp}
+use Rattle.aprs_laws.proofs.Common.{ℕ, ◌<◌, List, [], ◌∷◌, inl, inr, sym, subst, upto, Received, heard_cmp}
 use Rattle.aprs_laws.specs.Lists.{◌∈◌}
 use Rattle.aprs_laws.specs.Order.{IsUpTo}
 use Rattle.aprs_laws.specs.Key.{Key, key_of}
@@ -20,7 +18,7 @@ use Rattle.aprs_laws.proofs.Soundness.{witnessed}
 use Rattle.aprs_laws.proofs.Unions.{merged}
 
 -- one more reception
-pub taken_first : (gap : ℕ) (S : List Heard) (s : Heard) (p : List Row) → BookOf gap S p
+pub taken_first : (gap : ℕ) (S : List Received) (s : Received) (p : List Row) → BookOf gap S p
     → BookOf gap (s ∷ S) (join_row gap p (single s))
 taken_first gap S s p b = book_of_keeps gap (s ∷ S) (join_row gap p (single s))
     (keeps_join gap (s ∷ S) S (s ∷ []) p (single s)
@@ -35,13 +33,13 @@ taken_first gap S s p b = book_of_keeps gap (s ∷ S) (join_row gap p (single s)
     (keeps_of_book gap S p b) (makes_single gap s))
 
 -- each reception of S is of a row of its book
-pub a_row : (gap : ℕ) (S : List Heard) (p : List Row) → BookOf gap S p → (s : Heard) → s ∈ S
+pub a_row : (gap : ℕ) (S : List Received) (p : List Row) → BookOf gap S p → (s : Received) → s ∈ S
     → (x : Row) × (x ∈ p) × IsOf x s × RowOf gap S x
 a_row gap S p b s h =
     let t =
     row_of gap S p (keeps_of_book gap S p b).made s h in (t.0, t.1, t.2, (b.exactly t.0).0 t.1)
 
-pub best_of_rows : (gap : ℕ) (S : List Heard) (p : List Row) (P : Key → Type 0) → BookOf gap S p
+pub best_of_rows : (gap : ℕ) (S : List Received) (p : List Row) (P : Key → Type 0) → BookOf gap S p
     → (x : Row) → x ∈ p → P (row_key x)
     → ((y : Row) → y ∈ p → P (row_key y) → IsUpTo heard_cmp y.greatest x.greatest)
     → IsBest S P x.greatest
@@ -54,8 +52,8 @@ best_of_rows gap S p P b x h q up = let r = (b.exactly x).0 h in record {
       (up t.0 t.1 (subst P t.2.key k));
 }
 
-pub none_of_rows : (gap : ℕ) (S : List Heard) (p : List Row) (P : Key → Type 0) → BookOf gap S p
-    → ((y : Row) → y ∈ p → P (row_key y) → ⊥) → (s : Heard) → s ∈ S → P (key_of s.frame) → ⊥
+pub none_of_rows : (gap : ℕ) (S : List Received) (p : List Row) (P : Key → Type 0) → BookOf gap S p
+    → ((y : Row) → y ∈ p → P (row_key y) → ⊥) → (s : Received) → s ∈ S → P (key_of s.frame) → ⊥
 none_of_rows gap S p P b f s m k = let t = a_row gap S p b s m in f t.0 t.1 (subst P t.2.key k)
 
 -- merging sound rows gives the joined value

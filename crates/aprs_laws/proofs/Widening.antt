@@ -1,7 +1,5 @@
 -- Books under another gap.
-use Rattle.std.proofs.Common.{◌≡◌, ℕ, ◌<◌, ◌≤◌, List, [], ◌∷◌, ◌++◌, ap, arith}
-use Rattle.std.specs.Ordering.{is_gt}
-use Rattle.aprs_log.specs.Reception.{Heard}
+use Rattle.aprs_laws.proofs.Common.{◌≡◌, ℕ, ◌<◌, ◌≤◌, List, [], ◌∷◌, ◌++◌, ap, arith, is_gt, Received}
 use Rattle.aprs_laws.specs.Lists.{SameMembers}
 use Rattle.aprs_laws.specs.Order.{IsBelow, IsUpTo}
 use Rattle.aprs_laws.specs.Row.{Row, row_cmp}
@@ -21,7 +19,7 @@ use Rattle.aprs_laws.proofs.Coalescing.{books_stand, coalesces_book, made_is_boo
 use Rattle.aprs_laws.proofs.RunRows.{union_is_joined}
 
 -- what is linked under a gap is linked under a greater one
-makes_wider : (g h : ℕ) (X : List Heard) (x : Row) → g ≤ h → Makes g X x → Makes h X x
+makes_wider : (g h : ℕ) (X : List Received) (x : Row) → g ≤ h → Makes g X x → Makes h X x
 makes_wider g h X x l m = record {
   own = m.own;
   at_first = m.at_first;
@@ -32,12 +30,12 @@ makes_wider g h X x l m = record {
   greatest = m.greatest;
 }
 
-made_wider : (g h : ℕ) (S : List Heard) (rows : List Row) → g ≤ h → Made g S rows → Made h S rows
+made_wider : (g h : ℕ) (S : List Received) (rows : List Row) → g ≤ h → Made g S rows → Made h S rows
 made_wider g h S [] l m = m
 made_wider g h S (x ∷ xs) l m =
     (m.0, m.1, m.2, makes_wider g h m.0 x l m.3, made_wider g h m.1 xs l m.4)
 
-pub widens_book : (g h : ℕ) (S : List Heard) (rows : List Row) → g ≤ h → BookOf g S rows
+pub widens_book : (g h : ℕ) (S : List Received) (rows : List Row) → g ≤ h → BookOf g S rows
     → BookOf h S (widened_rows h rows)
 widens_book g h S rows l b =
     made_is_book h S rows (made_wider g h S rows l (keeps_of_book g S rows b).made)

@@ -1,14 +1,12 @@
 -- Worked examples.
-use Rattle.std.proofs.Common.{◌≡◌, ℕ, ◌<◌, List, [], ◌∷◌, refl, sym, ap, ◌∙◌, subst, arith}
-use Rattle.std.specs.declared.cmp.Ordering.TheVariants.{Equal, Greater}
-use Rattle.aprs_log.specs.Reception.{Heard, bytes_cmp}
+use Rattle.aprs_laws.proofs.Common.{◌≡◌, ℕ, ◌<◌, List, [], ◌∷◌, refl, sym, ap, ◌∙◌, subst, arith, Equal, Greater, Received, bytes_cmp}
 use Rattle.aprs_laws.specs.Key.{key_of, key_cmp}
 use Rattle.aprs_laws.specs.Row.{Row}
 use Rattle.aprs_laws.specs.Book.{BookOf}
 use Rattle.aprs_laws.specs.Sound.{Sound}
 use Rattle.aprs_laws.specs.Joining.{Joined}
 use Rattle.aprs_laws.specs.JoinRow.{single, merge, plain_book}
-use Rattle.aprs_laws.specs.Examples.{hi_frame, hi_after_digipeater, hi_as_response, hi_key, rx1, rx2, heard, near_pair, near_row, far_pair, early_row, late_row, close_row, tied_pair, tied_row}
+use Rattle.aprs_laws.specs.Examples.{hi_frame, hi_after_digipeater, hi_as_response, hi_key, rx1, rx2, reception_at, near_pair, near_row, far_pair, early_row, late_row, close_row, tied_pair, tied_row}
 use Rattle.aprs_laws.proofs.Soundness.{sound}
 use Rattle.aprs_laws.proofs.TakenSteps.{plain_is_book}
 use Rattle.aprs_laws.proofs.Views.{joined_by_merge}
@@ -41,7 +39,7 @@ unfolding key_of key_cmp
 tied_plain = refl
 
 -- a computed book is the book
-book_by : (S : List Heard) (rows : List Row) → plain_book 30000 S ≡ rows → BookOf 30000 S rows
+book_by : (S : List Received) (rows : List Row) → plain_book 30000 S ≡ rows → BookOf 30000 S rows
 book_by S rows e = subst (λ (p : List Row). BookOf 30000 S p) e (plain_is_book 30000 S)
 
 pub near_book : BookOf 30000 near_pair (near_row ∷ [])
@@ -54,13 +52,13 @@ pub tied_book : BookOf 30000 tied_pair (tied_row ∷ [])
 tied_book = book_by tied_pair (tied_row ∷ []) tied_plain
 
 -- the book of one reception
-pub single_sound : (s : Heard) → Sound 30000 (single s ∷ [])
+pub single_sound : (s : Received) → Sound 30000 (single s ∷ [])
 single_sound s = sound 30000 (s ∷ []) (single s ∷ []) (plain_is_book 30000 (s ∷ []))
 
 gap_is_some : 0 < 30000
 gap_is_some = omega arith
 
-joined_singles : (s t : Heard) (rows : List Row)
+joined_singles : (s t : Received) (rows : List Row)
     → merge 30000 (single s ∷ []) (single t ∷ []) ≡ rows
     → Joined 30000 (single s ∷ []) (single t ∷ []) rows
 joined_singles s t rows e =
@@ -71,12 +69,12 @@ joined_singles s t rows e =
 pub joined_near : Joined 30000 (early_row ∷ []) (close_row ∷ []) (near_row ∷ [])
 unfolding key_of key_cmp
 joined_near =
-    joined_singles (heard 0 rx2 hi_after_digipeater) (heard 30000 rx1 hi_frame) (near_row ∷ []) refl
+    joined_singles (reception_at 0 rx2 hi_after_digipeater) (reception_at 30000 rx1 hi_frame) (near_row ∷ []) refl
 
 pub joined_far : Joined 30000 (early_row ∷ []) (late_row ∷ []) (early_row ∷ late_row ∷ [])
 unfolding key_of key_cmp
 joined_far =
-    joined_singles (heard 0 rx2 hi_after_digipeater) (heard 30001 rx1 hi_frame)
+    joined_singles (reception_at 0 rx2 hi_after_digipeater) (reception_at 30001 rx1 hi_frame)
     (early_row ∷ late_row ∷ []) refl
 
 pub other_receiver : rx2 ≡ rx1 → ⊥

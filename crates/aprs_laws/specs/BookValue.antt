@@ -1,6 +1,6 @@
 -- A book with its gap.
 use Rattle.std.specs.Prelude.{◌≡◌, ℕ, ◌≤◌, List, ◌++◌, ◌↔◌}
-use Rattle.aprs_log.specs.Reception.{Heard}
+use Rattle.aprs_log.specs.Reception.{Received}
 use Rattle.aprs_laws.specs.Gap.{IsGap, millis_of}
 use Rattle.aprs_laws.specs.Row.{Row}
 use Rattle.aprs_laws.specs.Book.{BookOf}
@@ -14,7 +14,7 @@ pub record BookValue : Type 0 where
   pub rows : List Row
 
 -- The rows are the book of S under the gap.
-abbrev pub Holds : List Heard → BookValue → Type 0
+abbrev pub Holds : List Received → BookValue → Type 0
 Holds S b = BookOf (millis_of b.gap) S b.rows
 
 -- A book that some set has: its gap is one that books have, and its rows are sound under it.
@@ -40,13 +40,13 @@ widened_to gap b = record { gap = gap; rows = widened_rows (millis_of gap) b.row
 -- Books of one gap: the union of what two hold has their joined book.
 abbrev pub UnionHasJoinedBook : Type 0
 UnionHasJoinedBook =
-    (S T : List Heard) (a b c : BookValue) → IsGap c.gap → a.gap ≡ c.gap → b.gap ≡ c.gap
+    (S T : List Received) (a b c : BookValue) → IsGap c.gap → a.gap ≡ c.gap → b.gap ≡ c.gap
     → Holds S a → Holds T b → Holds (S ++ T) c ↔ AreJoined a b c
 
 -- A book that is widened holds the same set.
 abbrev pub WidenedHolds : Type 0
 WidenedHolds =
-    (gap : ℕ) (S : List Heard) (b : BookValue) → b.gap ≤ gap → Holds S b
+    (gap : ℕ) (S : List Received) (b : BookValue) → b.gap ≤ gap → Holds S b
     → Holds S (widened_to gap b)
 
 -- The widened join of two books is the join of the widened books.

@@ -2,7 +2,7 @@
 -- of any books and of single receptions, in one list.
 use Rattle.std.specs.Prelude.{◌≡◌, ℕ, ◌<◌, ◌≤◌, ◌+◌, List, [], ◌∷◌, ◌++◌, ◌↔◌, map}
 use Rattle.std.specs.declared.cmp.Ordering.TheVariants.{Equal}
-use Rattle.aprs_log.specs.Reception.{Heard}
+use Rattle.aprs_log.specs.Reception.{Received}
 use Rattle.aprs_laws.specs.Lists.{◌∈◌, Ordered, SameMembers}
 use Rattle.aprs_laws.specs.Order.{IsUpTo}
 use Rattle.aprs_laws.specs.Row.{Row, row_key, last_of, row_cmp}
@@ -10,7 +10,7 @@ use Rattle.aprs_laws.specs.Book.{BookOf}
 use Rattle.aprs_laws.specs.Sound.{IsSoundRow, Sound}
 use Rattle.aprs_laws.specs.Witnesses.{witnesses}
 use Rattle.aprs_laws.specs.Joining.{Joined}
-use Rattle.aprs_laws.specs.JoinRow.{choose, single, combine, place, coalesced_rows}
+use Rattle.aprs_laws.specs.JoinRow.{choose, single, combine, compare_near, coalesced_rows}
 use Rattle.aprs_laws.specs.Widening.{widened_rows}
 
 -- Rows in the order of key and first moment; equal ones stand in any order.
@@ -18,7 +18,7 @@ abbrev pub AreInOrder : List Row → Type 0
 AreInOrder rows = Ordered (IsUpTo row_cmp) rows
 
 -- The rows stand for the set S: each is sound by itself, and the members of S are their witnesses.
-pub record StandFor (rows : List Row) (S : List Heard) : Type 0 where
+pub record StandFor (rows : List Row) (S : List Received) : Type 0 where
   pub each : (x : Row) → x ∈ rows → IsSoundRow x
   pub members : SameMembers (witnesses rows) S
 
@@ -26,7 +26,7 @@ pub record StandFor (rows : List Row) (S : List Heard) : Type 0 where
 abbrev pub append_or_join : ℕ → List Row → Row → List Row
 append_or_join gap [] r = r ∷ []
 append_or_join gap (l ∷ []) r =
-    choose (place gap l r) (l ∷ r ∷ []) (combine l r ∷ []) (l ∷ r ∷ [])
+    choose (compare_near gap l r) (l ∷ r ∷ []) (combine l r ∷ []) (l ∷ r ∷ [])
 append_or_join gap (l ∷ m ∷ rows) r = l ∷ append_or_join gap (m ∷ rows) r
 
 -- Rows in order that are sound each by itself coalesce to the book of their witnesses.
@@ -38,13 +38,13 @@ CoalescesWitnesses gap =
 -- Rows that stand for a set, put in order, coalesce to the book of that set.
 abbrev pub CoalescesBook : ℕ → Type 0
 CoalescesBook gap =
-    (S : List Heard) (told rows : List Row) → StandFor told S → SameMembers told rows
+    (S : List Received) (told rows : List Row) → StandFor told S → SameMembers told rows
     → AreInOrder rows
     → BookOf gap S (coalesced_rows gap rows)
 
 -- Receptions stand for themselves, each as a row of its own.
 abbrev pub SinglesStand : Type 0
-SinglesStand = (S : List Heard) → StandFor (map single S) S
+SinglesStand = (S : List Received) → StandFor (map single S) S
 
 -- The rows of a book stand for their witnesses.
 abbrev pub BooksStand : Type 0
@@ -53,12 +53,12 @@ BooksStand = (gap : ℕ) (rows : List Row) → Sound gap rows → StandFor rows 
 -- Rows that stand for two sets stand together for their union.
 abbrev pub UnionsStand : Type 0
 UnionsStand =
-    (p q : List Row) (S T : List Heard) → StandFor p S → StandFor q T → StandFor (p ++ q) (S ++ T)
+    (p q : List Row) (S T : List Received) → StandFor p S → StandFor q T → StandFor (p ++ q) (S ++ T)
 
 -- Receptions in order, each as a row of its own, coalesce to their book.
 abbrev pub CoalescesReceptions : ℕ → Type 0
 CoalescesReceptions gap =
-    (S : List Heard) → AreInOrder (map single S) → BookOf gap S (coalesced_rows gap (map single S))
+    (S : List Received) → AreInOrder (map single S) → BookOf gap S (coalesced_rows gap (map single S))
 
 -- The rows of two books, put in order, coalesce to their joined value.
 abbrev pub CoalescesJoined : ℕ → Type 0
@@ -85,4 +85,4 @@ abbrev pub JoinsLast : ℕ → Type 0
 JoinsLast gap =
     (rows done : List Row) (l x : Row) → coalesced_rows gap rows ≡ done ++ l ∷ []
     → AreInOrder (rows ++ x ∷ []) → IsSoundRow x
-    → (place gap l x ≡ Equal) ↔ ((row_key l ≡ row_key x) × (x.first ≤ last_of l + gap))
+    → (compare_near gap l x ≡ Equal) ↔ ((row_key l ≡ row_key x) × (x.first ≤ last_of l + gap))

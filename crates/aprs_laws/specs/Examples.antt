@@ -2,7 +2,7 @@
 use Rattle.std.specs.Prelude.{◌≡◌, ℕ, Bool, true, List, [], ◌∷◌, codes}
 use Rattle.aprs_ax25.specs.Callsign.{Call}
 pub use Rattle.aprs_log.specs.Examples.{hi_frame}
-use Rattle.aprs_log.specs.Reception.{Heard}
+use Rattle.aprs_log.specs.Reception.{Received}
 use Rattle.aprs_laws.specs.Key.{Key}
 use Rattle.aprs_laws.specs.Row.{Row}
 use Rattle.aprs_laws.specs.BookValue.{BookValue}
@@ -51,73 +51,73 @@ abbrev pub rx2 : List ℕ
 rx2 = codes "RX2"
 
 -- A reception of these parts.
-abbrev pub heard : ℕ → List ℕ → List ℕ → Heard
-heard moment receiver frame = record { moment = moment; receiver = receiver; frame = frame }
+abbrev pub reception_at : ℕ → List ℕ → List ℕ → Received
+reception_at moment receiver frame = record { moment = moment; receiver = receiver; frame = frame }
 
 -- A row of these parts.
-abbrev pub row_of : ℕ → List (List ℕ) → Heard → Row
-row_of first receivers greatest =
+abbrev pub example_row : ℕ → List (List ℕ) → Received → Row
+example_row first receivers greatest =
     record { first = first; receivers = receivers; greatest = greatest }
 
--- Heard by RX1 at a moment.
-abbrev pub by_rx1 : ℕ → Heard
-by_rx1 moment = heard moment rx1 hi_frame
+-- Received by RX1 at a moment.
+abbrev pub by_rx1 : ℕ → Received
+by_rx1 moment = reception_at moment rx1 hi_frame
 
--- Heard by RX2 through a digipeater, at moment 0.
-abbrev pub early : Heard
-early = heard 0 rx2 hi_after_digipeater
+-- Received by RX2 through a digipeater, at moment 0.
+abbrev pub early : Received
+early = reception_at 0 rx2 hi_after_digipeater
 
 -- The standard gap, in milliseconds.
 abbrev pub half_minute : ℕ
 half_minute = 30000
 
 -- Two receptions 30 seconds apart.
-abbrev pub near_pair : List Heard
+abbrev pub near_pair : List Received
 near_pair = by_rx1 30000 ∷ early ∷ []
 
 -- The row of `near_pair`.
 abbrev pub near_row : Row
-near_row = row_of 0 (rx1 ∷ rx2 ∷ []) (by_rx1 30000)
+near_row = example_row 0 (rx1 ∷ rx2 ∷ []) (by_rx1 30000)
 
 -- Two receptions 30,001 milliseconds apart.
-abbrev pub far_pair : List Heard
+abbrev pub far_pair : List Received
 far_pair = by_rx1 30001 ∷ early ∷ []
 
 -- The row of the earlier reception of `far_pair`.
 abbrev pub early_row : Row
-early_row = row_of 0 (rx2 ∷ []) early
+early_row = example_row 0 (rx2 ∷ []) early
 
 -- The row of the later reception of `far_pair`.
 abbrev pub late_row : Row
-late_row = row_of 30001 (rx1 ∷ []) (by_rx1 30001)
+late_row = example_row 30001 (rx1 ∷ []) (by_rx1 30001)
 
 -- The rows `early_row` and `late_row` as a book under a gap in seconds. They are near from 31 on.
 abbrev pub book_under : ℕ → BookValue
 book_under gap = record { gap = gap; rows = early_row ∷ late_row ∷ [] }
 
 -- Two receptions at one moment.
-abbrev pub tied_pair : List Heard
+abbrev pub tied_pair : List Received
 tied_pair = by_rx1 0 ∷ early ∷ []
 
 -- The row of `tied_pair`.
 abbrev pub tied_row : Row
-tied_row = row_of 0 (rx1 ∷ rx2 ∷ []) early
+tied_row = example_row 0 (rx1 ∷ rx2 ∷ []) early
 
 -- By two receivers in two milliseconds, where the last reception is by the lesser receiver.
 abbrev pub short_row : Row
-short_row = row_of 0 (rx1 ∷ rx2 ∷ []) (by_rx1 1)
+short_row = example_row 0 (rx1 ∷ rx2 ∷ []) (by_rx1 1)
 
 -- A row that begins 30 seconds after the early one.
 abbrev pub close_row : Row
-close_row = row_of 30000 (rx1 ∷ []) (by_rx1 30000)
+close_row = example_row 30000 (rx1 ∷ []) (by_rx1 30000)
 
 -- A row of one receiver at one moment.
 abbrev pub row_at : ℕ → Row
-row_at moment = row_of moment (rx1 ∷ []) (by_rx1 moment)
+row_at moment = example_row moment (rx1 ∷ []) (by_rx1 moment)
 
 -- A row of one receiver from one moment to another.
 abbrev pub row_to : ℕ → ℕ → Row
-row_to first last = row_of first (rx1 ∷ []) (by_rx1 last)
+row_to first last = example_row first (rx1 ∷ []) (by_rx1 last)
 
 -- A key with this source and information.
 abbrev pub key_by : ℕ → List ℕ → Key
@@ -131,9 +131,9 @@ take_merge_take = Take 0 (by_rx1 0) ∷ Merge 1 0 ∷ Take 0 (by_rx1 30001) ∷ 
 -- itself.
 abbrev pub back_and_forth : List Step
 back_and_forth =
-    Take 0 (by_rx1 0) ∷ Take 1 (heard 20 rx2 hi_frame)
+    Take 0 (by_rx1 0) ∷ Take 1 (reception_at 20 rx2 hi_frame)
     ∷ Merge 0 1 ∷ Merge 1 0 ∷ Merge 0 0 ∷ []
 
 -- A join that answers the first value.
-abbrev pub TakesFirst : Heard → Heard → Heard → Type 0
+abbrev pub TakesFirst : Received → Received → Received → Type 0
 TakesFirst a b c = c ≡ a

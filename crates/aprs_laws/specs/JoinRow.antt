@@ -3,7 +3,7 @@ use Rattle.std.specs.Prelude.{◌≡◌, ℕ, ◌+◌, ◌≤◌, min, List, [],
 use Rattle.std.specs.Ordering.{ordering_then}
 use Rattle.std.specs.declared.cmp.Ordering.{Ordering}
 use Rattle.std.specs.declared.cmp.Ordering.TheVariants.{Less, Equal, Greater}
-use Rattle.aprs_log.specs.Reception.{Heard, bytes_cmp, heard_cmp}
+use Rattle.aprs_log.specs.Reception.{Received, bytes_cmp, heard_cmp}
 use Rattle.aprs_laws.specs.Key.{key_cmp}
 use Rattle.aprs_laws.specs.Row.{Row, row_key, last_of}
 
@@ -13,7 +13,7 @@ choose Less a b c = a
 choose Equal a b c = b
 choose Greater a b c = c
 
--- A list in order with x in its place, unless it is there.
+-- A list in order with x in its compare_near, unless it is there.
 abbrev pub add : {X : Type 0} → (X → X → Ordering) → X → List X → List X
 add cmp x [] = x ∷ []
 add cmp x (y ∷ ys) = choose (cmp x y) (x ∷ y ∷ ys) (y ∷ ys) (y ∷ add cmp x ys)
@@ -24,11 +24,11 @@ union cmp [] ys = ys
 union cmp (x ∷ xs) ys = add cmp x (union cmp xs ys)
 
 -- The greater of two receptions.
-abbrev pub greater : Heard → Heard → Heard
+abbrev pub greater : Received → Received → Received
 greater a b = choose (heard_cmp a b) b a a
 
 -- The row of one reception.
-abbrev pub single : Heard → Row
+abbrev pub single : Received → Row
 single s = record { first = s.moment; receivers = s.receiver ∷ []; greatest = s }
 
 -- x and y have one key, and neither begins more than `gap` milliseconds after the other ends.
@@ -52,14 +52,14 @@ by_moments gap x y =
     else if nat_lt (last_of y + gap) x.first then Greater else Equal
 
 -- Where x lies, seen from y: before, near or after.
-abbrev pub place : ℕ → Row → Row → Ordering
-place gap x y = ordering_then (key_cmp (row_key x) (row_key y)) (by_moments gap x y)
+abbrev pub compare_near : ℕ → Row → Row → Ordering
+compare_near gap x y = ordering_then (key_cmp (row_key x) (row_key y)) (by_moments gap x y)
 
 -- The rows with one more row, which is one with each row that it is near to.
 abbrev pub join_row : ℕ → List Row → Row → List Row
 join_row gap [] r = r ∷ []
 join_row gap (x ∷ xs) r =
-    choose (place gap x r) (x ∷ join_row gap xs r) (join_row gap xs (combine x r)) (r ∷ x ∷ xs)
+    choose (compare_near gap x r) (x ∷ join_row gap xs r) (join_row gap xs (combine x r)) (r ∷ x ∷ xs)
 
 -- All rows of the second list join the first.
 abbrev pub merge : ℕ → List Row → List Row → List Row
@@ -70,7 +70,7 @@ merge gap p (r ∷ rs) = merge gap (join_row gap p r) rs
 abbrev pub coalesce : ℕ → Row → List Row → List Row
 coalesce gap l [] = l ∷ []
 coalesce gap l (x ∷ xs) =
-    choose (place gap l x) (l ∷ coalesce gap x xs) (coalesce gap (combine l x) xs)
+    choose (compare_near gap l x) (l ∷ coalesce gap x xs) (coalesce gap (combine l x) xs)
     (l ∷ coalesce gap x xs)
 
 -- Rows in order, where each joins the one before it that it is near to.
@@ -79,6 +79,6 @@ coalesced_rows gap [] = []
 coalesced_rows gap (l ∷ xs) = coalesce gap l xs
 
 -- The plain way to a book: one reception after another.
-abbrev pub plain_book : ℕ → List Heard → List Row
+abbrev pub plain_book : ℕ → List Received → List Row
 plain_book gap [] = []
 plain_book gap (s ∷ S) = join_row gap (plain_book gap S) (single s)

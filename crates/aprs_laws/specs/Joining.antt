@@ -1,7 +1,7 @@
 -- What it is to be joined, of each kind of value, and the laws of that.
 use Rattle.std.specs.Prelude.{◌≡◌, ℕ, List, [], ◌∷◌, ◌++◌, ◌⊎◌, ◌↔◌}
 use Rattle.std.specs.declared.cmp.Ordering.{Ordering}
-use Rattle.aprs_log.specs.Reception.{Heard, heard_cmp}
+use Rattle.aprs_log.specs.Reception.{Received, heard_cmp}
 use Rattle.aprs_laws.specs.Lists.{◌∈◌, SameMembers, Ordered}
 use Rattle.aprs_laws.specs.Order.{IsBelow, IsUpTo}
 use Rattle.aprs_laws.specs.Row.{Row}
@@ -26,7 +26,7 @@ pub record JoinLaws {X : Type 0} (valid : X → Type 0) (alike : X → X → Typ
       → joined a b x → joined x c p → joined b c y → joined a y q → p ≡ q
 
 -- c is the greater of two receptions.
-pub record IsGreaterOf (a b c : Heard) : Type 0 where
+pub record IsGreaterOf (a b c : Received) : Type 0 where
   pub one : (c ≡ a) ⊎ (c ≡ b)
   pub left : IsUpTo heard_cmp a c
   pub right : IsUpTo heard_cmp b c
@@ -40,7 +40,7 @@ abbrev pub AreAllAlike : {X : Type 0} → (X → X → Type 0) → X → List X 
 AreAllAlike {X} alike start items = (item : X) → item ∈ items → alike start item
 
 -- Every reception is valid.
-abbrev pub IsAny : Heard → Type 0
+abbrev pub IsAny : Received → Type 0
 IsAny x = Unit {0}
 
 -- c ascends, and has the members of a and of b, no others.

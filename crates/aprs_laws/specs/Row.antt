@@ -2,7 +2,7 @@
 use Rattle.std.specs.Prelude.{◌≡◌, ℕ, ◌≤◌, List, ◌↔◌}
 use Rattle.std.specs.Ordering.{nat_cmp, on, then_cmp}
 use Rattle.std.specs.declared.cmp.Ordering.{Ordering}
-use Rattle.aprs_log.specs.Reception.{Heard, bytes_cmp, heard_cmp}
+use Rattle.aprs_log.specs.Reception.{Received, bytes_cmp, heard_cmp}
 use Rattle.aprs_laws.specs.Lists.{◌∈◌, Ordered}
 use Rattle.aprs_laws.specs.Order.{IsBelow, IsUpTo}
 use Rattle.aprs_laws.specs.Key.{Key, key_of, key_cmp}
@@ -13,7 +13,7 @@ use Rattle.aprs_laws.specs.Run.{Run}
 pub record Row : Type 0 where
   pub first : ℕ
   pub receivers : List (List ℕ)
-  pub greatest : Heard
+  pub greatest : Received
 
 -- The key of a row: that of its greatest reception.
 abbrev pub row_key : Row → Key
@@ -24,20 +24,20 @@ abbrev pub last_of : Row → ℕ
 last_of x = x.greatest.moment
 
 -- s is of the row's key, at a moment from its first to its last.
-pub record IsOf (x : Row) (s : Heard) : Type 0 where
+pub record IsOf (x : Row) (s : Received) : Type 0 where
   pub key : key_of s.frame ≡ row_key x
   pub from : x.first ≤ s.moment
   pub to : s.moment ≤ last_of x
 
 -- x is the row of a transmission in S: its receivers are those of the transmission's receptions,
 -- ascending and without repeats, and its greatest reception is the greatest of them.
-pub record RowOf (gap : ℕ) (S : List Heard) (x : Row) : Type 0 where
+pub record RowOf (gap : ℕ) (S : List Received) (x : Row) : Type 0 where
   pub run : Run gap S (row_key x) x.first (last_of x)
   pub ascending : Ordered (IsBelow bytes_cmp) x.receivers
   pub receivers : (r : List ℕ)
-      → (r ∈ x.receivers) ↔ ((s : Heard) × (s ∈ S) × IsOf x s × (s.receiver ≡ r))
+      → (r ∈ x.receivers) ↔ ((s : Received) × (s ∈ S) × IsOf x s × (s.receiver ≡ r))
   pub member : x.greatest ∈ S
-  pub greatest : (s : Heard) → s ∈ S → IsOf x s → IsUpTo heard_cmp s x.greatest
+  pub greatest : (s : Received) → s ∈ S → IsOf x s → IsUpTo heard_cmp s x.greatest
 
 -- Rows are ordered by key, then first moment.
 abbrev pub row_cmp : Row → Row → Ordering

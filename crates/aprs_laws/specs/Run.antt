@@ -1,19 +1,19 @@
 -- Transmissions. One is a maximal run of receptions of one key: none of them is missing, and no
 -- neighbours in it are further apart than the gap.
 use Rattle.std.specs.Prelude.{◌≡◌, ℕ, ◌+◌, ◌<◌, ◌≤◌, List}
-use Rattle.aprs_log.specs.Reception.{Heard}
+use Rattle.aprs_log.specs.Reception.{Received}
 use Rattle.aprs_laws.specs.Lists.{◌∈◌}
 use Rattle.aprs_laws.specs.Key.{Key, key_of}
 
 -- S has a reception of this key at this moment.
-abbrev pub HeardAt : List Heard → Key → ℕ → Type 0
-HeardAt S key moment = (s : Heard) × (s ∈ S) × (key_of s.frame ≡ key) × (s.moment ≡ moment)
+abbrev pub HeardAt : List Received → Key → ℕ → Type 0
+HeardAt S key moment = (s : Received) × (s ∈ S) × (key_of s.frame ≡ key) × (s.moment ≡ moment)
 
 -- The receptions of the key in S from one moment to another are one transmission: there is one at
 -- the first moment, and one at the last, which isn't before it; each before the last moment has a
 -- later one at most `gap` milliseconds after it; and none of the key lies that near before the
 -- first moment or after the last.
-pub record Run (gap : ℕ) (S : List Heard) (key : Key) (first last : ℕ) : Type 0 where
+pub record Run (gap : ℕ) (S : List Received) (key : Key) (first last : ℕ) : Type 0 where
   pub in_order : first ≤ last
   pub at_first : HeardAt S key first
   pub at_last : HeardAt S key last

@@ -1,11 +1,11 @@
 -- Books in another unit of time.
 use Rattle.std.specs.Prelude.{ℕ, ◌*◌, ◌<◌, List, map, ◌↔◌}
-use Rattle.aprs_log.specs.Reception.{Heard}
+use Rattle.aprs_log.specs.Reception.{Received}
 use Rattle.aprs_laws.specs.Row.{Row}
 use Rattle.aprs_laws.specs.Book.{BookOf}
 
 -- The same reception, its moment counted in units of which one of the old has `factor`.
-abbrev pub scaled_heard : ℕ → Heard → Heard
+abbrev pub scaled_heard : ℕ → Received → Received
 scaled_heard factor s =
     record { moment = s.moment * factor; receiver = s.receiver; frame = s.frame }
 
@@ -25,6 +25,6 @@ scaled_rows factor rows = map (scaled_row factor) rows
 -- in the finer unit.
 abbrev pub ScalesBook : Type 0
 ScalesBook =
-    (factor gap : ℕ) (S : List Heard) (rows : List Row) → 0 < factor
+    (factor gap : ℕ) (S : List Received) (rows : List Row) → 0 < factor
     → BookOf gap S rows
     ↔ BookOf (gap * factor) (map (scaled_heard factor) S) (scaled_rows factor rows)

@@ -1,6 +1,6 @@
 -- The moments at which something was heard, by the rows of a book. A property of keys is a test.
 use Rattle.std.specs.Prelude.{ℕ, Bool, List, ◌↔◌}
-use Rattle.aprs_log.specs.Reception.{Heard}
+use Rattle.aprs_log.specs.Reception.{Received}
 use Rattle.aprs_laws.specs.Key.{Key}
 use Rattle.aprs_laws.specs.Row.{Row}
 use Rattle.aprs_laws.specs.Book.{BookOf}
@@ -10,11 +10,11 @@ use Rattle.aprs_laws.specs.Spans.{IsFirstMoment, IsLastMoment, IsLeastFirst, IsG
 -- The least moment of a set's receptions is the least first moment of its book's rows.
 abbrev pub RowsTellFirstMoment : Type 0
 RowsTellFirstMoment =
-    (gap : ℕ) (test : Key → Bool) (S : List Heard) (rows : List Row) (m : ℕ) → BookOf gap S rows
+    (gap : ℕ) (test : Key → Bool) (S : List Received) (rows : List Row) (m : ℕ) → BookOf gap S rows
     → IsFirstMoment S (Passes test) m ↔ IsLeastFirst rows (Passes test) m
 
 -- The greatest moment of a set's receptions is the greatest last moment of its book's rows.
 abbrev pub RowsTellLastMoment : Type 0
 RowsTellLastMoment =
-    (gap : ℕ) (test : Key → Bool) (S : List Heard) (rows : List Row) (m : ℕ) → BookOf gap S rows
+    (gap : ℕ) (test : Key → Bool) (S : List Received) (rows : List Row) (m : ℕ) → BookOf gap S rows
     → IsLastMoment S (Passes test) m ↔ IsGreatestLast rows (Passes test) m

@@ -1,35 +1,35 @@
 -- What holds of the step that books are made with.
 use Rattle.std.specs.Prelude.{◌≡◌, ℕ, ◌==◌, if◌then◌else◌, List, [], ◌∷◌, ◌++◌, ◌⊎◌, ◌↔◌, true}
-use Rattle.aprs_log.specs.Reception.{Heard}
+use Rattle.aprs_log.specs.Reception.{Received}
 use Rattle.aprs_laws.specs.Lists.{◌∈◌, SameMembers}
 use Rattle.aprs_laws.specs.Row.{Row}
 use Rattle.aprs_laws.specs.Book.{BookOf}
 use Rattle.aprs_laws.specs.Sound.{IsSoundRow, Sound, IsNext}
 use Rattle.aprs_laws.specs.Joining.{Joined}
 use Rattle.aprs_laws.specs.Taken.{Step, Take, Merge, sets_after}
-use Rattle.aprs_laws.specs.Inserted.{insert_heard, FitsInPlace, fits_in_place}
+use Rattle.aprs_laws.specs.Inserted.{insert_heard, FitsInPlace, has_place_for}
 use Rattle.aprs_laws.specs.JoinRow.{single, IsNear, join_row, merge, plain_book}
 
 -- Receptions that join one after another give their book.
 abbrev pub PlainBookIsBook : ℕ → Type 0
-PlainBookIsBook gap = (S : List Heard) → BookOf gap S (plain_book gap S)
+PlainBookIsBook gap = (S : List Received) → BookOf gap S (plain_book gap S)
 
 -- One more reception joins the rows as a row of its own does.
 abbrev pub TakesReception : ℕ → Type 0
 TakesReception gap =
-    (S : List Heard) (s : Heard) (p : List Row) → BookOf gap S p
+    (S : List Received) (s : Received) (p : List Row) → BookOf gap S p
     → BookOf gap (S ++ s ∷ []) (join_row gap p (single s))
 
 -- One more reception is inserted as code does it.
 abbrev pub InsertsReception : ℕ → Type 0
 InsertsReception gap =
-    (S : List Heard) (s : Heard) (p : List Row) → BookOf gap S p
+    (S : List Received) (s : Received) (p : List Row) → BookOf gap S p
     → BookOf gap (S ++ s ∷ []) (insert_heard gap s p)
 
 -- What fits in place passes the test of that.
 abbrev pub FitsByTest : ℕ → Type 0
 FitsByTest gap =
-    (s : Heard) (p : List Row) → Sound gap p → FitsInPlace gap p s → fits_in_place gap s p ≡ true
+    (s : Received) (p : List Row) → Sound gap p → FitsInPlace gap p s → has_place_for gap s p ≡ true
 
 -- Sound rows stay sound with exactly those rows after them that may follow.
 abbrev pub OnlyNextFollows : ℕ → Type 0
@@ -44,13 +44,13 @@ TakesRow gap =
 -- The rows of another book, taken one after another, give the book of the union.
 abbrev pub TakesRows : ℕ → Type 0
 TakesRows gap =
-    (S T : List Heard) (p q : List Row) → BookOf gap S p → BookOf gap T q
+    (S T : List Received) (p q : List Row) → BookOf gap S p → BookOf gap T q
     → BookOf gap (S ++ T) (merge gap p q)
 
 -- Of three rows of one book to which one reception is near, two are the same row.
 abbrev pub AtMostTwoAreNear : ℕ → Type 0
 AtMostTwoAreNear gap =
-    (p : List Row) (s : Heard) (x y z : Row) → Sound gap p → x ∈ p → y ∈ p → z ∈ p
+    (p : List Row) (s : Received) (x y z : Row) → Sound gap p → x ∈ p → y ∈ p → z ∈ p
     → IsNear gap x (single s) → IsNear gap y (single s) → IsNear gap z (single s)
     → (x ≡ y) ⊎ (y ≡ z) ⊎ (x ≡ z)
 

@@ -1,6 +1,6 @@
 -- Books under another gap.
 use Rattle.std.specs.Prelude.{◌≡◌, ℕ, ◌<◌, ◌≤◌, List}
-use Rattle.aprs_log.specs.Reception.{Heard}
+use Rattle.aprs_log.specs.Reception.{Received}
 use Rattle.aprs_laws.specs.Row.{Row}
 use Rattle.aprs_laws.specs.Book.{BookOf}
 use Rattle.aprs_laws.specs.Sound.{Sound}
@@ -14,7 +14,7 @@ widened_rows gap rows = coalesced_rows gap rows
 -- The widened rows of a set's book are the book of the same set under the other gap.
 abbrev pub WidensBook : Type 0
 WidensBook =
-    (narrow wide : ℕ) (S : List Heard) (rows : List Row) → narrow ≤ wide → BookOf narrow S rows
+    (narrow wide : ℕ) (S : List Received) (rows : List Row) → narrow ≤ wide → BookOf narrow S rows
     → BookOf wide S (widened_rows wide rows)
 
 -- Sound rows are sound under the other gap too, once they are widened.
@@ -44,5 +44,5 @@ WidensJoined =
 abbrev pub NarrowsNot : Type 0
 NarrowsNot =
     (narrow wide : ℕ) (narrowed : List Row → List Row) → 0 < narrow → narrow < wide
-    → ((S : List Heard) (rows : List Row) → BookOf wide S rows → BookOf narrow S (narrowed rows))
+    → ((S : List Received) (rows : List Row) → BookOf wide S rows → BookOf narrow S (narrowed rows))
     → ⊥

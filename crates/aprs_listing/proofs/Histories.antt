@@ -1,26 +1,9 @@
 -- Lemmas on the lines of a history.
-use Rattle.std.proofs.Common.{◌≡◌, ℕ, List, [], ◌∷◌, ◌++◌, map, Option, Some, None, Result, Ok, Err, refl, sym, ap, ap₂, ◌∙◌, append_assoc, append-nil}
-use Rattle.std.specs.List.{flat_map, join_with_byte}
-use Rattle.std.specs.Option.{option_map}
+use Rattle.aprs_listing.proofs.Common.{◌≡◌, ℕ, List, [], ◌∷◌, ◌++◌, map, Option, Some, None, Result, Ok, Err, refl, sym, ap, ap₂, ◌∙◌, append_assoc, append-nil, flat_map, join_with_byte, option_map, flat_map_more, flat_map-append, Call, call_text, Parts, parts_of, hop_of, shown_text, Puts, Puts-fails, Puts-is, Puts-none, Puts-then, Row, last_of, moment_text, reading_of, Value, mic_e_view, mic_e_or_none}
 use Rattle.std.specs.Result.{IsErr}
-use Rattle.std.proofs.lemmas.List.{flat_map_more}
-use Rattle.std.proofs.lemmas.List.Concat.{flat_map-append}
 use denote.Ref.{Bor}
-use Rattle.aprs_ax25.specs.Callsign.{Call, call_text}
-use Rattle.aprs_ax25.specs.Frame.{Parts}
-use Rattle.aprs_ax25.specs.FrameFault.{parts_of}
-use Rattle.aprs_ax25.specs.Hop.{hop_of}
-use Rattle.aprs_io.specs.Shown.{shown_text}
-use Rattle.aprs_io.specs.Outlet.{Puts}
 use Rattle.aprs_io.specs.declared.device.WriteFault.{WriteFault}
 use Rattle.aprs_io.specs.declared.outlet.Outlet.{Outlet}
-use Rattle.aprs_io.proofs.Outlets.{Puts-fails, Puts-is, Puts-none, Puts-then}
-use Rattle.aprs_laws.specs.Row.{Row, last_of}
-use Rattle.aprs_log.specs.Moment.{moment_text}
-use Rattle.aprs_report.specs.Reader.{reading_of}
-use Rattle.aprs_report.specs.Reading.{Value}
-use Rattle.aprs_mice.specs.MicE.{mic_e_view}
-use Rattle.aprs_mice.specs.Reader.{mic_e_of}
 use Rattle.aprs_mice.specs.declared.mic_e.MicE.{MicE}
 use Rattle.aprs_listing.specs.History.{history_line, history_text, id_word, told_line, via_text}
 use Rattle.aprs_listing.specs.Lines.{field_text, spaced_field}
@@ -77,11 +60,11 @@ row_told x first last who via frame info source told v f start end w s h t i r =
 -- what is read of a frame of these parts
 pub mic_e_read : (p : Parts) (to : Call) (info : List ℕ) (r : Option MicE)
     → to ≡ p.destination.call → info ≡ p.info
-    → option_map mic_e_view r ≡ mic_e_of to.letters info
-    → option_map mic_e_view r ≡ mic_e_of p.destination.call.letters p.info
+    → option_map mic_e_view r ≡ mic_e_or_none to.letters info
+    → option_map mic_e_view r ≡ mic_e_or_none p.destination.call.letters p.info
 mic_e_read p to info r t i is = is
-    ∙ ap (λ (call : Call). mic_e_of call.letters info) t
-    ∙ ap (mic_e_of p.destination.call.letters) i
+    ∙ ap (λ (call : Call). mic_e_or_none call.letters info) t
+    ∙ ap (mic_e_or_none p.destination.call.letters) i
 
 -- The lines of a prefix of the rows were put.
 pub record PutSoFar {W : Type 0} (contents : W → Option (List ℕ)) (first now : Outlet W)

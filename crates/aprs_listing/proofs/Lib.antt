@@ -2,3 +2,4 @@
 mod Lines
 mod Histories
 mod OneLines
+pub mod Common

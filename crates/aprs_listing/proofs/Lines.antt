@@ -1,14 +1,7 @@
 -- Lemmas on the fields of a line.
-use Rattle.std.proofs.Common.{◌≡◌, ℕ, Bool, List, [], ◌∷◌, ◌++◌, map, refl, sym, ap, ap₂, ◌∙◌, append_assoc}
-use Rattle.std.specs.List.{flat_map}
-use Rattle.std.proofs.lemmas.List.Concat.{flat_map-append}
-use Rattle.aprs_ax25.specs.Callsign.{Call, call_text}
-use Rattle.aprs_laws.specs.Key.{key_of}
-use Rattle.aprs_log.specs.Moment.{moment_text}
-use Rattle.aprs_log.specs.Reception.{Heard}
+use Rattle.aprs_listing.proofs.Common.{◌≡◌, ℕ, Bool, List, [], ◌∷◌, ◌++◌, map, refl, sym, ap, ap₂, ◌∙◌, append_assoc, flat_map, flat_map-append, Call, call_text, key_of, moment_text, Received, shown_text}
 use Rattle.aprs_listing.specs.Lines.{field_text, spaced_field}
 use Rattle.aprs_listing.specs.Listing.{after_space, heard_fields, live_text, name_fields, line_with_text, word}
-use Rattle.aprs_io.specs.Shown.{shown_text}
 use Rattle.aprs_listing.specs.declared.field.Field.{Field}
 
 pub spaced_fields : (xs : List Field) → flat_map spaced_field xs
@@ -30,11 +23,11 @@ placed kind comment fields known place others e o =
     (flat_map after_space place) rest) ∙ ap (λ l. l ++ rest)
     (sym (flat_map-append after_space known place)))
 
-pub heard_fields_of : (heard shown_as : Heard) (who : List ℕ) → heard ≡ shown_as
+pub heard_fields_of : (heard shown_as : Received) (who : List ℕ) → heard ≡ shown_as
     → who ≡ heard.receiver → moment_text heard.moment ∷ who ∷ [] ≡ heard_fields shown_as
 heard_fields_of heard shown_as who e w = rw (w, e) refl
 
-pub name_fields_of : (name live_word who : List ℕ) (live : Bool) (heard shown_as : Heard)
+pub name_fields_of : (name live_word who : List ℕ) (live : Bool) (heard shown_as : Received)
     (from : Call) → heard ≡ shown_as → live_word ≡ live_text live → who ≡ heard.receiver
     → from ≡ (key_of heard.frame).source
     → word name ∷ live_word ∷ moment_text heard.moment ∷ who ∷ call_text from ∷ []

@@ -1,27 +1,16 @@
 -- No line of a history has an LF but at its end.
-use Rattle.std.proofs.Common.{All, ◌≡◌, ◌≢◌, ◌∙◌, ℕ, zero, suc, ◌+◌, ◌/◌, ◌%◌, Bool, true, false, not, ◌&&◌, cond, nat_lt, ◌==◌, List, [], ◌∷◌, ◌++◌, map, get_or, Option, Some, None, pos, negsuc, ℤ, refl, ap, sym, append_assoc, arith, codes}
-use Rattle.std.specs.List.{AllByRecursion, flat_map, join_with_byte, list_all}
-use Rattle.std.specs.Fmt.{decimal, digit_glyph, digits, digits_onto, signed_decimal}
+use Rattle.aprs_listing.proofs.Common.{All, ◌≡◌, ◌≢◌, ◌∙◌, ℕ, zero, suc, ◌+◌, ◌/◌, ◌%◌, Bool, true, false, not, ◌&&◌, cond, nat_lt, ◌==◌, List, [], ◌∷◌, ◌++◌, map, get_or, Option, Some, None, pos, negsuc, ℤ, refl, ap, sym, append_assoc, arith, codes, AllByRecursion, flat_map, join_with_byte, list_all, decimal, digit_glyph, digits, digits_onto, signed_decimal, Call, IsCall, call_text, is_callsign_byte, Parts, IsParts, parts_of, hop_of, hop_text, is_shown_as_is, shown_byte, shown_text, day_after, moment_text, moment_text_in, two_digits, Row, last_of, reading_of, Value, Reads, position, object, item, message, ack, rej, status, raw, MicEValue, message_name, mic_e_or_none}
 use Rattle.std.proofs.lemmas.Bool.{and_parts}
 use Rattle.std.proofs.lemmas.List.Elements.{All-from_recursion, recursion_from_All}
 use Rattle.hex.specs.Hex.{encode_lower, encode_with, lower_digits}
 use Rattle.aprs_ax25.specs.Address.{Address, IsAddress, is_repeated}
-use Rattle.aprs_ax25.specs.Callsign.{Call, IsCall, call_text, is_callsign_byte}
-use Rattle.aprs_ax25.specs.Frame.{Parts, IsParts}
-use Rattle.aprs_ax25.specs.FrameFault.{parts_of}
-use Rattle.aprs_ax25.specs.Hop.{hop_of, hop_text}
-use Rattle.aprs_io.specs.Shown.{is_shown, shown_byte, shown_text}
 use Rattle.aprs_log.specs.LogText.{HasNoLf}
-use Rattle.aprs_log.specs.Moment.{day_after, moment_text, moment_text_in, two_digits}
 use Rattle.aprs_log.specs.Receiver.{IsName, is_name_byte}
-use Rattle.aprs_laws.specs.Row.{Row, last_of}
 use Rattle.aprs_report.specs.Bytes.{is_alphanumeric, is_digit}
 use Rattle.aprs_report.specs.Message.{IsText}
 use Rattle.aprs_report.specs.Place.{latitude_of, longitude_of}
 use Rattle.aprs_report.specs.Position.{IsOptionalStamp}
-use Rattle.aprs_report.specs.Reader.{reading_of}
-use Rattle.aprs_report.specs.Reading.{Value, Reads, position, object, item, message, ack, rej, status, raw}
-use Rattle.aprs_report.specs.Stamp.{IsStamp, is_mark}
+use Rattle.aprs_report.specs.Stamp.{IsStamp, is_time_mark}
 use Rattle.aprs_report.specs.Status.{IsStatus}
 use Rattle.aprs_report.specs.declared.place.Fraction.{Fraction}
 use Rattle.aprs_report.specs.declared.place.Place.{Place}
@@ -29,9 +18,6 @@ use Rattle.aprs_report.specs.declared.place.Place.TheVariants.{Plain, Base91}
 use Rattle.aprs_report.specs.declared.stamp.Stamp.{Stamp}
 use Rattle.aprs_report.specs.declared.symbol.Symbol.{Symbol}
 use Rattle.aprs_report.proofs.Readings.{reads_as}
-use Rattle.aprs_mice.specs.MicE.{MicEValue}
-use Rattle.aprs_mice.specs.MicEMessage.{message_name}
-use Rattle.aprs_mice.specs.Reader.{mic_e_of}
 use Rattle.aprs_mice.specs.declared.mic_e_message.MicEMessage.{MicEMessage}
 use Rattle.aprs_mice.specs.declared.mic_e_message.MicEMessage.TheVariants as say
 use Rattle.aprs_listing.specs.History.{history_line, history_text, id_word, other_line, row_fields, told_line, via_text}
@@ -68,7 +54,7 @@ free_at (b ∷ table) zero h = h.0
 free_at (b ∷ table) (suc n) h = free_at table n h.1
 
 free_table : Free lower_digits
-free_table = free_by is_shown refl lower_digits refl
+free_table = free_by is_shown_as_is refl lower_digits refl
 
 free_digits : (bytes : List ℕ) → Free (encode_lower bytes)
 unfolding encode_with
@@ -79,11 +65,11 @@ free_digits (b ∷ bytes) = (
 )
 
 free_byte : (b : ℕ) → Free (shown_byte b)
-free_byte b = go (is_shown b) refl
+free_byte b = go (is_shown_as_is b) refl
   where
-    go : (t : Bool) → is_shown b ≡ t
+    go : (t : Bool) → is_shown_as_is b ≡ t
         → Free (cond t (b ∷ []) (92 ∷ 120 ∷ encode_lower (b ∷ [])))
-    go true is = free_by is_shown refl (b ∷ []) (ap (λ t. t && true) is)
+    go true is = free_by is_shown_as_is refl (b ∷ []) (ap (λ t. t && true) is)
     go false is = (λ e. absurd cc, (λ e. absurd cc, free_digits (b ∷ [])))
 
 free_shown : (text : List ℕ) → Free (shown_text text)
@@ -217,7 +203,7 @@ free_fields (x ∷ fields) h =
 
 free_stamp : (s : Stamp) → IsStamp s → Free (stamp_text (Some s))
 free_stamp s h = free_append s.digits _ (free_by is_digit refl s.digits h.digits)
-    (free_by is_mark refl (s.mark ∷ []) (ap (λ t. t && true) h.mark))
+    (free_by is_time_mark refl (s.mark ∷ []) (ap (λ t. t && true) h.mark))
 
 free_optional : (s : Option Stamp) (text : List ℕ) → IsOptionalStamp s text
     → Free (stamp_text s)
@@ -230,8 +216,8 @@ free_status None text info h = (λ e. absurd cc, tt)
 free_status (Some s) text info h = free_stamp s h.1.stamped
 
 free_live : (live : Bool) → Free (live_text live)
-free_live true = free_by is_shown refl (codes "live") refl
-free_live false = free_by is_shown refl (codes "killed") refl
+free_live true = free_by is_shown_as_is refl (codes "live") refl
+free_live false = free_by is_shown_as_is refl (codes "killed") refl
 
 free_ambiguity : (place : Place) → Free (ambiguity_text place)
 free_ambiguity (Plain lat lon ambiguity) = free_decimal ambiguity
@@ -367,7 +353,7 @@ told head h p are (rej addressee id) is =
 told head h p are (status stamp text) is =
     text_line (codes "status") _ text (kind_free (codes "status") refl)
     (are_append head _ h (free_status stamp text p.info is, tt))
-told head h p are raw is = other head h p are (mic_e_of p.destination.call.letters p.info)
+told head h p are raw is = other head h p are (mic_e_or_none p.destination.call.letters p.info)
 
 row_line : (x : Row) → IsTold x → Line (history_line x)
 row_line x h =

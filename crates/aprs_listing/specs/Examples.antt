@@ -1,6 +1,6 @@
 -- Rows of worked examples, and the lines that a history has of them.
 use Rattle.std.specs.Prelude.{ℕ, ◌*◌, List, [], ◌∷◌, ◌++◌, map, codes}
-use Rattle.aprs_laws.specs.Examples.{heard, row_of, rx1}
+use Rattle.aprs_laws.specs.Examples.{reception_at, example_row, rx1}
 use Rattle.aprs_laws.specs.Row.{Row}
 
 -- The frame from N0CALL-7 with this information to a destination, given as six characters: an
@@ -9,9 +9,9 @@ abbrev pub frame_to : List ℕ → List ℕ → List ℕ
 frame_to destination info = map (λ c. c * 2) destination ++ 0xE0
     ∷ 0x9C ∷ 0x60 ∷ 0x86 ∷ 0x82 ∷ 0x98 ∷ 0x98 ∷ 0x6F ∷ 0x03 ∷ 0xF0 ∷ info
 
--- The row of this frame, which RX1 heard once, at moment 0.
+-- The row of this frame, which RX1 reception_at once, at moment 0.
 abbrev pub heard_once : List ℕ → List ℕ → Row
-heard_once destination info = row_of 0 (rx1 ∷ []) (heard 0 rx1 (frame_to destination info))
+heard_once destination info = example_row 0 (rx1 ∷ []) (reception_at 0 rx1 (frame_to destination info))
 
 -- The row of a report to APRS.
 abbrev pub reported_once : List ℕ → Row

@@ -11,7 +11,7 @@ use Rattle.aprs_report.specs.Reading.{Value, position, object, item, message, ac
 use Rattle.aprs_report.specs.Reader.{reading_of}
 use Rattle.aprs_mice.specs.MicE.{MicEValue}
 use Rattle.aprs_mice.specs.MicEMessage.{message_name}
-use Rattle.aprs_mice.specs.Reader.{mic_e_of}
+use Rattle.aprs_mice.specs.Reader.{mic_e_or_none}
 use Rattle.aprs_log.specs.Moment.{moment_text}
 use Rattle.aprs_laws.specs.Row.{Row, last_of}
 use Rattle.aprs_listing.specs.Listing.{line_with, line_with_text, live_text, place_fields, stamp_text, word}
@@ -64,7 +64,7 @@ told_line told p (ack addressee id) = line_with (codes "ack") (told ++ word addr
 told_line told p (rej addressee id) = line_with (codes "rej") (told ++ word addressee ∷ id ∷ [])
 told_line told p (status stamp text) =
     line_with_text (codes "status") (told ++ stamp_text stamp ∷ []) text
-told_line told p raw = other_line told p (mic_e_of p.destination.call.letters p.info)
+told_line told p raw = other_line told p (mic_e_or_none p.destination.call.letters p.info)
 
 -- The line of a row.
 abbrev pub history_line : Row → List ℕ

@@ -14,7 +14,7 @@ use Rattle.aprs_report.specs.declared.place.Place.TheVariants.{Plain, Base91}
 use Rattle.aprs_report.specs.declared.stamp.Stamp.{Stamp}
 use Rattle.aprs_report.specs.declared.symbol.Symbol.{Symbol}
 use Rattle.aprs_log.specs.Moment.{moment_text}
-use Rattle.aprs_log.specs.Reception.{Heard}
+use Rattle.aprs_log.specs.Reception.{Received}
 use Rattle.aprs_laws.specs.Key.{key_of}
 use Rattle.aprs_book.specs.Reports.{report_of}
 use Rattle.aprs_book.specs.declared.lists.message.MessageRow.{MessageRow}
@@ -70,12 +70,12 @@ state_text Acknowledged = codes "acknowledged"
 state_text Rejected = codes "rejected"
 
 -- The fields that say when and by whom a reception was heard.
-abbrev pub heard_fields : Heard → List (List ℕ)
+abbrev pub heard_fields : Received → List (List ℕ)
 heard_fields x = moment_text x.moment ∷ x.receiver ∷ []
 
 -- The fields of an object or an item: its name, whether it is live, when and by whom it was heard,
 -- and from whom.
-abbrev pub name_fields : List ℕ → Bool → Heard → List (List ℕ)
+abbrev pub name_fields : List ℕ → Bool → Received → List (List ℕ)
 name_fields name live x =
     word name ∷ live_text live ∷ heard_fields x ++ call_text (key_of x.frame).source ∷ []
 
@@ -102,7 +102,7 @@ line_with_text kind fields text =
 
 -- The line of a reception, by what it reports: a position, a status, an object or an item. There is
 -- none for other reports.
-abbrev pub report_line : Heard → Value → List ℕ
+abbrev pub report_line : Received → Value → List ℕ
 report_line x (position messaging stamp place symbol comment) =
     line_with_text (codes "position") (heard_fields x ++ place_fields stamp place symbol) comment
 report_line x (status stamp text) =
@@ -119,11 +119,11 @@ report_line x (rej addressee id) = []
 report_line x raw = []
 
 -- The line of a reception.
-abbrev pub heard_line : Heard → List ℕ
+abbrev pub heard_line : Received → List ℕ
 heard_line x = report_line x (report_of (key_of x.frame))
 
 -- The line of what is last known, or nothing where nothing is known.
-abbrev pub known_line : Option Heard → List ℕ
+abbrev pub known_line : Option Received → List ℕ
 known_line None = []
 known_line (Some x) = heard_line x
 

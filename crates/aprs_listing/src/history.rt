@@ -8,7 +8,7 @@ ghost use Rattle.aprs_io.specs.Device.{Sends};
 ghost use Rattle.aprs_io.specs.Outlet.{Puts};
 ghost use Rattle.aprs_report.specs.Reading.{view};
 ghost use Rattle.aprs_mice.specs.MicEMessage.{message_name};
-ghost use Rattle.aprs_mice.specs.Reader.{mic_e_of};
+ghost use Rattle.aprs_mice.specs.Reader.{mic_e_or_none};
 ghost use Rattle.aprs_listing.specs.History.{history_line, history_text, other_line, told_line};
 ghost use Rattle.aprs_listing.specs.Lines.{field_text, told_named_line};
 ghost use Rattle.aprs_listing.specs.Listing as Spec;
@@ -17,8 +17,8 @@ ghost use Rattle.aprs_listing.specs.OneLine.{HasOneLineEach};
 use crate::field::Field;
 use crate::heard_line::live_text;
 use crate::line::{put_lists_line, put_text_line};
+use crate::listing::id_text;
 use crate::via::{hops_text, via_of};
-use crate::views::id_text;
 use aprs_ax25::{Callsign, Frame};
 use aprs_io::{Counted, Outlet, WriteFault};
 use aprs_log::Moment;
@@ -197,7 +197,7 @@ fn put_other<W: Write>(
 ) -> Result<(), WriteFault>
     ensures { Puts W.contents result out.old out.new
         (other_line (map field_text told.now) (parts_of frame.now)
-        (mic_e_of (parts_of frame.now).destination.call.letters (parts_of frame.now).info)) }
+        (mic_e_or_none (parts_of frame.now).destination.call.letters (parts_of frame.now).info)) }
 {
     let destination = frame.destination();
     let info = frame.info();

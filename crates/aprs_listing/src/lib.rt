@@ -8,10 +8,10 @@ mod heard_line;
 mod history;
 mod laws;
 mod line;
+mod listing;
 mod via;
-mod views;
 
 pub use examples::{histories_tell_mic_e, histories_tell_reports, histories_tell_rows};
 pub use history::write_history;
 pub use laws::histories_have_one_line_each;
-pub use views::Views;
+pub use listing::Listing;

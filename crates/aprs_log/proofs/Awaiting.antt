@@ -1,7 +1,7 @@
 -- Lemmas on what a reader of a log may still answer.
-use Rattle.std.proofs.Common.{◌≡◌, ℕ, ◌+◌, ◌-◌, ◌<◌, ◌≤◌, List, [], ◌++◌, length, Option, None, Some, Ok, Err, IfSome, refl, arith, sym, ap, ◌∙◌, append_assoc, append-nil, subst}
+use Rattle.aprs_log.proofs.Common.{◌≡◌, ℕ, ◌+◌, ◌-◌, ◌<◌, ◌≤◌, List, [], ◌++◌, length, Option, None, Some, Ok, Err, IfSome, refl, arith, sym, ap, ◌∙◌, append_assoc, subst, Cut, cut_at, InputEnd}
+use Rattle.std.proofs.Common.{append-nil}
 use Rattle.std.specs.Io.KnownBytes.{Consumes}
-use Rattle.aprs_io.specs.Cut.{Cut, cut_at}
 use Rattle.aprs_log.specs.States.{KeepsMemory, state_after}
 use Rattle.aprs_log.specs.Fault.{log_cause_of}
 use Rattle.aprs_log.specs.Line.{line_of}
@@ -13,8 +13,7 @@ use Rattle.aprs_log.specs.declared.fault.LineFault.{LineFault}
 use Rattle.aprs_log.specs.declared.fault.LineFault.TheVariants as fault
 use Rattle.aprs_log.specs.declared.fault.LogCause.{LogCause}
 use Rattle.aprs_log.specs.declared.fault.LogCause.TheVariants as cause
-use Rattle.aprs_io.specs.declared.input.Ending.{Ending}
-use Rattle.aprs_io.specs.declared.input.Ending.TheVariants as ending
+use Rattle.aprs_io.specs.declared.input.InputEnd.TheVariants as ending
 use Rattle.aprs_log.specs.declared.reader.ending.State.{State}
 use Rattle.aprs_log.specs.declared.reader.ending.State.TheVariants.{Reading, Ended, Failed}
 pub use Rattle.aprs_io.proofs.Inputs.{Gets-nothing}
@@ -24,7 +23,7 @@ use Rattle.aprs_log.specs.declared.line.TheConstants.{MAX_LINE}
 
 -- an answer that doesn't depend on the bytes to come, where no more is read
 always : (known : Option (List ℕ)) (left line : ℕ) (held : List ℕ) (a : Answers)
-    → ((text : List ℕ) (c : Ending) → a ≡ answers_from (line + 1) (held ++ text) c)
+    → ((text : List ℕ) (c : InputEnd) → a ≡ answers_from (line + 1) (held ++ text) c)
     → AwaitsIn Reading known known left line held a
 always None left line held a h = tt
 always (Some input) left line held a h = record {
@@ -71,7 +70,7 @@ pub awaits_long : (known : Option (List ℕ)) (left line : ℕ) (held : List ℕ
 awaits_long known left line held none long = always known left line held _
     (λ text c. sym (answers_from-long (line + 1) held text c (no_lf held none) long))
 
-pub awaits_end : (known end : Option (List ℕ)) (left line : ℕ) (held : List ℕ) (c : Ending)
+pub awaits_end : (known end : Option (List ℕ)) (left line : ℕ) (held : List ℕ) (c : InputEnd)
     → cut_at 10 held ≡ None → EndsHere c left known end
     → AwaitsIn Reading known end left line held (end_with (fault_at (line + 1) (tail_cause held c)))
 awaits_end None end left line held c none ends = tt
@@ -191,7 +190,7 @@ stopped_at next (Some c) known end left line held a to w =
     subst (λ s. AwaitsIn s known end left line held a) to w
 
 pub step_end : (s next : State) (known after end : Option (List ℕ)) (left line : ℕ)
-    (held now slice : List ℕ) (e : Ending) (o : Option LogCause) (a : Answers) → s ≡ Reading
+    (held now slice : List ℕ) (e : InputEnd) (o : Option LogCause) (a : Answers) → s ≡ Reading
     → cut_at 10 held ≡ None → now ≡ held → slice ≡ now → EndsHere e left known after
     → o ≡ tail_cause slice e → next ≡ state_after o
     → AwaitsIn next after end left line now a → AwaitsIn s known end left line held a

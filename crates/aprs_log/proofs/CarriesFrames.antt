@@ -1,21 +1,13 @@
 -- A line's bytes carry a frame exactly where the reading of the line finds it.
-use Rattle.std.proofs.Common.{◌≡◌, ℕ, zero, suc, ◌<◌, ◌/◌, ◌%◌, ◌==◌, Bool, true, false, List, [], ◌∷◌, ◌++◌, length, map, filter, replicate, Option, None, Some, Result, Ok, Err, All, inl, inr, refl, sym, ap, ◌∙◌, append-nil, append_assoc, length-append, subst, arith, eqb-true}
-use Rattle.std.specs.Prelude.{if◌then◌else◌, nat_lt}
-use Rattle.std.specs.List.{flat_map}
-use Rattle.aprs_ax25.specs.FrameFault.{frame_of}
+use Rattle.aprs_log.proofs.Common.{◌≡◌, ℕ, zero, suc, ◌<◌, ◌/◌, ◌%◌, ◌==◌, Bool, true, false, List, [], ◌∷◌, ◌++◌, length, map, filter, replicate, Option, None, Some, Result, Ok, Err, All, inl, inr, refl, sym, ap, ◌∙◌, append_assoc, subst, arith, eqb-true, if◌then◌else◌, nat_lt, flat_map, frame_or_fault, DataFrame, Judgement, data_frame_of, judgement_by, judgement_of, HasNoEnd, is_escape, is_frame_end, spelling_of, spelling_of_byte, is_nonempty, judgements_of, pieces_of, rest_of, spelled_bytes, is_true_or_not, spelling_of-unspelled, unspelled-of, HasNoEnd-append, HasNoEnd-nil, HasNoEnd-one, made_so, pieces_of-end, pieces_of-none, rest_of-end, rest_of-none}
+use Rattle.std.proofs.Common.{append-nil, length-append}
 use Rattle.aprs_ax25.specs.UiFrame.{IsUiFrame}
 use Rattle.aprs_ax25.specs.declared.fault.FrameFault.{FrameFault}
 use Rattle.aprs_ax25.proofs.Sounds.{IsSound-len}
 use Rattle.aprs_ax25.proofs.UiFrames.{frame_of-is, frame_of-same, is-frame_of}
-use Rattle.aprs_kiss.specs.Judgement.{DataFrame, Judgement, data_frame_of, judgement_by, judgement_of}
-use Rattle.aprs_kiss.specs.Spelling.{HasNoEnd, is_escape, is_frame_end, spelling_of, spelling_of_byte}
-use Rattle.aprs_kiss.specs.Stream.{is_nonempty, judgements_of, pieces_of, rest_of}
-use Rattle.aprs_kiss.specs.Unspelling.{spelled_bytes}
 use Rattle.aprs_kiss.specs.declared.fault.PassFault.TheVariants.{TooLong, NotData}
 use Rattle.aprs_kiss.specs.Sizes.{most_bytes}
-use Rattle.aprs_kiss.proofs.Escapes.{is_true_or_not, spelling_of-unspelled, unspelled-of}
 use Rattle.aprs_kiss.proofs.Holding.{judgement_of-plain}
-use Rattle.aprs_kiss.proofs.Pieces.{HasNoEnd-append, HasNoEnd-nil, HasNoEnd-one, made_so, pieces_of-end, pieces_of-none, rest_of-end, rest_of-none}
 use Rattle.aprs_log.specs.Line.{frame_in, frame_in_piece, frame_or_reason, only_frame}
 use Rattle.aprs_log.specs.declared.fault.Reason.TheVariants as reason
 use Rattle.aprs_log.specs.LineText.{CarriesFrame}
@@ -225,7 +217,7 @@ unfolding judgements_of
 judged_all bytes js e = e
 
 carried_by : (bytes frame : List ℕ) (d : DataFrame) → rest_of bytes ≡ []
-    → judgements_of bytes ≡ Ok d ∷ [] → frame_of d.bytes ≡ Ok frame → CarriesFrame bytes frame
+    → judgements_of bytes ≡ Ok d ∷ [] → frame_or_fault d.bytes ≡ Ok frame → CarriesFrame bytes frame
 carried_by bytes frame d r j e =
     let made = made_so bytes in
     let one = one_piece (pieces_of bytes) (Ok d) made.clean (judged_all bytes (Ok d ∷ []) j) in
@@ -253,7 +245,7 @@ carried_in bytes frame (x ∷ xs) js r j e = absurd cc
 carried_in bytes frame [] [] r j e = absurd cc
 carried_in bytes frame [] (Err f ∷ []) r j e = absurd cc
 carried_in bytes frame [] (Ok d ∷ []) r j e =
-    carried_by bytes frame d r j (or_reason (frame_of d.bytes) frame e)
+    carried_by bytes frame d r j (or_reason (frame_or_fault d.bytes) frame e)
 carried_in bytes frame [] (a ∷ b ∷ more) r j e = absurd cc
 
 pub carried-frame_in : (bytes frame : List ℕ) → frame_in bytes ≡ Ok frame

@@ -1,12 +1,10 @@
 -- Lemmas on times of a day whose date is known.
-use Rattle.std.proofs.Common.{◌≡◌, ◌≢◌, ◌⊎◌, inl, inr, ℕ, ◌+◌, ◌-◌, ◌*◌, ◌/◌, ◌%◌, ◌<◌, ◌≤◌, List, [], ◌∷◌, ◌++◌, ◌==◌, cond, length, length-append, take, drop, slice_index, Option, None, Some, pos, unsigned_abs, refl, arith, sym, ap, ◌∙◌, subst, take-append-drop}
-use Rattle.std.specs.Prelude.{IfSome, SomeIff}
-use Rattle.std.proofs.Math.Seq.{take-append_seam, drop-append-add}
+use Rattle.aprs_log.proofs.Common.{◌≡◌, ◌≢◌, ◌⊎◌, inl, inr, ℕ, ◌+◌, ◌-◌, ◌*◌, ◌/◌, ◌%◌, ◌<◌, ◌≤◌, List, [], ◌∷◌, ◌++◌, ◌==◌, cond, length, take, drop, slice_index, Option, None, Some, pos, unsigned_abs, refl, arith, sym, ap, ◌∙◌, subst, take-append-drop, IfSome, SomeIff, take-append_seam, drop-append-add, days_from_civil}
+use Rattle.std.proofs.Common.{length-append}
 use borrow.Rule.Slice.PartMut.{put_mid}
-use Rattle.jiff_core.specs.Calendar.{days_from_civil}
 use Rattle.aprs_log.specs.declared.moment_form.MomentForm.{MomentForm}
 use Rattle.aprs_log.specs.declared.moment_form.MomentForm.TheVariants.{Seconds, Millis}
-use Rattle.aprs_log.specs.Clock.{FractionText, SecondText, clock_text, form_of_end, midnight_text}
+use Rattle.aprs_log.specs.Clock.{IsFractionText, SecondText, clock_text, form_of_end, midnight_text}
 use Rattle.aprs_log.specs.Moment.{date_text, day_after, four_digits, fraction_text, moment_text, moment_text_in, room_of, time_text, two_digits}
 use Rattle.aprs_log.specs.CivilMoment.{IsCivil}
 use Rattle.aprs_log.specs.MomentReading.{Civil, civil_text, form_of_text, moment_in, moment_of, second_of_day, seconds_of}
@@ -125,7 +123,7 @@ no_second c n e =
 -- the moment of a text with a date that is known
 moment_in-same_day : (form : MomentForm) (date time end : List ℕ) (midnight second n : ℕ)
     → length date ≡ 11 → moment_in Seconds (date ++ midnight_text) ≡ Some midnight
-    → SecondText second time → FractionText form n end
+    → SecondText second time → IsFractionText form n end
     → moment_in form (date ++ (time ++ end)) ≡ Some (midnight + second * 1000 + n)
 moment_in-same_day form date time end midnight second n len e t f =
     let day = found Seconds (date ++ midnight_text) midnight e in
@@ -156,7 +154,7 @@ same_form text end (inr e) len =
 pub moment_of-same_day : (text date rest time end : List ℕ) (midnight second n : ℕ)
     → (length text ≡ 20) ⊎ (length text ≡ 24) → length date ≡ 11 → text ≡ date ++ rest
     → rest ≡ time ++ end → moment_in Seconds (date ++ midnight_text) ≡ Some midnight
-    → SecondText second time → FractionText (form_of_end end) n end
+    → SecondText second time → IsFractionText (form_of_end end) n end
     → moment_of text ≡ Some (midnight + second * 1000 + n)
 moment_of-same_day text date rest time end midnight second n either len is then e t f =
     let whole = is ∙ ap (λ l. date ++ l) then in

@@ -1,12 +1,14 @@
 -- The days of 1970 to 2099.
-use Rattle.std.proofs.Common.{◌≡◌, ℕ, zero, suc, Bool, true, false, cond, nat_lt, ◌+◌, ◌-◌, ◌<◌, ◌≤◌, refl, arith, ℤ, pos, negsuc, unsigned_abs, ap, ◌+ℤ◌, ◌≤ℤ◌, ◌∙◌, sym, subst, inl, inr}
-use Rattle.std.proofs.lemmas.Int.{by_lt_z}
-use Rattle.std.proofs.lemmas.Bool.{cases_lt}
-use Rattle.std.proofs.lemmas.Bool.Decides.{nat_tests}
-use Rattle.jiff_core.specs.Calendar.{day_count, days_from_civil, days_in_month, IsCivilDate}
+use Rattle.aprs_log.proofs.Common.{◌≡◌, ℕ, zero, suc, Bool, true, false, cond, nat_lt, ◌+◌, ◌-◌, ◌<◌, ◌≤◌, refl, arith, ℤ, pos, negsuc, unsigned_abs, ap, ◌+ℤ◌, ◌≤ℤ◌, ◌∙◌, sym, subst, inl, inr, by_lt_z, cases_lt, nat_tests, day_count, days_from_civil, days_in_month, IsCivilDate, signed_arith}
+use Rattle.jiff_core.specs.declared.civil.date.Date.{Date}
+use Rattle.jiff_core.specs.declared.span.Span.{Span}
+use Rattle.jiff_core.specs.declared.unit.Unit.TheVariants.{Day as DayUnit}
+use Rattle.jiff_core.specs.Date.{epoch_day, IsYmd}
+use Rattle.jiff_core.specs.Span.{IsOnly}
+use Rattle.jiff.specs.Words.{date_add, CanAddToDate}
+use Rattle.jiff.proofs.SpanFacts.{date_add-days, can_add-days}
 use Rattle.aprs_log.specs.Moment.{Day, next_day, day_after}
 use Rattle.aprs_log.specs.CivilMoment.{IsDay}
-use Rattle.jiff_core.proofs.SignedLemmas.{signed_arith}
 use Rattle.jiff_core.proofs.MarchLemmas.{day_count-early}
 use Rattle.jiff_core.proofs.CalendarLemmas.{day_count-epoch, days_from_civil-day_count, day_count-day, day_count-lt_month, day_count-lt_year, day_count-last_of_year, day_count-next_year, day_count-next_month, days_in_month_bounds}
 
@@ -85,6 +87,25 @@ years_are y m d n h e lt =
           (omega (arith, signed_arith, k, e)),
       omega (arith, signed_arith, e),
     )
+
+epoch_is_0 : (d : Date) → IsYmd (pos 1970) (pos 1) (pos 1) d → epoch_day d ≡ pos 0
+epoch_is_0 d h =
+    let month : d.month ≡ 1 = cc in
+    let day : d.day ≡ 1 = cc in
+    rw (h.0, month, day) (omega
+    (arith, signed_arith, day_count-epoch, days_from_civil-day_count (pos 1970) 1 1))
+
+-- the number of the date that is so many days after 1970-01-01
+pub days_after : (epoch d later : Date) (n : ℕ) (s : Span) → IsYmd (pos 1970) (pos 1) (pos 1) epoch
+    → IsOnly DayUnit (pos n) s → n < 47482 → d ≡ later
+    → (CanAddToDate epoch s → epoch_day later ≡ date_add epoch s)
+    → (epoch_day d +ℤ pos 4_371_587) ≡ pos (4_371_587 + n)
+days_after epoch d later n s first only below e fits =
+    let zero = epoch_is_0 epoch first in
+    let can = (can_add-days epoch (pos n) s only).1 (omega (arith, signed_arith, zero)) in
+    let moved = date_add-days epoch (pos n) s only in
+    let number = ap (λ x. epoch_day x) e ∙ fits can ∙ moved in
+    omega (arith, signed_arith, zero, number)
 
 -- the same, of the parts that the caller gave
 pub parts_are : (y : ℤ) (m d : ℕ) (year month day n : ℕ) → IsCivilDate y m d → y ≡ pos year

@@ -1,19 +1,11 @@
 -- Lemmas on the frame in a line's bytes.
-use Rattle.std.proofs.Common.{◌≡◌, ◌≢◌, ℕ, ◌+◌, ◌-◌, ◌<◌, ◌≤◌, Bool, true, false, List, [], ◌∷◌, ◌++◌, length, take, drop, Result, Ok, Err, cond, refl, arith, sym, ap, ◌∙◌, take-append-drop, length-append, slice_index, subst, Option, Some}
-use Rattle.std.proofs.lemmas.List.{take_rest}
-use Rattle.std.proofs.Math.Seq.{take-length}
-use Rattle.aprs_kiss.specs.Plain.{CutsPlain, IsPlain}
-use Rattle.aprs_kiss.specs.Spelling.{kiss_text, spelling_of}
-use Rattle.aprs_kiss.proofs.Escapes.{spelling_of-all}
-use Rattle.aprs_kiss.proofs.ReadingBack.{begins_empty, judged_in_parts, left_in_parts, read_back, read_whole}
-use Rattle.aprs_kiss.specs.Stream.{rest_of, is_nonempty, judgements_of, EndsPiece}
-use Rattle.aprs_kiss.specs.Judgement.{Judgement}
+use Rattle.aprs_log.proofs.Common.{◌≡◌, ◌≢◌, ℕ, ◌+◌, ◌-◌, ◌<◌, ◌≤◌, Bool, true, false, List, [], ◌∷◌, ◌++◌, length, take, drop, Result, Ok, Err, cond, refl, arith, sym, ap, ◌∙◌, take-append-drop, slice_index, subst, Option, Some, take_rest, take-length, CutsPlain, IsPlain, kiss_text, spelling_of, spelling_of-all, begins_empty, judged_in_parts, left_in_parts, read_back, read_whole, rest_of, is_nonempty, judgements_of, EndsPiece, Judgement, frame_or_fault}
+use Rattle.std.proofs.Common.{length-append}
 use Rattle.aprs_kiss.specs.Answer.{judgements_in}
 use Rattle.std.specs.Borrow.{Bor}
 use Rattle.aprs_kiss.specs.declared.fault.PassFault.{PassFault}
 use Rattle.aprs_kiss.specs.declared.reader.Fed.{Fed}
 use Rattle.aprs_kiss.specs.declared.reader.Fed.TheVariants.{Nothing, Frame, Passed}
-use Rattle.aprs_ax25.specs.FrameFault.{frame_of}
 use Rattle.aprs_log.specs.FrameEnds.{has_other}
 use Rattle.aprs_log.specs.Line.{frame_in, frame_or_reason, only_frame}
 use Rattle.aprs_log.specs.Fault.{reason_of_pass}
@@ -157,7 +149,7 @@ module _ (bytes : List ℕ) (n : ℕ) (e : false ≡ is_nonempty (rest_of bytes)
     pub fed_frame : (fed : Fed) → FedOnce bytes n (judgements_in fed)
         → false ≡ has_other (take (length bytes - n) (drop n bytes))
         → (port : ℕ) (frame : Bor (List ℕ)) → fed ≡ Frame port frame
-        → frame_in bytes ≡ frame_or_reason (frame_of frame.now)
+        → frame_in bytes ≡ frame_or_reason (frame_or_fault frame.now)
     fed_frame fed f alone port frame is = fed_one fed f alone
         ∙ ap (λ x. only_frame (judgements_in x)) is
 
@@ -165,7 +157,7 @@ module _ (bytes : List ℕ) (n : ℕ) (e : false ≡ is_nonempty (rest_of bytes)
 
 -- it holds the frame's bytes
 frame_in-written : (frame : List ℕ) → length frame ≤ 1023
-    → frame_in (kiss_text frame) ≡ frame_or_reason (frame_of frame)
+    → frame_in (kiss_text frame) ≡ frame_or_reason (frame_or_fault frame)
 frame_in-written frame len =
     let data_frame = Ok (record { port = 0; bytes = frame }) in
     let found = read_back [] frame begins_empty.1 len
@@ -175,13 +167,13 @@ frame_in-written frame len =
 
 -- it holds that frame
 pub frame_in-kiss_text : (frame : List ℕ) → length frame ≤ 1023
-    → frame_of frame ≡ Ok frame → frame_in (kiss_text frame) ≡ Ok frame
+    → frame_or_fault frame ≡ Ok frame → frame_in (kiss_text frame) ≡ Ok frame
 frame_in-kiss_text frame len is = frame_in-written frame len ∙ ap frame_or_reason is
 
 -- bytes that are sent as themselves, between two frame ends, are what is written
 pub frame_in-plain : (bytes ended frame : List ℕ) → bytes ≡ 0xC0 ∷ 0 ∷ ended
     → IsPlain frame → ended ≡ frame ++ 0xC0 ∷ [] → length ended ≤ 1024
-    → frame_in bytes ≡ frame_or_reason (frame_of frame)
+    → frame_in bytes ≡ frame_or_reason (frame_or_fault frame)
 frame_in-plain bytes ended frame all plain is few =
     let written : spelling_of frame ++ 0xC0 ∷ [] ≡ frame ++ 0xC0 ∷ []
     = spelling_of-all frame frame (0xC0 ∷ []) plain refl in
@@ -205,7 +197,7 @@ pub frame_in-cut : (bytes ended frame : List ℕ) (cut : Option (ℕ × Bor (Lis
     (end : ℕ) (after : Bor (List ℕ)) → 2 ≤ length bytes → slice_index bytes 0 ≡ 0xC0
     → slice_index bytes 1 ≡ 0 → ended ≡ drop 2 bytes → IsPlain frame → CutsPlain ended frame cut
     → cut ≡ Some (end, after) → end ≡ 0xC0 → length after.now ≡ 0 → length ended ≤ 1024
-    → frame_in bytes ≡ frame_or_reason (frame_of frame)
+    → frame_in bytes ≡ frame_or_reason (frame_or_fault frame)
 frame_in-cut bytes ended frame cut end after two first kind is plain cuts e last none few =
     let parts = (subst (CutsPlain ended frame) e cuts).0 in
     let tail : ended ≡ frame ++ 0xC0 ∷ []

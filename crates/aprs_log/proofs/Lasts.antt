@@ -1,23 +1,15 @@
 -- Lemmas on what the device answered last where a log is read no further.
-use Rattle.std.proofs.Common.{◌≡◌, ◌≤◌, ℕ, List, [], ◌∷◌, length, Option, None, Some, Result, Ok, Err, refl, sym, ap, ◌∙◌, subst, arith}
-use Rattle.std.specs.Result.{result_ok}
-use Rattle.hex.specs.Hex.{decode_of}
-use Rattle.std.proofs.lemmas.Bool.Decides.{nat_tests}
-use Rattle.aprs_io.specs.Cut.{cut_at}
-use Rattle.aprs_io.specs.Device.{Calls, Going, Last}
+use Rattle.aprs_log.proofs.Common.{◌≡◌, ◌≤◌, ℕ, List, [], ◌∷◌, length, Option, None, Some, Result, Ok, Err, refl, sym, ap, ◌∙◌, subst, arith, result_ok, decode_of, nat_tests, cut_at, Calls, Going, Last, InputEnd, End, Read, Calls-none, nat_le}
 use Rattle.aprs_io.specs.Input.{last_of_ending}
 use Rattle.aprs_io.specs.declared.device.Counted.{Counted}
-use Rattle.aprs_io.specs.declared.input.Ending.{Ending}
-use Rattle.aprs_io.specs.declared.input.Ending.TheVariants.{End, Read, TooLong}
-use Rattle.aprs_io.proofs.Sends.{Calls-none}
+use Rattle.aprs_io.specs.declared.input.InputEnd.TheVariants.{TooLong}
 use Rattle.aprs_log.specs.States.{last_in, state_after}
 use Rattle.aprs_log.specs.Awaits.{last_of_cause}
 use Rattle.aprs_log.specs.Fault.{log_cause_of}
 use Rattle.aprs_log.specs.Line.{line_of}
 use Rattle.aprs_log.specs.LogAnswers.{tail_cause}
 use Rattle.aprs_log.specs.MomentReading.{moment_of}
-use Rattle.aprs_log.specs.Receiver.{is_name}
-use Rattle.std.specs.Prelude.{nat_le}
+use Rattle.aprs_log.specs.Receiver.{is_receiver}
 use Rattle.aprs_log.specs.Steps.{◌otherwise◌then◌, guard}
 use Rattle.aprs_log.specs.declared.fault.LineFault.{LineFault}
 use Rattle.aprs_log.specs.declared.fault.LineFault.TheVariants as fault
@@ -47,7 +39,7 @@ whole_line l =
     after_step (cut_at 32 l) fault.Moment _ refl (λ first.
     after_step (moment_of first.before) fault.Moment _ refl (λ moment.
     after_step (cut_at 32 first.after) fault.Receiver _ refl (λ second.
-    after_step (guard (is_name second.before)) fault.Receiver _ refl (λ named.
+    after_step (guard (is_receiver second.before)) fault.Receiver _ refl (λ named.
     after_step (result_ok (decode_of second.after)) fault.Hex _ refl (λ bytes. record { is = refl }))))))
 
 -- a line's fault stops a reader that asked nothing of the device
@@ -59,7 +51,7 @@ fault_asks_nothing a l f c of is =
 
 -- ---- a tail that isn't too long stops it by how the input ended
 
-tail_tells : (tail : List ℕ) (e : Ending) → length tail ≤ MAX_LINE
+tail_tells : (tail : List ℕ) (e : InputEnd) → length tail ≤ MAX_LINE
     → last_in (state_after (tail_cause tail e)) ≡ last_of_ending e
 tail_tells [] End short = refl
 tail_tells (b ∷ bs) End short = grind (arith, nat_tests, short)
@@ -67,7 +59,7 @@ tail_tells tail Read short = grind (arith, nat_tests, short)
 tail_tells tail TooLong short = grind (arith, nat_tests, short)
 
 pub stops_as_told : {R : Type 0} {a b : Counted R} {s : State} {o : Option LogCause}
-    (tail : List ℕ) (e : Ending) → length tail ≤ MAX_LINE → o ≡ tail_cause tail e
+    (tail : List ℕ) (e : InputEnd) → length tail ≤ MAX_LINE → o ≡ tail_cause tail e
     → s ≡ state_after o → Calls (last_of_ending e) a b → Calls (last_in s) a b
 stops_as_told {R} {a} {b} tail e short is to p =
     subst (λ last. Calls last a b)

@@ -1,15 +1,12 @@
 -- What a line says, as relations and as the reading of the line.
-use Rattle.std.proofs.Common.{◌≡◌, ◌⊎◌, ℕ, ◌≤◌, Bool, true, false, List, ◌∷◌, ◌++◌, length, Option, None, Some, Result, Ok, Err, IsErr, inl, inr, refl, sym, ap, ◌∙◌, subst}
-use Rattle.std.proofs.lemmas.Bool.{cases_lt}
-use Rattle.hex.specs.Hex.{decode_of}
+use Rattle.aprs_log.proofs.Common.{◌≡◌, ◌⊎◌, ℕ, ◌≤◌, Bool, true, false, List, ◌∷◌, ◌++◌, length, Option, None, Some, Result, Ok, Err, IsErr, inl, inr, refl, sym, ap, ◌∙◌, subst, cases_lt, decode_of, Cut, cut_at}
 use Rattle.hex.specs.declared.error.FromHexError.{FromHexError}
-use Rattle.aprs_io.specs.Cut.{Cut, cut_at}
 use Rattle.aprs_log.specs.Fault.{log_cause_of}
 use Rattle.aprs_log.specs.Line.{frame_in, heard_or_passed, line_of, line_of_digits}
 use Rattle.aprs_log.specs.LineText.{HasMoment, HasReceiver, IsLine, IsPassed, IsWrongLine, Reports}
 use Rattle.aprs_log.specs.MomentReading.{moment_of}
-use Rattle.aprs_log.specs.Receiver.{IsName, is_name}
-use Rattle.aprs_log.specs.Reception.{Heard}
+use Rattle.aprs_log.specs.Receiver.{IsName, is_receiver}
+use Rattle.aprs_log.specs.Reception.{Received}
 use Rattle.aprs_log.specs.declared.fault.LineFault.{LineFault}
 use Rattle.aprs_log.specs.declared.fault.LineFault.TheVariants as fault
 use Rattle.aprs_log.specs.declared.fault.LogCause.{LogCause}
@@ -24,7 +21,7 @@ use Rattle.aprs_log.proofs.Lines.{HasFields, has_moment, has_receiver, line_of-f
 -- ---- a line that is in order
 
 -- what reading makes of a reception that is reported
-pub reports-line_of : (l : List ℕ) (x : Heard) → Reports l x → line_of l ≡ Ok (line.Heard x)
+pub reports-line_of : (l : List ℕ) (x : Received) → Reports l x → line_of l ≡ Ok (line.Heard x)
 reports-line_of l x h =
     line_of-syntax l x.moment x.receiver h.0 h.1
     ∙ ap (λ r. Ok (heard_or_passed x.moment x.receiver r)) (frame_in-carried h.0 x.frame h.2)
@@ -44,14 +41,14 @@ passed-line_of l h =
     passed_by (line_of l) h.0 h.1 (frame_in h.2) (line_of-syntax l h.0 h.1 h.2 h.3)
     (λ frame e. h.4 frame (carried-frame_in h.2 frame e))
 
-heard_parts : (m : ℕ) (name : List ℕ) (found : Result (List ℕ) Reason) (x : Heard)
+heard_parts : (m : ℕ) (name : List ℕ) (found : Result (List ℕ) Reason) (x : Received)
     → heard_or_passed m name found ≡ line.Heard x
     → (x.moment ≡ m) × (x.receiver ≡ name) × (found ≡ Ok x.frame)
 heard_parts m name (Ok frame) x e =
     let same : record { moment = m; receiver = name; frame = frame } ≡ x = cc in (
-      sym (ap (λ (x : Heard). x.moment) same),
-      sym (ap (λ (x : Heard). x.receiver) same),
-      ap (λ (x : Heard). Ok x.frame) same,
+      sym (ap (λ (x : Received). x.moment) same),
+      sym (ap (λ (x : Received). x.receiver) same),
+      ap (λ (x : Received). Ok x.frame) same,
     )
 heard_parts m name (Err reason) x e = absurd cc
 
@@ -68,7 +65,7 @@ said : (l : List ℕ) (is : HasFields l) (found : Line) → line_of l ≡ Ok fou
     → heard_or_passed is.0 is.1 (frame_in is.2) ≡ found
 said l is found e = ok_same _ found (line_of l) (line_of-syntax l is.0 is.1 is.2 is.3) e
 
-pub line_said-reports : (l : List ℕ) → HasFields l → (x : Heard) → line_of l ≡ Ok (line.Heard x)
+pub line_said-reports : (l : List ℕ) → HasFields l → (x : Received) → line_of l ≡ Ok (line.Heard x)
     → Reports l x
 line_said-reports l is x e =
     let parts = heard_parts is.0 is.1 (frame_in is.2) x (said l is _ e) in (
@@ -104,7 +101,7 @@ module _ (l : List ℕ) (short : length l ≤ MAX_LINE) where
   module _ (first : Cut) (m : ℕ) (e : cut_at 32 l ≡ Some first)
       (read : moment_of first.before ≡ Some m) where
     unnamed : (next : Cut) → cut_at 32 first.after ≡ Some next
-        → (b : Bool) → is_name next.before ≡ b
+        → (b : Bool) → is_receiver next.before ≡ b
         → ((m : ℕ) (name more : List ℕ) → ¬ HasReceiver l m name more)
         → line_of l ≡ Err fault.Receiver
     unnamed next second true named none =
@@ -118,7 +115,7 @@ module _ (l : List ℕ) (short : length l ≤ MAX_LINE) where
         → line_of l ≡ Err fault.Receiver
     no_name None second none =
         sym (line_of-one_cut l short first m (sym e) (sym read) (sym second))
-    no_name (Some next) second none = unnamed next second (is_name next.before) refl none
+    no_name (Some next) second none = unnamed next second (is_receiver next.before) refl none
 
   no_receiver : (m : ℕ) (more : List ℕ) → HasMoment l m more
       → ((m : ℕ) (name more : List ℕ) → ¬ HasReceiver l m name more)
@@ -205,19 +202,19 @@ module _ (l : List ℕ) (short : length l ≤ MAX_LINE) where
         (why.Receiver, (short, (m, first.after, has_moment l first m e read), none))
 
     by_name : (next : Cut) → cut_at 32 first.after ≡ Some next → (b : Bool)
-        → is_name next.before ≡ b → IsWrong l ⊎ HasFields l
+        → is_receiver next.before ≡ b → IsWrong l ⊎ HasFields l
     by_name next second true named =
         by_digits first next m e read second named (decode_of next.after) refl
     by_name next second false named = inl (wrong_name (λ n name more h.
         let same : name ≡ next.before = ap (λ (c : Cut). c.before)
         (some_same _ next (cut_at 32 first.after) (after_same n name more h) second) in
-        let is : is_name next.before ≡ true = subst (λ b. is_name b ≡ true) same h.0 in
+        let is : is_receiver next.before ≡ true = subst (λ b. is_receiver b ≡ true) same h.0 in
         let bad : true ≡ false = sym is ∙ named in cc))
 
     by_second : (o : Option Cut) → cut_at 32 first.after ≡ o → IsWrong l ⊎ HasFields l
     by_second None second = inl (wrong_name (λ n name more h.
         not_none _ (cut_at 32 first.after) (after_same n name more h) second))
-    by_second (Some next) second = by_name next second (is_name next.before) refl
+    by_second (Some next) second = by_name next second (is_receiver next.before) refl
 
   by_moment : (first : Cut) → cut_at 32 l ≡ Some first → (r : Option ℕ)
       → moment_of first.before ≡ r → IsWrong l ⊎ HasFields l
@@ -265,7 +262,7 @@ line_of-is l x e = elim (wrong_or_line l) as (λ _. HasFields l) [
   | inr is ↦ is
 ]
 
-pub line_of-reports : (l : List ℕ) (x : Heard) → line_of l ≡ Ok (line.Heard x) → Reports l x
+pub line_of-reports : (l : List ℕ) (x : Received) → line_of l ≡ Ok (line.Heard x) → Reports l x
 line_of-reports l x e = line_said-reports l (line_of-is l (line.Heard x) e) x e
 
 pub line_of-passed : (l : List ℕ) → IsPassedOver (line_of l) → IsPassed l

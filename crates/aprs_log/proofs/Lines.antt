@@ -1,17 +1,11 @@
 -- Lemmas on the lines of a log.
-use Rattle.std.proofs.Common.{◌≡◌, ◌↔◌, ℕ, ◌/◌, ◌%◌, ◌<◌, ◌≤◌, ◌&&◌, Bool, true, false, List, [], ◌∷◌, ◌++◌, length, Option, None, Some, Result, Ok, Err, IsOk, nat_le, unwrap_or, refl, arith, sym, ap, ◌∙◌, subst}
-use Rattle.std.specs.List.{list_all}
-use Rattle.std.proofs.lemmas.Bool.{le-leb, leb-true}
-use Rattle.std.proofs.lemmas.Bool.Decides.{nat_tests}
-use Rattle.std.specs.Result.{result_ok}
-use Rattle.hex.specs.Hex.{decode_of}
-use Rattle.aprs_io.specs.Cut.{Cut, cut_at, is_byte}
+use Rattle.aprs_log.proofs.Common.{◌≡◌, ◌↔◌, ℕ, ◌/◌, ◌%◌, ◌<◌, ◌≤◌, ◌&&◌, Bool, true, false, List, [], ◌∷◌, ◌++◌, length, Option, None, Some, Result, Ok, Err, IsOk, nat_le, unwrap_or, refl, arith, sym, ap, ◌∙◌, subst, list_all, le-leb, leb-true, nat_tests, result_ok, decode_of, Cut, cut_at, is_byte, Lacks, cut_at-append, cut_at-parts}
 use Rattle.aprs_log.specs.declared.moment_form.MomentForm.{MomentForm}
 use Rattle.aprs_log.specs.declared.moment_form.MomentForm.TheVariants.{Seconds, Millis}
 use Rattle.aprs_log.specs.Moment.{two_digits, fraction_text, IsTextOf}
-use Rattle.aprs_log.specs.CivilMoment.{MomentText}
+use Rattle.aprs_log.specs.CivilMoment.{IsMomentText}
 use Rattle.aprs_log.specs.MomentReading.{Civil, civil_text, moment_of}
-use Rattle.aprs_log.specs.Receiver.{IsName, is_name, is_name_byte}
+use Rattle.aprs_log.specs.Receiver.{IsName, is_receiver, is_name_byte}
 use Rattle.aprs_log.specs.Line.{frame_in, heard_or_passed, line_of, line_of_digits}
 use Rattle.aprs_log.specs.LineText.{HasMoment, HasReceiver, IsLine}
 use Rattle.aprs_log.specs.Steps.{◌otherwise◌then◌, guard}
@@ -19,7 +13,6 @@ use Rattle.aprs_log.specs.declared.line.TheConstants.{MAX_LINE}
 use Rattle.aprs_log.specs.declared.fault.LineFault.{LineFault}
 use Rattle.aprs_log.specs.declared.fault.LineFault.TheVariants as fault
 use Rattle.aprs_log.specs.declared.line.Line.{Line}
-use Rattle.aprs_io.proofs.Cuts.{Lacks, cut_at-append, cut_at-parts}
 use Rattle.aprs_log.proofs.Moments.{IsTextOf-text, moment_of-text, text-IsTextOf, text-moment_of}
 
 -- ---- a line's first two fields have no space
@@ -83,14 +76,14 @@ module _ (stop : ℕ) (low : stop ≤ 32) where
       lacks_pair (c.year / 100) (two_digits (c.year % 100) ++ month)
       (lacks_pair (c.year % 100) month o)
 
-  pub moment_lacks : (m : ℕ) (t : List ℕ) → MomentText m t → Lacks stop t
+  pub moment_lacks : (m : ℕ) (t : List ℕ) → IsMomentText m t → Lacks stop t
   moment_lacks m t h = subst (Lacks stop) (sym h.1.spelled)
       (civil_text-lacks h.0 h.1.civil h.1.millis)
 
 pub IsName-lacks : (r : List ℕ) → IsName r → Lacks 32 r
 IsName-lacks r h = name_lacks 32 (omega arith) r h
 
-pub MomentText-lacks : (m : ℕ) (t : List ℕ) → MomentText m t → Lacks 32 t
+pub MomentText-lacks : (m : ℕ) (t : List ℕ) → IsMomentText m t → Lacks 32 t
 MomentText-lacks m t h = moment_lacks 32 (omega arith) m t h
 
 -- ---- where the first two fields of a line end
@@ -146,7 +139,7 @@ line_of-syntax l m name bytes s =
     let second : cut_at 32 rest ≡ Some (record { before = name; after = s.digits })
     = name_cut name s.digits s.fields.0 in
     let moment : moment_of text ≡ Some m = moment_read m text s.fields.1.1 in
-    let named : is_name name ≡ true = s.fields.0 in
+    let named : is_receiver name ≡ true = s.fields.0 in
     rw (is_short l s.short, first, moment, second, named, s.is_hex)
 
 -- the line has this syntax
@@ -179,7 +172,7 @@ line_of-sound l h =
     let first = found_if (cut_at 32 l) fault.Moment _ short.2 in
     let moment = found_if (moment_of first.0.before) fault.Moment _ first.2 in
     let second = found_if (cut_at 32 first.0.after) fault.Receiver _ moment.2 in
-    let named = found_if (guard (is_name second.0.before)) fault.Receiver _ second.2 in
+    let named = found_if (guard (is_receiver second.0.before)) fault.Receiver _ second.2 in
     let bytes = found_if (result_ok (decode_of second.0.after)) fault.Hex _ named.2 in (
       moment.0,
       second.0.before,
@@ -188,7 +181,7 @@ line_of-sound l h =
         short = leb-true _ _ (guard_if _ short.0 short.1);
         digits = second.0.after;
         fields = has_receiver l first.0 second.0 moment.0 first.1 moment.1 second.1
-            (guard_if (is_name second.0.before) named.0 named.1);
+            (guard_if (is_receiver second.0.before) named.0 named.1);
         is_hex = value_if (decode_of second.0.after) bytes.0 bytes.1;
       },
     )
@@ -221,7 +214,7 @@ module _ (l : List ℕ) (short : length l ≤ MAX_LINE) where
       → ¬ IsName next.before → Err fault.Receiver ≡ line_of l
   unfolding line_of
   line_of-no_name first next m e read second none =
-      rw (is_short l short, ← e, ← read, ← second, is_false (is_name next.before) none)
+      rw (is_short l short, ← e, ← read, ← second, is_false (is_receiver next.before) none)
 
   pub line_of-fields : (first next : Cut) (m : ℕ) (r : List ℕ) → Some first ≡ cut_at 32 l
       → Some m ≡ moment_of first.before
@@ -229,7 +222,7 @@ module _ (l : List ℕ) (short : length l ≤ MAX_LINE) where
       → line_of_digits m r next.after ≡ line_of l
   unfolding line_of
   line_of-fields first next m r e read second name is =
-      let named : is_name next.before ≡ true = name in
+      let named : is_receiver next.before ≡ true = name in
       ap (λ r. line_of_digits m r next.after) is
       ∙ rw (is_short l short, ← e, ← read, ← second, named)
 

@@ -1,21 +1,16 @@
 -- Lemmas on the answers of a log, of which only the first bytes may be known.
-use Rattle.std.proofs.Common.{◌≡◌, ℕ, ◌+◌, ◌≤◌, ◌<◌, List, [], ◌∷◌, ◌++◌, Bool, true, false, length, get_or, None, Some, inl, inr, cond, refl, arith, sym, ap, ◌∙◌, append_assoc, append-nil, length-append, length-take, IsTrue}
-use Rattle.std.specs.List.{slice_split, position_or_len, before_first, after_first, All}
+use Rattle.aprs_log.proofs.Common.{◌≡◌, ℕ, ◌+◌, ◌≤◌, ◌<◌, List, [], ◌∷◌, ◌++◌, Bool, true, false, length, get_or, None, Some, inl, inr, cond, refl, arith, sym, ap, ◌∙◌, append_assoc, IsTrue, slice_split, position_or_len, before_first, after_first, All, get_or-take, nat_tests, cases_lt, Cut, cut_at, first_cut, has_byte, InputEnd}
+use Rattle.std.proofs.Common.{append-nil, length-append, length-take}
 use Rattle.std.proofs.lemmas.List.Splits.{slice_split_at, slice_split_none, length-slice_split}
 use Rattle.std.proofs.lemmas.List.Sums.{fails_before_first, passes_at_first, split_at_first}
-use Rattle.std.proofs.lemmas.List.{get_or-take}
 use Rattle.std.proofs.Math.ListN.{get_or-append}
-use Rattle.std.proofs.lemmas.Bool.Decides.{nat_tests}
-use Rattle.std.proofs.lemmas.Bool.{cases_lt}
-use Rattle.aprs_io.specs.Cut.{Cut, cut_at, first_cut, has_byte}
 use Rattle.aprs_log.specs.Line.{line_of}
 use Rattle.aprs_log.proofs.Lines.{line_of-long}
 use Rattle.aprs_log.specs.LogAnswers.{is_lf, tail_cause, fault_at, end_with, then_answers, answers_of, answers_from}
-use Rattle.aprs_io.specs.declared.input.Ending.{Ending}
 use Rattle.aprs_log.specs.declared.fault.LogCause.TheVariants as cause
 use Rattle.aprs_log.specs.declared.line.TheConstants.{MAX_LINE}
 
-answers_of-more : (n : ℕ) (l : List ℕ) (more : List (List ℕ)) (c : Ending) → 0 < length more
+answers_of-more : (n : ℕ) (l : List ℕ) (more : List (List ℕ)) (c : InputEnd) → 0 < length more
     → answers_of n (l ∷ more) c ≡ then_answers n (line_of l) (answers_of (n + 1) more c)
 answers_of-more n l [] c h = absurd (omega (arith, h))
 answers_of-more n l (x ∷ more) c h = refl
@@ -37,7 +32,7 @@ above : (text : List ℕ) → has_byte 10 text ≡ false → length text ≤ pos
 above text h = grind (arith, nat_tests)
 
 -- the first line of what is held is answered, whatever comes after what is held
-from_first : (n : ℕ) (held more : List ℕ) (c : Ending) → position_or_len is_lf held < length held
+from_first : (n : ℕ) (held more : List ℕ) (c : InputEnd) → position_or_len is_lf held < length held
     → answers_from n (held ++ more) c
     ≡ then_answers n (line_of (before_first is_lf held))
     (answers_from (n + 1) (after_first is_lf held ++ more) c)
@@ -58,7 +53,7 @@ from_first n held more c h =
     ∙ answers_of-more n prefix (slice_split is_lf (after ++ more)) c
     (omega (arith, length-slice_split is_lf (after ++ more)))
 
-pub answers_from-line : (n : ℕ) (held more : List ℕ) (c : Ending) (cut : Cut)
+pub answers_from-line : (n : ℕ) (held more : List ℕ) (c : InputEnd) (cut : Cut)
     → cut_at 10 held ≡ Some cut
     → answers_from n (held ++ more) c
     ≡ then_answers n (line_of cut.before) (answers_from (n + 1) (cut.after ++ more) c)
@@ -86,7 +81,7 @@ uncut_lacks stop text e h =
     let lacks : has_byte stop text ≡ false = missing (has_byte stop text) (first_cut stop text) e in
     let bad : true ≡ false = sym h ∙ lacks in cc
 
-pub answers_from-tail : (n : ℕ) (t : List ℕ) (c : Ending) → length t ≤ position_or_len is_lf t
+pub answers_from-tail : (n : ℕ) (t : List ℕ) (c : InputEnd) → length t ≤ position_or_len is_lf t
     → answers_from n t c ≡ end_with (fault_at n (tail_cause t c))
 answers_from-tail n t c h =
     let all : All (λ x. is_lf x ≡ false) t
@@ -95,7 +90,7 @@ answers_from-tail n t c h =
 
 -- ---- more bytes than a line may have, and no LF: the line is too long, whatever comes
 
-pub too_long_tail : (l : List ℕ) (c : Ending) → MAX_LINE < length l
+pub too_long_tail : (l : List ℕ) (c : InputEnd) → MAX_LINE < length l
     → tail_cause l c ≡ Some cause.LongLine
 too_long_tail l c h = grind (arith, nat_tests)
 
@@ -112,7 +107,7 @@ past : (held more : List ℕ) → length held ≤ position_or_len is_lf held
     → length held ≤ position_or_len is_lf (held ++ more)
 past held more h = omega (arith, not_below held more h)
 
-pub answers_from-long : (n : ℕ) (held more : List ℕ) (c : Ending)
+pub answers_from-long : (n : ℕ) (held more : List ℕ) (c : InputEnd)
     → length held ≤ position_or_len is_lf held → MAX_LINE < length held
     → answers_from n (held ++ more) c ≡ end_with (fault_at n (Some cause.LongLine))
 answers_from-long n held more c none long =

@@ -1,21 +1,13 @@
 -- A log's text, as relations and as the answers of its reading.
-use Rattle.std.proofs.Common.{◌≡◌, ◌≢◌, ◌⊎◌, ℕ, zero, suc, ◌+◌, ◌<◌, ◌≤◌, nat_lt, Bool, true, false, List, [], ◌∷◌, ◌++◌, length, Option, None, Some, Result, Ok, Err, inl, inr, cond, refl, arith, sym, ap, ◌∙◌, subst, append_assoc, append-nil, length-append, eqb-true}
-use Rattle.std.specs.List.{AllByRecursion}
-use Rattle.std.proofs.lemmas.Bool.{cases_lt}
-use Rattle.std.proofs.lemmas.Bool.Decides.{nat_tests}
-use Rattle.std.proofs.lemmas.List.Elements.{All-from_recursion, recursion_from_All}
-use Rattle.hex.specs.Hex.{is_hex_digit}
-use Rattle.hex.proofs.HexLemmas.{decode_of-ok}
-use Rattle.aprs_io.specs.Cut.{Cut, cut_at, is_byte}
-use Rattle.aprs_io.proofs.Cuts.{Lacks, cut_at-append, cut_at-parts}
-use Rattle.aprs_io.specs.declared.input.Ending.{Ending}
-use Rattle.aprs_io.specs.declared.input.Ending.TheVariants as how
+use Rattle.aprs_log.proofs.Common.{◌≡◌, ◌≢◌, ◌⊎◌, ℕ, zero, suc, ◌+◌, ◌<◌, ◌≤◌, nat_lt, Bool, true, false, List, [], ◌∷◌, ◌++◌, length, Option, None, Some, Result, Ok, Err, inl, inr, cond, refl, arith, sym, ap, ◌∙◌, subst, append_assoc, eqb-true, AllByRecursion, cases_lt, nat_tests, All-from_recursion, recursion_from_All, is_hex_digit, decode_of-ok, Cut, cut_at, is_byte, Lacks, cut_at-append, cut_at-parts, InputEnd}
+use Rattle.std.proofs.Common.{append-nil, length-append}
+use Rattle.aprs_io.specs.declared.input.InputEnd.TheVariants as how
 use Rattle.aprs_log.specs.Fault.{log_cause_of}
 use Rattle.aprs_log.specs.Line.{line_of}
 use Rattle.aprs_log.specs.LineText.{IsWrongLine}
 use Rattle.aprs_log.specs.LogAnswers.{Answers, answers_from, end_with, short_tail_cause, fault_at, log_answers, receptions_of, tail_cause, then_answers}
 use Rattle.aprs_log.specs.LogText.{BeginsWrong, HasLogFault, HasNoLf, IsLogText, IsWrongTail, ReportAll, text_of_lines}
-use Rattle.aprs_log.specs.Reception.{Heard}
+use Rattle.aprs_log.specs.Reception.{Received}
 use Rattle.aprs_log.specs.declared.fault.LineFault.{LineFault}
 use Rattle.aprs_log.specs.declared.fault.LogCause.{LogCause}
 use Rattle.aprs_log.specs.declared.fault.LogCause.TheVariants as why
@@ -114,7 +106,7 @@ first_line (b ∷ text) = first_by b text (is_byte 10 b) refl (first_line text)
 -- ---- the answers of a text
 
 -- the first line is answered, and then what follows it
-answers_from-first : (n : ℕ) (l more : List ℕ) (e : Ending) → Lacks 10 l
+answers_from-first : (n : ℕ) (l more : List ℕ) (e : InputEnd) → Lacks 10 l
     → answers_from n (l ++ 10 ∷ more) e
     ≡ then_answers n (line_of l) (answers_from (n + 1) more e)
 answers_from-first n l more e h =
@@ -128,14 +120,14 @@ uncut_by t h (Some cut) e =
     absurd (has_lf cut.before cut.after (subst (Lacks 10) (cut_at-parts 10 t cut e) h))
 
 -- what has no LF is the tail
-answers_from-last : (n : ℕ) (t : List ℕ) (e : Ending) → Lacks 10 t
+answers_from-last : (n : ℕ) (t : List ℕ) (e : InputEnd) → Lacks 10 t
     → answers_from n t e ≡ end_with (fault_at n (tail_cause t e))
 answers_from-last n t e h =
     answers_from-tail n t e (no_lf t (uncut_by t h (cut_at 10 t) refl))
 
 -- ---- the tail
 
-short_tail : (t : List ℕ) (e : Ending) → length t ≤ MAX_LINE → tail_cause t e ≡ short_tail_cause e t
+short_tail : (t : List ℕ) (e : InputEnd) → length t ≤ MAX_LINE → tail_cause t e ≡ short_tail_cause e t
 short_tail t e h = unless_long (nat_lt MAX_LINE (length t)) (grind (arith, nat_tests)) where
   unless_long : (b : Bool) → b ≡ false
       → cond b (Some why.LongLine) (short_tail_cause e t) ≡ short_tail_cause e t
@@ -148,13 +140,13 @@ some_same c d o e f = cc
 none_some : (c : LogCause) (o : Option LogCause) → o ≡ None → o ≡ Some c → ⊥
 none_some c o e f = absurd cc
 
-good_ending : (t : List ℕ) (e : Ending) → short_tail_cause e t ≡ None → (t ≡ []) × (e ≡ how.End)
+good_ending : (t : List ℕ) (e : InputEnd) → short_tail_cause e t ≡ None → (t ≡ []) × (e ≡ how.End)
 good_ending t how.Read h = absurd cc
 good_ending t how.TooLong h = absurd cc
 good_ending [] how.End h = (refl, refl)
 good_ending (b ∷ t) how.End h = absurd cc
 
-wrong_ending : (t : List ℕ) (e : Ending) (c : LogCause) → length t ≤ MAX_LINE
+wrong_ending : (t : List ℕ) (e : InputEnd) (c : LogCause) → length t ≤ MAX_LINE
     → short_tail_cause e t ≡ Some c → IsWrongTail t e c
 wrong_ending t how.Read c short h =
     subst (IsWrongTail t how.Read) (some_same why.Read c _ refl h) (short, refl)
@@ -165,13 +157,13 @@ wrong_ending (b ∷ t) how.End c short h =
     subst (IsWrongTail (b ∷ t) how.End) (some_same why.NoNewline c _ refl h)
     (short, refl, λ e. let bad : ⊥ = absurd cc in bad)
 
-good_tail : (t : List ℕ) (e : Ending) → tail_cause t e ≡ None → (t ≡ []) × (e ≡ how.End)
+good_tail : (t : List ℕ) (e : InputEnd) → tail_cause t e ≡ None → (t ≡ []) × (e ≡ how.End)
 good_tail t e h = elim (cases_lt MAX_LINE (length t)) as (λ _. (t ≡ []) × (e ≡ how.End)) [
   | inl long ↦ absurd (none_some why.LongLine (tail_cause t e) h (too_long_tail t e long))
   | inr short ↦ good_ending t e (sym (short_tail t e short) ∙ h)
 ]
 
-wrong_tail : (t : List ℕ) (e : Ending) (c : LogCause) → tail_cause t e ≡ Some c
+wrong_tail : (t : List ℕ) (e : InputEnd) (c : LogCause) → tail_cause t e ≡ Some c
     → IsWrongTail t e c
 wrong_tail t e c h = elim (cases_lt MAX_LINE (length t)) as (λ _. IsWrongTail t e c) [
   | inl long ↦
@@ -183,7 +175,7 @@ not_newline : (t : List ℕ) → t ≢ [] → short_tail_cause how.End t ≡ Som
 not_newline [] h = absurd (h refl)
 not_newline (b ∷ t) h = refl
 
-cause_of_tail : (t : List ℕ) (e : Ending) (c : LogCause) → IsWrongTail t e c
+cause_of_tail : (t : List ℕ) (e : InputEnd) (c : LogCause) → IsWrongTail t e c
     → tail_cause t e ≡ Some c
 cause_of_tail t e why.LongLine h = too_long_tail t e h
 cause_of_tail t e why.NoNewline h =
@@ -198,18 +190,18 @@ cause_of_tail t e why.Memory h = absurd h
 -- ---- what the answers tell of the text
 
 -- as `HasLogFault`, where the first line is line n
-record FaultFrom (n : ℕ) (text : List ℕ) (e : Ending) (fault : LogFault) : Type 0 where
+record FaultFrom (n : ℕ) (text : List ℕ) (e : InputEnd) (fault : LogFault) : Type 0 where
   lines : List (List ℕ)
   rest : List ℕ
   text_is : text ≡ text_of_lines lines ++ rest
-  before : (S : List Heard) × ReportAll lines S
+  before : (S : List Received) × ReportAll lines S
   number : fault.line ≡ length lines + n
   wrong : BeginsWrong rest e fault.cause
 
 first_number : (n : ℕ) → n ≡ 0 + n
 first_number n = omega arith
 
-record Tells (n : ℕ) (text : List ℕ) (e : Ending) (answers : Answers) : Type 0 where
+record Tells (n : ℕ) (text : List ℕ) (e : InputEnd) (answers : Answers) : Type 0 where
   sound : answers.fault ≡ None → IsLogText text e (receptions_of answers.given)
   fault : (f : LogFault) → answers.fault ≡ Some f → FaultFrom n text e f
 
@@ -229,7 +221,7 @@ is_fault n (Some c) f e =
       cause = ap (λ (f : LogFault). Some f.cause) same;
     }
 
-tells_last : (n : ℕ) (t : List ℕ) (e : Ending) → Lacks 10 t
+tells_last : (n : ℕ) (t : List ℕ) (e : InputEnd) → Lacks 10 t
     → Tells n t e (end_with (fault_at n (tail_cause t e)))
 tells_last n t e h = record {
   sound = λ none.
@@ -246,7 +238,7 @@ tells_last n t e h = record {
       };
 }
 
-module _ (n : ℕ) (l more : List ℕ) (e : Ending) (answers : Answers)
+module _ (n : ℕ) (l more : List ℕ) (e : InputEnd) (answers : Answers)
     (told : Tells (n + 1) more e answers) where
   lines_join : (lines : List (List ℕ)) (rest : List ℕ) → more ≡ text_of_lines lines ++ rest
       → l ++ 10 ∷ more ≡ text_of_lines (l ∷ lines) ++ rest
@@ -260,8 +252,8 @@ module _ (n : ℕ) (l more : List ℕ) (e : Ending) (answers : Answers)
       ∙ sym (append_assoc l (10 ∷ []) (text_of_lines lines))
 
   -- a line that is in order goes before what is told of the rest
-  join : (add : List Heard → List Heard)
-      → ((lines : List (List ℕ)) (S : List Heard) → ReportAll lines S
+  join : (add : List Received → List Received)
+      → ((lines : List (List ℕ)) (S : List Received) → ReportAll lines S
       → ReportAll (l ∷ lines) (add S))
       → (given : List Line) → receptions_of given ≡ add (receptions_of answers.given)
       → Tells n (l ++ 10 ∷ more) e (record { given = given; fault = answers.fault })
@@ -320,7 +312,7 @@ shorter text l more is =
     let same : length text ≡ length (l ++ 10 ∷ more) = ap length is in
     omega (arith, len, same)
 
-tells_by : (n : ℕ) (text : List ℕ) (e : Ending)
+tells_by : (n : ℕ) (text : List ℕ) (e : InputEnd)
     → ((more : List ℕ) → length more < length text
     → Tells (n + 1) more e (answers_from (n + 1) more e))
     → Lacks 10 text ⊎ FirstLine text → Tells n text e (answers_from n text e)
@@ -334,7 +326,7 @@ tells_by n text e told (inr first) =
     subst (λ t. Tells n t e (answers_from n t e)) (sym first.is)
     (subst (Tells n (l ++ 10 ∷ more) e) (sym (answers_from-first n l more e first.lacks)) one)
 
-tells : (k n : ℕ) (text : List ℕ) (e : Ending) → length text ≤ k
+tells : (k n : ℕ) (text : List ℕ) (e : InputEnd) → length text ≤ k
     → Tells n text e (answers_from n text e)
 tells zero n text e few =
     tells_by n text e (λ more less. absurd (omega (arith, few, less))) (first_line text)
@@ -345,14 +337,14 @@ tells (suc k) n text e few =
 -- ---- what the text tells of the answers
 
 -- lines that are in order are answered, and then the rest
-record Gives (lines : List (List ℕ)) (S : List Heard) (n : ℕ) (rest : List ℕ) (e : Ending)
+record Gives (lines : List (List ℕ)) (S : List Received) (n : ℕ) (rest : List ℕ) (e : InputEnd)
     : Type 0 where
   fault : (answers_from n (text_of_lines lines ++ rest) e).fault
       ≡ (answers_from (length lines + n) rest e).fault
   heard : receptions_of (answers_from n (text_of_lines lines ++ rest) e).given
       ≡ S ++ receptions_of (answers_from (length lines + n) rest e).given
 
-answers_join : (n : ℕ) (l : List ℕ) (lines : List (List ℕ)) (rest : List ℕ) (e : Ending) (x : Line)
+answers_join : (n : ℕ) (l : List ℕ) (lines : List (List ℕ)) (rest : List ℕ) (e : InputEnd) (x : Line)
     → line_of l ≡ Ok x → answers_from n (text_of_lines (l ∷ lines) ++ rest) e
     ≡ then_answers n (Ok x) (answers_from (n + 1) (text_of_lines lines ++ rest) e)
 answers_join n l lines rest e x found =
@@ -361,14 +353,14 @@ answers_join n l lines rest e x found =
     ∙ answers_from-first n l (text_of_lines lines ++ rest) e (line_lacks l (line_of-is l x found))
     ∙ ap (λ r. then_answers n r (answers_from (n + 1) (text_of_lines lines ++ rest) e)) found
 
-abbrev heard_in : Answers → List Heard
+abbrev heard_in : Answers → List Received
 heard_in answers = receptions_of answers.given
 
 next_number : (k n : ℕ) → k + (n + 1) ≡ suc k + n
 next_number k n = omega arith
 
-gives : (lines : List (List ℕ)) (S : List Heard) → ReportAll lines S → (n : ℕ) (rest : List ℕ)
-    (e : Ending) → Gives lines S n rest e
+gives : (lines : List (List ℕ)) (S : List Received) → ReportAll lines S → (n : ℕ) (rest : List ℕ)
+    (e : InputEnd) → Gives lines S n rest e
 gives [] S all n rest e =
     let at = ap (λ k. answers_from k rest e) (first_number n) in record {
       fault = ap (λ (a : Answers). a.fault) at;
@@ -398,13 +390,13 @@ gives (l ∷ lines) S (inr one) n rest e =
 
 -- ---- both ways
 
-pub answers-log_text : (text : List ℕ) (e : Ending) (S : List Heard)
+pub answers-log_text : (text : List ℕ) (e : InputEnd) (S : List Received)
     → ((log_answers text e).fault ≡ None) × (receptions_of (log_answers text e).given ≡ S)
     → IsLogText text e S
 answers-log_text text e S h = subst (IsLogText text e) h.1
     ((tells (length text) 1 text e (omega arith)).sound h.0)
 
-pub log_text-answers : (text : List ℕ) (e : Ending) (S : List Heard) → IsLogText text e S
+pub log_text-answers : (text : List ℕ) (e : InputEnd) (S : List Received) → IsLogText text e S
     → ((log_answers text e).fault ≡ None) × (receptions_of (log_answers text e).given ≡ S)
 log_text-answers text e S h =
     let all = gives h.lines S h.report 1 [] how.End in
@@ -415,7 +407,7 @@ log_text-answers text e S h =
       ap heard_in same ∙ all.heard ∙ append-nil S,
     )
 
-pub answers-log_fault : (text : List ℕ) (e : Ending) (fault : LogFault)
+pub answers-log_fault : (text : List ℕ) (e : InputEnd) (fault : LogFault)
     → (log_answers text e).fault ≡ Some fault → HasLogFault text e fault
 answers-log_fault text e fault h =
     let found = (tells (length text) 1 text e (omega arith)).fault fault h in record {
@@ -427,7 +419,7 @@ answers-log_fault text e fault h =
       wrong = found.wrong;
     }
 
-fault_there : (n : ℕ) (rest : List ℕ) (e : Ending) (cause : LogCause) → BeginsWrong rest e cause
+fault_there : (n : ℕ) (rest : List ℕ) (e : InputEnd) (cause : LogCause) → BeginsWrong rest e cause
     → (answers_from n rest e).fault ≡ Some (record { line = n; cause = cause })
 fault_there n rest e cause (inl tail) =
     ap (λ (a : Answers). a.fault) (answers_from-last n rest e (none-lacks rest tail.0))
@@ -442,7 +434,7 @@ fault_there n rest e cause (inr wrong) =
     ∙ ap (λ r. then_answers n r (answers_from (n + 1) more e)) refused.1)
     ∙ ap (λ c. fault_at n (Some c)) refused.2
 
-pub log_fault-answers : (text : List ℕ) (e : Ending) (fault : LogFault)
+pub log_fault-answers : (text : List ℕ) (e : InputEnd) (fault : LogFault)
     → HasLogFault text e fault → (log_answers text e).fault ≡ Some fault
 log_fault-answers text e fault h =
     ap (λ t. (log_answers t e).fault) h.text_is

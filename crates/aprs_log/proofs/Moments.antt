@@ -1,19 +1,13 @@
 -- Lemmas on moments and their texts.
-use Rattle.std.proofs.Common.{◌≡◌, ℕ, ◌+◌, ◌*◌, ◌/◌, ◌%◌, ◌<◌, ◌≤◌, ◌↔◌, nat_lt, Bool, true, false, List, length, Option, None, Some, pos, ◌+ℤ◌, ◌*ℤ◌, unsigned_abs, refl, arith, sym, ap, ◌∙◌, ◌&&◌, cond, subst}
-use Rattle.std.proofs.lemmas.Bool.{and_from, lt-ltb, ltb-true}
-use Rattle.std.proofs.lemmas.Bool.Decides.{nat_tests}
-use Rattle.std.specs.Str.{bytes_eq}
-use Rattle.std.proofs.lemmas.Slice.Eq.{bytes_eq-Decides}
-use Rattle.jiff_core.specs.Calendar.{days_from_civil, days_in_month}
-use Rattle.jiff_core.proofs.SignedLemmas.{signed_arith}
+use Rattle.aprs_log.proofs.Common.{◌≡◌, ℕ, ◌+◌, ◌*◌, ◌/◌, ◌%◌, ◌<◌, ◌≤◌, ◌↔◌, nat_lt, Bool, true, false, List, length, Option, None, Some, pos, ◌+ℤ◌, ◌*ℤ◌, unsigned_abs, refl, arith, sym, ap, ◌∙◌, ◌&&◌, cond, subst, and_from, lt-ltb, ltb-true, nat_tests, bytes_eq, bytes_eq-Decides, days_from_civil, days_in_month, signed_arith}
 use Rattle.aprs_log.proofs.Days.{IsDay-few, IsDay-number, one_date, NthDay, day_after-is}
 use Rattle.aprs_log.specs.declared.moment_form.MomentForm.{MomentForm}
 use Rattle.aprs_log.specs.declared.moment_form.MomentForm.TheVariants.{Seconds, Millis}
 use Rattle.aprs_log.specs.Places.{near_civil, near_digit, near_millis}
 use Rattle.aprs_log.specs.Clock.{form_size}
 use Rattle.aprs_log.specs.Moment.{Day, IsTextOf, IsWritable, room_of, day_after, moment_text_in}
-use Rattle.aprs_log.specs.CivilMoment.{IsCivil, MomentTextIn, MomentText, civil_after}
-use Rattle.aprs_log.specs.MomentReading.{Civil, civil_at, civil_text, digit_of, is_date, is_time, is_civil, is_real, second_of_day, seconds_of, millis_at, moment_in, form_of_text, moment_of}
+use Rattle.aprs_log.specs.CivilMoment.{IsCivil, IsMomentTextIn, IsMomentText, civil_after}
+use Rattle.aprs_log.specs.MomentReading.{Civil, civil_at, civil_text, digit_of, is_date, is_time, is_date_and_time, is_real, second_of_day, seconds_of, millis_at, moment_in, form_of_text, moment_of}
 
 -- a civil time whose parts have as many digits as a text has room for
 pub record FitsText (c : Civil) : Type 0 where
@@ -116,7 +110,7 @@ both : (a b : Bool) → a && b ≡ true → (a ≡ true) × (b ≡ true)
 both true b h = (refl, h)
 both false b h = absurd (let e : false ≡ true = h in cc)
 
-is_civil-IsCivil : (c : Civil) → is_civil c ≡ true → IsCivil c
+is_civil-IsCivil : (c : Civil) → is_date_and_time c ≡ true → IsCivil c
 is_civil-IsCivil c h =
     let p = both (is_date c) (is_time c) h in
     let q = p.0 in
@@ -142,7 +136,7 @@ is_civil-IsCivil c h =
       second = grind (arith, nat_tests);
     }
 
-IsCivil-is_civil : (c : Civil) → IsCivil c → is_civil c ≡ true
+IsCivil-is_civil : (c : Civil) → IsCivil c → is_date_and_time c ≡ true
 IsCivil-is_civil c h = grind (arith, nat_tests)
 
 -- a real time, with milliseconds that the form can write
@@ -152,7 +146,7 @@ record Real (form : MomentForm) (c : Civil) (n : ℕ) : Type 0 where
 
 is_real-Real : (form : MomentForm) (c : Civil) (n : ℕ) → is_real form c n ≡ true → Real form c n
 is_real-Real form c n h =
-    let p = both (is_civil c) (nat_lt n (room_of form)) h in
+    let p = both (is_date_and_time c) (nat_lt n (room_of form)) h in
     record { civil = is_civil-IsCivil c p.0; below = ltb-true _ _ p.1 }
 
 is_real-true : (form : MomentForm) (c : Civil) (n : ℕ) → IsCivil c → n < room_of form
@@ -196,7 +190,7 @@ some_if true x m e = (refl, cc)
 some_if false x m e = absurd cc
 
 pub moment_in-text : (form : MomentForm) (t : List ℕ) (m : ℕ) → moment_in form t ≡ Some m
-    → MomentTextIn form m t
+    → IsMomentTextIn form m t
 unfolding moment_in
 moment_in-text form t m e =
     let c = civil_at t in
@@ -237,14 +231,14 @@ moment_in-civil form c n h below =
     there ∙ if_both (is_real form c n) (bytes_eq t t) (seconds_of c * 1000 + n)
     (is_real-true form c n h below) ((bytes_eq-Decides t t).1 refl)
 
-pub text-moment_in : (form : MomentForm) (t : List ℕ) (m : ℕ) → MomentTextIn form m t
+pub text-moment_in : (form : MomentForm) (t : List ℕ) (m : ℕ) → IsMomentTextIn form m t
     → moment_in form t ≡ Some m
 text-moment_in form t m h = ap (moment_in form) h.spelled
     ∙ moment_in-civil form h.civil h.millis h.real h.below
     ∙ ap (λ n. Some n) (sym (number-back m h.civil h.millis h.real h.number))
 
 -- the text of a moment in a form has that form's length
-pub length_in : (form : MomentForm) (m : ℕ) (t : List ℕ) → MomentTextIn form m t
+pub length_in : (form : MomentForm) (m : ℕ) (t : List ℕ) → IsMomentTextIn form m t
     → length t ≡ form_size form
 length_in Seconds m t h = ap length h.spelled
 length_in Millis m t h = ap length h.spelled
@@ -268,15 +262,15 @@ pub no_moment_by_size : (form : MomentForm) (t : List ℕ) → (length t ≡ for
 no_moment_by_size form t h = none_if form t h (moment_in form t) refl
 
 -- the length of a text says its form
-form_of-text : (form : MomentForm) (m : ℕ) (t : List ℕ) → MomentTextIn form m t
+form_of-text : (form : MomentForm) (m : ℕ) (t : List ℕ) → IsMomentTextIn form m t
     → form_of_text t ≡ form
 form_of-text Seconds m t h = ap form_of_text h.spelled
 form_of-text Millis m t h = ap form_of_text h.spelled
 
-pub moment_of-text : (t : List ℕ) (m : ℕ) → moment_of t ≡ Some m → MomentText m t
+pub moment_of-text : (t : List ℕ) (m : ℕ) → moment_of t ≡ Some m → IsMomentText m t
 moment_of-text t m e = (form_of_text t, moment_in-text (form_of_text t) t m e)
 
-pub text-moment_of : (t : List ℕ) (m : ℕ) → MomentText m t → moment_of t ≡ Some m
+pub text-moment_of : (t : List ℕ) (m : ℕ) → IsMomentText m t → moment_of t ≡ Some m
 text-moment_of t m h =
     ap (λ f. moment_in f t) (form_of-text h.0 m t h.1) ∙ text-moment_in h.0 t m h.1
 
@@ -303,8 +297,8 @@ pub room_most : (form : MomentForm) (n : ℕ) → n < room_of form → n < 1000
 room_most Seconds n h = omega arith
 room_most Millis n h = h
 
-pub one_text : (form : MomentForm) (m : ℕ) (t u : List ℕ) → MomentTextIn form m t
-    → MomentTextIn form m u → t ≡ u
+pub one_text : (form : MomentForm) (m : ℕ) (t u : List ℕ) → IsMomentTextIn form m t
+    → IsMomentTextIn form m u → t ≡ u
 one_text form m t u h k =
     let same = sym (number-back m h.civil h.millis h.real h.number)
     ∙ number-back m k.civil k.millis k.real k.number in
@@ -349,7 +343,7 @@ moment_in-unfound form t h = let c = civil_at t in let n = millis_at form t in
 
 -- the text of a real time
 pub civil_text-moment : (form : MomentForm) (c : Civil) (n m : ℕ) → IsCivil c → n < room_of form
-    → seconds_of c * 1000 + n ≡ m → MomentTextIn form m (civil_text form c n)
+    → seconds_of c * 1000 + n ≡ m → IsMomentTextIn form m (civil_text form c n)
 civil_text-moment form c n m h below e = record {
   civil = c;
   millis = n;
@@ -408,9 +402,9 @@ after_seconds m h =
 
 -- each moment that the form can write has the text that the function gives
 pub moment_text-is : (form : MomentForm) (m : ℕ) → m ≤ 4102444799999 → m % 1000 < room_of form
-    → MomentTextIn form m (moment_text_in form m)
+    → IsMomentTextIn form m (moment_text_in form m)
 moment_text-is form m h below =
-    subst (MomentTextIn form m) (sym (same_text form m))
+    subst (IsMomentTextIn form m) (sym (same_text form m))
     (civil_text-moment form (civil_after (m / 1000)) (m % 1000) m
     (after_real (m / 1000) (omega arith)) below
     (whole (m / 1000) (m % 1000) (seconds_of (civil_after (m / 1000)))
@@ -419,7 +413,7 @@ moment_text-is form m h below =
       whole q r s e f = omega arith
 
 -- a form's text is of a moment that the form can write
-pub millis_kept : (form : MomentForm) (m : ℕ) (t : List ℕ) → MomentTextIn form m t
+pub millis_kept : (form : MomentForm) (m : ℕ) (t : List ℕ) → IsMomentTextIn form m t
     → m % 1000 < room_of form
 millis_kept form m t h =
     left (seconds_of h.civil) h.millis (room_of form) (room_most form h.millis h.below) h.below
@@ -428,7 +422,7 @@ millis_kept form m t h =
       left s n r a b e = omega arith
 
 -- a moment that has a text is before the year 2100
-pub text_early : (form : MomentForm) (m : ℕ) (t : List ℕ) → MomentTextIn form m t
+pub text_early : (form : MomentForm) (m : ℕ) (t : List ℕ) → IsMomentTextIn form m t
     → m ≤ 4102444799999
 text_early form m t h =
     early (unsigned_abs (days_from_civil (pos h.civil.year) h.civil.month h.civil.day))
@@ -448,11 +442,11 @@ text_early form m t h =
 -- ---- the text as one relation
 
 pub writable-text : (form : MomentForm) (m : ℕ) (t : List ℕ) → IsWritable form m
-    → t ≡ moment_text_in form m → MomentTextIn form m t
+    → t ≡ moment_text_in form m → IsMomentTextIn form m t
 writable-text form m t h is =
-    subst (MomentTextIn form m) (sym is) (moment_text-is form m h.in_range h.whole)
+    subst (IsMomentTextIn form m) (sym is) (moment_text-is form m h.in_range h.whole)
 
-pub text-writable : (form : MomentForm) (m : ℕ) (t : List ℕ) → MomentTextIn form m t
+pub text-writable : (form : MomentForm) (m : ℕ) (t : List ℕ) → IsMomentTextIn form m t
     → IsWritable form m × (t ≡ moment_text_in form m)
 text-writable form m t h =
     let early = text_early form m t h in
@@ -461,10 +455,10 @@ text-writable form m t h =
       one_text form m t (moment_text_in form m) h (moment_text-is form m early whole),
     )
 
-pub IsTextOf-text : (m : ℕ) (t : List ℕ) → IsTextOf m t → MomentText m t
+pub IsTextOf-text : (m : ℕ) (t : List ℕ) → IsTextOf m t → IsMomentText m t
 IsTextOf-text m t h = (h.0, writable-text h.0 m t h.1 h.2)
 
-pub text-IsTextOf : (m : ℕ) (t : List ℕ) → MomentText m t → IsTextOf m t
+pub text-IsTextOf : (m : ℕ) (t : List ℕ) → IsMomentText m t → IsTextOf m t
 text-IsTextOf m t h = let is = text-writable h.0 m t h.1 in (h.0, is.0, is.1)
 
 pub IsExactIn : (form : MomentForm) (t : List ℕ) (r : Option ℕ) → r ≡ moment_in form t → (m : ℕ)

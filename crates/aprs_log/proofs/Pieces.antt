@@ -1,12 +1,6 @@
 -- Lemmas on the pieces of a line's bytes.
-use Rattle.std.proofs.Common.{◌≡◌, ℕ, ◌-◌, ◌<◌, ◌≤◌, Bool, true, false, not, ◌||◌, List, [], ◌∷◌, ◌++◌, length, get_or, take, drop, refl, arith, sym, ap, ◌∙◌, subst, append_assoc, append-nil, take-append-drop, length-append, ◌⊎◌, inl, inr, suc, nat_eq, eqb-true}
-use Rattle.std.proofs.lemmas.List.Elements.{All-append, All-nil}
-use Rattle.std.proofs.Math.Seq.{drop-cons, drop-length}
-use Rattle.aprs_kiss.specs.Spelling.{HasNoEnd, is_frame_end}
-use Rattle.aprs_kiss.specs.Stream.{rest_of, is_nonempty, judgements_of}
-use Rattle.aprs_kiss.specs.Judgement.{judgement_of}
-use Rattle.aprs_kiss.proofs.Pieces.{cuts, judgements_of-empty, judgements_of-end, rest_of-none}
-use Rattle.aprs_kiss.proofs.ReadingBack.{begins_empty, ended_stream, judged_in_parts, left_in_parts}
+use Rattle.aprs_log.proofs.Common.{◌≡◌, ℕ, ◌-◌, ◌<◌, ◌≤◌, Bool, true, false, not, ◌||◌, List, [], ◌∷◌, ◌++◌, length, get_or, take, drop, refl, arith, sym, ap, ◌∙◌, subst, append_assoc, take-append-drop, ◌⊎◌, inl, inr, suc, nat_eq, eqb-true, All-append, All-nil, drop-cons, drop-length, HasNoEnd, is_frame_end, rest_of, is_nonempty, judgements_of, judgement_of, cuts, judgements_of-empty, judgements_of-end, rest_of-none, begins_empty, ended_stream, judged_in_parts, left_in_parts}
+use Rattle.std.proofs.Common.{append-nil, length-append}
 use Rattle.aprs_log.specs.FrameEnds.{has_other}
 
 no_end-nil : HasNoEnd []

@@ -1,11 +1,7 @@
 -- The texts of moments and receivers are ASCII.
-use Rattle.std.proofs.Common.{◌≡◌, ℕ, ◌+◌, ◌/◌, ◌%◌, ◌<◌, ◌++◌, ◌∷◌, [], List, true, arith, sym, subst}
-use Rattle.std.specs.List.{list_all}
-use Rattle.std.specs.Str.{IsAscii}
-use Rattle.std.proofs.lemmas.Bool.{and_parts}
-use Rattle.std.proofs.lemmas.Bool.Decides.{nat_tests}
+use Rattle.aprs_log.proofs.Common.{◌≡◌, ℕ, ◌+◌, ◌/◌, ◌%◌, ◌<◌, ◌++◌, ◌∷◌, [], List, true, arith, sym, subst, list_all, IsAscii, and_parts, nat_tests}
 use Rattle.std.proofs.lemmas.Str.Ascii.{IsAscii-nil, IsAscii-cons}
-use Rattle.aprs_log.specs.CivilMoment.{MomentText}
+use Rattle.aprs_log.specs.CivilMoment.{IsMomentText}
 use Rattle.aprs_log.specs.Moment.{two_digits, fraction_text, room_of}
 use Rattle.aprs_log.specs.MomentReading.{Civil, civil_text}
 use Rattle.aprs_log.specs.Receiver.{IsName, is_name_byte}
@@ -49,7 +45,7 @@ civil-ascii form c n h below =
     two-ascii (c.year / 100) (two_digits (c.year % 100) ++ month) (omega (arith, h.year))
     (two-ascii (c.year % 100) month (omega arith) from_month)
 
-pub MomentText-ascii : (m : ℕ) (t : List ℕ) → MomentText m t → IsAscii t
+pub MomentText-ascii : (m : ℕ) (t : List ℕ) → IsMomentText m t → IsAscii t
 MomentText-ascii m t h = let is = h.1 in
     subst IsAscii (sym is.spelled)
     (civil-ascii h.0 is.civil is.millis (IsCivil-fits is.civil is.real) is.below)

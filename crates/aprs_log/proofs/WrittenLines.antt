@@ -1,25 +1,16 @@
 -- Lemmas on the line that is written for a reception.
-use Rattle.std.proofs.Common.{◌≡◌, ℕ, zero, suc, ◌/◌, ◌%◌, ◌<◌, ◌≤◌, ◌≢◌, Bool, true, false, if◌then◌else◌, List, [], ◌∷◌, ◌++◌, length, slice_index, append_assoc, Ok, refl, arith, sym, ap, ◌∙◌, subst}
-use Rattle.aprs_kiss.specs.Plain.{IsPlain, is_special}
-use Rattle.aprs_kiss.specs.Spelling.{is_escape, is_frame_end, spelling_of, spelling_of_byte, kiss_text}
-use Rattle.aprs_kiss.proofs.Escapes.{spelling_of-all, spelling_of-cut}
-use Rattle.aprs_ax25.specs.Frame.{FrameOf, Parts}
-use Rattle.aprs_ax25.specs.FrameFault.{frame_of, unless_fault}
+use Rattle.aprs_log.proofs.Common.{◌≡◌, ℕ, zero, suc, ◌/◌, ◌%◌, ◌<◌, ◌≤◌, ◌≢◌, Bool, true, false, if◌then◌else◌, List, [], ◌∷◌, ◌++◌, length, slice_index, append_assoc, Ok, refl, arith, sym, ap, ◌∙◌, subst, IsPlain, is_special, is_escape, is_frame_end, spelling_of, spelling_of_byte, kiss_text, spelling_of-all, spelling_of-cut, FrameOf, Parts, frame_or_fault, unless_fault, IsBytes, decode_of, encode_lower, encode_with, lower_digits, decode_of-encode_lower, nat_tests, MAX_UI_FRAME}
 use Rattle.aprs_ax25.proofs.Spellings.{FrameOf-frame_fault}
-use Rattle.hex.specs.Hex.{IsBytes, decode_of, encode_lower, encode_with, lower_digits}
-use Rattle.hex.proofs.HexLemmas.{decode_of-encode_lower}
-use Rattle.std.proofs.lemmas.Bool.Decides.{nat_tests}
 use Rattle.aprs_log.specs.Moment.{moment_text}
-use Rattle.aprs_log.specs.CivilMoment.{MomentText}
+use Rattle.aprs_log.specs.CivilMoment.{IsMomentText}
 use Rattle.aprs_log.specs.Receiver.{IsName}
-use Rattle.aprs_log.specs.Reception.{Heard}
+use Rattle.aprs_log.specs.Reception.{Received}
 use Rattle.aprs_log.specs.Line.{heard_or_passed, line_of, written_line}
 use Rattle.aprs_log.specs.declared.line.Line.TheVariants as line
 use Rattle.aprs_log.proofs.Lines.{line_of-syntax}
 use Rattle.aprs_log.proofs.Frames.{frame_in-kiss_text}
 use Rattle.aprs_log.proofs.Moments.{text-IsTextOf}
 use Rattle.aprs_log.specs.declared.line.TheConstants.{MAX_LINE}
-use Rattle.aprs_ax25.specs.declared.scan.TheConstants.{MAX_UI_FRAME}
 
 -- ---- the digits of a frame's bytes, cut at each byte that isn't sent as itself
 
@@ -125,22 +116,22 @@ reads_back frame are =
 -- ---- a written line reads back
 
 -- what a reception's parts are
-pub record IsReal (x : Heard) : Type 0 where
-  pub moment : MomentText x.moment (moment_text x.moment)
+pub record IsReal (x : Received) : Type 0 where
+  pub moment : IsMomentText x.moment (moment_text x.moment)
   pub receiver : IsName x.receiver
-  pub frame : frame_of x.frame ≡ Ok x.frame
+  pub frame : frame_or_fault x.frame ≡ Ok x.frame
   pub few : length x.frame ≤ 1023
 
-pub real : (x : Heard) (text : List ℕ) → text ≡ moment_text x.moment → MomentText x.moment text
-    → IsName x.receiver → frame_of x.frame ≡ Ok x.frame → length x.frame ≤ MAX_UI_FRAME → IsReal x
+pub real : (x : Received) (text : List ℕ) → text ≡ moment_text x.moment → IsMomentText x.moment text
+    → IsName x.receiver → frame_or_fault x.frame ≡ Ok x.frame → length x.frame ≤ MAX_UI_FRAME → IsReal x
 real x text e moment receiver frame few = record {
-  moment = subst (MomentText x.moment) e moment;
+  moment = subst (IsMomentText x.moment) e moment;
   receiver = receiver;
   frame = frame;
   few = omega arith;
 }
 
-pub line_of-written : (x : Heard) → IsReal x
+pub line_of-written : (x : Received) → IsReal x
     → decode_of (encode_lower (kiss_text x.frame)) ≡ Ok (kiss_text x.frame)
     → length (written_line x) ≤ MAX_LINE → line_of (written_line x) ≡ Ok (line.Heard x)
 line_of-written x h digits short =
@@ -163,5 +154,5 @@ line_of-written x h digits short =
 
 -- ---- a frame's bytes are read as it
 
-pub frame_of-is : (frame : List ℕ) (p : Parts) → FrameOf p frame → frame_of frame ≡ Ok frame
+pub frame_of-is : (frame : List ℕ) (p : Parts) → FrameOf p frame → frame_or_fault frame ≡ Ok frame
 frame_of-is frame p is = ap (unless_fault frame) (FrameOf-frame_fault p frame is)

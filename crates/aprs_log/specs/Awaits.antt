@@ -6,7 +6,7 @@ use Rattle.aprs_log.specs.LogAnswers.{Answers, answers_from, end_with, Gets}
 use Rattle.aprs_log.specs.declared.fault.LogCause.{LogCause}
 use Rattle.aprs_log.specs.declared.fault.LogCause.TheVariants as cause
 use Rattle.aprs_log.specs.declared.fault.LogFault.{LogFault}
-use Rattle.aprs_io.specs.declared.input.Ending.{Ending}
+use Rattle.aprs_io.specs.declared.input.InputEnd.{InputEnd}
 pub use Rattle.aprs_io.specs.Input.{EndsHere}
 use Rattle.aprs_io.specs.Device.{Last, Going, Fault, End}
 use Rattle.aprs_log.specs.declared.reader.ending.State.{State}
@@ -19,7 +19,7 @@ pub record Awaited (left line : ℕ) (held input : List ℕ) (after : Option (Li
     (answers : Answers)
     : Type 0 where
   pub text : List ℕ
-  pub ending : Ending
+  pub ending : InputEnd
   pub gets : Gets left input after text ending
   pub is : answers ≡ answers_from (line + 1) (held ++ text) ending
 

@@ -20,7 +20,7 @@ pub record IsCivil (civil : Civil) : Type 0 where
 -- In this form `text` is the text of the moment m, which is 1,000 times the seconds and the
 -- milliseconds of the second; the seconds are 86,400 times the day number of the civil date (0 for
 -- 1970-01-01) and the seconds of the day.
-pub record MomentTextIn (form : MomentForm) (m : ℕ) (text : List ℕ) : Type 0 where
+pub record IsMomentTextIn (form : MomentForm) (m : ℕ) (text : List ℕ) : Type 0 where
   pub civil : Civil
   pub millis : ℕ
   pub real : IsCivil civil
@@ -30,8 +30,8 @@ pub record MomentTextIn (form : MomentForm) (m : ℕ) (text : List ℕ) : Type 0
   pub spelled : text ≡ civil_text form civil millis
 
 -- `text` is a text of the moment m, in either form.
-abbrev pub MomentText : ℕ → List ℕ → Type 0
-MomentText m text = (form : MomentForm) × MomentTextIn form m text
+abbrev pub IsMomentText : ℕ → List ℕ → Type 0
+IsMomentText m text = (form : MomentForm) × IsMomentTextIn form m text
 
 -- The civil time m seconds after 1970-01-01T00:00:00Z.
 abbrev pub civil_after : ℕ → Civil

@@ -34,7 +34,7 @@ pub record SecondText (n : ℕ) (text : List ℕ) : Type 0 where
   pub spelled : text ≡ clock_text hour minute second
 
 -- `text` is what follows the seconds, in this form, at millisecond n of a second.
-pub record FractionText (form : MomentForm) (n : ℕ) (text : List ℕ) : Type 0 where
+pub record IsFractionText (form : MomentForm) (n : ℕ) (text : List ℕ) : Type 0 where
   pub below : n < room_of form
   pub spelled : text ≡ fraction_text form n ++ 90 ∷ []
 

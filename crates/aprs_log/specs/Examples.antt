@@ -1,6 +1,6 @@
 -- Worked examples of the definitions: lines of docs/formats.md, and near misses.
 use Rattle.std.specs.Prelude.{ℕ, ◌+◌, List, ◌∷◌, ◌++◌, codes}
-use Rattle.aprs_log.specs.Reception.{Heard}
+use Rattle.aprs_log.specs.Reception.{Received}
 
 -- The bytes of a frame from N0CALL-7 to APRS that says `>Hi`.
 abbrev pub hi_frame : List ℕ
@@ -9,7 +9,7 @@ hi_frame =
     ∷ 0x9C ∷ 0x60 ∷ 0x86 ∷ 0x82 ∷ 0x98 ∷ 0x98 ∷ 0x6F ∷ 0x03 ∷ 0xF0 ∷ codes ">Hi"
 
 -- The frame, as RX1 heard it n milliseconds after 2024-05-01T12:00:00Z.
-abbrev pub heard_after : ℕ → Heard
+abbrev pub heard_after : ℕ → Received
 heard_after n = record {
   moment = 1714564800000 + n;
   receiver = codes "RX1";

@@ -6,14 +6,14 @@ use Rattle.hex.specs.Hex.{decode_of, encode_lower}
 use Rattle.aprs_kiss.specs.Spelling.{kiss_text}
 use Rattle.aprs_kiss.specs.Stream.{rest_of, is_nonempty, judgements_of}
 use Rattle.aprs_kiss.specs.Judgement.{Judgement}
-use Rattle.aprs_ax25.specs.FrameFault.{frame_of}
+use Rattle.aprs_ax25.specs.FrameFault.{frame_or_fault}
 use Rattle.aprs_ax25.specs.declared.fault.FrameFault.{FrameFault}
 use Rattle.aprs_io.specs.Cut.{cut_at}
 use Rattle.aprs_log.specs.Fault.{reason_of_pass, reason_of_frame}
 use Rattle.aprs_log.specs.Moment.{moment_text}
 use Rattle.aprs_log.specs.MomentReading.{moment_of}
-use Rattle.aprs_log.specs.Receiver.{is_name}
-use Rattle.aprs_log.specs.Reception.{Heard}
+use Rattle.aprs_log.specs.Receiver.{is_receiver}
+use Rattle.aprs_log.specs.Reception.{Received}
 use Rattle.aprs_log.specs.Steps.{◌otherwise◌then◌, guard}
 use Rattle.aprs_log.specs.declared.fault.LineFault.{LineFault}
 use Rattle.aprs_log.specs.declared.fault.LineFault.TheVariants as fault
@@ -32,7 +32,7 @@ frame_or_reason (Err fault) = Err (reason_of_frame fault)
 
 -- The frame in one piece of a KISS stream, by its judgement.
 abbrev pub frame_in_piece : Judgement → Result (List ℕ) Reason
-frame_in_piece (Ok data_frame) = frame_or_reason (frame_of data_frame.bytes)
+frame_in_piece (Ok data_frame) = frame_or_reason (frame_or_fault data_frame.bytes)
 frame_in_piece (Err fault) = Err (reason_of_pass fault)
 
 -- The frame in the one nonempty piece, by the judgements of all nonempty pieces.
@@ -70,11 +70,11 @@ line_of l =
     cut_at 32 l otherwise fault.Moment then λ first.
     moment_of first.before otherwise fault.Moment then λ moment.
     cut_at 32 first.after otherwise fault.Receiver then λ second.
-    guard (is_name second.before) otherwise fault.Receiver then λ named.
+    guard (is_receiver second.before) otherwise fault.Receiver then λ named.
     line_of_digits moment second.before second.after
 
 -- ---- the line that is written
 
 -- The line of a reception, without its LF.
-abbrev pub written_line : Heard → List ℕ
+abbrev pub written_line : Received → List ℕ
 written_line x = moment_text x.moment ++ 32 ∷ x.receiver ++ 32 ∷ encode_lower (kiss_text x.frame)

@@ -5,7 +5,7 @@ use Rattle.aprs_kiss.specs.Spelling.{spelling_of}
 use Rattle.aprs_ax25.specs.UiFrame.{IsUiFrame}
 use Rattle.aprs_log.specs.Moment.{IsTextOf}
 use Rattle.aprs_log.specs.Receiver.{IsName}
-use Rattle.aprs_log.specs.Reception.{Heard}
+use Rattle.aprs_log.specs.Reception.{Received}
 use Rattle.aprs_log.specs.Sizes.{most_line}
 use Rattle.aprs_log.specs.declared.fault.LogCause.{LogCause}
 use Rattle.aprs_log.specs.declared.fault.LogCause.TheVariants as why
@@ -40,7 +40,7 @@ pub record CarriesFrame (bytes frame : List ℕ) : Type 0 where
       ≡ replicate before 0xC0 ++ (spelling_of (head ∷ frame) ++ 0xC0 ∷ replicate after 0xC0)
 
 -- The line has the reception's moment and receiver, and its bytes carry the reception's frame.
-abbrev pub Reports : List ℕ → Heard → Type 0
+abbrev pub Reports : List ℕ → Received → Type 0
 Reports line x =
     (bytes : List ℕ) × IsLine line x.moment x.receiver bytes × CarriesFrame bytes x.frame
 

@@ -59,8 +59,8 @@ abbrev pub is_time : Civil → Bool
 is_time civil = nat_lt civil.hour 24 && nat_lt civil.minute 60 && nat_lt civil.second 60
 
 -- Whether this is a date of these years and a time of its day.
-abbrev pub is_civil : Civil → Bool
-is_civil civil = is_date civil && is_time civil
+abbrev pub is_date_and_time : Civil → Bool
+is_date_and_time civil = is_date civil && is_time civil
 
 -- The seconds from 1970-01-01T00:00:00Z to a civil time from then on.
 abbrev pub seconds_of : Civil → ℕ
@@ -75,7 +75,7 @@ millis_at Millis text = 100 * digit_of (slice_index text 20) + pair_at text 21
 
 -- Whether this is a civil time, and the form can write these milliseconds.
 abbrev pub is_real : MomentForm → Civil → ℕ → Bool
-is_real form civil n = is_civil civil && nat_lt n (room_of form)
+is_real form civil n = is_date_and_time civil && nat_lt n (room_of form)
 
 -- The moment of a text in a form: that of the civil time and the milliseconds at their places,
 -- where these are real and have this text.

@@ -9,21 +9,21 @@ abbrev pub near_digit : ℕ → ℕ
 near_digit b = min 9 (b - 48)
 
 -- The number whose two digits are nearest to the bytes at i.
-abbrev pub near_pair : List ℕ → ℕ → ℕ
-near_pair text i = 10 * near_digit (slice_index text i) + near_digit (slice_index text (i + 1))
+abbrev pub nearest_pair : List ℕ → ℕ → ℕ
+nearest_pair text i = 10 * near_digit (slice_index text i) + near_digit (slice_index text (i + 1))
 
 -- The civil time whose digits are nearest to the bytes at their places in a text.
 abbrev pub near_civil : List ℕ → Civil
 near_civil text = record {
-  year = 100 * near_pair text 0 + near_pair text 2;
-  month = near_pair text 5;
-  day = near_pair text 8;
-  hour = near_pair text 11;
-  minute = near_pair text 14;
-  second = near_pair text 17;
+  year = 100 * nearest_pair text 0 + nearest_pair text 2;
+  month = nearest_pair text 5;
+  day = nearest_pair text 8;
+  hour = nearest_pair text 11;
+  minute = nearest_pair text 14;
+  second = nearest_pair text 17;
 }
 
 -- The milliseconds whose digits are nearest to the bytes at their places.
 abbrev pub near_millis : MomentForm → List ℕ → ℕ
 near_millis Seconds text = 0
-near_millis Millis text = 100 * near_digit (slice_index text 20) + near_pair text 21
+near_millis Millis text = 100 * near_digit (slice_index text 20) + nearest_pair text 21

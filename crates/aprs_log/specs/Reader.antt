@@ -12,12 +12,12 @@ use Rattle.aprs_log.specs.declared.line.Line.TheVariants as line
 use Rattle.aprs_log.specs.declared.fault.Reason.TheVariants.{NoFrame}
 use Rattle.aprs_log.specs.declared.fault.LogCause.TheVariants as cause
 use Rattle.aprs_log.specs.declared.fault.LogFault.{LogFault}
-use Rattle.aprs_io.specs.declared.input.Ending.{Ending}
+use Rattle.aprs_io.specs.declared.input.InputEnd.{InputEnd}
 use Rattle.aprs_log.specs.declared.reader.LogReader.{LogReader}
 
 -- The device that the reader borrows.
-abbrev pub source_of : {R : Type 0} → LogReader R → Counted R
-source_of r = r.source.now
+abbrev pub lent_device : {R : Type 0} → LogReader R → Counted R
+lent_device r = r.source.now
 
 -- The name of the loan by which the reader has its device.
 abbrev pub loan_of : {R : Type 0} → LogReader R → GName
@@ -67,7 +67,7 @@ last_told (Err fault) = last_of_cause fault.cause
 pub record AreAnswersOf (limit : ℕ) (input : List ℕ) (after : Option (List ℕ)) (answers : Answers)
     : Type 0 where
   pub text : List ℕ
-  pub ending : Ending
+  pub ending : InputEnd
   pub gets : Gets limit input after text ending
   pub is : answers ≡ log_answers text ending
 
@@ -113,15 +113,15 @@ GivesNext (Err fault) known old after new =
 -- that it never asks again.
 pub record Advances {R : Type 0} (remaining : R → Option (List ℕ))
     (answer : Result (Option Line) LogFault) (old new : LogReader R) : Type 0 where
-  pub gives : GivesNext answer (remaining (source_of old).device) old
-      (remaining (source_of new).device) new
-  pub awaits : (answers : Answers) × Awaits (remaining (source_of new).device)
-      (remaining (source_of new).device) new answers
+  pub gives : GivesNext answer (remaining (lent_device old).device) old
+      (remaining (lent_device new).device) new
+  pub awaits : (answers : Answers) × Awaits (remaining (lent_device new).device)
+      (remaining (lent_device new).device) new answers
   pub fault : IfErr answer
       (λ fault. (fault.line ≡ line_count_of new + 1) × (fault.cause ≢ cause.Memory))
   pub current : current_of new ≡ line_kept (current_of old) answer
   pub stays : (stop : Option LogFault) → stop_of old ≡ Some stop → (answer ≡ answer_of_stop stop)
-      × (stop_of new ≡ Some stop) × (source_of new ≡ source_of old)
-  pub unread : stop_of old ≡ None → HasLf (read_ahead_of old) → source_of new ≡ source_of old
+      × (stop_of new ≡ Some stop) × (lent_device new ≡ lent_device old)
+  pub unread : stop_of old ≡ None → HasLf (read_ahead_of old) → lent_device new ≡ lent_device old
   pub same_reference : loan_of new ≡ loan_of old
-  pub calls : stop_of old ≡ None → Calls (last_told answer) (source_of old) (source_of new)
+  pub calls : stop_of old ≡ None → Calls (last_told answer) (lent_device old) (lent_device new)

@@ -13,8 +13,8 @@ line_in (Ok u) found = Ok found
 line_in (Err fault) found = Err fault
 
 -- How many steps a reader may take yet.
-abbrev pub work_of : {R : Type 0} → LogReader R → ℕ
-work_of r = work_in r.state r.left
+abbrev pub steps_left : {R : Type 0} → LogReader R → ℕ
+steps_left r = work_in r.state r.left
 
 -- A reader moves from `old` to `new` without an answer: what may follow now could have followed
 -- before.

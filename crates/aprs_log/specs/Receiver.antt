@@ -9,10 +9,10 @@ abbrev pub is_name_byte : ℕ → Bool
 is_name_byte b = is_ascii_alphanumeric b || (b == 45) || (b == 95)
 
 -- Whether bytes are a receiver's name: 1 to 16 such bytes.
-abbrev pub is_name : List ℕ → Bool
-is_name bytes = nat_le 1 (length bytes) && nat_le
+abbrev pub is_receiver : List ℕ → Bool
+is_receiver bytes = nat_le 1 (length bytes) && nat_le
     (length bytes) most_name && list_all is_name_byte bytes
 
 -- The bytes are a receiver's name.
 abbrev pub IsName : List ℕ → Type 0
-IsName bytes = IsTrue (is_name bytes)
+IsName bytes = IsTrue (is_receiver bytes)

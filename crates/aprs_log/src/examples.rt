@@ -1,11 +1,11 @@
 //! Worked examples of the definitions, and near misses. These functions do nothing.
 ghost use Rattle.std.specs.Prelude.{◌++◌, ◌∷◌, [], ℕ, List, codes};
-ghost use Rattle.aprs_io.specs.declared.input.Ending.TheVariants.{End, Read};
+ghost use Rattle.aprs_io.specs.declared.input.InputEnd.TheVariants.{End, Read};
 ghost use Rattle.aprs_log.specs.Examples.{heard_after, hi_digits, hi_line, leap_line, line_by, noon, unended_line};
 ghost use Rattle.aprs_log.specs.LineText.{IsPassed, IsWrongLine, Reports};
 ghost use Rattle.aprs_log.specs.Moment.{IsTextOf};
 ghost use Rattle.aprs_log.specs.LogText.{HasLogFault, IsLogText};
-ghost use Rattle.aprs_log.specs.Reception.{Heard};
+ghost use Rattle.aprs_log.specs.Reception.{Received};
 ghost use Rattle.aprs_log.specs.declared.fault.LogCause.TheVariants as why;
 
 /// Each moment has a text to the millisecond, and one at a whole second has a text to the second
@@ -26,7 +26,7 @@ pub fn lines_report_frames()
     ensures misses_moment { Reports hi_line (heard_after 1) → ⊥ }
 
     ensures passed { IsPassed unended_line }
-    ensures misses_unended { (x : Heard) → Reports unended_line x → ⊥ }
+    ensures misses_unended { (x : Received) → Reports unended_line x → ⊥ }
     ensures empty { IsPassed (line_by noon []) }
 {}
 
@@ -46,7 +46,7 @@ pub fn lines_are_wrong_from_the_left()
 pub fn logs_have_first_faults()
     ensures faultless { IsLogText (unended_line ++ 10 ∷ hi_line ++ 10 ∷ []) End
         (heard_after 0 ∷ []) }
-    ensures misses_wrong { (S : List Heard)
+    ensures misses_wrong { (S : List Received)
         → IsLogText (hi_line ++ 10 ∷ leap_line ++ 10 ∷ []) End S → ⊥ }
 
     ensures wrong { HasLogFault (hi_line ++ 10 ∷ leap_line ++ 10 ∷ []) End

@@ -12,7 +12,7 @@ mod receiver;
 mod reception;
 mod write;
 
-pub use aprs_io::{Ending, MAX_INPUT};
+pub use aprs_io::{InputEnd, MAX_INPUT};
 pub use examples::{
     lines_are_wrong_from_the_left, lines_report_frames, logs_have_first_faults, moments_have_texts,
 };

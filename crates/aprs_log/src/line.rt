@@ -1,14 +1,14 @@
 //! Lines of a log.
 ghost use Rattle.aprs_log.specs.ReaderSteps.{line_in};
 ghost use Rattle.std.specs.Prelude.{◌≡◌, ◌≤◌, ◌*◌, ◌↔◌, ℕ, List, length, IsOk, OnErr};
-ghost use Rattle.aprs_ax25.specs.FrameFault.{frame_of};
+ghost use Rattle.aprs_ax25.specs.FrameFault.{frame_or_fault};
 ghost use Rattle.aprs_log.specs.Line.{frame_or_reason, heard_or_passed, line_of, line_of_digits};
 ghost use Rattle.aprs_log.specs.LineText.{IsLine};
 ghost use Rattle.aprs_log.specs.Sizes.{most_line};
 
 mod fields;
 mod frame_in_line;
-pub(crate) mod scratch;
+pub(crate) mod line_buffers;
 
 use crate::fault::{LineFault, Reason};
 use crate::{Moment, Receiver, Reception};
@@ -16,7 +16,7 @@ use aprs_ax25::Frame;
 use aprs_io::decode_into;
 use fields::{first_moment, take_receiver};
 use frame_in_line::data_in;
-use scratch::Scratch;
+use line_buffers::LineBuffers;
 
 /// The most bytes of a line of a log, without its LF.
 pub const MAX_LINE: usize = 8192;
@@ -42,7 +42,7 @@ pub fn read_line(line: &[u8]) -> Result<Line, LineFault>
         × IsLine line.now m name bytes) }
 {
     let mut found = Line::empty();
-    match read_fields(line, &mut Scratch::new(), &mut found) {
+    match read_fields(line, &mut LineBuffers::new(), &mut found) {
         Ok(()) => Ok(found),
         Err(fault) => Err(fault),
     }
@@ -70,7 +70,7 @@ impl Line {
     /// frame, and otherwise `Passed`, with the first reason why they aren't.
     fn assign(&mut self, moment: Moment, receiver: Receiver, bytes: &[u8])
         ensures { self.new
-            ≡ heard_or_passed moment receiver (frame_or_reason (frame_of bytes.now)) }
+            ≡ heard_or_passed moment receiver (frame_or_reason (frame_or_fault bytes.now)) }
     {
         let Line::Heard(reception) = self else {
             self.assign_anew(moment, receiver, bytes);
@@ -88,7 +88,7 @@ impl Line {
     #[inline(never)]
     fn assign_anew(&mut self, moment: Moment, receiver: Receiver, bytes: &[u8])
         ensures { self.new
-            ≡ heard_or_passed moment receiver (frame_or_reason (frame_of bytes.now)) }
+            ≡ heard_or_passed moment receiver (frame_or_reason (frame_or_fault bytes.now)) }
     {
         *self = match Frame::read(bytes) {
             Ok(frame) => Line::Heard(Reception::new(moment, receiver, frame)),
@@ -111,7 +111,7 @@ impl Line {
 /// it held before changes nothing of the answer.
 pub(crate) fn read_fields(
     line: &[u8],
-    scratch: &mut Scratch,
+    scratch: &mut LineBuffers,
     found: &mut Line,
 ) -> Result<(), LineFault>
     ensures line { line_in result found.new ≡ line_of line.now }
@@ -136,7 +136,7 @@ fn read_within(
     moment: Moment,
     receiver: Receiver,
     digits: &[u8],
-    scratch: &mut Scratch,
+    scratch: &mut LineBuffers,
     found: &mut Line,
 ) -> Result<(), LineFault>
     requires { length digits.now ≤ most_line }

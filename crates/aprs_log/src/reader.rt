@@ -8,8 +8,8 @@ mod ending;
 mod next_line;
 mod window;
 
-use crate::fault::{LogCause, LogFault, Reason};
-use crate::line::scratch::Scratch;
+use crate::fault::{LogCause, LogFault};
+use crate::line::line_buffers::LineBuffers;
 use crate::line::{Line, MAX_LINE};
 use aprs_io::Counted;
 use ending::{State, refuse_tail};
@@ -24,7 +24,7 @@ use window::Window;
 pub struct LogReader<'a, R> {
     source: &'a mut Counted<R>,
     window: Window,
-    scratch: Scratch,
+    scratch: LineBuffers,
     current: Line,
     /// How many bytes may be read yet.
     left: u64,
@@ -39,7 +39,7 @@ impl<'a, R: Read> LogReader<'a, R> {
     ghost use Rattle.std.specs.Bool.{OnTrue, OnFalse};
     ghost use Rattle.aprs_io.specs.Device.{Calls, device_of, failures_of};
     ghost use Rattle.aprs_io.specs.Cut.{cut_at};
-    ghost use Rattle.aprs_log.specs.ReaderSteps.{Moves, work_of};
+    ghost use Rattle.aprs_log.specs.ReaderSteps.{Moves, steps_left};
     ghost use Rattle.aprs_log.specs.States.{last_in};
     ghost use Rattle.aprs_log.specs.LogAnswers.{Answers, prepend_line};
     ghost use Rattle.aprs_log.specs.Reader as Spec;
@@ -62,21 +62,21 @@ impl<'a, R: Read> LogReader<'a, R> {
         ensures starts { Spec.Starts result head.now }
         // What may come are the answers of the whole log.
         ensures whole { (end : Option (List ℕ)) (answers : Answers)
-            → Spec.Awaits (R.remaining (device_of (Spec.source_of result))) end result answers
+            → Spec.Awaits (R.remaining (device_of (Spec.lent_device result))) end result answers
             → IfSome (R.remaining (device_of source.old))
             (λ input. Spec.AreAnswersOf limit (head.now ++ input) end answers) }
         // Some answers may always come.
         ensures awaits { (answers : Answers)
-            × Spec.Awaits (R.remaining (device_of (Spec.source_of result)))
-            (R.remaining (device_of (Spec.source_of result))) result answers }
+            × Spec.Awaits (R.remaining (device_of (Spec.lent_device result)))
+            (R.remaining (device_of (Spec.lent_device result))) result answers }
 
         ensures same_reference { Spec.loan_of result ≡ source.entry.ghost_name }
-        ensures source { Spec.source_of result ≡ source.old }
+        ensures source { Spec.lent_device result ≡ source.old }
     {
         LogReader {
             source,
             window: Window::new(head),
-            scratch: Scratch::new(),
+            scratch: LineBuffers::new(),
             current: Line::empty(),
             left: limit - head.len() as u64,
             line: 0,
@@ -94,7 +94,7 @@ impl<'a, R: Read> LogReader<'a, R> {
 
     /// How many calls of the device that the reader reads from failed. Takes no memory.
     pub fn failures(&self) -> u64
-        ensures { result ≡ failures_of (Spec.source_of self.now) }
+        ensures { result ≡ failures_of (Spec.lent_device self.now) }
     {
         self.source.failures()
     }
@@ -160,23 +160,23 @@ impl<'a, R: Read> LogReader<'a, R> {
         ensures given { OnTrue result (
             (Spec.line_count_of self.new ≡ Spec.line_count_of self.old + 1)
             × ((end : Option (List ℕ)) (answers : Answers)
-            → Spec.Awaits (R.remaining (device_of (Spec.source_of self.new))) end self.new answers
-            → Spec.Awaits (R.remaining (device_of (Spec.source_of self.old))) end self.old
+            → Spec.Awaits (R.remaining (device_of (Spec.lent_device self.new))) end self.new answers
+            → Spec.Awaits (R.remaining (device_of (Spec.lent_device self.old))) end self.old
             (prepend_line (Spec.current_of self.new) answers))) }
         ensures none { OnFalse result ((Spec.line_count_of self.new ≡ Spec.line_count_of self.old)
             × (Spec.current_of self.new ≡ Spec.current_of self.old)
-            × Moves (R.remaining (device_of (Spec.source_of self.old))) self.old
-            (R.remaining (device_of (Spec.source_of self.new))) self.new) }
+            × Moves (R.remaining (device_of (Spec.lent_device self.old))) self.old
+            (R.remaining (device_of (Spec.lent_device self.new))) self.new) }
         ensures going { OnTrue result (Spec.stop_of self.new ≡ None) }
         // A step without a line leaves fewer steps, so that `advance` ends.
-        ensures less { OnFalse result (work_of self.new < work_of self.old) }
+        ensures less { OnFalse result (steps_left self.new < steps_left self.old) }
 
         ensures unread { Spec.HasLf (Spec.read_ahead_of self.old)
-            → (Spec.source_of self.new ≡ Spec.source_of self.old)
+            → (Spec.lent_device self.new ≡ Spec.lent_device self.old)
             × OnFalse result (Spec.stop_of self.new ≢ None) }
         ensures same_reference { Spec.loan_of self.new ≡ Spec.loan_of self.old }
-        ensures calls { Calls (last_in self.new.state) (Spec.source_of self.old)
-            (Spec.source_of self.new) }
+        ensures calls { Calls (last_in self.new.state) (Spec.lent_device self.old)
+            (Spec.lent_device self.new) }
     {
         match take_line(&mut self.window, &mut self.scratch, &mut self.current) {
             Some(Ok(())) => {
@@ -201,15 +201,15 @@ impl<'a, R: Read> LogReader<'a, R> {
         requires none { cut_at 10 (items self.old.window) ≡ None }
 
         // What may follow now could have followed before.
-        ensures moves { Moves (R.remaining (device_of (Spec.source_of self.old))) self.old
-            (R.remaining (device_of (Spec.source_of self.new))) self.new }
-        ensures less { work_of self.new < work_of self.old }
+        ensures moves { Moves (R.remaining (device_of (Spec.lent_device self.old))) self.old
+            (R.remaining (device_of (Spec.lent_device self.new))) self.new }
+        ensures less { steps_left self.new < steps_left self.old }
 
         ensures lines { Spec.line_count_of self.new ≡ Spec.line_count_of self.old }
         ensures current { Spec.current_of self.new ≡ Spec.current_of self.old }
         ensures same_reference { Spec.loan_of self.new ≡ Spec.loan_of self.old }
-        ensures calls { Calls (last_in self.new.state) (Spec.source_of self.old)
-            (Spec.source_of self.new) }
+        ensures calls { Calls (last_in self.new.state) (Spec.lent_device self.old)
+            (Spec.lent_device self.new) }
     {
         if self.window.as_slice().len() > MAX_LINE {
             self.state = State::Failed(LogCause::LongLine);

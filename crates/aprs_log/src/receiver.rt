@@ -6,7 +6,7 @@ ghost use Rattle.std.specs.Ordering.{as_partial_cmp};
 ghost use Rattle.std.proofs.Common.{rules};
 ghost use Rattle.std.specs.Cmp.{partial_order_from_own_ties};
 ghost use Rattle.std.specs.Cmp.Rules.{comparing};
-ghost use Rattle.aprs_log.specs.Receiver.{IsName, is_name, is_name_byte};
+ghost use Rattle.aprs_log.specs.Receiver.{IsName, is_receiver, is_name_byte};
 ghost use Rattle.aprs_log.specs.Reception.{bytes_cmp};
 
 use aprs_io::copy_bytes;
@@ -40,7 +40,7 @@ impl Receiver {
     pub fn parse(bytes: &[u8]) -> Option<Receiver>
         ensures { SomeIff result (IsName bytes.now) bytes.now }
     {
-        if is_name(bytes) {
+        if is_receiver(bytes) {
             Some(Receiver::with_name(bytes))
         } else {
             None
@@ -116,8 +116,8 @@ impl PartialOrd for Receiver {
 }
 
 /// Whether the bytes are a receiver's name: 1 to 16 letters, digits, `-` and `_`.
-fn is_name(bytes: &[u8]) -> bool
-    ensures { result ≡ is_name bytes.now }
+fn is_receiver(bytes: &[u8]) -> bool
+    ensures { result ≡ is_receiver bytes.now }
 {
     matches!(bytes.len(), 1..=MAX_NAME) && are_name_bytes(bytes)
 }

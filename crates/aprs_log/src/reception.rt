@@ -4,8 +4,8 @@ ghost use Rattle.std.specs.Ordering.{as_partial_cmp};
 ghost use Rattle.std.proofs.Common.{rules};
 ghost use Rattle.std.specs.Cmp.{partial_order_from_own_ties};
 ghost use Rattle.std.specs.Cmp.Rules.{comparing};
-ghost use Rattle.aprs_ax25.specs.FrameFault.{frame_of};
-ghost use Rattle.aprs_log.specs.Reception.{Heard, heard_cmp};
+ghost use Rattle.aprs_ax25.specs.FrameFault.{frame_or_fault};
+ghost use Rattle.aprs_log.specs.Reception.{Received, heard_cmp};
 
 use crate::{Moment, Receiver};
 use aprs_ax25::{Frame, FrameFault};
@@ -22,7 +22,7 @@ pub struct Reception {
 }
 
 impl Model for Reception {
-    ghost Value = { Heard };
+    ghost Value = { Received };
 
     ghost view = { λ x. record { moment = x.moment; receiver = x.receiver; frame = x.frame } };
 
@@ -50,10 +50,10 @@ impl Reception {
         receiver: Receiver,
         bytes: &[u8],
     ) -> Result<(), FrameFault>
-        ensures heard { OnOk result (frame_of bytes.now ≡ Ok self.new.frame) }
+        ensures heard { OnOk result (frame_or_fault bytes.now ≡ Ok self.new.frame) }
         ensures moment { self.new.moment ≡ moment }
         ensures receiver { self.new.receiver ≡ receiver }
-        ensures fault { IfErr result (λ fault. frame_of bytes.now ≡ Err fault) }
+        ensures fault { IfErr result (λ fault. frame_or_fault bytes.now ≡ Err fault) }
         ensures unchanged { OnErr result (self.new.frame ≡ self.old.frame) }
     {
         self.moment = moment;

@@ -1,2 +1,3 @@
 -- Lemmas on what a program does beside its runs.
 mod Openings
+pub mod Common

@@ -1,10 +1,9 @@
 -- Lemmas on inputs that are opened one after another.
-use Rattle.std.proofs.Common.{◌≡◌, ◌∙◌, ℕ, ◌<◌, List, [], ◌∷◌, ◌++◌, map, take, length, get_or, Option, Some, None, ap, sym, subst, append_assoc, Bor, inl, inr}
-use Rattle.std.specs.Prelude.{◌⊎◌, string_bytes}
+use Rattle.aprs_program.proofs.Common.{◌≡◌, ◌∙◌, ℕ, ◌<◌, List, [], ◌∷◌, ◌++◌, map, take, length, get_or, Option, Some, None, ap, sym, subst, append_assoc, Bor, inl, inr, ◌⊎◌, string_bytes}
 use Rattle.std.specs.declared.string.String.{String}
 use Rattle.std.proofs.lemmas.List.{map_more}
 use Rattle.std.proofs.lemmas.Option.{slice_get-get_or}
-use Rattle.aprs_program.specs.Opening.{AsksFor, StopsAt, complaint_at}
+use Rattle.aprs_program.specs.Opening.{AsksFor, StopsAtPath, complaint_at}
 use Rattle.aprs_program.specs.declared.complaint.Complaint.{Complaint}
 use Rattle.aprs_program.specs.declared.complaint.Complaint.TheVariants as why
 use Rattle.aprs_program.specs.declared.opening.OpenFault.{OpenFault}
@@ -34,7 +33,7 @@ module _ {Z : Type 0} (paths : List (String Z)) (i : ℕ) (path : String Z)
       → AsksFor mid new (text ∷ []) → text ≡ string_bytes path
       → (complaint ≡ why.OutOfMemory) ⊎ ((it : Bor (List ℕ)) × (it.now ≡ string_bytes path)
       × (complaint ≡ why.CannotOpen it))
-      → StopsAt old new paths complaint
+      → StopsAtPath old new paths complaint
   stops_at old mid new complaint text before here t says = record {
     at = i;
     path = path;

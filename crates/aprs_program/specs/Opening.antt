@@ -21,7 +21,7 @@ complaint_at path fault.Memory = why.OutOfMemory
 
 -- One input can't be opened: it is the last that the opener was asked for, after all before it, and
 -- what is complained of is that, or that memory was refused.
-pub record StopsAt {Z : Type 0} (old new : Option (List (List ℕ))) (paths : List (String Z))
+pub record StopsAtPath {Z : Type 0} (old new : Option (List (List ℕ))) (paths : List (String Z))
     (complaint : Complaint) : Type 0 where
   pub at : ℕ
   pub path : String Z

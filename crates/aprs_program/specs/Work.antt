@@ -2,7 +2,7 @@
 use Rattle.std.specs.Prelude.{ℕ, List, [], ◌∷◌, Option, Result}
 use Rattle.aprs_io.specs.Device.{device_of}
 use Rattle.aprs_io.specs.declared.device.Counted.{Counted}
-use Rattle.aprs_log.specs.Reception.{Heard}
+use Rattle.aprs_log.specs.Reception.{Received}
 use Rattle.aprs_convert.specs.Check.{Checks}
 use Rattle.aprs_convert.specs.Conversion.{Converts}
 use Rattle.aprs_convert.specs.Ends.{Runs}
@@ -33,7 +33,7 @@ work_of (job.Merge gap inputs) = work.OfAll gathering.Merge gap
 work_of (job.Show gap inputs) = work.OfAll gathering.Show gap
 
 -- The text is what is written of a set: its book, its listing or its history under this gap.
-abbrev pub IsOutputOf : Gathering → ℕ → List Heard → List ℕ → Type 0
+abbrev pub IsOutputOf : Gathering → ℕ → List Received → List ℕ → Type 0
 IsOutputOf gathering.Merge gap = IsTextOfBook gap
 IsOutputOf gathering.Show gap = IsListingOf gap
 IsOutputOf gathering.History gap = IsHistoryOf gap

@@ -1,6 +1,6 @@
 //! Opening the inputs of a run.
 ghost use Rattle.std.specs.Prelude.{◌≡◌, ◌∷◌, [], IfErr, IfOk, OnOk, length, map, string_bytes, take, List, Option, None, ℕ};
-ghost use Rattle.aprs_program.specs.Opening.{AsksFor, StopsAt, complaint_at};
+ghost use Rattle.aprs_program.specs.Opening.{AsksFor, StopsAtPath, complaint_at};
 
 use crate::complaint::Complaint;
 use aprs_io::Counted;
@@ -40,7 +40,7 @@ pub fn open_all<'t, O: Opener, A: Allocator>(
     ensures each { IfOk result (λ inputs. length inputs.items ≡ length paths.entry.now) }
     ensures in_order { OnOk result (AsksFor (O.asked opener.old) (O.asked opener.new)
         (map (λ path. string_bytes path) paths.entry.now)) }
-    ensures stops { IfErr result (StopsAt (O.asked opener.old) (O.asked opener.new)
+    ensures stops { IfErr result (StopsAtPath (O.asked opener.old) (O.asked opener.new)
         paths.entry.now) }
 {
     let mut inputs = Vec::new(alloc);

@@ -1,10 +1,5 @@
 -- A latitude or longitude that is read is spelled so, and what is spelled so is read.
-use Rattle.std.proofs.Common.{◌≡◌, ℕ, ℤ, ◌+◌, ◌*◌, ◌-◌, ◌≤◌, Bool, true, false, List, [], ◌∷◌}
-use Rattle.std.proofs.Common.{◌++◌, length, take, drop, Some, refl, sym, ap, ◌∙◌, arith, leb, eqb}
-use Rattle.std.specs.List.{slice_index, list_all}
-use Rattle.std.proofs.lemmas.Bool.{and_parts, ltb-true, lt-ltb, leb-true, le-leb, eqb-true}
-use Rattle.std.proofs.lemmas.Bool.Decides.{nat_tests}
-use Rattle.std.proofs.lemmas.List.{take_at, drop_at, take-append-drop, length-append, length-drop}
+use Rattle.aprs_report.proofs.Common.{◌≡◌, ℕ, ℤ, ◌+◌, ◌*◌, ◌-◌, ◌≤◌, Bool, true, false, List, [], ◌∷◌, ◌++◌, length, take, drop, Some, refl, sym, ap, ◌∙◌, arith, leb, eqb, slice_index, list_all, and_parts, ltb-true, lt-ltb, leb-true, le-leb, eqb-true, nat_tests, take_at, drop_at, take-append-drop, length-append, length-drop}
 use Rattle.aprs_report.specs.declared.place.coordinate.Axis.{Axis}
 use Rattle.aprs_report.specs.declared.place.coordinate.Axis.TheVariants.{Latitude, Longitude}
 use Rattle.aprs_report.specs.Bytes.{is_space}

@@ -1,10 +1,5 @@
 -- Cutting bytes at the end, one at a time.
-use Rattle.std.proofs.Common.{◌≡◌, ℕ, suc, ◌-◌, ◌<◌, Bool, true, false, List, [], ◌∷◌, ◌++◌}
-use Rattle.std.proofs.Common.{length, take, get_or, refl, sym, ap, ◌∙◌, arith}
-use Rattle.std.proofs.lemmas.List.{take-append-drop, drop_all}
-use Rattle.std.specs.List.{list_all}
-use Rattle.std.proofs.lemmas.Bool.{cond_both, and_from, and_parts}
-use Rattle.std.proofs.Math.Seq.{drop-cons}
+use Rattle.aprs_report.proofs.Common.{◌≡◌, ℕ, suc, ◌-◌, ◌<◌, Bool, true, false, List, [], ◌∷◌, ◌++◌, length, take, get_or, refl, sym, ap, ◌∙◌, arith, take-append-drop, drop_all, list_all, cond_both, and_from, and_parts, drop-cons}
 use Rattle.aprs_report.specs.Reader.{byte_before, cut_end}
 use Rattle.aprs_report.specs.Trailing.{ends_in, IsTrimmed}
 

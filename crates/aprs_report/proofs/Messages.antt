@@ -1,20 +1,12 @@
 -- A message that is read is spelled so, and what is spelled so is read.
-use Rattle.std.proofs.Common.{◌≡◌, ℕ, suc, ◌+◌, ◌-◌, ◌<◌, ◌≤◌, Bool, true, false, ◌&&◌, List, []}
-use Rattle.std.proofs.Common.{◌∷◌, ◌++◌, length, take, drop, get_or, Option, Some, None, refl, sym}
-use Rattle.std.proofs.Common.{zero, ap, subst, ◌∙◌, arith, append_assoc, add-one, eqb, leb}
-use Rattle.std.specs.Prelude.{codes}
-use Rattle.std.specs.List.{list_all}
-use Rattle.std.proofs.lemmas.Bool.{eqb-true, eq-eqb, and_parts, and_left, and_right, lt-leb}
-use Rattle.std.proofs.lemmas.Option.{none-some}
-use Rattle.std.proofs.Math.Seq.{drop-cons, take-suc}
-use Rattle.std.proofs.lemmas.List.{append-nil, drop_all, take_all, length-drop}
+use Rattle.aprs_report.proofs.Common.{◌≡◌, ℕ, suc, ◌+◌, ◌-◌, ◌<◌, ◌≤◌, Bool, true, false, ◌&&◌, List, [], ◌∷◌, ◌++◌, length, take, drop, get_or, Option, Some, None, refl, sym, zero, ap, subst, ◌∙◌, arith, append_assoc, add-one, eqb, leb, codes, list_all, eqb-true, eq-eqb, and_parts, and_left, and_right, lt-leb, none-some, drop-cons, take-suc, append-nil, drop_all, take_all, length-drop}
 use Rattle.aprs_report.specs.Bytes.{is_alphanumeric, is_line_end}
 use Rattle.aprs_report.specs.Message.{is_id, IsAddressed, IsAnswer, IsNumbered, IsNoAnswer, IsText}
 use Rattle.aprs_report.specs.Message.{IsMessage, IsReply}
 use Rattle.aprs_report.specs.Reading.{Value, message, ack, rej, HasForm}
 use Rattle.aprs_report.specs.Reader.{◌>>=◌, value_when, cut_end, is_colon, addressee_and_part_of, answer_at}
 use Rattle.aprs_report.specs.Reader.{id_at, text_and_id_with, text_and_id_of, part_with, part_of}
-use Rattle.aprs_report.specs.Reader.{message_of}
+use Rattle.aprs_report.specs.Reader.{message_with}
 use Rattle.aprs_report.proofs.Steps.{after_some, guarded_some, some_is, chunk_found, chunk_takes}
 use Rattle.aprs_report.proofs.Steps.{byte_found}
 use Rattle.aprs_report.proofs.Cuts.{cut_found, cut_takes}
@@ -295,9 +287,9 @@ addressed_takes addressee part info h =
     rw (chunk_takes 9 h.field (58 ∷ h.bytes) h.nine, name_takes h.field addressee h.named)
     (ap (λ (t : List ℕ). Some (addressee, t)) (cut_takes is_line_end part h.bytes h.cut))
 
-pub message_found : (bytes : List ℕ) (v : Value) → message_of bytes ≡ Some v →
+pub message_found : (bytes : List ℕ) (v : Value) → message_with bytes ≡ Some v →
     HasForm v (58 ∷ bytes)
-unfolding message_of
+unfolding message_with
 message_found bytes v e = after_some _ _ _ _ e (λ a e1 r1.
     subst (λ (v : Value). HasForm v (58 ∷ bytes)) (some_is (part_of a.0 a.1) v r1)
     (part_found a.0 a.1 (58 ∷ bytes) (addressed_found bytes a e1)))
@@ -306,11 +298,11 @@ message_found bytes v e = after_some _ _ _ _ e (λ a e1 r1.
 pub record MessageAt (v : Value) (info : List ℕ) : Type 0 where
   pub bytes : List ℕ
   pub whole : info ≡ 58 ∷ bytes
-  pub value : message_of bytes ≡ Some v
+  pub value : message_with bytes ≡ Some v
 
 part_takes : (addressee part info : List ℕ) (v : Value) → IsAddressed addressee part info →
     part_of addressee part ≡ v → MessageAt v info
-unfolding message_of
+unfolding message_with
 part_takes addressee part info v a e = record {
   bytes = a.field ++ (58 ∷ a.bytes);
   whole = a.whole;

@@ -1,7 +1,5 @@
 -- A name that is read is spelled so, and what is spelled so is read.
-use Rattle.std.proofs.Common.{◌≡◌, ℕ, List, length, Some, refl, subst, ltb}
-use Rattle.std.specs.List.{list_all}
-use Rattle.std.proofs.lemmas.Bool.{and_parts, ltb-true, lt-ltb}
+use Rattle.aprs_report.proofs.Common.{◌≡◌, ℕ, List, length, Some, refl, subst, ltb, list_all, and_parts, ltb-true, lt-ltb}
 use Rattle.aprs_report.specs.Bytes.{is_printable, is_space}
 use Rattle.aprs_report.specs.Name.{IsPaddedName}
 use Rattle.aprs_report.specs.Reader.{name_of, cut_end}

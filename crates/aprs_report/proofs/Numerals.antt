@@ -1,13 +1,7 @@
 -- Numbers in digits, from the left.
-use Rattle.std.proofs.Common.{◌≡◌, ℕ, zero, suc, ◌+◌, ◌*◌, ◌-◌, ◌^◌, ◌<◌, ◌≤◌, true, false, List}
-use Rattle.std.proofs.Common.{[], ◌∷◌, ◌++◌, length, take, get_or, Some, None, refl, sym, ap}
-use Rattle.std.proofs.Common.{subst, ◌∙◌, arith, ltb, leb, lit≤, add-one}
-use Rattle.std.specs.List.{list_all}
+use Rattle.aprs_report.proofs.Common.{◌≡◌, ℕ, zero, suc, ◌+◌, ◌*◌, ◌-◌, ◌^◌, ◌<◌, ◌≤◌, true, false, List, [], ◌∷◌, ◌++◌, length, take, get_or, Some, None, refl, sym, ap, subst, ◌∙◌, arith, ltb, leb, lit≤, add-one, list_all, and_parts, and_from, ltb-true, length-append, take_all, take-suc}
 use Rattle.std.proofs.Math.Nat.{pow-zero, pow-suc, mul_assoc, mul-one, add-mul, mul-le-mul_left}
-use Rattle.std.proofs.lemmas.Bool.{and_parts, and_from, ltb-true}
-use Rattle.std.proofs.lemmas.List.{length-append, take_all}
 use Rattle.std.proofs.lemmas.List.Folds.{list_all-append, list_all_at}
-use Rattle.std.proofs.Math.Seq.{take-suc}
 use Rattle.aprs_report.specs.Numeral.{is_digit_of, number, IsNumeral}
 use Rattle.aprs_report.specs.Reader.{numeral_of}
 use Rattle.aprs_report.proofs.Steps.{guarded_some}

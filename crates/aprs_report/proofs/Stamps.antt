@@ -1,8 +1,7 @@
 -- A stamp that is read is spelled so, and what is spelled so is read.
-use Rattle.std.proofs.Common.{◌≡◌, ℕ, List, [], ◌∷◌, ◌++◌, Some, refl, ap, subst, ◌∙◌}
-use Rattle.std.proofs.Common.{append_assoc}
+use Rattle.aprs_report.proofs.Common.{◌≡◌, ℕ, List, [], ◌∷◌, ◌++◌, Some, refl, ap, subst, ◌∙◌, append_assoc}
 use Rattle.aprs_report.specs.declared.stamp.Stamp.{Stamp}
-use Rattle.aprs_report.specs.Stamp.{is_mark, IsStamp, stamp_bytes}
+use Rattle.aprs_report.specs.Stamp.{is_time_mark, IsStamp, stamp_bytes}
 use Rattle.aprs_report.specs.Reader.{stamp_at}
 use Rattle.aprs_report.proofs.Steps.{after_some, guarded_some, chunk_found, chunk_takes}
 use Rattle.aprs_report.proofs.Steps.{byte_found}
@@ -22,7 +21,7 @@ unfolding stamp_at
 stamp_found bytes x e = after_some _ _ _ _ e (λ digits e1 r1. after_some _ _ _ _ r1 (λ mark e2 r2.
     let g = guarded_some _ _ _ r2 in
     let start = chunk_found 6 bytes digits e1 in
-    let after = byte_found is_mark digits.1 mark e2 in
+    let after = byte_found is_time_mark digits.1 mark e2 in
     subst (λ (x : Stamp × List ℕ). StampAt bytes x.0 x.1) g.1 (record {
       stamp = record { six = start.len; digits = g.0; mark = after.1 };
       whole = parts mark.0 digits.0 mark.1 digits.1 bytes start.parts after.0;

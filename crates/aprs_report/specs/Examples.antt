@@ -21,17 +21,17 @@ abbrev pub fraction : ℤ → ℕ → Fraction
 fraction n d = record { numerator = n; denominator = pos d }
 
 -- A symbol of this table and code.
-abbrev pub symbol_of : ℕ → ℕ → Symbol
-symbol_of table code = record { table = table; code = code }
+abbrev pub example_symbol : ℕ → ℕ → Symbol
+example_symbol table code = record { table = table; code = code }
 
 -- A house (symbol /-), without stamp, messages or comment.
 abbrev pub plain : ℤ → ℤ → ℕ → Value
-plain lat lon ambiguity = position false None (Plain lat lon ambiguity) (symbol_of 47 45) []
+plain lat lon ambiguity = position false None (Plain lat lon ambiguity) (example_symbol 47 45) []
 
 -- A car (symbol >) of a station that takes messages, with c, s and T " sT".
 abbrev pub compressed_position : ℕ → ℕ → ℕ → Value
 compressed_position table y x =
-    position true None (Base91 y x (32 ∷ 115 ∷ 84 ∷ [])) (symbol_of table 62) []
+    position true None (Base91 y x (32 ∷ 115 ∷ 84 ∷ [])) (example_symbol table 62) []
 
 -- A stamp of the digits 092345 and this mark.
 abbrev pub stamp_with : ℕ → Stamp
@@ -43,8 +43,8 @@ here = Plain (pos 294350) (minus 432175) 0
 
 -- The object LEADER, a car that is here.
 abbrev pub leader : Bool → Value
-leader live = object (codes "LEADER") live (stamp_with 122) here (symbol_of 47 62) []
+leader live = object (codes "LEADER") live (stamp_with 122) here (example_symbol 47 62) []
 
 -- The item LEADER, a car that is here.
 abbrev pub leader_item : Bool → Value
-leader_item live = item (codes "LEADER") live here (symbol_of 47 62) []
+leader_item live = item (codes "LEADER") live here (example_symbol 47 62) []

@@ -12,7 +12,7 @@ use Rattle.aprs_report.specs.declared.place.Place.{Place}
 use Rattle.aprs_report.specs.declared.place.Place.TheVariants.{Plain, Base91}
 use Rattle.aprs_report.specs.Bytes.{is_digit, is_capital, is_printable, is_space, is_line_end}
 use Rattle.aprs_report.specs.Numeral.{is_digit_of, number}
-use Rattle.aprs_report.specs.Stamp.{is_mark}
+use Rattle.aprs_report.specs.Stamp.{is_time_mark}
 use Rattle.aprs_report.specs.Symbol.{is_table, is_code}
 use Rattle.aprs_report.specs.Compressed.{greatest_base91}
 use Rattle.aprs_report.specs.Coordinate.{per_degree, limit, letter, with_sign, is_blank}
@@ -35,9 +35,9 @@ abbrev pub chunk_of : ℕ → List ℕ → Option (List ℕ × List ℕ)
 chunk_of n bytes = if nat_lt (length bytes) n then None else Some (take n bytes, drop n bytes)
 
 -- The first byte and the rest, if the byte passes the test.
-abbrev pub byte_of : (ℕ → Bool) → List ℕ → Option (ℕ × List ℕ)
-byte_of p [] = None
-byte_of p (b ∷ rest) = value_when (p b) (b, rest)
+abbrev pub byte_where : (ℕ → Bool) → List ℕ → Option (ℕ × List ℕ)
+byte_where p [] = None
+byte_where p (b ∷ rest) = value_when (p b) (b, rest)
 
 -- A byte and those after it, or nothing where there are none after it and it passes the test.
 abbrev pub byte_before : (ℕ → Bool) → ℕ → List ℕ → List ℕ
@@ -60,7 +60,7 @@ numeral_of base nought text =
 unfoldable pub stamp_at : List ℕ → Option (Stamp × List ℕ)
 stamp_at bytes = do
   digits ← chunk_of 6 bytes
-  mark ← byte_of is_mark digits.1
+  mark ← byte_where is_time_mark digits.1
   value_when (list_all is_digit digits.0) (record { digits = digits.0; mark = mark.0 }, mark.1)
 
 -- ---- plain positions
@@ -102,10 +102,10 @@ unfoldable pub plain_of : List ℕ → Option (Place × Symbol × List ℕ)
 plain_of bytes = do
   north ← chunk_of 2 bytes
   north_minutes ← chunk_of 6 north.1
-  table ← byte_of is_table north_minutes.1
+  table ← byte_where is_table north_minutes.1
   east ← chunk_of 3 table.1
   east_minutes ← chunk_of 6 east.1
-  code ← byte_of is_code east_minutes.1
+  code ← byte_where is_code east_minutes.1
   lat ← angle_of Latitude (ambiguity_of north_minutes.0) north.0 north_minutes.0
   lon ← angle_of Longitude (ambiguity_of north_minutes.0) east.0 east_minutes.0
   Some (
@@ -141,7 +141,7 @@ compressed_of bytes = do
   table ← table_at bytes
   ys ← chunk_of 4 table.1
   xs ← chunk_of 4 ys.1
-  code ← byte_of is_code xs.1
+  code ← byte_where is_code xs.1
   cst ← chunk_of 3 code.1
   y ← base91_of ys.0
   x ← base91_of xs.0
@@ -235,7 +235,7 @@ unfoldable pub addressee_and_part_of : List ℕ → Option (List ℕ × List ℕ
 addressee_and_part_of bytes = do
   field ← chunk_of 9 bytes
   name ← name_of field.0
-  colon ← byte_of is_colon field.1
+  colon ← byte_where is_colon field.1
   Some (name, cut_end is_line_end colon.1)
 
 -- The id after this word of three bytes, or None where the part doesn't begin so or no id follows.
@@ -279,8 +279,8 @@ part_of addressee part =
     (text_and_id_of part)
 
 -- The message or answer that bytes after the first are.
-unfoldable pub message_of : List ℕ → Option Value
-message_of bytes = do
+unfoldable pub message_with : List ℕ → Option Value
+message_with bytes = do
   addressed ← addressee_and_part_of bytes
   Some (part_of addressed.0 addressed.1)
 
@@ -297,7 +297,7 @@ report_by_form (b ∷ rest) =
     else (if b == 59 then object_of rest
     else (if b == 41 then item_of rest
     else (if b == 62 then Some (status_of rest)
-    else (if b == 58 then message_of rest else None)))))))
+    else (if b == 58 then message_with rest else None)))))))
 
 -- What a field reads as: a report with a form, or raw.
 abbrev pub reading_of : List ℕ → Value

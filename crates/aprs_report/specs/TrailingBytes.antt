@@ -5,6 +5,6 @@ use Rattle.aprs_report.specs.declared.bytes.Trailing.TheVariants.{Spaces, LineEn
 use Rattle.aprs_report.specs.Bytes.{is_space, is_line_end}
 
 -- The byte is one of these.
-abbrev pub is_end : Trailing → ℕ → Bool
-is_end Spaces b = is_space b
-is_end LineEnds b = is_line_end b
+abbrev pub is_trailing : Trailing → ℕ → Bool
+is_trailing Spaces b = is_space b
+is_trailing LineEnds b = is_line_end b

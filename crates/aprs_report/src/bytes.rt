@@ -50,11 +50,11 @@ pub enum Trailing {
 }
 
 impl Trailing {
-    ghost use Rattle.aprs_report.specs.TrailingBytes.{is_end};
+    ghost use Rattle.aprs_report.specs.TrailingBytes.{is_trailing};
 
     /// Whether the byte is of this kind: a space for `Spaces`, CR or LF for `LineEnds`.
     fn has(self, byte: u8) -> bool
-        ensures { result ≡ is_end self byte }
+        ensures { result ≡ is_trailing self byte }
     {
         match self {
             Trailing::Spaces => byte == b' ',
@@ -64,7 +64,7 @@ impl Trailing {
 
     /// The bytes without all those of this kind at their end.
     pub fn cut(self, bytes: &[u8]) -> &[u8]
-        ensures exact { result.now ≡ cut_end (is_end self) bytes.now }
+        ensures exact { result.now ≡ cut_end (is_trailing self) bytes.now }
         ensures short { length result.now ≤ length bytes.now }
     {
         let mut rest = bytes;

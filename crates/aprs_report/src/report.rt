@@ -8,7 +8,7 @@ use crate::stamp::Stamp;
 use crate::symbol::Symbol;
 
 /// What an information field says. Its slices are borrowed from the field.
-#[derive(Clone, Copy, Debug, PartialEq, Eq)]
+#[derive(Clone, Copy, Debug)]
 pub enum Report<'a> {
     /// The position of the frame's source (APRS Protocol Reference 1.0.1, chapters 6, 8 and 9).
     Position {

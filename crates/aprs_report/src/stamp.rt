@@ -4,8 +4,8 @@ ghost use Rattle.std.specs.Prelude.{◌≡◌};
 ghost use Rattle.std.specs.Option.{option_map};
 ghost use Rattle.std.specs.List.{list_all};
 ghost use Rattle.aprs_report.specs.Bytes.{is_digit};
-ghost use Rattle.aprs_report.specs.Stamp.{is_mark};
-ghost use Rattle.aprs_report.specs.Reader.{byte_of, stamp_at};
+ghost use Rattle.aprs_report.specs.Stamp.{is_time_mark};
+ghost use Rattle.aprs_report.specs.Reader.{byte_where, stamp_at};
 
 use crate::bytes::{chunk, is_digit_byte};
 
@@ -29,7 +29,7 @@ fn all_digits(bytes: &[u8]) -> bool
 /// The mark of a time stamp (`z`, `/` or `h`) that some bytes begin with, and the rest, or `None`
 /// where they don't begin so.
 fn mark_at_start(bytes: &[u8]) -> Option<(u8, &[u8])>
-    ensures { option_map (λ x. (x.0, x.1.now)) result ≡ byte_of is_mark bytes.now }
+    ensures { option_map (λ x. (x.0, x.1.now)) result ≡ byte_where is_time_mark bytes.now }
 {
     match bytes {
         [mark @ (b'z' | b'/' | b'h'), rest @ ..] => Some((*mark, rest)),

@@ -3,7 +3,7 @@
 ghost use Rattle.std.specs.Prelude.{◌≡◌};
 ghost use Rattle.std.specs.Option.{option_map};
 ghost use Rattle.aprs_report.specs.Symbol.{is_table, is_code};
-ghost use Rattle.aprs_report.specs.Reader.{byte_of, table_of_byte, table_at};
+ghost use Rattle.aprs_report.specs.Reader.{byte_where, table_of_byte, table_at};
 
 use crate::bytes::{is_capital_byte, is_digit_byte};
 
@@ -33,7 +33,7 @@ fn is_code_byte(byte: u8) -> bool
 /// The first byte, which names a table of symbols as in a plain position, and the rest. `None`
 /// where it names no table, or where there is no byte.
 pub fn table_at_start(bytes: &[u8]) -> Option<(u8, &[u8])>
-    ensures { option_map (λ x. (x.0, x.1.now)) result ≡ byte_of is_table bytes.now }
+    ensures { option_map (λ x. (x.0, x.1.now)) result ≡ byte_where is_table bytes.now }
 {
     match bytes {
         [table, rest @ ..] if is_table_byte(*table) => Some((*table, rest)),
@@ -44,7 +44,7 @@ pub fn table_at_start(bytes: &[u8]) -> Option<(u8, &[u8])>
 /// The first byte, which is the code of a symbol, and the rest. `None` where it is no code, or
 /// where there is no byte.
 pub fn code_at_start(bytes: &[u8]) -> Option<(u8, &[u8])>
-    ensures { option_map (λ x. (x.0, x.1.now)) result ≡ byte_of is_code bytes.now }
+    ensures { option_map (λ x. (x.0, x.1.now)) result ≡ byte_where is_code bytes.now }
 {
     match bytes {
         [code, rest @ ..] if is_code_byte(*code) => Some((*code, rest)),

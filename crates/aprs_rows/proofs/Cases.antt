@@ -1,8 +1,5 @@
 -- Cases on an ordering and on a result.
-use Rattle.std.proofs.Common.{◌≡◌, false, true, Result, Ok, Err, OnOk, OnErr, refl}
-use Rattle.std.specs.Prelude.{is_err}
-use Rattle.std.specs.declared.cmp.Ordering.{Ordering}
-use Rattle.std.specs.declared.cmp.Ordering.TheVariants.{Less, Equal, Greater}
+use Rattle.aprs_rows.proofs.Common.{◌≡◌, false, true, Result, Ok, Err, OnOk, OnErr, refl, is_err, Ordering, Less, Equal, Greater}
 
 -- cases on an ordering, with the equation
 pub by_order : {G : Type 0} (o : Ordering) → (o ≡ Less → G) → (o ≡ Equal → G)

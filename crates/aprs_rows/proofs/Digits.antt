@@ -1,13 +1,5 @@
 -- Numbers of digits, base 256, are in order as the digits are.
-use Rattle.std.proofs.Common.{◌≡◌, ◌∙◌, ℕ, zero, suc, ◌+◌, ◌*◌, ◌<◌, List, [], ◌∷◌, length, get_or, refl, sym, ap, arith}
-use Rattle.std.specs.Int.{w64, from_be_bytes}
-use Rattle.std.specs.Ordering.{nat_cmp, ordering_then}
-use Rattle.std.specs.declared.cmp.Ordering.{Ordering}
-use Rattle.std.specs.declared.cmp.Ordering.TheVariants.{Less, Equal, Greater}
-use Rattle.std.proofs.lemmas.Bool.Decides.{nat_tests}
-use Rattle.std.proofs.lemmas.Cmp.{tied_itself}
-use Rattle.aprs_log.specs.Reception.{bytes_cmp}
-use Rattle.aprs_laws.proofs.Orders.{bytes_total, ordering_then_assoc}
+use Rattle.aprs_rows.proofs.Common.{◌≡◌, ◌∙◌, ℕ, zero, suc, ◌+◌, ◌*◌, ◌<◌, List, [], ◌∷◌, length, get_or, refl, sym, ap, arith, w64, from_be_bytes, nat_cmp, ordering_then, Ordering, Less, Equal, Greater, nat_tests, tied_itself, bytes_cmp, bytes_total, ordering_then_assoc}
 
 pub then_equal : (o : Ordering) → ordering_then o Equal ≡ o
 then_equal Less = refl

@@ -1,25 +1,12 @@
 -- Entries are in order as their rows are.
-use Rattle.std.proofs.Common.{◌≡◌, ◌∙◌, ℕ, ◌<◌, ◌≤◌, Bool, false, List, [], ◌∷◌, length, get_or, sym, ap, arith, Bor}
-use Rattle.std.specs.Cmp.{IsStrictWeakOrder, IsTotalOrder}
+use Rattle.aprs_rows.proofs.Common.{◌≡◌, ◌∙◌, ℕ, ◌<◌, ◌≤◌, Bool, false, List, [], ◌∷◌, length, get_or, sym, ap, arith, Bor, IsStrictWeakOrder, IsTotalOrder, IsSortedBy, IsPermutation, nat_cmp, is_lt, ordering_then, Ordering, then_total, on_total, nat_cmp_total, length-map, get_or-map, All-from_recursion, recursion_from_All, ranks_by, sorted_far, All-permutation, bytes_cmp, AreInOrder, key_cmp, Row, row_cmp, row_key, bytes_total, ordering_then_assoc}
 use Rattle.std.specs.Fn.{Called, ComparesAs, Mut}
-use Rattle.std.specs.List.Sorted.{IsSortedBy, IsPermutation}
-use Rattle.std.specs.Ordering.{nat_cmp, is_lt, ordering_then}
-use Rattle.std.specs.declared.cmp.Ordering.{Ordering}
-use Rattle.std.proofs.lemmas.Cmp.{then_total, on_total, nat_cmp_total}
 use Rattle.std.proofs.lemmas.Fn.{always_returns_same}
-use Rattle.std.proofs.lemmas.List.{length-map, get_or-map}
-use Rattle.std.proofs.lemmas.List.Elements.{All-from_recursion, recursion_from_All}
-use Rattle.std.proofs.lemmas.List.Sorted.{ranks_by, sorted_far, All-permutation}
-use Rattle.aprs_log.specs.Reception.{bytes_cmp}
-use Rattle.aprs_laws.specs.Coalescing.{AreInOrder}
-use Rattle.aprs_laws.specs.Key.{key_cmp}
-use Rattle.aprs_laws.specs.Row.{Row, row_cmp, row_key}
-use Rattle.aprs_laws.proofs.Orders.{bytes_total, ordering_then_assoc}
-use Rattle.aprs_rows.specs.Head.{HasHead}
-use Rattle.aprs_rows.specs.HeadSteps.{head_cmp}
+use Rattle.aprs_rows.specs.KeyPrefix.{HasKeyPrefix}
+use Rattle.aprs_rows.specs.KeyPrefixSteps.{head_cmp}
 use Rattle.aprs_rows.specs.Rows.{AreRowsIn, bytes_of, entry_cmp, entry_row, info_of, IsRowIn, rows_in}
 use Rattle.aprs_rows.specs.declared.store.entry.Entry.{Entry}
-use Rattle.aprs_rows.proofs.Heads.{head_and_info, head_total}
+use Rattle.aprs_rows.proofs.KeyPrefixes.{head_and_info, head_total}
 use Rattle.aprs_rows.proofs.Orders.{ordered}
 use Rattle.aprs_rows.proofs.Rows.{each_lies, info_there}
 
@@ -38,13 +25,13 @@ module _ (bytes : List ℕ) where
   as_rows a b r s =
       let f = (row_of a).greatest.frame in
       let g = (row_of b).greatest.frame in
-      let heads : HasHead a.head f =
+      let heads : HasKeyPrefix a.head f =
       record {
         frame = r.told.frame_is;
         bytes = r.key.bytes;
         head = r.key.head;
       } in
-      let others : HasHead b.head g =
+      let others : HasKeyPrefix b.head g =
       record {
         frame = s.told.frame_is;
         bytes = s.key.bytes;

@@ -1,9 +1,5 @@
 -- Rows of groups, whose texts lie one after another.
-use Rattle.std.proofs.Common.{◌≡◌, ◌∙◌, Bool, true, false, ℕ, zero, suc, ◌≤◌, List, [], ◌∷◌, ◌++◌, length, take, drop, refl, sym, ap, subst, arith}
-use Rattle.std.proofs.lemmas.List.{take_all}
-use Rattle.std.specs.Prelude.{All, if◌then◌else◌}
-use Rattle.std.proofs.lemmas.List.Elements.{All-nil, All-cons}
-use Rattle.aprs_laws.specs.Row.{Row}
+use Rattle.aprs_rows.proofs.Common.{◌≡◌, ◌∙◌, Bool, true, false, ℕ, zero, suc, ◌≤◌, List, [], ◌∷◌, ◌++◌, length, take, drop, refl, sym, ap, subst, arith, take_all, All, if◌then◌else◌, All-nil, All-cons, Row}
 use Rattle.aprs_rows.specs.declared.store.group.Group.{Group}
 use Rattle.aprs_rows.specs.Groups.{rows_of, AreOf, rows_of_groups, AreGroups, group_row, text_size}
 use Rattle.aprs_rows.specs.Told.{IsTold}

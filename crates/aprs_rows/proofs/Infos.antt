@@ -1,10 +1,6 @@
 -- Where the information of a frame begins.
-use Rattle.std.proofs.Common.{◌≡◌, ◌∙◌, ℕ, zero, suc, ◌-◌, ◌≤◌, List, [], ◌∷◌, length, drop, ◌+◌, Option, None, Some, Result, Ok, Err, refl, sym, ap, arith}
-use Rattle.std.proofs.lemmas.List.{length-drop, drop-drop}
-use Rattle.aprs_ax25.specs.Frame.{FrameOf}
-use Rattle.aprs_ax25.specs.FrameFault.{field_len, parts_of, frame_of, frame_fault, unless_fault}
+use Rattle.aprs_rows.proofs.Common.{◌≡◌, ◌∙◌, ℕ, zero, suc, ◌-◌, ◌≤◌, List, [], ◌∷◌, length, drop, ◌+◌, Option, None, Some, Result, Ok, Err, refl, sym, ap, arith, length-drop, drop-drop, FrameOf, field_len, parts_of, frame_or_fault, frame_fault, unless_fault, FrameOf-IsSound}
 use Rattle.aprs_ax25.specs.declared.fault.FrameFault.{FrameFault}
-use Rattle.aprs_ax25.proofs.Spellings.{FrameOf-IsSound}
 
 -- so many from the end as stand after the first n
 pub drop_to_end : (n : ℕ) (xs : List ℕ) → drop (length xs - length (drop n xs)) xs ≡ drop n xs
@@ -31,7 +27,7 @@ info_at f n e =
     two = drop-drop 2 (field_len f) f
 
 -- the frame that is read of bytes is those bytes
-pub frame_is : (x bytes : List ℕ) → Ok x ≡ frame_of bytes → x ≡ bytes
+pub frame_is : (x bytes : List ℕ) → Ok x ≡ frame_or_fault bytes → x ≡ bytes
 frame_is x bytes = by_case (frame_fault bytes) where
   by_case : (o : Option FrameFault) → Ok x ≡ unless_fault bytes o → x ≡ bytes
   by_case None e = ap (λ r. got r) e where

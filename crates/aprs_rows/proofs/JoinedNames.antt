@@ -1,11 +1,7 @@
 -- Names that are put into a text one after another, with commas between.
-use Rattle.std.proofs.Common.{◌≡◌, ◌∙◌, ℕ, ◌+◌, ◌<◌, List, [], ◌∷◌, ◌++◌, length, get_or, take, sym, ap, subst, append_assoc, append-nil}
-use Rattle.std.proofs.lemmas.List.{take_more}
+use Rattle.aprs_rows.proofs.Common.{◌≡◌, ◌∙◌, ℕ, ◌+◌, ◌<◌, List, [], ◌∷◌, ◌++◌, length, get_or, take, sym, ap, subst, append_assoc, take_more, All-push, All, join_with_byte, flat_map, IsName}
+use Rattle.std.proofs.Common.{append-nil}
 use Rattle.std.proofs.lemmas.List.Concat.{flat_map-append}
-use Rattle.std.proofs.lemmas.List.Elements.{All-push}
-use Rattle.std.specs.Prelude.{All}
-use Rattle.std.specs.List.{join_with_byte, flat_map}
-use Rattle.aprs_log.specs.Receiver.{IsName}
 
 abbrev pub after_comma : List ℕ → List ℕ
 after_comma name = 44 ∷ name

@@ -1,9 +1,10 @@
 -- Lemmas of rows.
+pub mod Common
 pub mod Cases
 pub mod Digits
 pub mod EntryOrder
 pub mod Groups
-pub mod Heads
+pub mod KeyPrefixes
 pub mod Infos
 pub mod JoinedNames
 pub mod Judgements

@@ -1,12 +1,5 @@
 -- Names in texts.
-use Rattle.std.proofs.Common.{◌≡◌, ◌∙◌, ℕ, ◌<◌, zero, suc, ◌==◌, Bool, true, false, List, [], ◌∷◌, length, get_or, take, drop, refl, ap, arith}
-use Rattle.std.specs.Prelude.{All}
-use Rattle.std.specs.List.{list_all, join_with_byte, onto_first, AllByRecursion}
-use Rattle.std.proofs.lemmas.Bool.{and_parts, false_from_ne_true}
-use Rattle.std.proofs.lemmas.Bool.Decides.{nat_tests}
-use Rattle.std.proofs.lemmas.List.Elements.{All-from_recursion, recursion_from_All}
-use Rattle.std.proofs.lemmas.List.Splits.{slice_split_none, slice_split_at}
-use Rattle.aprs_log.specs.Receiver.{IsName, is_name_byte}
+use Rattle.aprs_rows.proofs.Common.{◌≡◌, ◌∙◌, ℕ, ◌<◌, zero, suc, ◌==◌, Bool, true, false, List, [], ◌∷◌, length, get_or, take, drop, refl, ap, arith, All, list_all, join_with_byte, onto_first, AllByRecursion, and_parts, false_from_ne_true, nat_tests, All-from_recursion, recursion_from_All, slice_split_none, slice_split_at, IsName, is_name_byte}
 use Rattle.aprs_rows.specs.Names.{names_in}
 
 abbrev is_comma : ℕ → Bool

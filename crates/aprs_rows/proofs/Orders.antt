@@ -1,18 +1,6 @@
 -- Rows that a sort has put in order.
-use Rattle.std.proofs.Common.{◌≡◌, ◌∙◌, ℕ, suc, ◌<◌, ◌≤◌, false, List, [], ◌∷◌, length, get_or, inl, inr, refl, ap, subst, arith}
-use Rattle.std.specs.List.{AllByRecursion}
-use Rattle.std.specs.List.Sorted.{IsPermutation}
-use Rattle.std.specs.Ordering.{is_lt, is_gt, ordering_reverse}
-use Rattle.std.specs.declared.cmp.Ordering.{Ordering}
-use Rattle.std.specs.declared.cmp.Ordering.TheVariants.{Less, Equal, Greater}
-use Rattle.std.proofs.lemmas.List.Elements.{All-from_recursion, recursion_from_All}
-use Rattle.std.proofs.lemmas.List.Sorted.{All-permutation, IsPermutation-sym}
-use Rattle.aprs_laws.specs.Coalescing.{AreInOrder}
-use Rattle.aprs_laws.specs.Lists.{◌∈◌, SameMembers}
-use Rattle.aprs_laws.specs.Order.{IsUpTo}
-use Rattle.aprs_laws.specs.Row.{Row, row_cmp}
+use Rattle.aprs_rows.proofs.Common.{◌≡◌, ◌∙◌, ℕ, suc, ◌<◌, ◌≤◌, false, List, [], ◌∷◌, length, get_or, inl, inr, refl, ap, subst, arith, AllByRecursion, IsPermutation, is_lt, is_gt, ordering_reverse, Ordering, Less, Equal, Greater, All-from_recursion, recursion_from_All, All-permutation, IsPermutation-sym, AreInOrder, ◌∈◌, SameMembers, IsUpTo, Row, row_cmp, place_of}
 use Rattle.aprs_laws.proofs.Books.{row_total}
-use Rattle.aprs_laws.proofs.Places.{place_of}
 
 -- x is not after y where y is not before x
 not_after : (x y : Row) → is_lt (row_cmp y x) ≡ false → IsUpTo row_cmp x y

@@ -1,21 +1,7 @@
 -- Lists of names in order.
-use Rattle.std.proofs.Common.{◌⊎◌, inl, inr, append-nil, ◌≡◌, ℕ, zero, suc, ◌<◌, ◌≤◌, get_or, List, [], ◌∷◌, ◌++◌, length, drop, Result, Ok, Err, OnOk, OnErr, MatchResult, refl, sym, ap, subst, ◌∙◌, arith}
-use Rattle.std.proofs.lemmas.List.{drop_all}
+use Rattle.aprs_rows.proofs.Common.{◌⊎◌, inl, inr, ◌≡◌, ℕ, zero, suc, ◌<◌, ◌≤◌, get_or, List, [], ◌∷◌, ◌++◌, length, drop, Result, Ok, Err, OnOk, OnErr, MatchResult, refl, sym, ap, subst, ◌∙◌, arith, drop_all, insert, HoldsAt, IsNonDecreasingBy, IsPartitionPoint, IsBinarySearchResult, IsSearchInRange, ordering_index, ordering_reverse, Ordering, Less, Equal, Greater, bytes_cmp, ◌∈◌, Ordered, IsBelow, add, IsUnited, ascending_union, bytes_total, bytes_exact, add_listed, add_ordered, merged_is_united, merged_is_union}
+use Rattle.std.proofs.Common.{append-nil}
 use Rattle.std.proofs.lemmas.List.Edits.{length-insert}
-use Rattle.std.specs.List.{insert, HoldsAt}
-use Rattle.std.specs.List.Sorted.{IsNonDecreasingBy, IsPartitionPoint, IsBinarySearchResult, IsSearchInRange}
-use Rattle.std.specs.Ordering.{ordering_index, ordering_reverse}
-use Rattle.std.specs.declared.cmp.Ordering.{Ordering}
-use Rattle.std.specs.declared.cmp.Ordering.TheVariants.{Less, Equal, Greater}
-use Rattle.aprs_log.specs.Reception.{bytes_cmp}
-use Rattle.aprs_laws.specs.Lists.{◌∈◌, Ordered}
-use Rattle.aprs_laws.specs.Order.{IsBelow}
-use Rattle.aprs_laws.specs.JoinRow.{add}
-use Rattle.aprs_laws.specs.Joining.{IsUnited}
-use Rattle.aprs_laws.specs.Merged.{ascending_union}
-use Rattle.aprs_laws.proofs.Orders.{bytes_total, bytes_exact}
-use Rattle.aprs_laws.proofs.Choices.{add_listed, add_ordered}
-use Rattle.aprs_laws.proofs.Merges.{merged_is_united, merged_is_union}
 use Rattle.aprs_rows.proofs.Cases.{by_order}
 
 merged-nil : (xs : List (List ℕ)) → ascending_union bytes_cmp xs [] ≡ xs

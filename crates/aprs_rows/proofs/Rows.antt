@@ -1,19 +1,5 @@
 -- Rows as their bytes lie in a store.
-use Rattle.std.proofs.Common.{◌≡◌, ◌↔◌, ◌==◌, Bool, true, inl, inr, ◌∙◌, ℕ, zero, suc, ◌+◌, ◌-◌, ◌<◌, List, [], ◌∷◌, ◌++◌, length, take, drop, get_or, Option, None, Some, Result, Ok, Err, OnOk, IfOk, refl, sym, ap, subst, arith}
-use Rattle.std.proofs.Math.Seq.{take-append_seam, drop-append_seam}
-use Rattle.std.proofs.lemmas.List.{length-append, length-map, drop-drop}
-use Rattle.std.proofs.lemmas.List.Splits.{join_with_byte-slice_split}
-use Rattle.std.specs.Prelude.{All, IsTrue}
-use Rattle.std.specs.List.{join_with_byte, last_or, slice_get}
-use Rattle.std.proofs.lemmas.Bool.Decides.{nat_tests}
-use Rattle.std.proofs.lemmas.List.Elements.{All-nil, All-cons}
-use Rattle.aprs_ax25.specs.FrameFault.{parts_of}
-use Rattle.aprs_log.specs.Receiver.{IsName}
-use Rattle.aprs_log.specs.Reception.{Heard}
-use Rattle.aprs_laws.specs.JoinRow.{single}
-use Rattle.aprs_laws.specs.Row.{Row}
-use Rattle.aprs_laws.specs.Sound.{IsSoundRow}
-use Rattle.aprs_laws.proofs.Coalescing.{single_is_sound}
+use Rattle.aprs_rows.proofs.Common.{◌≡◌, ◌↔◌, ◌==◌, Bool, true, inl, inr, ◌∙◌, ℕ, zero, suc, ◌+◌, ◌-◌, ◌<◌, List, [], ◌∷◌, ◌++◌, length, take, drop, get_or, Option, None, Some, Result, Ok, Err, OnOk, IfOk, refl, sym, ap, subst, arith, take-append_seam, drop-append_seam, length-append, length-map, drop-drop, join_with_byte-slice_split, All, IsTrue, join_with_byte, last_or, slice_get, nat_tests, All-nil, All-cons, parts_of, IsName, Received, single, Row, IsSoundRow, single_is_sound}
 use Rattle.aprs_rows.specs.declared.store.entry.Entry.{Entry}
 use Rattle.aprs_rows.specs.Names.{names_in, row_of_text}
 use Rattle.aprs_rows.specs.Rows.{AreRowsIn, AreSoundRows, bytes_of, entry_row, HasKey, info_of, IsRowIn, row_bytes, rows_in, size_of}
@@ -88,12 +74,12 @@ single_names r h =
     subst (All IsName) (sym (name_alone r h)) (All-cons IsName r [] h (All-nil IsName))
 
 -- What is known of the row of one reception.
-pub record IsSingle (x : Heard) (row : Row) : Type 0 where
+pub record IsSingle (x : Received) (row : Row) : Type 0 where
   pub is : row ≡ single x
   pub sound : IsSoundRow row
   pub short : length (join_with_byte 44 row.receivers) < 4294967296
 
-pub single_row : (x : Heard) (row : Row) (m n : ℕ) (r f : List ℕ) → row ≡ row_of_text m n r r f
+pub single_row : (x : Received) (row : Row) (m n : ℕ) (r f : List ℕ) → row ≡ row_of_text m n r r f
     → m ≡ x.moment → n ≡ x.moment → r ≡ x.receiver → f ≡ x.frame → IsName x.receiver
     → IsSingle x row
 single_row x row m n r f e moment again receiver frame name =

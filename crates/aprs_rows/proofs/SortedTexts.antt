@@ -1,23 +1,6 @@
 -- The text of names that ascend, of equal ones one, is that of their union.
-use Rattle.std.proofs.Common.{◌≡◌, ◌∙◌, ℕ, zero, suc, ◌+◌, ◌<◌, ◌≤◌, Bool, true, false, List, [], ◌∷◌, ◌++◌, ◌⊎◌, inl, inr, length, get_or, drop, map, append_assoc, refl, sym, ap, subst, arith, Bor}
-use Rattle.std.proofs.lemmas.List.{append-nil, drop_all}
-use Rattle.std.specs.Prelude.{if◌then◌else◌}
-use Rattle.std.specs.List.{join_with_byte}
-use Rattle.std.specs.List.Sorted.{IsSorted, IsPermutation}
-use Rattle.std.specs.Cmp.{IsTotalOrder}
-use Rattle.std.specs.Ordering.{is_lt, is_gt, is_ne, ordering_reverse}
-use Rattle.std.proofs.lemmas.Cmp.{on_total}
-use Rattle.std.proofs.lemmas.List.Sorted.{ranks_by, sorted_far, IsPermutation-map}
-use Rattle.std.specs.declared.cmp.Ordering.{Ordering}
-use Rattle.std.specs.declared.cmp.Ordering.TheVariants.{Less, Equal, Greater}
-use Rattle.aprs_log.specs.Reception.{bytes_cmp}
-use Rattle.aprs_laws.specs.JoinRow.{union}
-use Rattle.aprs_laws.specs.Lists.{◌∈◌, Ordered, SameMembers}
-use Rattle.aprs_laws.specs.Order.{IsBelow, IsUpTo}
-use Rattle.aprs_laws.proofs.Lists.{from_map}
-use Rattle.aprs_laws.proofs.Orders.{bytes_total, bytes_exact}
-use Rattle.aprs_laws.proofs.Places.{place_of}
-use Rattle.aprs_laws.proofs.Choices.{in_union, same_members, union_ordered}
+use Rattle.aprs_rows.proofs.Common.{◌≡◌, ◌∙◌, ℕ, zero, suc, ◌+◌, ◌<◌, ◌≤◌, Bool, true, false, List, [], ◌∷◌, ◌++◌, ◌⊎◌, inl, inr, length, get_or, drop, map, append_assoc, refl, sym, ap, subst, arith, Bor, drop_all, if◌then◌else◌, join_with_byte, IsSorted, IsPermutation, IsTotalOrder, is_lt, is_gt, is_ne, ordering_reverse, on_total, ranks_by, sorted_far, IsPermutation-map, Ordering, Less, Equal, Greater, bytes_cmp, union, ◌∈◌, Ordered, SameMembers, IsBelow, IsUpTo, from_map, bytes_total, bytes_exact, place_of, in_union, same_members, union_ordered}
+use Rattle.std.proofs.lemmas.List.{append-nil}
 use Rattle.aprs_rows.proofs.Orders as Orders
 use Rattle.aprs_rows.specs.Sorted.{next_text, further, after_first, ascending_text}
 

@@ -1,23 +1,6 @@
 -- Rows in order, taken one after another.
-use Rattle.std.proofs.Common.{◌≡◌, ◌∙◌, ℕ, zero, suc, ◌+◌, ◌<◌, min, Bool, true, false, List, [], ◌∷◌, ◌++◌, inl, inr, length, append_assoc, refl, sym, ap, subst, arith, Bor}
-use Rattle.std.specs.Prelude.{All, if◌then◌else◌}
-use Rattle.std.specs.List.{join_with_byte, AllByRecursion}
-use Rattle.std.specs.Ordering.{is_eq}
-use Rattle.std.specs.declared.cmp.Ordering.{Ordering}
-use Rattle.std.specs.declared.cmp.Ordering.TheVariants.{Less, Equal, Greater}
-use Rattle.std.proofs.lemmas.Bool.Decides.{nat_tests}
-use Rattle.std.proofs.lemmas.List.{append-nil, length-append}
-use Rattle.std.proofs.lemmas.List.Elements.{All-from_recursion, recursion_from_All}
-use Rattle.aprs_log.specs.Receiver.{IsName}
-use Rattle.aprs_log.specs.Reception.{bytes_cmp}
-use Rattle.aprs_laws.specs.Coalescing.{append_or_join}
-use Rattle.aprs_laws.specs.Row.{Row}
-use Rattle.aprs_laws.specs.JoinRow.{choose, combine, greater, place, union}
-use Rattle.aprs_laws.specs.Lists.{◌∈◌, Ordered}
-use Rattle.aprs_laws.specs.Order.{IsBelow}
-use Rattle.aprs_laws.proofs.Lists.{in_left, in_right, in_either}
-use Rattle.aprs_laws.proofs.Orders.{bytes_total, bytes_exact}
-use Rattle.aprs_laws.proofs.Choices.{in_union, same_members, union_ordered}
+use Rattle.aprs_rows.proofs.Common.{◌≡◌, ◌∙◌, ℕ, zero, suc, ◌+◌, ◌<◌, min, Bool, true, false, List, [], ◌∷◌, ◌++◌, inl, inr, length, append_assoc, refl, sym, ap, subst, arith, Bor, All, if◌then◌else◌, join_with_byte, AllByRecursion, is_eq, Ordering, Less, Equal, Greater, nat_tests, length-append, All-from_recursion, recursion_from_All, IsName, bytes_cmp, append_or_join, Row, choose, combine, greater, compare_near, union, ◌∈◌, Ordered, IsBelow, in_left, in_right, in_either, bytes_total, bytes_exact, in_union, same_members, union_ordered}
+use Rattle.std.proofs.lemmas.List.{append-nil}
 use Rattle.aprs_rows.specs.declared.store.group.Group.{Group}
 use Rattle.aprs_rows.specs.declared.store.sweep.Open.{Open}
 use Rattle.aprs_rows.specs.Groups.{names_or, group_row, IsGroup}
@@ -304,17 +287,17 @@ ends_open o g names a first size greatest = by_test o.is_alone refl size where
 
 pub appended_last : (gap : ℕ) (done : List Row) (l x : Row)
     → append_or_join gap (done ++ l ∷ []) x
-    ≡ choose (place gap l x) (done ++ l ∷ x ∷ []) (done ++ combine l x ∷ []) (done ++ l ∷ x ∷ [])
+    ≡ choose (compare_near gap l x) (done ++ l ∷ x ∷ []) (done ++ combine l x ∷ []) (done ++ l ∷ x ∷ [])
 appended_last gap [] l x = refl
-appended_last gap (d ∷ []) l x = at_front (place gap l x) d (l ∷ x ∷ []) (combine l x ∷ [])
+appended_last gap (d ∷ []) l x = at_front (compare_near gap l x) d (l ∷ x ∷ []) (combine l x ∷ [])
 appended_last gap (d ∷ e ∷ done) l x =
     ap (λ rows. d ∷ rows) (appended_last gap (e ∷ done) l x)
-    ∙ at_front (place gap l x) d ((e ∷ done) ++ l ∷ x ∷ []) ((e ∷ done) ++ combine l x ∷ [])
+    ∙ at_front (compare_near gap l x) d ((e ∷ done) ++ l ∷ x ∷ []) ((e ∷ done) ++ combine l x ∷ [])
 
-pub joins_last : (gap : ℕ) (done : List Row) (l x : Row) → is_eq (place gap l x) ≡ true
+pub joins_last : (gap : ℕ) (done : List Row) (l x : Row) → is_eq (compare_near gap l x) ≡ true
     → done ++ combine l x ∷ [] ≡ append_or_join gap (done ++ l ∷ []) x
 joins_last gap done l x e =
-    sym (appended_last gap done l x ∙ near (place gap l x) e) where
+    sym (appended_last gap done l x ∙ near (compare_near gap l x) e) where
       near : (o : Ordering) → is_eq o ≡ true
           → choose o (done ++ l ∷ x ∷ []) (done ++ combine l x ∷ []) (done ++ l ∷ x ∷ [])
           ≡ done ++ combine l x ∷ []
@@ -322,11 +305,11 @@ joins_last gap done l x e =
       near Equal e = refl
       near Greater e = absurd (cc)
 
-pub follows_last : (gap : ℕ) (done : List Row) (l x : Row) → is_eq (place gap l x) ≡ false
+pub follows_last : (gap : ℕ) (done : List Row) (l x : Row) → is_eq (compare_near gap l x) ≡ false
     → (done ++ l ∷ []) ++ x ∷ [] ≡ append_or_join gap (done ++ l ∷ []) x
 follows_last gap done l x e =
     append_assoc done (l ∷ []) (x ∷ [])
-    ∙ sym (appended_last gap done l x ∙ far (place gap l x) e) where
+    ∙ sym (appended_last gap done l x ∙ far (compare_near gap l x) e) where
       far : (o : Ordering) → is_eq o ≡ false
           → choose o (done ++ l ∷ x ∷ []) (done ++ combine l x ∷ []) (done ++ l ∷ x ∷ [])
           ≡ done ++ l ∷ x ∷ []

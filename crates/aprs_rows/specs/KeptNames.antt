@@ -5,6 +5,6 @@ use Rattle.aprs_rows.specs.declared.joining.kept_names.KeptNames.TheVariants.{On
 
 module _ {A : Type 0} where
   -- The names that are kept.
-  abbrev pub names_in : KeptNames A → List (List ℕ)
-  names_in (One alloc name) = name ∷ []
-  names_in (Many names) = names.items
+  abbrev pub names_kept : KeptNames A → List (List ℕ)
+  names_kept (One alloc name) = name ∷ []
+  names_kept (Many names) = names.items

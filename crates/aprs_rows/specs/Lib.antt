@@ -1,8 +1,8 @@
 -- Definitions that contracts of rows cite.
 pub mod Examples
 pub mod Groups
-pub mod Head
-pub mod HeadSteps
+pub mod KeyPrefix
+pub mod KeyPrefixSteps
 pub mod Judging
 pub mod KeptNames
 pub mod Names

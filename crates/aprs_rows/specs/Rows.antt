@@ -9,19 +9,19 @@ use Rattle.aprs_laws.specs.Key.{key_of}
 use Rattle.aprs_laws.specs.Lists.{◌∈◌}
 use Rattle.aprs_laws.specs.Row.{Row}
 use Rattle.aprs_laws.specs.Sound.{IsSoundRow}
-use Rattle.aprs_rows.specs.Head.{head_of}
-use Rattle.aprs_rows.specs.HeadSteps.{head_cmp}
+use Rattle.aprs_rows.specs.KeyPrefix.{key_prefix_of}
+use Rattle.aprs_rows.specs.KeyPrefixSteps.{head_cmp}
 use Rattle.aprs_rows.specs.Names.{row_of_text}
 use Rattle.aprs_rows.specs.Told.{IsTold}
 use Rattle.aprs_rows.specs.declared.store.entry.Entry.{Entry}
-use Rattle.aprs_rows.specs.declared.row.head.Head.{Head}
+use Rattle.aprs_rows.specs.declared.row.key_prefix.KeyPrefix.{KeyPrefix}
 
 -- The head is that of the key of this frame, whose information begins at a place.
-pub record HasKey (h : Head) (place : ℕ) (frame : List ℕ) : Type 0 where
+pub record HasKey (h : KeyPrefix) (place : ℕ) (frame : List ℕ) : Type 0 where
   pub within : place ≤ length frame
   pub info : drop place frame ≡ (parts_of frame).info
   pub bytes : (i : ℕ) → slice_index (parts_of frame).info i < 256
-  pub head : h ≡ head_of (key_of frame)
+  pub head : h ≡ key_prefix_of (key_of frame)
 
 -- The bytes of a row as they lie in a store: the names of its receivers with commas between, the
 -- name of the greatest reception's receiver, and its frame.

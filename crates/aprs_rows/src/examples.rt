@@ -1,7 +1,7 @@
 //! Worked examples of why a row can't follow others, and near misses.
 ghost use Rattle.std.specs.Prelude.{◌≡◌, [], ◌∷◌, Some, None};
 ghost use Rattle.aprs_laws.specs.declared.row_cause.RowCause.TheVariants.{Order, Span, Near, Receivers, NotGreatest};
-ghost use Rattle.aprs_laws.specs.Examples.{half_minute, rx1, rx2, by_rx1, row_of, row_at, row_to, short_row};
+ghost use Rattle.aprs_laws.specs.Examples.{half_minute, rx1, rx2, by_rx1, example_row, row_at, row_to, short_row};
 ghost use Rattle.aprs_rows.specs.Refusal.{refusal};
 ghost use Rattle.aprs_rows.specs.Examples.{eighth_row, unlisted_row, lesser_row};
 
@@ -18,9 +18,9 @@ pub fn rows_are_refused_for_a_cause()
     ensures far { refusal half_minute (row_to 0 9 ∷ []) (row_at 30010) ≡ None }
 
     ensures unlisted { refusal half_minute [] unlisted_row ≡ Some Receivers }
-    ensures descending { refusal half_minute [] (row_of 0 (rx2 ∷ rx1 ∷ []) (by_rx1 1))
+    ensures descending { refusal half_minute [] (example_row 0 (rx2 ∷ rx1 ∷ []) (by_rx1 1))
         ≡ Some Receivers }
-    ensures twice { refusal half_minute [] (row_of 0 (rx1 ∷ rx1 ∷ []) (by_rx1 1))
+    ensures twice { refusal half_minute [] (example_row 0 (rx1 ∷ rx1 ∷ []) (by_rx1 1))
         ≡ Some Receivers }
     ensures lesser { refusal half_minute [] lesser_row ≡ Some NotGreatest }
     ensures listed { refusal half_minute [] short_row ≡ None }
@@ -34,11 +34,11 @@ pub fn first_causes_hide_others()
     ensures order_not_greatest { refusal half_minute (eighth_row ∷ []) lesser_row ≡ Some Order }
 
     ensures span_near { refusal half_minute (row_at 0 ∷ []) (row_to 2 1) ≡ Some Span }
-    ensures span_receivers { refusal half_minute [] (row_of 1 (rx2 ∷ []) (by_rx1 0)) ≡ Some Span }
+    ensures span_receivers { refusal half_minute [] (example_row 1 (rx2 ∷ []) (by_rx1 0)) ≡ Some Span }
 
     ensures near_receivers { refusal half_minute (row_at 0 ∷ []) unlisted_row ≡ Some Near }
     ensures near_not_greatest { refusal half_minute (row_at 0 ∷ []) lesser_row ≡ Some Near }
 
-    ensures receivers_not_greatest { refusal half_minute [] (row_of 1 (rx2 ∷ []) (by_rx1 1))
+    ensures receivers_not_greatest { refusal half_minute [] (example_row 1 (rx2 ∷ []) (by_rx1 1))
         ≡ Some Receivers }
 {}

@@ -3,9 +3,9 @@
 #![tactic(auto)]
 
 mod examples;
+mod growth;
 mod joining;
 mod memory;
-mod room;
 mod row;
 mod store;
 
@@ -13,8 +13,7 @@ pub use joining::greatest::{Greatest, keep_greater};
 pub use joining::join::{Join, all_fit, join_all};
 pub use joining::receivers::Receivers;
 pub use memory::Memory;
-pub use room::reserve_one;
-pub use row::head::{Head, order_of_keys};
+pub use row::key_prefix::{KeyPrefix, order_of_keys};
 pub use row::names::put_names;
 pub use row::row_view::RowView;
 pub use store::order::RowsInOrder;

@@ -1,7 +1,7 @@
 //! One row in bytes, and the order of rows.
 
-pub(crate) mod head;
 pub(crate) mod judge;
+pub(crate) mod key_prefix;
 pub(crate) mod names;
 pub(crate) mod near;
 pub(crate) mod row_view;

@@ -4,7 +4,7 @@ use crate::last_known::sent;
 use crate::pushed_rows::parts;
 use crate::refused_calls::{SENT, book_of_sent, store_of_sent};
 use crate::vectors::{LOG, MERGED_TEXT, NOON, receiver};
-use aprs_book::{Book, Gap, Join, Overview, Receivers, Step, from_rows, replay, steps_fit};
+use aprs_book::{Book, Gap, Join, Receivers, Step, Summary, from_rows, replay, steps_fit};
 use aprs_booktext::read_book;
 use aprs_kiss::Counted;
 use aprs_log::MAX_INPUT;
@@ -28,7 +28,7 @@ enum Made {
     RowsInOrder,
     Transmissions,
     BookOfRows,
-    Overview,
+    Summary,
     ListedStations,
     ListedObjects,
     ListedMessages,
@@ -53,7 +53,7 @@ const MADE: &[Made] = &[
     Made::RowsInOrder,
     Made::Transmissions,
     Made::BookOfRows,
-    Made::Overview,
+    Made::Summary,
     Made::ListedStations,
     Made::ListedObjects,
     Made::ListedMessages,
@@ -122,21 +122,21 @@ fn used_of_store(heap: &LocalHeap, made: Made) -> Result<usize, Fail> {
     match made {
         Made::Transmissions => Ok(heap.used()),
         Made::BookOfRows => used_with(heap, Book::of_rows(heap, &rows)),
-        _ => used_of_overview(heap, &rows, made),
+        _ => used_of_summary(heap, &rows, made),
     }
 }
 
 /// How much is in use with what these rows say, and with what is made of it.
-fn used_of_overview<'a>(
+fn used_of_summary<'a>(
     heap: &'a LocalHeap,
     rows: &Transmissions<'_, &'a LocalHeap>,
     made: Made,
 ) -> Result<usize, Fail> {
-    let overview = Overview::of(heap, rows).ok().ok_or("memory")?;
+    let summary = Summary::of(heap, rows).ok().ok_or("memory")?;
     match made {
-        Made::ListedStations => used_with(heap, overview.stations()),
-        Made::ListedObjects => used_with(heap, overview.objects()),
-        Made::ListedMessages => used_with(heap, overview.messages()),
+        Made::ListedStations => used_with(heap, summary.stations()),
+        Made::ListedObjects => used_with(heap, summary.objects()),
+        Made::ListedMessages => used_with(heap, summary.messages()),
         _ => Ok(heap.used()),
     }
 }

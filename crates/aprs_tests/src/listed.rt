@@ -1,7 +1,7 @@
 //! Objects and messages of a larger book, as values.
 
 use crate::last_known::sent;
-use aprs_book::{Book, Gap, MessageRow, MessageState, Named, Overview};
+use aprs_book::{Book, Gap, MessageRow, MessageState, Named, Summary};
 use aprs_log::Reception;
 use aprs_rows::RowStore;
 use std::alloc::{Allocator, Global};
@@ -81,15 +81,15 @@ fn book_has_fifty<A: Allocator + Copy>(book: &Book<A>) -> Result<bool, Fail> {
 }
 
 /// Whether these rows tell of the fifty messages and the fifty items.
-fn overview_has_fifty<A: Allocator + Copy>(overview: &Overview<'_, '_, A>) -> Result<bool, Fail> {
-    let messages = overview.messages().ok().ok_or("memory")?;
-    let named = overview.objects().ok().ok_or("memory")?;
+fn summary_has_fifty<A: Allocator + Copy>(summary: &Summary<'_, '_, A>) -> Result<bool, Fail> {
+    let messages = summary.messages().ok().ok_or("memory")?;
+    let named = summary.objects().ok().ok_or("memory")?;
     Ok(are_fifty(messages.as_slice(), named.as_slice()))
 }
 
 /// Whether these rows are of two stations of fifty transmissions each.
-fn overview_has_two<A: Allocator + Copy>(overview: &Overview<'_, '_, A>) -> Result<bool, Fail> {
-    let stations = overview.stations().ok().ok_or("memory")?;
+fn summary_has_two<A: Allocator + Copy>(summary: &Summary<'_, '_, A>) -> Result<bool, Fail> {
+    let stations = summary.stations().ok().ok_or("memory")?;
     Ok(stations.len() == 2 && stations.iter().all(|station| station.transmissions == 50))
 }
 
@@ -109,8 +109,8 @@ fn many_rows_of_a_store_are_listed(rt: HostRuntime) -> Result<(), Fail> {
     let store = fifty_stored(alloc)?;
     let order = store.in_order().ok().ok_or("memory")?;
     let rows = order.transmissions(Gap::STANDARD).ok().ok_or("memory")?;
-    let overview = Overview::of(alloc, &rows).ok().ok_or("memory")?;
-    assert!(rt; overview_has_fifty(&overview)?);
-    assert!(rt; overview_has_two(&overview)?);
+    let summary = Summary::of(alloc, &rows).ok().ok_or("memory")?;
+    assert!(rt; summary_has_fifty(&summary)?);
+    assert!(rt; summary_has_two(&summary)?);
     Ok(())
 }

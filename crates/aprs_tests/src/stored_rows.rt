@@ -6,7 +6,7 @@ use crate::refused_calls::{ROWS, SENT, squeeze, store_of_sent};
 use crate::shown::is_shown;
 use crate::vectors::{DIRECT, heard};
 use aprs_ax25::Frame;
-use aprs_book::{Book, Gap, Memory, Overview, RowCause};
+use aprs_book::{Book, Gap, Memory, RowCause, Summary};
 use aprs_rows::{RowStore, RowView, RowsInOrder};
 use bumpalo::Bump;
 use std::alloc::{Allocator, Global};
@@ -108,10 +108,10 @@ fn counts<A: Allocator + Copy>(
     order: &RowsInOrder<A>,
 ) -> Result<(usize, usize, usize), Memory> {
     let rows = order.transmissions(Gap::STANDARD)?;
-    let overview = Overview::of(alloc, &rows)?;
-    let stations = overview.stations()?;
-    let named = overview.objects()?;
-    let messages = overview.messages()?;
+    let summary = Summary::of(alloc, &rows)?;
+    let stations = summary.stations()?;
+    let named = summary.objects()?;
+    let messages = summary.messages()?;
     Ok((stations.len(), named.len(), messages.len()))
 }
 

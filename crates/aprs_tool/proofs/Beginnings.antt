@@ -1,16 +1,8 @@
 -- A text begins as that of a book, or as a log does.
-use Rattle.std.proofs.Common.{◌≡◌, ◌∙◌, ℕ, get_or, true, false, List, [], ◌∷◌, ◌++◌, drop, codes, inl, inr, refl, sym, ap, arith}
-use Rattle.std.proofs.lemmas.Bool.Decides.{Decides-eqb}
-use Rattle.std.proofs.lemmas.Slice.Eq.{starts_is}
-use Rattle.aprs_io.specs.declared.input.Ending.{Ending}
-use Rattle.aprs_log.specs.LogText.{IsLogText, ReportAll, text_of_lines}
-use Rattle.aprs_log.specs.Reception.{Heard}
+use Rattle.aprs_tool.proofs.Common.{◌≡◌, ◌∙◌, ℕ, get_or, true, false, List, [], ◌∷◌, ◌++◌, drop, codes, inl, inr, refl, sym, ap, arith, Decides-eqb, starts_is, IsLogText, ReportAll, text_of_lines, Received, Row, book_text, Version, One, Two, Three}
+use Rattle.aprs_io.specs.declared.input.InputEnd.{InputEnd}
 use Rattle.aprs_log.proofs.Lines.{HasFields}
 use Rattle.aprs_log.proofs.Moments.{IsTextOf-text}
-use Rattle.aprs_laws.specs.Row.{Row}
-use Rattle.aprs_booktext.specs.Text.{book_text}
-use Rattle.aprs_booktext.specs.declared.version.Version.{Version}
-use Rattle.aprs_booktext.specs.declared.version.Version.TheVariants.{One, Two, Three}
 use Rattle.aprs_tool.specs.Inputs.{IsBookFileOf, has_book_mark}
 
 abbrev pub mark : List ℕ
@@ -30,7 +22,7 @@ book_begins Two rows = is_book (book_text Two rows) (drop 8 (book_text Two rows)
 book_begins (Three gap) rows = is_book (book_text (Three gap) rows)
     (drop 8 (book_text (Three gap) rows)) refl
 
-pub file_begins : (gap : ℕ) (S : List Heard) (t : List ℕ) (c : Ending) → IsBookFileOf gap S t c
+pub file_begins : (gap : ℕ) (S : List Received) (t : List ℕ) (c : InputEnd) → IsBookFileOf gap S t c
     → has_book_mark t ≡ true
 file_begins gap S t c p = ap has_book_mark p.text_is ∙ book_begins p.version p.rows
 
@@ -46,14 +38,14 @@ hyphen line h end more =
     ap (λ l. get_or ((l ++ end) ++ more) 4 0) is.fields.1.2
     ∙ ap (λ t. get_or (((t ++ fields) ++ end) ++ more) 4 0) text.1.spelled
 
-first_line : (line : List ℕ) (lines : List (List ℕ)) (S : List Heard) → ReportAll (line ∷ lines) S
+first_line : (line : List ℕ) (lines : List (List ℕ)) (S : List Received) → ReportAll (line ∷ lines) S
     → HasFields line
 first_line line lines S (inl passed) = (passed.0.0, passed.0.1, passed.0.2, passed.0.3)
 first_line line lines S (inr heard) =
     (heard.0.moment, heard.0.receiver, heard.2.0, heard.2.1)
 
 -- so it begins otherwise
-log_begins : (lines : List (List ℕ)) (S : List Heard) → ReportAll lines S
+log_begins : (lines : List (List ℕ)) (S : List Received) → ReportAll lines S
     → has_book_mark (text_of_lines lines) ≡ true → ⊥
 log_begins [] S all e = let bad : false ≡ true = e in absurd cc
 log_begins (line ∷ lines) S all e =
@@ -62,6 +54,6 @@ log_begins (line ∷ lines) S all e =
     let own = hyphen line (first_line line lines S all) (10 ∷ []) (text_of_lines lines) in
     omega (arith, other, own)
 
-pub log_is_no_book : (t : List ℕ) (c : Ending) (S : List Heard) → IsLogText t c S
+pub log_is_no_book : (t : List ℕ) (c : InputEnd) (S : List Received) → IsLogText t c S
     → has_book_mark t ≡ true → ⊥
 log_is_no_book t c S p e = log_begins p.lines S p.report (ap has_book_mark (sym p.text_is) ∙ e)

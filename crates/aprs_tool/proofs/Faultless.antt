@@ -1,13 +1,7 @@
 -- An input that stands for a set has no fault.
-use Rattle.std.proofs.Common.{◌≡◌, ◌∙◌, ℕ, ◌^◌, ◌<◌, ◌≤◌, true, false, List, [], length, None, Some, inl, inr, refl, sym, ap, append-nil, arith}
-use Rattle.aprs_io.specs.Input.{most_input}
-use Rattle.aprs_io.specs.declared.input.Ending.{Ending}
-use Rattle.aprs_log.specs.Reception.{Heard}
-use Rattle.aprs_log.proofs.LogTexts.{log_fault-answers}
-use Rattle.aprs_booktext.specs.FirstFault.{FirstFault}
-use Rattle.aprs_booktext.specs.declared.fault.BookFault.{BookFault}
+use Rattle.aprs_tool.proofs.Common.{◌≡◌, ◌∙◌, ℕ, ◌^◌, ◌<◌, ◌≤◌, true, false, List, [], length, None, Some, inl, inr, refl, sym, ap, append-nil, arith, most_input, Received, log_fault-answers, FirstFault, BookFault, cut_short}
+use Rattle.aprs_io.specs.declared.input.InputEnd.{InputEnd}
 use Rattle.aprs_booktext.proofs.Accepting.{rows_few}
-use Rattle.aprs_booktext.proofs.OneText.{cut_short}
 use Rattle.aprs_booktext.proofs.SameFaults.{memory_or_first}
 use Rattle.aprs_tool.specs.Inputs.{GivesSet, IsBookFileOf}
 use Rattle.aprs_tool.specs.Refused.{IsFaulty}
@@ -17,7 +11,7 @@ use Rattle.aprs_tool.specs.Status.{status_of_book_cause, status_of_input}
 use Rattle.aprs_tool.specs.declared.fault.InputFault.{InputFault}
 use Rattle.aprs_tool.specs.declared.fault.InputFault.TheVariants.{Log, Book, Memory, OtherGap, Narrower}
 
-pub file_none : (gap : ℕ) (S : List Heard) (t : List ℕ) (c : Ending) (f : BookFault)
+pub file_none : (gap : ℕ) (S : List Received) (t : List ℕ) (c : InputEnd) (f : BookFault)
     → length t ≤ most_input → IsBookFileOf gap S t c → FirstFault t c f → ⊥
 file_none gap S t c f small p first =
     let size : length t ≡ length _ = ap length p.text_is in
@@ -25,7 +19,7 @@ file_none gap S t c f small p first =
     (cut_short p.version p.rows (file_rows gap S t c p) few [] c f.cause t f (append-nil t ∙ p.text_is) refl
     first).1 p.whole refl
 
-pub no_fault : (gap : ℕ) (t : List ℕ) (c : Ending) (S : List Heard) (e : InputFault)
+pub no_fault : (gap : ℕ) (t : List ℕ) (c : InputEnd) (S : List Received) (e : InputFault)
     → length t ≤ most_input → GivesSet gap t c S → IsFaulty e t c → status_of_input e ≡ 4
 no_fault gap t c S (Log f) small (inl p) h =
     absurd (let x : true ≡ false = sym (file_begins gap S t c p) ∙ h.0 in cc)

@@ -1,38 +1,24 @@
 -- Lemmas on the text of a history.
-use Rattle.std.proofs.Common.{codes, ◌≡◌, ◌∙◌, ℕ, Bool, true, List, [], ◌∷◌, ◌++◌, map, Option, Some, None, inl, inr, refl, ap, sym}
+use Rattle.aprs_tool.proofs.Common.{codes, ◌≡◌, ◌∙◌, ℕ, Bool, true, List, [], ◌∷◌, ◌++◌, map, Option, Some, None, inl, inr, refl, ap, sym, flat_map-append, Call, LastKnown, Passes, BookOf, BookValue, millis_of, SameMembers, ◌∈◌, Row, unique, rows_know, has_source, is_item_named, is_object_named, is_position_report, report_of, reports_item, reports_object, reports_position, without_spaces, Received, report_line}
 use Rattle.std.proofs.lemmas.Bool.{and_parts}
-use Rattle.std.proofs.lemmas.List.Concat.{flat_map-append}
-use Rattle.aprs_ax25.specs.Callsign.{Call}
 use Rattle.aprs_ax25.specs.FrameFault.{parts_of}
 use Rattle.aprs_report.specs.Reader.{reading_of}
 use Rattle.aprs_report.specs.Reading.{Value, position, object, item, message, ack, rej, status, raw}
 use Rattle.aprs_report.specs.declared.place.Place.{Place}
 use Rattle.aprs_report.specs.declared.stamp.Stamp.{Stamp}
 use Rattle.aprs_report.specs.declared.symbol.Symbol.{Symbol}
-use Rattle.aprs_laws.specs.Best.{LastKnown}
-use Rattle.aprs_laws.specs.BestLaws.{Passes}
-use Rattle.aprs_laws.specs.Book.{BookOf}
-use Rattle.aprs_laws.specs.BookValue.{BookValue}
-use Rattle.aprs_laws.specs.Gap.{millis_of}
 use Rattle.aprs_laws.specs.Key.{key_of}
-use Rattle.aprs_laws.specs.Lists.{SameMembers, ◌∈◌}
-use Rattle.aprs_laws.specs.Row.{Row}
-use Rattle.aprs_laws.proofs.Books.{unique}
-use Rattle.aprs_laws.proofs.Known.{rows_know}
-use Rattle.aprs_book.specs.Reports.{is_from, is_item, is_object, is_position, report_of, reports_item, reports_object, reports_position, without_spaces}
-use Rattle.aprs_log.specs.Reception.{Heard}
 use Rattle.aprs_listing.specs.History.{history_line, history_text, row_fields, told_line}
-use Rattle.aprs_listing.specs.Listing.{report_line}
 use Rattle.aprs_tool.specs.HistoryOf.{IsHistoryOf, TellsNamed, TellsPlace}
 use Rattle.aprs_tool.specs.ToldBook.{IsHistory}
 
 -- the history of a book of this gap tells of each set whose book it is
 pub history_of_book : (gap : ℕ) (b : BookValue) (text : List ℕ) → b.gap ≡ gap → IsHistory b text
-    → (S : List Heard) → BookOf (millis_of gap) S b.rows → IsHistoryOf gap S text
+    → (S : List Received) → BookOf (millis_of gap) S b.rows → IsHistoryOf gap S text
 history_of_book gap b text same h S book =
     record { rows = b.rows; book = book; text_is = h.1; lines = h.0 }
 
-pub one_history : (gap : ℕ) (S T : List Heard) (text other : List ℕ) → SameMembers S T
+pub one_history : (gap : ℕ) (S T : List Received) (text other : List ℕ) → SameMembers S T
     → IsHistoryOf gap S text → IsHistoryOf gap T other → text ≡ other
 one_history gap S T text other same p q = p.text_is
     ∙ ap history_text (unique (millis_of gap) S T p.rows q.rows same p.book q.book)
@@ -41,14 +27,14 @@ one_history gap S T text other same p q = p.text_is
 -- ---- the places in it
 
 -- a row whose greatest reception is x
-record Cut (rows : List Row) (x : Heard) : Type 0 where
+record Cut (rows : List Row) (x : Received) : Type 0 where
   before : List Row
   row : Row
   after : List Row
   is : row.greatest ≡ x
   whole : rows ≡ before ++ row ∷ after
 
-cut_at : (rows : List Row) (x : Heard) → x ∈ map (λ (y : Row). y.greatest) rows → Cut rows x
+cut_at : (rows : List Row) (x : Received) → x ∈ map (λ (y : Row). y.greatest) rows → Cut rows x
 cut_at [] x m = absurd m
 cut_at (y ∷ ys) x (inl e) = record { before = []; row = y; after = ys; is = e; whole = refl }
 cut_at (y ∷ ys) x (inr m) =
@@ -70,7 +56,7 @@ record Position (v : Value) : Type 0 where
   comment : List ℕ
   is : v ≡ position messaging stamp place symbol comment
 
-position_of : (v : Value) → is_position v ≡ true → Position v
+position_of : (v : Value) → is_position_report v ≡ true → Position v
 position_of (position messaging stamp place symbol comment) e = record {
   messaging = messaging;
   stamp = stamp;
@@ -92,7 +78,7 @@ info_of : (frame : List ℕ) → (key_of frame).info ≡ (parts_of frame).info
 unfolding key_of
 info_of frame = refl
 
-pub tells_place_of : (gap : ℕ) (S : List Heard) (text : List ℕ) (call : Call) (x : Heard)
+pub tells_place_of : (gap : ℕ) (S : List Received) (text : List ℕ) (call : Call) (x : Received)
     → IsHistoryOf gap S text → LastKnown S (Passes (reports_position call)) (Some x)
     → TellsPlace text x
 tells_place_of gap S text call x h best =
@@ -101,7 +87,7 @@ tells_place_of gap S text call x h best =
     let cut = cut_at h.rows x its.member in
     let key = key_of x.frame in
     let it = position_of (report_of key)
-    ((and_parts (is_from call key) (is_position (report_of key)) its.property).1) in
+    ((and_parts (has_source call key) (is_position_report (report_of key)) its.property).1) in
     let read : reading_of (parts_of x.frame).info
     ≡ position it.messaging it.stamp it.place it.symbol it.comment =
     ap reading_of (sym (info_of x.frame)) ∙ it.is in
@@ -118,7 +104,7 @@ tells_place_of gap S text call x h best =
       comment = it.comment;
       listed = ap (report_line x) it.is;
       told = ap (told_line (row_fields cut.row) (parts_of cut.row.greatest.frame))
-          (ap (λ (y : Heard). reading_of (parts_of y.frame).info) cut.is ∙ read);
+          (ap (λ (y : Received). reading_of (parts_of y.frame).info) cut.is ∙ read);
     }
 
 -- a report of an object
@@ -131,7 +117,7 @@ record Object (v : Value) : Type 0 where
   comment : List ℕ
   is : v ≡ object name live stamp place symbol comment
 
-object_of : (wanted : List ℕ) (v : Value) → is_object wanted v ≡ true → Object v
+object_of : (wanted : List ℕ) (v : Value) → is_object_named wanted v ≡ true → Object v
 object_of wanted (object name live stamp place symbol comment) e = record {
   name = name;
   live = live;
@@ -158,7 +144,7 @@ record Item (v : Value) : Type 0 where
   comment : List ℕ
   is : v ≡ item name live place symbol comment
 
-item_of : (wanted : List ℕ) (v : Value) → is_item wanted v ≡ true → Item v
+item_of : (wanted : List ℕ) (v : Value) → is_item_named wanted v ≡ true → Item v
 item_of wanted (item name live place symbol comment) e = record {
   name = name;
   live = live;
@@ -175,7 +161,7 @@ item_of wanted (rej addressee id) e = absurd cc
 item_of wanted (status stamp text) e = absurd cc
 item_of wanted raw e = absurd cc
 
-pub tells_object_of : (gap : ℕ) (S : List Heard) (text name : List ℕ) (x : Heard)
+pub tells_object_of : (gap : ℕ) (S : List Received) (text name : List ℕ) (x : Received)
     → IsHistoryOf gap S text → LastKnown S (Passes (reports_object name)) (Some x)
     → TellsNamed (codes "object") text x
 tells_object_of gap S text name x h best =
@@ -201,10 +187,10 @@ tells_object_of gap S text name x h best =
       comment = it.comment;
       listed = ap (report_line x) it.is;
       told = ap (told_line (row_fields cut.row) (parts_of cut.row.greatest.frame))
-          (ap (λ (y : Heard). reading_of (parts_of y.frame).info) cut.is ∙ read);
+          (ap (λ (y : Received). reading_of (parts_of y.frame).info) cut.is ∙ read);
     }
 
-pub tells_item_of : (gap : ℕ) (S : List Heard) (text name : List ℕ) (x : Heard)
+pub tells_item_of : (gap : ℕ) (S : List Received) (text name : List ℕ) (x : Received)
     → IsHistoryOf gap S text → LastKnown S (Passes (reports_item name)) (Some x)
     → TellsNamed (codes "item") text x
 tells_item_of gap S text name x h best =
@@ -230,5 +216,5 @@ tells_item_of gap S text name x h best =
       comment = it.comment;
       listed = ap (report_line x) it.is;
       told = ap (told_line (row_fields cut.row) (parts_of cut.row.greatest.frame))
-          (ap (λ (y : Heard). reading_of (parts_of y.frame).info) cut.is ∙ read);
+          (ap (λ (y : Received). reading_of (parts_of y.frame).info) cut.is ∙ read);
     }

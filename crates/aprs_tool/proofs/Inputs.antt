@@ -1,35 +1,13 @@
 -- Lemmas on inputs, of which the first bytes are known.
-use Rattle.std.proofs.Common.{◌≡◌, ℕ, zero, suc, get_or, ◌<◌, Bool, true, false, List, [], ◌∷◌, ◌++◌, length, map, take, drop, Option, None, Some, Ok, Err, IfSome, inl, inr, refl, ap, sym, ◌∙◌, append_assoc, append-nil, length-append, subst, arith}
-use Rattle.std.proofs.Math.Seq.{take-append_seam}
-use Rattle.std.proofs.lemmas.Slice.Eq.{bytes_eq-Decides}
-use Rattle.std.specs.Io.KnownBytes.{Consumes}
+use Rattle.aprs_tool.proofs.Common.{◌≡◌, ℕ, zero, suc, get_or, ◌<◌, Bool, true, false, List, [], ◌∷◌, ◌++◌, length, map, take, drop, Option, None, Some, Ok, Err, IfSome, inl, inr, refl, ap, sym, ◌∙◌, append_assoc, append-nil, length-append, subst, arith, take-append_seam, bytes_eq-Decides, Consumes, BookOf, BookValue, Holds, single, book_carries, millis_of, witnesses, Row, Sound, witnessed, Gets, end_with, log_answers, receptions_of, answers-log_fault, LogFault, book_text, IsBookRows, gap_of, IsVersion, Version, One, Two, Three, BookFault, OfGot}
 use Rattle.std.specs.Str.{bytes_eq}
-use Rattle.aprs_laws.specs.Book.{BookOf}
-use Rattle.aprs_laws.specs.BookValue.{BookValue, Holds}
-use Rattle.aprs_laws.specs.JoinRow.{single}
-use Rattle.aprs_laws.proofs.Books.{book_carries}
 use Rattle.aprs_laws.proofs.Coalescing.{books_stand, singles_stand}
 use Rattle.aprs_booktext.specs.StoredRows.{rows_after}
-use Rattle.aprs_laws.specs.Gap.{millis_of}
-use Rattle.aprs_laws.specs.Witnesses.{witnesses}
-use Rattle.aprs_laws.specs.Row.{Row}
-use Rattle.aprs_laws.specs.Sound.{Sound}
-use Rattle.aprs_laws.proofs.Soundness.{witnessed}
-use Rattle.aprs_io.specs.Input.{Gets}
-use Rattle.aprs_io.specs.declared.input.Ending.{Ending}
-use Rattle.aprs_io.specs.declared.input.Ending.TheVariants as ending
-use Rattle.aprs_log.specs.LogAnswers.{end_with, log_answers, receptions_of}
-use Rattle.aprs_log.proofs.LogTexts.{answers-log_fault}
-use Rattle.aprs_log.specs.declared.fault.LogFault.{LogFault}
+use Rattle.aprs_io.specs.declared.input.InputEnd.{InputEnd}
+use Rattle.aprs_io.specs.declared.input.InputEnd.TheVariants as ending
 use Rattle.aprs_booktext.specs.BookAnswers.{ReadsBook}
-use Rattle.aprs_booktext.specs.Text.{book_text, IsBookRows}
 use Rattle.aprs_booktext.proofs.BookRows.{rows_sound}
-use Rattle.aprs_booktext.specs.Version.{gap_of, IsVersion}
-use Rattle.aprs_booktext.specs.declared.version.Version.{Version}
-use Rattle.aprs_booktext.specs.declared.version.Version.TheVariants.{One, Two, Three}
-use Rattle.aprs_booktext.specs.declared.fault.BookFault.{BookFault}
 use Rattle.aprs_tool.specs.Head.{IsHead}
-use Rattle.aprs_convert.specs.Got.{OfGot}
 use Rattle.aprs_tool.specs.InputBook.{IsGapOf, ReadsInput}
 use Rattle.aprs_tool.specs.Inputs.{GivesSet, has_book_mark}
 use Rattle.aprs_tool.specs.Refused.{IsFaulty}
@@ -104,7 +82,7 @@ short_is_log t short = by (has_book_mark t) refl
 
 -- ---- a log
 
-pub refused_log : (e : InputFault) (old new : List Row) (t : List ℕ) (c : Ending)
+pub refused_log : (e : InputFault) (old new : List Row) (t : List ℕ) (c : InputEnd)
     → has_book_mark t ≡ false → ReadsLog (Err e) old new t c → IsFaulty e t c
 refused_log (Log f) old new t c is h = (is, answers-log_fault t c f h)
 refused_log Memory old new t c is h = is
@@ -113,7 +91,7 @@ refused_log OtherGap old new t c is h = absurd h
 refused_log Narrower old new t c is h = absurd h
 
 -- the rows of what is read of a log stand for its receptions
-pub gives_log : (asked : ℕ) (old new : List Row) (t : List ℕ) (c : Ending)
+pub gives_log : (asked : ℕ) (old new : List Row) (t : List ℕ) (c : InputEnd)
     → has_book_mark t ≡ false → ReadsLog (Ok tt) old new t c → GivesRows asked asked old new t c
 gives_log asked old new t c is h =
     let heard = receptions_of (log_answers t c).given in record {
@@ -126,7 +104,7 @@ gives_log asked old new t c is h =
     }
 
 -- the book of what is read of a log is its book
-pub read_alone : (asked : ℕ) (b : BookValue) (old rows : List Row) (t : List ℕ) (c : Ending)
+pub read_alone : (asked : ℕ) (b : BookValue) (old rows : List Row) (t : List ℕ) (c : InputEnd)
     → has_book_mark t ≡ false → b.gap ≡ asked → old ≡ [] → Holds (witnesses rows) b
     → ReadsLog (Ok tt) old rows t c → ReadsInput asked (Ok b) t c
 read_alone asked b old rows t c is its none holds h =
@@ -142,9 +120,9 @@ read_alone asked b old rows t c is its none holds h =
     )
 
 -- what was got of one is read as a log's text
-pub log_input : (known after : Option (List ℕ)) (limit : ℕ) (head : List ℕ) (P Q : List ℕ → Ending
+pub log_input : (known after : Option (List ℕ)) (limit : ℕ) (head : List ℕ) (P Q : List ℕ → InputEnd
     → Type 0) → IsHead head → (head ≡ mark → ⊥)
-    → ((t : List ℕ) (c : Ending) → has_book_mark t ≡ false → P t c → Q t c)
+    → ((t : List ℕ) (c : InputEnd) → has_book_mark t ≡ false → P t c → Q t c)
     → IfSome known (λ input. HoldsOfGot limit (head ++ input) after P)
     → IfSome known (λ input. HoldsOfGot limit (head ++ input) after Q)
 log_input None after limit head P Q size other follows h = tt
@@ -156,11 +134,11 @@ log_input (Some input) after limit head P Q size other follows h = (
 )
 
 -- a short one has this fault, or none
-pub short_fault : (t : List ℕ) (c : Ending) (fault : LogFault) (rows : List Row)
+pub short_fault : (t : List ℕ) (c : InputEnd) (fault : LogFault) (rows : List Row)
     → log_answers t c ≡ end_with (Some fault) → ReadsLog (Err (Log fault)) rows rows t c
 short_fault t c fault rows e = ap (λ a. a.fault) e
 
-pub short_empty : (t : List ℕ) (c : Ending) (rows : List Row)
+pub short_empty : (t : List ℕ) (c : InputEnd) (rows : List Row)
     → log_answers t c ≡ end_with None → ReadsLog (Ok tt) rows rows t c
 short_empty t c rows e = (
   ap (λ a. a.fault) e,
@@ -283,8 +261,8 @@ refused_input (Some input) after limit head f is h =
     (refused_book limit input after f (subst (λ l. ReadsBook limit l input after (Err f)) is h))
 
 -- what was got is read so
-pub of_got : (known after : Option (List ℕ)) (limit : ℕ) (t : List ℕ) (c : Ending) (P : List ℕ
-    → Ending → Type 0) → IfSome known (λ input. Gets limit input after t c)
+pub of_got : (known after : Option (List ℕ)) (limit : ℕ) (t : List ℕ) (c : InputEnd) (P : List ℕ
+    → InputEnd → Type 0) → IfSome known (λ input. Gets limit input after t c)
     → P t c → OfGot limit known after P
 of_got None after limit t c P gets reads = tt
 of_got (Some input) after limit t c P gets reads =
@@ -292,7 +270,7 @@ of_got (Some input) after limit t c P gets reads =
 
 -- and so is what was got after a head
 pub of_head : (known mid after : Option (List ℕ)) (limit : ℕ) (head : List ℕ)
-    (P : List ℕ → Ending → Type 0) → Consumes known mid head
+    (P : List ℕ → InputEnd → Type 0) → Consumes known mid head
     → IfSome mid (λ input. HoldsOfGot limit (head ++ input) after P) → OfGot limit known after P
 of_head None mid after limit head P took h = tt
 of_head (Some input) None after limit head P took h = absurd took

@@ -1,18 +1,10 @@
 -- Lemmas on an input that is read into a book.
-use Rattle.std.proofs.Common.{◌≡◌, ℕ, true, false, Bool, List, [], ◌∷◌, ◌++◌, length, Ok, Err, inl, inr, refl, sym, subst, arith}
-use Rattle.aprs_laws.specs.Book.{BookOf}
-use Rattle.aprs_laws.specs.BookValue.{BookValue}
-use Rattle.aprs_laws.specs.Gap.{millis_of}
-use Rattle.aprs_laws.specs.Row.{Row}
-use Rattle.aprs_laws.proofs.Books.{book_carries}
-use Rattle.aprs_laws.proofs.Unions.{around, merged}
+use Rattle.aprs_tool.proofs.Common.{◌≡◌, ℕ, true, false, Bool, List, [], ◌∷◌, ◌++◌, length, Ok, Err, inl, inr, refl, sym, subst, arith, BookOf, BookValue, millis_of, Row, book_carries, around, merged, MergeFault, Received}
 use Rattle.aprs_book.specs.Taking.{MergesInto}
-use Rattle.aprs_laws.specs.declared.merge_fault.MergeFault.{MergeFault}
 use Rattle.aprs_laws.specs.declared.merge_fault.MergeFault.TheVariants as fault
-use Rattle.aprs_log.specs.declared.Ending.{Ending}
+use Rattle.aprs_log.specs.declared.InputEnd.{InputEnd}
 use Rattle.aprs_tool.specs.InputBook.{IsGapOf, ReadsInput, TakesInput}
 use Rattle.aprs_tool.specs.InputRows.{GivesRows, RefusesGaps}
-use Rattle.aprs_log.specs.Reception.{Heard}
 use Rattle.aprs_tool.specs.Inputs.{GivesSet, IsBookFileOf, has_book_mark}
 use Rattle.aprs_tool.proofs.Beginnings.{log_is_no_book}
 use Rattle.aprs_tool.specs.Refused.{fault_of_merge, IsNotTaken}
@@ -35,13 +27,13 @@ other_gap gap t own differs is = by (has_book_mark t) refl
     by true e = e
     by false e = absurd (differs (is e))
 
-pub file_of : (gap own : ℕ) (t : List ℕ) (c : Ending) (S : List Heard) → (own ≡ gap → ⊥)
+pub file_of : (gap own : ℕ) (t : List ℕ) (c : InputEnd) (S : List Received) → (own ≡ gap → ⊥)
     → IsGapOf gap t own → GivesSet own t c S → IsBookFileOf own S t c
 file_of gap own t c S differs is (inl p) = p
 file_of gap own t c S differs is (inr p) =
     absurd (log_is_no_book t c p.0 p.1 (other_gap gap t own differs is))
 
-module _ (gap : ℕ) (t : List ℕ) (c : Ending) (b : BookValue) (h : ReadsInput gap (Ok b) t c) where
+module _ (gap : ℕ) (t : List ℕ) (c : InputEnd) (b : BookValue) (h : ReadsInput gap (Ok b) t c) where
   -- it was merged into the rows
   pub merged_in : (old new : List Row) → gap ≡ b.gap → MergesInto (millis_of gap) old b.rows new
       → TakesInput gap (Ok tt) old new t c
@@ -61,7 +53,7 @@ module _ (gap : ℕ) (t : List ℕ) (c : Ending) (b : BookValue) (h : ReadsInput
       inr (h.1.0, subst (λ g. GivesSet g t c h.1.0) (sym same) h.1.1)
 
 -- rows of another gap are not taken
-pub other_rows : (gap own : ℕ) (old new : List Row) (t : List ℕ) (c : Ending) → (own ≡ gap → ⊥)
+pub other_rows : (gap own : ℕ) (old new : List Row) (t : List ℕ) (c : InputEnd) → (own ≡ gap → ⊥)
     → GivesRows gap own old new t c → IsNotTaken gap OtherGap t c
 other_rows gap own old new t c differs h =
     (own, h.set, differs, file_of gap own t c h.set differs h.gap_is h.gives)

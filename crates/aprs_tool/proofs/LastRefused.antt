@@ -1,16 +1,5 @@
 -- Lemmas on the book of inputs that were all read, where an allocation failed for it.
-use Rattle.std.proofs.Common.{◌≡◌, ◌∙◌, ℕ, ◌-◌, List, [], ◌∷◌, ◌++◌, length, Option, Ok, Err, inr, refl, sym, ap, subst, arith, length-append}
-use Rattle.std.proofs.lemmas.List.{length-map}
-use Rattle.aprs_io.specs.Device.{Sends}
-use Rattle.aprs_io.specs.declared.device.Counted.{Counted}
-use Rattle.aprs_io.proofs.Sends.{Sends-err, Sends-ok}
-use Rattle.aprs_laws.specs.Book.{BookOf}
-use Rattle.aprs_laws.specs.BookValue.{BookValue}
-use Rattle.aprs_laws.specs.Gap.{millis_of}
-use Rattle.aprs_laws.proofs.Books.{one_book}
-use Rattle.aprs_laws.proofs.RunRows.{book_of_nothing}
-use Rattle.aprs_booktext.specs.Text.{written_text}
-use Rattle.aprs_log.specs.Reception.{Heard}
+use Rattle.aprs_tool.proofs.Common.{◌≡◌, ◌∙◌, ℕ, ◌-◌, List, [], ◌∷◌, ◌++◌, length, Option, Ok, Err, inr, refl, sym, ap, subst, arith, length-append, length-map, Sends, Counted, Sends-err, Sends-ok, BookOf, BookValue, millis_of, one_book, book_of_nothing, written_text, Received}
 use Rattle.aprs_tool.specs.Gathered.{ReadsEach, WritesText}
 use Rattle.aprs_tool.specs.Inputs.{GivesSet}
 use Rattle.aprs_tool.specs.Several.{GiveUnion, GotOf, IsFirstRefused}
@@ -26,10 +15,10 @@ record Last (gap limit : ℕ) (gots : List (GotOf limit)) : Type 0 where
   before : List (GotOf limit)
   at : GotOf limit
   whole : gots ≡ before ++ at ∷ []
-  first : (S : List Heard) × GiveUnion gap before S
-  last : (T : List Heard) × GivesSet gap at.text at.ending T
+  first : (S : List Received) × GiveUnion gap before S
+  last : (T : List Received) × GivesSet gap at.text at.ending T
 
-last_of : (gap limit : ℕ) (g : GotOf limit) (gots : List (GotOf limit)) (S : List Heard)
+last_of : (gap limit : ℕ) (g : GotOf limit) (gots : List (GotOf limit)) (S : List Received)
     → GiveUnion gap (g ∷ gots) S → Last gap limit (g ∷ gots)
 last_of gap limit g [] S h =
     record { before = []; at = g; whole = refl; first = ([], refl); last = (h.0, h.2) }

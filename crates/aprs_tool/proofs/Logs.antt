@@ -1,14 +1,7 @@
 -- Lemmas on the receptions of a log whose lines are read one by one.
-use Rattle.std.proofs.Common.{◌≡◌, ℕ, List, [], ◌∷◌, ◌++◌, Option, None, Some, Result, Ok, Err, IfSome, refl, ap, sym, ◌∙◌, append_assoc, append-nil, map}
-use Rattle.aprs_log.specs.LogAnswers.{Answers, end_with, log_answers, receptions_of, prepend_line}
-use Rattle.aprs_log.specs.Reader.{AreAnswersOf}
-use Rattle.aprs_log.specs.declared.Ending.{Ending}
-use Rattle.aprs_log.specs.declared.fault.LogFault.{LogFault}
-use Rattle.aprs_log.specs.declared.line.Line.{Line}
+use Rattle.aprs_tool.proofs.Common.{◌≡◌, ℕ, List, [], ◌∷◌, ◌++◌, Option, None, Some, Result, Ok, Err, IfSome, refl, ap, sym, ◌∙◌, append_assoc, append-nil, map, Answers, end_with, log_answers, receptions_of, prepend_line, AreAnswersOf, LogFault, Line, map-append, single, Row}
+use Rattle.aprs_log.specs.declared.InputEnd.{InputEnd}
 use Rattle.aprs_log.specs.declared.line.Line.TheVariants.{Heard, Passed}
-use Rattle.std.proofs.lemmas.List.{map-append}
-use Rattle.aprs_laws.specs.JoinRow.{single}
-use Rattle.aprs_laws.specs.Row.{Row}
 use Rattle.aprs_tool.specs.InputRows.{HoldsOfGot, ReadsLog}
 use Rattle.aprs_tool.specs.declared.fault.InputFault.{InputFault}
 use Rattle.aprs_tool.specs.declared.fault.InputFault.TheVariants.{Log, Memory}
@@ -50,7 +43,7 @@ Took-line first now after old rows new x lent same h next is = record {
 over_log : (known end : Option (List ℕ)) (limit : ℕ) (head : List ℕ) (a : Answers)
     (r : Result (Unit {0}) InputFault) (old new : List Row)
     → IfSome known (λ input. AreAnswersOf limit (head ++ input) end a)
-    → ((t : List ℕ) (c : Ending) → a ≡ log_answers t c → ReadsLog r old new t c)
+    → ((t : List ℕ) (c : InputEnd) → a ≡ log_answers t c → ReadsLog r old new t c)
     → IfSome known (λ input. HoldsOfGot limit (head ++ input) end (ReadsLog r old new))
 over_log None end limit head a r old new h reads = tt
 over_log (Some input) end limit head a r old new h reads =

@@ -1,20 +1,7 @@
 -- Lemmas on several inputs that are read one after another.
-use Rattle.std.proofs.Common.{◌≡◌, ◌<◌, ℕ, zero, suc, ◌+◌, List, [], ◌∷◌, ◌++◌, length, map, take, drop, Option, Some, Ok, Err, slice_get, set, option_map, inl, inr, refl, ap, sym, ◌∙◌, add-one, append_assoc, append-nil, length-append, take-append-drop, subst, arith}
-use Rattle.std.proofs.Math.Seq.{drop-append-add, take-append_seam, take-suc-set}
-use Rattle.std.proofs.lemmas.List.{drop-map, length-map, map-append, map-set, take_all}
-use Rattle.std.proofs.lemmas.Option.{slice_get-map, slice_get_within}
-use Rattle.aprs_laws.specs.Book.{BookOf}
-use Rattle.aprs_laws.specs.BookValue.{BookValue}
-use Rattle.aprs_laws.specs.Gap.{millis_of}
-use Rattle.aprs_laws.specs.Lists.{SameMembers}
-use Rattle.aprs_laws.specs.Row.{Row}
-use Rattle.aprs_laws.proofs.Lists.{in_either, in_left, in_right}
-use Rattle.aprs_io.specs.declared.input.Ending.{Ending}
-use Rattle.aprs_io.specs.declared.input.Ending.TheVariants as ending
-use Rattle.aprs_log.specs.Reception.{Heard}
-use Rattle.aprs_booktext.specs.Text.{book_text, written_text}
-use Rattle.aprs_booktext.specs.declared.version.Version.TheVariants.{Three}
-use Rattle.aprs_convert.specs.Got.{OfGot}
+use Rattle.aprs_tool.proofs.Common.{◌≡◌, ◌<◌, ℕ, zero, suc, ◌+◌, List, [], ◌∷◌, ◌++◌, length, map, take, drop, Option, Some, Ok, Err, slice_get, set, option_map, inl, inr, refl, ap, sym, ◌∙◌, add-one, append_assoc, append-nil, length-append, take-append-drop, subst, arith, drop-append-add, take-append_seam, take-suc-set, drop-map, length-map, map-append, map-set, take_all, slice_get-map, slice_get_within, BookOf, BookValue, millis_of, SameMembers, Row, in_either, in_left, in_right, Received, book_text, written_text, Three, OfGot}
+use Rattle.aprs_io.specs.declared.input.InputEnd.{InputEnd}
+use Rattle.aprs_io.specs.declared.input.InputEnd.TheVariants as ending
 use Rattle.aprs_tool.specs.Gathered.{ReadsEach}
 use Rattle.aprs_tool.specs.InputBook.{TakesInput}
 use Rattle.aprs_tool.specs.InputRows.{HoldsOfGot}
@@ -66,7 +53,7 @@ after_same f now old all i y same e =
 -- ---- one input more
 
 -- a set with more of both sides
-more_members : (S U T : List Heard) → SameMembers S U → SameMembers (S ++ T) (U ++ T)
+more_members : (S U T : List Received) → SameMembers S U → SameMembers (S ++ T) (U ++ T)
 more_members S U T same s = (
   λ h. elim (in_either s S T h) [
     | inl k ↦ in_left s U T ((same s).0 k)
@@ -78,10 +65,10 @@ more_members S U T same s = (
   ],
 )
 
-same_lists : (S T : List Heard) → S ≡ T → SameMembers S T
+same_lists : (S T : List Received) → S ≡ T → SameMembers S T
 same_lists S T e = subst (λ U. SameMembers S U) e (λ s. (λ h. h, λ h. h))
 
-union_more : (gap limit : ℕ) (gots : List (GotOf limit)) (g : GotOf limit) (S T : List Heard)
+union_more : (gap limit : ℕ) (gots : List (GotOf limit)) (g : GotOf limit) (S T : List Received)
     → GiveUnion gap gots S → GivesSet gap g.text g.ending T
     → GiveUnion gap (gots ++ g ∷ []) (S ++ T)
 union_more gap limit [] g S T h k =
@@ -126,13 +113,13 @@ at_seam (y ∷ before) after x = at_seam before after x
 
 -- it comes after faultless ones
 pub refused_after : (gap limit index : ℕ) (before after : List (GotOf limit)) (at : GotOf limit)
-    (fault : InputFault) → index ≡ length before → ((S : List Heard) × GiveUnion gap before S)
+    (fault : InputFault) → index ≡ length before → ((S : List Received) × GiveUnion gap before S)
     → IsNotTaken gap fault at.text at.ending
     → IsFirstRefused gap (before ++ at ∷ after) index fault
 refused_after gap limit index before after at fault number faultless refused = record {
   at = at;
   is_there = ap (slice_get (before ++ at ∷ after)) number ∙ at_seam before after at;
-  faultless = subst (λ gots. (S : List Heard) × GiveUnion gap gots S)
+  faultless = subst (λ gots. (S : List Received) × GiveUnion gap gots S)
       (sym (ap (λ n. take n (before ++ at ∷ after)) number
       ∙ take-append_seam before (at ∷ after))) faultless;
   refused = refused;
@@ -194,7 +181,7 @@ module _ (gap limit : ℕ) (inputs : List (List ℕ)) (afters next : List (Optio
       omega (arith, within, len, so_many, length-map inputs (λ (input : List ℕ). Some input))
 
   -- what was got of it
-  abbrev got_of : (P : List ℕ → Ending → Type 0) (input : List ℕ) → HoldsOfGot limit input after P
+  abbrev got_of : (P : List ℕ → InputEnd → Type 0) (input : List ℕ) → HoldsOfGot limit input after P
       → GotOf limit
   got_of P input got = record {
     text = got.0;
@@ -311,7 +298,7 @@ HasRead-all gap limit inputs afters index b same h all many =
     none (x ∷ l) e = absurd (omega (arith, e))
 
 -- the text of a book of this gap tells of each set whose book it is
-pub text_of_book : (gap : ℕ) (b : BookValue) → b.gap ≡ gap → (S : List Heard)
+pub text_of_book : (gap : ℕ) (b : BookValue) → b.gap ≡ gap → (S : List Received)
     → BookOf (millis_of gap) S b.rows → IsTextOfBook gap S (written_text b)
 text_of_book gap b same S book = record {
   rows = b.rows;

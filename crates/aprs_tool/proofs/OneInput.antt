@@ -1,5 +1,5 @@
 -- A conversion or a check, as a run over one input.
-use Rattle.std.proofs.Common.{Result, Err}
+use Rattle.aprs_tool.proofs.Common.{Result, Err}
 use Rattle.aprs_convert.specs.declared.fault.ConvertFault.{ConvertFault}
 use Rattle.aprs_convert.specs.declared.fault.ConvertFault.TheVariants.{Log, Write}
 use Rattle.aprs_tool.specs.Run.{AnswersAs, run_fault}

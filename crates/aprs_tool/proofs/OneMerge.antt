@@ -1,35 +1,24 @@
 -- Inputs that stand for one set have one book.
-use Rattle.std.proofs.Common.{◌≡◌, ℕ, List, [], ◌∷◌, ◌++◌, sym, ap, ◌∙◌, subst}
-use Rattle.aprs_io.specs.declared.input.Ending.{Ending}
-use Rattle.aprs_log.specs.Reception.{Heard}
-use Rattle.aprs_laws.specs.Book.{BookOf}
-use Rattle.aprs_laws.specs.Gap.{millis_of}
-use Rattle.aprs_laws.specs.JoinRow.{merge}
-use Rattle.aprs_laws.specs.Lists.{SameMembers}
-use Rattle.aprs_laws.specs.Row.{Row}
-use Rattle.aprs_laws.proofs.Books.{book_carries, one_book, turn, unique}
-use Rattle.aprs_laws.proofs.Soundness.{exists}
-use Rattle.aprs_laws.proofs.Unions.{merged}
-use Rattle.aprs_booktext.specs.Text.{book_text}
-use Rattle.aprs_booktext.specs.declared.version.Version.TheVariants.{Three}
+use Rattle.aprs_tool.proofs.Common.{◌≡◌, ℕ, List, [], ◌∷◌, ◌++◌, sym, ap, ◌∙◌, subst, Received, BookOf, millis_of, merge, SameMembers, Row, book_carries, one_book, turn, unique, exists, merged, book_text, Three}
+use Rattle.aprs_io.specs.declared.input.InputEnd.{InputEnd}
 use Rattle.aprs_tool.specs.Inputs.{GivesSet}
 use Rattle.aprs_tool.specs.Merge.{IsBookOfAll, IsTextOfBook}
 use Rattle.aprs_tool.specs.Several.{GiveUnion, GotOf}
 use Rattle.aprs_tool.proofs.Sets.{set_book}
 
 -- two sets with one book
-pub record ShareBook (gap : ℕ) (S T : List Heard) : Type 0 where
+pub record ShareBook (gap : ℕ) (S T : List Received) : Type 0 where
   pub rows : List Row
   pub first : BookOf (millis_of gap) S rows
   pub second : BookOf (millis_of gap) T rows
 
-of_one : (gap : ℕ) (t : List ℕ) (c : Ending) (S T : List Heard) → GivesSet gap t c S
+of_one : (gap : ℕ) (t : List ℕ) (c : InputEnd) (S T : List Received) → GivesSet gap t c S
     → GivesSet gap t c T → ShareBook gap S T
 of_one gap t c S T p q =
     let book = exists (millis_of gap) S in
     record { rows = book.0; first = book.1; second = set_book gap t c T S book.0 q p book.1 }
 
-of_all : (limit gap : ℕ) (gots : List (GotOf limit)) (S T : List Heard) → GiveUnion gap gots S
+of_all : (limit gap : ℕ) (gots : List (GotOf limit)) (S T : List Received) → GiveUnion gap gots S
     → GiveUnion gap gots T → ShareBook gap S T
 of_all limit gap [] S T p q =
     let book = exists (millis_of gap) [] in
@@ -50,7 +39,7 @@ of_all limit gap (g ∷ gots) S T p q =
           (merged (millis_of gap) q.0 q.1 one.rows others.rows one.second others.second);
     }
 
-pub book_of_union : (gap limit : ℕ) (gots : List (GotOf limit)) (S : List Heard) (rows : List Row)
+pub book_of_union : (gap limit : ℕ) (gots : List (GotOf limit)) (S : List Received) (rows : List Row)
     → GiveUnion gap gots S → IsBookOfAll gap rows gots → BookOf (millis_of gap) S rows
 book_of_union gap limit gots S rows gives book =
     let shared = of_all limit gap gots S book.0 gives book.1 in
@@ -58,7 +47,7 @@ book_of_union gap limit gots S rows gives book =
     (one_book (millis_of gap) book.0 shared.rows rows shared.second book.2) shared.first
 
 pub one_merge : (gap limit most : ℕ) (gots : List (GotOf limit)) (others : List (GotOf most))
-    (S T : List Heard) (rows more : List Row) (text other : List ℕ) → GiveUnion gap gots S
+    (S T : List Received) (rows more : List Row) (text other : List ℕ) → GiveUnion gap gots S
     → GiveUnion gap others T → SameMembers S T → IsBookOfAll gap rows gots
     → IsBookOfAll gap more others → IsTextOfBook gap S text → IsTextOfBook gap T other
     → (rows ≡ more) × (text ≡ other)

@@ -1,7 +1,5 @@
 -- Lemmas on what a run writes of what is told of its inputs.
-use Rattle.std.proofs.Common.{ℕ, List, Option, Ok, Err}
-use Rattle.aprs_io.specs.Device.{Sends}
-use Rattle.aprs_io.specs.declared.device.Counted.{Counted}
+use Rattle.aprs_tool.proofs.Common.{ℕ, List, Option, Ok, Err, Sends, Counted}
 use Rattle.aprs_tool.specs.Outcome.{WritesFor}
 use Rattle.aprs_tool.specs.declared.fault.RunFault.{RunFault}
 use Rattle.aprs_tool.specs.declared.fault.RunFault.TheVariants.{Write}

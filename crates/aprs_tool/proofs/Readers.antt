@@ -1,10 +1,6 @@
 -- Lemmas on what was asked of the readers of inputs.
-use Rattle.std.specs.Prelude.{◌⊎◌}
-use Rattle.std.proofs.Common.{◌≡◌, ℕ, zero, suc, List, [], ◌∷◌, length, drop, Some, Result, Ok, Err, inl, inr, slice_get, set, refl, sym, ap, subst}
-use Rattle.aprs_io.specs.Device.{Calls, Going, End}
-use Rattle.aprs_io.specs.declared.device.Counted.{Counted}
-use Rattle.aprs_io.proofs.Sends.{Calls-then}
-use Rattle.aprs_laws.specs.declared.merge_fault.MergeFault.{MergeFault}
+use Rattle.aprs_tool.proofs.Common.{◌⊎◌, ◌≡◌, ℕ, zero, suc, List, [], ◌∷◌, length, drop, Some, Result, Ok, Err, inl, inr, slice_get, set, refl, sym, ap, subst, Calls, Going, Counted, Calls-then, MergeFault}
+use Rattle.aprs_io.specs.Device.{End}
 use Rattle.aprs_laws.specs.declared.merge_fault.MergeFault.TheVariants as merge
 use Rattle.aprs_booktext.specs.Asking.{AsksAt}
 use Rattle.aprs_booktext.specs.declared.fault.BookCause.{BookCause}

@@ -1,24 +1,10 @@
 -- Lemmas on the rows of inputs, and the book that they are together.
-use Rattle.std.proofs.Common.{◌≡◌, ◌∙◌, ℕ, ◌<◌, ◌≤◌, List, [], ◌∷◌, ◌++◌, inl, inr, refl, sym, ap, subst, append_assoc, append-nil, length, arith, Result, Ok, Err, OnOk}
-use Rattle.aprs_log.specs.Reception.{Heard}
-use Rattle.aprs_log.specs.declared.Ending.{Ending}
-use Rattle.aprs_laws.specs.Book.{BookOf}
-use Rattle.aprs_laws.specs.BookValue.{BookValue, Holds, IsSoundBook, widened_to}
+use Rattle.aprs_tool.proofs.Common.{◌≡◌, ◌∙◌, ℕ, ◌<◌, ◌≤◌, List, [], ◌∷◌, ◌++◌, inl, inr, refl, sym, ap, subst, append_assoc, append-nil, length, arith, Result, Ok, Err, OnOk, Received, BookOf, BookValue, Holds, IsSoundBook, widened_to, IsGap, millis_of, join_row, merge, ◌∈◌, SameMembers, Row, IsSoundRow, witnesses, witnesses_of_row, witness_by, book_carries, one_book, in_either, in_left, in_right, book_of_nothing, empty_book, has_witness_by, witnessed, merged}
+use Rattle.aprs_log.specs.declared.InputEnd.{InputEnd}
 use Rattle.aprs_laws.specs.Coalescing.{StandFor}
-use Rattle.aprs_laws.specs.Gap.{IsGap, millis_of}
-use Rattle.aprs_laws.specs.JoinRow.{join_row, merge}
-use Rattle.aprs_laws.specs.Lists.{◌∈◌, SameMembers}
-use Rattle.aprs_laws.specs.Row.{Row}
-use Rattle.aprs_laws.specs.Sound.{IsSoundRow}
-use Rattle.aprs_laws.specs.Witnesses.{witnesses, witnesses_of_row, witness_by}
-use Rattle.aprs_laws.proofs.Books.{book_carries, one_book}
 use Rattle.aprs_laws.proofs.BookValues.{widened_holds}
 use Rattle.aprs_laws.proofs.Joins.{some_millis}
-use Rattle.aprs_laws.proofs.Lists.{in_either, in_left, in_right}
-use Rattle.aprs_laws.proofs.RunRows.{book_of_nothing, empty_book}
-use Rattle.aprs_laws.proofs.Soundness.{has_witness_by, witnessed}
 use Rattle.aprs_laws.proofs.Streams.{in_witnesses}
-use Rattle.aprs_laws.proofs.Unions.{merged}
 use Rattle.aprs_tool.specs.Gathered.{book_of_rows}
 use Rattle.aprs_tool.specs.InputRows.{GivesRows}
 use Rattle.aprs_tool.specs.InputBook.{TakesInput}
@@ -43,7 +29,7 @@ one_row gap x pos s =
     })
 
 -- the rows of a book, and rows that are each sound: the book of the set and their witnesses
-pub joined_rows : (gap : ℕ) (S : List Heard) (p rows : List Row) → 0 < gap → AreSound rows
+pub joined_rows : (gap : ℕ) (S : List Received) (p rows : List Row) → 0 < gap → AreSound rows
     → BookOf gap S p → BookOf gap (S ++ witnesses rows) (merge gap p rows)
 joined_rows gap S p [] pos s b = subst (λ T. BookOf gap T p) (sym (append-nil S)) b
 joined_rows gap S p (x ∷ rows) pos s b =
@@ -65,7 +51,7 @@ merge_append gap p [] ys = refl
 merge_append gap p (x ∷ xs) ys = merge_append gap (join_row gap p x) xs ys
 
 -- of a set that the rows stand for
-carried : (gap : ℕ) (S T : List Heard) (rows p : List Row) → StandFor rows T
+carried : (gap : ℕ) (S T : List Received) (rows p : List Row) → StandFor rows T
     → BookOf gap (S ++ witnesses rows) p → BookOf gap (S ++ T) p
 carried gap S T rows p f b =
     book_carries gap (S ++ witnesses rows) (S ++ T) p
@@ -80,8 +66,8 @@ carried gap S T rows p f b =
       ],
     )) b
 
-adds_rows : (gap : ℕ) (T : List Heard) (old rows new : List Row) → 0 < millis_of gap
-    → StandFor rows T → new ≡ old ++ rows → (S : List Heard)
+adds_rows : (gap : ℕ) (T : List Received) (old rows new : List Row) → 0 < millis_of gap
+    → StandFor rows T → new ≡ old ++ rows → (S : List Received)
     → BookOf (millis_of gap) S (merge (millis_of gap) [] old)
     → BookOf (millis_of gap) (S ++ T) (merge (millis_of gap) [] new)
 adds_rows gap T old rows new pos f e S b =
@@ -91,12 +77,12 @@ adds_rows gap T old rows new pos f e S b =
     (joined_rows (millis_of gap) S (merge (millis_of gap) [] old) rows pos f.each b))
 
 -- their book, of a set that they stand for
-own_book : (gap : ℕ) (T : List Heard) (rows : List Row) → 0 < gap → StandFor rows T
+own_book : (gap : ℕ) (T : List Received) (rows : List Row) → 0 < gap → StandFor rows T
     → BookOf gap T (merge gap [] rows)
 own_book gap T rows pos f = carried gap [] T rows (merge gap [] rows) f (alone gap rows pos f.each)
 
 -- two sets with one book add the same
-added : (gap : ℕ) (S T U : List Heard) (old own new : List Row) → BookOf gap S old
+added : (gap : ℕ) (S T U : List Received) (old own new : List Row) → BookOf gap S old
     → BookOf gap T own → BookOf gap U own → BookOf gap (S ++ U) new → BookOf gap (S ++ T) new
 added gap S T U old own new book first second whole =
     subst (λ (rs : List Row). BookOf gap (S ++ T) rs)
@@ -104,7 +90,7 @@ added gap S T U old own new book first second whole =
     (merged gap S T old own book first)
 
 -- the rows of a faultless input are taken into those of a book of its gap
-pub takes_rows : (gap own : ℕ) (old new : List Row) (t : List ℕ) (c : Ending) → IsGap gap
+pub takes_rows : (gap own : ℕ) (old new : List Row) (t : List ℕ) (c : InputEnd) → IsGap gap
     → own ≡ gap → GivesRows gap own old new t c
     → TakesInput gap (Ok tt) (merge (millis_of gap) [] old) (merge (millis_of gap) [] new) t c
 takes_rows gap own old new t c r e h =
@@ -143,17 +129,17 @@ some_rows gap (x ∷ rows) r s some e =
     let own = s x (inl refl) in
     let there = (in_witnesses (x ∷ rows) (witness_by x x.greatest.receiver)).1
     (x, inl refl, has_witness_by (millis_of gap) x own pos x.greatest.receiver own.receiver) in
-    absurd (subst (λ (ws : List Heard). witness_by x x.greatest.receiver ∈ ws) none there)
+    absurd (subst (λ (ws : List Received). witness_by x x.greatest.receiver ∈ ws) none there)
 
 -- the book of an input whose rows alone were read
-holds_read : (gap asked own : ℕ) (new : List Row) (t : List ℕ) (c : Ending) → IsGap gap
+holds_read : (gap asked own : ℕ) (new : List Row) (t : List ℕ) (c : InputEnd) → IsGap gap
     → (h : GivesRows asked own [] new t c) → Holds h.set (book_of_rows gap new)
 holds_read gap asked own new t c r h =
     subst (λ rs. BookOf (millis_of gap) h.set (merge (millis_of gap) [] rs)) (sym h.new_is)
     (own_book (millis_of gap) h.set h.rows (some_millis gap r) h.stand)
 
 -- under a gap that is not less it is the widened book
-wide_read : (gap own : ℕ) (new : List Row) (t : List ℕ) (c : Ending) → IsGap gap → IsGap own
+wide_read : (gap own : ℕ) (new : List Row) (t : List ℕ) (c : InputEnd) → IsGap gap → IsGap own
     → own ≤ gap → GivesRows gap own [] new t c
     → book_of_rows gap new ≡ widened_to gap (book_of_rows own new)
 wide_read gap own new t c r o l h =
@@ -164,8 +150,8 @@ wide_read gap own new t c r o l h =
     λ i. record { gap = gap; rows = lines i }
 
 -- which is that of each set that the input stands for
-pub holds_wide : (gap own : ℕ) (new : List Row) (t : List ℕ) (c : Ending) → IsGap gap → IsGap own
-    → own ≤ gap → GivesRows gap own [] new t c → (S : List Heard) → GivesSet own t c S
+pub holds_wide : (gap own : ℕ) (new : List Row) (t : List ℕ) (c : InputEnd) → IsGap gap → IsGap own
+    → own ≤ gap → GivesRows gap own [] new t c → (S : List Received) → GivesSet own t c S
     → Holds S (book_of_rows gap new)
 holds_wide gap own new t c r o l h S gives =
     subst (λ (b : BookValue). Holds S b) (sym (wide_read gap own new t c r o l h))
@@ -183,12 +169,12 @@ none_same xs (y ∷ ys) m e =
 
 -- there is a set whose book has no rows, and one for rows that are sound
 pub known_none : (gap : ℕ) (rows : List Row) → length rows ≡ 0
-    → (S : List Heard) × BookOf (millis_of gap) S rows
+    → (S : List Received) × BookOf (millis_of gap) S rows
 known_none gap [] e = ([], book_of_nothing (millis_of gap))
 known_none gap (x ∷ rows) e = absurd (omega (arith, e))
 
 pub known_sound : (book : BookValue) → IsSoundBook book
-    → (S : List Heard) × BookOf (millis_of book.gap) S book.rows
+    → (S : List Received) × BookOf (millis_of book.gap) S book.rows
 known_sound book s =
     (witnesses book.rows, witnessed (millis_of book.gap) book.rows (omega (arith, s.range.0)) s.sound)
 

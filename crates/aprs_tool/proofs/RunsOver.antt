@@ -1,11 +1,5 @@
 -- Lemmas on what a run over several inputs writes.
-use Rattle.std.proofs.Common.{ℕ, List, Option, Ok, Err}
-use Rattle.aprs_io.specs.Device.{Sends}
-use Rattle.aprs_io.specs.declared.device.Counted.{Counted}
-use Rattle.aprs_log.specs.Reception.{Heard}
-use Rattle.aprs_laws.specs.Book.{BookOf}
-use Rattle.aprs_laws.specs.BookValue.{BookValue}
-use Rattle.aprs_laws.specs.Gap.{millis_of}
+use Rattle.aprs_tool.proofs.Common.{ℕ, List, Option, Ok, Err, Sends, Counted, Received, BookOf, BookValue, millis_of}
 use Rattle.aprs_tool.specs.Gathered.{ReadsEach}
 use Rattle.aprs_tool.specs.Outcome.{IsToldOf, WritesFor}
 use Rattle.aprs_tool.specs.Several.{GiveUnion, GotOf}
@@ -31,9 +25,9 @@ unsaid limit inputs afters P h = each_so limit inputs afters P (λ gots. Unit {0
 -- ---- a text that tells of whatever set the rows are the book of
 
 module _ {W : Type 0} (limit gap : ℕ) (inputs : List (List ℕ)) (afters : List (Option (List ℕ)))
-    (Tells : List Heard → List ℕ → Type 0) (contents : W → Option (List ℕ)) (old new : Counted W)
+    (Tells : List Received → List ℕ → Type 0) (contents : W → Option (List ℕ)) (old new : Counted W)
     (b : BookValue) (text : List ℕ)
-    (tells : (S : List Heard) → BookOf (millis_of gap) S b.rows → Tells S text)
+    (tells : (S : List Received) → BookOf (millis_of gap) S b.rows → Tells S text)
     (read : HoldsOfEach limit inputs afters (ReadsEach gap (Ok b))) where
   told_of : (gots : List (GotOf limit)) → ReadsEach gap (Ok b) gots
       → IsToldOf (GiveUnion gap gots) Tells text

@@ -1,45 +1,33 @@
 -- Lemmas on the sets that an input stands for: all have one book.
-use Rattle.std.proofs.Common.{◌≡◌, ℕ, List, None, inl, inr, refl, sym, ap, ◌∙◌, subst}
-use Rattle.aprs_io.specs.declared.input.Ending.{Ending}
-use Rattle.aprs_log.specs.LogAnswers.{log_answers, receptions_of}
-use Rattle.aprs_log.specs.LogText.{IsLogText}
-use Rattle.aprs_log.specs.Reception.{Heard}
-use Rattle.aprs_log.proofs.LogTexts.{answers-log_text, log_text-answers}
-use Rattle.aprs_laws.specs.Book.{BookOf}
-use Rattle.aprs_laws.specs.Gap.{millis_of}
-use Rattle.aprs_laws.specs.Lists.{SameMembers}
-use Rattle.aprs_laws.specs.Row.{Row}
-use Rattle.aprs_laws.proofs.Books.{book_carries, one_book}
-use Rattle.aprs_booktext.specs.Text.{IsBookRows}
-use Rattle.aprs_booktext.specs.Version.{gap_of}
-use Rattle.aprs_booktext.proofs.OneText.{one_text}
+use Rattle.aprs_tool.proofs.Common.{◌≡◌, ℕ, List, None, inl, inr, refl, sym, ap, ◌∙◌, subst, log_answers, receptions_of, IsLogText, Received, answers-log_text, log_text-answers, BookOf, millis_of, SameMembers, Row, book_carries, one_book, IsBookRows, gap_of, one_text}
+use Rattle.aprs_io.specs.declared.input.InputEnd.{InputEnd}
 use Rattle.aprs_tool.specs.Inputs.{GivesSet, IsBookFileOf}
 use Rattle.aprs_tool.proofs.Beginnings.{file_begins, log_is_no_book}
 
 -- ---- a log
 
 -- a log without a fault, to its end: S are the receptions that its lines report
-abbrev pub IsLogOf : List Heard → List ℕ → Ending → Type 0
-IsLogOf S t c = (T : List Heard) × IsLogText t c T × SameMembers S T
+abbrev pub IsLogOf : List Received → List ℕ → InputEnd → Type 0
+IsLogOf S t c = (T : List Received) × IsLogText t c T × SameMembers S T
 
 -- one without a fault gives the receptions that its lines report
-pub log_of : (t : List ℕ) (c : Ending) → (log_answers t c).fault ≡ None
+pub log_of : (t : List ℕ) (c : InputEnd) → (log_answers t c).fault ≡ None
     → IsLogOf (receptions_of (log_answers t c).given) t c
 log_of t c none =
     let heard = receptions_of (log_answers t c).given in
     (heard, answers-log_text t c heard (none, refl), λ x. (λ h. h, λ h. h))
 
 -- and of no others
-pub log_is : (S : List Heard) (t : List ℕ) (c : Ending) → IsLogOf S t c
+pub log_is : (S : List Received) (t : List ℕ) (c : InputEnd) → IsLogOf S t c
     → SameMembers S (receptions_of (log_answers t c).given)
 log_is S t c p = subst (SameMembers S) (sym (log_text-answers t c p.0 p.1).1) p.2
 
 -- and it has no fault
-pub log_none : (S : List Heard) (t : List ℕ) (c : Ending) → IsLogOf S t c
+pub log_none : (S : List Received) (t : List ℕ) (c : InputEnd) → IsLogOf S t c
     → (log_answers t c).fault ≡ None
 log_none S t c p = (log_text-answers t c p.0 p.1).0
 
-log_book : (gap : ℕ) (t : List ℕ) (c : Ending) (S T : List Heard) (rows : List Row)
+log_book : (gap : ℕ) (t : List ℕ) (c : InputEnd) (S T : List Received) (rows : List Row)
     → IsLogOf S t c → IsLogOf T t c → BookOf gap T rows → BookOf gap S rows
 log_book gap t c S T rows p q book =
     let first = log_is S t c p in
@@ -50,15 +38,15 @@ log_book gap t c S T rows p q book =
 -- ---- a book file
 
 -- its rows are a book's under its gap
-pub file_rows : (gap : ℕ) (S : List Heard) (t : List ℕ) (c : Ending) (p : IsBookFileOf gap S t c)
+pub file_rows : (gap : ℕ) (S : List Received) (t : List ℕ) (c : InputEnd) (p : IsBookFileOf gap S t c)
     → IsBookRows p.version p.rows
 file_rows gap S t c p = record {
   version = p.is_version;
-  book = subst (λ g. (T : List Heard) × BookOf (millis_of g) T p.rows) (sym p.gap_is) (S, p.book);
+  book = subst (λ g. (T : List Received) × BookOf (millis_of g) T p.rows) (sym p.gap_is) (S, p.book);
   each = p.spelled;
 }
 
-file_book : (gap : ℕ) (t : List ℕ) (c : Ending) (S T : List Heard) (rows : List Row)
+file_book : (gap : ℕ) (t : List ℕ) (c : InputEnd) (S T : List Received) (rows : List Row)
     → IsBookFileOf gap S t c → IsBookFileOf gap T t c → BookOf (millis_of gap) T rows
     → BookOf (millis_of gap) S rows
 file_book gap t c S T rows p q book =
@@ -67,7 +55,7 @@ file_book gap t c S T rows p q book =
     subst (λ (r : List Row). BookOf (millis_of gap) S r)
     (same ∙ one_book (millis_of gap) T q.rows rows q.book book) p.book
 
-file_gap : (gap own : ℕ) (t : List ℕ) (c : Ending) (S T : List Heard) → IsBookFileOf gap S t c
+file_gap : (gap own : ℕ) (t : List ℕ) (c : InputEnd) (S T : List Received) → IsBookFileOf gap S t c
     → IsBookFileOf own T t c → IsBookFileOf gap T t c
 file_gap gap own t c S T p q =
     let same = (one_text p.version q.version p.rows q.rows (file_rows gap S t c p)
@@ -77,12 +65,12 @@ file_gap gap own t c S T p q =
 -- ---- either
 
 -- no text is that of both
-pub not_both : (gap : ℕ) (t : List ℕ) (c : Ending) (S T : List Heard) → IsBookFileOf gap S t c
+pub not_both : (gap : ℕ) (t : List ℕ) (c : InputEnd) (S T : List Received) → IsBookFileOf gap S t c
     → IsLogOf T t c → ⊥
 not_both gap t c S T p q = log_is_no_book t c q.0 q.1 (file_begins gap S t c p)
 
 -- the book of one set that an input stands for is that of each
-pub set_book : (gap : ℕ) (t : List ℕ) (c : Ending) (S T : List Heard) (rows : List Row)
+pub set_book : (gap : ℕ) (t : List ℕ) (c : InputEnd) (S T : List Received) (rows : List Row)
     → GivesSet gap t c S → GivesSet gap t c T → BookOf (millis_of gap) T rows
     → BookOf (millis_of gap) S rows
 set_book gap t c S T rows (inl p) (inl q) book = file_book gap t c S T rows p q book
@@ -91,7 +79,7 @@ set_book gap t c S T rows (inl p) (inr q) book = absurd (not_both gap t c S T p 
 set_book gap t c S T rows (inr p) (inl q) book = absurd (not_both gap t c T S q p)
 
 -- a log stands for its receptions under any gap, and a book file has one gap
-pub set_gap : (gap own : ℕ) (t : List ℕ) (c : Ending) (S T : List Heard) → GivesSet gap t c S
+pub set_gap : (gap own : ℕ) (t : List ℕ) (c : InputEnd) (S T : List Received) → GivesSet gap t c S
     → GivesSet own t c T → GivesSet gap t c T
 set_gap gap own t c S T (inl p) (inl q) = inl (file_gap gap own t c S T p q)
 set_gap gap own t c S T (inr p) (inr q) = inr q

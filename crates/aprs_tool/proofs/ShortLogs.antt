@@ -1,10 +1,7 @@
 -- Lemmas on logs of fewer bytes than a line must have.
-use Rattle.std.proofs.Common.{◌≡◌, ◌==◌, ℕ, ◌+◌, ◌<◌, ◌≤◌, Bool, true, false, not, ◌||◌, cond, List, [], ◌∷◌, length, Option, Some, ap, ◌∙◌, arith}
-use Rattle.std.specs.List.{list_any, position_or_len}
-use Rattle.std.proofs.lemmas.Bool.Decides.{nat_tests}
-use Rattle.aprs_log.specs.LogAnswers.{end_with, short_tail_cause, fault_at, is_lf, log_answers, tail_cause}
-use Rattle.aprs_log.specs.declared.Ending.{Ending}
-use Rattle.aprs_log.specs.declared.Ending.TheVariants as ending
+use Rattle.aprs_tool.proofs.Common.{◌≡◌, ◌==◌, ℕ, ◌+◌, ◌<◌, ◌≤◌, Bool, true, false, not, ◌||◌, cond, List, [], ◌∷◌, length, Option, Some, ap, ◌∙◌, arith, list_any, position_or_len, nat_tests, end_with, short_tail_cause, fault_at, is_lf, log_answers, tail_cause}
+use Rattle.aprs_log.specs.declared.InputEnd.{InputEnd}
+use Rattle.aprs_log.specs.declared.InputEnd.TheVariants as ending
 use Rattle.aprs_log.specs.declared.fault.LogCause.{LogCause}
 use Rattle.aprs_log.specs.declared.fault.LogCause.TheVariants as cause
 use Rattle.aprs_log.proofs.LogAnswers.{answers_from-tail}
@@ -20,7 +17,7 @@ no_line [] e = omega arith
 no_line (x ∷ t) e = let less = tail_step (is_lf x) (list_any is_lf t) (length t)
     (position_or_len is_lf t) e (no_line t) in omega (arith, less)
 
-pub short_tail : (t : List ℕ) (c : Ending) → length t < 8 → list_any is_lf t ≡ false
+pub short_tail : (t : List ℕ) (c : InputEnd) → length t < 8 → list_any is_lf t ≡ false
     → log_answers t c ≡ end_with (fault_at 1 (short_tail_cause c t))
 short_tail t c h none =
     answers_from-tail 1 t c (no_line t none) ∙ ap

@@ -1,27 +1,13 @@
 -- Lemmas on the text of a listing.
-use Rattle.std.proofs.Common.{◌≡◌, ◌≢◌, ℕ, List, [], ◌∷◌, ◌++◌, Option, inl, inr, refl, ap, ap₂, sym, ◌∙◌, append_assoc, subst, codes}
-use Rattle.std.specs.List.{flat_map}
-use Rattle.std.proofs.lemmas.List.Concat.{flat_map-append}
-use Rattle.std.specs.Fmt.{decimal}
+use Rattle.aprs_tool.proofs.Common.{◌≡◌, ◌≢◌, ℕ, List, [], ◌∷◌, ◌++◌, Option, inl, inr, refl, ap, ap₂, sym, ◌∙◌, append_assoc, subst, codes, flat_map, flat_map-append, decimal, Call, call_cmp, call_text, known_once, BookOf, BookValue, millis_of, LastKnown, Passes, ◌∈◌, Ordered, Received, reports_position, known_line, line_with, message_line, named_line, show_text, station_lines}
 use Rattle.std.specs.declared.cmp.Ordering.TheVariants.{Less}
-use Rattle.aprs_ax25.specs.Callsign.{Call, call_cmp, call_text}
 use Rattle.aprs_laws.proofs.Orders.{call_total, not_both}
-use Rattle.aprs_laws.proofs.Known.{known_once}
-use Rattle.aprs_laws.specs.Book.{BookOf}
-use Rattle.aprs_laws.specs.BookValue.{BookValue}
-use Rattle.aprs_laws.specs.Gap.{millis_of}
-use Rattle.aprs_laws.specs.Best.{LastKnown}
-use Rattle.aprs_laws.specs.BestLaws.{Passes}
-use Rattle.aprs_laws.specs.Lists.{◌∈◌, Ordered}
-use Rattle.aprs_log.specs.Reception.{Heard}
-use Rattle.aprs_book.specs.Reports.{reports_position}
 use Rattle.aprs_book.specs.Messages.{ReportsMessages}
 use Rattle.aprs_book.specs.Names.{ReportsNamed}
 use Rattle.aprs_book.specs.Stations.{ComesBefore, IsSource, ReportsStations}
 use Rattle.aprs_book.specs.declared.lists.message.MessageRow.{MessageRow}
 use Rattle.aprs_book.specs.declared.lists.named.Named.{Named}
 use Rattle.aprs_book.specs.declared.lists.station.Station.{Station}
-use Rattle.aprs_listing.specs.Listing.{known_line, line_with, message_line, named_line, show_text, station_lines}
 use Rattle.aprs_tool.specs.Show.{IsListingOf, TellsPosition}
 use Rattle.aprs_tool.specs.ToldBook.{IsShown}
 
@@ -78,8 +64,8 @@ parts before after x line position status rest e =
     ∙ ap (λ l. flat_map station_lines before ++ (l ++ flat_map station_lines after)) e)
     ∙ simp append_assoc
 
-pub tells_position_of : (gap : ℕ) (S : List Heard) (text : List ℕ) (call : Call)
-    (known : Option Heard) → IsListingOf gap S text → IsSource S call
+pub tells_position_of : (gap : ℕ) (S : List Received) (text : List ℕ) (call : Call)
+    (known : Option Received) → IsListingOf gap S text → IsSource S call
     → LastKnown S (Passes (reports_position call)) known
     → TellsPosition text call known
 tells_position_of gap S text call known l source best =
@@ -100,7 +86,7 @@ tells_position_of gap S text call known l source best =
           ∙ parts cut.before cut.after x (line_with (codes "station")
           (call_text call ∷ decimal x.transmissions ∷ [])) (known_line known)
           (known_line x.status) rest
-          (ap₂ (λ (c : Call) (p : Option Heard). line_with (codes "station")
+          (ap₂ (λ (c : Call) (p : Option Received). line_with (codes "station")
           (call_text c ∷ decimal x.transmissions ∷ [])
           ++ (known_line p ++ known_line x.status)) cut.is same);
     }
@@ -123,7 +109,7 @@ shown_text b stations named messages s n m = record {
 
 -- the listing of whatever set the rows are the book of
 pub listing_of_shown : (gap : ℕ) (b : BookValue) (text : List ℕ) → b.gap ≡ gap → IsShown b text
-    → (S : List Heard) → BookOf (millis_of gap) S b.rows → IsListingOf gap S text
+    → (S : List Received) → BookOf (millis_of gap) S b.rows → IsListingOf gap S text
 listing_of_shown gap b text is s S book =
     let own = subst (λ g. BookOf (millis_of g) S b.rows) (sym is) book in
     record {

@@ -1,11 +1,5 @@
 -- What a run answers that writes what is told of the book of its inputs.
-use Rattle.std.proofs.Common.{ℕ, List, Option, Result, Ok, Err, refl}
-use Rattle.aprs_io.specs.declared.device.Counted.{Counted}
-use Rattle.aprs_io.proofs.Sends.{Sends-err, Sends-ok}
-use Rattle.aprs_log.specs.Reception.{Heard}
-use Rattle.aprs_laws.specs.Book.{BookOf}
-use Rattle.aprs_laws.specs.BookValue.{BookValue}
-use Rattle.aprs_laws.specs.Gap.{millis_of}
+use Rattle.aprs_tool.proofs.Common.{ℕ, List, Option, Result, Ok, Err, refl, Counted, Sends-err, Sends-ok, Received, BookOf, BookValue, millis_of}
 use Rattle.aprs_tool.specs.Devices.{AsksEach, CallsOutput}
 use Rattle.aprs_tool.specs.Gathered.{ReadsEach}
 use Rattle.aprs_tool.specs.Outcome.{IsToldOf, RefusesFor, WritesFor}
@@ -19,9 +13,9 @@ use Rattle.aprs_tool.proofs.Merges.{HoldsOfEach}
 use Rattle.aprs_tool.proofs.RunsOver.{all_cut, all_written, each_so, unsaid}
 
 module _ {W : Type 0} (limit gap : ℕ) (inputs : List (List ℕ)) (afters : List (Option (List ℕ)))
-    (Told : BookValue → List ℕ → Type 0) (Tells : List Heard → List ℕ → Type 0)
+    (Told : BookValue → List ℕ → Type 0) (Tells : List Received → List ℕ → Type 0)
     (contents : W → Option (List ℕ)) (old new : Counted W) (b : BookValue)
-    (tells : (text : List ℕ) → Told b text → (S : List Heard) → BookOf (millis_of gap) S b.rows
+    (tells : (text : List ℕ) → Told b text → (S : List Received) → BookOf (millis_of gap) S b.rows
     → Tells S text)
     (read : HoldsOfEach limit inputs afters (ReadsEach gap (Ok b))) where
   pub told_writes : (r : Result (Unit {0}) OutputFault) → WritesTold Told contents r b old new

@@ -1,11 +1,6 @@
 -- Lemmas on an input whose book is widened.
-use Rattle.std.proofs.Common.{◌≡◌, ◌<◌, ◌≤◌, ◌==◌, not, true, false, ℕ, List, [], refl, subst, arith}
-use Rattle.std.proofs.lemmas.Bool.Decides.{nat_tests}
-use Rattle.aprs_log.specs.Reception.{Heard}
-use Rattle.aprs_log.specs.declared.Ending.{Ending}
-use Rattle.aprs_laws.specs.Gap.{IsGap}
-use Rattle.aprs_laws.specs.Row.{Row}
-use Rattle.aprs_booktext.specs.Text.{written_text}
+use Rattle.aprs_tool.proofs.Common.{◌≡◌, ◌<◌, ◌≤◌, ◌==◌, not, true, false, ℕ, List, [], refl, subst, arith, nat_tests, Received, IsGap, Row, written_text}
+use Rattle.aprs_log.specs.declared.InputEnd.{InputEnd}
 use Rattle.aprs_tool.specs.Gathered.{book_of_rows}
 use Rattle.aprs_tool.specs.InputRows.{GivesRows}
 use Rattle.aprs_tool.specs.Merge.{IsTextOfBook}
@@ -26,13 +21,13 @@ pub differing_gap : (own gap : ℕ) → true ≡ not (own == gap) → own ≡ ga
 differing_gap own gap e same = grind (arith, nat_tests)
 
 -- an input that is refused itself
-pub not_widened : (gap : ℕ) (t : List ℕ) (c : Ending) (fault : InputFault) → IsFaulty fault t c
+pub not_widened : (gap : ℕ) (t : List ℕ) (c : InputEnd) (fault : InputFault) → IsFaulty fault t c
     → IsNotWidened gap t c 0 fault
 not_widened gap t c Narrower h = absurd h
 not_widened gap t c fault h = h
 
 -- rows that were read into an empty store, by the seconds of both gaps
-module _ (gap own seconds its : ℕ) (old new : List Row) (t : List ℕ) (c : Ending)
+module _ (gap own seconds its : ℕ) (old new : List Row) (t : List ℕ) (c : InputEnd)
     (asked : seconds ≡ gap) (found : its ≡ own) (none : old ≡ [])
     (h : GivesRows gap own old new t c) where
   given : GivesRows gap own [] new t c
@@ -49,7 +44,7 @@ module _ (gap own seconds its : ℕ) (old new : List Row) (t : List ℕ) (c : En
       )
 
   -- of another gap
-  pub within : its ≤ seconds → (S : List Heard) × GivesSetWithin gap t c S
+  pub within : its ≤ seconds → (S : List Received) × GivesSetWithin gap t c S
   within l = (given.set, (own, omega (arith, l, asked, found), given.gives))
 
   -- the text of the rows under this gap

@@ -1,22 +1,9 @@
 -- Worked examples of what an input stands for.
-use Rattle.std.proofs.Common.{◌≡◌, ◌∙◌, ℕ, ◌<◌, true, false, List, [], ◌∷◌, ◌++◌, length, codes, None, inl, inr, refl, sym, ap, subst, arith}
-use Rattle.std.specs.Fmt.{decimal}
-use Rattle.std.specs.List.{list_any}
+use Rattle.aprs_tool.proofs.Common.{◌≡◌, ◌∙◌, ℕ, ◌<◌, true, false, List, [], ◌∷◌, ◌++◌, length, codes, None, inl, inr, refl, sym, ap, subst, arith, decimal, list_any, Answers, end_with, short_tail_cause, fault_at, is_lf, log_answers, receptions_of, Received, IsGap, millis_of, ◌∈◌, book_of_nothing, FirstFault, book_text, text_of_lines, gap_of, header_of, Three, one_text}
 use Rattle.std.proofs.lemmas.Fmt.{decimal_digit}
-use Rattle.aprs_io.specs.declared.input.Ending.{Ending}
-use Rattle.aprs_io.specs.declared.input.Ending.TheVariants.{End, Read}
-use Rattle.aprs_log.specs.LogAnswers.{Answers, end_with, short_tail_cause, fault_at, is_lf, log_answers, receptions_of}
-use Rattle.aprs_log.specs.Reception.{Heard}
-use Rattle.aprs_laws.specs.Gap.{IsGap, millis_of}
-use Rattle.aprs_laws.specs.Lists.{◌∈◌}
-use Rattle.aprs_laws.proofs.RunRows.{book_of_nothing}
-use Rattle.aprs_booktext.specs.FirstFault.{FirstFault}
-use Rattle.aprs_booktext.specs.Text.{book_text}
-use Rattle.aprs_log.specs.LogText.{text_of_lines}
-use Rattle.aprs_booktext.specs.Version.{gap_of, header_of}
+use Rattle.aprs_io.specs.declared.input.InputEnd.{InputEnd}
+use Rattle.aprs_io.specs.declared.input.InputEnd.TheVariants.{End, Read}
 use Rattle.aprs_booktext.specs.declared.fault.BookCause.TheVariants as why
-use Rattle.aprs_booktext.specs.declared.version.Version.TheVariants.{Three}
-use Rattle.aprs_booktext.proofs.OneText.{one_text}
 use Rattle.aprs_booktext.proofs.Standing.{no_rows}
 use Rattle.aprs_tool.specs.Examples.{cut_book, text_of_no_row, unended_log}
 use Rattle.aprs_tool.specs.Inputs.{GivesSet, has_book_mark}
@@ -35,26 +22,26 @@ empty_log = inr (subst (λ S. IsLogOf S [] End)
     (ap (λ (a : Answers). receptions_of a.given) nothing_read)
     (log_of [] End (ap (λ (a : Answers). a.fault) nothing_read)))
 
-pub no_reception : (x : Heard) → GivesSet 30 [] End (x ∷ []) → ⊥
+pub no_reception : (x : Received) → GivesSet 30 [] End (x ∷ []) → ⊥
 no_reception x (inl p) =
     absurd (let e : false ≡ true = file_begins 30 (x ∷ []) [] End p in cc)
 no_reception x (inr p) =
-    subst (λ (T : List Heard). x ∈ T) (ap (λ (a : Answers). receptions_of a.given) nothing_read)
+    subst (λ (T : List Received). x ∈ T) (ap (λ (a : Answers). receptions_of a.given) nothing_read)
     ((log_is (x ∷ []) [] End p x).0 (inl refl))
 
 -- a log with this fault stands for no set
-no_set : (gap : ℕ) (t : List ℕ) (c : Ending) → has_book_mark t ≡ false → length t < 8
+no_set : (gap : ℕ) (t : List ℕ) (c : InputEnd) → has_book_mark t ≡ false → length t < 8
     → list_any is_lf t ≡ false → ((fault_at 1 (short_tail_cause c t)) ≡ None → ⊥)
-    → (S : List Heard) → GivesSet gap t c S → ⊥
+    → (S : List Received) → GivesSet gap t c S → ⊥
 no_set gap t c is few one some S (inl p) =
     absurd (let e : true ≡ false = sym (file_begins gap S t c p) ∙ is in cc)
 no_set gap t c is few one some S (inr p) =
     some (sym (ap (λ (a : Answers). a.fault) (short_tail t c few one)) ∙ log_none S t c p)
 
-pub no_failed_read : (S : List Heard) → GivesSet 30 [] Read S → ⊥
+pub no_failed_read : (S : List Received) → GivesSet 30 [] Read S → ⊥
 no_failed_read = no_set 30 [] Read refl (omega arith) refl (λ e. absurd cc)
 
-pub no_unended : (S : List Heard) → GivesSet 30 unended_log End S → ⊥
+pub no_unended : (S : List Received) → GivesSet 30 unended_log End S → ⊥
 no_unended = no_set 30 unended_log End refl (omega arith) refl (λ e. absurd cc)
 
 -- ---- book files
@@ -83,7 +70,7 @@ empty_file = inl (record {
   book = book_of_nothing (millis_of 5);
 })
 
-pub no_other_gap : (S : List Heard) → GivesSet 30 text_of_no_row End S → ⊥
+pub no_other_gap : (S : List Received) → GivesSet 30 text_of_no_row End S → ⊥
 no_other_gap S (inl p) =
     let same = (one_text (Three 5) p.version [] p.rows (no_rows (Three 5) few_seconds)
     (file_rows 30 S text_of_no_row End p) (sym empty_text ∙ p.text_is)).0 in
@@ -91,7 +78,7 @@ no_other_gap S (inl p) =
     absurd (omega (arith, gap))
 no_other_gap S (inr p) = absurd (log_is_no_book text_of_no_row End p.0 p.1 refl)
 
-pub no_failed_file : (S : List Heard) → GivesSet 5 text_of_no_row Read S → ⊥
+pub no_failed_file : (S : List Received) → GivesSet 5 text_of_no_row Read S → ⊥
 no_failed_file S (inl p) = absurd (let e : Read ≡ End = p.whole in cc)
 no_failed_file S (inr p) = absurd (log_is_no_book text_of_no_row Read p.0 p.1 refl)
 
@@ -111,7 +98,7 @@ cut_fault = record {
   }));
 }
 
-pub no_cut_file : (S : List Heard) → GivesSet 5 cut_book End S → ⊥
+pub no_cut_file : (S : List Received) → GivesSet 5 cut_book End S → ⊥
 no_cut_file S (inl p) = file_none 5 S cut_book End (record { line = 2; cause = why.Ending })
     (omega arith) p cut_fault
 no_cut_file S (inr p) = absurd (log_is_no_book cut_book End p.0 p.1 refl)

@@ -4,7 +4,7 @@ use Rattle.aprs_ax25.specs.Callsign.{Call}
 use Rattle.aprs_report.specs.declared.place.Place.{Place}
 use Rattle.aprs_report.specs.declared.stamp.Stamp.{Stamp}
 use Rattle.aprs_report.specs.declared.symbol.Symbol.{Symbol}
-use Rattle.aprs_log.specs.Reception.{Heard}
+use Rattle.aprs_log.specs.Reception.{Received}
 use Rattle.aprs_laws.specs.Best.{LastKnown}
 use Rattle.aprs_laws.specs.BestLaws.{Passes}
 use Rattle.aprs_laws.specs.Book.{BookOf}
@@ -18,7 +18,7 @@ use Rattle.aprs_listing.specs.Listing.{heard_fields, known_line, line_with_text,
 
 -- The text is the history of the book of S under this gap, in seconds, and has one line for each of
 -- the book's rows.
-pub record IsHistoryOf (gap : ℕ) (S : List Heard) (text : List ℕ) : Type 0 where
+pub record IsHistoryOf (gap : ℕ) (S : List Received) (text : List ℕ) : Type 0 where
   pub rows : List Row
   pub book : BookOf (millis_of gap) S rows
   pub text_is : text ≡ history_text rows
@@ -27,14 +27,14 @@ pub record IsHistoryOf (gap : ℕ) (S : List Heard) (text : List ℕ) : Type 0 w
 -- Sets with the same members have one history, and so have inputs that stand for them: in whatever
 -- order, however often, and through book files or not.
 abbrev pub HaveOneHistory : ℕ → Type 0
-HaveOneHistory gap = (S T : List Heard) (text other : List ℕ) → SameMembers S T
+HaveOneHistory gap = (S T : List Received) (text other : List ℕ) → SameMembers S T
     → IsHistoryOf gap S text → IsHistoryOf gap T other → text ≡ other
 
 -- ---- the places in it
 
 -- The text has a line of a row whose greatest reception is x, and this line says of a place what
 -- the listing's line of x says of it.
-pub record TellsPlace (text : List ℕ) (x : Heard) : Type 0 where
+pub record TellsPlace (text : List ℕ) (x : Received) : Type 0 where
   pub before : List Row
   pub row : Row
   pub after : List Row
@@ -52,13 +52,13 @@ pub record TellsPlace (text : List ℕ) (x : Heard) : Type 0 where
 -- The history of any set tells the place of its greatest reception of a position report from a
 -- station, which is the one that the listing of the set shows.
 abbrev pub HistoriesTellPlaces : ℕ → Type 0
-HistoriesTellPlaces gap = (S : List Heard) (text : List ℕ) (call : Call) (x : Heard)
+HistoriesTellPlaces gap = (S : List Received) (text : List ℕ) (call : Call) (x : Received)
     → IsHistoryOf gap S text → LastKnown S (Passes (reports_position call)) (Some x)
     → TellsPlace text x
 
 -- The text has a line of a row whose greatest reception is x, and this line says of an object or an
 -- item, as its kind is, what the listing's line of x says of it.
-pub record TellsNamed (kind text : List ℕ) (x : Heard) : Type 0 where
+pub record TellsNamed (kind text : List ℕ) (x : Received) : Type 0 where
   pub before : List Row
   pub row : Row
   pub after : List Row
@@ -78,12 +78,12 @@ pub record TellsNamed (kind text : List ℕ) (x : Heard) : Type 0 where
 -- The history of any set tells of each object the set's greatest report, which is the one that the
 -- listing of the set shows.
 abbrev pub HistoriesTellObjects : ℕ → Type 0
-HistoriesTellObjects gap = (S : List Heard) (text name : List ℕ) (x : Heard)
+HistoriesTellObjects gap = (S : List Received) (text name : List ℕ) (x : Received)
     → IsHistoryOf gap S text → LastKnown S (Passes (reports_object name)) (Some x)
     → TellsNamed (codes "object") text x
 
 -- And so of each item.
 abbrev pub HistoriesTellItems : ℕ → Type 0
-HistoriesTellItems gap = (S : List Heard) (text name : List ℕ) (x : Heard)
+HistoriesTellItems gap = (S : List Received) (text name : List ℕ) (x : Received)
     → IsHistoryOf gap S text → LastKnown S (Passes (reports_item name)) (Some x)
     → TellsNamed (codes "item") text x

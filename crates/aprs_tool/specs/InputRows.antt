@@ -2,9 +2,9 @@
 -- module.
 use Rattle.std.specs.Prelude.{◌≡◌, ◌≢◌, ℕ, List, ◌++◌, Option, None, Some, Result, Ok, Err, map}
 use Rattle.aprs_io.specs.Input.{Gets}
-use Rattle.aprs_io.specs.declared.input.Ending.{Ending}
+use Rattle.aprs_io.specs.declared.input.InputEnd.{InputEnd}
 use Rattle.aprs_log.specs.LogAnswers.{log_answers, receptions_of}
-use Rattle.aprs_log.specs.Reception.{Heard}
+use Rattle.aprs_log.specs.Reception.{Received}
 use Rattle.aprs_laws.specs.Coalescing.{StandFor}
 use Rattle.aprs_laws.specs.JoinRow.{single}
 use Rattle.aprs_laws.specs.Row.{Row}
@@ -18,36 +18,36 @@ use Rattle.aprs_tool.specs.declared.fault.InputFault.TheVariants.{Log, Memory}
 
 -- P holds of the text that was got of an input, at most `limit` bytes, and of how the input then
 -- ended; `after` is what the device then has.
-abbrev pub HoldsOfGot : ℕ → List ℕ → Option (List ℕ) → (List ℕ → Ending → Type 0) → Type 0
+abbrev pub HoldsOfGot : ℕ → List ℕ → Option (List ℕ) → (List ℕ → InputEnd → Type 0) → Type 0
 HoldsOfGot limit input after P =
-    (text : List ℕ) × (ending : Ending) × Gets limit input after text ending × P text ending
+    (text : List ℕ) × (ending : InputEnd) × Gets limit input after text ending × P text ending
 
 -- A log is refused for the fault after its lines, or because an allocation failed.
-abbrev pub IsLogRefused : InputFault → List ℕ → Ending → Type 0
+abbrev pub IsLogRefused : InputFault → List ℕ → InputEnd → Type 0
 IsLogRefused (Log fault) text ending = (log_answers text ending).fault ≡ Some fault
 IsLogRefused Memory text ending = Unit {0}
 IsLogRefused fault text ending = ⊥
 
 -- The receptions of a faultless log come after the rows that were there, each as a row, and any
 -- other log is refused.
-abbrev pub ReadsLog : Result (Unit {0}) InputFault → List Row → List Row → List ℕ → Ending → Type 0
+abbrev pub ReadsLog : Result (Unit {0}) InputFault → List Row → List Row → List ℕ → InputEnd → Type 0
 ReadsLog (Ok u) old new text ending = ((log_answers text ending).fault ≡ None)
     × (new ≡ old ++ map single (receptions_of (log_answers text ending).given))
 ReadsLog (Err fault) old new text ending = IsLogRefused fault text ending
 
 -- The rows that came after the old ones stand for a set that the input stands for, under its own
 -- gap or the one asked for.
-pub record GivesRows (asked own : ℕ) (old new : List Row) (text : List ℕ) (ending : Ending)
+pub record GivesRows (asked own : ℕ) (old new : List Row) (text : List ℕ) (ending : InputEnd)
     : Type 0 where
   pub gap_is : IsGapOf asked text own
   pub rows : List Row
   pub new_is : new ≡ old ++ rows
-  pub set : List Heard
+  pub set : List Received
   pub gives : GivesSet own text ending set
   pub stand : StandFor rows set
 
 -- The rows of a faultless input are read, and any other input is refused.
-abbrev pub ReadsRows : ℕ → Result ℕ InputFault → List Row → List Row → List ℕ → Ending → Type 0
+abbrev pub ReadsRows : ℕ → Result ℕ InputFault → List Row → List Row → List ℕ → InputEnd → Type 0
 ReadsRows asked (Ok own) old new text ending = GivesRows asked own old new text ending
 ReadsRows asked (Err fault) old new text ending = IsFaulty fault text ending
 

@@ -2,10 +2,10 @@
 -- after that.
 use Rattle.std.specs.Prelude.{◌≡◌, ◌==◌, ◌⊎◌, ℕ, Bool, List, codes, All}
 use Rattle.std.specs.List.{starts_with}
-use Rattle.aprs_io.specs.declared.input.Ending.{Ending}
-use Rattle.aprs_io.specs.declared.input.Ending.TheVariants as how
+use Rattle.aprs_io.specs.declared.input.InputEnd.{InputEnd}
+use Rattle.aprs_io.specs.declared.input.InputEnd.TheVariants as how
 use Rattle.aprs_log.specs.LogText.{IsLogText}
-use Rattle.aprs_log.specs.Reception.{Heard}
+use Rattle.aprs_log.specs.Reception.{Received}
 use Rattle.aprs_laws.specs.Book.{BookOf}
 use Rattle.aprs_laws.specs.Gap.{millis_of}
 use Rattle.aprs_laws.specs.Lists.{SameMembers}
@@ -21,7 +21,7 @@ has_book_mark text = starts_with ◌==◌ text (codes "APRSBOOK")
 -- A whole book file of this gap, in seconds, which is one that a book can have: the text, in some
 -- version, of rows that are the book of S. A line can spell each row in the version's form, and
 -- each row's frame is a UI frame.
-pub record IsBookFileOf (gap : ℕ) (S : List Heard) (text : List ℕ) (ending : Ending) : Type 0 where
+pub record IsBookFileOf (gap : ℕ) (S : List Received) (text : List ℕ) (ending : InputEnd) : Type 0 where
   pub version : Version
   pub rows : List Row
   pub gap_is : gap_of version ≡ gap
@@ -35,6 +35,6 @@ pub record IsBookFileOf (gap : ℕ) (S : List Heard) (text : List ℕ) (ending :
 -- other sets too; or it is a log without a fault, and S are the receptions that its lines report.
 -- Any other input stands for none: one whose text has a fault, one that wasn't got to its end, and
 -- a book file of another gap.
-abbrev pub GivesSet : ℕ → List ℕ → Ending → List Heard → Type 0
+abbrev pub GivesSet : ℕ → List ℕ → InputEnd → List Received → Type 0
 GivesSet gap text ending S = IsBookFileOf gap S text ending
-    ⊎ ((T : List Heard) × IsLogText text ending T × SameMembers S T)
+    ⊎ ((T : List Received) × IsLogText text ending T × SameMembers S T)

@@ -4,15 +4,15 @@ use Rattle.std.specs.Prelude.{◌≡◌, ◌≤◌, ℕ, ◌+◌, ◌*◌, List,
 use Rattle.std.specs.Io.KnownBytes.{Appends}
 use Rattle.aprs_io.specs.Device.{AppendsPrefix}
 use Rattle.aprs_io.specs.declared.device.Counted.{Counted}
-use Rattle.aprs_log.specs.Reception.{Heard}
+use Rattle.aprs_log.specs.Reception.{Received}
 use Rattle.aprs_tool.specs.declared.fault.InputFault.{InputFault}
 use Rattle.aprs_tool.specs.declared.fault.RunFault.{RunFault}
 use Rattle.aprs_tool.specs.declared.fault.RunFault.TheVariants.{Input, Write, Memory}
 
 -- There is a set for which the inputs `Stand`; and for each such set, `Tell` holds of it and of
 -- this text.
-abbrev pub IsToldOf : (List Heard → Type 0) → (List Heard → List ℕ → Type 0) → List ℕ → Type 0
-IsToldOf Stand Tell text = ((S : List Heard) × Stand S) × ((S : List Heard) → Stand S → Tell S text)
+abbrev pub IsToldOf : (List Received → Type 0) → (List Received → List ℕ → Type 0) → List ℕ → Type 0
+IsToldOf Stand Tell text = ((S : List Received) × Stand S) × ((S : List Received) → Stand S → Tell S text)
 
 -- A text of which `Told` holds went out whole, or a prefix of it where the output was refused. In
 -- all no more tries failed than 999 for each byte of the text, and one more where the output was
@@ -29,8 +29,8 @@ WritesFor Told contents answer old new = Unit {0}
 
 -- At `Input` the input of that number was refused for this fault; at `Memory` the inputs stand for
 -- at least one set. In both cases nothing was written. Of any other answer nothing is said here.
-abbrev pub RefusesFor : {W : Type 0} → (List Heard → Type 0) → (ℕ → InputFault → Type 0)
+abbrev pub RefusesFor : {W : Type 0} → (List Received → Type 0) → (ℕ → InputFault → Type 0)
     → Result (Unit {0}) RunFault → Counted W → Counted W → Type 0
 RefusesFor Stand Refused (Err (Input index fault)) old new = Refused index fault × (new ≡ old)
-RefusesFor Stand Refused (Err Memory) old new = ((S : List Heard) × Stand S) × (new ≡ old)
+RefusesFor Stand Refused (Err Memory) old new = ((S : List Received) × Stand S) × (new ≡ old)
 RefusesFor Stand Refused answer old new = Unit {0}

@@ -1,9 +1,9 @@
 -- Why an input is refused, by the text that was got of it and by what came after that.
 use Rattle.std.specs.Prelude.{◌≡◌, ◌≢◌, ◌≤◌, ◌⊎◌, ℕ, true, false, List, length}
 use Rattle.aprs_io.specs.Input.{most_input}
-use Rattle.aprs_io.specs.declared.input.Ending.{Ending}
+use Rattle.aprs_io.specs.declared.input.InputEnd.{InputEnd}
 use Rattle.aprs_log.specs.LogText.{HasLogFault}
-use Rattle.aprs_log.specs.Reception.{Heard}
+use Rattle.aprs_log.specs.Reception.{Received}
 use Rattle.aprs_laws.specs.declared.merge_fault.MergeFault.{MergeFault}
 use Rattle.aprs_laws.specs.declared.merge_fault.MergeFault.TheVariants as merge
 use Rattle.aprs_booktext.specs.TextFault.{HasBookFault}
@@ -16,7 +16,7 @@ use Rattle.aprs_tool.specs.declared.fault.InputFault.TheVariants.{Log, Book, Mem
 -- book file, that is `Book`, with a fault that the text has as a book file. If not, it is `Log`,
 -- with a fault that the text has as a log, or `Memory`, which fits every such text. No other fault
 -- fits. That an allocation really failed isn't said here.
-abbrev pub IsFaulty : InputFault → List ℕ → Ending → Type 0
+abbrev pub IsFaulty : InputFault → List ℕ → InputEnd → Type 0
 IsFaulty (Log fault) text ending = (has_book_mark text ≡ false) × HasLogFault text ending fault
 IsFaulty (Book fault) text ending = (has_book_mark text ≡ true) × HasBookFault text ending fault
 IsFaulty Memory text ending = has_book_mark text ≡ false
@@ -25,11 +25,11 @@ IsFaulty fault text ending = ⊥
 -- This fault may be answered where a book of this gap is to take the input: `OtherGap` for a book
 -- file of another gap; `Memory` for any text without that mark, and for any input that stands for a
 -- set; and each fault that may be answered for the input by itself.
-abbrev pub IsNotTaken : ℕ → InputFault → List ℕ → Ending → Type 0
+abbrev pub IsNotTaken : ℕ → InputFault → List ℕ → InputEnd → Type 0
 IsNotTaken gap OtherGap text ending =
-    (other : ℕ) × (S : List Heard) × (other ≢ gap) × IsBookFileOf other S text ending
+    (other : ℕ) × (S : List Received) × (other ≢ gap) × IsBookFileOf other S text ending
 IsNotTaken gap Memory text ending =
-    IsFaulty Memory text ending ⊎ ((S : List Heard) × GivesSet gap text ending S)
+    IsFaulty Memory text ending ⊎ ((S : List Received) × GivesSet gap text ending S)
 IsNotTaken gap fault text ending = IsFaulty fault text ending
 
 -- The fault of an input whose merge is refused.
@@ -39,6 +39,6 @@ fault_of_merge merge.Memory = Memory
 
 -- An input that stands for a set is refused only where an allocation failed.
 abbrev pub HaveNoFault : Type 0
-HaveNoFault = (gap : ℕ) (text : List ℕ) (ending : Ending) (S : List Heard) (fault : InputFault)
+HaveNoFault = (gap : ℕ) (text : List ℕ) (ending : InputEnd) (S : List Received) (fault : InputFault)
     → length text ≤ most_input → GivesSet gap text ending S → IsFaulty fault text ending
     → status_of_input fault ≡ 4

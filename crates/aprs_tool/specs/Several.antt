@@ -2,8 +2,8 @@
 use Rattle.std.specs.Prelude.{◌≡◌, ℕ, List, [], ◌∷◌, ◌++◌, map, take, slice_get, Option, Some}
 use Rattle.aprs_io.specs.Input.{EndsSo}
 use Rattle.aprs_io.specs.declared.device.Counted.{Counted}
-use Rattle.aprs_io.specs.declared.input.Ending.{Ending}
-use Rattle.aprs_log.specs.Reception.{Heard}
+use Rattle.aprs_io.specs.declared.input.InputEnd.{InputEnd}
+use Rattle.aprs_log.specs.Reception.{Received}
 use Rattle.aprs_laws.specs.Lists.{SameMembers}
 use Rattle.aprs_tool.specs.Inputs.{GivesSet}
 use Rattle.aprs_tool.specs.Refused.{IsNotTaken}
@@ -15,7 +15,7 @@ use Rattle.aprs_tool.specs.declared.fault.InputFault.{InputFault}
 -- where nothing is left.
 pub record GotOf (limit : ℕ) : Type 0 where
   pub text : List ℕ
-  pub ending : Ending
+  pub ending : InputEnd
   pub rest : List ℕ
   pub after : Option (List ℕ)
   pub ends : EndsSo ending limit text rest after
@@ -31,9 +31,9 @@ OfEach limit remaining old new P = (inputs : List (List ℕ))
     × (map (λ r. remaining r.device) new ≡ map (λ g. g.after) gots) × P gots
 
 -- Each input stands for a set, and S is the union of such sets, one for each.
-abbrev pub GiveUnion : {limit : ℕ} → ℕ → List (GotOf limit) → List Heard → Type 0
+abbrev pub GiveUnion : {limit : ℕ} → ℕ → List (GotOf limit) → List Received → Type 0
 GiveUnion gap [] S = S ≡ []
-GiveUnion gap (g ∷ gots) S = (T : List Heard) × (U : List Heard)
+GiveUnion gap (g ∷ gots) S = (T : List Received) × (U : List Received)
     × GivesSet gap g.text g.ending T × GiveUnion gap gots U × SameMembers S (T ++ U)
 
 -- Input number `index`, from 0, is the first that a book of this gap doesn't take, for this fault:
@@ -42,5 +42,5 @@ pub record IsFirstRefused {limit : ℕ} (gap : ℕ) (gots : List (GotOf limit)) 
     (fault : InputFault) : Type 0 where
   pub at : GotOf limit
   pub is_there : slice_get gots index ≡ Some at
-  pub faultless : (S : List Heard) × GiveUnion gap (take index gots) S
+  pub faultless : (S : List Received) × GiveUnion gap (take index gots) S
   pub refused : IsNotTaken gap fault at.text at.ending

@@ -3,7 +3,7 @@ use Rattle.std.specs.Prelude.{◌≡◌, ◌≢◌, ℕ, List, [], ◌∷◌, �
 use Rattle.std.specs.List.{flat_map}
 use Rattle.std.specs.Fmt.{decimal}
 use Rattle.aprs_ax25.specs.Callsign.{Call, call_text}
-use Rattle.aprs_log.specs.Reception.{Heard}
+use Rattle.aprs_log.specs.Reception.{Received}
 use Rattle.aprs_laws.specs.Best.{LastKnown}
 use Rattle.aprs_laws.specs.BestLaws.{Passes}
 use Rattle.aprs_laws.specs.Book.{BookOf}
@@ -23,7 +23,7 @@ use Rattle.aprs_listing.specs.Listing.{known_line, line_with, show_text, station
 
 -- The text is that of the stations, the objects and items, and the messages of S, whose book has a
 -- gap of so many seconds.
-pub record IsListingOf (gap : ℕ) (S : List Heard) (text : List ℕ) : Type 0 where
+pub record IsListingOf (gap : ℕ) (S : List Received) (text : List ℕ) : Type 0 where
   pub rows : List Row
   pub stations : List Station
   pub named : List Named
@@ -38,7 +38,7 @@ pub record IsListingOf (gap : ℕ) (S : List Heard) (text : List ℕ) : Type 0 w
 
 -- The text has a line of this station, and right after it the position line of `known`, if that is
 -- a reception. Only lines of other stations stand before.
-pub record TellsPosition (text : List ℕ) (call : Call) (known : Option Heard) : Type 0 where
+pub record TellsPosition (text : List ℕ) (call : Call) (known : Option Received) : Type 0 where
   pub before : List Station
   pub transmissions : ℕ
   pub after : List ℕ
@@ -50,6 +50,6 @@ pub record TellsPosition (text : List ℕ) (call : Call) (known : Option Heard) 
 -- The listing of any set has, for each source in the set, the position that is the set's greatest
 -- reception of a position report from it.
 abbrev pub ListingsTellPositions : ℕ → Type 0
-ListingsTellPositions gap = (S : List Heard) (text : List ℕ) (call : Call) (known : Option Heard)
+ListingsTellPositions gap = (S : List Received) (text : List ℕ) (call : Call) (known : Option Received)
     → IsListingOf gap S text → IsSource S call → LastKnown S (Passes (reports_position call)) known
     → TellsPosition text call known

@@ -5,10 +5,10 @@ ghost use Rattle.aprs_tool.specs.Gathered.{book_of_rows, WritesText};
 ghost use Rattle.aprs_tool.specs.ToldBook.{IsHistory, IsShown, WritesTold, answer_of_output};
 
 use crate::fault::RunFault;
-use aprs_book::{Gap, Memory, Overview};
+use aprs_book::{Gap, Memory, Summary};
 use aprs_booktext::write_rows;
 use aprs_io::{Counted, WriteFault};
-use aprs_listing::{Views, write_history};
+use aprs_listing::{Listing, write_history};
 use aprs_rows::RowStore;
 use std::alloc::{Allocator, Global};
 use std::io::Write;
@@ -122,9 +122,9 @@ impl<A: Allocator + Copy> Gathered<A> {
         let Gathered { alloc, gap, store } = self;
         let order = store.in_order()?;
         let rows = order.transmissions(gap)?;
-        let overview = Overview::of(alloc, &rows)?;
-        let views = Views::of(&overview)?;
-        Ok(views.write(w)?)
+        let summary = Summary::of(alloc, &rows)?;
+        let listing = Listing::of(&summary)?;
+        Ok(listing.write(w)?)
     }
 
     /// Writes the history of the book of all rows. At `Memory` an allocation failed, and nothing

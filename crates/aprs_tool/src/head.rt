@@ -7,7 +7,7 @@ ghost use Rattle.aprs_io.specs.Input.{EndsHere, Gets, last_got};
 ghost use Rattle.aprs_log.specs.LogAnswers.{is_lf};
 ghost use Rattle.aprs_tool.specs.Head.{IsHead, last_of_head};
 
-use aprs_io::{Counted, Ending, read_some};
+use aprs_io::{Counted, InputEnd, read_some};
 use arrayvec::ArrayVec;
 use std::io::Read;
 
@@ -22,7 +22,7 @@ const LF: u8 = b'\n';
 #[derive(Drop)]
 pub struct ShortInput {
     pub bytes: ArrayVec<u8, HEAD_LEN>,
-    pub ending: Ending,
+    pub ending: InputEnd,
 }
 
 /// Reads the first eight bytes of an input, or those up to its first LF, where that comes sooner.
@@ -61,7 +61,7 @@ pub fn read_head<R: Read>(
 
 /// The next byte of an input of which at most `left` more bytes may be read. The error says why
 /// there is none: the input ended, a read failed, or `left` is 0 and a byte follows (`TooLong`).
-fn read_byte<R: Read>(r: &mut Counted<R>, left: u64) -> Result<u8, Ending>
+fn read_byte<R: Read>(r: &mut Counted<R>, left: u64) -> Result<u8, InputEnd>
     ensures some { OnOk result (0 < left) }
     ensures byte { IfOk result (λ byte. Consumes (R.remaining (device_of r.old))
         (R.remaining (device_of r.new)) (byte ∷ [])) }

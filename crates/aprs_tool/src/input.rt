@@ -10,7 +10,7 @@ ghost use Rattle.aprs_laws.specs.JoinRow.{single};
 ghost use Rattle.aprs_laws.specs.Witnesses.{witnesses};
 ghost use Rattle.aprs_laws.specs.Gap.{millis_of};
 ghost use Rattle.aprs_laws.specs.Book.{BookOf};
-ghost use Rattle.aprs_log.specs.Reception.{Heard};
+ghost use Rattle.aprs_log.specs.Reception.{Received};
 ghost use Rattle.aprs_book.specs.Taking.{MergesInto};
 ghost use Rattle.aprs_tool.specs.declared.head.TheConstants.{HEAD_LEN};
 ghost use Rattle.aprs_tool.specs.Devices.{AsksInput, AsksRows};
@@ -24,7 +24,7 @@ use crate::gathered::Gathered;
 use crate::head::{ShortInput, read_head};
 use aprs_book::{Book, Gap, Memory, MergeFault};
 use aprs_booktext::{read_book, read_rows};
-use aprs_io::{Counted, Ending};
+use aprs_io::{Counted, InputEnd};
 use aprs_log::{Line, LogCause, LogFault, LogReader};
 use aprs_rows::RowStore;
 use std::alloc::Allocator;
@@ -240,7 +240,7 @@ pub(crate) fn merge_books<A: Allocator + Copy>(
     ensures gap { IfOk result (λ both. both.gap ≡ book.now.gap) }
     ensures one { OnOk result (HaveOneGap book.now input) }
     // The first book is that of some set of receptions.
-    ensures known { OnOk result ((S : List Heard)
+    ensures known { OnOk result ((S : List Received)
         × BookOf (millis_of book.now.gap) S book.now.rows) }
 
     ensures refused { IfErr result (λ fault. RefusesGaps fault book.now.gap input.gap) }
@@ -264,10 +264,10 @@ fn read_short(short: &ShortInput) -> Result<(), LogFault>
     ensures last { last_of_short result ≡ last_of_ending short.now.ending }
 {
     match short.ending {
-        Ending::Read => Err(first_line_fault(LogCause::Read)),
-        Ending::TooLong => Err(first_line_fault(LogCause::TooLong)),
-        Ending::End if short.bytes.is_empty() => Ok(()),
-        Ending::End => Err(first_line_fault(LogCause::NoNewline)),
+        InputEnd::Read => Err(first_line_fault(LogCause::Read)),
+        InputEnd::TooLong => Err(first_line_fault(LogCause::TooLong)),
+        InputEnd::End if short.bytes.is_empty() => Ok(()),
+        InputEnd::End => Err(first_line_fault(LogCause::NoNewline)),
     }
 }
 

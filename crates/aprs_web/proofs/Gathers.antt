@@ -1,17 +1,11 @@
 -- A run over several inputs that are known, with an output that is empty at first.
-use Rattle.std.proofs.Common.{◌≡◌, ℕ, List, [], ◌++◌, Option, None, Some, Ok, Err, map, subst, sym, ap, ◌∙◌}
+use Rattle.aprs_web.proofs.Common.{◌≡◌, ℕ, List, [], ◌++◌, Option, None, Some, Ok, Err, map, subst, sym, ap, ◌∙◌, most_input, Counted, InputEnd, OfGot, IsTextOfBook, Input, Write, Memory}
 use Rattle.std.specs.Io.KnownBytes.{Appends}
-use Rattle.aprs_io.specs.Input.{most_input}
-use Rattle.aprs_io.specs.declared.device.Counted.{Counted}
-use Rattle.aprs_log.specs.Reception.{Heard}
-use Rattle.aprs_log.specs.declared.Ending.{Ending}
-use Rattle.aprs_convert.specs.Got.{OfGot}
-use Rattle.aprs_tool.specs.Merge.{IsTextOfBook}
+use Rattle.aprs_log.specs.Reception.{Received}
 use Rattle.aprs_tool.specs.Widen.{GivesSetWithin, IsNotWidened}
 use Rattle.aprs_tool.specs.Outcome.{IsToldOf, RefusesFor, WritesFor}
 use Rattle.aprs_tool.specs.Several.{GiveUnion, IsFirstRefused, OfEach}
 use Rattle.aprs_tool.specs.declared.fault.InputFault.{InputFault}
-use Rattle.aprs_tool.specs.declared.fault.RunFault.TheVariants.{Input, Write, Memory}
 use Rattle.aprs_web.specs.Answer.{Outcome}
 use Rattle.aprs_web.specs.Runs.{GathersTo, Gives, Widens}
 
@@ -30,7 +24,7 @@ module _ {W : Type 0} (contents : W → Option (List ℕ)) (w x : Counted W) (te
   unwritten : x ≡ w → text ≡ []
   unwritten same = ap bytes_in (sym is ∙ ap (λ (d : Counted W). contents d.device) same ∙ empty)
 
-  pub gives : (Stand : List Heard → Type 0) (TellsOf : List Heard → List ℕ → Type 0)
+  pub gives : (Stand : List Received → Type 0) (TellsOf : List Received → List ℕ → Type 0)
       (Refused : ℕ → InputFault → Type 0) (outcome : Outcome)
       → WritesFor (IsToldOf Stand TellsOf) contents outcome w x
       → RefusesFor Stand Refused outcome w x → Gives Stand TellsOf Refused outcome text
@@ -46,7 +40,7 @@ module _ {W : Type 0} (contents : W → Option (List ℕ)) (w x : Counted W) (te
   gives Stand TellsOf Refused (Err Memory) writes refuses = (refuses.0, unwritten refuses.1)
 
   pub gathers : {R : Type 0} (remaining : R → Option (List ℕ)) (gap : ℕ)
-      (TellsOf : List Heard → List ℕ → Type 0) (old new : List (Counted R))
+      (TellsOf : List Received → List ℕ → Type 0) (old new : List (Counted R))
       (inputs : List (List ℕ)) (outcome : Outcome)
       → map (λ r. remaining r.device) old ≡ map (λ (input : List ℕ). Some input) inputs
       → OfEach most_input remaining old new (λ gots.
@@ -122,9 +116,9 @@ module _ {W : Type 0} (contents : W → Option (List ℕ)) (w x : Counted W) (te
       RefusesFor (GivesSetWithin gap got ending) (IsNotWidened gap got ending) outcome w x)
       → Widens gap input outcome text
   widens remaining gap old new input outcome known writes refuses =
-      let W : List ℕ → Ending → Type 0 = λ got ending. WritesFor (IsToldOf (GivesSetWithin gap got ending) (IsTextOfBook gap))
+      let W : List ℕ → InputEnd → Type 0 = λ got ending. WritesFor (IsToldOf (GivesSetWithin gap got ending) (IsTextOfBook gap))
       contents outcome w x in
-      let F : List ℕ → Ending → Type 0 = λ got ending. RefusesFor (GivesSetWithin gap got ending)
+      let F : List ℕ → InputEnd → Type 0 = λ got ending. RefusesFor (GivesSetWithin gap got ending)
       (IsNotWidened gap got ending) outcome w x in
       widens_known remaining gap new input outcome
       (subst (λ (k : Option (List ℕ)). OfGot most_input k (remaining new.device) W) known writes)

@@ -1,3 +1,4 @@
+pub mod Common
 pub mod Gathers
 pub mod Over
 pub mod Sums

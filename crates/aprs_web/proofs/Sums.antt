@@ -1,6 +1,5 @@
 -- Sums of lengths, from the left.
-use Rattle.std.proofs.Common.{◌≡◌, ℕ, ◌+◌, ◌-◌, ◌<◌, ◌≤◌, List, [], ◌∷◌, length, drop, get_or, ap, ◌∙◌, arith}
-use Rattle.std.specs.List.{fold, sum}
+use Rattle.aprs_web.proofs.Common.{◌≡◌, ℕ, ◌+◌, ◌-◌, ◌<◌, ◌≤◌, List, [], ◌∷◌, length, drop, get_or, ap, ◌∙◌, arith, fold, sum}
 use Rattle.std.proofs.lemmas.List.{drop_more}
 
 -- a sum from a on

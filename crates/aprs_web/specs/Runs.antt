@@ -2,8 +2,8 @@
 use Rattle.std.specs.Prelude.{◌≡◌, ℕ, List, [], ◌∷◌, ◌++◌, map, take, drop, length, Option, Some, Ok, Err}
 use Rattle.std.specs.List.{sum}
 use Rattle.aprs_io.specs.Input.{most_input}
-use Rattle.aprs_log.specs.Reception.{Heard}
-use Rattle.aprs_log.specs.declared.Ending.{Ending}
+use Rattle.aprs_log.specs.Reception.{Received}
+use Rattle.aprs_log.specs.declared.InputEnd.{InputEnd}
 use Rattle.aprs_log.specs.declared.fault.LogFault.{LogFault}
 use Rattle.aprs_laws.specs.Gap.{IsGap}
 use Rattle.aprs_convert.specs.Ends.{Ends}
@@ -25,12 +25,12 @@ abbrev pub AskForSeveral : ℕ → List ℕ → List ℕ → Type 0
 AskForSeveral seconds lengths inputs = IsGap seconds × (sum lengths ≡ length inputs)
 
 -- The inputs, which lie one after the other and have these lengths.
-abbrev pub pieces : List ℕ → List ℕ → List (List ℕ)
-pieces [] inputs = []
-pieces (n ∷ ns) inputs = take n inputs ∷ pieces ns (drop n inputs)
+abbrev pub input_texts : List ℕ → List ℕ → List (List ℕ)
+input_texts [] inputs = []
+input_texts (n ∷ ns) inputs = take n inputs ∷ input_texts ns (drop n inputs)
 
 -- A run over one input ends so and writes this text, as `Told` says of what was got of the input.
-abbrev pub WritesOver : (Option LogFault → List ℕ → Ending → List ℕ → Type 0) → List ℕ → Outcome
+abbrev pub WritesOver : (Option LogFault → List ℕ → InputEnd → List ℕ → Type 0) → List ℕ → Outcome
     → List ℕ → Type 0
 WritesOver Told input outcome text = AnswersAs outcome (λ answer.
     (after : Option (List ℕ)) × OfGot most_input (Some input) after
@@ -39,18 +39,18 @@ WritesOver Told input outcome text = AnswersAs outcome (λ answer.
 -- At `Ok` the inputs `Stand` for a set, and the text is told of each such set; at `Write` it is a
 -- prefix of such a text. At `Input` the input of that number is refused, and at `Memory` the inputs
 -- stand for a set; at both there is no text.
-abbrev pub Gives : (List Heard → Type 0) → (List Heard → List ℕ → Type 0)
+abbrev pub Gives : (List Received → Type 0) → (List Received → List ℕ → Type 0)
     → (ℕ → InputFault → Type 0) → Outcome → List ℕ → Type 0
 Gives Stand TellsOf Refused (Ok u) text = IsToldOf Stand TellsOf text
 Gives Stand TellsOf Refused (Err Write) text =
     (rest : List ℕ) × IsToldOf Stand TellsOf (text ++ rest)
 Gives Stand TellsOf Refused (Err (Input index fault)) text = Refused index fault × (text ≡ [])
-Gives Stand TellsOf Refused (Err Memory) text = ((S : List Heard) × Stand S) × (text ≡ [])
+Gives Stand TellsOf Refused (Err Memory) text = ((S : List Received) × Stand S) × (text ≡ [])
 
 -- A run gathers these inputs under this gap, and writes the text that is told of their set. At
 -- `Memory` it wrote nothing, and nothing is said of the inputs: maybe there was no memory for a
 -- list of them.
-abbrev pub GathersTo : (List Heard → List ℕ → Type 0) → ℕ → List (List ℕ) → Outcome → List ℕ
+abbrev pub GathersTo : (List Received → List ℕ → Type 0) → ℕ → List (List ℕ) → Outcome → List ℕ
     → Type 0
 GathersTo TellsOf gap inputs (Err Memory) text = text ≡ []
 GathersTo TellsOf gap inputs outcome text = (gots : List (GotOf most_input))

@@ -7,7 +7,7 @@ ghost use Rattle.aprs_laws.specs.Gap.{IsGap};
 ghost use Rattle.aprs_log.specs.MomentReading.{moment_of};
 ghost use Rattle.aprs_log.specs.Receiver.{IsName};
 ghost use Rattle.aprs_web.specs.Answer.{TellsNoRun, TellsRun};
-ghost use Rattle.aprs_web.specs.Runs.{AskForSeveral, Merges, Shows, TellsHistory, Widens, WritesOver, pieces};
+ghost use Rattle.aprs_web.specs.Runs.{AskForSeveral, Merges, Shows, TellsHistory, Widens, WritesOver, input_texts};
 
 use crate::answer::{Answer, answer_of, no_run};
 use crate::inputs::add_up;
@@ -151,7 +151,7 @@ pub extern "C" fn aprs_merge(
     name: &mut [u8],
 ) -> Answer
     ensures run { AskForSeveral seconds lengths.now inputs.now
-        → TellsRun (Merges seconds (pieces lengths.now inputs.now))
+        → TellsRun (Merges seconds (input_texts lengths.now inputs.now))
         result output.old output.new name.old name.new }
     ensures no_run { ¬ AskForSeveral seconds lengths.now inputs.now
         → TellsNoRun result output.old output.new name.old name.new }
@@ -177,7 +177,7 @@ pub extern "C" fn aprs_show(
     name: &mut [u8],
 ) -> Answer
     ensures run { AskForSeveral seconds lengths.now inputs.now
-        → TellsRun (Shows seconds (pieces lengths.now inputs.now))
+        → TellsRun (Shows seconds (input_texts lengths.now inputs.now))
         result output.old output.new name.old name.new }
     ensures no_run { ¬ AskForSeveral seconds lengths.now inputs.now
         → TellsNoRun result output.old output.new name.old name.new }
@@ -204,7 +204,7 @@ pub extern "C" fn aprs_history(
     name: &mut [u8],
 ) -> Answer
     ensures run { AskForSeveral seconds lengths.now inputs.now
-        → TellsRun (TellsHistory seconds (pieces lengths.now inputs.now))
+        → TellsRun (TellsHistory seconds (input_texts lengths.now inputs.now))
         result output.old output.new name.old name.new }
     ensures no_run { ¬ AskForSeveral seconds lengths.now inputs.now
         → TellsNoRun result output.old output.new name.old name.new }

@@ -1,7 +1,7 @@
 //! Several inputs, which the host lays one after the other.
 ghost use Rattle.std.specs.Prelude.{◌≡◌, ◌↔◌, T, map, length, Some, IfOk};
 ghost use Rattle.std.specs.List.{sum};
-ghost use Rattle.aprs_web.specs.Runs.{pieces};
+ghost use Rattle.aprs_web.specs.Runs.{input_texts};
 
 use aprs_tool::Counted;
 use std::alloc::{AllocError, Allocator};
@@ -28,7 +28,7 @@ pub(crate) fn readers<'a, A: Allocator + Copy>(
     lengths: &[usize],
 ) -> Result<Vec<Counted<&'a [u8]>, A>, AllocError>
     ensures { IfOk result (λ v. map (λ r. Some r.device.now) v.items
-        ≡ map (λ input. Some input) (pieces lengths.now inputs.now)) }
+        ≡ map (λ input. Some input) (input_texts lengths.now inputs.now)) }
 {
     let mut readers = Vec::new(alloc);
     let mut rest = inputs;

@@ -2,7 +2,7 @@
 ghost use Rattle.std.specs.Prelude.{◌≡◌};
 ghost use Rattle.aprs_convert.specs.Check.{Checks};
 ghost use Rattle.aprs_convert.specs.Conversion.{Converts};
-ghost use Rattle.aprs_web.specs.Runs.{Merges, Shows, TellsHistory, Widens, WritesOver, pieces};
+ghost use Rattle.aprs_web.specs.Runs.{Merges, Shows, TellsHistory, Widens, WritesOver, input_texts};
 
 use crate::inputs::readers;
 use aprs_book::Gap;
@@ -46,7 +46,7 @@ pub(crate) fn merge<A: Allocator + Copy>(
     inputs: &[u8],
     lengths: &[usize],
 ) -> (Result<(), RunFault>, Vec<u8, A>)
-    ensures { Merges gap (pieces lengths.now inputs.now) result.0 result.1.items }
+    ensures { Merges gap (input_texts lengths.now inputs.now) result.0 result.1.items }
 {
     let mut w = Counted::new(Vec::new(alloc));
     let Ok(mut readers) = readers(alloc, inputs, lengths) else {
@@ -63,7 +63,7 @@ pub(crate) fn show<A: Allocator + Copy>(
     inputs: &[u8],
     lengths: &[usize],
 ) -> (Result<(), RunFault>, Vec<u8, A>)
-    ensures { Shows gap (pieces lengths.now inputs.now) result.0 result.1.items }
+    ensures { Shows gap (input_texts lengths.now inputs.now) result.0 result.1.items }
 {
     let mut w = Counted::new(Vec::new(alloc));
     let Ok(mut readers) = readers(alloc, inputs, lengths) else {
@@ -80,7 +80,7 @@ pub(crate) fn history<A: Allocator + Copy>(
     inputs: &[u8],
     lengths: &[usize],
 ) -> (Result<(), RunFault>, Vec<u8, A>)
-    ensures { TellsHistory gap (pieces lengths.now inputs.now) result.0 result.1.items }
+    ensures { TellsHistory gap (input_texts lengths.now inputs.now) result.0 result.1.items }
 {
     let mut w = Counted::new(Vec::new(alloc));
     let Ok(mut readers) = readers(alloc, inputs, lengths) else {

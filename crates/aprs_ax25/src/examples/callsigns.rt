@@ -1,14 +1,14 @@
 //! Worked examples of the texts of callsigns, and near misses.
 ghost use Rattle.std.specs.Prelude.{codes};
 ghost use Rattle.aprs_ax25.specs.declared.fault.CallFault.TheVariants as call;
-ghost use Rattle.aprs_ax25.specs.CallText.{CallText, FirstCallFault};
+ghost use Rattle.aprs_ax25.specs.CallText.{SpellsCall, FirstCallFault};
 ghost use Rattle.aprs_ax25.specs.Examples.{callsign, nj7p, n7oo};
 
 /// Callsigns as monitors print them, and texts of no callsign with their first faults.
 pub fn callsigns_have_texts()
-    ensures ssid { CallText n7oo (codes "N7OO-1") }
-    ensures no_ssid { CallText nj7p (codes "NJ7P") }
-    ensures greatest { CallText (callsign (codes "N0CALL") 15) (codes "N0CALL-15") }
+    ensures ssid { SpellsCall n7oo (codes "N7OO-1") }
+    ensures no_ssid { SpellsCall nj7p (codes "NJ7P") }
+    ensures greatest { SpellsCall (callsign (codes "N0CALL") 15) (codes "N0CALL-15") }
 
     ensures misses_sixteen { FirstCallFault (codes "N0CALL-16") call.Ssid }
     ensures misses_nought { FirstCallFault (codes "NJ7P-0") call.Ssid }

@@ -23,7 +23,7 @@ pub struct Heard<'a> {
 
 impl<'a> Model for Heard<'a> {
     ghost use Rattle.std.specs.Prelude.{◌≡◌};
-    ghost use Rattle.aprs_log.specs.Reception.{Heard as Received};
+    ghost use Rattle.aprs_log.specs.Reception.{Received};
     ghost use Rattle.aprs_report.specs.Reading.{view as value_of};
     ghost use Rattle.aprs_laws.specs.Key.{key_of};
     ghost use Rattle.aprs_book.specs.Reports.{report_of};

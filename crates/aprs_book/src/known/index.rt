@@ -31,11 +31,11 @@ impl<A: Allocator> Drop for Index<A> {
 }
 
 impl<A: Allocator> Model for Index<A> {
-    ghost use Rattle.aprs_book.specs.Known.{Entries, plain};
+    ghost use Rattle.aprs_book.specs.Known.{Entries, plain_entries};
 
     ghost Value = { Entries };
 
-    ghost view = { λ k. plain (λ key. key.items) k.map.entries };
+    ghost view = { λ k. plain_entries (λ key. key.items) k.map.entries };
 }
 
 impl<A: Allocator + Copy> Index<A> {
@@ -51,7 +51,7 @@ impl<A: Allocator + Copy> Index<A> {
 
     /// Makes an empty entry at these bytes, unless there is an entry: then it takes no memory.
     /// What is known stays as it was, also after `Memory`.
-    pub(crate) fn place(&mut self, bytes: &[u8]) -> Result<(), Memory>
+    pub(crate) fn reserve(&mut self, bytes: &[u8]) -> Result<(), Memory>
         ensures same { (q : List ℕ) → Spec.known_at q self.new ≡ Spec.known_at q self.old }
         ensures made { OnOk result (Spec.HasEntry bytes.now self.new) }
         ensures there { Spec.HasEntry bytes.now self.old → IsOk result }
@@ -95,7 +95,7 @@ impl<A: Allocator + Copy> Index<A> {
             keep(known, x);
             return Ok(());
         }
-        self.place(bytes)?;
+        self.reserve(bytes)?;
         self.note(bytes, x);
         Ok(())
     }
@@ -113,7 +113,7 @@ impl<A: Allocator + Copy> Index<A> {
     /// The entries, ascending by their bytes, empty ones too. Takes no memory, nor does walking
     /// over them.
     pub(crate) fn iter(&self) -> Iter<'_, Vec<u8, A>, Option<Reception>>
-        ensures entries { Spec.plain (λ key. key.items) result ≡ self.now }
+        ensures entries { Spec.plain_entries (λ key. key.items) result ≡ self.now }
         ensures ascending { Ordered Spec.IsEntryBefore self.now }
     {
         self.map.iter()

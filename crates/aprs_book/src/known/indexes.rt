@@ -114,16 +114,16 @@ impl<A: Allocator + Copy> Indexes<A> {
     /// Makes an empty entry for this subject in its index, unless there is an entry: then it takes
     /// no memory. For `Nothing` no entry is made. What is known stays as it was, also after
     /// `Memory`.
-    pub(crate) fn place(&mut self, subject: &Subject<'_>) -> Result<(), Memory>
+    pub(crate) fn reserve(&mut self, subject: &Subject<'_>) -> Result<(), Memory>
         ensures same { Spec.SameKnown self.old self.new }
         ensures made { OnOk result (Spec.HaveEntries subject.now self.new) }
         ensures there { Spec.HaveEntries subject.now self.old → IsOk result }
     {
         match subject {
-            Subject::Position(call) => self.positions.place(call.as_slice()),
-            Subject::Status(call) => self.statuses.place(call.as_slice()),
-            Subject::Object(name) => self.objects.place(name),
-            Subject::Item(name) => self.items.place(name),
+            Subject::Position(call) => self.positions.reserve(call.as_slice()),
+            Subject::Status(call) => self.statuses.reserve(call.as_slice()),
+            Subject::Object(name) => self.objects.reserve(name),
+            Subject::Item(name) => self.items.reserve(name),
             Subject::Nothing => Ok(()),
         }
     }

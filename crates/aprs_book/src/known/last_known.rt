@@ -58,7 +58,7 @@ impl<A: Allocator + Copy> Book<A> {
     /// there is none. No index has it: it looks at each row of the book. Takes no memory.
     pub fn last_heard(&self, station: &Callsign) -> Option<Heard<'_>>
         ensures { IsLastKnown (millis_of self.now.gap) self.now.rows
-            (Spec.is_from station.now) result }
+            (Spec.has_source station.now) result }
     {
         heard_of(greatest_from(self.walk(), station))
     }
@@ -71,7 +71,7 @@ fn greatest_from<'a, A: Allocator + Copy>(
     station: &Callsign,
 ) -> Option<&'a Reception>
     ensures { option_copied result
-        ≡ known_of (Spec.is_from station.now) None (map greatest_of rows.entry) }
+        ≡ known_of (Spec.has_source station.now) None (map greatest_of rows.entry) }
 {
     let mut known = None;
     for row in rows {
@@ -89,7 +89,7 @@ fn known_with<'a>(
     x: &'a Reception,
 ) -> Option<&'a Reception>
     ensures { option_copied result
-        ≡ known_after (Spec.is_from station.now) (option_copied known.entry) x.now }
+        ≡ known_after (Spec.has_source station.now) (option_copied known.entry) x.now }
 {
     if !x.frame().source().cmp(station).is_eq() {
         return known;

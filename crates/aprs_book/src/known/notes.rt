@@ -13,7 +13,7 @@ use std::alloc::{Allocator, Global};
 
 /// What some rows, one after another, all report on, and the greatest of their receptions.
 #[derive(Drop)]
-pub(crate) struct Run<'t> {
+pub(crate) struct Streak<'t> {
     subject: Subject<'t>,
     greatest: ReceptionView<'t>,
 }
@@ -23,7 +23,7 @@ pub(crate) struct Run<'t> {
 /// the row before them does.
 pub(crate) struct Notes<'t, A: Allocator = Global> {
     indexes: Indexes<A>,
-    last: Option<Run<'t>>,
+    last: Option<Streak<'t>>,
 }
 
 impl<'t, A: Allocator> Drop for Notes<'t, A> {
@@ -59,19 +59,19 @@ impl<'t, A: Allocator + Copy> Notes<'t, A> {
         match self.last.take() {
             Some(run) if run.subject.is_same(&subject) => {
                 let greatest = greater(Some(&run.greatest), x);
-                self.last = Some(Run { subject, greatest });
+                self.last = Some(Streak { subject, greatest });
                 Ok(())
             }
             Some(run) => {
                 self.indexes.take(&run.subject, &run.greatest)?;
-                self.last = Some(Run {
+                self.last = Some(Streak {
                     subject,
                     greatest: x,
                 });
                 Ok(())
             }
             None => {
-                self.last = Some(Run {
+                self.last = Some(Streak {
                     subject,
                     greatest: x,
                 });
@@ -93,7 +93,10 @@ impl<'t, A: Allocator + Copy> Notes<'t, A> {
 
 /// Puts into the indexes what the last rows report; `None` changes nothing. After `Memory` the
 /// same is known as before.
-fn put<A: Allocator + Copy>(indexes: &mut Indexes<A>, last: Option<Run<'_>>) -> Result<(), Memory>
+fn put<A: Allocator + Copy>(
+    indexes: &mut Indexes<A>,
+    last: Option<Streak<'_>>,
+) -> Result<(), Memory>
     ensures put { OnOk result ((topic : Spec.Topic) (bytes : List ℕ)
         → Spec.known_at bytes (Spec.index_of topic indexes.new)
         ≡ known_with last.entry topic bytes indexes.old) }

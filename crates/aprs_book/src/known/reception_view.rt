@@ -28,7 +28,7 @@ impl<'a> Model for ReceptionView<'a> {
     ghost use Rattle.aprs_ax25.specs.Frame.{FrameOf};
     ghost use Rattle.aprs_ax25.specs.FrameFault.{parts_of};
     ghost use Rattle.aprs_log.specs.Receiver.{IsName};
-    ghost use Rattle.aprs_log.specs.Reception.{Heard as Received};
+    ghost use Rattle.aprs_log.specs.Reception.{Received};
 
     ghost Value = { Received };
 

@@ -116,7 +116,7 @@ fn answer_fields(info: &[u8]) -> Option<(&[u8], &[u8])>
 /// Whether information begins with the data type of messages and their answers (APRS Protocol
 /// Reference 1.0.1, chapter 14). Most doesn't, and needn't be read.
 pub(crate) fn is_addressed(info: &[u8]) -> bool
-    ensures { result ≡ Spec.is_addressed info.now }
+    ensures { result ≡ Spec.begins_with_colon info.now }
 {
     matches!(info, [b':', ..])
 }

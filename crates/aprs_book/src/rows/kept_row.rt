@@ -7,7 +7,7 @@ ghost use Rattle.aprs_laws.specs.Lists.{◌∈◌, Ordered};
 ghost use Rattle.aprs_laws.specs.Order.{IsBelow};
 ghost use Rattle.aprs_laws.specs.Row.{row_cmp};
 ghost use Rattle.aprs_laws.specs.JoinRow.{single, combine};
-ghost use Rattle.aprs_laws.specs.Inserted.{side, grow_row};
+ghost use Rattle.aprs_laws.specs.Inserted.{compare_near_to, grow_row};
 ghost use Rattle.aprs_rows.specs.Refusal.{is_too_near};
 
 use crate::rows::millis::Millis;
@@ -105,8 +105,8 @@ impl<A: Allocator + Copy> KeptRow<A> {
     /// Where this row lies, seen from a reception: by key first; of one key it is `Less` where it
     /// ends more than the gap before the reception, `Greater` where it begins more than the gap
     /// after the reception, and `Equal` where they are near.
-    pub(crate) fn side(&self, gap: Millis, x: &Reception) -> Ordering
-        ensures { result ≡ side gap self.now x.now }
+    pub(crate) fn compare_near_to(&self, gap: Millis, x: &Reception) -> Ordering
+        ensures { result ≡ compare_near_to gap self.now x.now }
     {
         let greatest = self.greatest();
         match order_of_keys(greatest.frame(), x.frame()) {

@@ -2,7 +2,7 @@
 ghost use Rattle.std.specs.Prelude.{◌≡◌, ◌+◌, [], ◌∷◌, ◌++◌, length, true, IsOk, IfOk, OnOk, OnErr};
 ghost use Rattle.aprs_book.specs.Keyed.{LastKeyIsUpTo, IsEndOf};
 ghost use Rattle.aprs_rows.specs.Refusal.{refusal};
-ghost use Rattle.aprs_laws.specs.Inserted.{insert_heard, fits_in_place};
+ghost use Rattle.aprs_laws.specs.Inserted.{insert_heard, has_place_for};
 ghost use Rattle.aprs_laws.specs.Sound.{Sound};
 
 use crate::rows::kept_row::KeptRow;
@@ -12,16 +12,16 @@ use crate::rows::slot::{grow_by_one, put};
 use crate::rows::walk::Walk;
 use crate::{Memory, RowCause, RowParts};
 use aprs_log::Reception;
-use aprs_rows::Head;
+use aprs_rows::KeyPrefix;
 use std::alloc::{Allocator, Global};
 use std::collections::{BTreeMap, VecDeque};
 use std::marker::Model;
 
 /// The rows of a book in a map: under each head (the beginning of a key, as numbers) lie the rows
-/// whose keys have that head, in order. No head is without rows. Heads lie in the map itself, so
+/// whose keys have that head, in order. No head is without rows. KeyPrefixes lie in the map itself, so
 /// that most keys are told apart without a look at their frames.
 pub(crate) struct KeyedRows<A: Allocator = Global> {
-    map: BTreeMap<Head, VecDeque<KeptRow<A>, A>, A>,
+    map: BTreeMap<KeyPrefix, VecDeque<KeptRow<A>, A>, A>,
     /// The number of the rows of all keys.
     count: usize,
     alloc: A,
@@ -41,14 +41,14 @@ impl<A: Allocator> Drop for KeyedRows<A> {
 impl<A: Allocator> Model for KeyedRows<A> {
     ghost use Rattle.std.specs.Prelude.{◌≡◌, List, length};
     ghost use Rattle.aprs_laws.specs.Row.{Row as RowValue};
-    ghost use Rattle.aprs_book.specs.Keyed.{rows_of, AreKept};
+    ghost use Rattle.aprs_book.specs.Keyed.{rows_by_key, AreKept};
 
     ghost Value = { List RowValue };
 
-    ghost view = { λ b. rows_of (λ v. v.items) b.map.entries };
+    ghost view = { λ b. rows_by_key (λ v. v.items) b.map.entries };
 
     ghost invariant = { λ b. AreKept (λ v. v.items) b.map.entries
-        × (b.count ≡ length (rows_of (λ v. v.items) b.map.entries)) };
+        × (b.count ≡ length (rows_by_key (λ v. v.items) b.map.entries)) };
 }
 
 impl<A: Allocator + Copy> KeyedRows<A> {
@@ -99,7 +99,7 @@ impl<A: Allocator + Copy> KeyedRows<A> {
         ensures added { OnOk result (self.new ≡ self.old ++ row ∷ []) }
         ensures unchanged { OnErr result (self.new ≡ self.old) }
     {
-        let head = Head::of_frame(row.greatest().frame());
+        let head = KeyPrefix::of_frame(row.greatest().frame());
         let mut count = self.count;
         if let Some(rows) = self.map.get_mut(&head) {
             let pushed = push_one(rows, &mut count, row);
@@ -126,13 +126,13 @@ impl<A: Allocator + Copy> KeyedRows<A> {
     /// Adds a reception to sound rows: it becomes a new row in its place, or a near row grows, or
     /// two near rows become one. Takes no memory where exactly one row is near and lists its
     /// receiver. After `Memory` the rows are as before.
-    pub(crate) fn take(&mut self, gap: Millis, x: &Reception) -> Result<(), Memory>
+    pub(crate) fn insert(&mut self, gap: Millis, x: &Reception) -> Result<(), Memory>
         requires { Sound gap self.old }
         ensures inserted { OnOk result (self.new ≡ insert_heard gap x.now self.old) }
-        ensures in_place { fits_in_place gap x.now self.old ≡ true → IsOk result }
+        ensures in_place { has_place_for gap x.now self.old ≡ true → IsOk result }
         ensures unchanged { OnErr result (self.new ≡ self.old) }
     {
-        let head = Head::of_frame(x.frame());
+        let head = KeyPrefix::of_frame(x.frame());
         let mut count = self.count;
         if let Some(rows) = self.map.get_mut(&head) {
             let taken = put(gap, rows, &mut count, x);

@@ -31,11 +31,11 @@ pub struct Row<'a> {
 
 impl<'a> Model for Row<'a> {
     ghost use Rattle.aprs_laws.specs.Row.{Row as RowValue};
-    ghost use Rattle.aprs_book.specs.Shown.{row_of, IsKeyed};
+    ghost use Rattle.aprs_book.specs.Shown.{row_with, IsKeyed};
 
     ghost Value = { RowValue };
 
-    ghost view = { λ r. row_of r.first r.last r.receivers.now r.receiver.now r.frame.now };
+    ghost view = { λ r. row_with r.first r.last r.receivers.now r.receiver.now r.frame.now };
 
     ghost invariant = { λ r. IsKeyed r.source r.destination r.info.now r.frame.now };
 }

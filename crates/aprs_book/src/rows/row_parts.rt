@@ -24,11 +24,11 @@ pub struct RowParts<A: Allocator = Global> {
 
 impl<A: Allocator> Model for RowParts<A> {
     ghost use Rattle.aprs_laws.specs.Row.{Row as RowValue};
-    ghost use Rattle.aprs_book.specs.Shown.{row_of};
+    ghost use Rattle.aprs_book.specs.Shown.{row_with};
 
     ghost Value = { RowValue };
 
-    ghost view = { λ r. row_of r.first r.last r.receivers.items r.receiver r.frame };
+    ghost view = { λ r. row_with r.first r.last r.receivers.items r.receiver r.frame };
 }
 
 impl<A: Allocator> RowParts<A> {

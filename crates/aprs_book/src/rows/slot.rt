@@ -1,7 +1,7 @@
 //! Where a reception goes in the rows.
 ghost use Rattle.std.specs.Prelude.{◌≡◌, ◌≤◌, ◌<◌, ◌+◌, ◌/◌, true, length, remove, IsOk, OnOk, OnErr};
 ghost use Rattle.std.specs.VecDeque.{deque_len, deque_capacity};
-ghost use Rattle.aprs_laws.specs.Inserted.{insert_heard, fits_in_place};
+ghost use Rattle.aprs_laws.specs.Inserted.{insert_heard, has_place_for};
 ghost use Rattle.aprs_laws.specs.Sound.{Sound};
 ghost use Rattle.aprs_book.specs.Slots.{IsSlot};
 
@@ -33,11 +33,11 @@ pub(crate) fn find_slot<A: Allocator + Copy>(
     requires { Sound gap rows.now.items }
     ensures { IsSlot gap x.now rows.now.items result }
 {
-    let i = rows.partition_point(|row| row.side(gap, x).is_lt());
-    if i == rows.len() || rows[i].side(gap, x).is_gt() {
+    let i = rows.partition_point(|row| row.compare_near_to(gap, x).is_lt());
+    if i == rows.len() || rows[i].compare_near_to(gap, x).is_gt() {
         return Slot::New(i);
     }
-    if i + 1 == rows.len() || rows[i + 1].side(gap, x).is_gt() {
+    if i + 1 == rows.len() || rows[i + 1].compare_near_to(gap, x).is_gt() {
         return Slot::One(i);
     }
     Slot::Two(i)
@@ -58,7 +58,7 @@ pub(crate) fn put<A: Allocator + Copy>(
     ensures inserted { OnOk result (rows.new.items ≡ insert_heard gap x.now rows.old.items) }
     ensures counted { count.new + length rows.old.items ≡ count.old + length rows.new.items }
 
-    ensures in_place { fits_in_place gap x.now rows.old.items ≡ true → IsOk result }
+    ensures in_place { has_place_for gap x.now rows.old.items ≡ true → IsOk result }
     ensures unchanged { OnErr result (rows.new.items ≡ rows.old.items) }
 {
     match find_slot(gap, rows, x) {

@@ -4,7 +4,7 @@ ghost use Rattle.std.specs.List.{flat_map};
 ghost use Rattle.std.specs.Iterator.{YieldsFirstRef, item_count};
 
 use crate::rows::kept_row::KeptRow;
-use aprs_rows::Head;
+use aprs_rows::KeyPrefix;
 use std::alloc::{Allocator, Global};
 use std::collections::VecDeque;
 use std::collections::btree_map::Values;
@@ -16,7 +16,7 @@ use std::marker::Model;
 pub(crate) struct Walk<'a, A: Allocator = Global> {
     rows: &'a [KeptRow<A>],
     back: &'a [KeptRow<A>],
-    others: Values<'a, Head, VecDeque<KeptRow<A>, A>>,
+    others: Values<'a, KeyPrefix, VecDeque<KeptRow<A>, A>>,
 }
 
 impl<'a, A: Allocator> Model for Walk<'a, A> {
@@ -31,7 +31,7 @@ impl<'a, A: Allocator> Model for Walk<'a, A> {
 
 impl<'a, A: Allocator> Walk<'a, A> {
     /// A walk over the rows of each head, one after another.
-    pub(crate) fn of(others: Values<'a, Head, VecDeque<KeptRow<A>, A>>) -> Walk<'a, A>
+    pub(crate) fn of(others: Values<'a, KeyPrefix, VecDeque<KeptRow<A>, A>>) -> Walk<'a, A>
         ensures { result ≡ flat_map (λ v. v.items) others.entry }
     {
         Walk {

@@ -5,7 +5,7 @@ ghost use Rattle.aprs_laws.specs.BookValue.{Holds, IsSoundBook, HaveOneGap, AreJ
 ghost use Rattle.aprs_laws.specs.JoinRow.{plain_book};
 ghost use Rattle.aprs_laws.specs.Widening.{widened_rows};
 ghost use Rattle.aprs_laws.specs.Scaling.{scaled_rows, scaled_heard};
-ghost use Rattle.aprs_laws.specs.Examples.{half_minute, rx1, rx2, by_rx1, row_of, row_at, near_pair, near_row, far_pair, book_under, early_row, late_row};
+ghost use Rattle.aprs_laws.specs.Examples.{half_minute, rx1, rx2, by_rx1, example_row, row_at, near_pair, near_row, far_pair, book_under, early_row, late_row};
 
 /// Gaps are 1 to 3,600 seconds, and the standard gap is 30,000 milliseconds.
 pub fn gaps_are_of_seconds()
@@ -32,13 +32,13 @@ pub fn books_have_gaps()
     ensures misses_joined { AreJoined (book_under 30) (book_under 31) (book_under 30) → ⊥ }
 
     ensures widened { widened_to 31 (book_under 30)
-        ≡ record { gap = 31; rows = row_of 0 (rx1 ∷ rx2 ∷ []) (by_rx1 30001) ∷ [] } }
+        ≡ record { gap = 31; rows = example_row 0 (rx1 ∷ rx2 ∷ []) (by_rx1 30001) ∷ [] } }
 {}
 
 /// Two rows 30,001 milliseconds apart are one under a gap of 30,001, and stay two under their own.
 pub fn wider_gaps_join_rows()
     ensures widened { widened_rows 30001 (early_row ∷ late_row ∷ [])
-        ≡ row_of 0 (rx1 ∷ rx2 ∷ []) (by_rx1 30001) ∷ [] }
+        ≡ example_row 0 (rx1 ∷ rx2 ∷ []) (by_rx1 30001) ∷ [] }
     ensures apart { widened_rows 30000 (early_row ∷ late_row ∷ [])
         ≡ early_row ∷ late_row ∷ [] }
 {}
@@ -47,7 +47,7 @@ pub fn wider_gaps_join_rows()
 /// microseconds. Under the gap in milliseconds it would be two.
 pub fn units_scale_gaps_too()
     ensures scaled { scaled_rows 1000 (near_row ∷ [])
-        ≡ row_of 0 (rx1 ∷ rx2 ∷ []) (by_rx1 30000000) ∷ [] }
+        ≡ example_row 0 (rx1 ∷ rx2 ∷ []) (by_rx1 30000000) ∷ [] }
     ensures plain { plain_book 30000000 (map (scaled_heard 1000) near_pair)
         ≡ scaled_rows 1000 (near_row ∷ []) }
     ensures two { plain_book 30000 (map (scaled_heard 1000) near_pair)

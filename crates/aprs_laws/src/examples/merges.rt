@@ -3,7 +3,7 @@ ghost use Rattle.std.specs.Prelude.{◌≡◌, [], ◌∷◌};
 ghost use Rattle.aprs_laws.specs.Lists.{◌∈◌};
 ghost use Rattle.aprs_laws.specs.Taken.{sets_after, StepsFit};
 ghost use Rattle.aprs_laws.specs.StepLaws.{rows_after_steps};
-ghost use Rattle.aprs_laws.specs.Examples.{half_minute, hi_frame, rx1, rx2, heard, by_rx1, row_of, take_merge_take, back_and_forth};
+ghost use Rattle.aprs_laws.specs.Examples.{half_minute, hi_frame, rx1, rx2, reception_at, by_rx1, example_row, take_merge_take, back_and_forth};
 
 /// A merge takes what the other place has then, and not what comes there later. Steps fit a number
 /// of places if each place that they name is below it. Two places that take from each other have
@@ -16,7 +16,7 @@ pub fn merges_take_what_is_there()
     ensures misses_place { StepsFit 1 back_and_forth → ⊥ }
 
     ensures first_book { rows_after_steps half_minute back_and_forth (λ place. []) 0
-        ≡ row_of 0 (rx1 ∷ rx2 ∷ []) (heard 20 rx2 hi_frame) ∷ [] }
+        ≡ example_row 0 (rx1 ∷ rx2 ∷ []) (reception_at 20 rx2 hi_frame) ∷ [] }
     ensures second_book { rows_after_steps half_minute back_and_forth (λ place. []) 1
-        ≡ row_of 0 (rx1 ∷ rx2 ∷ []) (heard 20 rx2 hi_frame) ∷ [] }
+        ≡ example_row 0 (rx1 ∷ rx2 ∷ []) (reception_at 20 rx2 hi_frame) ∷ [] }
 {}

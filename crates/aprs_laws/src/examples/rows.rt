@@ -3,7 +3,7 @@ ghost use Rattle.std.specs.Prelude.{◌≡◌, [], ◌∷◌};
 ghost use Rattle.aprs_laws.specs.Row.{IsOf, RowOf};
 ghost use Rattle.aprs_laws.specs.Book.{BookOf};
 ghost use Rattle.aprs_laws.specs.JoinRow.{plain_book};
-ghost use Rattle.aprs_laws.specs.Examples.{half_minute, hi_frame, hi_after_digipeater, hi_as_response, rx1, rx2, heard, by_rx1, early, row_of, row_at, row_to, near_pair, near_row, far_pair, early_row, late_row, tied_pair, tied_row};
+ghost use Rattle.aprs_laws.specs.Examples.{half_minute, hi_frame, hi_after_digipeater, hi_as_response, rx1, rx2, reception_at, by_rx1, early, example_row, row_at, row_to, near_pair, near_row, far_pair, early_row, late_row, tied_pair, tied_row};
 
 /// A row has its transmission's greatest reception, and all of its receivers. A reception after its
 /// last moment is not of it.
@@ -13,8 +13,8 @@ pub fn rows_are_whole()
 
     ensures row { RowOf half_minute tied_pair tied_row }
     ensures misses_greatest { RowOf half_minute tied_pair
-        (row_of 0 (rx1 ∷ rx2 ∷ []) (by_rx1 0)) → ⊥ }
-    ensures misses_receiver { RowOf half_minute tied_pair (row_of 0 (rx2 ∷ []) early) → ⊥ }
+        (example_row 0 (rx1 ∷ rx2 ∷ []) (by_rx1 0)) → ⊥ }
+    ensures misses_receiver { RowOf half_minute tied_pair (example_row 0 (rx2 ∷ []) early) → ⊥ }
 {}
 
 /// A book has all rows of its set, in order.
@@ -45,9 +45,9 @@ pub fn gaps_decide_rows()
 /// Of receptions at one moment that of the greater receiver is greatest, and of one receiver's that
 /// with the greater frame, in whatever order they come.
 pub fn ties_go_by_receiver_then_frame()
-    ensures frame { plain_book half_minute (heard 0 rx1 hi_after_digipeater ∷ by_rx1 0 ∷ [])
+    ensures frame { plain_book half_minute (reception_at 0 rx1 hi_after_digipeater ∷ by_rx1 0 ∷ [])
         ≡ row_at 0 ∷ [] }
-    ensures frame_turned { plain_book half_minute (by_rx1 0 ∷ heard 0 rx1 hi_after_digipeater ∷ [])
+    ensures frame_turned { plain_book half_minute (by_rx1 0 ∷ reception_at 0 rx1 hi_after_digipeater ∷ [])
         ≡ row_at 0 ∷ [] }
     ensures receiver { plain_book half_minute tied_pair ≡ tied_row ∷ [] }
 {}
@@ -55,6 +55,6 @@ pub fn ties_go_by_receiver_then_frame()
 /// Receivers stand in ascending order, each once.
 pub fn receivers_ascend()
     ensures { plain_book half_minute
-        (heard 10 rx2 hi_frame ∷ heard 5 rx1 hi_as_response ∷ early ∷ [])
-        ≡ row_of 0 (rx1 ∷ rx2 ∷ []) (heard 10 rx2 hi_frame) ∷ [] }
+        (reception_at 10 rx2 hi_frame ∷ reception_at 5 rx1 hi_as_response ∷ early ∷ [])
+        ≡ example_row 0 (rx1 ∷ rx2 ∷ []) (reception_at 10 rx2 hi_frame) ∷ [] }
 {}

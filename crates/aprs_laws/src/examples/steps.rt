@@ -4,7 +4,7 @@ ghost use Rattle.aprs_laws.specs.JoinRow.{single, IsNear, coalesced_rows};
 ghost use Rattle.aprs_laws.specs.Coalescing.{AreInOrder, StandFor, append_or_join};
 ghost use Rattle.aprs_laws.specs.Together.{book_together};
 ghost use Rattle.aprs_laws.specs.Inserted.{insert_heard, FitsInPlace};
-ghost use Rattle.aprs_laws.specs.Examples.{half_minute, hi_frame, rx2, heard, by_rx1, early, row_at, row_to, early_row, late_row, tied_row, short_row};
+ghost use Rattle.aprs_laws.specs.Examples.{half_minute, hi_frame, rx2, reception_at, by_rx1, early, row_at, row_to, early_row, late_row, tied_row, short_row};
 
 /// A reception that code inserts into rows becomes a row of its own where it is far from all, makes
 /// a near row longer, makes two near rows one, or, inside a row that has its receiver, changes
@@ -26,10 +26,10 @@ pub fn rows_are_near_up_to_the_gap()
     ensures near { IsNear half_minute early_row (single (by_rx1 30000)) }
     ensures misses_far { IsNear half_minute early_row (single (by_rx1 30001)) → ⊥ }
 
-    ensures fits { FitsInPlace half_minute (early_row ∷ late_row ∷ []) (heard 0 rx2 hi_frame) }
+    ensures fits { FitsInPlace half_minute (early_row ∷ late_row ∷ []) (reception_at 0 rx2 hi_frame) }
     ensures misses_receiver { FitsInPlace half_minute (early_row ∷ []) (by_rx1 10) → ⊥ }
     ensures misses_two { FitsInPlace half_minute (early_row ∷ late_row ∷ [])
-        (heard 10 rx2 hi_frame) → ⊥ }
+        (reception_at 10 rx2 hi_frame) → ⊥ }
 {}
 
 /// Of rows in order each joins the last so far, where it is near to that, or comes after it. Rows

@@ -1,7 +1,7 @@
 //! The frame in the bytes that a line holds.
 ghost use Rattle.std.specs.Prelude.{◌≡◌, Err, IfSome, MatchResult};
 ghost use Rattle.aprs_kiss.specs.Stream.{is_nonempty, rest_of};
-ghost use Rattle.aprs_ax25.specs.FrameFault.{frame_of};
+ghost use Rattle.aprs_ax25.specs.FrameFault.{frame_or_fault};
 ghost use Rattle.aprs_log.specs.FrameEnds.{has_other};
 ghost use Rattle.aprs_log.specs.Line.{frame_in, frame_or_reason};
 
@@ -20,7 +20,7 @@ const MAX_ENDED: usize = 1024;
 /// frame lies in it.
 pub fn data_in<'r>(reader: &'r mut KissReader, bytes: &'r [u8]) -> Result<&'r [u8], Reason>
     ensures { MatchResult result
-        (λ frame. frame_in bytes.now ≡ frame_or_reason (frame_of frame.now))
+        (λ frame. frame_in bytes.now ≡ frame_or_reason (frame_or_fault frame.now))
         (λ reason. frame_in bytes.now ≡ Err reason) }
 {
     match plain_frame_in(bytes) {
@@ -34,7 +34,7 @@ pub fn data_in<'r>(reader: &'r mut KissReader, bytes: &'r [u8]) -> Result<&'r [u
 /// `None` decides nothing: there may be a frame all the same.
 fn plain_frame_in(bytes: &[u8]) -> Option<&[u8]>
     ensures { IfSome result
-        (λ frame. frame_in bytes.now ≡ frame_or_reason (frame_of frame.now)) }
+        (λ frame. frame_in bytes.now ≡ frame_or_reason (frame_or_fault frame.now)) }
 {
     let [first, kind, ended @ ..] = bytes else {
         return None;
@@ -57,7 +57,7 @@ fn plain_frame_in(bytes: &[u8]) -> Option<&[u8]>
 #[inline(never)]
 fn fed_frame_in<'r>(reader: &'r mut KissReader, bytes: &[u8]) -> Result<&'r [u8], Reason>
     ensures { MatchResult result
-        (λ frame. frame_in bytes.now ≡ frame_or_reason (frame_of frame.now))
+        (λ frame. frame_in bytes.now ≡ frame_or_reason (frame_or_fault frame.now))
         (λ reason. frame_in bytes.now ≡ Err reason) }
 {
     if is_unended(bytes) {

@@ -3,7 +3,8 @@ ghost use Rattle.std.specs.Prelude.{◌≡◌, ◌≤◌, ◌<◌, pos, MatchOpt
 ghost use Rattle.jiff_core.specs.Calendar.{days_from_civil};
 ghost use Rattle.aprs_log.specs.CivilMoment.{IsDay};
 
-use jiff_core::civil::Date;
+use jiff::ToSpan;
+use jiff::civil::Date;
 
 /// The days from -9999-01-01, at which the calendar's own count begins, to 1970-01-01.
 const DAYS_BEFORE_1970: u32 = 4_371_587;
@@ -21,7 +22,7 @@ pub fn day_number(year: u16, month: u8, day: u8) -> Option<u32>
         (λ n. IsDay year month day × (pos n ≡ days_from_civil (pos year) month day) × (n < 47482)) }
 {
     match Date::new(year as i16, month as i8, day as i8) {
-        Ok(date) => Some(date.days_since_min() - DAYS_BEFORE_1970),
+        Ok(date) => Some(date.to_plain().days_since_min() - DAYS_BEFORE_1970),
         Err(_) => None,
     }
 }
@@ -33,6 +34,7 @@ pub fn date_of(day: u32) -> (u16, u8, u8)
     ensures date { IsDay result.0 result.1 result.2 }
     ensures number { days_from_civil (pos result.0) result.1 result.2 ≡ pos day }
 {
-    let date = Date::from_days_since_min(DAYS_BEFORE_1970 + day);
+    let span = (day as i64).days();
+    let date = Date::constant(1970, 1, 1).saturating_add(span).to_plain();
     (date.year.unsigned_abs(), date.month, date.day)
 }

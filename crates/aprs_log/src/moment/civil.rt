@@ -3,7 +3,7 @@ ghost use Rattle.std.specs.Prelude.{◌≡◌, ◌≤◌, ◌<◌, ◌+◌, ◌*
 ghost use Rattle.aprs_log.specs.CivilMoment.{IsCivil};
 ghost use Rattle.aprs_log.specs.MomentReading as Spec;
 ghost use Rattle.aprs_log.specs.Sizes.{last_second, seconds_size};
-ghost use Rattle.aprs_log.specs.Places.{near_civil, near_digit, near_millis, near_pair};
+ghost use Rattle.aprs_log.specs.Places.{near_civil, near_digit, near_millis, nearest_pair};
 
 use crate::MomentForm;
 use crate::moment::calendar::{date_of, day_number};
@@ -96,7 +96,7 @@ impl CivilTime {
             return None;
         }
         let civil = CivilTime::from_digits(text);
-        let millis = u16::from(near_digit(text[20])) * 100 + u16::from(near_pair(text, 21));
+        let millis = u16::from(near_digit(text[20])) * 100 + u16::from(nearest_pair(text, 21));
         // Written again, it differs where a byte was no digit, or not the right mark.
         if civil.text(millis).as_slice() == text {
             Some((civil, millis))
@@ -112,12 +112,12 @@ impl CivilTime {
         ensures { result ≡ near_civil text.now }
     {
         CivilTime {
-            year: u16::from(near_pair(text, 0)) * 100 + u16::from(near_pair(text, 2)),
-            month: near_pair(text, 5),
-            day: near_pair(text, 8),
-            hour: near_pair(text, 11),
-            minute: near_pair(text, 14),
-            second: near_pair(text, 17),
+            year: u16::from(nearest_pair(text, 0)) * 100 + u16::from(nearest_pair(text, 2)),
+            month: nearest_pair(text, 5),
+            day: nearest_pair(text, 8),
+            hour: nearest_pair(text, 11),
+            minute: nearest_pair(text, 14),
+            second: nearest_pair(text, 17),
         }
     }
 
@@ -228,9 +228,9 @@ fn near_digit(byte: u8) -> u8
 
 /// The number whose two digits stand at `i` and after it. A byte that is no digit counts as 0 or 9,
 /// whichever is nearer.
-fn near_pair(text: &[u8], i: usize) -> u8
+fn nearest_pair(text: &[u8], i: usize) -> u8
     requires { i + 1 < length text.now }
-    ensures value { result ≡ near_pair text.now i }
+    ensures value { result ≡ nearest_pair text.now i }
     ensures bound { result < 100 }
 {
     near_digit(text[i]) * 10 + near_digit(text[i + 1])

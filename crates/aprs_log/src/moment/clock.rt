@@ -138,7 +138,7 @@ fn second_of_text(text: &[u8]) -> Option<u32>
 /// `.999Z`. `None` where it is neither. Requires 1 or 5 bytes.
 fn milli_of_text(text: &[u8]) -> Option<u32>
     requires { (length text.now ≡ 1) ⊎ (length text.now ≡ 5) }
-    ensures { IfSome result (λ n. Spec.FractionText (Spec.form_of_end text.now) n text.now) }
+    ensures { IfSome result (λ n. Spec.IsFractionText (Spec.form_of_end text.now) n text.now) }
 {
     if text.len() == 1 {
         return if text[0] == b'Z' { Some(0) } else { None };

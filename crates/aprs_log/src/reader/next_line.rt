@@ -6,7 +6,7 @@ ghost use Rattle.aprs_log.specs.Line.{line_of};
 ghost use Rattle.aprs_log.specs.Window.{items};
 
 use crate::fault::LineFault;
-use crate::line::scratch::Scratch;
+use crate::line::line_buffers::LineBuffers;
 use crate::line::{Line, read_fields};
 use crate::reader::window::Window;
 use aprs_io::cut_at;
@@ -16,7 +16,7 @@ use aprs_io::cut_at;
 /// window and `found` stay.
 pub fn take_line(
     window: &mut Window,
-    scratch: &mut Scratch,
+    scratch: &mut LineBuffers,
     found: &mut Line,
 ) -> Option<Result<(), LineFault>>
     ensures none { IfNone result ((cut_at 10 (items window.old) ≡ None)

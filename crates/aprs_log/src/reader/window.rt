@@ -3,7 +3,7 @@ ghost use Rattle.std.specs.Prelude.{◌≡◌, ◌<◌, ◌≤◌, ℕ, List, �
 ghost use Rattle.aprs_log.specs.Sizes.{most_line};
 ghost use Rattle.aprs_log.specs.declared.reader.window.TheConstants.{WINDOW_SIZE};
 
-use aprs_io::{Counted, Ending, read_some};
+use aprs_io::{Counted, InputEnd, read_some};
 use std::io::Read;
 
 /// The bytes of room that a window has: two lines of the greatest length.
@@ -59,7 +59,11 @@ impl Window {
     /// returns how many came, at least one. Otherwise returns how the input ends here: with
     /// `TooLong` where `left` is 0 and a further byte came, which is dropped. Requires that the
     /// window holds no more than a longest line, 8,192 bytes, so that there is room.
-    pub fn read_more<R: Read>(&mut self, source: &mut Counted<R>, left: u64) -> Result<u64, Ending>
+    pub fn read_more<R: Read>(
+        &mut self,
+        source: &mut Counted<R>,
+        left: u64,
+    ) -> Result<u64, InputEnd>
         requires { length (items self.old) ≤ most_line }
 
         ensures some { IfOk result (λ n. (0 < n) × (n ≤ left)) }

@@ -109,7 +109,7 @@ fn addressee_and_part(bytes: &[u8]) -> Option<(&[u8], &[u8])>
 /// first, `:`. `None` where they don't begin with an addressee in nine bytes and a colon.
 #[tactic(auto, unfolding(crate::specs::Reader::message_of))]
 pub fn message(bytes: &[u8]) -> Option<Report<'_>>
-    ensures { option_map view result ≡ Spec.message_of bytes.now }
+    ensures { option_map view result ≡ Spec.message_with bytes.now }
 {
     let (addressee, part) = addressee_and_part(bytes)?;
     Some(part_to(addressee, part))

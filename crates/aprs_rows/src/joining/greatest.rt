@@ -16,9 +16,9 @@ pub struct Greatest {
 }
 
 impl Model for Greatest {
-    ghost use Rattle.aprs_log.specs.Reception.{Heard};
+    ghost use Rattle.aprs_log.specs.Reception.{Received};
 
-    ghost Value = { Heard };
+    ghost Value = { Received };
 
     ghost view = { λ g. g.heard };
 }

@@ -1,9 +1,9 @@
 //! Names of receivers as a book keeps them.
 ghost use Rattle.std.specs.Prelude.{◌≡◌, ◌≤◌, length, insert, OnOk, OnErr};
-ghost use Rattle.aprs_rows.specs.KeptNames.{names_in};
+ghost use Rattle.aprs_rows.specs.KeptNames.{names_kept};
 
 use crate::Memory;
-use crate::room::reserve_one;
+use crate::growth::reserve_one;
 use aprs_log::Receiver;
 use std::alloc::Allocator;
 use std::slice;
@@ -18,7 +18,7 @@ pub(crate) enum KeptNames<A: Allocator> {
 impl<A: Allocator + Copy> KeptNames<A> {
     /// Keeps these names: one alone without the list, any others in their list.
     pub(crate) fn of(names: Vec<Receiver, A>) -> KeptNames<A>
-        ensures { names_in result ≡ names.items }
+        ensures { names_kept result ≡ names.items }
     {
         match names.as_slice() {
             [name] => KeptNames::One(*names.allocator(), name.copy()),
@@ -36,7 +36,7 @@ impl<A: Allocator + Copy> KeptNames<A> {
 
     /// The names as a slice, in the order in which they are kept.
     pub(crate) fn as_slice(&self) -> &[Receiver]
-        ensures { result.now ≡ names_in self.now }
+        ensures { result.now ≡ names_kept self.now }
     {
         match self {
             KeptNames::One(_, name) => slice::from_ref(name),
@@ -47,9 +47,9 @@ impl<A: Allocator + Copy> KeptNames<A> {
     /// Puts `name` before the name at index `i`, or after all where `i` is their number. After
     /// `Memory` the names are as before.
     pub(crate) fn insert(&mut self, i: usize, name: &Receiver) -> Result<(), Memory>
-        requires { i ≤ length (names_in self.old) }
-        ensures inserted { OnOk result (names_in self.new ≡ insert (names_in self.old) i name.now) }
-        ensures unchanged { OnErr result (names_in self.new ≡ names_in self.old) }
+        requires { i ≤ length (names_kept self.old) }
+        ensures inserted { OnOk result (names_kept self.new ≡ insert (names_kept self.old) i name.now) }
+        ensures unchanged { OnErr result (names_kept self.new ≡ names_kept self.old) }
     {
         match self {
             KeptNames::One(alloc, first) => {

@@ -6,7 +6,7 @@ ghost use Rattle.aprs_laws.specs.Order.{IsBelow};
 ghost use Rattle.aprs_laws.specs.JoinRow.{add, union};
 ghost use Rattle.aprs_laws.specs.Merged.{ascending_union};
 ghost use Rattle.aprs_laws.specs.Joining.{AreAny, IsUnited};
-ghost use Rattle.aprs_rows.specs.KeptNames.{names_in};
+ghost use Rattle.aprs_rows.specs.KeptNames.{names_kept};
 ghost use Rattle.aprs_laws.proofs.Orders.{bytes_total, bytes_exact};
 ghost use Rattle.aprs_laws.proofs.Joins.{receivers_laws};
 
@@ -34,9 +34,9 @@ impl<A: Allocator> Drop for Receivers<A> {
 impl<A: Allocator> Model for Receivers<A> {
     ghost Value = { List (List ℕ) };
 
-    ghost view = { λ r. names_in r.names };
+    ghost view = { λ r. names_kept r.names };
 
-    ghost invariant = { λ r. Ordered (IsBelow bytes_cmp) (names_in r.names) };
+    ghost invariant = { λ r. Ordered (IsBelow bytes_cmp) (names_kept r.names) };
 }
 
 impl<A: Allocator + Copy> Receivers<A> {

@@ -43,7 +43,7 @@ impl<'a> RowView<'a> {
         if self.is_too_near(before, gap) {
             return Some(RowCause::Near);
         }
-        let Some(is_last) = find_name(self.receivers(), self.receiver()) else {
+        let Some(is_last) = is_last_of_ascending(self.receivers(), self.receiver()) else {
             return Some(RowCause::Receivers);
         };
         // Of receptions at one moment the greatest is that of the last receiver by name.
@@ -88,7 +88,7 @@ impl<'a> RowView<'a> {
 
 /// Whether `name` is the last name of the text, or `None` where the names of the text don't
 /// strictly ascend or `name` isn't among them.
-fn find_name(text: &[u8], name: &[u8]) -> Option<bool>
+fn is_last_of_ascending(text: &[u8], name: &[u8]) -> Option<bool>
     ensures none { IfNone result ((Spec.is_ascending (names_in text.now)
         && list_any (Spec.is_same_name name.now) (names_in text.now)) ≡ false) }
     ensures some { IfSome result (λ is_last. ((Spec.is_ascending (names_in text.now)

@@ -8,13 +8,13 @@ ghost use Rattle.aprs_log.specs.Reception.{heard_cmp};
 ghost use Rattle.aprs_laws.specs.Key.{key_cmp};
 ghost use Rattle.aprs_laws.specs.Row.{last_of, row_cmp, row_key};
 ghost use Rattle.aprs_laws.specs.Sound.{IsSoundRow};
-ghost use Rattle.aprs_rows.specs.Head.{HasHead};
+ghost use Rattle.aprs_rows.specs.KeyPrefix.{HasKeyPrefix};
 ghost use Rattle.aprs_rows.specs.Names.{names_in, row_of_text};
 ghost use Rattle.aprs_rows.specs.Rows.{IsRowIn, entry_row, row_bytes};
 
 use crate::Memory;
-use crate::room::reserve_one;
-use crate::row::head::{Head, key_order};
+use crate::growth::reserve_one;
+use crate::row::key_prefix::{KeyPrefix, key_order};
 use crate::row::names::{cut_name, read_name};
 use crate::store::entry::Entry;
 use aprs_ax25::Frame;
@@ -35,7 +35,7 @@ pub struct RowView<'a> {
     /// Where the frame's information begins.
     info_at: u8,
     /// The head of the frame's key.
-    head: Head,
+    head: KeyPrefix,
 }
 
 impl<'a> Model for RowView<'a> {
@@ -76,7 +76,7 @@ impl<'a> RowView<'a> {
             receiver,
             frame: bytes,
             info_at: (bytes.len() - info.len()) as u8,
-            head: Head::of(bytes, info),
+            head: KeyPrefix::of(bytes, info),
         }
     }
 
@@ -262,8 +262,8 @@ impl<'a> RowView<'a> {
     }
 
     /// The head of the key: numbers that are compared before the keys themselves.
-    fn head(&self) -> Head
-        ensures { HasHead result self.now.greatest.frame }
+    fn head(&self) -> KeyPrefix
+        ensures { HasKeyPrefix result self.now.greatest.frame }
     {
         self.head
     }

@@ -2,7 +2,7 @@
 ghost use Rattle.std.specs.Prelude.{◌≡◌, take, drop};
 ghost use Rattle.aprs_rows.specs.Rows.{bytes_of, entry_cmp, info_of};
 
-use crate::row::head::Head;
+use crate::row::key_prefix::KeyPrefix;
 use aprs_log::Moment;
 use std::cmp::Ordering;
 
@@ -11,7 +11,7 @@ use std::cmp::Ordering;
 /// have, and those of that frame before its information.
 #[derive(Clone, Copy)]
 pub(crate) struct Entry {
-    pub head: Head,
+    pub head: KeyPrefix,
     pub first: Moment,
     pub last: Moment,
     pub place: usize,

@@ -4,7 +4,7 @@ ghost use Rattle.std.specs.Ordering.{is_eq};
 ghost use Rattle.std.specs.Borrow.{Bor};
 ghost use Rattle.aprs_laws.specs.Coalescing.{append_or_join};
 ghost use Rattle.aprs_laws.specs.Gap.{IsGap, millis_of};
-ghost use Rattle.aprs_laws.specs.JoinRow.{combine, greater, place};
+ghost use Rattle.aprs_laws.specs.JoinRow.{combine, greater, compare_near};
 ghost use Rattle.aprs_laws.specs.Row.{Row};
 ghost use Rattle.aprs_laws.specs.Sound.{Sound};
 ghost use Rattle.aprs_rows.specs.Groups.{rows_of_groups, AreGroups};
@@ -48,7 +48,7 @@ impl<'a> Open<'a> {
     /// the other ends.
     fn is_near(&self, gap: Gap, row: &StoredRow<'_>) -> bool
         ensures { (names : List (Bor (List ℕ)))
-            → result ≡ is_eq (place (millis_of gap) (Spec.open_row self.now names) row.now) }
+            → result ≡ is_eq (compare_near (millis_of gap) (Spec.open_row self.now names) row.now) }
     {
         is_near(gap, self.greatest.last(), row.first())
             && is_near(gap, row.last(), self.first)
@@ -217,7 +217,7 @@ fn close<'a, A: Allocator>(
 }
 
 /// Puts the text of the open rows' names, each once and ascending, after the other texts, or
-/// nothing where a single row is open. Sorts `names` in place.
+/// nothing where a single row is open. Sorts `names` in compare_near.
 fn put_names<A: Allocator>(
     texts: &mut Vec<u8, A>,
     latest: &Open<'_>,

@@ -1,7 +1,4 @@
-use Rattle.std.proofs.Common.{Err, subst}
-use Rattle.aprs_laws.specs.Gap.{millis_of}
-use Rattle.aprs_rows.specs.Refusal.{refusal}
-use Rattle.aprs_rows.proofs.Refusals.{Answers}
+use Rattle.aprs_book.proofs.Common.{Err, subst, millis_of, refusal, Answers}
 use Rattle.aprs_book.proofs.RowsFaults.{fault_of_push, faultless}
 use Rattle.aprs_book.proofs.from_parts.push_rows.Goals as goal
 

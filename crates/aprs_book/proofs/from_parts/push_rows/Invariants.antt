@@ -1,6 +1,4 @@
-use Rattle.std.proofs.Common.{◌≡◌, take}
-use Rattle.aprs_laws.specs.Gap.{millis_of}
-use Rattle.aprs_laws.specs.Sound.{Sound}
+use Rattle.aprs_book.proofs.Common.{◌≡◌, take, millis_of, Sound}
 use Rattle.aprs_book.proofs.from_parts.push_rows.Given as goal
 
 abbrev pub invariant-loop-place : goal.invariant-loop-place

@@ -1,6 +1,5 @@
-use Rattle.std.proofs.Common.{◌∙◌, ◌∷◌, ◌++◌, [], List, get_or, length, length-append, ap, not, arith}
-use Rattle.aprs_laws.specs.BookValue.{BookValue}
-use Rattle.aprs_laws.proofs.Joins.{one_value}
+use Rattle.aprs_book.proofs.Common.{◌∙◌, ◌∷◌, ◌++◌, [], List, get_or, length, ap, not, arith, BookValue, one_value}
+use Rattle.std.proofs.Common.{length-append}
 use Rattle.aprs_book.specs.Replay.{empty_book}
 use Rattle.aprs_book.proofs.Listings.{push_done}
 use Rattle.aprs_book.proofs.Replays.{one_more_empty}

@@ -1,9 +1,4 @@
-use Rattle.std.proofs.Common.{◌∙◌, ◌++◌, ◌∷◌, [], ap, sym, subst, arith}
-use Rattle.std.specs.Prelude.{All}
-use Rattle.std.specs.List.{join_with_byte}
-use Rattle.aprs_log.specs.Receiver.{IsName}
-use Rattle.aprs_laws.specs.Row.{Row}
-use Rattle.aprs_laws.specs.Sound.{IsSoundRow}
+use Rattle.aprs_book.proofs.Common.{◌∙◌, ◌++◌, ◌∷◌, [], ap, sym, subst, arith, All, join_with_byte, IsName, Row, IsSoundRow}
 use Rattle.aprs_rows.proofs.Rows.{on_ok}
 use Rattle.aprs_book.proofs.InStore.{is_short}
 use Rattle.aprs_book.proofs.stored.put_row.Goals as goal

@@ -1,5 +1,4 @@
-use Rattle.std.proofs.Common.{◌++◌, ap, sym, subst}
-use Rattle.aprs_rows.specs.Rows.{AreSoundRows}
+use Rattle.aprs_book.proofs.Common.{◌++◌, ap, sym, subst, AreSoundRows}
 use Rattle.aprs_book.proofs.InStore.{first_sound, rest_sound, one_put}
 use Rattle.aprs_book.proofs.stored.put_rows.Goals as goal
 

@@ -1,5 +1,4 @@
-use Rattle.std.proofs.Common.{◌≡◌, ◌++◌}
-use Rattle.aprs_rows.specs.Rows.{AreSoundRows}
+use Rattle.aprs_book.proofs.Common.{◌≡◌, ◌++◌, AreSoundRows}
 use Rattle.aprs_book.proofs.stored.put_rows.Given as goal
 
 abbrev pub invariant-loop-row : goal.invariant-loop-row

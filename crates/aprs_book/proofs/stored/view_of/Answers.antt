@@ -1,5 +1,4 @@
-use Rattle.std.proofs.Common.{◌∙◌, ap}
-use Rattle.aprs_log.specs.Reception.{Heard}
+use Rattle.aprs_book.proofs.Common.{◌∙◌, ap, Received}
 use Rattle.aprs_book.proofs.InStore.{names_have, row_is}
 use Rattle.aprs_book.proofs.stored.view_of.Goals as goal
 
@@ -12,7 +11,7 @@ returns g c =
     row_is c.args.row.now c.args.text.now c.requires.text c.requires.names c.requires.sound
     c.new.result c.first.result c.moment.result c.as_bytes.result.now c.frame.result.now
     c.new.ensures c.first.ensures
-    (c.moment.ensures ∙ ap (λ (h : Heard). h.moment) c.greatest-greatest.ensures)
+    (c.moment.ensures ∙ ap (λ (h : Received). h.moment) c.greatest-greatest.ensures)
     (c.as_bytes.ensures.value ∙ c.receiver.ensures
-    ∙ ap (λ (h : Heard). h.receiver) c.greatest-greatest.ensures)
-    (c.frame.ensures ∙ ap (λ (h : Heard). h.frame) c.greatest-greatest.ensures)
+    ∙ ap (λ (h : Received). h.receiver) c.greatest-greatest.ensures)
+    (c.frame.ensures ∙ ap (λ (h : Received). h.frame) c.greatest-greatest.ensures)

@@ -1,4 +1,4 @@
-use Rattle.std.proofs.Common.{arith}
+use Rattle.aprs_booktext.proofs.Common.{arith}
 use Rattle.aprs_booktext.proofs.Cuts.{lacks_of}
 use Rattle.aprs_booktext.proofs.cut.cut.Goals as goal
 

@@ -1,5 +1,4 @@
-use Rattle.std.proofs.Common.{◌∙◌, ◌∷◌, ◌+◌, ap, sym, arith, take, eqb}
-use Rattle.std.proofs.lemmas.List.{take_rest}
+use Rattle.aprs_booktext.proofs.Common.{◌∙◌, ◌∷◌, ◌+◌, ap, sym, arith, take, eqb, take_rest}
 use Rattle.aprs_booktext.specs.Lines.{pieces}
 use Rattle.aprs_booktext.proofs.Cuts.{byte_is, lacks_of, pieces_end, pieces_first}
 use Rattle.aprs_booktext.proofs.cut.cut_near.Goals as goal

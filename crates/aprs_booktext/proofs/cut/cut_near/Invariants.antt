@@ -1,5 +1,4 @@
-use Rattle.std.proofs.Common.{◌≡◌, ◌<◌, ℕ, true, get_or}
-use Rattle.aprs_io.specs.Cut.{is_byte}
+use Rattle.aprs_booktext.proofs.Common.{◌≡◌, ◌<◌, ℕ, true, get_or, is_byte}
 use Rattle.aprs_booktext.proofs.cut.cut_near.Given as goal
 
 abbrev pub invariant-loop-i : goal.invariant-loop-i

@@ -1,7 +1,4 @@
-use Rattle.std.proofs.Common.{◌≡◌, ◌∙◌, ◌*◌, None, Option, Some, arith, take, length, ap}
-use Rattle.std.specs.Prelude.{IfNone}
-use Rattle.hex.specs.Hex.{lower_digits}
-use Rattle.hex.proofs.HexLemmas.{length-encode_with}
+use Rattle.aprs_booktext.proofs.Common.{◌≡◌, ◌∙◌, ◌*◌, None, Option, Some, arith, take, length, ap, IfNone, lower_digits, length-encode_with}
 use Rattle.aprs_booktext.proofs.Digits.{length-spelled}
 use Rattle.aprs_booktext.proofs.hexadecimal.decode_frame.Goals as goal
 

@@ -1,4 +1,4 @@
-use Rattle.std.proofs.Common.{refl}
+use Rattle.aprs_booktext.proofs.Common.{refl}
 use Rattle.aprs_booktext.proofs.laws.book_texts_are_of_sets.Goals as goal
 
 pub returns : goal.returns

@@ -1,4 +1,4 @@
-use Rattle.std.proofs.Common.{refl}
+use Rattle.aprs_booktext.proofs.Common.{refl}
 use Rattle.aprs_booktext.proofs.OneText.{one_book, one_text, cut_short}
 use Rattle.aprs_booktext.proofs.SameFaults.{first_of}
 use Rattle.aprs_booktext.proofs.laws.each_book_has_one_text.Goals as goal

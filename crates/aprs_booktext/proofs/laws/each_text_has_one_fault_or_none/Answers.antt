@@ -1,4 +1,4 @@
-use Rattle.std.proofs.Common.{[], ◌∙◌, append-nil, ap, arith, inl, inr, length, refl}
+use Rattle.aprs_booktext.proofs.Common.{[], ◌∙◌, append-nil, ap, arith, inl, inr, length, refl}
 use Rattle.aprs_booktext.proofs.Accepting.{rows_few}
 use Rattle.aprs_booktext.proofs.Deciding.{book_or_fault}
 use Rattle.aprs_booktext.proofs.OneFault.{one_fault}

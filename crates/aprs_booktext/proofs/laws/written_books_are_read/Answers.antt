@@ -1,4 +1,4 @@
-use Rattle.std.proofs.Common.{refl, []}
+use Rattle.aprs_booktext.proofs.Common.{refl, []}
 use Rattle.aprs_booktext.specs.Text.{book_text}
 use Rattle.aprs_booktext.proofs.Accepting.{accepted}
 use Rattle.aprs_booktext.proofs.laws.written_books_are_read.Goals as goal

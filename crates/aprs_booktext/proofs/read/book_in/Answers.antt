@@ -1,12 +1,7 @@
-use Rattle.std.proofs.Common.{◌≡◌, ◌<◌, ◌∙◌, List, ap, arith}
-use Rattle.std.proofs.lemmas.Result.{IfOk-weaker}
-use Rattle.aprs_laws.specs.Gap.{millis_of}
+use Rattle.aprs_booktext.proofs.Common.{◌≡◌, ◌<◌, ◌∙◌, List, ap, arith, IfOk-weaker, millis_of, Row, witnesses, witnessed}
 use Rattle.aprs_laws.specs.JoinRow.{coalesced_rows}
-use Rattle.aprs_laws.specs.Row.{Row}
-use Rattle.aprs_laws.specs.Witnesses.{witnesses}
 use Rattle.aprs_laws.proofs.Books.{one_book}
 use Rattle.aprs_laws.proofs.Coalescing.{books_stand, coalesces_book}
-use Rattle.aprs_laws.proofs.Soundness.{witnessed}
 use Rattle.aprs_booktext.proofs.read.book_in.Goals as goal
 
 pub returns : goal.returns

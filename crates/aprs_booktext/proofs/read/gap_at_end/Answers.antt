@@ -1,6 +1,4 @@
-use Rattle.std.proofs.Common.{◌≡◌, ◌+◌, ◌++◌, ◌-◌, ◌∙◌, [], arith, length, sym, take, length-take, subst, append-nil}
-use Rattle.std.proofs.lemmas.Result.{IfErr-weaker}
-use Rattle.aprs_io.proofs.Sends.{Calls-then}
+use Rattle.aprs_booktext.proofs.Common.{◌≡◌, ◌+◌, ◌++◌, ◌-◌, ◌∙◌, [], arith, length, sym, take, length-take, subst, append-nil, IfErr-weaker, Calls-then}
 use Rattle.aprs_booktext.specs.TextFault.{most_ahead}
 use Rattle.aprs_booktext.specs.Reader.{IsFault}
 use Rattle.aprs_booktext.proofs.Inputs.{EndsIn-book, Got-more, IsAnswered-end, IsAnswered-fault}

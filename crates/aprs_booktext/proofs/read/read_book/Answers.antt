@@ -1,9 +1,6 @@
-use Rattle.std.proofs.Common.{ℕ, ◌∙◌, ◌++◌, ◌≡◌, List, Ok, ap, arith, subst, sym}
-use Rattle.std.proofs.lemmas.Result.{err_from_is_err_and}
-use Rattle.aprs_laws.specs.BookValue.{IsSoundBook}
-use Rattle.aprs_laws.specs.Row.{Row}
+use Rattle.aprs_booktext.proofs.Common.{ℕ, ◌∙◌, ◌++◌, ◌≡◌, List, Ok, ap, arith, subst, sym, err_from_is_err_and, IsSoundBook, Row}
 use Rattle.aprs_booktext.specs.TextFault.{most_ahead}
-use Rattle.aprs_booktext.specs.Reader.{IsFault, IsOfText, Stands}
+use Rattle.aprs_booktext.specs.Reader.{IsFault, IsOfText, HasRead}
 use Rattle.aprs_booktext.specs.Reading.{IsAnswered}
 use Rattle.aprs_booktext.proofs.Accepting.{answer_accepts, answer_seconds}
 use Rattle.aprs_booktext.proofs.Inputs.{Got-weaker, IsAnswered-fault, answer_book}
@@ -28,17 +25,17 @@ returns-in_err-left-clause-accepts g c =
 
 pub returns-in_default-clause-reads : goal.returns-in_default-clause-reads
 returns-in_default-clause-reads g c =
-    let f = c.refusal_at_last.result in
+    let f = c.memory_fault_at_last.result in
     let reader = c.read_lines.new.reader in
     let store = c.read_lines.new.store in
-    let of : IsOfText f.cause = rw c.refusal_at_last.ensures ((λ e. cc), (λ e. cc)) in
-    let step : (t : List ℕ) → Stands c.new-store.result reader store t → IsFault most_ahead f t =
-    λ t s. rw (c.refusal_at_last.ensures, s.has.counted)
+    let of : IsOfText f.cause = rw c.memory_fault_at_last.ensures ((λ e. cc), (λ e. cc)) in
+    let step : (t : List ℕ) → HasRead c.new-store.result reader store t → IsFault most_ahead f t =
+    λ t s. rw (c.memory_fault_at_last.ensures, s.has.counted)
     (fault_near 1 most_ahead _ t (omega arith) (done_refused _ s.rows _ t c.in_ok-left.ensures.done
     (omega (arith, c.in_ok-left.ensures.few, s.has.counted)) s.holds)) in
     let answer = IsAnswered-fault g.R.Read.remaining c.args.limit c.args.head.now c.args.source.now
     c.read_lines.new.source c.in_ok-left.left c.in_ok-left.ensures.going f of
-    (Got-weaker (Stands c.new-store.result reader store) (IsFault most_ahead f) c.args.head.now
+    (Got-weaker (HasRead c.new-store.result reader store) (IsFault most_ahead f) c.args.head.now
     _ _ c.args.limit c.in_ok-left.left step c.in_ok-left.ensures.got) in
     answer.reads
 

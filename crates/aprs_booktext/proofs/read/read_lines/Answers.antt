@@ -1,16 +1,14 @@
-use Rattle.std.proofs.Common.{◌≡◌, ◌-◌, ◌∙◌, [], refl, sym, arith, length, take, length-take}
-use Rattle.std.proofs.lemmas.Result.{err_from_is_err_and}
-use Rattle.aprs_io.proofs.Sends.{Calls-none, Calls-then}
+use Rattle.aprs_booktext.proofs.Common.{◌≡◌, ◌-◌, ◌∙◌, [], refl, sym, arith, length, take, length-take, err_from_is_err_and, Calls-none, Calls-then}
 use Rattle.aprs_booktext.specs.TextFault.{most_ahead}
 use Rattle.aprs_booktext.proofs.SameFaults.{first_is}
-use Rattle.aprs_booktext.specs.Reader.{IsFault, Stands}
+use Rattle.aprs_booktext.specs.Reader.{IsFault, HasRead}
 use Rattle.aprs_booktext.proofs.Standing.{cut_fault, ending_stop, fault_near, may_end-going}
 use Rattle.aprs_booktext.proofs.Inputs.{Got-none, Got-more, IsAnswered-end, IsAnswered-fault}
 use Rattle.aprs_booktext.proofs.read.read_lines.Goals as goal
 
 pub loop-room-init : goal.loop-room-init
 loop-room-init g c = record {
-  got = Got-none (Stands c.args.store.now c.feed.new.self c.feed.new.store) c.args.head.now _ _ _
+  got = Got-none (HasRead c.args.store.now c.feed.new.self c.feed.new.store) c.args.head.now _ _ _
       (c.in_ok-feed.ensures.stands c.args.store.now [] c.requires.stands) (omega arith);
   few = omega (arith, c.in_ok-feed.ensures.size, c.requires.none);
   calls = Calls-none _;
@@ -33,7 +31,7 @@ loop-room-preserved g c =
     let size : length (take n c.read_some.new.room) ≡ n = simp length-take (omega (arith, some)) in
     record {
       got = Got-more _ c.args.head.now _ _ _ _ c.loop-room.invariant.got
-          (Stands c.args.store.now c.feed-in-Ok.new.self c.feed-in-Ok.new.store) _
+          (HasRead c.args.store.now c.feed-in-Ok.new.self c.feed-in-Ok.new.store) _
           (take n c.read_some.new.room) (c.loop-room.left - n)
           (c.in_ok-feed-in-Ok.ensures.stands c.args.store.now) c.in-Ok.ensures.bytes
           (omega (arith, size, some));

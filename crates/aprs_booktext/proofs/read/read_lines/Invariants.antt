@@ -1,6 +1,5 @@
-use Rattle.std.proofs.Common.{◌+◌, ◌≤◌}
-use Rattle.aprs_io.specs.Device.{Calls, Going, device_of}
-use Rattle.aprs_booktext.specs.Reader.{size_of, Stands}
+use Rattle.aprs_booktext.proofs.Common.{◌+◌, ◌≤◌, Calls, Going, device_of}
+use Rattle.aprs_booktext.specs.Reader.{read_size, HasRead}
 use Rattle.aprs_booktext.specs.Reading.{Got}
 use Rattle.aprs_booktext.proofs.read.read_lines.Given as goal
 
@@ -8,9 +7,9 @@ abbrev pub invariant-loop-room : goal.invariant-loop-room
 invariant-loop-room g l =
     let remaining = g.R.Read.remaining in
     record {
-      got : Got (Stands l.fn.store l.reader l.store) l.head (remaining (device_of l.fn.source))
+      got : Got (HasRead l.fn.store l.reader l.store) l.head (remaining (device_of l.fn.source))
           (remaining (device_of l.source)) l.limit l.left;
-      few : size_of l.reader + l.left ≤ l.limit;
+      few : read_size l.reader + l.left ≤ l.limit;
       calls : Calls Going l.fn.source l.source;
     }
 

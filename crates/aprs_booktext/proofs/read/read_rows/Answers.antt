@@ -1,4 +1,4 @@
-use Rattle.std.proofs.lemmas.Result.{err_from_is_err_and, IfErr-weaker}
+use Rattle.aprs_booktext.proofs.Common.{err_from_is_err_and, IfErr-weaker}
 use Rattle.aprs_booktext.proofs.Accepting.{answer_accepts, answer_seconds}
 use Rattle.aprs_booktext.proofs.Standing.{stopped_after}
 use Rattle.aprs_booktext.proofs.read.read_rows.Goals as goal

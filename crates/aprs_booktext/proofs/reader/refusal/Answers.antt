@@ -1,4 +1,4 @@
-use Rattle.std.proofs.Common.{◌∙◌, sym, arith}
+use Rattle.aprs_booktext.proofs.Common.{◌∙◌, sym, arith}
 use Rattle.aprs_booktext.proofs.Standing.{last_before, last_found}
 use Rattle.aprs_booktext.proofs.reader.refusal.Goals as goal
 

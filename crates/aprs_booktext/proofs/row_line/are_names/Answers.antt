@@ -1,5 +1,4 @@
-use Rattle.std.proofs.Common.{◌≡◌, ◌∙◌, sym, true, false}
-use Rattle.aprs_log.specs.Receiver.{IsName}
+use Rattle.aprs_booktext.proofs.Common.{◌≡◌, ◌∙◌, sym, true, false, IsName}
 use Rattle.aprs_booktext.proofs.Spellings.{NamesFirst-none, NamesFirst-more, NamesFirst-not, NamesFirst-last}
 use Rattle.aprs_booktext.proofs.row_line.are_names.Goals as goal
 

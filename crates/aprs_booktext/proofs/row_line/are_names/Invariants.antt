@@ -1,4 +1,4 @@
-use Rattle.std.proofs.Common.{length}
+use Rattle.aprs_booktext.proofs.Common.{length}
 use Rattle.aprs_booktext.specs.Lines.{pieces}
 use Rattle.aprs_booktext.proofs.Spellings.{NamesFirst}
 use Rattle.aprs_booktext.proofs.row_line.are_names.Given as goal

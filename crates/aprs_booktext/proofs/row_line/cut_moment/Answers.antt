@@ -1,4 +1,4 @@
-use Rattle.std.proofs.Common.{◌∙◌, ap, arith, get_or, take}
+use Rattle.aprs_booktext.proofs.Common.{◌∙◌, ap, arith, get_or, take}
 use Rattle.aprs_booktext.proofs.RowReading.{has_moment}
 use Rattle.aprs_booktext.proofs.row_line.cut_moment.Goals as goal
 use Rattle.aprs_booktext.proofs.row_line.cut_moment.Goals.{then-text-size-via-then-text-size, then-text-size-via-else-text-size+then-text-size-ne32}

@@ -1,5 +1,4 @@
-use Rattle.std.proofs.Common.{◌≡◌, ◌∙◌, sym, subst, true, false}
-use Rattle.aprs_log.specs.Receiver.{IsName}
+use Rattle.aprs_booktext.proofs.Common.{◌≡◌, ◌∙◌, sym, subst, true, false, IsName}
 use Rattle.aprs_booktext.proofs.RowReading.{if_none, lacks_name, no_field, one_field}
 use Rattle.aprs_booktext.proofs.row_line.cut_name.Goals as goal
 

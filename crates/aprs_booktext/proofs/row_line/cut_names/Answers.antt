@@ -1,6 +1,4 @@
-use Rattle.std.proofs.Common.{◌≡◌, ◌∙◌, sym, subst, true, false}
-use Rattle.std.specs.Prelude.{All}
-use Rattle.aprs_log.specs.Receiver.{IsName}
+use Rattle.aprs_booktext.proofs.Common.{◌≡◌, ◌∙◌, sym, subst, true, false, All, IsName}
 use Rattle.aprs_booktext.specs.Lines.{pieces}
 use Rattle.aprs_booktext.proofs.RowReading.{if_none, lacks_field, no_field, one_field}
 use Rattle.aprs_booktext.proofs.row_line.cut_names.Goals as goal

@@ -1,4 +1,4 @@
-use Rattle.std.proofs.Common.{◌∙◌, ap, sym, subst, Ok}
+use Rattle.aprs_booktext.proofs.Common.{◌∙◌, ap, sym, subst, Ok}
 use Rattle.aprs_booktext.specs.RowFields.{SpellsFrame}
 use Rattle.aprs_booktext.proofs.Spellings.{frame_is}
 use Rattle.aprs_booktext.proofs.row_line.read_frame.Goals as goal

@@ -1,4 +1,4 @@
-use Rattle.std.proofs.Common.{◌≡◌, None, Some, refl}
+use Rattle.aprs_booktext.proofs.Common.{◌≡◌, None, Some, refl}
 use Rattle.aprs_booktext.proofs.row_line.read_moment.Goals as goal
 
 pub returns-in-Some-clause-some : goal.returns-in-Some-clause-some

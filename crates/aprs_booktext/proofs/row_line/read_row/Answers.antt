@@ -1,4 +1,4 @@
-use Rattle.std.proofs.lemmas.Result.{err_from_is_err_and}
+use Rattle.aprs_booktext.proofs.Common.{err_from_is_err_and}
 use Rattle.aprs_booktext.proofs.RowReading.{row_found, wrong_first, wrong_frame, wrong_last, wrong_names, wrong_receiver, wrong_tag}
 use Rattle.aprs_booktext.proofs.row_line.read_row.Goals as goal
 

@@ -1,8 +1,5 @@
-use Rattle.std.proofs.Common.{◌∙◌, sym, subst}
-use Rattle.std.specs.Str.{IsUtf8}
-use Rattle.std.proofs.lemmas.Fmt.{parse-decimal, IsAscii-decimal}
+use Rattle.aprs_booktext.proofs.Common.{◌∙◌, sym, subst, IsUtf8, parse-decimal, IsAscii-decimal, decimal}
 use Rattle.std.proofs.lemmas.Str.{IsUtf8-from_ascii}
-use Rattle.std.specs.Fmt.{decimal}
 use Rattle.aprs_booktext.proofs.version.number_in.Goals as goal
 
 pub returns-in-Ok-parse : goal.returns-in-Ok-parse

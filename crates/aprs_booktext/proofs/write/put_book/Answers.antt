@@ -1,5 +1,4 @@
-use Rattle.std.proofs.Common.{refl, sym}
-use Rattle.aprs_io.proofs.Outlets.{Puts-fails, Puts-is, Puts-then}
+use Rattle.aprs_booktext.proofs.Common.{refl, sym, Puts-fails, Puts-is, Puts-then}
 use Rattle.aprs_booktext.proofs.TextParts.{text_parts}
 use Rattle.aprs_booktext.proofs.write.put_book.Goals as goal
 

@@ -1,6 +1,4 @@
-use Rattle.std.proofs.Common.{◌∷◌, arith}
-use Rattle.aprs_io.proofs.Outlets.{Puts-broken, Puts-is, Puts-more}
-use Rattle.aprs_rows.proofs.JoinedNames.{more_names}
+use Rattle.aprs_booktext.proofs.Common.{◌∷◌, arith, Puts-broken, Puts-is, Puts-more, more_names}
 use Rattle.aprs_booktext.proofs.write.put_further_names.Goals as goal
 
 pub returns-in_err-put-clause-puts : goal.returns-in_err-put-clause-puts

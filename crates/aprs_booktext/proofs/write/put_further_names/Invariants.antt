@@ -1,8 +1,4 @@
-use Rattle.std.proofs.Common.{◌∷◌, take, Ok}
-use Rattle.std.specs.Prelude.{All}
-use Rattle.std.specs.List.{flat_map}
-use Rattle.aprs_log.specs.Receiver.{IsName}
-use Rattle.aprs_io.specs.Outlet.{Puts}
+use Rattle.aprs_booktext.proofs.Common.{◌∷◌, take, Ok, All, flat_map, IsName, Puts}
 use Rattle.aprs_booktext.proofs.write.put_further_names.Given as goal
 
 abbrev pub invariant-loop-name : goal.invariant-loop-name

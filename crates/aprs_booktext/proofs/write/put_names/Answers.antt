@@ -1,6 +1,4 @@
-use Rattle.std.proofs.Common.{sym}
-use Rattle.aprs_io.proofs.Outlets.{Puts-fails, Puts-is, Puts-then}
-use Rattle.aprs_rows.proofs.JoinedNames.{joined_first}
+use Rattle.aprs_booktext.proofs.Common.{sym, Puts-fails, Puts-is, Puts-then, joined_first}
 use Rattle.aprs_booktext.proofs.write.put_names.Goals as goal
 
 pub returns-in_err-put-clause-puts : goal.returns-in_err-put-clause-puts

@@ -1,4 +1,4 @@
-use Rattle.std.proofs.Common.{◌≤◌, length, arith}
+use Rattle.aprs_booktext.proofs.Common.{◌≤◌, length, arith}
 use Rattle.std.proofs.lemmas.Grind.{common_steps}
 use Rattle.aprs_ax25.proofs.Sounds.{IsSound-len}
 use Rattle.aprs_ax25.proofs.Spellings.{FrameOf-IsSound}

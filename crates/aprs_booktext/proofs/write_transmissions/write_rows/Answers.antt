@@ -1,6 +1,4 @@
-use Rattle.std.proofs.Common.{rules, subst}
-use Rattle.aprs_io.specs.Device.{Sends}
-use Rattle.aprs_io.proofs.Outlets.{Sends-put, Sends-unput}
+use Rattle.aprs_booktext.proofs.Common.{rules, subst, Sends, Sends-put, Sends-unput}
 use Rattle.aprs_booktext.specs.Text.{written_text}
 use Rattle.aprs_booktext.proofs.write_transmissions.write_rows.Goals as goal
 

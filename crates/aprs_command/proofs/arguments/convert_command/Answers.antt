@@ -1,6 +1,4 @@
-use Rattle.std.proofs.Common.{◌≡◌, rules, ap₂, codes, ◌∙◌}
-use Rattle.std.proofs.lemmas.Result.{IfOk-weaker}
-use Rattle.clap.specs.Words.{app_of, new_app, with_rule}
+use Rattle.aprs_command.proofs.Common.{◌≡◌, rules, ap₂, codes, ◌∙◌, IfOk-weaker, app_of, new_app, with_rule}
 use Rattle.aprs_command.proofs.arguments.convert_command.Goals as goal
 
 pub returns-clause-app : goal.returns-clause-app

@@ -1,4 +1,4 @@
-use Rattle.std.proofs.Common.{◌≡◌, map, take}
+use Rattle.aprs_command.proofs.Common.{◌≡◌, map, take}
 use Rattle.aprs_command.specs.Arguments.{paths_of}
 use Rattle.aprs_command.proofs.arguments.copy_paths.Given as goal
 

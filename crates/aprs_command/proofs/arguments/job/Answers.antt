@@ -1,6 +1,4 @@
-use Rattle.std.proofs.Common.{◌≡◌, ℕ, List, [], None, map, true, false, refl, ap, ◌∙◌, sym, subst, inl, inr, Bor}
-use Rattle.clap.specs.Kinds.{HasKind}
-use Rattle.clap.specs.Words.{App, fault_of, is_simple_and_free, takes}
+use Rattle.aprs_command.proofs.Common.{◌≡◌, ℕ, List, [], None, map, true, false, refl, ap, ◌∙◌, sym, subst, inl, inr, Bor, HasKind, App, fault_of, is_simple_and_free, takes}
 use Rattle.clap.specs.declared.builder.value_parser.ValueParser.{ValueParser}
 use Rattle.clap.specs.declared.builder.value_parser.ValueParser.TheVariants as vp
 use Rattle.clap.specs.declared.builder.possible_value.PossibleValue.{PossibleValue}

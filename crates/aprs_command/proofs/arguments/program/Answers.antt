@@ -1,6 +1,4 @@
-use Rattle.std.proofs.Common.{ap, ap₂, ◌∙◌}
-use Rattle.std.proofs.lemmas.Result.{IfOk-weaker}
-use Rattle.clap.specs.Words.{App, with_subcommand}
+use Rattle.aprs_command.proofs.Common.{ap, ap₂, ◌∙◌, IfOk-weaker, App, with_subcommand}
 use Rattle.aprs_command.proofs.arguments.program.Goals as goal
 
 pub returns : goal.returns

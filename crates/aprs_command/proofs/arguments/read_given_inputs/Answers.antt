@@ -1,7 +1,4 @@
-use Rattle.std.proofs.Common.{List, [], Option, unwrap_or, codes, ap, ◌∙◌}
-use Rattle.std.proofs.lemmas.Result.{IfOk-weaker}
-use Rattle.clap.specs.Words.{Text, found_of}
-use Rattle.clap.proofs.WalkLemmas.{raw_values-rows}
+use Rattle.aprs_command.proofs.Common.{List, [], Option, unwrap_or, codes, ap, ◌∙◌, IfOk-weaker, Text, found_of, raw_values-rows}
 use Rattle.aprs_command.proofs.arguments.read_given_inputs.Goals as goal
 
 pub returns-in-Some : goal.returns-in-Some

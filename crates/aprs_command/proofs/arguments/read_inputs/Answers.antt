@@ -1,6 +1,4 @@
-use Rattle.std.proofs.Common.{◌≡◌, List, Option, Some, None, option_map, refl, sym, ◌∙◌}
-use Rattle.std.proofs.lemmas.Result.{IfOk-weaker}
-use Rattle.clap.specs.Words.{Row, Text, found_of, rows_of, subcommand_rows_of}
+use Rattle.aprs_command.proofs.Common.{◌≡◌, List, Option, Some, None, option_map, refl, sym, ◌∙◌, IfOk-weaker, Row, Text, found_of, rows_of, subcommand_rows_of}
 use Rattle.aprs_command.specs.Arguments.{given_inputs, inputs_in}
 use Rattle.aprs_command.proofs.arguments.read_inputs.Goals as goal
 

@@ -1,6 +1,4 @@
-use Rattle.std.proofs.Common.{◌≡◌, List, ℕ, map, true, refl, ap, ◌∙◌, sym, subst, inl, inr, Bor}
-use Rattle.clap.specs.Kinds.{HasKind}
-use Rattle.clap.specs.Words.{App, fault_of, is_simple_and_free, takes}
+use Rattle.aprs_command.proofs.Common.{◌≡◌, List, ℕ, map, true, refl, ap, ◌∙◌, sym, subst, inl, inr, Bor, HasKind, App, fault_of, is_simple_and_free, takes}
 use Rattle.aprs_command.specs.Arguments.{FailsHistory, history_app}
 use Rattle.aprs_command.proofs.Refusals.{refused}
 use Rattle.aprs_command.proofs.history.history_job.Goals as goal

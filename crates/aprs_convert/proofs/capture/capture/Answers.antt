@@ -1,7 +1,4 @@
-use Rattle.std.proofs.Common.{inl, subst, sym, arith}
-use Rattle.aprs_io.proofs.Sends.{Calls-none, Calls-then}
-use Rattle.std.proofs.lemmas.Result.{err_from_is_err_and}
-use Rattle.std.specs.Io.KnownBytes.{Consumes}
+use Rattle.aprs_convert.proofs.Common.{inl, subst, sym, arith, Calls-none, Calls-then, err_from_is_err_and, Consumes}
 use Rattle.aprs_convert.specs.Plan.{capture_text}
 use Rattle.aprs_convert.proofs.Captures.{HasGot-none, HasGot-more, HasGot-refused}
 use Rattle.aprs_convert.proofs.capture.capture.Goals as goal

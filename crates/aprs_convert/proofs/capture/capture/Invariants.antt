@@ -1,5 +1,4 @@
-use Rattle.std.proofs.Common.{◌≤◌}
-use Rattle.aprs_kiss.specs.Device.{Calls, Going, device_of}
+use Rattle.aprs_convert.proofs.Common.{◌≤◌, Calls, Going, device_of}
 use Rattle.aprs_convert.specs.Plan.{capture_text}
 use Rattle.aprs_convert.proofs.Captures.{HasGot}
 use Rattle.aprs_convert.proofs.capture.capture.Given as goal

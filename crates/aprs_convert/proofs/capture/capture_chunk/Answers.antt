@@ -1,6 +1,4 @@
-use Rattle.std.proofs.Common.{refl}
-use Rattle.aprs_io.proofs.Sends.{Calls-none, Calls-then}
-use Rattle.aprs_kiss.proofs.Bytes.{on_err}
+use Rattle.aprs_convert.proofs.Common.{refl, Calls-none, Calls-then, on_err}
 use Rattle.aprs_kiss.proofs.Hearing.{parts_of}
 use Rattle.aprs_convert.specs.Plan.{capture_text}
 use Rattle.aprs_convert.proofs.Captures.{HasCaptured-none, HasCaptured-more, HasCaptured-refused}

@@ -1,5 +1,4 @@
-use Rattle.std.proofs.Common.{length}
-use Rattle.aprs_kiss.specs.Device.{Calls, Going, device_of}
+use Rattle.aprs_convert.proofs.Common.{length, Calls, Going, device_of}
 use Rattle.aprs_convert.specs.Plan.{capture_text}
 use Rattle.aprs_convert.proofs.Captures.{HasCaptured}
 use Rattle.aprs_convert.proofs.capture.capture_chunk.Given as goal

@@ -1,6 +1,4 @@
-use Rattle.std.proofs.Common.{ap, sym, ◌∙◌, append-nil}
-use Rattle.std.specs.List.{flat_map}
-use Rattle.aprs_io.proofs.Sends.{Sends-is}
+use Rattle.aprs_convert.proofs.Common.{ap, sym, ◌∙◌, append-nil, flat_map, Sends-is}
 use Rattle.aprs_kiss.specs.Answer.{judgements_in}
 use Rattle.aprs_kiss.specs.declared.reader.Fed.{Fed}
 use Rattle.aprs_convert.specs.Plan.{capture_text}

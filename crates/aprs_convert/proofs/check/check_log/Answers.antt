@@ -1,13 +1,9 @@
-use Rattle.std.proofs.Common.{inl, inr, arith, refl, sym, ◌∙◌, None, Ok, Err, subst, rules}
-use Rattle.std.proofs.lemmas.Result.{err_from_is_err_and}
-use Rattle.aprs_kiss.specs.Device.{Calls, Going}
-use Rattle.aprs_io.proofs.Sends.{Calls-none, Calls-then}
+use Rattle.aprs_convert.proofs.Common.{inl, inr, arith, refl, sym, ◌∙◌, None, Ok, Err, subst, rules, err_from_is_err_and, Calls, Going, Calls-none, Calls-then, current_of, lent_device}
 use Rattle.aprs_convert.specs.Check.{Checks}
 use Rattle.aprs_convert.specs.Plan.{check_plan}
 use Rattle.aprs_convert.proofs.Planned.{runs_back}
 use Rattle.aprs_convert.proofs.Writings.{checks}
 use Rattle.aprs_convert.specs.declared.fault.ConvertFault.TheVariants.{Log, Write}
-use Rattle.aprs_log.specs.Reader.{current_of, source_of}
 use Rattle.aprs_convert.proofs.Checked.{Checked-none, Checked-sum, Checked-heard, Checked-passed, Checked-refused, Checked-ended, Checked-totals_refused, Checked-fault}
 use Rattle.aprs_convert.proofs.check.check_log.Goals as goal
 
@@ -70,7 +66,7 @@ returns-in_err-write_passed-in-Passed g c =
     c.from_residual-in_err-write_passed-in-Passed.ensures.1 in
     let gives = rw c.if-not-branch.false at c.in_ok-advance.ensures.gives in
     rw (p.1, p.2) (runs_back check_plan c.args.limit g.R.Read.remaining g.W.Write.contents (Err Write)
-    c.args.r.now (source_of c.advance.new.self) _ c.args.w.now c.write_passed.new.w (search rules)
+    c.args.r.now (lent_device c.advance.new.self) _ c.args.w.now c.write_passed.new.w (search rules)
     (record {
       run = Checked-refused _ _ _ _ _ _ _ _ (c.lines.invariant.checked _) _ gives.0 c.args.limit _ _ _ _
           (current_of c.advance.new.self) _
@@ -87,7 +83,7 @@ pub returns-then-not-branch : goal.returns-then-not-branch
 returns-then-not-branch g c =
     let gives = rw c.if-not-branch.true at c.in_ok-advance.ensures.gives in
     runs_back check_plan c.args.limit g.R.Read.remaining g.W.Write.contents (Ok tt)
-    c.args.r.now (source_of c.advance.new.self) _ c.args.w.now c.write_totals.new.w (search rules)
+    c.args.r.now (lent_device c.advance.new.self) _ c.args.w.now c.write_totals.new.w (search rules)
     (record {
       run = Checked-ended _ _ _ _ _ _ _ (c.lines.invariant.checked _) c.args.limit _ _
           (c.new-reader.ensures.whole _) _ gives.2 c.in_ok-write_totals.ensures.sent;
@@ -102,7 +98,7 @@ returns-in_err-write_totals g c =
     c.from_residual-in_err-write_totals.ensures.1 in
     let gives = rw c.if-not-branch.true at c.in_ok-advance.ensures.gives in
     rw (p.1, p.2) (runs_back check_plan c.args.limit g.R.Read.remaining g.W.Write.contents (Err Write)
-    c.args.r.now (source_of c.advance.new.self) _ c.args.w.now c.write_totals.new.w (search rules)
+    c.args.r.now (lent_device c.advance.new.self) _ c.args.w.now c.write_totals.new.w (search rules)
     (record {
       run = Checked-totals_refused _ _ _ _ _ _ _ (c.lines.invariant.checked _) c.args.limit _ _
           (c.new-reader.ensures.whole _) _ gives.2 c.in_err-write_totals.ensures.prefix;
@@ -116,7 +112,7 @@ returns-in_err-advance g c =
     let p = err_from_is_err_and c.from_residual.result c.from_residual.ensures.1 in
     let fault = c.in_err-advance.field-0.0 in
     rw (p.1, p.2) (runs_back check_plan c.args.limit g.R.Read.remaining g.W.Write.contents (Err (Log fault))
-    c.args.r.now (source_of c.advance.new.self) _ c.args.w.now c.lines.w (search rules)
+    c.args.r.now (lent_device c.advance.new.self) _ c.args.w.now c.lines.w (search rules)
     (record {
       run = Checked-fault _ _ _ _ _ _ _ (c.lines.invariant.checked _) c.args.limit _ _
           (c.new-reader.ensures.whole _) fault _ refl

@@ -1,5 +1,4 @@
-use Rattle.std.proofs.Common.{◌≡◌, length, ap, ◌∙◌, arith}
-use Rattle.aprs_log.specs.Fault.{reason_name}
+use Rattle.aprs_convert.proofs.Common.{◌≡◌, length, ap, ◌∙◌, arith, reason_name}
 use Rattle.aprs_convert.proofs.Texts.{length-reason_name}
 use Rattle.aprs_convert.proofs.check.push_reason.Goals as goal
 

@@ -1,8 +1,4 @@
-use Rattle.std.proofs.Common.{inl, sym, refl, subst, Ok, Err, rules}
-use Rattle.std.proofs.lemmas.Result.{err_from_is_err_and}
-use Rattle.aprs_kiss.specs.Device.{Calls, Going}
-use Rattle.aprs_io.proofs.Sends.{Calls-none, Calls-then}
-use Rattle.aprs_log.specs.Reader.{current_of, source_of}
+use Rattle.aprs_convert.proofs.Common.{inl, sym, refl, subst, Ok, Err, rules, err_from_is_err_and, Calls, Going, Calls-none, Calls-then, current_of, lent_device}
 use Rattle.aprs_convert.specs.declared.fault.ConvertFault.TheVariants.{Log, Write}
 use Rattle.aprs_convert.specs.Plan.{line_text, lines_plan}
 use Rattle.aprs_convert.proofs.Planned.{planned_back}
@@ -38,7 +34,7 @@ returns-in_err-write_line_as g c =
     c.from_residual-in_err-write_line_as.ensures.1 in
     let gives = rw c.if-not-branch.false at c.in_ok-advance.ensures.gives in
     rw (p.1, p.2) (planned_back (lines_plan c.args.form.now) c.args.limit g.R.Read.remaining
-    g.W.Write.contents (Err Write) c.args.r.now (source_of c.advance.new.self) _ c.args.w.now c.write_line_as.new.w
+    g.W.Write.contents (Err Write) c.args.r.now (lent_device c.advance.new.self) _ c.args.w.now c.write_line_as.new.w
     (search rules) (record {
       run = Ran-refused c.args.form.now _ _ _ c.args.limit _ _ _ _ _
           (current_of c.advance.new.self) _ c.current.ensures (c.lines.invariant.ran _)
@@ -54,7 +50,7 @@ returns-in_err-advance g c =
     let p = err_from_is_err_and c.from_residual.result c.from_residual.ensures.1 in
     let fault = c.in_err-advance.field-0.0 in
     rw (p.1, p.2) (planned_back (lines_plan c.args.form.now) c.args.limit g.R.Read.remaining
-    g.W.Write.contents (Err (Log fault)) c.args.r.now (source_of c.advance.new.self) _ c.args.w.now c.lines.w
+    g.W.Write.contents (Err (Log fault)) c.args.r.now (lent_device c.advance.new.self) _ c.args.w.now c.lines.w
     (search rules) (record {
       run = Ran-fault c.args.form.now _ _ c.args.limit _ _ _ _ fault _ refl (c.lines.invariant.ran _)
           c.in_err-advance.ensures.gives.2 (c.new-reader.ensures.whole _);
@@ -67,7 +63,7 @@ pub returns-then-not-branch : goal.returns-then-not-branch
 returns-then-not-branch g c =
     let gives = rw c.if-not-branch.true at c.in_ok-advance.ensures.gives in
     planned_back (lines_plan c.args.form.now) c.args.limit g.R.Read.remaining
-    g.W.Write.contents (Ok tt) c.args.r.now (source_of c.advance.new.self) _ c.args.w.now c.lines.w
+    g.W.Write.contents (Ok tt) c.args.r.now (lent_device c.advance.new.self) _ c.args.w.now c.lines.w
     (search rules) (record {
       run = Ran-ended c.args.form.now _ _ c.args.limit _ _ _ _ (c.lines.invariant.ran _) gives.2
           (c.new-reader.ensures.whole _);

@@ -1,7 +1,5 @@
-use Rattle.std.proofs.Common.{◌≡◌, ◌+◌, ◌*◌, ◌≤◌, ◌++◌, length, map, take}
-use Rattle.std.specs.List.{flat_map}
+use Rattle.aprs_convert.proofs.Common.{◌≡◌, ◌+◌, ◌*◌, ◌≤◌, ◌++◌, length, map, take, flat_map, hop_of, hop_text}
 use Rattle.aprs_ax25.specs.FrameFault.{parts_of}
-use Rattle.aprs_ax25.specs.Hop.{hop_of, hop_text}
 use Rattle.aprs_convert.proofs.monitor.push_hops.Given as goal
 
 abbrev pub invariant-loop-i : goal.invariant-loop-i

@@ -1,4 +1,4 @@
-use Rattle.std.proofs.Common.{refl}
+use Rattle.aprs_convert.proofs.Common.{refl}
 use Rattle.aprs_report.specs.Reader.{report_by_form, utc_at, stamp_at}
 use Rattle.aprs_convert.proofs.monitor_example.monitors_print_frames.Goals as goal
 

@@ -1,4 +1,4 @@
-use Rattle.std.proofs.Common.{◌≡◌, ◌+◌, ◌*◌, ◌≤◌, ◌++◌, length, take}
+use Rattle.aprs_convert.proofs.Common.{◌≡◌, ◌+◌, ◌*◌, ◌≤◌, ◌++◌, length, take}
 use Rattle.aprs_io.specs.Shown.{shown_text}
 use Rattle.aprs_convert.proofs.text.push_escaped.Given as goal
 

@@ -1,5 +1,4 @@
-use Rattle.std.proofs.Common.{◌++◌, ap, sym, ◌∙◌}
-use Rattle.aprs_io.proofs.Shows.{shown-plain}
+use Rattle.aprs_convert.proofs.Common.{◌++◌, ap, sym, ◌∙◌, shown-plain}
 use Rattle.aprs_convert.proofs.text.push_shown.Goals as goal
 
 pub returns-then-are_shown-clause-shown : goal.returns-then-are_shown-clause-shown

@@ -1,5 +1,4 @@
-use Rattle.std.proofs.Common.{◌∙◌}
-use Rattle.aprs_io.proofs.Sends.{Sends-is}
+use Rattle.aprs_convert.proofs.Common.{◌∙◌, Sends-is}
 use Rattle.aprs_convert.proofs.write_line.write_kind_line.Goals as goal
 
 pub returns : goal.returns

@@ -1,8 +1,6 @@
-use Rattle.std.proofs.Common.{◌≡◌, [], ◌∷◌, ◌++◌, inl, inr, ap, sym, ◌∙◌}
-use Rattle.aprs_io.proofs.Sends.{Sends-is}
+use Rattle.aprs_convert.proofs.Common.{◌≡◌, [], ◌∷◌, ◌++◌, inl, inr, ap, sym, ◌∙◌, Sends-is, written_line}
 use Rattle.aprs_ax25.specs.FrameFault.{parts_of}
 use Rattle.aprs_kiss.specs.Spelling.{kiss_text}
-use Rattle.aprs_log.specs.Line.{written_line}
 use Rattle.aprs_convert.specs.Monitor.{monitor_text, kind_text}
 use Rattle.aprs_convert.specs.Conversion.{reception_text}
 use Rattle.aprs_convert.specs.declared.form.Form.{Form}

@@ -1,4 +1,4 @@
-use Rattle.std.proofs.Common.{arith}
+use Rattle.aprs_io.proofs.Common.{arith}
 use Rattle.aprs_io.proofs.Cuts.{cut_at-found, cut_at-missing}
 use Rattle.aprs_io.proofs.cut.cut_at.Goals as goal
 

@@ -1,4 +1,4 @@
-use Rattle.std.proofs.Common.{◌∙◌}
+use Rattle.aprs_io.proofs.Common.{◌∙◌}
 use Rattle.aprs_io.proofs.Cuts.{first_byte-place}
 use Rattle.aprs_io.proofs.cut.len_before.Goals as goal
 

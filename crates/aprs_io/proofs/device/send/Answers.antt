@@ -1,6 +1,4 @@
-use Rattle.std.proofs.Common.{[], arith, refl, ℕ}
-use Rattle.std.proofs.lemmas.List.{length-drop}
-use Rattle.std.proofs.KnownBytes.{Appends-nil}
+use Rattle.aprs_io.proofs.Common.{[], arith, refl, ℕ, length-drop, Appends-nil}
 use Rattle.aprs_io.proofs.Bytes.{AppendsAllBut-more}
 use Rattle.aprs_io.proofs.device.send.Goals as goal
 

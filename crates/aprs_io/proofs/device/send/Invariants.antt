@@ -1,4 +1,4 @@
-use Rattle.std.proofs.Common.{length, ◌≡◌, ◌+◌, ◌*◌, ◌-◌, ◌<◌, ◌≤◌}
+use Rattle.aprs_io.proofs.Common.{length, ◌≡◌, ◌+◌, ◌*◌, ◌-◌, ◌<◌, ◌≤◌}
 use Rattle.aprs_io.specs.Device.{AppendsAllBut}
 use Rattle.aprs_io.proofs.device.send.Given as goal
 

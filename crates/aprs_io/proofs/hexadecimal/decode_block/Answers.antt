@@ -1,5 +1,4 @@
-use Rattle.std.proofs.Common.{arith}
-use Rattle.std.proofs.lemmas.Bool.{OnTrue_from, OnTrue_at}
+use Rattle.aprs_io.proofs.Common.{arith, OnTrue_from, OnTrue_at}
 use Rattle.aprs_io.proofs.Digits.{block_bytes, block_digits_of}
 use Rattle.aprs_io.proofs.hexadecimal.decode_block.Goals as goal
 

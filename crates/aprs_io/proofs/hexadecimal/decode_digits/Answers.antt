@@ -1,5 +1,4 @@
-use Rattle.std.proofs.Common.{arith, inl, inr}
-use Rattle.std.proofs.lemmas.Bool.{OnTrue_at, cases_lt}
+use Rattle.aprs_io.proofs.Common.{arith, inl, inr, OnTrue_at, cases_lt}
 use Rattle.aprs_io.proofs.Digits.{HoldsByte-kept, HoldsDigits-kept, decode_of-bytes, encode_lower-digits}
 use Rattle.aprs_io.proofs.hexadecimal.decode_digits.Goals as goal
 

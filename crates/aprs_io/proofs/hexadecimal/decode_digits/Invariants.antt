@@ -1,4 +1,4 @@
-use Rattle.std.proofs.Common.{◌≡◌, ◌*◌, ◌<◌, ℕ, length, true}
+use Rattle.aprs_io.proofs.Common.{◌≡◌, ◌*◌, ◌<◌, ℕ, length, true}
 use Rattle.aprs_io.specs.Hexadecimal.{HoldsByte, HoldsDigits}
 use Rattle.aprs_io.proofs.hexadecimal.decode_digits.Given as goal
 

@@ -1,4 +1,4 @@
-use Rattle.std.proofs.Common.{arith, inl, inr, refl}
+use Rattle.aprs_io.proofs.Common.{arith, inl, inr, refl}
 use Rattle.aprs_io.proofs.Digits.{byte_more, encode_lower-digits, no_digits}
 use Rattle.aprs_io.proofs.hexadecimal.decode_few.Goals as goal
 use Rattle.aprs_io.proofs.hexadecimal.decode_few.Goals.{then-high-gt15-via-then-high-gt15, then-high-gt15-via-else-high-gt15+then-low-gt15}

@@ -1,4 +1,4 @@
-use Rattle.std.proofs.Common.{◌<◌, ℕ}
+use Rattle.aprs_io.proofs.Common.{◌<◌, ℕ}
 use Rattle.aprs_io.specs.Hexadecimal.{HoldsDigits}
 use Rattle.aprs_io.proofs.hexadecimal.decode_few.Given as goal
 

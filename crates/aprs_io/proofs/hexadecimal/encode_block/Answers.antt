@@ -1,4 +1,4 @@
-use Rattle.std.proofs.Common.{List, ℕ, ◌*◌, ◌+◌, ◌-◌, arith, sym, subst}
+use Rattle.aprs_io.proofs.Common.{List, ℕ, ◌*◌, ◌+◌, ◌-◌, arith, sym, subst}
 use borrow.Rule.Slice.PartMut.{put_mid}
 use Rattle.aprs_io.specs.Hexadecimal.{HoldsDigits}
 use Rattle.aprs_io.proofs.Digits.{block_digits}

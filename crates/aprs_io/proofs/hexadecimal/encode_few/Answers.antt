@@ -1,6 +1,4 @@
-use Rattle.std.proofs.Common.{arith}
-use Rattle.hex.specs.Hex.{lower_digits}
-use Rattle.hex.proofs.Pairs.{encode_step, encode_done}
+use Rattle.aprs_io.proofs.Common.{arith, lower_digits, encode_step, encode_done}
 use Rattle.aprs_io.proofs.hexadecimal.encode_few.Goals as goal
 
 pub bytes-preserved : goal.bytes-preserved

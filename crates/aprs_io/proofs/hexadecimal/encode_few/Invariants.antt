@@ -1,5 +1,4 @@
-use Rattle.std.proofs.Common.{◌≡◌, ◌*◌, ◌++◌, take, drop}
-use Rattle.hex.specs.Hex.{encode_lower}
+use Rattle.aprs_io.proofs.Common.{◌≡◌, ◌*◌, ◌++◌, take, drop, encode_lower}
 use Rattle.aprs_io.proofs.hexadecimal.encode_few.Given as goal
 
 -- the digits so far, and those of the bytes that are left

@@ -1,5 +1,4 @@
-use Rattle.std.proofs.Common.{arith, inl, inr, ◌∙◌, ◌+◌, ◌*◌}
-use Rattle.std.proofs.lemmas.Bool.{cases_lt}
+use Rattle.aprs_io.proofs.Common.{arith, inl, inr, ◌∙◌, ◌+◌, ◌*◌, cases_lt}
 use Rattle.aprs_io.proofs.Digits.{encode_lower-digits}
 use Rattle.aprs_io.proofs.hexadecimal.encode_to.Goals as goal
 

@@ -1,4 +1,4 @@
-use Rattle.std.proofs.Common.{◌*◌, ◌<◌, ℕ, length}
+use Rattle.aprs_io.proofs.Common.{◌*◌, ◌<◌, ℕ, length}
 use Rattle.aprs_io.specs.Hexadecimal.{HoldsDigits}
 use Rattle.aprs_io.proofs.hexadecimal.encode_to.Given as goal
 

@@ -1,4 +1,4 @@
-use Rattle.std.proofs.Common.{◌≡◌, ◌<◌, ◌+◌, ◌*◌, ℕ, slice_index}
+use Rattle.aprs_io.proofs.Common.{◌≡◌, ◌<◌, ◌+◌, ◌*◌, ℕ, slice_index}
 use Rattle.aprs_io.specs.Hexadecimal.{byte_of}
 use Rattle.aprs_io.proofs.hexadecimal.put_bytes.Given as goal
 

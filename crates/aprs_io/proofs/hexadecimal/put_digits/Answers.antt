@@ -1,5 +1,4 @@
-use Rattle.std.proofs.Common.{arith, refl, slice_index, slice_set, ◌*◌, ◌∙◌}
-use Rattle.std.proofs.lemmas.List.{length-set}
+use Rattle.aprs_io.proofs.Common.{arith, refl, slice_index, slice_set, ◌*◌, ◌∙◌, length-set}
 use Rattle.aprs_io.proofs.Digits.{digit_more, digits_of_twice, twice_more}
 use Rattle.aprs_io.proofs.hexadecimal.put_digits.Goals as goal
 

@@ -1,4 +1,4 @@
-use Rattle.std.proofs.Common.{◌≡◌, ◌<◌, ℕ, length}
+use Rattle.aprs_io.proofs.Common.{◌≡◌, ◌<◌, ℕ, length}
 use Rattle.aprs_io.specs.Hexadecimal.{HoldsDigit, HoldsTwice}
 use Rattle.aprs_io.proofs.hexadecimal.put_digits.Given as goal
 

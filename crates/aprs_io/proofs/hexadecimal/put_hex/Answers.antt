@@ -1,5 +1,4 @@
-use Rattle.std.proofs.Common.{rules, ◌≡◌, ◌+◌, ◌-◌, ◌*◌, length, arith}
-use Rattle.std.proofs.lemmas.Slice.{drop-put_mid}
+use Rattle.aprs_io.proofs.Common.{rules, ◌≡◌, ◌+◌, ◌-◌, ◌*◌, length, arith, drop-put_mid}
 use Rattle.aprs_io.proofs.hexadecimal.put_hex.Goals as goal
 
 pub returns-clause-stays : goal.returns-clause-stays

@@ -1,4 +1,4 @@
-use Rattle.std.proofs.Common.{◌<◌, arith}
+use Rattle.aprs_io.proofs.Common.{◌<◌, arith}
 use Rattle.aprs_io.proofs.Digits.{lowers_more, values_more}
 use Rattle.aprs_io.proofs.hexadecimal.put_values.Goals as goal
 

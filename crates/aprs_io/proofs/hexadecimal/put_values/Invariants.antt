@@ -1,5 +1,4 @@
-use Rattle.std.proofs.Common.{◌≡◌, ◌<◌, ℕ, slice_index, true}
-use Rattle.hex.specs.Hex.{lower_digits}
+use Rattle.aprs_io.proofs.Common.{◌≡◌, ◌<◌, ℕ, slice_index, true, lower_digits}
 use Rattle.aprs_io.specs.Hexadecimal.{HoldsValue}
 use Rattle.aprs_io.proofs.hexadecimal.put_values.Given as goal
 

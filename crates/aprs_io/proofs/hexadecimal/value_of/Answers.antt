@@ -1,7 +1,4 @@
-use Rattle.std.proofs.Common.{◌≡◌, ◌⊎◌, ◌+◌, ◌%◌, inl, inr, false, true, ap, sym, ◌∙◌, arith}
-use Rattle.std.specs.Int.Bits.{bit_or}
-use Rattle.hex.specs.Hex.{lower_digits}
-use Rattle.std.specs.List.{slice_index}
+use Rattle.aprs_io.proofs.Common.{◌≡◌, ◌⊎◌, ◌+◌, ◌%◌, inl, inr, false, true, ap, sym, ◌∙◌, arith, bit_or, lower_digits, slice_index}
 use Rattle.aprs_io.proofs.Digits.{lower_letter, value_of_letter}
 use Rattle.aprs_io.proofs.hexadecimal.value_of.Goals as goal
 use Rattle.aprs_io.proofs.hexadecimal.value_of.Goals.{then-lower, else-lower}

@@ -1,4 +1,4 @@
-use Rattle.std.proofs.Common.{refl}
+use Rattle.aprs_kiss.proofs.Common.{refl}
 use Rattle.aprs_kiss.specs.Judgement.{judgement_of}
 use Rattle.aprs_kiss.specs.Stream.{judgements_of, pieces_of}
 use Rattle.aprs_kiss.specs.Unspelling.{spelled_bytes}

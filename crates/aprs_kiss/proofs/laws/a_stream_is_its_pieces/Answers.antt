@@ -1,4 +1,4 @@
-use Rattle.std.proofs.Common.{[]}
+use Rattle.aprs_kiss.proofs.Common.{[]}
 use Rattle.aprs_kiss.proofs.Pieces.{cuts, made_so}
 use Rattle.aprs_kiss.proofs.laws.a_stream_is_its_pieces.Goals as goal
 

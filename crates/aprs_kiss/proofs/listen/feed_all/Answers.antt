@@ -1,4 +1,4 @@
-use Rattle.std.proofs.Common.{refl}
+use Rattle.aprs_kiss.proofs.Common.{refl}
 use Rattle.aprs_kiss.proofs.Hearing.{HasHeard-none, HasHeard-more, Hears-call, parts_of}
 use Rattle.aprs_kiss.proofs.listen.feed_all.Goals as goal
 

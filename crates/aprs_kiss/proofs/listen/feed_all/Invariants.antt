@@ -1,4 +1,4 @@
-use Rattle.std.proofs.Common.{length}
+use Rattle.aprs_kiss.proofs.Common.{length}
 use Rattle.aprs_kiss.proofs.Hearing.{HasHeard}
 use Rattle.aprs_kiss.proofs.listen.feed_all.Given as goal
 

@@ -1,4 +1,4 @@
-use Rattle.std.proofs.Common.{refl, sym, append-nil, []}
+use Rattle.aprs_kiss.proofs.Common.{refl, sym, append-nil, []}
 use Rattle.aprs_kiss.proofs.Hearing.{HasHeard-none, HasHeard-more, Hears-all, parts_of}
 use Rattle.aprs_kiss.proofs.listen.feed_in_parts.Goals as goal
 

@@ -1,4 +1,4 @@
-use Rattle.std.proofs.Common.{◌∙◌, ap, ◌∷◌}
+use Rattle.aprs_kiss.proofs.Common.{◌∙◌, ap, ◌∷◌}
 use Rattle.aprs_kiss.specs.Unspelling.{spelled_bytes}
 use Rattle.aprs_kiss.proofs.Escapes.{unspelled-end, unspelled-escape, unspelled-broken}
 use Rattle.aprs_kiss.proofs.reader.unescape.Goals as goal

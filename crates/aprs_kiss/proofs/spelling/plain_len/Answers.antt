@@ -1,4 +1,4 @@
-use Rattle.std.proofs.Common.{subst, sym}
+use Rattle.aprs_kiss.proofs.Common.{subst, sym}
 use Rattle.aprs_kiss.proofs.Marks.{IsMark, first_mark}
 use Rattle.aprs_kiss.proofs.spelling.plain_len.Goals as goal
 

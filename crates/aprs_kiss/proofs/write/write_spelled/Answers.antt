@@ -1,4 +1,4 @@
-use Rattle.std.proofs.Common.{refl, subst, [], ◌∷◌, ◌++◌}
+use Rattle.aprs_kiss.proofs.Common.{refl, subst, [], ◌∷◌, ◌++◌}
 use Rattle.aprs_io.proofs.Sends.{Sends-broken, Sends-fails, Sends-is, Sends-last, left_after, left_all}
 use Rattle.aprs_kiss.specs.Plain.{CutsPlain}
 use Rattle.aprs_kiss.specs.Spelling.{kiss_text, spelling_of}

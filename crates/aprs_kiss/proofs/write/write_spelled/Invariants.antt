@@ -1,4 +1,4 @@
-use Rattle.std.proofs.Common.{◌++◌, ◌∷◌, [], length}
+use Rattle.aprs_kiss.proofs.Common.{◌++◌, ◌∷◌, [], length}
 use Rattle.aprs_io.specs.Device.{SendsAllBut}
 use Rattle.aprs_kiss.specs.Spelling.{kiss_text, spelling_of}
 use Rattle.aprs_kiss.proofs.write.write_spelled.Given as goal

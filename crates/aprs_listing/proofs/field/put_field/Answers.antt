@@ -1,7 +1,6 @@
-use Rattle.std.proofs.Common.{ap, sym, ◌∙◌}
+use Rattle.aprs_listing.proofs.Common.{ap, sym, ◌∙◌, Puts-is}
 use Rattle.aprs_listing.specs.Lines.{field_text}
 use Rattle.aprs_listing.specs.declared.field.Field.{Field}
-use Rattle.aprs_io.proofs.Outlets.{Puts-is}
 use Rattle.aprs_listing.proofs.field.put_field.Goals as goal
 
 pub returns-in-Call : goal.returns-in-Call

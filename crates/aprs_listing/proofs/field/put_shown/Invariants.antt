@@ -1,7 +1,4 @@
-use Rattle.std.proofs.Common.{Ok, take}
-use Rattle.std.specs.List.{flat_map}
-use Rattle.aprs_io.specs.Outlet.{Puts}
-use Rattle.aprs_io.specs.Shown.{shown_byte}
+use Rattle.aprs_listing.proofs.Common.{Ok, take, flat_map, Puts, shown_byte}
 use Rattle.aprs_listing.proofs.field.put_shown.Given as goal
 
 abbrev pub invariant-loop-b : goal.invariant-loop-b

@@ -1,7 +1,5 @@
-use Rattle.std.proofs.Common.{Ok, Err, get_or, arith}
-use Rattle.std.proofs.lemmas.List.{get_or_default}
+use Rattle.aprs_listing.proofs.Common.{Ok, Err, get_or, arith, get_or_default, Puts-broken, Puts-is, Puts-more, Puts-none}
 use Rattle.aprs_listing.specs.Listing.{word_byte}
-use Rattle.aprs_io.proofs.Outlets.{Puts-broken, Puts-is, Puts-more, Puts-none}
 use Rattle.aprs_listing.proofs.field.put_word.Goals as goal
 
 pub loop-b-init : goal.loop-b-init

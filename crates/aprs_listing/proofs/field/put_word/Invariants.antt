@@ -1,6 +1,4 @@
-use Rattle.std.proofs.Common.{Ok, take}
-use Rattle.std.specs.List.{flat_map}
-use Rattle.aprs_io.specs.Outlet.{Puts}
+use Rattle.aprs_listing.proofs.Common.{Ok, take, flat_map, Puts}
 use Rattle.aprs_listing.specs.Listing.{word_byte}
 use Rattle.aprs_listing.proofs.field.put_word.Given as goal
 

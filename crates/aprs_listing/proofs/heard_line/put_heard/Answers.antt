@@ -1,16 +1,10 @@
-use Rattle.std.proofs.Common.{◌≡◌, ◌∙◌, ◌++◌, ap, sym}
-use Rattle.std.specs.Prelude.{codes}
+use Rattle.aprs_listing.proofs.Common.{◌≡◌, ◌∙◌, ◌++◌, ap, sym, codes, key_of, Received, view, Report, Puts-is}
 use Rattle.aprs_book.specs.Reports.{report_of}
-use Rattle.aprs_laws.specs.Key.{key_of}
-use Rattle.aprs_log.specs.Reception.{Heard}
-use Rattle.aprs_report.specs.Reading.{view}
-use Rattle.aprs_report.specs.declared.report.Report.{Report}
 use Rattle.aprs_listing.specs.Listing.{heard_fields, heard_line, name_fields, place_fields, report_line, line_with_text}
-use Rattle.aprs_io.proofs.Outlets.{Puts-is}
 use Rattle.aprs_listing.proofs.heard_line.put_heard.Goals as goal
 
 -- the report of a reception as it is lent gives its line
-line_by : (x : Heard) (lent r : Report) → view lent ≡ report_of (key_of x.frame) → lent ≡ r
+line_by : (x : Received) (lent r : Report) → view lent ≡ report_of (key_of x.frame) → lent ≡ r
     → report_line x (view r) ≡ heard_line x
 line_by x lent r e is = ap (λ (r : Report). report_line x (view r)) (sym is) ∙ ap (report_line x) e
 
@@ -20,7 +14,7 @@ returns-in-Position g c =
     (ap (λ at. line_with_text (codes "position") (heard_fields c.args.heard.now
     ++ place_fields at.stamp at.place at.symbol) at.comment.now) c.new-at.ensures
     ∙ line_by c.args.heard.now c.heard.inside.report _ (c.heard.invariant
-    ∙ ap (λ (h : Heard). report_of (key_of h.frame)) c.heard.view_is) c.in-Position.is)
+    ∙ ap (λ (h : Received). report_of (key_of h.frame)) c.heard.view_is) c.in-Position.is)
 
 pub returns-in-Object : goal.returns-in-Object
 returns-in-Object g c =
@@ -29,7 +23,7 @@ returns-in-Object g c =
     c.args.heard.now
     ++ place_fields at.stamp at.place at.symbol) at.comment.now) c.new-at-in-Object.ensures
     ∙ line_by c.args.heard.now c.heard.inside.report _ (c.heard.invariant
-    ∙ ap (λ (h : Heard). report_of (key_of h.frame)) c.heard.view_is) c.in-Object.is)
+    ∙ ap (λ (h : Received). report_of (key_of h.frame)) c.heard.view_is) c.in-Object.is)
 
 pub returns-in-Item : goal.returns-in-Item
 returns-in-Item g c =
@@ -38,10 +32,10 @@ returns-in-Item g c =
     c.args.heard.now
     ++ place_fields at.stamp at.place at.symbol) at.comment.now) c.new-at-in-Item.ensures
     ∙ line_by c.args.heard.now c.heard.inside.report _ (c.heard.invariant
-    ∙ ap (λ (h : Heard). report_of (key_of h.frame)) c.heard.view_is) c.in-Item.is)
+    ∙ ap (λ (h : Received). report_of (key_of h.frame)) c.heard.view_is) c.in-Item.is)
 
 pub returns-in-Status : goal.returns-in-Status
 returns-in-Status g c =
     Puts-is c.put_status.ensures
     (line_by c.args.heard.now c.heard.inside.report _ (c.heard.invariant
-    ∙ ap (λ (h : Heard). report_of (key_of h.frame)) c.heard.view_is) c.in-Status.is)
+    ∙ ap (λ (h : Received). report_of (key_of h.frame)) c.heard.view_is) c.in-Status.is)

@@ -1,5 +1,4 @@
-use Rattle.aprs_laws.specs.Key.{key_of}
-use Rattle.aprs_io.proofs.Outlets.{Puts-is}
+use Rattle.aprs_listing.proofs.Common.{key_of, Puts-is}
 use Rattle.aprs_listing.proofs.Lines.{name_fields_of, placed}
 use Rattle.aprs_listing.proofs.heard_line.put_name.Goals as goal
 

@@ -1,5 +1,4 @@
-use Rattle.std.proofs.Common.{codes}
-use Rattle.aprs_io.proofs.Outlets.{Puts-is}
+use Rattle.aprs_listing.proofs.Common.{codes, Puts-is}
 use Rattle.aprs_listing.proofs.Lines.{heard_fields_of, placed}
 use Rattle.aprs_listing.proofs.heard_line.put_position.Goals as goal
 

@@ -1,7 +1,6 @@
-use Rattle.std.proofs.Common.{[], ◌∷◌, refl}
+use Rattle.aprs_listing.proofs.Common.{[], ◌∷◌, refl, Puts-is}
 use Rattle.aprs_listing.specs.Listing.{word}
 use Rattle.aprs_listing.specs.declared.field.Field.TheVariants as field
-use Rattle.aprs_io.proofs.Outlets.{Puts-is}
 use Rattle.aprs_listing.proofs.Histories.{lists_line}
 use Rattle.aprs_listing.proofs.history.put_answer_line.Goals as goal
 

@@ -1,10 +1,6 @@
-use Rattle.std.proofs.Common.{◌≡◌, ◌∙◌, ℕ, List, ◌∷◌, map, Some, None, ap, sym}
-use Rattle.std.specs.Prelude.{codes}
-use Rattle.aprs_report.specs.Reading.{view}
-use Rattle.aprs_report.specs.declared.report.Report.{Report}
+use Rattle.aprs_listing.proofs.Common.{◌≡◌, ◌∙◌, ℕ, List, ◌∷◌, map, Some, None, ap, sym, codes, view, Report, Puts-is}
 use Rattle.aprs_listing.specs.Lines.{field_text, told_named_line}
 use Rattle.aprs_listing.specs.Listing.{live_text, place_fields, word}
-use Rattle.aprs_io.proofs.Outlets.{Puts-is}
 use Rattle.aprs_listing.proofs.Histories.{text_line}
 use Rattle.aprs_listing.proofs.history.put_named.Goals as goal
 

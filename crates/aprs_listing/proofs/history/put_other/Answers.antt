@@ -1,15 +1,8 @@
-use Rattle.std.proofs.Common.{◌∙◌, [], ◌∷◌, ◌++◌, map, Some, None, ap}
-use Rattle.std.specs.Prelude.{codes}
-use Rattle.std.specs.Fmt.{decimal}
-use Rattle.aprs_ax25.specs.Callsign.{Call, call_text}
-use Rattle.aprs_ax25.specs.FrameFault.{parts_of}
-use Rattle.aprs_mice.specs.MicE.{mic_e_view}
-use Rattle.aprs_mice.specs.MicEMessage.{message_name}
+use Rattle.aprs_listing.proofs.Common.{◌∙◌, [], ◌∷◌, ◌++◌, map, Some, None, ap, codes, decimal, Call, call_text, parts_of, mic_e_view, message_name, Puts-is}
 use Rattle.aprs_listing.specs.History.{other_line}
 use Rattle.aprs_listing.specs.Lines.{field_text}
 use Rattle.aprs_listing.specs.Listing.{line_with_text, place_fields}
 use Rattle.aprs_listing.specs.declared.field.Field.TheVariants as field
-use Rattle.aprs_io.proofs.Outlets.{Puts-is}
 use Rattle.aprs_listing.proofs.Histories.{mic_e_read, text_line}
 use Rattle.aprs_listing.proofs.history.put_other.Goals as goal
 

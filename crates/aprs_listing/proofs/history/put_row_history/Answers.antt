@@ -1,9 +1,5 @@
-use Rattle.std.proofs.Common.{◌∙◌, map}
-use Rattle.aprs_ax25.specs.FrameFault.{parts_of}
-use Rattle.aprs_ax25.specs.Hop.{hop_of}
-use Rattle.aprs_report.specs.Reading.{view}
+use Rattle.aprs_listing.proofs.Common.{◌∙◌, map, parts_of, hop_of, view, Puts-is}
 use Rattle.aprs_listing.specs.Lines.{field_text}
-use Rattle.aprs_io.proofs.Outlets.{Puts-is}
 use Rattle.aprs_listing.proofs.Histories.{row_told}
 use Rattle.aprs_listing.proofs.history.put_row_history.Goals as goal
 

@@ -1,15 +1,8 @@
-use Rattle.std.proofs.Common.{◌≡◌, ◌∙◌, ℕ, List, [], ◌∷◌, map, ap, sym, refl}
-use Rattle.std.specs.Prelude.{codes}
-use Rattle.std.specs.Option.{option_map}
-use Rattle.aprs_ax25.specs.Frame.{Parts}
-use Rattle.aprs_ax25.specs.FrameFault.{parts_of}
-use Rattle.aprs_report.specs.Reading.{view}
-use Rattle.aprs_report.specs.declared.report.Report.{Report}
+use Rattle.aprs_listing.proofs.Common.{◌≡◌, ◌∙◌, ℕ, List, [], ◌∷◌, map, ap, sym, refl, codes, option_map, Parts, parts_of, view, Report, Puts-is}
 use Rattle.aprs_listing.specs.History.{id_word, told_line}
 use Rattle.aprs_listing.specs.Lines.{field_text, told_named_line}
 use Rattle.aprs_listing.specs.Listing.{place_fields, stamp_text, word}
 use Rattle.aprs_listing.specs.declared.field.Field.TheVariants as field
-use Rattle.aprs_io.proofs.Outlets.{Puts-is}
 use Rattle.aprs_listing.proofs.Histories.{id_of, text_line}
 use Rattle.aprs_listing.proofs.history.put_told.Goals as goal
 

@@ -1,6 +1,4 @@
-use Rattle.std.proofs.Common.{rules, subst}
-use Rattle.aprs_io.specs.Device.{Sends}
-use Rattle.aprs_io.proofs.Outlets.{Sends-put, Sends-unput}
+use Rattle.aprs_listing.proofs.Common.{rules, subst, Sends, Sends-put, Sends-unput}
 use Rattle.aprs_listing.specs.History.{history_text}
 use Rattle.aprs_listing.proofs.history.write_history.Goals as goal
 

@@ -1,6 +1,5 @@
-use Rattle.std.proofs.Common.{arith}
+use Rattle.aprs_listing.proofs.Common.{arith, Puts-broken, Puts-more, Puts-none}
 use Rattle.aprs_listing.specs.Lines.{spaced_field}
-use Rattle.aprs_io.proofs.Outlets.{Puts-broken, Puts-more, Puts-none}
 use Rattle.aprs_listing.proofs.line.put_fields.Goals as goal
 
 pub loop-field-init : goal.loop-field-init

@@ -1,6 +1,4 @@
-use Rattle.std.proofs.Common.{Ok, take}
-use Rattle.std.specs.List.{flat_map}
-use Rattle.aprs_io.specs.Outlet.{Puts}
+use Rattle.aprs_listing.proofs.Common.{Ok, take, flat_map, Puts}
 use Rattle.aprs_listing.specs.Lines.{spaced_field}
 use Rattle.aprs_listing.proofs.line.put_fields.Given as goal
 

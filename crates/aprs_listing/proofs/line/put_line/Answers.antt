@@ -1,4 +1,4 @@
-use Rattle.aprs_io.proofs.Outlets.{Puts-fails, Puts-then}
+use Rattle.aprs_listing.proofs.Common.{Puts-fails, Puts-then}
 use Rattle.aprs_listing.proofs.line.put_line.Goals as goal
 
 pub returns-in_err-put : goal.returns-in_err-put

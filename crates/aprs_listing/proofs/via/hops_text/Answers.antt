@@ -1,7 +1,4 @@
-use Rattle.std.proofs.Common.{arith, []}
-use Rattle.aprs_ax25.specs.FrameFault.{parts_of}
-use Rattle.aprs_ax25.specs.Hop.{hop_of, hop_text}
-use Rattle.aprs_io.proofs.Shows.{shown-each}
+use Rattle.aprs_listing.proofs.Common.{arith, [], parts_of, hop_of, hop_text, shown-each}
 use Rattle.aprs_listing.proofs.via.hops_text.Goals as goal
 
 pub loop-i-preserved : goal.loop-i-preserved

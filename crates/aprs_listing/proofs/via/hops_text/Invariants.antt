@@ -1,7 +1,4 @@
-use Rattle.std.proofs.Common.{◌≡◌, ◌*◌, ◌≤◌, length, map, take}
-use Rattle.std.specs.List.{flat_map}
-use Rattle.aprs_ax25.specs.FrameFault.{parts_of}
-use Rattle.aprs_ax25.specs.Hop.{hop_of, hop_text}
+use Rattle.aprs_listing.proofs.Common.{◌≡◌, ◌*◌, ◌≤◌, length, map, take, flat_map, parts_of, hop_of, hop_text}
 use Rattle.aprs_listing.proofs.via.hops_text.Given as goal
 
 abbrev pub invariant-loop-i : goal.invariant-loop-i

@@ -1,4 +1,4 @@
-use Rattle.std.proofs.Common.{◌≡◌, ◌∙◌, ◌++◌, codes, Ok, Err, sym, ap}
+use Rattle.aprs_log.proofs.Common.{◌≡◌, ◌∙◌, ◌++◌, codes, Ok, Err, sym, ap}
 use Rattle.aprs_log.specs.Examples.{leap_line, line_by, noon, unended_line}
 use Rattle.aprs_log.specs.Fault.{log_cause_of}
 use Rattle.aprs_log.specs.declared.fault.LineFault.TheVariants as fault

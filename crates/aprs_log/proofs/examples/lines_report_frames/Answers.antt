@@ -1,7 +1,7 @@
-use Rattle.std.proofs.Common.{◌≡◌, Result, ap, arith, ◌∙◌, [], codes, Ok, sym}
+use Rattle.aprs_log.proofs.Common.{◌≡◌, Result, ap, arith, ◌∙◌, [], codes, Ok, sym}
 use Rattle.aprs_log.specs.Examples.{heard_after, hi_digits, hi_line, line_by, noon, unended_line}
 use Rattle.aprs_log.specs.Line.{line_of}
-use Rattle.aprs_log.specs.Reception.{Heard}
+use Rattle.aprs_log.specs.Reception.{Received}
 use Rattle.aprs_log.specs.declared.fault.LineFault.{LineFault}
 use Rattle.aprs_log.specs.declared.line.Line.{Line}
 use Rattle.aprs_log.specs.declared.fault.Reason.TheVariants as reason
@@ -18,13 +18,13 @@ returns-clause-millis c =
     line_of-reports (line_by (codes "2024-05-01T12:00:00.500Z") hi_digits) (heard_after 500)
     half_line_read
 
-reception_of : (x y : Heard) (r : Result Line LineFault) → r ≡ Ok (line.Heard x)
+reception_of : (x y : Received) (r : Result Line LineFault) → r ≡ Ok (line.Heard x)
     → r ≡ Ok (line.Heard y) → x ≡ y
 reception_of x y r e f = cc
 
 pub returns-clause-misses_moment : goal.returns-clause-misses_moment
 returns-clause-misses_moment c = λ h.
-    let same = ap (λ (x : Heard). x.moment) (reception_of (heard_after 0) (heard_after 1)
+    let same = ap (λ (x : Received). x.moment) (reception_of (heard_after 0) (heard_after 1)
     (line_of hi_line) hi_read (reports-line_of hi_line (heard_after 1) h)) in omega (arith, same)
 
 pub returns-clause-passed : goal.returns-clause-passed

@@ -1,6 +1,4 @@
-use Rattle.std.proofs.Common.{◌≡◌, [], ◌∷◌, ◌++◌, ℕ, List, None, Some, refl, inl, inr, length, ◌≤◌, arith}
-use Rattle.aprs_io.specs.declared.input.Ending.{Ending}
-use Rattle.aprs_io.specs.declared.input.Ending.TheVariants.{End, Read}
+use Rattle.aprs_log.proofs.Common.{◌≡◌, [], ◌∷◌, ◌++◌, ℕ, List, None, Some, refl, inl, inr, length, ◌≤◌, arith, InputEnd, End, Read}
 use Rattle.aprs_log.specs.Examples.{heard_after, hi_line, leap_line, unended_line}
 use Rattle.aprs_log.specs.LogAnswers.{log_answers}
 use Rattle.aprs_log.specs.LogText.{BeginsWrong, HasLogFault, ReportAll}
@@ -18,7 +16,7 @@ one_report : ReportAll (hi_line ∷ []) (heard_after 0 ∷ [])
 one_report = inr (heard_after 0, [], line_of-reports hi_line (heard_after 0) hi_read, refl, refl)
 
 -- what is wrong in the second line, after the one that is in order
-second : (rest : List ℕ) (e : Ending) (cause : LogCause) → BeginsWrong rest e cause
+second : (rest : List ℕ) (e : InputEnd) (cause : LogCause) → BeginsWrong rest e cause
     → HasLogFault (hi_line ++ 10 ∷ rest) e (record { line = 2; cause = cause })
 second rest e cause wrong = record {
   lines = hi_line ∷ [];

@@ -1,4 +1,4 @@
-use Rattle.std.proofs.Common.{◌≡◌, ℕ, arith, ◌∙◌, codes, Some, None, sym}
+use Rattle.aprs_log.proofs.Common.{◌≡◌, ℕ, arith, ◌∙◌, codes, Some, None, sym}
 use Rattle.aprs_log.specs.Examples.{noon}
 use Rattle.aprs_log.proofs.Lines.{moment_read}
 use Rattle.aprs_log.proofs.Moments.{moment_of-text, text-IsTextOf}

@@ -1,4 +1,4 @@
-use Rattle.std.proofs.Common.{subst}
+use Rattle.aprs_log.proofs.Common.{subst}
 use Rattle.aprs_log.specs.LineText.{IsWrongLine}
 use Rattle.aprs_log.proofs.LineTexts.{line_of-passed, line_of-reports, line_of-wrong, passed-line_of, reports-line_of, wrong-line_of}
 use Rattle.aprs_log.proofs.laws.lines_are_read_as_they_say.Goals as goal

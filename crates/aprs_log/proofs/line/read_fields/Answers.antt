@@ -1,4 +1,4 @@
-use Rattle.std.proofs.Common.{◌∙◌}
+use Rattle.aprs_log.proofs.Common.{◌∙◌}
 use Rattle.aprs_log.proofs.FirstFields.{digits_fit, line_of-takes, line_of-takes_no_moment, line_of-takes_no_name}
 use Rattle.aprs_log.proofs.Lines.{line_of-long}
 use Rattle.aprs_log.proofs.line.read_fields.Goals as goal

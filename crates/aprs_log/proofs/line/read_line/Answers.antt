@@ -1,4 +1,4 @@
-use Rattle.std.proofs.Common.{◌∙◌, ap, sym, Ok, Err}
+use Rattle.aprs_log.proofs.Common.{◌∙◌, ap, sym, Ok, Err}
 use Rattle.aprs_log.specs.ReaderSteps.{line_in}
 use Rattle.aprs_log.proofs.Lines.{IsOk-line_of}
 use Rattle.aprs_log.proofs.line.read_line.Goals as goal

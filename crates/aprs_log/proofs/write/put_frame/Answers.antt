@@ -1,5 +1,5 @@
-use Rattle.std.proofs.Common.{◌≡◌, ◌++◌, ◌∷◌, length, length-append, arith, ap, refl, subst, sym, ◌∙◌}
-use Rattle.aprs_kiss.specs.Plain.{CutsPlain}
+use Rattle.aprs_log.proofs.Common.{◌≡◌, ◌++◌, ◌∷◌, length, arith, ap, refl, subst, sym, ◌∙◌, CutsPlain}
+use Rattle.std.proofs.Common.{length-append}
 use Rattle.aprs_log.proofs.WrittenLines.{put_first, put_last, put_cut, reads_back}
 use Rattle.aprs_log.proofs.write.put_frame.Goals as goal
 

@@ -1,6 +1,4 @@
-use Rattle.std.proofs.Common.{◌≡◌, ◌≤◌, ◌+◌, ◌*◌, ◌++◌, ◌∷◌, [], length, take}
-use Rattle.hex.specs.Hex.{encode_lower}
-use Rattle.aprs_kiss.specs.Spelling.{spelling_of}
+use Rattle.aprs_log.proofs.Common.{◌≡◌, ◌≤◌, ◌+◌, ◌*◌, ◌++◌, ◌∷◌, [], length, take, encode_lower, spelling_of}
 use Rattle.aprs_log.proofs.write.put_frame.Given as goal
 
 abbrev pub invariant-cuts : goal.invariant-cuts

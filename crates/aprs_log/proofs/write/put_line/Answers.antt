@@ -1,11 +1,6 @@
-use Rattle.std.proofs.Common.{◌≡◌, ◌≤◌, List, ℕ, length, ap, ◌∙◌, refl, subst, arith, Ok}
-use Rattle.hex.specs.Hex.{decode_of, encode_lower}
-use Rattle.aprs_kiss.specs.Spelling.{kiss_text}
-use Rattle.aprs_ax25.specs.Frame.{FrameOf}
-use Rattle.aprs_ax25.specs.FrameFault.{parts_of}
+use Rattle.aprs_log.proofs.Common.{◌≡◌, ◌≤◌, List, ℕ, length, ap, ◌∙◌, refl, subst, arith, Ok, decode_of, encode_lower, kiss_text, FrameOf, parts_of, MAX_UI_FRAME}
 use Rattle.aprs_log.specs.Moment.{moment_text}
 use Rattle.aprs_log.specs.Receiver.{IsName}
-use Rattle.aprs_ax25.specs.declared.scan.TheConstants.{MAX_UI_FRAME}
 use Rattle.aprs_log.specs.declared.moment_form.MomentForm.TheVariants.{Millis}
 use Rattle.aprs_log.proofs.Moments.{moment_text-is}
 use Rattle.aprs_log.proofs.WrittenLines.{frame_of-is, line_of-written, real}

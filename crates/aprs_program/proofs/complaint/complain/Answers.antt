@@ -1,6 +1,5 @@
-use Rattle.std.proofs.Common.{rules, subst}
+use Rattle.aprs_program.proofs.Common.{rules, subst, Sends-put, Sends-unput}
 use Rattle.aprs_io.specs.Device.{Sends}
-use Rattle.aprs_io.proofs.Outlets.{Sends-put, Sends-unput}
 use Rattle.aprs_program.specs.Complaint.{complaint_text}
 use Rattle.aprs_program.proofs.complaint.complain.Goals as goal
 

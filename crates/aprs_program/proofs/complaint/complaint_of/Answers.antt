@@ -1,4 +1,4 @@
-use Rattle.std.proofs.Common.{◌∙◌, ap, sym}
+use Rattle.aprs_program.proofs.Common.{◌∙◌, ap, sym}
 use Rattle.aprs_tool.specs.declared.fault.RunFault.{RunFault}
 use Rattle.aprs_program.specs.Complaint.{run_words}
 use Rattle.aprs_program.proofs.complaint.complaint_of.Goals as goal

@@ -1,5 +1,5 @@
 use Rattle.std.specs.Fmt.{decimal}
-use Rattle.aprs_io.proofs.Outlets.{Puts-fails, Puts-is, Puts-then}
+use Rattle.aprs_program.proofs.Common.{Puts-fails, Puts-is, Puts-then}
 use Rattle.aprs_program.proofs.complaint.put_line.Goals as goal
 
 pub returns-in_err-put : goal.returns-in_err-put

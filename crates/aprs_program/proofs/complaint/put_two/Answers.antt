@@ -1,4 +1,4 @@
-use Rattle.aprs_io.proofs.Outlets.{Puts-fails, Puts-then}
+use Rattle.aprs_program.proofs.Common.{Puts-fails, Puts-then}
 use Rattle.aprs_program.proofs.complaint.put_two.Goals as goal
 
 pub returns-in_err-put : goal.returns-in_err-put

@@ -1,5 +1,4 @@
-use Rattle.std.proofs.Common.{ap, sym}
-use Rattle.aprs_io.proofs.Outlets.{Puts-is}
+use Rattle.aprs_program.proofs.Common.{ap, sym, Puts-is}
 use Rattle.aprs_program.specs.Complaint.{words_of}
 use Rattle.aprs_program.specs.declared.complaint.Complaint.{Complaint}
 use Rattle.aprs_program.proofs.complaint.put_words.Goals as goal

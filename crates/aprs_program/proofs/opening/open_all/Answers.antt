@@ -1,4 +1,4 @@
-use Rattle.std.proofs.Common.{arith, inl, refl, rules}
+use Rattle.aprs_program.proofs.Common.{arith, inl, refl, rules}
 use Rattle.aprs_program.proofs.Openings.{said, stops_at}
 use Rattle.aprs_program.proofs.opening.open_all.Goals as goal
 

@@ -1,5 +1,4 @@
-use Rattle.std.proofs.Common.{◌≡◌, map, take, length}
-use Rattle.std.specs.Prelude.{string_bytes}
+use Rattle.aprs_program.proofs.Common.{◌≡◌, map, take, length, string_bytes}
 use Rattle.aprs_program.specs.Opening.{AsksFor}
 use Rattle.aprs_program.proofs.opening.open_all.Given as goal
 

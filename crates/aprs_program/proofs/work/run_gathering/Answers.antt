@@ -1,4 +1,4 @@
-use Rattle.std.proofs.Common.{subst, sym}
+use Rattle.aprs_program.proofs.Common.{subst, sym}
 use Rattle.aprs_tool.specs.Outcome.{IsToldOf, WritesFor}
 use Rattle.aprs_tool.specs.Several.{GiveUnion, OfEach}
 use Rattle.aprs_program.specs.Work.{AsksAll, IsOutputOf}

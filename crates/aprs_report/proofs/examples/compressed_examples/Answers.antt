@@ -1,4 +1,4 @@
-use Rattle.std.proofs.Common.{refl}
+use Rattle.aprs_report.proofs.Common.{refl}
 use Rattle.aprs_report.specs.Reader.{report_by_form, position_of, place_of, compressed_of, table_at}
 use Rattle.aprs_report.specs.Reader.{base91_of, numeral_of}
 use Rattle.aprs_report.proofs.Readings.{computed}

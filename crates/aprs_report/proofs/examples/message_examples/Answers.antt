@@ -1,11 +1,11 @@
-use Rattle.std.proofs.Common.{refl}
-use Rattle.aprs_report.specs.Reader.{report_by_form, message_of, addressee_and_part_of, answer_at, text_and_id_of}
+use Rattle.aprs_report.proofs.Common.{refl}
+use Rattle.aprs_report.specs.Reader.{report_by_form, message_with, addressee_and_part_of, answer_at, text_and_id_of}
 use Rattle.aprs_report.specs.Reader.{cut_end}
 use Rattle.aprs_report.proofs.Readings.{computed}
 use Rattle.aprs_report.proofs.examples.message_examples.Goals as goal
 
 pub returns : goal.returns
-unfolding report_by_form message_of addressee_and_part_of answer_at text_and_id_of cut_end
+unfolding report_by_form message_with addressee_and_part_of answer_at text_and_id_of cut_end
 returns c = record {
   numbered = computed refl;
   line_end = computed refl;

@@ -1,4 +1,4 @@
-use Rattle.std.proofs.Common.{refl}
+use Rattle.aprs_report.proofs.Common.{refl}
 use Rattle.aprs_report.specs.Reader.{report_by_form, object_of, item_of, item_field_of, stamp_at}
 use Rattle.aprs_report.specs.Reader.{place_of, plain_of, compressed_of, table_at, base91_of}
 use Rattle.aprs_report.specs.Reader.{angle_of, minutes_of, numeral_of, cut_end}

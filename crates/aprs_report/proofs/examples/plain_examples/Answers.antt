@@ -1,4 +1,4 @@
-use Rattle.std.proofs.Common.{refl}
+use Rattle.aprs_report.proofs.Common.{refl}
 use Rattle.aprs_report.specs.Reader.{report_by_form, position_of, place_of, plain_of, angle_of}
 use Rattle.aprs_report.specs.Reader.{minutes_of, numeral_of, cut_end}
 use Rattle.aprs_report.proofs.Readings.{computed}

@@ -1,4 +1,4 @@
-use Rattle.std.proofs.Common.{sym, ◌∙◌, arith, get_or}
+use Rattle.aprs_report.proofs.Common.{sym, ◌∙◌, arith, get_or}
 use Rattle.aprs_report.proofs.Numerals.{next_small, read_small, reads_next, reads_no_digit}
 use Rattle.aprs_report.proofs.Numerals.{reads_all}
 use Rattle.aprs_report.proofs.numeral.numeral.Goals as goal

@@ -1,8 +1,4 @@
-use Rattle.std.proofs.Common.{◌≡◌, ◌≤◌, ◌-◌, length, false}
-use Rattle.std.specs.List.{list_any}
-use Rattle.std.specs.Io.KnownBytes.{Consumes}
-use Rattle.aprs_io.specs.Device.{Calls, Going, device_of}
-use Rattle.aprs_log.specs.LogAnswers.{is_lf}
+use Rattle.aprs_tool.proofs.Common.{◌≡◌, ◌≤◌, ◌-◌, length, false, list_any, Consumes, Calls, Going, device_of, is_lf}
 use Rattle.aprs_tool.proofs.head.read_head.Given as goal
 
 abbrev pub invariant-loop-r : goal.invariant-loop-r

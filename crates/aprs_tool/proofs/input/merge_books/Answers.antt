@@ -1,4 +1,4 @@
-use Rattle.std.proofs.Common.{arith}
+use Rattle.aprs_tool.proofs.Common.{arith}
 use Rattle.aprs_tool.proofs.Into.{merges_empty}
 use Rattle.aprs_tool.proofs.RowsTold.{known_none, known_sound, whatever}
 use Rattle.aprs_tool.proofs.input.merge_books.Goals as goal

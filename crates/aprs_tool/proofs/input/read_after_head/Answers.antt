@@ -1,5 +1,4 @@
-use Rattle.std.proofs.Common.{inl, inr, refl}
-use Rattle.std.proofs.lemmas.Result.{err_from_is_err_and}
+use Rattle.aprs_tool.proofs.Common.{inl, inr, refl, err_from_is_err_and}
 use Rattle.aprs_tool.proofs.Inputs.{book_input, is_mark_eq, is_other_eq, log_input, read_alone, refused_log}
 use Rattle.aprs_tool.proofs.input.read_after_head.Goals as goal
 

@@ -1,5 +1,4 @@
-use Rattle.std.proofs.Common.{[], refl}
-use Rattle.std.proofs.lemmas.Result.{err_from_is_err_and}
+use Rattle.aprs_tool.proofs.Common.{[], refl, err_from_is_err_and}
 use Rattle.aprs_tool.specs.InputBook.{ReadsInput}
 use Rattle.aprs_tool.proofs.Inputs.{of_got, of_head, read_alone, refused_log, short_empty, short_fault, short_is_log}
 use Rattle.aprs_tool.proofs.Readers.{AsksInput-then}

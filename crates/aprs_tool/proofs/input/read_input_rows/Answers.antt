@@ -1,4 +1,4 @@
-use Rattle.std.proofs.lemmas.Result.{err_from_is_err_and}
+use Rattle.aprs_tool.proofs.Common.{err_from_is_err_and}
 use Rattle.aprs_tool.proofs.Inputs.{gives_log, of_got, of_head, refused_log, short_empty, short_fault, short_is_log}
 use Rattle.aprs_tool.proofs.Readers.{AsksRows-then}
 use Rattle.aprs_tool.specs.InputRows.{ReadsRows}

@@ -1,11 +1,7 @@
-use Rattle.std.proofs.Common.{[], Ok, subst}
-use Rattle.aprs_laws.specs.BookValue.{BookValue}
-use Rattle.aprs_laws.specs.Gap.{millis_of}
-use Rattle.aprs_laws.specs.JoinRow.{merge}
+use Rattle.aprs_tool.proofs.Common.{[], Ok, subst, BookValue, millis_of, merge, got_so}
 use Rattle.aprs_tool.specs.InputBook.{TakesInput}
 use Rattle.aprs_tool.specs.Refused.{IsNotTaken}
 use Rattle.aprs_tool.specs.declared.fault.InputFault.TheVariants.{OtherGap}
-use Rattle.aprs_convert.proofs.Gots.{got_so}
 use Rattle.aprs_tool.proofs.Into.{other_rows}
 use Rattle.aprs_tool.proofs.RowsTold.{takes_rows}
 use Rattle.aprs_tool.proofs.Widens.{differing_gap, same_gap}

@@ -1,14 +1,8 @@
-use Rattle.aprs_laws.specs.JoinRow.{single}
-use Rattle.std.proofs.Common.{ap, map, refl, rules, sym, ◌∙◌, ◌++◌, ◌∷◌, [], subst, IfSome, Ok, Err}
-use Rattle.std.proofs.lemmas.Result.{err_from_is_err_and}
-use Rattle.aprs_io.specs.Device.{Calls, End, Going, device_of}
-use Rattle.aprs_io.proofs.Sends.{Calls-none, Calls-then}
+use Rattle.aprs_tool.proofs.Common.{single, ap, map, refl, rules, sym, ◌∙◌, ◌++◌, ◌∷◌, [], subst, IfSome, Ok, Err, err_from_is_err_and, Calls, Going, device_of, Calls-none, Calls-then, receptions_of, current_of, lent_device, Line}
+use Rattle.aprs_io.specs.Device.{End}
 use Rattle.aprs_tool.specs.InputRows.{HoldsOfGot, ReadsLog}
 use Rattle.aprs_tool.specs.declared.fault.InputFault.TheVariants.{Log, Memory}
-use Rattle.aprs_log.specs.LogAnswers.{receptions_of}
 use Rattle.aprs_log.specs.Awaits.{last_of_cause}
-use Rattle.aprs_log.specs.Reader.{current_of, source_of}
-use Rattle.aprs_log.specs.declared.line.Line.{Line}
 use Rattle.aprs_tool.proofs.Logs.{Took-none, Took-line, Took-ended, Took-fault, Took-refused}
 use Rattle.aprs_tool.proofs.input.read_log.Goals as goal
 
@@ -76,7 +70,7 @@ returns-in_err-push_heard-clause-reads g c =
     (λ input. HoldsOfGot c.args.limit (c.args.head.now ++ input) (remaining (device_of k))
     (ReadsLog (Err Memory) c.args.store.now c.push_heard.new.store))) (sym back)
     (Took-refused _ _ _ _ _ c.push_heard.new.store (remaining (device_of c.args.r.now))
-    (remaining (device_of (source_of c.advance.new.self))) c.args.limit c.args.head.now
+    (remaining (device_of (lent_device c.advance.new.self))) c.args.limit c.args.head.now
     (current_of c.advance.new.self) (c.lines.invariant.took _) (gives.2 _)
     c.in_ok-advance.ensures.awaits.0 c.in_ok-advance.ensures.awaits.1
     (c.new-reader.ensures.whole _)))

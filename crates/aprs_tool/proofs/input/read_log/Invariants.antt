@@ -1,7 +1,4 @@
-use Rattle.std.proofs.Common.{◌≡◌, ◌-◌, ℕ, List, Option, None}
-use Rattle.aprs_io.specs.Device.{Calls, Going, device_of}
-use Rattle.aprs_io.specs.Input.{most_input}
-use Rattle.aprs_log.specs.Reader.{Awaits, line_count_of, loan_of, source_of, stop_of}
+use Rattle.aprs_tool.proofs.Common.{◌≡◌, ◌-◌, ℕ, List, Option, None, Calls, Going, device_of, most_input, Awaits, line_count_of, loan_of, lent_device, stop_of}
 use Rattle.aprs_tool.proofs.Logs.{Took}
 use Rattle.aprs_tool.proofs.input.read_log.Given as goal
 
@@ -10,11 +7,11 @@ invariant-lines g l =
     let remaining = g.R.Read.remaining in
     record {
       same_reference : loan_of l.reader ≡ loan_of l.initial.reader;
-      calls : Calls Going l.fn.r (source_of l.reader);
+      calls : Calls Going l.fn.r (lent_device l.reader);
       going : stop_of l.reader ≡ None;
       took : (end : Option (List ℕ)) → Took
-          (Awaits (remaining (device_of (source_of l.initial.reader))) end l.initial.reader)
-          (Awaits (remaining (device_of (source_of l.reader))) end l.reader) l.fn.store l.store;
+          (Awaits (remaining (device_of (lent_device l.initial.reader))) end l.initial.reader)
+          (Awaits (remaining (device_of (lent_device l.reader))) end l.reader) l.fn.store l.store;
     }
 
 abbrev pub decreases-lines : goal.decreases-lines

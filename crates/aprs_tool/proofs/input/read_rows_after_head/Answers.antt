@@ -1,4 +1,4 @@
-use Rattle.std.proofs.lemmas.Result.{err_from_is_err_and}
+use Rattle.aprs_tool.proofs.Common.{err_from_is_err_and}
 use Rattle.aprs_tool.proofs.Inputs.{gives_log, is_mark_eq, is_other_eq, log_input, refused_input, refused_log, rows_input}
 use Rattle.aprs_tool.proofs.input.read_rows_after_head.Goals as goal
 

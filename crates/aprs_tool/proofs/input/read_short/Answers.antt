@@ -1,5 +1,4 @@
-use Rattle.std.proofs.Common.{◌∙◌, Some, ap, sym}
-use Rattle.aprs_log.specs.LogAnswers.{end_with, short_tail_cause, fault_at, log_answers}
+use Rattle.aprs_tool.proofs.Common.{◌∙◌, Some, ap, sym, end_with, short_tail_cause, fault_at, log_answers}
 use Rattle.aprs_tool.proofs.ShortLogs.{short_tail, short_unended}
 use Rattle.aprs_tool.proofs.input.read_short.Goals as goal
 

@@ -1,6 +1,6 @@
-use Rattle.std.proofs.Common.{◌∙◌, ◌-◌, length, inl, inr, refl, arith}
+use Rattle.aprs_tool.proofs.Common.{◌∙◌, ◌-◌, length, inl, inr, refl, arith, Calls, device_of}
 use Rattle.std.proofs.lemmas.List.Elements.{length_all_zip}
-use Rattle.aprs_io.specs.Device.{Calls, End, device_of}
+use Rattle.aprs_io.specs.Device.{End}
 use Rattle.aprs_tool.specs.Merge.{IsTextOfBook}
 use Rattle.aprs_tool.proofs.LastRefused.{refused_at_last, text_cut, text_none, text_sent}
 use Rattle.aprs_tool.proofs.Merges.{same_len, text_of_book}

@@ -1,11 +1,4 @@
-use Rattle.std.proofs.Common.{◌≡◌, [], Some, get_or, set, slice_get, length, map, refl, sym, ap, ◌∙◌, add-one, subst, arith}
-use Rattle.std.proofs.lemmas.List.{length-map}
-use Rattle.std.proofs.lemmas.Option.{slice_get-get_or}
-use Rattle.aprs_io.specs.Device.{device_of}
-use Rattle.aprs_laws.specs.Book.{BookOf}
-use Rattle.aprs_laws.specs.BookValue.{BookValue}
-use Rattle.aprs_laws.specs.Gap.{millis_of}
-use Rattle.aprs_laws.proofs.RunRows.{book_of_nothing}
+use Rattle.aprs_tool.proofs.Common.{◌≡◌, [], Some, get_or, set, slice_get, length, map, refl, sym, ap, ◌∙◌, add-one, subst, arith, length-map, slice_get-get_or, device_of, BookOf, BookValue, millis_of, book_of_nothing}
 use Rattle.aprs_tool.proofs.Merges.{HasRead-all, HasRead-more, HasRead-none, HasRead-refused, after_more, after_same, element_of, same_len, some_each}
 use Rattle.aprs_tool.proofs.Readers.{AsksEach-next, ReadsFirst, ReadsFirst-all, ReadsFirst-more, ReadsFirst-next, ReadsFirst-rest}
 use Rattle.aprs_tool.proofs.merge.read_all.Goals as goal

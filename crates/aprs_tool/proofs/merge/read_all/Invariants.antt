@@ -1,6 +1,4 @@
-use Rattle.std.specs.Prelude.{◌≢◌}
-use Rattle.std.proofs.Common.{◌≡◌, ◌<◌, ℕ, List, [], map}
-use Rattle.aprs_io.specs.Device.{device_of}
+use Rattle.aprs_tool.proofs.Common.{◌≢◌, ◌≡◌, ◌<◌, ℕ, List, [], map, device_of}
 use Rattle.aprs_tool.proofs.Merges.{HasRead, some_each}
 use Rattle.aprs_tool.proofs.Readers.{ReadsFirst}
 use Rattle.aprs_tool.proofs.merge.read_all.Given as goal

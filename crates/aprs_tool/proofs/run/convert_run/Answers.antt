@@ -1,6 +1,5 @@
-use Rattle.std.proofs.lemmas.Result.{err_from_is_err_and}
+use Rattle.aprs_tool.proofs.Common.{err_from_is_err_and, Runs}
 use Rattle.aprs_convert.specs.Conversion.{Converts}
-use Rattle.aprs_convert.specs.Ends.{Runs}
 use Rattle.aprs_tool.proofs.OneInput.{answers_fault}
 use Rattle.aprs_tool.proofs.run.convert_run.Goals as goal
 

@@ -1,5 +1,4 @@
-use Rattle.std.proofs.Common.{Ok, Err, refl, subst}
-use Rattle.aprs_convert.proofs.Gots.{got_so}
+use Rattle.aprs_tool.proofs.Common.{Ok, Err, refl, subst, got_so}
 use Rattle.aprs_tool.specs.Gathered.{WritesText}
 use Rattle.aprs_tool.proofs.LastRefused.{text_cut, text_none, text_sent}
 use Rattle.aprs_tool.proofs.Outcomes.{prefix_went, text_went}

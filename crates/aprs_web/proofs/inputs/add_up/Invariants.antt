@@ -1,5 +1,4 @@
-use Rattle.std.proofs.Common.{◌≡◌, ◌+◌, ◌-◌, ◌≤◌, drop}
-use Rattle.std.specs.List.{fold, sum}
+use Rattle.aprs_web.proofs.Common.{◌≡◌, ◌+◌, ◌-◌, ◌≤◌, drop, fold, sum}
 use Rattle.aprs_web.proofs.inputs.add_up.Given as goal
 
 abbrev pub invariant-loop-length : goal.invariant-loop-length

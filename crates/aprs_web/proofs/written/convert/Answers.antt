@@ -1,4 +1,4 @@
-use Rattle.std.proofs.Common.{List, ℕ, Some, sym, ap, ◌∙◌}
+use Rattle.aprs_web.proofs.Common.{List, ℕ, Some, sym, ap, ◌∙◌}
 use Rattle.aprs_convert.specs.Conversion.{Converts}
 use Rattle.aprs_web.proofs.Over.{over}
 use Rattle.aprs_web.proofs.written.convert.Goals as goal

@@ -1,4 +1,4 @@
-use Rattle.std.proofs.Common.{map, List, ℕ, Some, sym, ap, ◌∙◌}
+use Rattle.aprs_web.proofs.Common.{map, List, ℕ, Some, sym, ap, ◌∙◌}
 use Rattle.aprs_tool.specs.HistoryOf.{IsHistoryOf}
 use Rattle.aprs_web.proofs.Gathers.{gathers}
 use Rattle.aprs_web.proofs.written.history.Goals as goal

@@ -1,4 +1,4 @@
-use Rattle.std.proofs.Common.{List, ℕ, Some, sym, ap, ◌∙◌}
+use Rattle.aprs_web.proofs.Common.{List, ℕ, Some, sym, ap, ◌∙◌}
 use Rattle.aprs_web.proofs.Gathers.{widens}
 use Rattle.aprs_web.proofs.written.widen.Goals as goal
 

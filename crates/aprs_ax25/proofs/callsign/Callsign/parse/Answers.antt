@@ -1,12 +1,12 @@
 use Rattle.std.proofs.Common.{ℕ, List, Ok, ◌∙◌, sym, ap, subst}
-use Rattle.aprs_ax25.specs.CallText.{CallText}
+use Rattle.aprs_ax25.specs.CallText.{SpellsCall}
 use Rattle.aprs_ax25.proofs.CallTexts.{call_fault-CallText, CallText-call_fault, CallText-is, call_fault-FirstCallFault}
 use Rattle.aprs_ax25.proofs.callsign.Callsign.parse.Goals as goal
 
 pub returns-in-Ok-clause-found : goal.returns-in-Ok-clause-found
 returns-in-Ok-clause-found c =
     let P : List ℕ → Type 0 =
-    λ l. CallText (record { letters = l; ssid = c.in-Ok.ssid }) c.args.text.now in
+    λ l. SpellsCall (record { letters = l; ssid = c.in-Ok.ssid }) c.args.text.now in
     subst P (sym (c.up_to_six.ensures ∙ c.in-Ok.ensures.1))
     (call_fault-CallText c.args.text.now c.in-Ok.ssid c.in-Ok.ensures.0 c.in-Ok.ensures.2)
 

@@ -1,14 +1,7 @@
-use Rattle.std.proofs.Common.{◌≡◌, ◌∙◌, ◌∷◌, ◌++◌, [], None, sym, ap, refl, subst}
-use Rattle.aprs_log.specs.Reception.{Heard}
-use Rattle.aprs_laws.specs.Gap.{millis_of}
-use Rattle.aprs_laws.specs.Key.{key_of}
-use Rattle.aprs_laws.specs.Row.{Row}
-use Rattle.aprs_laws.specs.Sound.{Sound}
-use Rattle.aprs_rows.specs.Refusal.{refusal}
+use Rattle.aprs_book.proofs.Common.{◌≡◌, ◌∙◌, ◌∷◌, ◌++◌, [], None, sym, ap, refl, subst, Received, millis_of, key_of, Row, Sound, refusal, free_ascends, none_exactly}
 use Rattle.aprs_book.specs.Keyed.{LastKeyIsUpTo}
 use Rattle.aprs_book.specs.Known.{topic_bytes}
 use Rattle.aprs_book.proofs.Taking.{refusal_is}
-use Rattle.aprs_rows.proofs.Refusals.{free_ascends, none_exactly}
 use Rattle.aprs_book.proofs.RefusalEnds.{none_ends_up_to}
 use Rattle.aprs_book.proofs.IndexSteps.{Noted, pushes_indexes}
 use Rattle.aprs_book.proofs.book.Book.add.Goals as goal
@@ -46,11 +39,11 @@ invariant_of-self-2 g c =
             none);
       },
       pushes_indexes c.subject-subject.result c.args.parts.now c.self.inside.rows c.append.new.self
-          c.self.inside.indexes c.place.new.self c.note.new.self c.self.invariant.1
+          c.self.inside.indexes c.reserve.new.self c.note.new.self c.self.invariant.1
           (λ topic. c.subject-subject.ensures topic
-          ∙ ap (λ (x : Heard). topic_bytes topic (key_of x.frame)) c.heard-heard.ensures)
-          c.in_ok-place.ensures.same
-          (subst (λ (x : Heard). Noted c.subject-subject.result x c.place.new.self c.note.new.self)
+          ∙ ap (λ (x : Received). topic_bytes topic (key_of x.frame)) c.heard-heard.ensures)
+          c.in_ok-reserve.ensures.same
+          (subst (λ (x : Received). Noted c.subject-subject.result x c.reserve.new.self c.note.new.self)
           c.heard-heard.ensures c.note.ensures)
           added,
     )

@@ -1,16 +1,13 @@
-use Rattle.std.proofs.Common.{◌∙◌, None, map, sym, ap, subst}
-use Rattle.aprs_laws.specs.Gap.{millis_of}
-use Rattle.aprs_laws.specs.Best.{known_of}
-use Rattle.aprs_laws.proofs.Known.{plain_known}
+use Rattle.aprs_book.proofs.Common.{◌∙◌, None, map, sym, ap, subst, millis_of, known_of, plain_known}
 use Rattle.aprs_book.specs.Known.{greatest_of}
 use Rattle.aprs_book.specs.LastKnown.{IsLastKnown}
-use Rattle.aprs_book.specs.Reports.{is_from}
+use Rattle.aprs_book.specs.Reports.{has_source}
 use Rattle.aprs_book.proofs.IndexSteps.{entry_reports}
 use Rattle.aprs_book.proofs.book.Book.last_heard.Goals as goal
 
 pub returns : goal.returns
 returns g c =
-    let test = is_from c.args.station.now in
+    let test = has_source c.args.station.now in
     let rows = c.args.self.now.rows in
     let found = c.heard_of.ensures ∙ c.greatest_from.ensures
     ∙ ap (λ r. known_of test None (map greatest_of r)) c.walk.ensures.rows in

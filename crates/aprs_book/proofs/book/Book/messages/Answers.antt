@@ -1,5 +1,4 @@
-use Rattle.std.proofs.Common.{subst}
-use Rattle.aprs_laws.specs.Gap.{millis_of}
+use Rattle.aprs_book.proofs.Common.{subst, millis_of}
 use Rattle.aprs_book.specs.Exchange.{IsExchangeOf}
 use Rattle.aprs_book.proofs.book.Book.messages.Goals as goal
 

@@ -1,14 +1,4 @@
-use Rattle.std.proofs.Common.{◌≡◌, ◌∙◌, List, ◌∷◌, ◌++◌, [], ℕ, None, append_assoc, append-nil, ap, subst, sym}
-use Rattle.aprs_log.specs.Reception.{Heard}
-use Rattle.aprs_laws.specs.BookValue.{BookValue, IsSoundBook}
-use Rattle.aprs_laws.specs.Gap.{millis_of}
-use Rattle.aprs_laws.specs.Key.{key_of}
-use Rattle.aprs_laws.specs.Row.{Row}
-use Rattle.aprs_laws.specs.Sound.{Sound}
-use Rattle.aprs_laws.proofs.Pushes.{sound_prefix}
-use Rattle.aprs_report.specs.Reader.{reading_of}
-use Rattle.aprs_rows.specs.Refusal.{refusal}
-use Rattle.aprs_rows.proofs.Refusals.{none_exactly, free_ascends}
+use Rattle.aprs_book.proofs.Common.{◌≡◌, ◌∙◌, List, ◌∷◌, ◌++◌, [], ℕ, None, append_assoc, append-nil, ap, subst, sym, Received, BookValue, IsSoundBook, millis_of, key_of, Row, Sound, sound_prefix, reading_of, refusal, none_exactly, free_ascends}
 use Rattle.aprs_book.specs.Keyed.{LastKeyIsUpTo}
 use Rattle.aprs_book.specs.Known.{report_bytes}
 use Rattle.aprs_book.specs.Notes.{AreNotesOf}
@@ -55,8 +45,8 @@ loop-row-preserved g c =
     let added : c.append.new.self ≡ kept ++ row ∷ [] =
     c.in_ok-append.ensures.added ∙ ap (λ (x : Row). kept ++ x ∷ []) c.in_ok-of_view.ensures in
     let source = c.call.ensures ∙ c.after-sender.ensures
-    ∙ ap (λ (x : Heard). (key_of x.frame).source) heard in
-    let info = c.info.ensures ∙ ap (λ (x : Heard). (key_of x.frame).info) heard in
+    ∙ ap (λ (x : Received). (key_of x.frame).source) heard in
+    let info = c.info.ensures ∙ ap (λ (x : Received). (key_of x.frame).info) heard in
     record {
       rows = ap (λ xs. xs ++ c.next.new.self) added
           ∙ whole (millis_of c.args.rows.now.gap) kept c.loop-row.row-iterator c.next.new.self

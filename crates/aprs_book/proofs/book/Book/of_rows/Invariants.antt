@@ -1,4 +1,4 @@
-use Rattle.std.proofs.Common.{◌≡◌, ◌++◌}
+use Rattle.aprs_book.proofs.Common.{◌≡◌, ◌++◌}
 use Rattle.aprs_book.specs.Notes.{AreNotesOf}
 use Rattle.aprs_book.proofs.book.Book.of_rows.Given as goal
 

@@ -1,6 +1,4 @@
-use Rattle.std.proofs.Common.{◌∙◌, sym, ap}
-use Rattle.aprs_laws.specs.BookValue.{BookValue}
-use Rattle.aprs_laws.proofs.Joins.{one_value}
+use Rattle.aprs_book.proofs.Common.{◌∙◌, sym, ap, BookValue, one_value}
 use Rattle.aprs_book.proofs.book.Book.same.Goals as goal
 
 pub returns : goal.returns

@@ -1,5 +1,4 @@
-use Rattle.std.proofs.Common.{ap}
-use Rattle.aprs_laws.specs.BookValue.{BookValue}
+use Rattle.aprs_book.proofs.Common.{ap, BookValue}
 use Rattle.aprs_book.proofs.InStore.{sound_walk, both_put, united, united_merges}
 use Rattle.aprs_book.proofs.book.Book.unite.Goals as goal
 

@@ -1,5 +1,4 @@
-use Rattle.std.proofs.Common.{◌≤◌, ap, arith}
-use Rattle.aprs_laws.specs.BookValue.{BookValue}
+use Rattle.aprs_book.proofs.Common.{◌≤◌, ap, arith, BookValue}
 use Rattle.aprs_book.proofs.Taking.{widens_to, keeps_equal}
 use Rattle.aprs_book.proofs.book.Book.widen.Goals as goal
 

@@ -1,4 +1,4 @@
-use Rattle.std.proofs.Common.{◌∙◌, ◌++◌}
+use Rattle.aprs_book.proofs.Common.{◌∙◌, ◌++◌}
 use Rattle.aprs_book.proofs.InStore.{sound_walk, widened}
 use Rattle.aprs_book.proofs.book.Book.widen_to.Goals as goal
 

@@ -1,7 +1,4 @@
-use Rattle.std.proofs.Common.{◌≡◌, ℕ, List, [], ◌∷◌, codes, inl, inr, refl, sym, ap, ◌∙◌, arith}
-use Rattle.aprs_report.specs.Reading.{Value, ack, rej}
-use Rattle.aprs_report.specs.Reader.{report_by_form, message_of, addressee_and_part_of, answer_at, text_and_id_of}
-use Rattle.aprs_report.specs.Reader.{cut_end}
+use Rattle.aprs_book.proofs.Common.{◌≡◌, ℕ, List, [], ◌∷◌, codes, inl, inr, refl, sym, ap, ◌∙◌, arith, Value, ack, rej, report_by_form, message_with, addressee_and_part_of, answer_at, text_and_id_of, cut_end}
 use Rattle.aprs_book.proofs.Worked.{seven_text, eight_text}
 use Rattle.aprs_book.proofs.examples.messages.addressees_answer.Goals as goal
 
@@ -28,7 +25,7 @@ first [] = 0
 first (b ∷ more) = b
 
 pub returns-clause-acknowledged : goal.returns-clause-acknowledged
-unfolding report_by_form message_of addressee_and_part_of answer_at text_and_id_of cut_end
+unfolding report_by_form message_with addressee_and_part_of answer_at text_and_id_of cut_end
 returns-clause-acknowledged c = record {
   addressee = codes "N0CALL-7";
   sender = eight_text;
@@ -37,7 +34,7 @@ returns-clause-acknowledged c = record {
 }
 
 pub returns-clause-rejected : goal.returns-clause-rejected
-unfolding report_by_form message_of addressee_and_part_of answer_at text_and_id_of cut_end
+unfolding report_by_form message_with addressee_and_part_of answer_at text_and_id_of cut_end
 returns-clause-rejected c = record {
   addressee = codes "N0CALL-7";
   sender = eight_text;
@@ -46,7 +43,7 @@ returns-clause-rejected c = record {
 }
 
 pub returns-clause-misses_id : goal.returns-clause-misses_id
-unfolding report_by_form message_of addressee_and_part_of answer_at text_and_id_of cut_end
+unfolding report_by_form message_with addressee_and_part_of answer_at text_and_id_of cut_end
 returns-clause-misses_id c = λ a. elim a.answer [
   | inl e ↦ let n : 50 ≡ 49 = ap (λ v. first (id_of v)) e in omega (arith, n)
   | inr e ↦ let n : 50 ≡ 49 = ap (λ v. first (id_of v)) e in omega (arith, n)
@@ -58,7 +55,7 @@ returns-clause-misses_sender c = λ a.
     omega (arith, n)
 
 pub returns-clause-misses_addressee : goal.returns-clause-misses_addressee
-unfolding report_by_form message_of addressee_and_part_of answer_at text_and_id_of cut_end
+unfolding report_by_form message_with addressee_and_part_of answer_at text_and_id_of cut_end
 returns-clause-misses_addressee c = λ a. let to = a.to.spelled ∙ sym seven_text.spelled in
     elim a.answer [
       | inl e ↦ let n : 56 ≡ 55 = ap (λ v. eighth (to_of v)) e ∙ ap eighth to in omega (arith, n)

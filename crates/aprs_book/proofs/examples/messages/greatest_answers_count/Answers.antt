@@ -1,4 +1,4 @@
-use Rattle.std.proofs.Common.{Some, None, [], ◌∷◌, refl, sym, ap}
+use Rattle.aprs_book.proofs.Common.{Some, None, [], ◌∷◌, refl, sym, ap}
 use Rattle.aprs_book.specs.declared.lists.message.MessageState.TheVariants.{Unanswered, Acknowledged, Rejected}
 use Rattle.aprs_book.specs.Messages.{reported_state}
 use Rattle.aprs_book.specs.Examples.{asked_at, acknowledged_at, rejected_at}

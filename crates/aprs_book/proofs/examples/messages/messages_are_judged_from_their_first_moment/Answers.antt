@@ -1,7 +1,4 @@
-use Rattle.std.proofs.Common.{◌≡◌, ℕ, Option, Some, None, unwrap_or, inl, inr, refl, sym, ap, ◌∙◌, subst, arith}
-use Rattle.aprs_log.specs.Reception.{Heard}
-use Rattle.aprs_laws.specs.Lists.{◌∈◌}
-use Rattle.aprs_laws.specs.Key.{key_of}
+use Rattle.aprs_book.proofs.Common.{◌≡◌, ℕ, Option, Some, None, unwrap_or, inl, inr, refl, sym, ap, ◌∙◌, subst, arith, Received, ◌∈◌, key_of}
 use Rattle.aprs_book.specs.declared.lists.message.MessageRow.{MessageRow}
 use Rattle.aprs_book.specs.declared.lists.message.MessageState.TheVariants.{Unanswered, Acknowledged}
 use Rattle.aprs_book.specs.Messages.{Message, ReportsIt, IsMessageRow, StandsBy, reported_state, shown_message}
@@ -10,14 +7,14 @@ use Rattle.aprs_book.proofs.Worked.{asked_is, acknowledged_is, acknowledged_read
 use Rattle.aprs_book.proofs.examples.messages.messages_are_judged_from_their_first_moment.Goals as goal
 
 -- what a reception of the set reports, if it is a message
-module _ (m : Message) (s : Heard) where
+module _ (m : Message) (s : Received) where
   by_asked : (n : ℕ) → asked_at n ≡ s → ReportsIt m (key_of s.frame) → hi_message one ≡ m
   by_asked n e r = ap (λ (o : Option Message). unwrap_or o (hi_message one))
-      (sym asked_is ∙ subst (λ (t : Heard). ReportsIt m (key_of t.frame)) (sym e) r)
+      (sym asked_is ∙ subst (λ (t : Received). ReportsIt m (key_of t.frame)) (sym e) r)
 
   by_answer : acknowledged_at 10 ≡ s → ReportsIt m (key_of s.frame) → ⊥
   by_answer e r = let d : None ≡ Some m = sym acknowledged_is
-      ∙ subst (λ (t : Heard). ReportsIt m (key_of t.frame)) (sym e) r in cc d
+      ∙ subst (λ (t : Received). ReportsIt m (key_of t.frame)) (sym e) r in cc d
 
   reported : s ∈ asked_again → ReportsIt m (key_of s.frame) → hi_message one ≡ m
   reported h r = elim h [
@@ -40,11 +37,11 @@ row = record {
   last = record {
     heard = (asked_at 20, inr (inr (inl refl)), asked_is, refl);
     greatest = λ s h r. elim h [
-      | inl e ↦ let n : 0 ≡ s.moment = ap (λ (t : Heard). t.moment) e in omega (arith, n)
+      | inl e ↦ let n : 0 ≡ s.moment = ap (λ (t : Received). t.moment) e in omega (arith, n)
       | inr k ↦ elim k [
-        | inl e ↦ let n : 10 ≡ s.moment = ap (λ (t : Heard). t.moment) e in omega (arith, n)
+        | inl e ↦ let n : 10 ≡ s.moment = ap (λ (t : Received). t.moment) e in omega (arith, n)
         | inr j ↦ elim j [
-          | inl e ↦ let n : 20 ≡ s.moment = ap (λ (t : Heard). t.moment) e in omega (arith, n)
+          | inl e ↦ let n : 20 ≡ s.moment = ap (λ (t : Received). t.moment) e in omega (arith, n)
           | inr i ↦ absurd i
         ]
       ]

@@ -1,9 +1,4 @@
-use Rattle.std.proofs.Common.{◌≡◌, Bool, true, false, Option, Some, codes, unwrap_or, inl, inr, refl, sym, ap, ◌∙◌, subst}
-use Rattle.aprs_log.specs.Reception.{Heard, heard_cmp}
-use Rattle.aprs_laws.specs.Order.{IsBelow, IsUpTo}
-use Rattle.aprs_laws.specs.Key.{key_of}
-use Rattle.aprs_laws.specs.Best.{IsBest}
-use Rattle.aprs_laws.proofs.Orders.{heard_total, up_to_itself}
+use Rattle.aprs_book.proofs.Common.{◌≡◌, Bool, true, false, Option, Some, codes, unwrap_or, inl, inr, refl, sym, ap, ◌∙◌, subst, Received, heard_cmp, IsBelow, IsUpTo, key_of, IsBest, heard_total, up_to_itself}
 use Rattle.aprs_book.specs.declared.lists.named.Named.{Named}
 use Rattle.aprs_book.specs.Names.{Thing, ReportsOf, shown_thing, thing_cmp}
 use Rattle.aprs_book.specs.Examples.{object_at, killed_at, item_at, two_leaders, leader_listed}
@@ -14,18 +9,18 @@ use Rattle.aprs_book.proofs.examples.named.things_are_named_once.Goals as goal
 abbrev leader_thing : Bool → Thing
 leader_thing is_item = record { is_item = is_item; name = codes "LEADER" }
 
-module _ (t : Thing) (s : Heard) where
+module _ (t : Thing) (s : Received) where
   -- a reception reports one thing
-  by_this : (x : Heard) (u : Thing) → ReportsOf u (key_of x.frame) → x ≡ s
+  by_this : (x : Received) (u : Thing) → ReportsOf u (key_of x.frame) → x ≡ s
       → ReportsOf t (key_of s.frame) → u ≡ t
   by_this x u is e r = ap (λ (o : Option Thing). unwrap_or o u)
-      (sym is ∙ subst (λ (y : Heard). ReportsOf t (key_of y.frame)) (sym e) r)
+      (sym is ∙ subst (λ (y : Received). ReportsOf t (key_of y.frame)) (sym e) r)
 
 not_item : leader_thing true ≡ leader_thing false → ⊥
 not_item e = let b : true ≡ false = ap (λ (t : Thing). t.is_item) e in cc b
 
-is_up_to : (x y s : Heard) → x ≡ s → IsUpTo heard_cmp x y → IsUpTo heard_cmp s y
-is_up_to x y s e u = subst (λ (t : Heard). IsUpTo heard_cmp t y) e u
+is_up_to : (x y s : Received) → x ≡ s → IsUpTo heard_cmp x y → IsUpTo heard_cmp s y
+is_up_to x y s e u = subst (λ (t : Received). IsUpTo heard_cmp t y) e u
 
 best_object : IsBest two_leaders (ReportsOf (leader_thing false)) (killed_at 10)
 best_object = record {

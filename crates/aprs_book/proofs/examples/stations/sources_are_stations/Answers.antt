@@ -1,15 +1,4 @@
-use Rattle.std.proofs.Common.{◌≡◌, ℕ, Bool, Option, Some, None, inl, inr, refl, sym, ap, ◌∙◌, subst, arith}
-use Rattle.std.specs.Option.{option_map_or}
-use Rattle.aprs_ax25.specs.Callsign.{Call, call_cmp}
-use Rattle.aprs_log.specs.Reception.{Heard}
-use Rattle.aprs_report.specs.Reader.{report_by_form, utc_at, stamp_at, position_of, place_of, plain_of, angle_of, minutes_of, numeral_of}
-use Rattle.aprs_report.specs.Reader.{cut_end}
-use Rattle.aprs_laws.specs.Order.{IsBelow}
-use Rattle.aprs_laws.specs.Key.{Key, key_of}
-use Rattle.aprs_laws.specs.Best.{LastKnown, known_of}
-use Rattle.aprs_laws.specs.BestLaws.{Passes}
-use Rattle.aprs_laws.specs.Examples.{n0call}
-use Rattle.aprs_laws.proofs.Known.{plain_known, known_once}
+use Rattle.aprs_book.proofs.Common.{◌≡◌, ℕ, Bool, Option, Some, None, inl, inr, refl, sym, ap, ◌∙◌, subst, arith, option_map_or, Call, call_cmp, Received, report_by_form, utc_at, stamp_at, position_of, place_of, plain_of, angle_of, minutes_of, numeral_of, cut_end, IsBelow, Key, key_of, LastKnown, known_of, Passes, n0call, plain_known, known_once}
 use Rattle.aprs_book.specs.declared.lists.station.Station.{Station}
 use Rattle.aprs_book.specs.Reports.{reports_position, reports_status}
 use Rattle.aprs_book.specs.Stations.{IsStation}
@@ -24,9 +13,9 @@ abbrev eighth : Station
 eighth = station_of 8 1 None (Some (status_at 8 0))
 
 -- what is known of the set, by computation
-known : (test : Key → Bool) (x : Option Heard) → known_of test None two_stations ≡ x
+known : (test : Key → Bool) (x : Option Received) → known_of test None two_stations ≡ x
     → LastKnown two_stations (Passes test) x
-known test x e = subst (λ (k : Option Heard). LastKnown two_stations (Passes test) k) e
+known test x e = subst (λ (k : Option Received). LastKnown two_stations (Passes test) k) e
     (plain_known test two_stations)
 
 known_position : LastKnown two_stations (Passes (reports_position (n0call 7))) (Some (position_at 0))
@@ -54,7 +43,7 @@ is_eighth = record {
 }
 
 -- who sent them
-abbrev source_of : Heard → Call
+abbrev source_of : Received → Call
 source_of s = (key_of s.frame).source
 
 seven_sent : source_of (status_at 7 0) ≡ n0call 7
@@ -124,7 +113,7 @@ returns-clause-misses_receptions c = λ a. let n : 3 ≡ 2 =
     in omega (arith, n)
 
 -- the moment of what is known
-abbrev moment_of : Option Heard → ℕ
+abbrev moment_of : Option Received → ℕ
 moment_of known = option_map_or (λ s. s.moment) known 1
 
 pub returns-clause-misses_status : goal.returns-clause-misses_status

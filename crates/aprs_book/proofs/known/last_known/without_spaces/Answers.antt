@@ -1,5 +1,4 @@
-use Rattle.std.proofs.Common.{◌∙◌, arith}
-use Rattle.std.proofs.lemmas.Bool.Decides.{nat_tests}
+use Rattle.aprs_book.proofs.Common.{◌∙◌, arith, nat_tests}
 use Rattle.aprs_report.specs.Bytes.{is_space}
 use Rattle.aprs_report.proofs.Cuts.{cut_one, cut_none, cut_nothing}
 use Rattle.aprs_book.proofs.known.last_known.without_spaces.Goals as goal

@@ -1,4 +1,4 @@
-use Rattle.std.proofs.Common.{◌≡◌, length}
+use Rattle.aprs_book.proofs.Common.{◌≡◌, length}
 use Rattle.aprs_book.specs.Reports.{without_spaces}
 use Rattle.aprs_book.proofs.known.last_known.without_spaces.Given as goal
 

@@ -1,4 +1,4 @@
-use Rattle.std.proofs.Common.{◌≡◌, true, false, subst}
+use Rattle.aprs_book.proofs.Common.{◌≡◌, true, false, subst}
 use Rattle.std.specs.Result.{IsOk}
 use Rattle.aprs_ax25.specs.FrameFault.{parts_of}
 use Rattle.aprs_rows.proofs.Infos.{frame_is}

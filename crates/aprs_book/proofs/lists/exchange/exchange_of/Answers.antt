@@ -1,4 +1,4 @@
-use Rattle.std.proofs.Common.{◌∙◌}
+use Rattle.aprs_book.proofs.Common.{◌∙◌}
 use Rattle.aprs_book.specs.Exchange.{IsExchangeOf}
 use Rattle.aprs_book.proofs.Collected.{walk_starts, walk_goes, walk_ends, last_added}
 use Rattle.aprs_book.proofs.lists.exchange.exchange_of.Goals as goal

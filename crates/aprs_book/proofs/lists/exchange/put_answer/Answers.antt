@@ -1,4 +1,4 @@
-use Rattle.std.proofs.Common.{◌∙◌, ap, not}
+use Rattle.aprs_book.proofs.Common.{◌∙◌, ap, not}
 use Rattle.aprs_book.proofs.Collected.{adds_last}
 use Rattle.aprs_book.proofs.Messages.{where_ok}
 use Rattle.aprs_book.proofs.GreatestAnswers.{answer_keys_alike, kept_greater, answers_put}

@@ -1,4 +1,4 @@
-use Rattle.std.proofs.Common.{◌≡◌, ◌∙◌, Some, sym, ap, not}
+use Rattle.aprs_book.proofs.Common.{◌≡◌, ◌∙◌, Some, sym, ap, not}
 use Rattle.aprs_book.specs.MessageRows.{span_of, span_with}
 use Rattle.aprs_book.proofs.Collected.{adds_last}
 use Rattle.aprs_book.proofs.Messages.{keys_alike, spans_put_by, spans_put_twice, where_ok}

@@ -1,4 +1,4 @@
-use Rattle.std.proofs.Common.{◌≡◌, ◌∙◌, sym, refl, Ok}
+use Rattle.aprs_book.proofs.Common.{◌≡◌, ◌∙◌, sym, refl, Ok}
 use Rattle.aprs_book.specs.MessageRows.{message_of}
 use Rattle.aprs_book.proofs.GreatestAnswers.{answer_keys_alike, answer_reported_by, same_answer}
 use Rattle.aprs_book.proofs.lists.message.greatest_answer.Goals as goal

@@ -1,4 +1,4 @@
-use Rattle.std.proofs.Common.{refl}
+use Rattle.aprs_book.proofs.Common.{refl}
 use Rattle.aprs_book.proofs.MessagesOfSets.{messages_of_book}
 use Rattle.aprs_book.proofs.lists.message.messages_of.Goals as goal
 

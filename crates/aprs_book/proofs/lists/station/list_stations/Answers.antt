@@ -1,6 +1,4 @@
-use Rattle.std.proofs.Common.{◌∙◌, ap, not}
-use Rattle.std.proofs.lemmas.Map.Iter.{rest_more, rest_all}
-use Rattle.std.specs.Map.Iter.{deref_pair}
+use Rattle.aprs_book.proofs.Common.{◌∙◌, ap, not, rest_more, rest_all, deref_pair}
 use Rattle.aprs_book.specs.StationRows.{IsStationIn}
 use Rattle.aprs_book.proofs.Stations.{stations_ascend}
 use Rattle.aprs_book.proofs.Listings.{lists_first, lists_next, lists_last, push_done}

@@ -1,4 +1,4 @@
-use Rattle.std.proofs.Common.{refl}
+use Rattle.aprs_book.proofs.Common.{refl}
 use Rattle.aprs_book.proofs.Stations.{stations_of_book, stations_known}
 use Rattle.aprs_book.proofs.lists.station.stations_of.Goals as goal
 

@@ -1,6 +1,4 @@
-use Rattle.std.proofs.Common.{◌∙◌, ◌+◌, ap, refl, arith}
-use Rattle.aprs_log.specs.Reception.{Heard}
-use Rattle.aprs_laws.specs.Key.{key_of}
+use Rattle.aprs_book.proofs.Common.{◌∙◌, ◌+◌, ap, refl, arith, Received, key_of}
 use Rattle.aprs_book.specs.StationRows.{tally_of}
 use Rattle.aprs_book.proofs.Collected.{collected_first, walk_starts, walk_goes, walk_ends}
 use Rattle.aprs_book.proofs.Stations.{all_counted, no_keys, room_for_one, stays_in_order, tallies_put}
@@ -23,7 +21,7 @@ add-requires g c =
 pub loop-row-preserved : goal.loop-row-preserved
 loop-row-preserved g c =
     let source = c.call.ensures ∙ c.after-sender.ensures
-    ∙ ap (λ (x : Heard). (key_of x.frame).source) (c.of.ensures ∙ c.greatest.ensures) in
+    ∙ ap (λ (x : Received). (key_of x.frame).source) (c.of.ensures ∙ c.greatest.ensures) in
     record {
       counted =
           walk_goes _ _ _ _ _ c.in-Some.row.now c.in-Some.ensures.steps

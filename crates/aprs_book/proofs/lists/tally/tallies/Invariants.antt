@@ -1,6 +1,4 @@
-use Rattle.std.specs.List.Sorted.{IsStrictlySortedBy}
-use Rattle.std.specs.Map.{keys_of}
-use Rattle.aprs_ax25.specs.Callsign.{call_cmp}
+use Rattle.aprs_book.proofs.Common.{IsStrictlySortedBy, keys_of, call_cmp}
 use Rattle.aprs_book.specs.StationRows.{AreTallies}
 use Rattle.aprs_book.proofs.Collected.{SoFar}
 use Rattle.aprs_book.proofs.lists.tally.tallies.Given as goal

@@ -1,5 +1,4 @@
-use Rattle.std.proofs.Common.{◌∙◌, sym}
-use Rattle.std.specs.Cmp.Lexicographic.{pointwise_decides, bytes_decides}
+use Rattle.aprs_book.proofs.Common.{◌∙◌, sym, pointwise_decides, bytes_decides}
 use Rattle.aprs_book.proofs.rows.kept_row.same_names.Goals as goal
 
 pub returns : goal.returns

@@ -1,4 +1,4 @@
-use Rattle.std.proofs.Common.{◌∙◌, sym, eqb-true, arith}
+use Rattle.aprs_book.proofs.Common.{◌∙◌, sym, eqb-true, arith}
 use Rattle.aprs_book.proofs.RefusalEnds.{front_is_end, back_is_end}
 use Rattle.aprs_book.proofs.rows.keyed.last_part.Goals as goal
 

@@ -1,5 +1,4 @@
-use Rattle.std.proofs.Common.{◌∙◌}
-use Rattle.aprs_rows.proofs.Refusals.{ascending_short}
+use Rattle.aprs_book.proofs.Common.{◌∙◌, ascending_short}
 use Rattle.aprs_book.proofs.rows.push.is_ascending.Goals as goal
 
 pub returns : goal.returns

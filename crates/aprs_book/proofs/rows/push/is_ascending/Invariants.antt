@@ -1,5 +1,4 @@
-use Rattle.std.proofs.Common.{◌≡◌, length}
-use Rattle.aprs_rows.specs.Refusal.{is_ascending}
+use Rattle.aprs_book.proofs.Common.{◌≡◌, length, is_ascending}
 use Rattle.aprs_book.proofs.rows.push.is_ascending.Given as goal
 
 abbrev pub invariant-loop-rest : goal.invariant-loop-rest

@@ -1,8 +1,4 @@
-use Rattle.std.proofs.Common.{◌∙◌, sym, ap}
-use Rattle.std.specs.Ordering.{is_eq}
-use Rattle.std.specs.Option.{option_copied}
-use Rattle.aprs_rows.specs.Refusal.{is_same_name}
-use Rattle.aprs_rows.proofs.Refusals.{of_last_got}
+use Rattle.aprs_book.proofs.Common.{◌∙◌, sym, ap, is_eq, option_copied, is_same_name, of_last_got}
 use Rattle.aprs_book.proofs.rows.push.is_last_name.Goals as goal
 
 pub returns-in-Some : goal.returns-in-Some

@@ -1,8 +1,4 @@
-use Rattle.std.proofs.Common.{◌∙◌, not, sym, ap}
-use Rattle.std.specs.Option.{option_copied}
-use Rattle.aprs_laws.specs.Row.{Row}
-use Rattle.aprs_rows.specs.Refusal.{is_out_of_order}
-use Rattle.aprs_rows.proofs.Refusals.{of_last_got}
+use Rattle.aprs_book.proofs.Common.{◌∙◌, not, sym, ap, option_copied, Row, is_out_of_order, of_last_got}
 use Rattle.aprs_book.proofs.rows.push.is_out_of_order.Goals as goal
 
 pub returns-in-Some : goal.returns-in-Some

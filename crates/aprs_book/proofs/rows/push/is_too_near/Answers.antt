@@ -1,8 +1,4 @@
-use Rattle.std.proofs.Common.{◌∙◌, sym, ap}
-use Rattle.std.specs.Option.{option_copied}
-use Rattle.aprs_laws.specs.Row.{Row}
-use Rattle.aprs_rows.specs.Refusal.{is_too_near}
-use Rattle.aprs_rows.proofs.Refusals.{of_last_got}
+use Rattle.aprs_book.proofs.Common.{◌∙◌, sym, ap, option_copied, Row, is_too_near, of_last_got}
 use Rattle.aprs_book.proofs.rows.push.is_too_near.Goals as goal
 
 pub returns-in-Some : goal.returns-in-Some

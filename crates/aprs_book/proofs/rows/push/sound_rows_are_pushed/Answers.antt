@@ -1,5 +1,4 @@
-use Rattle.aprs_laws.proofs.Pushes.{sound_prefix}
-use Rattle.aprs_rows.proofs.Refusals.{none_exactly}
+use Rattle.aprs_book.proofs.Common.{sound_prefix, none_exactly}
 use Rattle.aprs_book.proofs.rows.push.sound_rows_are_pushed.Goals as goal
 
 pub returns-clause-exactly : goal.returns-clause-exactly

@@ -1,5 +1,4 @@
-use Rattle.std.proofs.Common.{◌∙◌, sym, ap, suc, drop, rules, arith, add-one}
-use Rattle.std.specs.Ordering.{is_gt}
+use Rattle.aprs_book.proofs.Common.{◌∙◌, sym, ap, suc, drop, rules, arith, add-one, is_gt}
 use Rattle.aprs_book.proofs.Searches.{IsFound, found_here, new_at_end, new_before, grows_last, grows_before, bridges}
 use Rattle.aprs_book.proofs.rows.slot.find_slot.Goals as goal
 use Rattle.aprs_book.proofs.rows.slot.find_slot.Goals.{then-i-len-via-then-i-len, then-i-len-via-else-i-len+then-is_gt, then-i-len-2-via-then-i-len-2, then-i-len-2-via-else-i-len-2+then-is_gt-2}
@@ -19,7 +18,7 @@ returns-then-i-len g c =
       | then-i-len-via-else-i-len+then-is_gt w ↦
           new_before gap x rows _ _ found
           (omega (arith, all, bound, c.len.ensures, w.if-i-len.false)) w.index.ensures
-          (sym (w.is_gt.ensures ∙ ap is_gt w.side.ensures) ∙ w.if-is_gt.true)
+          (sym (w.is_gt.ensures ∙ ap is_gt w.compare_near_to.ensures) ∙ w.if-is_gt.true)
     ]
 
 pub returns-then-i-len-2 : goal.returns-then-i-len-2
@@ -32,7 +31,7 @@ returns-then-i-len-2 g c =
     let found : IsFound gap x rows c.partition_point-i.result =
     found_here gap x rows _ c.requires (omega (arith, all, bound))
     c.partition_point-i.ensures.partitioned (λ a b f k. search rules) in
-    let not_after = sym (c.is_gt.ensures ∙ ap is_gt c.side.ensures) ∙ c.if-is_gt.false in (
+    let not_after = sym (c.is_gt.ensures ∙ ap is_gt c.compare_near_to.ensures) ∙ c.if-is_gt.false in (
       c.index.result.now,
       drop (suc c.partition_point-i.result) rows,
       elim c.then-i-len-2.branch [
@@ -51,7 +50,7 @@ returns-then-i-len-2 g c =
               w.if-i-len-2.false,
             )) c.index.ensures not_after
             (rw (← add-one) w.index-else-i-len-2.ensures)
-            (sym (w.is_gt-else-i-len-2.ensures ∙ ap is_gt w.side-else-i-len-2.ensures)
+            (sym (w.is_gt-else-i-len-2.ensures ∙ ap is_gt w.compare_near_to-else-i-len-2.ensures)
             ∙ w.if-is_gt-2.true)
       ],
     )
@@ -79,8 +78,8 @@ returns g c =
             c.len-2.ensures,
             c.if-i-len-2.false,
           )) c.index.ensures
-          (sym (c.is_gt.ensures ∙ ap is_gt c.side.ensures) ∙ c.if-is_gt.false)
+          (sym (c.is_gt.ensures ∙ ap is_gt c.compare_near_to.ensures) ∙ c.if-is_gt.false)
           (rw (← add-one) c.index-else-i-len-2.ensures)
-          (sym (c.is_gt-else-i-len-2.ensures ∙ ap is_gt c.side-else-i-len-2.ensures)
+          (sym (c.is_gt-else-i-len-2.ensures ∙ ap is_gt c.compare_near_to-else-i-len-2.ensures)
           ∙ c.if-is_gt-2.false),
     )

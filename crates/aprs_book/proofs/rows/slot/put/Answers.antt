@@ -1,4 +1,4 @@
-use Rattle.std.proofs.Common.{◌≡◌, ◌∙◌, false, true, arith}
+use Rattle.aprs_book.proofs.Common.{◌≡◌, ◌∙◌, false, true, arith}
 use Rattle.aprs_book.proofs.Slots.{grow_listed, grow_done, bridge_done, one_within, two_within}
 use Rattle.aprs_book.proofs.rows.slot.put.Goals as goal
 

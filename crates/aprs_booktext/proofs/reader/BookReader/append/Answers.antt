@@ -1,4 +1,4 @@
-use Rattle.std.proofs.Common.{◌∙◌, sym}
+use Rattle.aprs_booktext.proofs.Common.{◌∙◌, sym}
 use Rattle.aprs_booktext.proofs.Standing.{held_fault, held_stands, held_stop, EndsWithSuch-weaker}
 use Rattle.aprs_booktext.proofs.reader.BookReader.append.Goals as goal
 

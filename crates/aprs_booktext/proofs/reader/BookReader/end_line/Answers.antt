@@ -1,5 +1,4 @@
-use Rattle.std.proofs.Common.{◌+◌, ◌++◌, ◌∷◌, length, arith}
-use Rattle.std.proofs.lemmas.Result.{err_from_is_err_and, IfErr-weaker}
+use Rattle.aprs_booktext.proofs.Common.{◌+◌, ◌++◌, ◌∷◌, length, arith, err_from_is_err_and, IfErr-weaker}
 use Rattle.aprs_booktext.proofs.Standing.{fault_near}
 use Rattle.aprs_booktext.proofs.reader.BookReader.end_line.Goals as goal
 

@@ -1,6 +1,5 @@
-use Rattle.std.proofs.Common.{◌+◌, ◌++◌, [], arith, length, subst, append-nil}
-use Rattle.std.proofs.lemmas.Result.{err_from_is_err_and, on_ok_weaker, IfErr-weaker}
-use Rattle.aprs_booktext.specs.Reader.{IsFault, Stands}
+use Rattle.aprs_booktext.proofs.Common.{◌+◌, ◌++◌, [], arith, length, subst, append-nil, err_from_is_err_and, on_ok_weaker, IfErr-weaker}
+use Rattle.aprs_booktext.specs.Reader.{IsFault, HasRead}
 use Rattle.aprs_booktext.proofs.Standing.{Fed-none, Fed-line, Fed-fault, Fed-all, Fed-len, Fed-rest, fault_near}
 use Rattle.aprs_booktext.proofs.reader.BookReader.feed.Goals as goal
 
@@ -21,7 +20,7 @@ returns-in_err-end_line-clause-fault g c =
 pub loop-part-preserved : goal.loop-part-preserved
 loop-part-preserved g c = record {
   fed = λ before. Fed-line _ _ _ _ _ _ (c.loop-part.invariant.fed before) c.in-Some.ensures.some.0
-      (Stands before c.end_line.new.self c.end_line.new.store)
+      (HasRead before c.end_line.new.self c.end_line.new.store)
       (λ t s. c.in_ok-end_line.ensures.stands before t s c.in-Some.ensures.some.1);
   few = omega (
     arith,
@@ -35,7 +34,7 @@ pub returns-clause-stands : goal.returns-clause-stands
 returns-clause-stands g c =
     on_ok_weaker c.append.result
     (λ stands before. Fed-all _ _ _ _ (c.loop-part.invariant.fed before)
-    (Stands before c.append.new.self c.loop-part.store)
+    (HasRead before c.append.new.self c.loop-part.store)
     (λ t s. stands before c.loop-part.store t s c.in_default.ensures.none))
     c.append.ensures.stands
 

@@ -1,4 +1,4 @@
-use Rattle.std.proofs.Common.{◌∙◌, sym}
+use Rattle.aprs_booktext.proofs.Common.{◌∙◌, sym}
 use Rattle.aprs_booktext.proofs.SameFaults.{first_is}
 use Rattle.aprs_booktext.proofs.Standing.{cut_fault, ended_read, rows_stored}
 use Rattle.aprs_booktext.proofs.reader.BookReader.finish.Goals as goal

@@ -1,4 +1,4 @@
-use Rattle.std.proofs.Common.{arith}
+use Rattle.aprs_booktext.proofs.Common.{arith}
 use Rattle.aprs_booktext.proofs.Standing.{after_fault}
 use Rattle.aprs_booktext.proofs.reader.BookReader.refuse_after_end.Goals as goal
 

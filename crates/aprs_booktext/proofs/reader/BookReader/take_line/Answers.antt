@@ -1,4 +1,4 @@
-use Rattle.std.proofs.Common.{◌++◌, []}
+use Rattle.aprs_booktext.proofs.Common.{◌++◌, []}
 use Rattle.aprs_booktext.proofs.Standing.{ended_stands, ended_fault, held_stands, judged_stop}
 use Rattle.aprs_booktext.proofs.reader.BookReader.take_line.Goals as goal
 

@@ -1,4 +1,4 @@
-use Rattle.std.proofs.Common.{◌≤◌, ◌+◌, ap, length, arith}
+use Rattle.aprs_booktext.proofs.Common.{◌≤◌, ◌+◌, ap, length, arith}
 use Rattle.arrayvec.specs.ArrayVec.{array_vec_len}
 use Rattle.aprs_booktext.proofs.Versions.{few_digits}
 use Rattle.aprs_booktext.proofs.version.Version.header.Goals as goal

@@ -1,4 +1,4 @@
-use Rattle.std.proofs.Common.{◌∙◌, sym, ap}
+use Rattle.aprs_booktext.proofs.Common.{◌∙◌, sym, ap}
 use Rattle.aprs_booktext.specs.declared.version.Version.TheVariants.{Three}
 use Rattle.aprs_booktext.specs.Version.{header_of}
 use Rattle.aprs_booktext.proofs.Versions.{no_header, found_other, found_same, other_text}

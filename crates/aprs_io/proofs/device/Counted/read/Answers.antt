@@ -1,5 +1,4 @@
-use Rattle.std.proofs.Common.{arith, refl}
-use Rattle.std.proofs.KnownBytes.{Keeps-refl}
+use Rattle.aprs_io.proofs.Common.{arith, refl, Keeps-refl}
 use Rattle.aprs_io.proofs.device.Counted.read.Goals as goal
 
 pub loop-n-init : goal.loop-n-init

@@ -1,5 +1,4 @@
-use Rattle.std.proofs.Common.{◌≡◌, ◌+◌, ◌-◌, ◌<◌, ◌≤◌}
-use Rattle.std.specs.Io.KnownBytes.{Keeps}
+use Rattle.aprs_io.proofs.Common.{◌≡◌, ◌+◌, ◌-◌, ◌<◌, ◌≤◌, Keeps}
 use Rattle.aprs_io.proofs.device.Counted.read.Given as goal
 
 abbrev pub invariant-loop-n : goal.invariant-loop-n

@@ -1,4 +1,4 @@
-use Rattle.std.proofs.Common.{[], subst, sym}
+use Rattle.aprs_io.proofs.Common.{[], subst, sym}
 use Rattle.aprs_io.specs.Device.{SendsAllBut}
 use Rattle.aprs_io.proofs.Sends.{left_all}
 use Rattle.aprs_io.proofs.outlet.Outlet.new.Goals as goal

@@ -1,4 +1,4 @@
-use Rattle.std.proofs.Common.{◌≡◌, ◌∙◌, ◌∷◌, [], ap, sym, refl, subst, length, Some, arith}
+use Rattle.aprs_kiss.proofs.Common.{◌≡◌, ◌∙◌, ◌∷◌, [], ap, sym, refl, subst, length, Some, arith}
 use Rattle.aprs_kiss.specs.Judgement.{Judgement, data_frame_of}
 use Rattle.aprs_kiss.specs.ReaderSteps.{judgements_of_outcome}
 use Rattle.aprs_kiss.proofs.Pieces.{HasNoEnd-nil}

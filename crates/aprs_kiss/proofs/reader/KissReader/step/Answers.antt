@@ -1,4 +1,4 @@
-use Rattle.std.proofs.Common.{◌∙◌, sym, subst, refl, ◌∷◌, [], append-nil, rules}
+use Rattle.aprs_kiss.proofs.Common.{◌∙◌, sym, subst, refl, ◌∷◌, [], append-nil, rules}
 use Rattle.aprs_kiss.specs.Plain.{CutsPlain}
 use Rattle.aprs_kiss.proofs.Reading.{Quiet-none, Quiet-all, HasRead-run, HasRead-mark, HasRead-end, begun_by_test, ReadsPiece-used, frame_end_else, some_used}
 use Rattle.aprs_kiss.proofs.reader.KissReader.step.Goals as goal

@@ -1,4 +1,4 @@
-use Rattle.std.proofs.Common.{length}
+use Rattle.aprs_kiss.proofs.Common.{length}
 use Rattle.aprs_kiss.proofs.Reading.{HasRead}
 use Rattle.aprs_kiss.proofs.reader.KissReader.step.Given as goal
 

@@ -1,4 +1,4 @@
-use Rattle.std.proofs.Common.{◌∙◌, ap, sym, refl, Some}
+use Rattle.aprs_kiss.proofs.Common.{◌∙◌, ap, sym, refl, Some}
 use Rattle.aprs_kiss.specs.Unspelling.{spelled_bytes}
 use Rattle.aprs_kiss.proofs.Pieces.{HasNoEnd-append, HasNoEnd-one}
 use Rattle.aprs_kiss.proofs.Escapes.{unspelled-nil}

@@ -1,4 +1,4 @@
-use Rattle.std.proofs.Common.{◌++◌, ◌∷◌, [], length-append, arith}
+use Rattle.aprs_kiss.proofs.Common.{◌++◌, ◌∷◌, [], length-append, arith}
 use Rattle.aprs_kiss.proofs.Pieces.{HasNoEnd-append, HasNoEnd-one}
 use Rattle.aprs_kiss.proofs.Escapes.{not_end}
 use Rattle.aprs_kiss.proofs.Holding.{HoldsAfter-in, HoldsAfter-unescaped, HoldsAfter-escaped_long, unspelled-escaped}

@@ -1,4 +1,4 @@
-use Rattle.std.proofs.Common.{◌≡◌, ◌∙◌, ◌++◌, ap, sym, length-append, arith, Some}
+use Rattle.aprs_kiss.proofs.Common.{◌≡◌, ◌∙◌, ◌++◌, ap, sym, length-append, arith, Some}
 use Rattle.aprs_kiss.specs.Unspelling.{spelled_bytes}
 use Rattle.aprs_kiss.proofs.Pieces.{HasNoEnd-append}
 use Rattle.aprs_kiss.proofs.Escapes.{unspelled-run-all}

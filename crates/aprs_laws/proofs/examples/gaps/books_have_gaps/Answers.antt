@@ -1,4 +1,4 @@
-use Rattle.std.proofs.Common.{[], ◌∷◌, inl, refl, arith}
+use Rattle.aprs_laws.proofs.Common.{[], ◌∷◌, inl, refl, arith}
 use Rattle.aprs_laws.specs.Key.{key_of, key_cmp}
 use Rattle.aprs_laws.specs.Examples.{far_pair, early_row, late_row}
 use Rattle.aprs_laws.proofs.Soundness.{sound}

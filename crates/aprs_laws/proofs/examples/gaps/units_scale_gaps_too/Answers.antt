@@ -1,4 +1,4 @@
-use Rattle.std.proofs.Common.{refl}
+use Rattle.aprs_laws.proofs.Common.{refl}
 use Rattle.aprs_laws.specs.Key.{key_of, key_cmp}
 use Rattle.aprs_laws.proofs.examples.gaps.units_scale_gaps_too.Goals as goal
 

@@ -1,4 +1,4 @@
-use Rattle.std.proofs.Common.{◌≡◌, List, [], ◌∷◌, ◌++◌, refl, ap, length, arith}
+use Rattle.aprs_laws.proofs.Common.{◌≡◌, List, [], ◌∷◌, ◌++◌, refl, ap, length, arith}
 use Rattle.aprs_laws.specs.Row.{Row}
 use Rattle.aprs_laws.specs.Witnesses.{witnesses}
 use Rattle.aprs_laws.specs.Key.{key_of, key_cmp}

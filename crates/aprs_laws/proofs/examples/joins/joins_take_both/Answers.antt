@@ -1,6 +1,5 @@
-use Rattle.std.proofs.Common.{◌≡◌, inl, refl, ap, arith}
-use Rattle.aprs_log.specs.Reception.{Heard}
-use Rattle.aprs_laws.specs.Examples.{rx1, rx2, hi_frame, hi_after_digipeater, heard}
+use Rattle.aprs_laws.proofs.Common.{◌≡◌, inl, refl, ap, arith, Received}
+use Rattle.aprs_laws.specs.Examples.{rx1, rx2, hi_frame, hi_after_digipeater, reception_at}
 use Rattle.aprs_laws.proofs.examples.joins.joins_take_both.Goals as goal
 
 pub returns-clause-misses_repeat : goal.returns-clause-misses_repeat
@@ -8,6 +7,6 @@ returns-clause-misses_repeat c = λ u. let h = u.ascending.0 rx1 (inl refl) in c
 
 pub returns-clause-misses_first : goal.returns-clause-misses_first
 returns-clause-misses_first c = λ laws. let e =
-    laws.commutative (heard 30001 rx1 hi_frame) (heard 0 rx2 hi_after_digipeater)
-    (heard 30001 rx1 hi_frame) refl in let n : 30001 ≡ 0 = ap (λ (s : Heard). s.moment) e in
+    laws.commutative (reception_at 30001 rx1 hi_frame) (reception_at 0 rx2 hi_after_digipeater)
+    (reception_at 30001 rx1 hi_frame) refl in let n : 30001 ≡ 0 = ap (λ (s : Received). s.moment) e in
     omega (arith, n)

@@ -1,4 +1,4 @@
-use Rattle.std.proofs.Common.{◌≡◌, ap, arith}
+use Rattle.aprs_laws.proofs.Common.{◌≡◌, ap, arith}
 use Rattle.aprs_laws.specs.Key.{Key, key_of}
 use Rattle.aprs_laws.proofs.Worked.{key_direct, key_repeated, key_answered}
 use Rattle.aprs_laws.proofs.examples.keys.copies_have_one_key.Goals as goal

@@ -1,4 +1,4 @@
-use Rattle.std.proofs.Common.{refl}
+use Rattle.aprs_laws.proofs.Common.{refl}
 use Rattle.aprs_laws.specs.Key.{key_cmp}
 use Rattle.aprs_laws.proofs.examples.keys.sources_are_ordered_first.Goals as goal
 

@@ -1,4 +1,4 @@
-use Rattle.std.proofs.Common.{inl, inr, refl, sym}
+use Rattle.aprs_laws.proofs.Common.{inl, inr, refl, sym}
 use Rattle.aprs_laws.specs.Examples.{rx1, rx2}
 use Rattle.aprs_laws.proofs.Worked.{other_receiver}
 use Rattle.aprs_laws.proofs.examples.orders.sets_and_orders.Goals as goal

@@ -1,4 +1,4 @@
-use Rattle.std.proofs.Common.{◌≡◌, List, [], ◌∷◌, inl, refl, ap, length, arith}
+use Rattle.aprs_laws.proofs.Common.{◌≡◌, List, [], ◌∷◌, inl, refl, ap, length, arith}
 use Rattle.aprs_laws.specs.Row.{Row}
 use Rattle.aprs_laws.specs.Key.{key_of, key_cmp}
 use Rattle.aprs_laws.specs.Examples.{far_pair, early_row, late_row}

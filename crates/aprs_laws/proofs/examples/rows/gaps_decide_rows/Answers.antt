@@ -1,4 +1,4 @@
-use Rattle.std.proofs.Common.{refl}
+use Rattle.aprs_laws.proofs.Common.{refl}
 use Rattle.aprs_laws.specs.Key.{key_of, key_cmp}
 use Rattle.aprs_laws.proofs.Worked.{near_plain, far_plain}
 use Rattle.aprs_laws.proofs.examples.rows.gaps_decide_rows.Goals as goal

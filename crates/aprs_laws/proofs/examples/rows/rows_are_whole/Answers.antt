@@ -1,5 +1,5 @@
-use Rattle.std.proofs.Common.{inl, inr, refl, sym, arith}
-use Rattle.aprs_laws.specs.Examples.{rx1, rx2, hi_frame, hi_after_digipeater, heard, tied_row}
+use Rattle.aprs_laws.proofs.Common.{inl, inr, refl, sym, arith}
+use Rattle.aprs_laws.specs.Examples.{rx1, rx2, hi_frame, hi_after_digipeater, reception_at, tied_row}
 use Rattle.aprs_laws.proofs.Worked.{same_key, tied_book, other_receiver}
 use Rattle.aprs_laws.proofs.examples.rows.rows_are_whole.Goals as goal
 
@@ -11,13 +11,13 @@ returns-clause-row c = (tied_book.exactly tied_row).0 (inl refl)
 
 pub returns-clause-misses_greatest : goal.returns-clause-misses_greatest
 returns-clause-misses_greatest c = λ r. let g =
-    r.greatest (heard 0 rx2 hi_after_digipeater) (inr (inl refl))
+    r.greatest (reception_at 0 rx2 hi_after_digipeater) (inr (inl refl))
     (record { key = same_key; from = omega arith; to = omega arith }) in cc g
 
 pub returns-clause-misses_receiver : goal.returns-clause-misses_receiver
 returns-clause-misses_receiver c = λ r. let h =
     (r.receivers rx1).1 (
-      heard 0 rx1 hi_frame,
+      reception_at 0 rx1 hi_frame,
       inl refl,
       record { key = sym same_key; from = omega arith; to = omega arith },
       refl,

@@ -1,13 +1,13 @@
-use Rattle.std.proofs.Common.{[], ◌∷◌, inl, refl, subst, arith}
+use Rattle.aprs_laws.proofs.Common.{[], ◌∷◌, inl, refl, subst, arith}
 use Rattle.aprs_laws.specs.Key.{Key}
 use Rattle.aprs_laws.specs.Run.{Run}
-use Rattle.aprs_laws.specs.Examples.{rx1, hi_frame, heard, near_pair, near_row}
+use Rattle.aprs_laws.specs.Examples.{rx1, hi_frame, reception_at, near_pair, near_row}
 use Rattle.aprs_laws.proofs.RunRows.{one_row_each}
 use Rattle.aprs_laws.proofs.Worked.{key_direct, near_book}
 use Rattle.aprs_laws.proofs.examples.runs.runs_are_maximal.Goals as goal
 
 pub returns-clause-heard : goal.returns-clause-heard
-returns-clause-heard c = (heard 30001 rx1 hi_frame, inl refl, key_direct, refl)
+returns-clause-heard c = (reception_at 30001 rx1 hi_frame, inl refl, key_direct, refl)
 
 pub returns-clause-run : goal.returns-clause-run
 returns-clause-run c = subst (λ (k : Key). Run 30000 near_pair k 0 30000) key_direct
@@ -15,4 +15,4 @@ returns-clause-run c = subst (λ (k : Key). Run 30000 near_pair k 0 30000) key_d
 
 pub returns-clause-misses_part : goal.returns-clause-misses_part
 returns-clause-misses_part c = λ r. r.none_after 30000 (omega arith) (omega arith)
-    (heard 30000 rx1 hi_frame, inl refl, key_direct, refl)
+    (reception_at 30000 rx1 hi_frame, inl refl, key_direct, refl)

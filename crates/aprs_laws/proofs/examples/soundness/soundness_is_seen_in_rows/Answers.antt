@@ -1,5 +1,5 @@
-use Rattle.std.proofs.Common.{[], ◌∷◌, inl, inr, refl, arith}
-use Rattle.aprs_laws.specs.Examples.{rx1, rx2, hi_frame, heard, row_of, early_row, late_row, close_row, far_pair}
+use Rattle.aprs_laws.proofs.Common.{[], ◌∷◌, inl, inr, refl, arith}
+use Rattle.aprs_laws.specs.Examples.{rx1, rx2, hi_frame, reception_at, example_row, early_row, late_row, close_row, far_pair}
 use Rattle.aprs_laws.proofs.Soundness.{sound}
 use Rattle.aprs_laws.proofs.Pushes.{next_of_sound}
 use Rattle.aprs_laws.proofs.Worked.{same_key, far_book}
@@ -7,7 +7,7 @@ use Rattle.aprs_laws.proofs.examples.soundness.soundness_is_seen_in_rows.Goals a
 
 pub returns-clause-misses_greatest : goal.returns-clause-misses_greatest
 returns-clause-misses_greatest c = λ w. let h =
-    (w.each (row_of 1 (rx1 ∷ rx2 ∷ []) (heard 1 rx1 hi_frame)) (inl refl)).single refl rx2
+    (w.each (example_row 1 (rx1 ∷ rx2 ∷ []) (reception_at 1 rx1 hi_frame)) (inl refl)).single refl rx2
     (inr (inl refl)) in cc h
 
 pub returns-clause-misses_apart : goal.returns-clause-misses_apart
@@ -16,7 +16,7 @@ returns-clause-misses_apart c = λ w. let h = w.apart.0 close_row (inl refl) sam
 
 pub returns-clause-misses_receivers : goal.returns-clause-misses_receivers
 returns-clause-misses_receivers c = λ w. let h =
-    (w.each (row_of 0 (rx2 ∷ rx1 ∷ []) (heard 1 rx1 hi_frame)) (inl refl)).ascending.0 rx1
+    (w.each (example_row 0 (rx2 ∷ rx1 ∷ []) (reception_at 1 rx1 hi_frame)) (inl refl)).ascending.0 rx1
     (inl refl) in cc h
 
 pub returns-clause-next : goal.returns-clause-next

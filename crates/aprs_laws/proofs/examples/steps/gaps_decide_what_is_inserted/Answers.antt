@@ -1,4 +1,4 @@
-use Rattle.std.proofs.Common.{refl}
+use Rattle.aprs_laws.proofs.Common.{refl}
 use Rattle.aprs_laws.specs.Key.{key_of, key_cmp}
 use Rattle.aprs_laws.proofs.examples.steps.gaps_decide_what_is_inserted.Goals as goal
 

@@ -1,4 +1,4 @@
-use Rattle.std.proofs.Common.{◌≡◌, inl, inr, refl, sym, ◌∙◌, subst, ap, arith}
+use Rattle.aprs_laws.proofs.Common.{◌≡◌, inl, inr, refl, sym, ◌∙◌, subst, ap, arith}
 use Rattle.aprs_laws.specs.Examples.{rx1, early_row, late_row}
 use Rattle.aprs_laws.proofs.Worked.{same_key, other_receiver}
 use Rattle.aprs_laws.specs.Lists.{◌∈◌}

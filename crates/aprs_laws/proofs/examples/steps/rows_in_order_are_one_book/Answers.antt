@@ -1,6 +1,4 @@
-use Rattle.std.proofs.Common.{◌≡◌, ℕ, List, [], ◌∷◌, inl, inr, refl, sym, ap, ◌∙◌, arith}
-use Rattle.std.specs.Ordering.{is_gt}
-use Rattle.aprs_log.specs.Reception.{Heard}
+use Rattle.aprs_laws.proofs.Common.{◌≡◌, ℕ, List, [], ◌∷◌, inl, inr, refl, sym, ap, ◌∙◌, arith, is_gt, Received}
 use Rattle.aprs_laws.specs.Order.{IsUpTo}
 use Rattle.aprs_laws.specs.Key.{key_of, key_cmp}
 use Rattle.aprs_laws.specs.Row.{Row, row_cmp}
@@ -82,6 +80,6 @@ returns-clause-stands c = singles_stand (early ∷ [])
 
 pub returns-clause-misses_witness : goal.returns-clause-misses_witness
 returns-clause-misses_witness c = λ f. elim ((f.members (by_rx1 0)).0 (inl refl)) [
-  | inl e ↦ let n : 1 ≡ 0 = ap (λ (s : Heard). s.moment) e in omega (arith, n)
+  | inl e ↦ let n : 1 ≡ 0 = ap (λ (s : Received). s.moment) e in omega (arith, n)
   | inr k ↦ k
 ]

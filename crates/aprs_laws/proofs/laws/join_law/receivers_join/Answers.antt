@@ -1,4 +1,4 @@
-use Rattle.aprs_log.specs.Reception.{bytes_cmp}
+use Rattle.aprs_laws.proofs.Common.{bytes_cmp}
 use Rattle.aprs_laws.specs.Lists.{Ordered}
 use Rattle.aprs_laws.specs.Order.{IsBelow}
 use Rattle.aprs_laws.specs.Joining.{AreAny, IsUnited}

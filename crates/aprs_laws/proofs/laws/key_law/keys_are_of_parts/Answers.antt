@@ -1,4 +1,4 @@
-use Rattle.std.proofs.Common.{ap}
+use Rattle.aprs_laws.proofs.Common.{ap}
 use Rattle.aprs_ax25.specs.Frame.{Parts}
 use Rattle.aprs_ax25.proofs.Spellings.{FrameOf-parts_of}
 use Rattle.aprs_laws.specs.Key.{key_of, key_of_parts}

@@ -1,5 +1,4 @@
-use Rattle.std.proofs.Common.{◌+◌, sym, ◌∙◌}
-use Rattle.std.proofs.lemmas.List.{take_rest}
+use Rattle.aprs_log.proofs.Common.{◌+◌, sym, ◌∙◌, take_rest}
 use Rattle.aprs_log.proofs.FirstFields.{EndsMoment-space, TakesMoment-at, TakesNoMoment-nowhere, TakesNoMoment-unread, none_matches}
 use Rattle.aprs_log.proofs.line.fields.first_moment.Goals as goal
 

@@ -1,5 +1,4 @@
-use Rattle.std.proofs.Common.{◌+◌, arith, sym, ◌∙◌}
-use Rattle.std.proofs.lemmas.List.{take_rest}
+use Rattle.aprs_log.proofs.Common.{◌+◌, arith, sym, ◌∙◌, take_rest}
 use Rattle.aprs_log.proofs.FirstFields.{IsName-there, TakesName-at, TakesNoName-if, TakesNoName-no_end, none_matches}
 use Rattle.aprs_log.proofs.line.fields.take_receiver.Goals as goal
 use Rattle.aprs_log.proofs.line.fields.take_receiver.Goals.{then-len-eq0-via-then-len-eq0, then-len-eq0-via-else-len-eq0+then-len-gt-MAX_NAME, then-len-eq0-via-else-len-eq0+else-len-gt-MAX_NAME+then-text-len-ne32}

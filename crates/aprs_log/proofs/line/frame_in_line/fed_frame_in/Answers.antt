@@ -1,4 +1,4 @@
-use Rattle.std.proofs.Common.{[], Err, ap, sym, ◌∙◌}
+use Rattle.aprs_log.proofs.Common.{[], Err, ap, sym, ◌∙◌}
 use Rattle.aprs_log.proofs.Frames.{frame_in-unended, once, fed_nothing, fed_passed, fed_frame, fed_two}
 use Rattle.aprs_log.proofs.line.frame_in_line.fed_frame_in.Goals as goal
 

@@ -1,5 +1,4 @@
-use Rattle.std.proofs.Common.{arith, sym, ◌∙◌, eqb-true}
-use Rattle.std.proofs.lemmas.List.{take_rest}
+use Rattle.aprs_log.proofs.Common.{arith, sym, ◌∙◌, eqb-true, take_rest}
 use Rattle.aprs_log.proofs.Frames.{frame_in-cut}
 use Rattle.aprs_log.proofs.line.frame_in_line.plain_frame_in.Goals as goal
 

@@ -1,4 +1,4 @@
-use Rattle.std.proofs.Common.{ap, ◌∙◌}
+use Rattle.aprs_log.proofs.Common.{ap, ◌∙◌}
 use Rattle.aprs_log.specs.MomentReading.{moment_in}
 use Rattle.aprs_log.proofs.Moments.{IsExact, exact-value}
 use Rattle.aprs_log.proofs.moment.Moment.parse.Goals as goal

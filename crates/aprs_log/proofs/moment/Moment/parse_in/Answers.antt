@@ -1,4 +1,4 @@
-use Rattle.std.proofs.Common.{◌≡◌, ◌+◌, ◌*◌, ◌<◌, ℕ, None, Some, ap, sym, subst, ◌∙◌}
+use Rattle.aprs_log.proofs.Common.{◌≡◌, ◌+◌, ◌*◌, ◌<◌, ℕ, None, Some, ap, sym, subst, ◌∙◌}
 use Rattle.aprs_log.specs.Moment.{room_of}
 use Rattle.aprs_log.specs.MomentReading.{civil_text, moment_in, seconds_of}
 use Rattle.aprs_log.specs.Places.{near_civil}

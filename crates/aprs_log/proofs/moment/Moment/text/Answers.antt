@@ -1,11 +1,11 @@
-use Rattle.std.proofs.Common.{sym, subst, arith}
+use Rattle.aprs_log.proofs.Common.{sym, subst, arith}
 use Rattle.aprs_log.specs.declared.moment_form.MomentForm.TheVariants.{Millis}
-use Rattle.aprs_log.specs.CivilMoment.{MomentTextIn}
+use Rattle.aprs_log.specs.CivilMoment.{IsMomentTextIn}
 use Rattle.aprs_log.proofs.Moments.{civil_text-moment, text-moment_of, text-writable}
 use Rattle.aprs_log.proofs.moment.Moment.text.Goals as goal
 
-spells : (c : goal.After-text) → MomentTextIn Millis c.args.self.now c.text.result
-spells c = subst (MomentTextIn Millis c.args.self.now) (sym c.text.ensures)
+spells : (c : goal.After-text) → IsMomentTextIn Millis c.args.self.now c.text.result
+spells c = subst (IsMomentTextIn Millis c.args.self.now) (sym c.text.ensures)
     (civil_text-moment Millis c.from_seconds.result _ c.args.self.now c.from_seconds.ensures.real
     (omega arith) (omega (arith, c.from_seconds.ensures.number, c.self.view_is)))
 

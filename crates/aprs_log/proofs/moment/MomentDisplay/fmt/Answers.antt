@@ -1,4 +1,4 @@
-use Rattle.std.proofs.lemmas.Str.{IsUtf8-from_ascii}
+use Rattle.aprs_log.proofs.Common.{IsUtf8-from_ascii}
 use Rattle.aprs_log.proofs.Moments.{moment_of-text}
 use Rattle.aprs_log.proofs.ShownTexts.{MomentText-ascii}
 use Rattle.aprs_log.proofs.moment.MomentDisplay.fmt.Goals as goal

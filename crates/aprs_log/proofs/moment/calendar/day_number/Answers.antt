@@ -1,6 +1,4 @@
-use Rattle.std.proofs.Common.{arith, rules, w8, w16}
-use Rattle.std.proofs.lemmas.Int.{to_z_pos}
-use Rattle.jiff_core.proofs.DateLemmas.{civil}
+use Rattle.aprs_log.proofs.Common.{arith, rules, w8, w16, to_z_pos, civil}
 use Rattle.aprs_log.proofs.Days.{parts_are}
 use Rattle.aprs_log.proofs.moment.calendar.day_number.Goals as goal
 
@@ -11,10 +9,10 @@ overflow_sub-result c =
     let d = to_z_pos w8 c.args.day (omega arith) in
     let ymd = simp (y, m, d) at c.in-Ok.ensures.value in
     let date = c.in-Ok.date in
+    let number = simp c.to_plain.ensures at c.days_since_min.ensures.value in
     (parts_are date.year date.month date.day c.args.year c.args.month c.args.day
     c.days_since_min.result (civil date)
-    ymd.0 ymd.1 ymd.2 c.requires.low c.requires.high
-    c.days_since_min.ensures.value).0
+    ymd.0 ymd.1 ymd.2 c.requires.low c.requires.high number).0
 
 pub returns-in-Ok : goal.returns-in-Ok
 returns-in-Ok c =
@@ -23,10 +21,10 @@ returns-in-Ok c =
     let d = to_z_pos w8 c.args.day (omega arith) in
     let ymd = simp (y, m, d) at c.in-Ok.ensures.value in
     let date = c.in-Ok.date in
+    let counted = simp c.to_plain.ensures at c.days_since_min.ensures.value in
     let number = parts_are date.year date.month date.day c.args.year c.args.month c.args.day
     c.days_since_min.result (civil date)
-    ymd.0 ymd.1 ymd.2 c.requires.low c.requires.high
-    c.days_since_min.ensures.value in (
+    ymd.0 ymd.1 ymd.2 c.requires.low c.requires.high counted in (
       (
         c.requires.low,
         c.requires.high,

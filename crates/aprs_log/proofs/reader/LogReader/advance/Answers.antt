@@ -1,4 +1,4 @@
-use Rattle.std.proofs.Common.{rules}
+use Rattle.aprs_log.proofs.Common.{rules}
 use Rattle.aprs_log.proofs.Awaiting.{something}
 use Rattle.aprs_log.proofs.reader.LogReader.advance.Goals as goal
 

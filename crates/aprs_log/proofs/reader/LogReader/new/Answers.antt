@@ -1,4 +1,4 @@
-use Rattle.std.proofs.Common.{◌-◌, length}
+use Rattle.aprs_log.proofs.Common.{◌-◌, length}
 use Rattle.aprs_log.specs.Window.{items}
 use Rattle.aprs_log.specs.declared.reader.ending.State.TheVariants.{Reading}
 use Rattle.aprs_log.proofs.Awaiting.{from_start, something}

@@ -1,4 +1,4 @@
-use Rattle.std.proofs.Common.{Ok, Some, subst, sym}
+use Rattle.aprs_log.proofs.Common.{Ok, Some, subst, sym}
 use Rattle.aprs_log.specs.Reader.{Advances}
 use Rattle.aprs_log.specs.declared.line.Line.{Line}
 use Rattle.aprs_log.proofs.reader.LogReader.next.Goals as goal

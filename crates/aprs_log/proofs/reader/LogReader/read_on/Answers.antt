@@ -1,4 +1,4 @@
-use Rattle.std.proofs.Common.{◌≤◌, None, Some, ap, arith, length}
+use Rattle.aprs_log.proofs.Common.{◌≤◌, None, Some, ap, arith, length}
 use Rattle.aprs_log.proofs.Awaiting.{step_long, step_more, step_end}
 use Rattle.aprs_log.specs.declared.line.TheConstants.{MAX_LINE}
 use Rattle.aprs_log.proofs.Lasts.{stops_as_told}

@@ -1,4 +1,4 @@
-use Rattle.std.proofs.Common.{◌∙◌, ap, sym, refl, rules}
+use Rattle.aprs_log.proofs.Common.{◌∙◌, ap, sym, refl, rules}
 use Rattle.aprs_log.specs.ReaderSteps.{line_in}
 use Rattle.aprs_log.proofs.LogAnswers.{uncut_lacks}
 use Rattle.aprs_log.proofs.Awaiting.{step_line, step_fault, faults_keep}

@@ -1,5 +1,4 @@
-use Rattle.std.proofs.Common.{◌∙◌, ap, length, arith}
-use Rattle.aprs_io.proofs.Cuts.{taken}
+use Rattle.aprs_log.proofs.Common.{◌∙◌, ap, length, arith, taken}
 use Rattle.aprs_log.proofs.reader.next_line.take_line.Goals as goal
 
 pub consume-requires : goal.consume-requires

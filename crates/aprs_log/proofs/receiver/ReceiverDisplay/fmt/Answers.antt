@@ -1,4 +1,4 @@
-use Rattle.std.proofs.lemmas.Str.{IsUtf8-from_ascii}
+use Rattle.aprs_log.proofs.Common.{IsUtf8-from_ascii}
 use Rattle.aprs_log.proofs.ShownTexts.{IsName-ascii}
 use Rattle.aprs_log.proofs.receiver.ReceiverDisplay.fmt.Goals as goal
 

@@ -1,4 +1,4 @@
-use Rattle.aprs_io.proofs.Sends.{Sends-is}
+use Rattle.aprs_log.proofs.Common.{Sends-is}
 use Rattle.aprs_log.proofs.write.LogWriter.write.Goals as goal
 
 pub returns-clause-sends : goal.returns-clause-sends

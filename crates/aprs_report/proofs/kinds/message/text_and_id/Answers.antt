@@ -1,4 +1,4 @@
-use Rattle.std.proofs.Common.{sym, ap, ◌∙◌}
+use Rattle.aprs_report.proofs.Common.{sym, ap, ◌∙◌}
 use Rattle.aprs_report.specs.Reader.{id_at, text_and_id_of}
 use Rattle.aprs_report.proofs.Messages.{to_the_end, starts, goes_on, stops, ends}
 use Rattle.aprs_report.proofs.kinds.message.text_and_id.Goals as goal

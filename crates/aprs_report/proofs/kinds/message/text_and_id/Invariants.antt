@@ -1,4 +1,4 @@
-use Rattle.std.proofs.Common.{◌≡◌, take, drop}
+use Rattle.aprs_report.proofs.Common.{◌≡◌, take, drop}
 use Rattle.aprs_report.specs.Reader.{text_and_id_of}
 use Rattle.aprs_report.proofs.Messages.{with_prefix}
 use Rattle.aprs_report.proofs.kinds.message.text_and_id.Given as goal

@@ -1,4 +1,4 @@
-use Rattle.std.specs.Prelude.{Some, None}
+use Rattle.aprs_report.proofs.Common.{Some, None}
 use Rattle.aprs_report.specs.Reading.{view}
 use Rattle.aprs_report.proofs.Readings.{reading_found, form_value}
 use Rattle.aprs_report.proofs.report.Report.read.Goals as goal

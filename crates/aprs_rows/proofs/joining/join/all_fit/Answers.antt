@@ -1,9 +1,4 @@
-use Rattle.std.proofs.Common.{◌≡◌, ◌∙◌, ◌+◌, List, [], ◌∷◌, ◌++◌, take, refl, sym, ap, inl, inr, subst, arith}
-use Rattle.std.proofs.lemmas.List.{take_all, take_more}
-use Rattle.aprs_laws.specs.Lists.{◌∈◌}
-use Rattle.aprs_laws.specs.Joining.{AreAllAlike}
-use Rattle.aprs_laws.proofs.Lists.{in_either}
-use Rattle.aprs_laws.proofs.Places.{in_place}
+use Rattle.aprs_rows.proofs.Common.{◌≡◌, ◌∙◌, ◌+◌, List, [], ◌∷◌, ◌++◌, take, refl, sym, ap, inl, inr, subst, arith, take_all, take_more, ◌∈◌, AreAllAlike, in_either, in_place}
 use Rattle.aprs_rows.proofs.joining.join.all_fit.Goals as goal
 
 pub loop-other-preserved : goal.loop-other-preserved

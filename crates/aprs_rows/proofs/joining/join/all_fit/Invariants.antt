@@ -1,5 +1,4 @@
-use Rattle.std.proofs.Common.{take}
-use Rattle.aprs_laws.specs.Joining.{AreAllAlike}
+use Rattle.aprs_rows.proofs.Common.{take, AreAllAlike}
 use Rattle.aprs_rows.proofs.joining.join.all_fit.Given as goal
 
 abbrev pub invariant-loop-other : goal.invariant-loop-other

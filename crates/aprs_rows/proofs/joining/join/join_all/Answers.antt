@@ -1,9 +1,4 @@
-use Rattle.std.proofs.Common.{◌≡◌, ◌∙◌, ◌+◌, ◌∷◌, [], ◌++◌, take, sym, subst, ap, inl, inr, arith, List}
-use Rattle.std.proofs.lemmas.List.{take_all, take_more}
-use Rattle.aprs_laws.specs.Lists.{◌∈◌}
-use Rattle.aprs_laws.specs.Joining.{FoldsTo}
-use Rattle.aprs_laws.proofs.Lists.{in_either}
-use Rattle.aprs_laws.proofs.Places.{in_place}
+use Rattle.aprs_rows.proofs.Common.{◌≡◌, ◌∙◌, ◌+◌, ◌∷◌, [], ◌++◌, take, sym, subst, ap, inl, inr, arith, List, take_all, take_more, ◌∈◌, FoldsTo, in_either, in_place}
 use Rattle.aprs_laws.proofs.Folds.{fold_same, fold_more}
 use Rattle.aprs_rows.proofs.joining.join.join_all.Goals as goal
 

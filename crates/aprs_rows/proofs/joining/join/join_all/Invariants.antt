@@ -1,6 +1,4 @@
-use Rattle.std.proofs.Common.{take}
-use Rattle.aprs_laws.specs.Lists.{◌∈◌}
-use Rattle.aprs_laws.specs.Joining.{FoldsTo}
+use Rattle.aprs_rows.proofs.Common.{take, ◌∈◌, FoldsTo}
 use Rattle.aprs_rows.proofs.joining.join.join_all.Given as goal
 
 abbrev pub invariant-loop-item : goal.invariant-loop-item

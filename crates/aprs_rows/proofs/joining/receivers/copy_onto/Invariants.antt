@@ -1,4 +1,4 @@
-use Rattle.std.proofs.Common.{◌≡◌, ◌+◌, ◌++◌, take, vec_len, vec_capacity}
+use Rattle.aprs_rows.proofs.Common.{◌≡◌, ◌+◌, ◌++◌, take, vec_len, vec_capacity}
 use Rattle.aprs_rows.proofs.joining.receivers.copy_onto.Given as goal
 
 abbrev pub invariant-loop-name : goal.invariant-loop-name

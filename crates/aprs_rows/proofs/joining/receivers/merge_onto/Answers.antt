@@ -1,4 +1,4 @@
-use Rattle.std.proofs.Common.{◌≤◌, ◌⊎◌, length, arith, inl, inr}
+use Rattle.aprs_rows.proofs.Common.{◌≤◌, ◌⊎◌, length, arith, inl, inr}
 use Rattle.std.proofs.lemmas.Grind.{common_steps}
 use Rattle.aprs_rows.proofs.ReceiverNames.{merged_ended}
 use Rattle.aprs_rows.proofs.joining.receivers.merge_onto.Goals as goal

@@ -1,6 +1,4 @@
-use Rattle.std.proofs.Common.{◌≡◌, ◌+◌, ◌-◌, ◌≤◌, ◌++◌, drop, length, vec_len, vec_capacity}
-use Rattle.aprs_log.specs.Reception.{bytes_cmp}
-use Rattle.aprs_laws.specs.Merged.{ascending_union}
+use Rattle.aprs_rows.proofs.Common.{◌≡◌, ◌+◌, ◌-◌, ◌≤◌, ◌++◌, drop, length, vec_len, vec_capacity, bytes_cmp, ascending_union}
 use Rattle.aprs_rows.proofs.joining.receivers.merge_onto.Given as goal
 
 abbrev pub invariant-loop-i : goal.invariant-loop-i

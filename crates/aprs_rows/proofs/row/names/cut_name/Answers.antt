@@ -1,5 +1,4 @@
-use Rattle.std.proofs.Common.{◌∙◌, ◌∷◌, ◌+◌, ap, sym, arith, take}
-use Rattle.std.proofs.lemmas.List.{take_rest}
+use Rattle.aprs_rows.proofs.Common.{◌∙◌, ◌∷◌, ◌+◌, ap, sym, arith, take, take_rest}
 use Rattle.aprs_rows.specs.Names.{names_in}
 use Rattle.aprs_rows.proofs.NameTexts.{first_name, only_name}
 use Rattle.aprs_rows.proofs.row.names.cut_name.Goals as goal

@@ -1,4 +1,4 @@
-use Rattle.std.proofs.Common.{◌≡◌, ◌++◌, length, map}
+use Rattle.aprs_rows.proofs.Common.{◌≡◌, ◌++◌, length, map}
 use Rattle.aprs_rows.specs.Names.{names_in}
 use Rattle.aprs_rows.proofs.row.names.gather.Given as goal
 

@@ -1,4 +1,4 @@
-use Rattle.std.proofs.Common.{◌≡◌, ◌++◌, drop, map}
+use Rattle.aprs_rows.proofs.Common.{◌≡◌, ◌++◌, drop, map}
 use Rattle.aprs_rows.specs.Sorted.{after_first, ascending_text}
 use Rattle.aprs_rows.proofs.row.names.put_ascending.Given as goal
 

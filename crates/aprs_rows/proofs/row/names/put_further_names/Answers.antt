@@ -1,4 +1,4 @@
-use Rattle.std.proofs.Common.{◌≡◌, ◌∙◌, ◌++◌, ◌∷◌, [], arith}
+use Rattle.aprs_rows.proofs.Common.{◌≡◌, ◌∙◌, ◌++◌, ◌∷◌, [], arith}
 use Rattle.aprs_rows.proofs.JoinedNames.{more_text, more_names}
 use Rattle.aprs_rows.proofs.row.names.put_further_names.Goals as goal
 

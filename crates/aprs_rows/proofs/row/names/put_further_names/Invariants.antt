@@ -1,7 +1,4 @@
-use Rattle.std.proofs.Common.{◌≡◌, ◌++◌, take}
-use Rattle.std.specs.Prelude.{All}
-use Rattle.std.specs.List.{flat_map}
-use Rattle.aprs_log.specs.Receiver.{IsName}
+use Rattle.aprs_rows.proofs.Common.{◌≡◌, ◌++◌, take, All, flat_map, IsName}
 use Rattle.aprs_rows.proofs.JoinedNames.{after_comma}
 use Rattle.aprs_rows.proofs.row.names.put_further_names.Given as goal
 

@@ -1,5 +1,4 @@
-use Rattle.std.proofs.Common.{◌∙◌, ◌++◌, ap, sym}
-use Rattle.std.specs.List.{flat_map}
+use Rattle.aprs_rows.proofs.Common.{◌∙◌, ◌++◌, ap, sym, flat_map}
 use Rattle.aprs_rows.proofs.Rows.{on_ok}
 use Rattle.aprs_rows.proofs.JoinedNames.{joined_first, after_comma}
 use Rattle.aprs_rows.proofs.row.names.put_names.Goals as goal

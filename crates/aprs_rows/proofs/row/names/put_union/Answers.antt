@@ -1,4 +1,4 @@
-use Rattle.std.proofs.Common.{◌∙◌, ◌++◌, map, ap}
+use Rattle.aprs_rows.proofs.Common.{◌∙◌, ◌++◌, map, ap}
 use Rattle.aprs_rows.specs.Sorted.{ascending_text}
 use Rattle.aprs_rows.proofs.Rows.{on_ok}
 use Rattle.aprs_rows.proofs.SortedTexts.{text_of_sort}

@@ -1,5 +1,4 @@
-use Rattle.std.proofs.Common.{◌∙◌, drop, ap}
-use Rattle.std.proofs.lemmas.List.{drop_min}
+use Rattle.aprs_rows.proofs.Common.{◌∙◌, drop, ap, drop_min}
 use Rattle.aprs_rows.proofs.store.entry.after.Goals as goal
 
 pub returns : goal.returns

@@ -1,5 +1,4 @@
-use Rattle.std.proofs.Common.{◌∙◌, take, ap}
-use Rattle.std.proofs.lemmas.List.{take_min}
+use Rattle.aprs_rows.proofs.Common.{◌∙◌, take, ap, take_min}
 use Rattle.aprs_rows.proofs.store.entry.first_of.Goals as goal
 
 pub returns : goal.returns

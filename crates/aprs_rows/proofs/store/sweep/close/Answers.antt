@@ -1,5 +1,4 @@
-use Rattle.std.proofs.Common.{◌≡◌, ◌∙◌, ◌-◌, ◌∷◌, ◌++◌, [], List, ℕ, not, length, refl, sym, ap, subst, arith}
-use Rattle.std.proofs.lemmas.List.{length-append}
+use Rattle.aprs_rows.proofs.Common.{◌≡◌, ◌∙◌, ◌-◌, ◌∷◌, ◌++◌, [], List, ℕ, not, length, refl, sym, ap, subst, arith, length-append}
 use Rattle.aprs_rows.specs.declared.store.group.Group.{Group}
 use Rattle.aprs_rows.specs.Groups.{text_size, group_row, IsGroup, AreGroups, rows_of_groups}
 use Rattle.aprs_rows.specs.Sweep.{open_text}

@@ -1,6 +1,4 @@
-use Rattle.std.proofs.Common.{inl}
-use Rattle.std.proofs.lemmas.Result.{err_from_is_err_and}
-use Rattle.aprs_convert.proofs.Gots.{got_so}
+use Rattle.aprs_tool.proofs.Common.{inl, err_from_is_err_and, got_so}
 use Rattle.aprs_tool.proofs.Into.{merged_in, not_merged_in}
 use Rattle.aprs_tool.proofs.Readers.{AsksInput-ends, AsksInput-err, asks_merge}
 use Rattle.aprs_tool.proofs.desk.Desk.take_input.Goals as goal

@@ -1,7 +1,4 @@
-use Rattle.std.proofs.Common.{Ok, Err, refl, subst, ◌∙◌, ap}
-use Rattle.std.proofs.lemmas.Result.{err_from_is_err_and}
-use Rattle.aprs_io.proofs.Sends.{Sends-err, Sends-ok}
-use Rattle.aprs_laws.specs.BookValue.{BookValue}
+use Rattle.aprs_tool.proofs.Common.{Ok, Err, refl, subst, ◌∙◌, ap, err_from_is_err_and, Sends-err, Sends-ok, BookValue}
 use Rattle.aprs_tool.specs.ToldBook.{IsHistory, WritesTold}
 use Rattle.aprs_tool.specs.declared.gathered.OutputFault.TheVariants.{Write}
 use Rattle.aprs_tool.proofs.RowsTold.{same_book}

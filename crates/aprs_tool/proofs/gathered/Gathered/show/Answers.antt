@@ -1,7 +1,4 @@
-use Rattle.std.proofs.Common.{Ok, Err, refl, subst, ◌∙◌, ap}
-use Rattle.std.proofs.lemmas.Result.{err_from_is_err_and}
-use Rattle.aprs_io.proofs.Sends.{Sends-err, Sends-ok}
-use Rattle.aprs_laws.specs.BookValue.{BookValue}
+use Rattle.aprs_tool.proofs.Common.{Ok, Err, refl, subst, ◌∙◌, ap, err_from_is_err_and, Sends-err, Sends-ok, BookValue}
 use Rattle.aprs_tool.specs.ToldBook.{IsShown, WritesTold}
 use Rattle.aprs_tool.specs.declared.gathered.OutputFault.TheVariants.{Write}
 use Rattle.aprs_tool.proofs.RowsTold.{same_book}
@@ -21,18 +18,18 @@ returns-in_err-rows g c =
     c.from_residual-in_err-rows.ensures.1 in
     rw (p.1, p.2) refl
 
-pub returns-in_err-overview : goal.returns-in_err-overview
+pub returns-in_err-summary : goal.returns-in_err-summary
 unfolding WritesTold
-returns-in_err-overview g c =
-    let p = err_from_is_err_and c.from_residual-in_err-overview.result
-    c.from_residual-in_err-overview.ensures.1 in
+returns-in_err-summary g c =
+    let p = err_from_is_err_and c.from_residual-in_err-summary.result
+    c.from_residual-in_err-summary.ensures.1 in
     rw (p.1, p.2) refl
 
-pub returns-in_err-views : goal.returns-in_err-views
+pub returns-in_err-listing : goal.returns-in_err-listing
 unfolding WritesTold
-returns-in_err-views g c =
-    let p = err_from_is_err_and c.from_residual-in_err-views.result
-    c.from_residual-in_err-views.ensures.1 in
+returns-in_err-listing g c =
+    let p = err_from_is_err_and c.from_residual-in_err-listing.result
+    c.from_residual-in_err-listing.ensures.1 in
     rw (p.1, p.2) refl
 
 pub returns-in_err-write : goal.returns-in_err-write
@@ -41,16 +38,16 @@ returns-in_err-write g c =
     let p = err_from_is_err_and c.from_residual-in_err-write.result
     c.from_residual-in_err-write.ensures.1 in
     let was = c.self.inside in
-    let views = c.in_ok-views.ensures in
+    let listing = c.in_ok-listing.ensures in
     rw (p.1, p.2) (subst (λ b. WritesTold IsShown g.W.Write.contents (Err Write) b c.args.w.now
     c.write.new.w)
-    (c.in_ok-overview.ensures
+    (c.in_ok-summary.ensures
     ∙ same_book was.gap was.store c.in_ok-rows.rows c.self.invariant c.in_ok-order.ensures.sound
     (ap (λ (b : BookValue). b.gap) c.in_ok-rows.ensures.rows)
     (c.in_ok-rows.ensures.book was.store c.in_ok-order.ensures.members)
     ∙ c.self.view_is) (
       _,
-      shown_text _ _ _ _ views.stations views.named views.messages,
+      shown_text _ _ _ _ listing.stations listing.named listing.messages,
       Sends-err (Err Write) refl c.in_err-write.ensures,
     ))
 
@@ -58,14 +55,14 @@ pub returns : goal.returns
 unfolding WritesTold
 returns g c =
     let was = c.self.inside in
-    let views = c.in_ok-views.ensures in
+    let listing = c.in_ok-listing.ensures in
     subst (λ b. WritesTold IsShown g.W.Write.contents (Ok tt) b c.args.w.now c.write.new.w)
-    (c.in_ok-overview.ensures
+    (c.in_ok-summary.ensures
     ∙ same_book was.gap was.store c.in_ok-rows.rows c.self.invariant c.in_ok-order.ensures.sound
     (ap (λ (b : BookValue). b.gap) c.in_ok-rows.ensures.rows)
     (c.in_ok-rows.ensures.book was.store c.in_ok-order.ensures.members)
     ∙ c.self.view_is) (
       _,
-      shown_text _ _ _ _ views.stations views.named views.messages,
+      shown_text _ _ _ _ listing.stations listing.named listing.messages,
       Sends-ok c.in_ok-write.ensures,
     )

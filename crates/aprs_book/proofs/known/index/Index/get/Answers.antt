@@ -1,4 +1,4 @@
-use Rattle.std.proofs.Common.{◌∙◌, None, Some}
+use Rattle.aprs_book.proofs.Common.{◌∙◌, None, Some}
 use Rattle.aprs_book.proofs.KnownSteps.{known_got}
 use Rattle.aprs_book.proofs.known.index.Index.get.Goals as goal
 

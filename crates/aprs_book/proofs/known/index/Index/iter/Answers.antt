@@ -1,5 +1,4 @@
-use Rattle.std.proofs.Common.{subst}
-use Rattle.aprs_laws.specs.Lists.{Ordered}
+use Rattle.aprs_book.proofs.Common.{subst, Ordered}
 use Rattle.aprs_book.specs.Known.{IsEntryBefore}
 use Rattle.aprs_book.proofs.KnownSteps.{plain_ascend}
 use Rattle.aprs_book.proofs.known.index.Index.iter.Goals as goal

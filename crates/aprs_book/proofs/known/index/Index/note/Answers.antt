@@ -1,5 +1,5 @@
-use Rattle.std.proofs.Common.{◌≡◌, ◌∙◌, ap, true, false}
-use Rattle.aprs_book.specs.Known.{known_at, plain}
+use Rattle.aprs_book.proofs.Common.{◌≡◌, ◌∙◌, ap, true, false}
+use Rattle.aprs_book.specs.Known.{known_at, plain_entries}
 use Rattle.aprs_book.proofs.KnownSteps.{is_none_there, noted_at}
 use Rattle.aprs_book.proofs.known.index.Index.note.Goals as goal
 use Rattle.aprs_book.proofs.known.index.Index.note.Goals.{in-Some, in_default}
@@ -7,7 +7,7 @@ use Rattle.aprs_book.proofs.known.index.Index.note.Goals.{in-Some, in_default}
 pub returns : goal.returns
 returns g c = λ q. elim c.match-get_mut.branch [
   | in-Some w ↦
-      ap (λ m. known_at q (plain (λ k. k.items) m.map.entries)) w.self-inside-is
+      ap (λ m. known_at q (plain_entries (λ k. k.items) m.map.entries)) w.self-inside-is
       ∙ noted_at (λ k. k.items) c.args.bytes.now c.self.inside.map.entries _ c.self.view_is
       (c.get_mut.follows.lender w.keep.new.known).entries w.in-Some.known.now w.keep.new.known
       c.args.x.now q w.in-Some.ensures.value (c.get_mut.follows.holds w.keep.new.known).0

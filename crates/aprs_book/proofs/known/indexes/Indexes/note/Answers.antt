@@ -1,4 +1,4 @@
-use Rattle.std.proofs.Common.{◌∙◌, Some, sym, ap, subst}
+use Rattle.aprs_book.proofs.Common.{◌∙◌, Some, sym, ap, subst}
 use Rattle.aprs_book.specs.Known.{FourIndexes, HasEntry, index_of, subject_bytes, positions, statuses, objects, items}
 use Rattle.aprs_book.proofs.known.indexes.Indexes.note.Goals as goal
 

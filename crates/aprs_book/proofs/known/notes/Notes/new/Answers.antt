@@ -1,6 +1,4 @@
-use Rattle.std.proofs.Common.{[], subst, sym}
-use Rattle.aprs_laws.specs.Best.{LastKnown}
-use Rattle.aprs_laws.specs.BestLaws.{Passes}
+use Rattle.aprs_book.proofs.Common.{[], subst, sym, LastKnown, Passes}
 use Rattle.aprs_book.specs.Known.{known_at, topic_bytes, is_report_on}
 use Rattle.aprs_book.proofs.known.notes.Notes.new.Goals as goal
 

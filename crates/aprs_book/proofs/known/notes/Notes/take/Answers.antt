@@ -1,11 +1,7 @@
-use Rattle.std.proofs.Common.{◌≡◌, ◌∙◌, refl, ◌∷◌, ◌++◌, [], Option, Some, if◌then◌else◌, List, ℕ, map, ap, subst, sym}
-use Rattle.aprs_log.specs.Reception.{Heard}
-use Rattle.aprs_laws.specs.JoinRow.{greater}
-use Rattle.aprs_laws.specs.Best.{LastKnown, greater_known}
-use Rattle.aprs_laws.specs.BestLaws.{Passes}
+use Rattle.aprs_book.proofs.Common.{◌≡◌, ◌∙◌, refl, ◌∷◌, ◌++◌, [], Option, Some, if◌then◌else◌, List, ℕ, map, ap, subst, sym, Received, greater, LastKnown, greater_known, Passes}
 use Rattle.aprs_book.specs.Known.{index_of, has_bytes, known_at, subject_bytes, topic_bytes, is_report_on, greatest_of}
 use Rattle.aprs_book.specs.Notes.{known_with}
-use Rattle.aprs_book.specs.declared.known.notes.Run.{Run}
+use Rattle.aprs_book.specs.declared.known.notes.Streak.{Streak}
 use Rattle.aprs_book.proofs.Noting.{run_grows, run_begins, run_stays}
 use Rattle.aprs_book.proofs.known.notes.Notes.take.Goals as goal
 
@@ -22,8 +18,8 @@ returns-in-Some g c = λ rows r known reported is topic bytes.
     sym c.take.ensures.value ∙ c.in-Some.is in
     let one = c.is_same.ensures c.if-is_same.true topic in
     let made : greater c.in-Some.run'.greatest r.greatest ≡ c.greater-greatest.result =
-    sym (c.greater-greatest.ensures ∙ ap (λ (x : Heard). greater c.in-Some.run'.greatest x) is) in
-    subst (λ (x : Heard). LastKnown (map greatest_of (rows ++ r ∷ []))
+    sym (c.greater-greatest.ensures ∙ ap (λ (x : Received). greater c.in-Some.run'.greatest x) is) in
+    subst (λ (x : Received). LastKnown (map greatest_of (rows ++ r ∷ []))
     (Passes (is_report_on (topic_bytes topic) bytes))
     (if has_bytes bytes (subject_bytes topic c.args.subject)
     then Some (greater_known k x) else k)) made
@@ -32,7 +28,7 @@ returns-in-Some g c = λ rows r known reported is topic bytes.
     (subst (λ (o : Option (List ℕ)). LastKnown (map greatest_of rows)
     (Passes (is_report_on (topic_bytes topic) bytes))
     (if has_bytes bytes o then Some (greater_known k c.in-Some.run'.greatest) else k)) one
-    (subst (λ (l : Option Run). LastKnown (map greatest_of rows)
+    (subst (λ (l : Option Streak). LastKnown (map greatest_of rows)
     (Passes (is_report_on (topic_bytes topic) bytes)) (known_with l topic bytes indexes)) last
     (known topic bytes))))
 
@@ -41,7 +37,7 @@ returns-in-None g c = λ rows r known reported is topic bytes.
     let indexes = c.args.self.now.indexes in
     run_begins rows r topic bytes (subject_bytes topic c.args.subject) (reported topic)
     (known_at bytes (index_of topic indexes)) c.args.x is _ refl
-    (subst (λ (l : Option Run). LastKnown (map greatest_of rows)
+    (subst (λ (l : Option Streak). LastKnown (map greatest_of rows)
     (Passes (is_report_on (topic_bytes topic) bytes)) (known_with l topic bytes indexes))
     (sym c.take.ensures.value ∙ c.in-None.is) (known topic bytes))
 
@@ -51,6 +47,6 @@ returns-in_ok-take-in-Some-2 g c = λ rows r known reported is topic bytes.
     run_begins rows r topic bytes (subject_bytes topic c.args.subject) (reported topic)
     (known_at bytes (index_of topic c.take-in-Some-2.new.self)) c.args.x is _
     (c.in_ok-take-in-Some-2.ensures.taken topic bytes)
-    (subst (λ (l : Option Run). LastKnown (map greatest_of rows)
+    (subst (λ (l : Option Streak). LastKnown (map greatest_of rows)
     (Passes (is_report_on (topic_bytes topic) bytes)) (known_with l topic bytes indexes))
     (sym c.take.ensures.value ∙ c.in-Some.is) (known topic bytes))

@@ -1,5 +1,4 @@
-use Rattle.std.proofs.Common.{arith}
-use Rattle.aprs_rows.proofs.Heads.{two_addresses}
+use Rattle.aprs_book.proofs.Common.{arith, two_addresses}
 use Rattle.aprs_book.proofs.known.reception_view.ReceptionView.source_octets.Goals as goal
 
 pub slice_bounds-result-end : goal.slice_bounds-result-end

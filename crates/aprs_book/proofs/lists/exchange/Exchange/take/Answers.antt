@@ -1,10 +1,6 @@
-use Rattle.std.proofs.Common.{◌≡◌, ◌∙◌, ◌↔◌, Some, None, sym, ap, subst}
-use Rattle.std.specs.Option.{option_map}
-use Rattle.aprs_log.specs.Reception.{Heard}
-use Rattle.aprs_laws.specs.Key.{key_of}
-use Rattle.aprs_laws.specs.Row.{row_key}
+use Rattle.aprs_book.proofs.Common.{◌≡◌, ◌∙◌, ◌↔◌, Some, None, sym, ap, subst, option_map, Received, key_of, row_key}
 use Rattle.aprs_book.specs.Messages.{message_in}
-use Rattle.aprs_book.specs.MessageRows.{GivesAnswer, answer_of, is_addressed, message_of}
+use Rattle.aprs_book.specs.MessageRows.{GivesAnswer, answer_of, begins_with_colon, message_of}
 use Rattle.aprs_book.proofs.Addressed.{no_message_in}
 use Rattle.aprs_book.proofs.Collected.{on_ok}
 use Rattle.aprs_book.proofs.Exchanges.{message_no_answer, no_answer_given, answers_beside, spans_beside}
@@ -12,8 +8,8 @@ use Rattle.aprs_book.proofs.lists.exchange.Exchange.take.Goals as goal
 
 pub returns-then-not-is_addressed : goal.returns-then-not-is_addressed
 returns-then-not-is_addressed g c = λ rows r held first is.
-    let not = sym (ap is_addressed (c.info.ensures
-    ∙ ap (λ (x : Heard). (key_of x.frame).info) is))
+    let not = sym (ap begins_with_colon (c.info.ensures
+    ∙ ap (λ (x : Received). (key_of x.frame).info) is))
     ∙ sym c.is_addressed.ensures ∙ c.if-not-is_addressed.true in
     record {
       spans = spans_beside rows r _ (no_message_in (row_key r) not) held.spans;
@@ -24,12 +20,12 @@ pub returns-in-Some : goal.returns-in-Some
 returns-in-Some g c =
     on_ok c.put_span.result (λ put rows r held first is.
     let message : message_in (row_key r) ≡ Some (message_of c.in-Some.message) =
-    sym (ap (λ (x : Heard). message_in (key_of x.frame)) is)
+    sym (ap (λ (x : Received). message_in (key_of x.frame)) is)
     ∙ sym c.message_in.ensures ∙ ap (option_map message_of) c.in-Some.is in
     record {
       spans =
           put rows r held.spans message first
-          (c.moment-last.ensures ∙ ap (λ (x : Heard). x.moment) is);
+          (c.moment-last.ensures ∙ ap (λ (x : Received). x.moment) is);
       answers = answers_beside rows r _ (message_no_answer (row_key r) _ message) held.answers;
     }) c.put_span.ensures
 
@@ -37,13 +33,13 @@ pub returns-in-Some-answer_in : goal.returns-in-Some-answer_in
 returns-in-Some-answer_in g c =
     on_ok c.put_answer.result (λ put rows r held first is.
     let none : message_in (row_key r) ≡ None =
-    sym (ap (λ (x : Heard). message_in (key_of x.frame)) is)
+    sym (ap (λ (x : Received). message_in (key_of x.frame)) is)
     ∙ sym c.message_in.ensures ∙ ap (option_map message_of) c.in_default.is in
     record {
       spans = spans_beside rows r _ none held.spans;
       answers =
           put rows r held.answers
-          (λ a. subst (λ (x : Heard).
+          (λ a. subst (λ (x : Received).
           GivesAnswer a (key_of x.frame) ↔ (Some (answer_of c.in-Some-answer_in.key) ≡ Some a)) is
           (subst (λ t. GivesAnswer a (key_of c.args.heard.now.frame)
           ↔ (option_map answer_of t ≡ Some a)) c.in-Some-answer_in.is (c.answer_in.ensures a)))
@@ -53,7 +49,7 @@ returns-in-Some-answer_in g c =
 pub returns-in-None : goal.returns-in-None
 returns-in-None g c = λ rows r held first is.
     let none : message_in (row_key r) ≡ None =
-    sym (ap (λ (x : Heard). message_in (key_of x.frame)) is)
+    sym (ap (λ (x : Received). message_in (key_of x.frame)) is)
     ∙ sym c.message_in.ensures ∙ ap (option_map message_of) c.in_default.is in
     record {
       spans = spans_beside rows r _ none held.spans;
@@ -61,6 +57,6 @@ returns-in-None g c = λ rows r held first is.
           answers_beside rows r _
           (λ a p. let t : None ≡ Some a = ap (option_map answer_of) (sym c.in-None.is)
           ∙ (c.answer_in.ensures a).0
-          (subst (λ (x : Heard). GivesAnswer a (key_of x.frame)) (sym is) p) in absurd (cc))
+          (subst (λ (x : Received). GivesAnswer a (key_of x.frame)) (sym is) p) in absurd (cc))
           held.answers;
     }

@@ -1,7 +1,4 @@
-use Rattle.std.proofs.Common.{◌∙◌, ◌+◌, ap, sym, arith}
-use Rattle.std.specs.BTreeMap.{insert_entry}
-use Rattle.std.specs.Ordering.{is_eq}
-use Rattle.aprs_ax25.specs.Callsign.{Call, call_cmp}
+use Rattle.aprs_book.proofs.Common.{◌∙◌, ◌+◌, ap, sym, arith, insert_entry, is_eq, Call, call_cmp}
 use Rattle.aprs_book.proofs.Stations.{is_source, tally_of_last, one_more_of_last}
 use Rattle.aprs_book.proofs.lists.tally.Counting.add.Goals as goal
 

@@ -1,8 +1,4 @@
-use Rattle.std.proofs.Common.{[], ◌∷◌, ◌++◌, ◌∙◌, sym, ap}
-use Rattle.std.specs.BTreeMap.{insert_entry}
-use Rattle.aprs_log.specs.Reception.{Heard}
-use Rattle.aprs_rows.specs.HeadSteps.{head_cmp}
-use Rattle.aprs_rows.proofs.Cases.{on_not_err, on_err}
+use Rattle.aprs_book.proofs.Common.{[], ◌∷◌, ◌++◌, ◌∙◌, sym, ap, insert_entry, Received, head_cmp, on_not_err, on_err}
 use Rattle.aprs_book.proofs.EntryEnds.{stays, err_stays, count_set, count_insert, goes_after, after_ok, after_err, after_kept, after_new}
 use Rattle.aprs_book.proofs.rows.keyed.KeyedRows.append.Goals as goal
 
@@ -11,7 +7,7 @@ invariant_of-self g c =
     let x = c.args.row in
     let es = c.self.inside.map.entries in
     let b = goes_after (λ v. v.items) x c.frame.result.now c.of_frame-head.result es
-    c.of_frame-head.ensures (c.frame.ensures ∙ ap (λ (t : Heard). t.frame) c.greatest.ensures)
+    c.of_frame-head.ensures (c.frame.ensures ∙ ap (λ (t : Received). t.frame) c.greatest.ensures)
     c.in-Some.ensures.ordered c.self.invariant.0 _ c.self.view_is c.requires in (
       after_kept (λ v. v.items) x _ es _ _ _ c.push_one-pushed.result b c.in-Some.ensures.value
           (c.get_mut.follows.holds c.push_one-pushed.new.rows).0 c.push_one-pushed.ensures.added
@@ -28,7 +24,7 @@ returns-in-Some-clause-added g c =
     let x = c.args.row in
     let es = c.self.inside.map.entries in
     let b = goes_after (λ v. v.items) x c.frame.result.now c.of_frame-head.result es
-    c.of_frame-head.ensures (c.frame.ensures ∙ ap (λ (t : Heard). t.frame) c.greatest.ensures)
+    c.of_frame-head.ensures (c.frame.ensures ∙ ap (λ (t : Received). t.frame) c.greatest.ensures)
     c.in-Some.ensures.ordered c.self.invariant.0 _ c.self.view_is c.requires in
     rw (← c.self.view_is) (after_ok (λ v. v.items) x _ es _ _ _ c.push_one-pushed.result b
     c.in-Some.ensures.value (c.get_mut.follows.holds c.push_one-pushed.new.rows).0
@@ -52,7 +48,7 @@ invariant_of-self-2 g c =
     let x = c.args.row in
     let es = c.self.inside.map.entries in
     let b = goes_after (λ v. v.items) x c.frame.result.now c.of_frame-head.result es
-    c.of_frame-head.ensures (c.frame.ensures ∙ ap (λ (t : Heard). t.frame) c.greatest.ensures)
+    c.of_frame-head.ensures (c.frame.ensures ∙ ap (λ (t : Received). t.frame) c.greatest.ensures)
     c.in_default.ensures.ordered c.self.invariant.0 _ c.self.view_is c.requires in
     let put = on_not_err c.insert.result _ c.insert.ensures.entries c.if-is_err.ensures.value in
     let same = ap (λ m. m.entries) c.get_mut.follows.holds-at-none in
@@ -72,7 +68,7 @@ returns-clause-added g c =
     let x = c.args.row in
     let es = c.self.inside.map.entries in
     let b = goes_after (λ v. v.items) x c.frame.result.now c.of_frame-head.result es
-    c.of_frame-head.ensures (c.frame.ensures ∙ ap (λ (t : Heard). t.frame) c.greatest.ensures)
+    c.of_frame-head.ensures (c.frame.ensures ∙ ap (λ (t : Received). t.frame) c.greatest.ensures)
     c.in_default.ensures.ordered c.self.invariant.0 _ c.self.view_is c.requires in
     let put = on_not_err c.insert.result _ c.insert.ensures.entries c.if-is_err.ensures.value in
     let same = ap (λ m. m.entries) c.get_mut.follows.holds-at-none in

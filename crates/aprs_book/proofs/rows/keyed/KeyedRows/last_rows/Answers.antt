@@ -1,4 +1,4 @@
-use Rattle.std.proofs.Common.{subst}
+use Rattle.aprs_book.proofs.Common.{subst}
 use Rattle.aprs_book.specs.Keyed.{IsEndOf}
 use Rattle.aprs_book.proofs.EntryEnds.{end_of_entries}
 use Rattle.aprs_book.proofs.RefusalEnds.{end_of_end}

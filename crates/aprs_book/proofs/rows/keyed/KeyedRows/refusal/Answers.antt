@@ -1,4 +1,4 @@
-use Rattle.std.proofs.Common.{◌∙◌}
+use Rattle.aprs_book.proofs.Common.{◌∙◌}
 use Rattle.aprs_book.proofs.RefusalEnds.{refused_at_end}
 use Rattle.aprs_book.proofs.rows.keyed.KeyedRows.refusal.Goals as goal
 

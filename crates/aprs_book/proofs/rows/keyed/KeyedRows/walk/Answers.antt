@@ -1,5 +1,4 @@
-use Rattle.std.proofs.Common.{◌∙◌, ap}
-use Rattle.std.specs.List.{flat_map}
+use Rattle.aprs_book.proofs.Common.{◌∙◌, ap, flat_map}
 use Rattle.aprs_book.proofs.EntryEnds.{rows_of_values}
 use Rattle.aprs_book.proofs.rows.keyed.KeyedRows.walk.Goals as goal
 

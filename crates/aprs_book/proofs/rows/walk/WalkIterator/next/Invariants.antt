@@ -1,5 +1,4 @@
-use Rattle.std.proofs.Common.{◌≡◌, ◌+◌, ◌++◌, min, length}
-use Rattle.std.specs.List.{flat_map}
+use Rattle.aprs_book.proofs.Common.{◌≡◌, ◌+◌, ◌++◌, min, length, flat_map}
 use Rattle.aprs_book.proofs.rows.walk.WalkIterator.next.Given as goal
 
 abbrev pub invariant-loop-self : goal.invariant-loop-self

@@ -1,4 +1,4 @@
-use Rattle.std.proofs.Common.{◌≡◌, Some, ◌-◌, ◌%◌, ◌++◌, ap, sym, ◌∙◌}
+use Rattle.aprs_log.proofs.Common.{◌≡◌, Some, ◌-◌, ◌%◌, ◌++◌, ap, sym, ◌∙◌}
 use Rattle.aprs_log.proofs.Clocks.{moment_of-midnight}
 use Rattle.aprs_log.specs.declared.moment_form.MomentForm.TheVariants.{Seconds}
 use Rattle.aprs_log.specs.Clock.{midnight_text}

@@ -1,4 +1,4 @@
-use Rattle.std.proofs.Common.{◌≡◌, ◌∙◌, length, None, sym}
+use Rattle.aprs_log.proofs.Common.{◌≡◌, ◌∙◌, length, None, sym}
 use Rattle.aprs_log.proofs.Moments.{IsExactIn, moment_by_size, no_moment_by_size}
 use Rattle.aprs_log.specs.Clock.{form_size}
 use Rattle.aprs_log.proofs.moment.clock.Clock.parse_in.Goals as goal

@@ -1,5 +1,4 @@
-use Rattle.std.proofs.Common.{◌≡◌, Some, ◌+◌, ◌*◌, arith, ap, sym, ◌∙◌}
-use Rattle.std.proofs.lemmas.Bool.{OnTrue_at}
+use Rattle.aprs_log.proofs.Common.{◌≡◌, Some, ◌+◌, ◌*◌, arith, ap, sym, ◌∙◌, OnTrue_at}
 use Rattle.aprs_log.proofs.Clocks.{IfSome-moment, halves, moment_of-same_day}
 use Rattle.aprs_log.proofs.moment.clock.Clock.parse_same_day.Goals as goal
 

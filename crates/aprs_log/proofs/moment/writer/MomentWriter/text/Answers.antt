@@ -1,4 +1,4 @@
-use Rattle.std.proofs.Common.{◌≡◌, ◌+◌, ap, sym, ◌∙◌, arith}
+use Rattle.aprs_log.proofs.Common.{◌≡◌, ◌+◌, ap, sym, ◌∙◌, arith}
 use Rattle.aprs_log.specs.Moment.{moment_text}
 use Rattle.aprs_log.proofs.Clocks.{same_day, since_midnight, time_put}
 use Rattle.aprs_log.proofs.moment.writer.MomentWriter.text.Goals as goal

@@ -1,5 +1,5 @@
-use Rattle.std.proofs.Common.{ℕ, arith}
-use Rattle.std.proofs.lemmas.List.{length-take, length-drop}
+use Rattle.aprs_log.proofs.Common.{ℕ, arith, length-drop}
+use Rattle.std.proofs.lemmas.List.{length-take}
 use Rattle.aprs_log.proofs.Windows.{consumed}
 use Rattle.aprs_log.proofs.reader.window.Window.consume.Goals as goal
 

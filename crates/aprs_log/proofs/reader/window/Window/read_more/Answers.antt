@@ -1,5 +1,4 @@
-use Rattle.std.proofs.Common.{◌≤◌, ◌++◌, ◌∙◌, ap, length, take, arith}
-use Rattle.std.proofs.lemmas.List.{length-take-le}
+use Rattle.aprs_log.proofs.Common.{◌≤◌, ◌++◌, ◌∙◌, ap, length, take, arith, length-take-le}
 use Rattle.aprs_log.proofs.Windows.{grown}
 use Rattle.aprs_log.proofs.reader.window.Window.read_more.Goals as goal
 

@@ -1,7 +1,4 @@
-use Rattle.std.proofs.Common.{rules, ◌≡◌, sym, subst}
-use Rattle.aprs_laws.specs.JoinRow.{greater}
-use Rattle.aprs_laws.specs.Joining.{IsGreaterOf}
-use Rattle.aprs_laws.proofs.Joins.{is_greater_of}
+use Rattle.aprs_rows.proofs.Common.{rules, ◌≡◌, sym, subst, greater, IsGreaterOf, is_greater_of}
 use Rattle.aprs_rows.proofs.joining.greatest.GreatestJoin.join.Goals as goal
 
 pub returns-clause-joined : goal.returns-clause-joined

@@ -1,19 +1,11 @@
-use Rattle.std.proofs.Common.{rules, ◌≡◌, ◌∙◌, ℕ, List, sym, ap, subst}
-use Rattle.aprs_log.specs.Reception.{bytes_cmp}
-use Rattle.aprs_laws.specs.Lists.{Ordered}
-use Rattle.aprs_laws.specs.Order.{IsBelow}
-use Rattle.aprs_laws.specs.JoinRow.{union}
-use Rattle.aprs_laws.specs.Merged.{ascending_union}
-use Rattle.aprs_laws.specs.Joining.{IsUnited}
-use Rattle.aprs_laws.proofs.Orders.{bytes_total, bytes_exact}
-use Rattle.aprs_laws.proofs.Merges.{merged_ordered, merged_is_united, merged_is_union}
-use Rattle.aprs_rows.specs.KeptNames.{names_in}
+use Rattle.aprs_rows.proofs.Common.{rules, ◌≡◌, ◌∙◌, ℕ, List, sym, ap, subst, bytes_cmp, Ordered, IsBelow, union, ascending_union, IsUnited, bytes_total, bytes_exact, merged_ordered, merged_is_united, merged_is_union}
+use Rattle.aprs_rows.specs.KeptNames.{names_kept}
 use Rattle.aprs_rows.proofs.joining.receivers.Receivers.unite.Goals as goal
 
 pub invariant_of-result : goal.invariant_of-result
 invariant_of-result g c =
-    let ours = names_in c.self.inside.names in
-    let theirs = names_in c.other.inside.names in
+    let ours = names_kept c.self.inside.names in
+    let theirs = names_kept c.other.inside.names in
     let made : c.merge_onto.new.names.items ≡ ascending_union bytes_cmp ours theirs =
     search rules in
     let e = c.of.ensures ∙ made in
@@ -22,8 +14,8 @@ invariant_of-result g c =
 
 pub returns-clause-union : goal.returns-clause-union
 returns-clause-union g c =
-    let ours = names_in c.self.inside.names in
-    let theirs = names_in c.other.inside.names in
+    let ours = names_kept c.self.inside.names in
+    let theirs = names_kept c.other.inside.names in
     let made : c.merge_onto.new.names.items ≡ ascending_union bytes_cmp ours theirs =
     search rules in
     let e = c.of.ensures ∙ made in
@@ -33,12 +25,12 @@ returns-clause-union g c =
 
 pub returns-clause-joined : goal.returns-clause-joined
 returns-clause-joined g c =
-    let ours = names_in c.self.inside.names in
-    let theirs = names_in c.other.inside.names in
+    let ours = names_kept c.self.inside.names in
+    let theirs = names_kept c.other.inside.names in
     let made : c.merge_onto.new.names.items ≡ ascending_union bytes_cmp ours theirs =
     search rules in
     let e = c.of.ensures ∙ made in
-    let new = names_in c.of.result in
+    let new = names_kept c.of.result in
     subst (λ (t : List (List ℕ)). IsUnited bytes_cmp t c.args.other.now new) c.self.view_is
     (subst (λ (t : List (List ℕ)). IsUnited bytes_cmp ours t new) c.other.view_is
     (subst (λ (t : List (List ℕ)). IsUnited bytes_cmp ours theirs t) (sym e)

@@ -1,9 +1,5 @@
-use Rattle.std.proofs.Common.{◌∙◌, refl, sym, ap, length, arith}
-use Rattle.std.specs.List.{join_with_byte}
-use Rattle.std.proofs.lemmas.List.Splits.{join_with_byte-slice_split}
+use Rattle.aprs_rows.proofs.Common.{◌∙◌, refl, sym, ap, length, arith, join_with_byte, join_with_byte-slice_split, FrameOf-IsSound, Row}
 use Rattle.aprs_ax25.proofs.Sounds.{IsSound-len}
-use Rattle.aprs_ax25.proofs.Spellings.{FrameOf-IsSound}
-use Rattle.aprs_laws.specs.Row.{Row}
 use Rattle.aprs_rows.specs.declared.store.entry.Entry.{Entry}
 use Rattle.aprs_rows.proofs.Rows.{Says, says}
 use Rattle.aprs_rows.proofs.row.row_view.RowView.entry.Goals as goal

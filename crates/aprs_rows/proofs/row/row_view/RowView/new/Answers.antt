@@ -1,6 +1,4 @@
-use Rattle.std.proofs.Common.{◌∙◌, sym, ap, subst, length, arith}
-use Rattle.aprs_ax25.specs.Frame.{FrameOf}
-use Rattle.aprs_ax25.specs.FrameFault.{parts_of}
+use Rattle.aprs_rows.proofs.Common.{◌∙◌, sym, ap, subst, length, arith, FrameOf, parts_of}
 use Rattle.aprs_rows.proofs.Infos.{info_at, info_place}
 use Rattle.aprs_rows.proofs.row.row_view.RowView.new.Goals as goal
 

@@ -1,7 +1,4 @@
-use Rattle.std.proofs.Common.{◌≡◌, ◌∙◌, true, false, subst, sym}
-use Rattle.std.specs.Result.{IsOk}
-use Rattle.aprs_ax25.specs.Frame.{FrameOf}
-use Rattle.aprs_ax25.specs.FrameFault.{parts_of}
+use Rattle.aprs_rows.proofs.Common.{◌≡◌, ◌∙◌, true, false, subst, sym, IsOk, FrameOf, parts_of}
 use Rattle.aprs_rows.proofs.Infos.{frame_is}
 use Rattle.aprs_rows.proofs.row.row_view.RowView.read_frame.Goals as goal
 

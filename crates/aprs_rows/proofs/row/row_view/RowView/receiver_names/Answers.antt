@@ -1,7 +1,4 @@
-use Rattle.std.proofs.Common.{◌∙◌, ◌++◌, ◌∷◌, [], ap, subst, sym, append_assoc}
-use Rattle.std.specs.Prelude.{All}
-use Rattle.std.proofs.lemmas.List.Elements.{All-tail}
-use Rattle.aprs_log.specs.Receiver.{IsName}
+use Rattle.aprs_rows.proofs.Common.{◌∙◌, ◌++◌, ◌∷◌, [], ap, subst, sym, append_assoc, All, All-tail, IsName}
 use Rattle.aprs_rows.specs.Names.{names_in}
 use Rattle.aprs_rows.proofs.row.row_view.RowView.receiver_names.Goals as goal
 

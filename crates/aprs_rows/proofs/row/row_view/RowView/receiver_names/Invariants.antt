@@ -1,6 +1,4 @@
-use Rattle.std.proofs.Common.{◌≡◌, ◌++◌, length}
-use Rattle.std.specs.Prelude.{All}
-use Rattle.aprs_log.specs.Receiver.{IsName}
+use Rattle.aprs_rows.proofs.Common.{◌≡◌, ◌++◌, length, All, IsName}
 use Rattle.aprs_rows.specs.Names.{names_in}
 use Rattle.aprs_rows.proofs.row.row_view.RowView.receiver_names.Given as goal
 

@@ -1,7 +1,4 @@
-use Rattle.std.proofs.Common.{◌∙◌, sym, ap}
-use Rattle.std.specs.List.{join_with_byte}
-use Rattle.std.proofs.lemmas.List.Splits.{join_with_byte-slice_split}
-use Rattle.aprs_laws.specs.Row.{Row}
+use Rattle.aprs_rows.proofs.Common.{◌∙◌, sym, ap, join_with_byte, join_with_byte-slice_split, Row}
 use Rattle.aprs_rows.proofs.row.row_view.RowView.receivers.Goals as goal
 
 pub returns-clause-text : goal.returns-clause-text

@@ -1,9 +1,4 @@
-use Rattle.std.proofs.Common.{◌≡◌, ◌∙◌, ℕ, List, Option, None, Some, IfNone, sym}
-use Rattle.std.specs.Option.{option_copied}
-use Rattle.aprs_laws.specs.Gap.{millis_of}
-use Rattle.aprs_laws.specs.Row.{Row}
-use Rattle.aprs_laws.specs.Sound.{IsSoundRow}
-use Rattle.aprs_laws.specs.declared.row_cause.RowCause.{RowCause}
+use Rattle.aprs_rows.proofs.Common.{◌≡◌, ◌∙◌, ℕ, List, Option, None, Some, IfNone, sym, option_copied, millis_of, Row, IsSoundRow, RowCause}
 use Rattle.aprs_rows.specs.Judging.{list_of}
 use Rattle.aprs_rows.specs.Refusal.{refusal}
 use Rattle.aprs_rows.proofs.Judgements.{same_refusal, free_is_sound}

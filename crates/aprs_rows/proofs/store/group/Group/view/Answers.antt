@@ -1,6 +1,4 @@
-use Rattle.std.proofs.Common.{subst, arith}
-use Rattle.std.specs.Prelude.{All}
-use Rattle.aprs_log.specs.Receiver.{IsName}
+use Rattle.aprs_rows.proofs.Common.{subst, arith, All, IsName}
 use Rattle.aprs_rows.proofs.Sweeps.{names_of_text}
 use Rattle.aprs_rows.proofs.store.group.Group.view.Goals as goal
 

@@ -1,6 +1,4 @@
-use Rattle.std.proofs.Common.{sym, subst, rules}
-use Rattle.std.proofs.lemmas.List.Sorted.{IsPermutation-map}
-use Rattle.aprs_laws.specs.Coalescing.{AreInOrder}
+use Rattle.aprs_rows.proofs.Common.{sym, subst, rules, IsPermutation-map, AreInOrder}
 use Rattle.aprs_rows.specs.Rows.{AreRowsIn, bytes_of, entry_row, rows_in}
 use Rattle.aprs_rows.proofs.EntryOrder.{lie_permuted, ordered_by_sort}
 use Rattle.aprs_rows.proofs.store.order.RowsInOrder.of.Goals as goal

@@ -1,16 +1,6 @@
-use Rattle.std.proofs.Common.{◌≡◌, ◌∙◌, ◌∷◌, ◌++◌, ◌<◌, [], ℕ, List, inl, length, take, get_or, refl, sym, ap, subst, arith}
-use Rattle.std.proofs.lemmas.List.{get_or-map, length-map, take_all, take_more}
-use Rattle.aprs_laws.specs.Coalescing.{AreInOrder, append_or_join}
-use Rattle.aprs_laws.specs.Gap.{IsGap, millis_of}
-use Rattle.aprs_laws.specs.JoinRow.{coalesce, coalesced_rows}
+use Rattle.aprs_rows.proofs.Common.{◌≡◌, ◌∙◌, ◌∷◌, ◌++◌, ◌<◌, [], ℕ, List, inl, length, take, get_or, refl, sym, ap, subst, arith, get_or-map, length-map, take_all, take_more, AreInOrder, append_or_join, IsGap, millis_of, coalesce, coalesced_rows, Holds, SameMembers, Row, Sound, coalesce_one_more, coalesces_book, coalesces_witnesses, some_millis}
 use Rattle.aprs_laws.specs.Book.{BookOf}
-use Rattle.aprs_laws.specs.BookValue.{Holds}
-use Rattle.aprs_laws.specs.Lists.{SameMembers}
-use Rattle.aprs_laws.specs.Row.{Row}
-use Rattle.aprs_laws.specs.Sound.{Sound}
 use Rattle.aprs_laws.specs.Witnesses.{witnesses}
-use Rattle.aprs_laws.proofs.Coalescing.{coalesce_one_more, coalesces_book, coalesces_witnesses}
-use Rattle.aprs_laws.proofs.Joins.{some_millis}
 use Rattle.aprs_laws.proofs.RunRows.{book_of_nothing}
 use Rattle.aprs_laws.proofs.Soundness.{sound}
 use Rattle.aprs_rows.specs.declared.store.entry.Entry.{Entry}

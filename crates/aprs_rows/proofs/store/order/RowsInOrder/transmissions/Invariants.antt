@@ -1,7 +1,4 @@
-use Rattle.std.proofs.Common.{◌≡◌, ◌∷◌, take}
-use Rattle.aprs_laws.specs.Gap.{millis_of}
-use Rattle.aprs_laws.specs.JoinRow.{coalesce}
-use Rattle.aprs_laws.specs.Row.{Row}
+use Rattle.aprs_rows.proofs.Common.{◌≡◌, ◌∷◌, take, millis_of, coalesce, Row}
 use Rattle.aprs_rows.specs.Rows.{AreRowsIn, rows_in}
 use Rattle.aprs_rows.specs.Sweep.{Stands}
 use Rattle.aprs_rows.proofs.store.order.RowsInOrder.transmissions.Given as goal

@@ -1,5 +1,4 @@
-use Rattle.std.proofs.Common.{subst}
-use Rattle.aprs_laws.specs.Lists.{SameMembers}
+use Rattle.aprs_rows.proofs.Common.{subst, SameMembers}
 use Rattle.aprs_rows.specs.Rows.{AreSoundRows}
 use Rattle.aprs_rows.proofs.Orders.{same_members}
 use Rattle.aprs_rows.proofs.Rows.{if_ok, sound_rows}

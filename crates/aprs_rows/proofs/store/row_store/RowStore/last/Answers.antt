@@ -1,5 +1,4 @@
-use Rattle.std.proofs.Common.{◌∙◌, ◌-◌, sym, ap, subst, length, None, Some}
-use Rattle.std.specs.List.{last_or, slice_get}
+use Rattle.aprs_rows.proofs.Common.{◌∙◌, ◌-◌, sym, ap, subst, length, None, Some, last_or, slice_get}
 use Rattle.aprs_rows.specs.Rows.{IsRowIn, bytes_of, entry_row}
 use Rattle.aprs_rows.proofs.Rows.{last_entry}
 use Rattle.aprs_rows.proofs.store.row_store.RowStore.last.Goals as goal

@@ -1,4 +1,4 @@
-use Rattle.std.proofs.Common.{arith}
+use Rattle.aprs_rows.proofs.Common.{arith}
 use Rattle.aprs_rows.proofs.Rows.{len_in}
 use Rattle.aprs_rows.proofs.store.row_store.RowStore.len.Goals as goal
 

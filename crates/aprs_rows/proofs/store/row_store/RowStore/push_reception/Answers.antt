@@ -1,6 +1,4 @@
-use Rattle.std.proofs.Common.{◌∙◌, ◌∷◌, ◌++◌, [], sym, ap, subst}
-use Rattle.aprs_log.specs.Receiver.{IsName}
-use Rattle.aprs_laws.specs.Row.{Row}
+use Rattle.aprs_rows.proofs.Common.{◌∙◌, ◌∷◌, ◌++◌, [], sym, ap, subst, IsName, Row}
 use Rattle.aprs_rows.proofs.Rows.{on_ok, single_names, single_row}
 use Rattle.aprs_rows.proofs.store.row_store.RowStore.push_reception.Goals as goal
 

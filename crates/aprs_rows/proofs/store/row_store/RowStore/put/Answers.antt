@@ -1,4 +1,4 @@
-use Rattle.std.proofs.Common.{◌∙◌, ◌∷◌, ◌++◌, [], ap, append_assoc}
+use Rattle.aprs_rows.proofs.Common.{◌∙◌, ◌∷◌, ◌++◌, [], ap, append_assoc}
 use Rattle.aprs_rows.proofs.Rows.{HasMore, more_rows}
 use Rattle.aprs_rows.proofs.store.row_store.RowStore.put.Goals as goal
 

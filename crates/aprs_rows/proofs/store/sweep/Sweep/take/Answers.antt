@@ -1,8 +1,4 @@
-use Rattle.std.proofs.Common.{◌∙◌, ◌∷◌, ◌++◌, [], refl, sym, ap, subst}
-use Rattle.std.proofs.lemmas.List.Elements.{All-nil}
-use Rattle.aprs_log.specs.Receiver.{IsName}
-use Rattle.aprs_laws.specs.Coalescing.{append_or_join}
-use Rattle.aprs_laws.specs.Gap.{millis_of}
+use Rattle.aprs_rows.proofs.Common.{◌∙◌, ◌∷◌, ◌++◌, [], refl, sym, ap, subst, All-nil, IsName, append_or_join, millis_of}
 use Rattle.aprs_rows.specs.Groups.{AreGroups, rows_of_groups}
 use Rattle.aprs_rows.specs.Sweep.{AreGathered, open_row}
 use Rattle.aprs_rows.proofs.Rows.{on_ok}

@@ -1,5 +1,4 @@
-use Rattle.std.proofs.Common.{length, ap, arith}
-use Rattle.aprs_laws.specs.BookValue.{BookValue}
+use Rattle.aprs_rows.proofs.Common.{length, ap, arith, BookValue}
 use Rattle.aprs_rows.specs.Groups.{text_size, group_row, IsGroup}
 use Rattle.aprs_rows.proofs.Groups.{length-rows_of}
 use Rattle.aprs_rows.proofs.store.transmissions.Transmissions.len.Goals as goal

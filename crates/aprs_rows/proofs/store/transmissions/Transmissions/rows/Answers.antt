@@ -1,6 +1,4 @@
-use Rattle.std.proofs.Common.{subst}
-use Rattle.std.specs.Prelude.{All}
-use Rattle.aprs_laws.specs.BookValue.{BookValue}
+use Rattle.aprs_rows.proofs.Common.{subst, All, BookValue}
 use Rattle.aprs_rows.specs.Told.{IsTold}
 use Rattle.aprs_rows.proofs.Groups.{told_rows}
 use Rattle.aprs_rows.proofs.store.transmissions.Transmissions.rows.Goals as goal
