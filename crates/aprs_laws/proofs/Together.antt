@@ -1,16 +1,14 @@
 -- Rows have one book, whatever their order, and its rows come one by one.
-use Rattle.std.proofs.Common.{◌≡◌, ◌∙◌, false, ℕ, ◌<◌, List, [], ◌∷◌, ◌++◌, inl, inr, refl, sym, ap, subst, append_assoc, append-nil}
-use Rattle.std.specs.Ordering.{is_eq, is_gt, ordering_reverse, MatchOrdering}
-use Rattle.std.specs.declared.cmp.Ordering.{Ordering}
-use Rattle.std.specs.declared.cmp.Ordering.TheVariants.{Less, Equal, Greater}
-use Rattle.aprs_log.specs.Reception.{Heard}
+use Rattle.aprs_laws.proofs.Common.{◌≡◌, ◌∙◌, false, ℕ, ◌<◌, List, [], ◌∷◌, ◌++◌, inl, inr, refl, sym, ap, subst, is_gt, ordering_reverse, MatchOrdering, Ordering, Less, Equal, Greater, Received}
+use Rattle.std.proofs.Common.{append_assoc, append-nil}
+use Rattle.std.specs.Ordering.{is_eq}
 use Rattle.aprs_laws.specs.Lists.{◌∈◌, SameMembers}
 use Rattle.aprs_laws.specs.Order.{IsUpTo}
 use Rattle.aprs_laws.specs.Row.{Row, row_cmp}
 use Rattle.aprs_laws.specs.Book.{BookOf}
 use Rattle.aprs_laws.specs.Sound.{IsSoundRow, AreSoundRows, Sound}
 use Rattle.aprs_laws.specs.Witnesses.{witnesses_of_row, witnesses}
-use Rattle.aprs_laws.specs.JoinRow.{IsNear, choose, combine, place, join_row, merge}
+use Rattle.aprs_laws.specs.JoinRow.{IsNear, choose, combine, compare_near, join_row, merge}
 use Rattle.aprs_laws.specs.Together.{book_together}
 use Rattle.aprs_laws.proofs.Books.{row_total, below, unique}
 use Rattle.aprs_laws.proofs.Coalescing.{same_witnesses}
@@ -24,7 +22,7 @@ use Rattle.aprs_laws.proofs.Unions.{merged}
 -- ---- the book of rows together
 
 -- the rows of a book, and rows that are each sound: the book of the set and their witnesses
-pub joined_rows : (gap : ℕ) (S : List Heard) (p rows : List Row) → 0 < gap → AreSoundRows rows
+pub joined_rows : (gap : ℕ) (S : List Received) (p rows : List Row) → 0 < gap → AreSoundRows rows
     → BookOf gap S p → BookOf gap (S ++ witnesses rows) (merge gap p rows)
 joined_rows gap S p [] pos s b = subst (λ T. BookOf gap T p) (sym (append-nil S)) b
 joined_rows gap S p (x ∷ rows) pos s b =
@@ -59,14 +57,14 @@ merge_append gap p (x ∷ xs) ys = merge_append gap (join_row gap p x) xs ys
 
 -- ---- its first row
 
-pub firsts_join : (gap : ℕ) (first next : Row) (rest : List Row) → place gap first next ≡ Equal
+pub firsts_join : (gap : ℕ) (first next : Row) (rest : List Row) → compare_near gap first next ≡ Equal
     → book_together gap (first ∷ next ∷ rest) ≡ book_together gap (combine first next ∷ rest)
 firsts_join gap first next rest e =
     ap (λ o. merge gap (choose o (first ∷ next ∷ []) (combine first next ∷ [])
     (next ∷ first ∷ [])) rest) e
 
 pub near_is_sound : (gap : ℕ) → 0 < gap → (x y : Row) → IsSoundRow x → IsSoundRow y
-    → place gap x y ≡ Equal → IsSoundRow (combine x y)
+    → compare_near gap x y ≡ Equal → IsSoundRow (combine x y)
 near_is_sound gap pos x y v w e =
     (subst (λ (rows : List Row). Sound gap rows) (firsts_join gap x y [] e)
     (book_is_sound gap pos (x ∷ y ∷ []) (λ z h. elim h [
@@ -85,7 +83,7 @@ stays gap x p (r ∷ rows) f =
 
 pub first_stands : (gap : ℕ) (first next : Row) (rest : List Row) → IsSoundRow next
     → IsUpTo row_cmp first next → ((y : Row) → y ∈ rest → IsUpTo row_cmp next y)
-    → is_eq (place gap first next) ≡ false
+    → is_eq (compare_near gap first next) ≡ false
     → book_together gap (first ∷ next ∷ rest) ≡ first ∷ book_together gap (next ∷ rest)
 first_stands gap first next rest s u least far =
     stays gap first [] (next ∷ rest) (λ y h. elim h [
@@ -106,4 +104,4 @@ first_stands gap first next rest s u least far =
           ))
 
       before : IsBefore gap first next
-      before = by_place (place gap first next) far (place_means gap first next)
+      before = by_place (compare_near gap first next) far (place_means gap first next)

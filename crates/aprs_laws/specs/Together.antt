@@ -6,7 +6,7 @@ use Rattle.aprs_laws.specs.Lists.{◌∈◌, SameMembers}
 use Rattle.aprs_laws.specs.Order.{IsUpTo}
 use Rattle.aprs_laws.specs.Row.{Row, row_cmp}
 use Rattle.aprs_laws.specs.Sound.{IsSoundRow, AreSoundRows, Sound}
-use Rattle.aprs_laws.specs.JoinRow.{combine, place, merge}
+use Rattle.aprs_laws.specs.JoinRow.{combine, compare_near, merge}
 
 -- The book that rows are together, whatever their order.
 abbrev pub book_together : ℕ → List Row → List Row
@@ -31,18 +31,18 @@ MoreJoin gap =
 -- The first two of some rows are one where they are near,
 abbrev pub FirstsJoin : ℕ → Type 0
 FirstsJoin gap =
-    (first next : Row) (rest : List Row) → place gap first next ≡ Equal
+    (first next : Row) (rest : List Row) → compare_near gap first next ≡ Equal
     → book_together gap (first ∷ next ∷ rest) ≡ book_together gap (combine first next ∷ rest)
 
 -- which then is sound.
 abbrev pub NearIsSound : ℕ → Type 0
 NearIsSound gap =
-    (x y : Row) → IsSoundRow x → IsSoundRow y → place gap x y ≡ Equal → IsSoundRow (combine x y)
+    (x y : Row) → IsSoundRow x → IsSoundRow y → compare_near gap x y ≡ Equal → IsSoundRow (combine x y)
 
 -- Where they are not, and the second comes after the first and no other before the second, the
 -- first is the first row of the book, whose others are the book of the rows after it.
 abbrev pub FirstStands : ℕ → Type 0
 FirstStands gap =
     (first next : Row) (rest : List Row) → IsSoundRow next → IsUpTo row_cmp first next
-    → ((y : Row) → y ∈ rest → IsUpTo row_cmp next y) → is_eq (place gap first next) ≡ false
+    → ((y : Row) → y ∈ rest → IsUpTo row_cmp next y) → is_eq (compare_near gap first next) ≡ false
     → book_together gap (first ∷ next ∷ rest) ≡ first ∷ book_together gap (next ∷ rest)

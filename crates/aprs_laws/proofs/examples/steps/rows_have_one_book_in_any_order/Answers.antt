@@ -1,4 +1,4 @@
-use Rattle.std.proofs.Common.{◌≡◌, ◌∙◌, ℕ, List, [], ◌∷◌, refl, sym, ap, arith}
+use Rattle.aprs_laws.proofs.Common.{◌≡◌, ◌∙◌, ℕ, List, [], ◌∷◌, refl, sym, ap, arith}
 use Rattle.aprs_laws.specs.Examples.{half_minute, row_at}
 use Rattle.aprs_laws.specs.Key.{key_of, key_cmp}
 use Rattle.aprs_laws.specs.Row.{Row}
