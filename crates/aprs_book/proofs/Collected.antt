@@ -1,5 +1,6 @@
 -- Entries of a map that are collected from rows: one for each thing that some row reports on.
-use Rattle.aprs_book.proofs.Common.{◌≡◌, ◌∙◌, List, [], ◌∷◌, ◌++◌, append_assoc, append-nil, ◌⊎◌, Some, None, Result, Ok, Err, OnOk, cond, sym, ap, refl, subst, inl, inr, AllByRecursion, lookup, keys_of, is_at, insert_entry, IsStrictlySortedBy, IsTotalOrder, is_eq, match_ordering, Ordering, Less, Equal, Greater, tied_itself, CmpEqualImpliesEq, sorted_head, sorted_tail, ◌∈◌, Ordered, in_left, in_right, in_either, Key, Row, row_key}
+use Rattle.aprs_book.proofs.Common.{◌≡◌, ◌∙◌, List, [], ◌∷◌, ◌++◌, append_assoc, append-nil, ◌⊎◌, Some, None, Result, Ok, Err, OnOk, cond, sym, ap, refl, subst, inl, inr, AllByRecursion, lookup, keys_of, is_at, insert_entry, IsTotalOrder, is_eq, match_ordering, Ordering, Less, Equal, Greater, tied_itself, CmpEqualImpliesEq, sorted_head, sorted_tail, ◌∈◌, Ordered, in_left, in_right, in_either, Key, Row, row_key}
+use Rattle.std.specs.List.Sorted.{IsStrictlySortedBy}
 use Rattle.aprs_book.specs.MessageRows.{IsCollected}
 
 -- ---- entries in order

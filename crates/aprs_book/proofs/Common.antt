@@ -21,7 +21,7 @@ pub use Rattle.aprs_laws.specs.Gap.{IsGap, millis_of}
 pub use Rattle.aprs_laws.specs.Inserted.{FitsInPlace, bridge_row, compare_near_to, grow_row, has_place_for, insert_heard, is_listed, is_near_first}
 pub use Rattle.aprs_laws.specs.JoinRow.{IsNear, combine, greater, single}
 pub use Rattle.aprs_laws.specs.Joining.{Joined}
-pub use Rattle.aprs_laws.specs.Key.{Key, key_cmp, key_of}
+pub use Rattle.aprs_laws.specs.Key.{Key, key_cmp}
 pub use Rattle.aprs_laws.specs.Lists.{Ordered, SameMembers, ◌∈◌}
 pub use Rattle.aprs_laws.specs.Order.{IsBelow, IsUpTo}
 pub use Rattle.aprs_laws.specs.Row.{Row, last_of, row_cmp, row_key}
@@ -29,7 +29,7 @@ pub use Rattle.aprs_laws.specs.Sound.{ComesAfter, IsFar, IsSoundRow, Sound}
 pub use Rattle.aprs_laws.specs.declared.row_cause.RowCause.{RowCause}
 pub use Rattle.aprs_log.specs.Receiver.{IsName}
 pub use Rattle.aprs_log.specs.Reception.{Received, bytes_cmp, heard_cmp}
-pub use Rattle.aprs_report.specs.Reader.{addressee_and_part_of, angle_of, answer_at, cut_end, item_field_of, item_of, message_with, minutes_of, numeral_of, object_of, place_of, plain_of, position_of, reading_of, report_by_form, stamp_at, text_and_id_of, utc_at}
+pub use Rattle.aprs_report.specs.Reader.{reading_of}
 pub use Rattle.aprs_report.specs.Reading.{Reads, Value, ack, item, message, object, position, raw, rej, status}
 pub use Rattle.aprs_rows.proofs.Cases.{by_order, on_err, on_not_err}
 pub use Rattle.aprs_rows.proofs.KeyPrefixes.{head_exact, head_greater, head_less, head_total, two_addresses}
@@ -52,7 +52,7 @@ pub use Rattle.std.specs.BTreeMap.{insert_entry, is_at}
 pub use Rattle.std.specs.Cmp.{IsTotalOrder, bool_cmp_total}
 pub use Rattle.std.specs.Cmp.Lexicographic.{bytes_decides, options_total, pointwise_decides}
 pub use Rattle.std.specs.List.{AllByRecursion, count_by, flat_map, join_with_byte, last_or, list_any, remove, slice_get}
-pub use Rattle.std.specs.List.Sorted.{IsPartitionPoint, IsPartitionedBy, IsStrictlySortedBy}
+pub use Rattle.std.specs.List.Sorted.{IsPartitionPoint, IsPartitionedBy}
 pub use Rattle.std.specs.Map.{keys_of, lookup, set_value, values_of}
 pub use Rattle.std.specs.Map.Iter.{deref_pair}
 pub use Rattle.std.specs.Option.{IsSome, option_cmp, option_copied, option_map, option_map_or}

@@ -1,5 +1,6 @@
 -- Entries that all have rows, and rows after those of all entries.
-use Rattle.aprs_book.proofs.Common.{◌≡◌, ◌∙◌, ℕ, ◌<◌, ◌≤◌, ◌+◌, ◌-◌, suc, List, [], ◌∷◌, ◌++◌, Some, None, Result, Ok, Err, OnOk, OnErr, inl, inr, true, false, length, refl, sym, ap, subst, arith, append_assoc, append-nil, slice_get, flat_map, AllByRecursion, IsStrictlySortedBy, keys_of, values_of, lookup, set_value, insert_entry, is_gt, ordering_reverse, Less, Greater, sorted_head, sorted_tail, Received, IsUpTo, key_cmp, Row, row_key, key_total, compare_near_to, grow_row, bridge_row, insert_heard, empty_or_last, by_order, head_total, head_exact, head_less, HasKeyPrefix, head_cmp, KeyPrefix}
+use Rattle.aprs_book.proofs.Common.{◌≡◌, ◌∙◌, ℕ, ◌<◌, ◌≤◌, ◌+◌, ◌-◌, suc, List, [], ◌∷◌, ◌++◌, Some, None, Result, Ok, Err, OnOk, OnErr, inl, inr, true, false, length, refl, sym, ap, subst, arith, append_assoc, append-nil, slice_get, flat_map, AllByRecursion, keys_of, values_of, lookup, set_value, insert_entry, is_gt, ordering_reverse, Less, Greater, sorted_head, sorted_tail, Received, IsUpTo, key_cmp, Row, row_key, key_total, compare_near_to, grow_row, bridge_row, insert_heard, empty_or_last, by_order, head_total, head_exact, head_less, HasKeyPrefix, head_cmp, KeyPrefix}
+use Rattle.std.specs.List.Sorted.{IsStrictlySortedBy}
 use Rattle.std.proofs.Common.{length-append}
 use Rattle.aprs_book.proofs.Entries.{test, IsWritten, set_same, found_key, AreKeyed-set_value, AreKeyed-insert_entry}
 use Rattle.aprs_book.specs.Keyed.{HaveHead, rows_by_key, AreKeyed, AreFilled, AreKept, LastKeyIsUpTo, IsEndOf}

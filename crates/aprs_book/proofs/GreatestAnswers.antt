@@ -1,5 +1,6 @@
 -- The answers to messages in rows.
-use Rattle.aprs_book.proofs.Common.{◌≡◌, ◌∙◌, ℕ, List, ◌↔◌, Option, Some, None, sym, ap, refl, subst, inl, inr, Bor, option_copied, lookup, keys_of, is_at, insert_entry, IsStrictlySortedBy, IsTotalOrder, ordering_then, Ordering, upto, on_total, then_total, CmpEqualImpliesEq, exact_pairs, Call, call_cmp, Received, bytes_cmp, heard_cmp, ◌∈◌, IsUpTo, Row, row_key, greater_known, greater, is_greater_of, call_total, call_exact, bytes_total, bytes_exact, heard_total, up_to_itself}
+use Rattle.aprs_book.proofs.Common.{◌≡◌, ◌∙◌, ℕ, List, ◌↔◌, Option, Some, None, sym, ap, refl, subst, inl, inr, Bor, option_copied, lookup, keys_of, is_at, insert_entry, IsTotalOrder, ordering_then, Ordering, upto, on_total, then_total, CmpEqualImpliesEq, exact_pairs, Call, call_cmp, Received, bytes_cmp, heard_cmp, ◌∈◌, IsUpTo, Row, row_key, greater_known, greater, is_greater_of, call_total, call_exact, bytes_total, bytes_exact, heard_total, up_to_itself}
+use Rattle.std.specs.List.Sorted.{IsStrictlySortedBy}
 use Rattle.aprs_book.specs.declared.lists.message_key.AnswerKey.{AnswerKey}
 use Rattle.aprs_book.specs.MessageRows.{Answer, answer_of, answer_cmp, GivesAnswer, IsGreatestAnswer, AreAnswers, IsFor, ReportsAnswer}
 use Rattle.aprs_book.specs.Messages.{Message}

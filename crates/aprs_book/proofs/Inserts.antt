@@ -1,5 +1,6 @@
 -- An entry that is put among others in order.
-use Rattle.aprs_book.proofs.Common.{◌≡◌, ◌∙◌, List, [], ◌∷◌, Some, refl, ap, AllByRecursion, IsStrictlySortedBy, lookup, keys_of, is_at, insert_entry, IsTotalOrder, ordering_reverse, Ordering, Less, Equal, Greater, tied_itself}
+use Rattle.aprs_book.proofs.Common.{◌≡◌, ◌∙◌, List, [], ◌∷◌, Some, refl, ap, AllByRecursion, lookup, keys_of, is_at, insert_entry, IsTotalOrder, ordering_reverse, Ordering, Less, Equal, Greater, tied_itself}
+use Rattle.std.specs.List.Sorted.{IsStrictlySortedBy}
 
 module _ {K : Type 0} (R : K → K → Ordering) (total : IsTotalOrder R) where
   above : (k e : K) → R k e ≡ Greater → R e k ≡ Less

@@ -1,5 +1,6 @@
 -- The listing of messages.
-use Rattle.aprs_book.proofs.Common.{◌≡◌, ◌∙◌, List, [], ◌∷◌, ◌++◌, Bool, true, false, if◌then◌else◌, append-nil, append_assoc, sym, ap, refl, subst, inl, inr, keys_of, IsStrictlySortedBy, Ordering, ◌∈◌, Ordered}
+use Rattle.aprs_book.proofs.Common.{◌≡◌, ◌∙◌, List, [], ◌∷◌, ◌++◌, Bool, true, false, if◌then◌else◌, append-nil, append_assoc, sym, ap, refl, subst, inl, inr, keys_of, Ordering, ◌∈◌, Ordered}
+use Rattle.std.specs.List.Sorted.{IsStrictlySortedBy}
 use Rattle.aprs_book.specs.declared.lists.message_key.MessageKey.{MessageKey}
 use Rattle.aprs_book.specs.declared.lists.message_key.Span.{Span}
 use Rattle.aprs_book.specs.Messages.{message_cmp}

@@ -1,5 +1,6 @@
 -- The messages of rows.
-use Rattle.aprs_book.proofs.Common.{◌≡◌, ◌∙◌, ℕ, ◌≤◌, min, max, true, List, Option, Some, None, sym, ap, refl, subst, inl, inr, arith, Bor, Result, Ok, Err, is_ok, OnOk, lookup, keys_of, is_at, insert_entry, IsStrictlySortedBy, option_cmp, option_map, IsTotalOrder, options_total, ordering_then, Ordering, on_total, then_total, cases_lt, CmpEqualImpliesEq, exact_pairs, Call, call_cmp, bytes_cmp, ◌∈◌, Row, row_key, last_of, call_total, call_exact, bytes_total, bytes_exact}
+use Rattle.aprs_book.proofs.Common.{◌≡◌, ◌∙◌, ℕ, ◌≤◌, min, max, true, List, Option, Some, None, sym, ap, refl, subst, inl, inr, arith, Bor, Result, Ok, Err, is_ok, OnOk, lookup, keys_of, is_at, insert_entry, option_cmp, option_map, IsTotalOrder, options_total, ordering_then, Ordering, on_total, then_total, cases_lt, CmpEqualImpliesEq, exact_pairs, Call, call_cmp, bytes_cmp, ◌∈◌, Row, row_key, last_of, call_total, call_exact, bytes_total, bytes_exact}
+use Rattle.std.specs.List.Sorted.{IsStrictlySortedBy}
 use Rattle.aprs_book.specs.declared.lists.message_key.Span.{Span}
 use Rattle.aprs_book.specs.Messages.{Message, ReportsIt, message_in, message_cmp}
 use Rattle.aprs_book.specs.declared.lists.message_key.MessageKey.{MessageKey}

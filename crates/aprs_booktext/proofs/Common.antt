@@ -21,7 +21,7 @@ pub use Rattle.aprs_laws.specs.Witnesses.{witnesses}
 pub use Rattle.aprs_laws.specs.declared.row_cause.RowCause.{RowCause}
 pub use Rattle.aprs_log.proofs.Moments.{millis_kept, moment_in-text, moment_text-is, one_text, same_text, text-moment_in}
 pub use Rattle.aprs_log.specs.LogText.{HasNoLf, text_of_lines}
-pub use Rattle.aprs_log.specs.Moment.{IsWritable, date_text, day_after, fraction_text, moment_text, moment_text_in, time_text, two_digits}
+pub use Rattle.aprs_log.specs.Moment.{IsWritable, date_text, fraction_text, moment_text, time_text, two_digits}
 pub use Rattle.aprs_log.specs.MomentReading.{Civil, civil_text, moment_in}
 pub use Rattle.aprs_log.specs.Receiver.{IsName, is_name_byte, is_receiver}
 pub use Rattle.aprs_log.specs.Reception.{Received, bytes_cmp}
@@ -29,9 +29,9 @@ pub use Rattle.aprs_log.specs.declared.moment_form.MomentForm.{MomentForm}
 pub use Rattle.aprs_log.specs.declared.moment_form.MomentForm.TheVariants.{Millis, Seconds}
 pub use Rattle.aprs_rows.proofs.JoinedNames.{joined_first, more_names}
 pub use Rattle.aprs_rows.proofs.Refusals.{none_exactly}
-pub use Rattle.aprs_rows.specs.Refusal.{is_refused, refusal}
+pub use Rattle.aprs_rows.specs.Refusal.{is_refused}
 pub use Rattle.hex.proofs.HexLemmas.{decode_of-encode_lower, decode_of-ok, length-encode_with}
-pub use Rattle.hex.specs.Hex.{IsBytes, decode_of, encode_lower, encode_with, lower_digits}
+pub use Rattle.hex.specs.Hex.{IsBytes, decode_of, encode_lower, lower_digits}
 pub use Rattle.std.proofs.Common.{Bool, Err, IfErr, IfOk, IfSome, IsErr, List, None, Ok, Option, Result, Some, [], ap, append-nil, append_assoc, arith, codes, cond, drop, eqb, false, get_or, inl, inr, length, length-append, length-take, map, refl, rules, subst, suc, sym, take, true, zero, ℕ, ◌%◌, ◌*◌, ◌++◌, ◌+◌, ◌-◌, ◌/◌, ◌<◌, ◌^◌, ◌∙◌, ◌∷◌, ◌≡◌, ◌≤◌, ◌⊎◌}
 pub use Rattle.std.proofs.Math.Seq.{drop-append-add, drop-append_seam, take-append-add, take-append_seam}
 pub use Rattle.std.proofs.lemmas.Bool.{and_parts, cases_lt, false_from_ne_true, false≢true}

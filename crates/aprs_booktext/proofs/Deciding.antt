@@ -1,5 +1,7 @@
 -- Each line spells a row or none, and each text is a book's or has a first fault.
-use Rattle.aprs_booktext.proofs.Common.{◌≡◌, ℕ, zero, suc, ◌+◌, ◌<◌, ◌≤◌, Bool, true, false, cond, List, [], ◌∷◌, ◌++◌, length, Option, Some, None, Result, Ok, Err, ◌⊎◌, inl, inr, refl, sym, ap, ◌∙◌, subst, append_assoc, append-nil, length-append, arith, ◌≢◌, All, codes, bytes_eq, AllByRecursion, join_with_byte, cases_lt, nil_from_length, bytes_eq-Decides, All-from_recursion, recursion_from_All, encode_lower, decode_of, decode_of-ok, frame_or_fault, frame_of-is, is-frame_of, FrameFault, moment_text_in, IsWritable, moment_in, IsName, is_receiver, MomentForm, moment_in-text, InputEnd, greatest_gap, IsGap, millis_of, Row, last_of, refusal, is_refused, row_with, RowCause, is_byte}
+use Rattle.aprs_booktext.proofs.Common.{◌≡◌, ℕ, zero, suc, ◌+◌, ◌<◌, ◌≤◌, Bool, true, false, cond, List, [], ◌∷◌, ◌++◌, length, Option, Some, None, Result, Ok, Err, ◌⊎◌, inl, inr, refl, sym, ap, ◌∙◌, subst, append_assoc, append-nil, length-append, arith, ◌≢◌, All, codes, bytes_eq, AllByRecursion, join_with_byte, cases_lt, nil_from_length, bytes_eq-Decides, All-from_recursion, recursion_from_All, encode_lower, decode_of, decode_of-ok, frame_or_fault, frame_of-is, is-frame_of, FrameFault, IsWritable, moment_in, IsName, is_receiver, MomentForm, moment_in-text, InputEnd, greatest_gap, IsGap, millis_of, Row, last_of, is_refused, row_with, RowCause, is_byte}
+use Rattle.aprs_log.specs.Moment.{moment_text_in}
+use Rattle.aprs_rows.specs.Refusal.{refusal}
 use Rattle.hex.specs.declared.error.FromHexError.{FromHexError}
 use Rattle.aprs_laws.specs.declared.row_cause.RowCause.TheVariants as row
 use Rattle.aprs_booktext.specs.FirstFault.{FirstFault}

@@ -1,5 +1,6 @@
 -- A line is wrong for one cause at most.
-use Rattle.aprs_booktext.proofs.Common.{◌≡◌, ℕ, false, true, List, Some, ◌⊎◌, inl, inr, refl, sym, ap, ◌∙◌, subst, ◌≢◌, IsUiFrame, MomentForm, Row, refusal, RowCause}
+use Rattle.aprs_booktext.proofs.Common.{◌≡◌, ℕ, false, true, List, Some, ◌⊎◌, inl, inr, refl, sym, ap, ◌∙◌, subst, ◌≢◌, IsUiFrame, MomentForm, Row, RowCause}
+use Rattle.aprs_rows.specs.Refusal.{refusal}
 use Rattle.aprs_laws.specs.declared.row_cause.RowCause.TheVariants as row
 use Rattle.aprs_booktext.specs.TextFault.{HasNoFrame, SpellsRefusedRow, IsWrong, is_end}
 use Rattle.aprs_booktext.specs.Fault.{book_cause_of}

@@ -1,5 +1,7 @@
 -- The text of a book's rows is that of no others, and has no fault but that it may be cut short.
-use Rattle.aprs_booktext.proofs.Common.{◌≡◌, ℕ, ◌+◌, ◌^◌, ◌<◌, true, false, eqb, List, [], ◌∷◌, ◌++◌, length, get_or, map, Some, None, Ok, inl, inr, refl, sym, ap, ◌∙◌, subst, append_assoc, append-nil, length-append, arith, ◌≢◌, All, codes, join_with_byte, All-head, All-tail, false≢true, nil_from_length, flat_map-append, encode_lower, decode_of, decode_of-encode_lower, IsUiFrame, moment_text_in, IsWritable, moment_in, MomentForm, InputEnd, BookValue, millis_of, Row, last_of, Sound, refusal, row_with, RowCause, none_exactly, text_of_lines}
+use Rattle.aprs_booktext.proofs.Common.{◌≡◌, ℕ, ◌+◌, ◌^◌, ◌<◌, true, false, eqb, List, [], ◌∷◌, ◌++◌, length, get_or, map, Some, None, Ok, inl, inr, refl, sym, ap, ◌∙◌, subst, append_assoc, append-nil, length-append, arith, ◌≢◌, All, codes, join_with_byte, All-head, All-tail, false≢true, nil_from_length, flat_map-append, encode_lower, decode_of, decode_of-encode_lower, IsUiFrame, IsWritable, moment_in, MomentForm, InputEnd, BookValue, millis_of, Row, last_of, Sound, row_with, RowCause, none_exactly, text_of_lines}
+use Rattle.aprs_log.specs.Moment.{moment_text_in}
+use Rattle.aprs_rows.specs.Refusal.{refusal}
 use Rattle.aprs_io.specs.declared.input.InputEnd.TheVariants as ending
 use Rattle.aprs_laws.proofs.Pushes.{sound_prefix}
 use Rattle.aprs_booktext.specs.FirstFault.{EndFault, RestIsAtFault, FirstFault, HasLine, HeaderFault, IsCut, LineFault}

@@ -1,5 +1,6 @@
 -- Lemmas on reading a row's line field by field.
-use Rattle.aprs_booktext.proofs.Common.{◌≡◌, ℕ, ◌<◌, List, [], ◌∷◌, ◌++◌, length, get_or, take, drop, IsErr, Option, Some, None, inl, inr, refl, sym, ap, ◌∙◌, subst, length-append, arith, take-append_seam, ◌≢◌, All, IfNone, false≢true, join_with_byte, encode_lower, frame_or_fault, frame_of-is, is-frame_of, moment_text_in, IsWritable, MomentForm, Seconds, Millis, IsName, Row, last_of}
+use Rattle.aprs_booktext.proofs.Common.{◌≡◌, ℕ, ◌<◌, List, [], ◌∷◌, ◌++◌, length, get_or, take, drop, IsErr, Option, Some, None, inl, inr, refl, sym, ap, ◌∙◌, subst, length-append, arith, take-append_seam, ◌≢◌, All, IfNone, false≢true, join_with_byte, encode_lower, frame_or_fault, frame_of-is, is-frame_of, IsWritable, MomentForm, Seconds, Millis, IsName, Row, last_of}
+use Rattle.aprs_log.specs.Moment.{moment_text_in}
 use Rattle.aprs_log.specs.Clock.{form_size}
 use Rattle.aprs_rows.specs.Names.{row_of_text}
 use Rattle.aprs_booktext.specs.Lines.{Lacks, pieces}

@@ -1,5 +1,7 @@
 -- Lemmas on the fields of a row's line.
-use Rattle.aprs_booktext.proofs.Common.{◌≡◌, ℕ, zero, suc, ◌/◌, ◌%◌, ◌<◌, ◌≤◌, Bool, true, List, [], ◌∷◌, ◌++◌, length, get_or, Option, Some, None, Ok, refl, sym, ap, ◌∙◌, subst, append_assoc, arith, rules, ◌↔◌, All, IsTrue, codes, join_with_byte, AllByRecursion, list_all, and_parts, nat_tests, All-nil, All-push, recursion_from_All, encode_lower, encode_with, lower_digits, IsBytes, moment_text_in, fraction_text, two_digits, IsWritable, moment_in, civil_text, Civil, MomentForm, Seconds, Millis, IsName, is_name_byte, text-moment_in, one_text, moment_text-is, millis_kept, same_text, Row, last_of, frame_or_fault, frame_fault, unless_fault, FrameFault}
+use Rattle.aprs_booktext.proofs.Common.{◌≡◌, ℕ, zero, suc, ◌/◌, ◌%◌, ◌<◌, ◌≤◌, Bool, true, List, [], ◌∷◌, ◌++◌, length, get_or, Option, Some, None, Ok, refl, sym, ap, ◌∙◌, subst, append_assoc, arith, rules, ◌↔◌, All, IsTrue, codes, join_with_byte, AllByRecursion, list_all, and_parts, nat_tests, All-nil, All-push, recursion_from_All, encode_lower, lower_digits, IsBytes, fraction_text, two_digits, IsWritable, moment_in, civil_text, Civil, MomentForm, Seconds, Millis, IsName, is_name_byte, text-moment_in, one_text, moment_text-is, millis_kept, same_text, Row, last_of, frame_or_fault, frame_fault, unless_fault, FrameFault}
+use Rattle.hex.specs.Hex.{encode_with}
+use Rattle.aprs_log.specs.Moment.{moment_text_in}
 use Rattle.aprs_log.specs.CivilMoment.{IsMomentTextIn, civil_after}
 use Rattle.aprs_booktext.specs.Lines.{Lacks, pieces}
 use Rattle.aprs_booktext.specs.Text.{fields_of, row_line, IsSpelled}

@@ -1,5 +1,8 @@
 -- Worked examples of what is at fault in a text.
-use Rattle.aprs_booktext.proofs.Common.{◌≡◌, ◌∙◌, ℕ, zero, suc, ◌^◌, ◌+◌, ◌<◌, ◌≤◌, Bool, cond, false, true, List, [], ◌∷◌, ◌++◌, get_or, length, codes, Some, inl, inr, refl, ap, subst, arith, ◌≢◌, nat_lt, list_all, nat_tests, decimal_digit, All-cons, All-nil, encode_with, IsBytes, IsUiFrame, frame_of-is, is_byte, text_of_lines, day_after, moment_text_in, IsName, bytes_cmp, Millis, millis_of, standard_gap, Row, IsSoundRow, Sound, refusal}
+use Rattle.aprs_booktext.proofs.Common.{◌≡◌, ◌∙◌, ℕ, zero, suc, ◌^◌, ◌+◌, ◌<◌, ◌≤◌, Bool, cond, false, true, List, [], ◌∷◌, ◌++◌, get_or, length, codes, Some, inl, inr, refl, ap, subst, arith, ◌≢◌, nat_lt, list_all, nat_tests, decimal_digit, All-cons, All-nil, IsBytes, IsUiFrame, frame_of-is, is_byte, text_of_lines, IsName, bytes_cmp, Millis, millis_of, standard_gap, Row, IsSoundRow, Sound}
+use Rattle.hex.specs.Hex.{encode_with}
+use Rattle.aprs_log.specs.Moment.{day_after, moment_text_in}
+use Rattle.aprs_rows.specs.Refusal.{refusal}
 use Rattle.aprs_io.specs.declared.input.InputEnd.TheVariants.{End}
 use Rattle.aprs_log.specs.Examples.{hi_frame}
 use Rattle.aprs_log.proofs.Lines.{both}

@@ -1,5 +1,6 @@
 -- Lemmas on digits that are read in blocks.
-use Rattle.aprs_io.proofs.Common.{◌≡◌, ℕ, zero, suc, ◌+◌, ◌-◌, ◌*◌, ◌/◌, ◌%◌, ◌<◌, ◌≤◌, ◌≢◌, ◌==◌, ◌&&◌, ◌⊎◌, Bool, true, nat_lt, cond, List, [], ◌∷◌, ◌++◌, length, take, drop, slice_index, slice_set, Option, Some, None, Ok, if◌then◌else◌, unwrap_or, inl, inr, refl, sym, ap, ◌∙◌, arith, subst, bit_or, and_parts, cases_lt, lt-ltb, get_or-append_right, get_or-drop, get_or-set_other, get_or-set_same, get_or-take, get_or_append_left, length-set, length-take-le, set-get_or, take_more, IsBytes, decode_of, decode_pairs, encode_lower, encode_with, hex_digit_value, lower_digits, digit_or_error, value_at, pair_value, cons_byte, decode_done, decode_pairs-ok_pair, decode_start, drop-pair, encode_done, encode_step, prepend, prepend-cons_byte}
+use Rattle.aprs_io.proofs.Common.{◌≡◌, ℕ, zero, suc, ◌+◌, ◌-◌, ◌*◌, ◌/◌, ◌%◌, ◌<◌, ◌≤◌, ◌≢◌, ◌==◌, ◌&&◌, ◌⊎◌, Bool, true, nat_lt, cond, List, [], ◌∷◌, ◌++◌, length, take, drop, slice_index, slice_set, Option, Some, None, Ok, if◌then◌else◌, unwrap_or, inl, inr, refl, sym, ap, ◌∙◌, arith, subst, bit_or, and_parts, cases_lt, lt-ltb, get_or-append_right, get_or-drop, get_or-set_other, get_or-set_same, get_or-take, get_or_append_left, length-set, length-take-le, set-get_or, take_more, IsBytes, decode_of, decode_pairs, encode_lower, hex_digit_value, lower_digits, digit_or_error, value_at, pair_value, cons_byte, decode_done, decode_pairs-ok_pair, decode_start, drop-pair, encode_done, encode_step, prepend, prepend-cons_byte}
+use Rattle.hex.specs.Hex.{encode_with}
 use Rattle.std.proofs.lemmas.Bool.{eqb-true}
 use borrow.Rule.Slice.PartMut.{post_of, put_mid}
 use Rattle.hex.proofs.HexLemmas.{decode_of-even, length-encode_with}

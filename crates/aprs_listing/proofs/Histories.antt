@@ -1,5 +1,6 @@
 -- Lemmas on the lines of a history.
-use Rattle.aprs_listing.proofs.Common.{◌≡◌, ℕ, List, [], ◌∷◌, ◌++◌, map, Option, Some, None, Result, Ok, Err, refl, sym, ap, ap₂, ◌∙◌, append_assoc, append-nil, flat_map, join_with_byte, option_map, flat_map_more, flat_map-append, Call, call_text, Parts, parts_of, hop_of, shown_text, Puts, Puts-fails, Puts-is, Puts-none, Puts-then, Row, last_of, moment_text, reading_of, Value, mic_e_view, mic_e_or_none}
+use Rattle.aprs_listing.proofs.Common.{◌≡◌, ℕ, List, [], ◌∷◌, ◌++◌, map, Option, Some, None, Result, Ok, Err, refl, sym, ap, ap₂, ◌∙◌, append_assoc, append-nil, flat_map, join_with_byte, option_map, flat_map_more, flat_map-append, Call, call_text, Parts, parts_of, hop_of, shown_text, Puts, Puts-fails, Puts-is, Puts-none, Puts-then, Row, last_of, moment_text, reading_of, Value, mic_e_view}
+use Rattle.aprs_mice.specs.Reader.{mic_e_or_none}
 use Rattle.std.specs.Result.{IsErr}
 use denote.Ref.{Bor}
 use Rattle.aprs_io.specs.declared.device.WriteFault.{WriteFault}

@@ -1,5 +1,8 @@
 -- No line of a history has an LF but at its end.
-use Rattle.aprs_listing.proofs.Common.{All, ◌≡◌, ◌≢◌, ◌∙◌, ℕ, zero, suc, ◌+◌, ◌/◌, ◌%◌, Bool, true, false, not, ◌&&◌, cond, nat_lt, ◌==◌, List, [], ◌∷◌, ◌++◌, map, get_or, Option, Some, None, pos, negsuc, ℤ, refl, ap, sym, append_assoc, arith, codes, AllByRecursion, flat_map, join_with_byte, list_all, decimal, digit_glyph, digits, digits_onto, signed_decimal, Call, IsCall, call_text, is_callsign_byte, Parts, IsParts, parts_of, hop_of, hop_text, is_shown_as_is, shown_byte, shown_text, day_after, moment_text, moment_text_in, two_digits, Row, last_of, reading_of, Value, Reads, position, object, item, message, ack, rej, status, raw, MicEValue, message_name, mic_e_or_none}
+use Rattle.aprs_listing.proofs.Common.{All, ◌≡◌, ◌≢◌, ◌∙◌, ℕ, zero, suc, ◌+◌, ◌/◌, ◌%◌, Bool, true, false, not, ◌&&◌, cond, nat_lt, ◌==◌, List, [], ◌∷◌, ◌++◌, map, get_or, Option, Some, None, pos, negsuc, ℤ, refl, ap, sym, append_assoc, arith, codes, AllByRecursion, flat_map, join_with_byte, list_all, decimal, digit_glyph, digits_onto, signed_decimal, Call, IsCall, call_text, is_callsign_byte, Parts, IsParts, parts_of, hop_of, hop_text, is_shown_as_is, shown_byte, shown_text, moment_text, two_digits, Row, last_of, reading_of, Value, Reads, position, object, item, message, ack, rej, status, raw, MicEValue, message_name}
+use Rattle.std.specs.Fmt.{digits}
+use Rattle.aprs_log.specs.Moment.{day_after, moment_text_in}
+use Rattle.aprs_mice.specs.Reader.{mic_e_or_none}
 use Rattle.std.proofs.lemmas.Bool.{and_parts}
 use Rattle.std.proofs.lemmas.List.Elements.{All-from_recursion, recursion_from_All}
 use Rattle.hex.specs.Hex.{encode_lower, encode_with, lower_digits}

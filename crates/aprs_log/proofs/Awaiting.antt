@@ -1,5 +1,6 @@
 -- Lemmas on what a reader of a log may still answer.
-use Rattle.aprs_log.proofs.Common.{◌≡◌, ℕ, ◌+◌, ◌-◌, ◌<◌, ◌≤◌, List, [], ◌++◌, length, Option, None, Some, Ok, Err, IfSome, refl, arith, sym, ap, ◌∙◌, append_assoc, subst, Cut, cut_at, InputEnd}
+use Rattle.aprs_log.proofs.Common.{◌≡◌, ℕ, ◌+◌, ◌-◌, ◌<◌, ◌≤◌, List, [], ◌++◌, length, Option, None, Some, Ok, Err, IfSome, refl, arith, sym, ap, ◌∙◌, append_assoc, subst, Cut, InputEnd}
+use Rattle.aprs_io.specs.Cut.{cut_at}
 use Rattle.std.proofs.Common.{append-nil}
 use Rattle.std.specs.Io.KnownBytes.{Consumes}
 use Rattle.aprs_log.specs.States.{KeepsMemory, state_after}

@@ -1,5 +1,9 @@
 -- A line's bytes carry a frame exactly where the reading of the line finds it.
-use Rattle.aprs_log.proofs.Common.{◌≡◌, ℕ, zero, suc, ◌<◌, ◌/◌, ◌%◌, ◌==◌, Bool, true, false, List, [], ◌∷◌, ◌++◌, length, map, filter, replicate, Option, None, Some, Result, Ok, Err, All, inl, inr, refl, sym, ap, ◌∙◌, append_assoc, subst, arith, eqb-true, if◌then◌else◌, nat_lt, flat_map, frame_or_fault, DataFrame, Judgement, data_frame_of, judgement_by, judgement_of, HasNoEnd, is_escape, is_frame_end, spelling_of, spelling_of_byte, is_nonempty, judgements_of, pieces_of, rest_of, spelled_bytes, is_true_or_not, spelling_of-unspelled, unspelled-of, HasNoEnd-append, HasNoEnd-nil, HasNoEnd-one, made_so, pieces_of-end, pieces_of-none, rest_of-end, rest_of-none}
+use Rattle.aprs_log.proofs.Common.{◌≡◌, ℕ, zero, suc, ◌<◌, ◌/◌, ◌%◌, ◌==◌, Bool, true, false, List, [], ◌∷◌, ◌++◌, length, map, filter, replicate, Option, None, Some, Result, Ok, Err, All, inl, inr, refl, sym, ap, ◌∙◌, append_assoc, subst, arith, eqb-true, if◌then◌else◌, nat_lt, flat_map, frame_or_fault, DataFrame, Judgement, data_frame_of, judgement_by, HasNoEnd, is_escape, is_frame_end, spelling_of_byte, is_nonempty, is_true_or_not, spelling_of-unspelled, unspelled-of, HasNoEnd-append, HasNoEnd-nil, HasNoEnd-one, made_so, pieces_of-end, pieces_of-none, rest_of-end, rest_of-none}
+use Rattle.aprs_kiss.specs.Judgement.{judgement_of}
+use Rattle.aprs_kiss.specs.Spelling.{spelling_of}
+use Rattle.aprs_kiss.specs.Stream.{judgements_of, pieces_of, rest_of}
+use Rattle.aprs_kiss.specs.Unspelling.{spelled_bytes}
 use Rattle.std.proofs.Common.{append-nil, length-append}
 use Rattle.aprs_ax25.specs.UiFrame.{IsUiFrame}
 use Rattle.aprs_ax25.specs.declared.fault.FrameFault.{FrameFault}

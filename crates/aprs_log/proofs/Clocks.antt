@@ -1,5 +1,6 @@
 -- Lemmas on times of a day whose date is known.
-use Rattle.aprs_log.proofs.Common.{◌≡◌, ◌≢◌, ◌⊎◌, inl, inr, ℕ, ◌+◌, ◌-◌, ◌*◌, ◌/◌, ◌%◌, ◌<◌, ◌≤◌, List, [], ◌∷◌, ◌++◌, ◌==◌, cond, length, take, drop, slice_index, Option, None, Some, pos, unsigned_abs, refl, arith, sym, ap, ◌∙◌, subst, take-append-drop, IfSome, SomeIff, take-append_seam, drop-append-add, days_from_civil}
+use Rattle.aprs_log.proofs.Common.{◌≡◌, ◌≢◌, ◌⊎◌, inl, inr, ℕ, ◌+◌, ◌-◌, ◌*◌, ◌/◌, ◌%◌, ◌<◌, ◌≤◌, List, [], ◌∷◌, ◌++◌, ◌==◌, cond, length, take, drop, slice_index, Option, None, Some, pos, unsigned_abs, refl, arith, sym, ap, ◌∙◌, subst, take-append-drop, IfSome, SomeIff, take-append_seam, drop-append-add}
+use Rattle.jiff_core.specs.Calendar.{days_from_civil}
 use Rattle.std.proofs.Common.{length-append}
 use borrow.Rule.Slice.PartMut.{put_mid}
 use Rattle.aprs_log.specs.declared.moment_form.MomentForm.{MomentForm}

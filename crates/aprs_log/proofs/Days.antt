@@ -1,5 +1,6 @@
 -- The days of 1970 to 2099.
-use Rattle.aprs_log.proofs.Common.{◌≡◌, ℕ, zero, suc, Bool, true, false, cond, nat_lt, ◌+◌, ◌-◌, ◌<◌, ◌≤◌, refl, arith, ℤ, pos, negsuc, unsigned_abs, ap, ◌+ℤ◌, ◌≤ℤ◌, ◌∙◌, sym, subst, inl, inr, by_lt_z, cases_lt, nat_tests, day_count, days_from_civil, days_in_month, IsCivilDate, signed_arith}
+use Rattle.aprs_log.proofs.Common.{◌≡◌, ℕ, zero, suc, Bool, true, false, cond, nat_lt, ◌+◌, ◌-◌, ◌<◌, ◌≤◌, refl, arith, ℤ, pos, negsuc, unsigned_abs, ap, ◌+ℤ◌, ◌≤ℤ◌, ◌∙◌, sym, subst, inl, inr, by_lt_z, cases_lt, nat_tests, days_in_month, IsCivilDate, signed_arith}
+use Rattle.jiff_core.specs.Calendar.{day_count, days_from_civil}
 use Rattle.jiff_core.specs.declared.civil.date.Date.{Date}
 use Rattle.jiff_core.specs.declared.span.Span.{Span}
 use Rattle.jiff_core.specs.declared.unit.Unit.TheVariants.{Day as DayUnit}

@@ -1,5 +1,6 @@
 -- Lemmas on the first field of a text.
-use Rattle.aprs_log.proofs.Common.{◌≡◌, ◌⊎◌, inl, inr, ℕ, ◌+◌, ◌<◌, ◌≤◌, suc, ◌&&◌, Bool, true, false, not, cond, List, [], ◌∷◌, ◌++◌, length, take, drop, slice_index, Option, None, Some, Err, nat_le, nat_lt, refl, arith, sym, ap, ◌∙◌, subst, take-append-drop, MatchOption, list_all, position, position_or_len, take-append_seam, and_from, le-leb, leb-true, ltb-true, nat_tests, drop_more, get_or-append-add, get_or-take, length-take-le, Cut, cut_at, Lacks, cut_at-after, cut_at-append, cut_at-parts}
+use Rattle.aprs_log.proofs.Common.{◌≡◌, ◌⊎◌, inl, inr, ℕ, ◌+◌, ◌<◌, ◌≤◌, suc, ◌&&◌, Bool, true, false, not, cond, List, [], ◌∷◌, ◌++◌, length, take, drop, slice_index, Option, None, Some, Err, nat_le, nat_lt, refl, arith, sym, ap, ◌∙◌, subst, take-append-drop, MatchOption, list_all, position, position_or_len, take-append_seam, and_from, le-leb, leb-true, ltb-true, nat_tests, drop_more, get_or-append-add, get_or-take, length-take-le, Cut, Lacks, cut_at-after, cut_at-append, cut_at-parts}
+use Rattle.aprs_io.specs.Cut.{cut_at}
 use Rattle.std.proofs.lemmas.List.{length-append}
 use Rattle.aprs_log.specs.Fields.{EndsMoment, EndsNoMoment, HasSpace, TakesMoment, TakesName, TakesNoMoment, TakesNoName, ends_name}
 use Rattle.aprs_log.specs.Line.{line_of, line_of_digits}

@@ -1,5 +1,7 @@
 -- Lemmas on the frame in a line's bytes.
-use Rattle.aprs_log.proofs.Common.{◌≡◌, ◌≢◌, ℕ, ◌+◌, ◌-◌, ◌<◌, ◌≤◌, Bool, true, false, List, [], ◌∷◌, ◌++◌, length, take, drop, Result, Ok, Err, cond, refl, arith, sym, ap, ◌∙◌, take-append-drop, slice_index, subst, Option, Some, take_rest, take-length, CutsPlain, IsPlain, kiss_text, spelling_of, spelling_of-all, begins_empty, judged_in_parts, left_in_parts, read_back, read_whole, rest_of, is_nonempty, judgements_of, EndsPiece, Judgement, frame_or_fault}
+use Rattle.aprs_log.proofs.Common.{◌≡◌, ◌≢◌, ℕ, ◌+◌, ◌-◌, ◌<◌, ◌≤◌, Bool, true, false, List, [], ◌∷◌, ◌++◌, length, take, drop, Result, Ok, Err, cond, refl, arith, sym, ap, ◌∙◌, take-append-drop, slice_index, subst, Option, Some, take_rest, take-length, CutsPlain, IsPlain, kiss_text, spelling_of-all, begins_empty, judged_in_parts, left_in_parts, read_back, read_whole, is_nonempty, EndsPiece, Judgement, frame_or_fault}
+use Rattle.aprs_kiss.specs.Spelling.{spelling_of}
+use Rattle.aprs_kiss.specs.Stream.{rest_of, judgements_of}
 use Rattle.std.proofs.Common.{length-append}
 use Rattle.aprs_kiss.specs.Answer.{judgements_in}
 use Rattle.std.specs.Borrow.{Bor}

@@ -1,5 +1,6 @@
 -- Lemmas on what the device answered last where a log is read no further.
-use Rattle.aprs_log.proofs.Common.{◌≡◌, ◌≤◌, ℕ, List, [], ◌∷◌, length, Option, None, Some, Result, Ok, Err, refl, sym, ap, ◌∙◌, subst, arith, result_ok, decode_of, nat_tests, cut_at, Calls, Going, Last, InputEnd, End, Read, Calls-none, nat_le}
+use Rattle.aprs_log.proofs.Common.{◌≡◌, ◌≤◌, ℕ, List, [], ◌∷◌, length, Option, None, Some, Result, Ok, Err, refl, sym, ap, ◌∙◌, subst, arith, result_ok, decode_of, nat_tests, Calls, Going, Last, InputEnd, End, Read, Calls-none, nat_le}
+use Rattle.aprs_io.specs.Cut.{cut_at}
 use Rattle.aprs_io.specs.Input.{last_of_ending}
 use Rattle.aprs_io.specs.declared.device.Counted.{Counted}
 use Rattle.aprs_io.specs.declared.input.InputEnd.TheVariants.{TooLong}

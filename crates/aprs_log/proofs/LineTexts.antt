@@ -1,5 +1,6 @@
 -- What a line says, as relations and as the reading of the line.
-use Rattle.aprs_log.proofs.Common.{◌≡◌, ◌⊎◌, ℕ, ◌≤◌, Bool, true, false, List, ◌∷◌, ◌++◌, length, Option, None, Some, Result, Ok, Err, IsErr, inl, inr, refl, sym, ap, ◌∙◌, subst, cases_lt, decode_of, Cut, cut_at}
+use Rattle.aprs_log.proofs.Common.{◌≡◌, ◌⊎◌, ℕ, ◌≤◌, Bool, true, false, List, ◌∷◌, ◌++◌, length, Option, None, Some, Result, Ok, Err, IsErr, inl, inr, refl, sym, ap, ◌∙◌, subst, cases_lt, decode_of, Cut}
+use Rattle.aprs_io.specs.Cut.{cut_at}
 use Rattle.hex.specs.declared.error.FromHexError.{FromHexError}
 use Rattle.aprs_log.specs.Fault.{log_cause_of}
 use Rattle.aprs_log.specs.Line.{frame_in, heard_or_passed, line_of, line_of_digits}

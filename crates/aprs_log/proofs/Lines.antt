@@ -1,5 +1,6 @@
 -- Lemmas on the lines of a log.
-use Rattle.aprs_log.proofs.Common.{◌≡◌, ◌↔◌, ℕ, ◌/◌, ◌%◌, ◌<◌, ◌≤◌, ◌&&◌, Bool, true, false, List, [], ◌∷◌, ◌++◌, length, Option, None, Some, Result, Ok, Err, IsOk, nat_le, unwrap_or, refl, arith, sym, ap, ◌∙◌, subst, list_all, le-leb, leb-true, nat_tests, result_ok, decode_of, Cut, cut_at, is_byte, Lacks, cut_at-append, cut_at-parts}
+use Rattle.aprs_log.proofs.Common.{◌≡◌, ◌↔◌, ℕ, ◌/◌, ◌%◌, ◌<◌, ◌≤◌, ◌&&◌, Bool, true, false, List, [], ◌∷◌, ◌++◌, length, Option, None, Some, Result, Ok, Err, IsOk, nat_le, unwrap_or, refl, arith, sym, ap, ◌∙◌, subst, list_all, le-leb, leb-true, nat_tests, result_ok, decode_of, Cut, is_byte, Lacks, cut_at-append, cut_at-parts}
+use Rattle.aprs_io.specs.Cut.{cut_at}
 use Rattle.aprs_log.specs.declared.moment_form.MomentForm.{MomentForm}
 use Rattle.aprs_log.specs.declared.moment_form.MomentForm.TheVariants.{Seconds, Millis}
 use Rattle.aprs_log.specs.Moment.{two_digits, fraction_text, IsTextOf}

@@ -1,5 +1,6 @@
 -- Lemmas on the answers of a log, of which only the first bytes may be known.
-use Rattle.aprs_log.proofs.Common.{◌≡◌, ℕ, ◌+◌, ◌≤◌, ◌<◌, List, [], ◌∷◌, ◌++◌, Bool, true, false, length, get_or, None, Some, inl, inr, cond, refl, arith, sym, ap, ◌∙◌, append_assoc, IsTrue, slice_split, position_or_len, before_first, after_first, All, get_or-take, nat_tests, cases_lt, Cut, cut_at, first_cut, has_byte, InputEnd}
+use Rattle.aprs_log.proofs.Common.{◌≡◌, ℕ, ◌+◌, ◌≤◌, ◌<◌, List, [], ◌∷◌, ◌++◌, Bool, true, false, length, get_or, None, Some, inl, inr, cond, refl, arith, sym, ap, ◌∙◌, append_assoc, IsTrue, slice_split, position_or_len, before_first, after_first, All, get_or-take, nat_tests, cases_lt, Cut, first_cut, has_byte, InputEnd}
+use Rattle.aprs_io.specs.Cut.{cut_at}
 use Rattle.std.proofs.Common.{append-nil, length-append, length-take}
 use Rattle.std.proofs.lemmas.List.Splits.{slice_split_at, slice_split_none, length-slice_split}
 use Rattle.std.proofs.lemmas.List.Sums.{fails_before_first, passes_at_first, split_at_first}

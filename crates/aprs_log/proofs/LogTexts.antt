@@ -1,5 +1,6 @@
 -- A log's text, as relations and as the answers of its reading.
-use Rattle.aprs_log.proofs.Common.{◌≡◌, ◌≢◌, ◌⊎◌, ℕ, zero, suc, ◌+◌, ◌<◌, ◌≤◌, nat_lt, Bool, true, false, List, [], ◌∷◌, ◌++◌, length, Option, None, Some, Result, Ok, Err, inl, inr, cond, refl, arith, sym, ap, ◌∙◌, subst, append_assoc, eqb-true, AllByRecursion, cases_lt, nat_tests, All-from_recursion, recursion_from_All, is_hex_digit, decode_of-ok, Cut, cut_at, is_byte, Lacks, cut_at-append, cut_at-parts, InputEnd}
+use Rattle.aprs_log.proofs.Common.{◌≡◌, ◌≢◌, ◌⊎◌, ℕ, zero, suc, ◌+◌, ◌<◌, ◌≤◌, nat_lt, Bool, true, false, List, [], ◌∷◌, ◌++◌, length, Option, None, Some, Result, Ok, Err, inl, inr, cond, refl, arith, sym, ap, ◌∙◌, subst, append_assoc, eqb-true, AllByRecursion, cases_lt, nat_tests, All-from_recursion, recursion_from_All, is_hex_digit, decode_of-ok, Cut, is_byte, Lacks, cut_at-append, cut_at-parts, InputEnd}
+use Rattle.aprs_io.specs.Cut.{cut_at}
 use Rattle.std.proofs.Common.{append-nil, length-append}
 use Rattle.aprs_io.specs.declared.input.InputEnd.TheVariants as how
 use Rattle.aprs_log.specs.Fault.{log_cause_of}

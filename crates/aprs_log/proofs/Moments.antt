@@ -1,5 +1,6 @@
 -- Lemmas on moments and their texts.
-use Rattle.aprs_log.proofs.Common.{◌≡◌, ℕ, ◌+◌, ◌*◌, ◌/◌, ◌%◌, ◌<◌, ◌≤◌, ◌↔◌, nat_lt, Bool, true, false, List, length, Option, None, Some, pos, ◌+ℤ◌, ◌*ℤ◌, unsigned_abs, refl, arith, sym, ap, ◌∙◌, ◌&&◌, cond, subst, and_from, lt-ltb, ltb-true, nat_tests, bytes_eq, bytes_eq-Decides, days_from_civil, days_in_month, signed_arith}
+use Rattle.aprs_log.proofs.Common.{◌≡◌, ℕ, ◌+◌, ◌*◌, ◌/◌, ◌%◌, ◌<◌, ◌≤◌, ◌↔◌, nat_lt, Bool, true, false, List, length, Option, None, Some, pos, ◌+ℤ◌, ◌*ℤ◌, unsigned_abs, refl, arith, sym, ap, ◌∙◌, ◌&&◌, cond, subst, and_from, lt-ltb, ltb-true, nat_tests, bytes_eq, bytes_eq-Decides, days_in_month, signed_arith}
+use Rattle.jiff_core.specs.Calendar.{days_from_civil}
 use Rattle.aprs_log.proofs.Days.{IsDay-few, IsDay-number, one_date, NthDay, day_after-is}
 use Rattle.aprs_log.specs.declared.moment_form.MomentForm.{MomentForm}
 use Rattle.aprs_log.specs.declared.moment_form.MomentForm.TheVariants.{Seconds, Millis}

@@ -1,5 +1,7 @@
 -- Lemmas on the pieces of a line's bytes.
-use Rattle.aprs_log.proofs.Common.{◌≡◌, ℕ, ◌-◌, ◌<◌, ◌≤◌, Bool, true, false, not, ◌||◌, List, [], ◌∷◌, ◌++◌, length, get_or, take, drop, refl, arith, sym, ap, ◌∙◌, subst, append_assoc, take-append-drop, ◌⊎◌, inl, inr, suc, nat_eq, eqb-true, All-append, All-nil, drop-cons, drop-length, HasNoEnd, is_frame_end, rest_of, is_nonempty, judgements_of, judgement_of, cuts, judgements_of-empty, judgements_of-end, rest_of-none, begins_empty, ended_stream, judged_in_parts, left_in_parts}
+use Rattle.aprs_log.proofs.Common.{◌≡◌, ℕ, ◌-◌, ◌<◌, ◌≤◌, Bool, true, false, not, ◌||◌, List, [], ◌∷◌, ◌++◌, length, get_or, take, drop, refl, arith, sym, ap, ◌∙◌, subst, append_assoc, take-append-drop, ◌⊎◌, inl, inr, suc, nat_eq, eqb-true, All-append, All-nil, drop-cons, drop-length, HasNoEnd, is_frame_end, is_nonempty, cuts, judgements_of-empty, judgements_of-end, rest_of-none, begins_empty, ended_stream, judged_in_parts, left_in_parts}
+use Rattle.aprs_kiss.specs.Stream.{rest_of, judgements_of}
+use Rattle.aprs_kiss.specs.Judgement.{judgement_of}
 use Rattle.std.proofs.Common.{append-nil, length-append}
 use Rattle.aprs_log.specs.FrameEnds.{has_other}
 

@@ -1,5 +1,11 @@
 -- Lemmas on worked examples: what reading makes of their texts.
-use Rattle.aprs_log.proofs.Common.{◌≡◌, ℕ, Bool, true, false, not, List, [], ◌∷◌, ◌++◌, codes, Some, None, Ok, Err, refl, day_count, days_from_civil, days_of_months, days_of_years, list_all, cut_at, is_byte, Lacks, judgement_of, judgements_of, pieces_of, rest_of, spelled_bytes, decode_pairs}
+use Rattle.aprs_log.proofs.Common.{◌≡◌, ℕ, Bool, true, false, not, List, [], ◌∷◌, ◌++◌, codes, Some, None, Ok, Err, refl, list_all, is_byte, Lacks}
+use Rattle.jiff_core.specs.Calendar.{day_count, days_from_civil, days_of_months, days_of_years}
+use Rattle.aprs_io.specs.Cut.{cut_at}
+use Rattle.aprs_kiss.specs.Judgement.{judgement_of}
+use Rattle.aprs_kiss.specs.Stream.{judgements_of, pieces_of, rest_of}
+use Rattle.aprs_kiss.specs.Unspelling.{spelled_bytes}
+use Rattle.hex.specs.Hex.{decode_pairs}
 use Rattle.aprs_log.specs.Examples.{heard_after, hi_digits, hi_line, leap_line, line_by, noon, unended_line}
 use Rattle.aprs_log.specs.Line.{frame_in, line_of}
 use Rattle.aprs_log.specs.LogText.{HasNoLf}

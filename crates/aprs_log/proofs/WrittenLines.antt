@@ -1,5 +1,7 @@
 -- Lemmas on the line that is written for a reception.
-use Rattle.aprs_log.proofs.Common.{◌≡◌, ℕ, zero, suc, ◌/◌, ◌%◌, ◌<◌, ◌≤◌, ◌≢◌, Bool, true, false, if◌then◌else◌, List, [], ◌∷◌, ◌++◌, length, slice_index, append_assoc, Ok, refl, arith, sym, ap, ◌∙◌, subst, IsPlain, is_special, is_escape, is_frame_end, spelling_of, spelling_of_byte, kiss_text, spelling_of-all, spelling_of-cut, FrameOf, Parts, frame_or_fault, unless_fault, IsBytes, decode_of, encode_lower, encode_with, lower_digits, decode_of-encode_lower, nat_tests, MAX_UI_FRAME}
+use Rattle.aprs_log.proofs.Common.{◌≡◌, ℕ, zero, suc, ◌/◌, ◌%◌, ◌<◌, ◌≤◌, ◌≢◌, Bool, true, false, if◌then◌else◌, List, [], ◌∷◌, ◌++◌, length, slice_index, append_assoc, Ok, refl, arith, sym, ap, ◌∙◌, subst, IsPlain, is_special, is_escape, is_frame_end, spelling_of_byte, kiss_text, spelling_of-all, spelling_of-cut, FrameOf, Parts, frame_or_fault, unless_fault, IsBytes, decode_of, encode_lower, lower_digits, decode_of-encode_lower, nat_tests, MAX_UI_FRAME}
+use Rattle.aprs_kiss.specs.Spelling.{spelling_of}
+use Rattle.hex.specs.Hex.{encode_with}
 use Rattle.aprs_ax25.proofs.Spellings.{FrameOf-frame_fault}
 use Rattle.aprs_log.specs.Moment.{moment_text}
 use Rattle.aprs_log.specs.CivilMoment.{IsMomentText}

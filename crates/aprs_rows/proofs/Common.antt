@@ -14,7 +14,7 @@ pub use Rattle.aprs_laws.specs.Coalescing.{AreInOrder, append_or_join}
 pub use Rattle.aprs_laws.specs.Gap.{IsGap, millis_of}
 pub use Rattle.aprs_laws.specs.JoinRow.{add, choose, coalesce, coalesced_rows, combine, compare_near, greater, single, union}
 pub use Rattle.aprs_laws.specs.Joining.{AreAllAlike, FoldsTo, IsGreaterOf, IsUnited}
-pub use Rattle.aprs_laws.specs.Key.{Key, key_cmp, key_of}
+pub use Rattle.aprs_laws.specs.Key.{Key}
 pub use Rattle.aprs_laws.specs.Lists.{Ordered, SameMembers, ◌∈◌}
 pub use Rattle.aprs_laws.specs.Merged.{ascending_union}
 pub use Rattle.aprs_laws.specs.Order.{IsBelow, IsUpTo}

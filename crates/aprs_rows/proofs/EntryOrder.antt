@@ -1,5 +1,6 @@
 -- Entries are in order as their rows are.
-use Rattle.aprs_rows.proofs.Common.{◌≡◌, ◌∙◌, ℕ, ◌<◌, ◌≤◌, Bool, false, List, [], ◌∷◌, length, get_or, sym, ap, arith, Bor, IsStrictWeakOrder, IsTotalOrder, IsSortedBy, IsPermutation, nat_cmp, is_lt, ordering_then, Ordering, then_total, on_total, nat_cmp_total, length-map, get_or-map, All-from_recursion, recursion_from_All, ranks_by, sorted_far, All-permutation, bytes_cmp, AreInOrder, key_cmp, Row, row_cmp, row_key, bytes_total, ordering_then_assoc}
+use Rattle.aprs_rows.proofs.Common.{◌≡◌, ◌∙◌, ℕ, ◌<◌, ◌≤◌, Bool, false, List, [], ◌∷◌, length, get_or, sym, ap, arith, Bor, IsStrictWeakOrder, IsTotalOrder, IsSortedBy, IsPermutation, nat_cmp, is_lt, ordering_then, Ordering, then_total, on_total, nat_cmp_total, length-map, get_or-map, All-from_recursion, recursion_from_All, ranks_by, sorted_far, All-permutation, bytes_cmp, AreInOrder, Row, row_cmp, row_key, bytes_total, ordering_then_assoc}
+use Rattle.aprs_laws.specs.Key.{key_cmp}
 use Rattle.std.specs.Fn.{Called, ComparesAs, Mut}
 use Rattle.std.proofs.lemmas.Fn.{always_returns_same}
 use Rattle.aprs_rows.specs.KeyPrefix.{HasKeyPrefix}

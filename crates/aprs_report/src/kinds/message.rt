@@ -107,7 +107,7 @@ fn addressee_and_part(bytes: &[u8]) -> Option<(&[u8], &[u8])>
 
 /// A message, an acknowledgement or a rejection, from the bytes of an information field after its
 /// first, `:`. `None` where they don't begin with an addressee in nine bytes and a colon.
-#[tactic(auto, unfolding(crate::specs::Reader::message_of))]
+#[tactic(auto, unfolding(crate::specs::Reader::message_with))]
 pub fn message(bytes: &[u8]) -> Option<Report<'_>>
     ensures { option_map view result ≡ Spec.message_with bytes.now }
 {

@@ -1,4 +1,8 @@
-use Rattle.aprs_listing.proofs.Common.{◌≡◌, ap, refl, arith, slice_index, digits, day_after, moment_text_in, report_by_form, position_of, place_of, plain_of, angle_of, minutes_of, numeral_of, cut_end, object_of, stamp_at, item_of, item_field_of, message_with, addressee_and_part_of, answer_at, text_and_id_of, mic_e_or_none}
+use Rattle.aprs_listing.proofs.Common.{◌≡◌, ap, refl, arith, slice_index}
+use Rattle.std.specs.Fmt.{digits}
+use Rattle.aprs_log.specs.Moment.{day_after, moment_text_in}
+use Rattle.aprs_report.specs.Reader.{report_by_form, position_of, place_of, plain_of, angle_of, minutes_of, numeral_of, cut_end, object_of, stamp_at, item_of, item_field_of, message_with, addressee_and_part_of, answer_at, text_and_id_of}
+use Rattle.aprs_mice.specs.Reader.{mic_e_or_none}
 use Rattle.aprs_listing.proofs.examples.histories_tell_reports.Goals as goal
 
 pub returns : goal.returns

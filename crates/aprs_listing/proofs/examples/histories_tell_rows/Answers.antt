@@ -1,4 +1,7 @@
-use Rattle.aprs_listing.proofs.Common.{◌≡◌, ap, refl, arith, slice_index, digits, day_after, moment_text_in, report_by_form, stamp_at, utc_at}
+use Rattle.aprs_listing.proofs.Common.{◌≡◌, ap, refl, arith, slice_index}
+use Rattle.std.specs.Fmt.{digits}
+use Rattle.aprs_log.specs.Moment.{day_after, moment_text_in}
+use Rattle.aprs_report.specs.Reader.{report_by_form, stamp_at, utc_at}
 use Rattle.aprs_listing.proofs.examples.histories_tell_rows.Goals as goal
 
 pub returns : goal.returns

@@ -1,4 +1,5 @@
-use Rattle.aprs_log.proofs.Common.{◌≡◌, ◌≤◌, ◌+◌, ◌*◌, ◌++◌, ◌∷◌, [], length, take, encode_lower, spelling_of}
+use Rattle.aprs_log.proofs.Common.{◌≡◌, ◌≤◌, ◌+◌, ◌*◌, ◌++◌, ◌∷◌, [], length, take, encode_lower}
+use Rattle.aprs_kiss.specs.Spelling.{spelling_of}
 use Rattle.aprs_log.proofs.write.put_frame.Given as goal
 
 abbrev pub invariant-cuts : goal.invariant-cuts

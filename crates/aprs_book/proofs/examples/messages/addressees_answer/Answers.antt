@@ -1,4 +1,5 @@
-use Rattle.aprs_book.proofs.Common.{◌≡◌, ℕ, List, [], ◌∷◌, codes, inl, inr, refl, sym, ap, ◌∙◌, arith, Value, ack, rej, report_by_form, message_with, addressee_and_part_of, answer_at, text_and_id_of, cut_end}
+use Rattle.aprs_book.proofs.Common.{◌≡◌, ℕ, List, [], ◌∷◌, codes, inl, inr, refl, sym, ap, ◌∙◌, arith, Value, ack, rej}
+use Rattle.aprs_report.specs.Reader.{report_by_form, message_with, addressee_and_part_of, answer_at, text_and_id_of, cut_end}
 use Rattle.aprs_book.proofs.Worked.{seven_text, eight_text}
 use Rattle.aprs_book.proofs.examples.messages.addressees_answer.Goals as goal
 

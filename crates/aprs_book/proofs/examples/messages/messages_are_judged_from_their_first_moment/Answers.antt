@@ -1,4 +1,5 @@
-use Rattle.aprs_book.proofs.Common.{◌≡◌, ℕ, Option, Some, None, unwrap_or, inl, inr, refl, sym, ap, ◌∙◌, subst, arith, Received, ◌∈◌, key_of}
+use Rattle.aprs_book.proofs.Common.{◌≡◌, ℕ, Option, Some, None, unwrap_or, inl, inr, refl, sym, ap, ◌∙◌, subst, arith, Received, ◌∈◌}
+use Rattle.aprs_laws.specs.Key.{key_of}
 use Rattle.aprs_book.specs.declared.lists.message.MessageRow.{MessageRow}
 use Rattle.aprs_book.specs.declared.lists.message.MessageState.TheVariants.{Unanswered, Acknowledged}
 use Rattle.aprs_book.specs.Messages.{Message, ReportsIt, IsMessageRow, StandsBy, reported_state, shown_message}

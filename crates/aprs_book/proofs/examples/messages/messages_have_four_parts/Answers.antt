@@ -1,4 +1,5 @@
-use Rattle.aprs_book.proofs.Common.{◌≡◌, Option, refl, ap, arith, option_map_or, report_by_form, message_with, addressee_and_part_of, answer_at, text_and_id_of, cut_end}
+use Rattle.aprs_book.proofs.Common.{◌≡◌, Option, refl, ap, arith, option_map_or}
+use Rattle.aprs_report.specs.Reader.{report_by_form, message_with, addressee_and_part_of, answer_at, text_and_id_of, cut_end}
 use Rattle.aprs_book.specs.Messages.{Message}
 use Rattle.aprs_book.proofs.examples.messages.messages_have_four_parts.Goals as goal
 

@@ -1,4 +1,5 @@
-use Rattle.aprs_book.proofs.Common.{◌≡◌, Bool, true, false, Option, Some, codes, unwrap_or, inl, inr, refl, sym, ap, ◌∙◌, subst, Received, heard_cmp, IsBelow, IsUpTo, key_of, IsBest, heard_total, up_to_itself}
+use Rattle.aprs_book.proofs.Common.{◌≡◌, Bool, true, false, Option, Some, codes, unwrap_or, inl, inr, refl, sym, ap, ◌∙◌, subst, Received, heard_cmp, IsBelow, IsUpTo, IsBest, heard_total, up_to_itself}
+use Rattle.aprs_laws.specs.Key.{key_of}
 use Rattle.aprs_book.specs.declared.lists.named.Named.{Named}
 use Rattle.aprs_book.specs.Names.{Thing, ReportsOf, shown_thing, thing_cmp}
 use Rattle.aprs_book.specs.Examples.{object_at, killed_at, item_at, two_leaders, leader_listed}

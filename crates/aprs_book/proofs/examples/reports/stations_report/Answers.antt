@@ -1,4 +1,5 @@
-use Rattle.aprs_book.proofs.Common.{refl, report_by_form, utc_at, stamp_at, position_of, place_of, plain_of, angle_of, minutes_of, numeral_of, cut_end}
+use Rattle.aprs_book.proofs.Common.{refl}
+use Rattle.aprs_report.specs.Reader.{report_by_form, utc_at, stamp_at, position_of, place_of, plain_of, angle_of, minutes_of, numeral_of, cut_end}
 use Rattle.aprs_book.proofs.examples.reports.stations_report.Goals as goal
 
 pub returns : goal.returns

@@ -1,4 +1,6 @@
-use Rattle.aprs_book.proofs.Common.{◌≡◌, ℕ, Bool, Option, Some, None, inl, inr, refl, sym, ap, ◌∙◌, subst, arith, option_map_or, Call, call_cmp, Received, report_by_form, utc_at, stamp_at, position_of, place_of, plain_of, angle_of, minutes_of, numeral_of, cut_end, IsBelow, Key, key_of, LastKnown, known_of, Passes, n0call, plain_known, known_once}
+use Rattle.aprs_book.proofs.Common.{◌≡◌, ℕ, Bool, Option, Some, None, inl, inr, refl, sym, ap, ◌∙◌, subst, arith, option_map_or, Call, call_cmp, Received, IsBelow, Key, LastKnown, known_of, Passes, n0call, plain_known, known_once}
+use Rattle.aprs_report.specs.Reader.{report_by_form, utc_at, stamp_at, position_of, place_of, plain_of, angle_of, minutes_of, numeral_of, cut_end}
+use Rattle.aprs_laws.specs.Key.{key_of}
 use Rattle.aprs_book.specs.declared.lists.station.Station.{Station}
 use Rattle.aprs_book.specs.Reports.{reports_position, reports_status}
 use Rattle.aprs_book.specs.Stations.{IsStation}

@@ -1,4 +1,5 @@
-use Rattle.aprs_book.proofs.Common.{IsStrictlySortedBy, keys_of, call_cmp}
+use Rattle.aprs_book.proofs.Common.{keys_of, call_cmp}
+use Rattle.std.specs.List.Sorted.{IsStrictlySortedBy}
 use Rattle.aprs_book.specs.StationRows.{AreTallies}
 use Rattle.aprs_book.proofs.Collected.{SoFar}
 use Rattle.aprs_book.proofs.lists.tally.tallies.Given as goal

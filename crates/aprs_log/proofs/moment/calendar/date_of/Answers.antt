@@ -1,4 +1,5 @@
-use Rattle.aprs_log.proofs.Common.{arith, ap, ◌∙◌, w16, w64, FitsSigned, to_z-of_z, to_z_pos, days_from_civil, signed_arith, civil}
+use Rattle.aprs_log.proofs.Common.{arith, ap, ◌∙◌, w16, w64, FitsSigned, to_z-of_z, to_z_pos, signed_arith, civil}
+use Rattle.jiff_core.specs.Calendar.{days_from_civil}
 use Rattle.aprs_log.proofs.Days.{years_are, abs_is, IsDay-from, days_after}
 use Rattle.aprs_log.proofs.moment.calendar.date_of.Goals as goal
 

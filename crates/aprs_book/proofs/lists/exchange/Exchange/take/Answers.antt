@@ -1,4 +1,5 @@
-use Rattle.aprs_book.proofs.Common.{◌≡◌, ◌∙◌, ◌↔◌, Some, None, sym, ap, subst, option_map, Received, key_of, row_key}
+use Rattle.aprs_book.proofs.Common.{◌≡◌, ◌∙◌, ◌↔◌, Some, None, sym, ap, subst, option_map, Received, row_key}
+use Rattle.aprs_laws.specs.Key.{key_of}
 use Rattle.aprs_book.specs.Messages.{message_in}
 use Rattle.aprs_book.specs.MessageRows.{GivesAnswer, answer_of, begins_with_colon, message_of}
 use Rattle.aprs_book.proofs.Addressed.{no_message_in}

@@ -1,4 +1,5 @@
-use Rattle.aprs_book.proofs.Common.{◌∙◌, ◌+◌, [], ◌∷◌, ◌++◌, ap, refl, Received, key_of, reading_of}
+use Rattle.aprs_book.proofs.Common.{◌∙◌, ◌+◌, [], ◌∷◌, ◌++◌, ap, refl, Received, reading_of}
+use Rattle.aprs_laws.specs.Key.{key_of}
 use Rattle.aprs_book.specs.Known.{report_bytes}
 use Rattle.aprs_book.specs.StationRows.{tally_of}
 use Rattle.aprs_book.proofs.Collected.{adds_last, on_ok}
