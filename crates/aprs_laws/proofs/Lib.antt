@@ -23,6 +23,7 @@ pub mod Worked
 pub mod Inserts
 pub mod Merges
 pub mod Coalescing
+pub mod Together
 pub mod Widening
 pub mod Scaling
 pub mod Narrowing

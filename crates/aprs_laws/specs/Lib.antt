@@ -23,6 +23,7 @@ pub mod Spans
 pub mod SpanLaws
 pub mod StepLaws
 pub mod Coalescing
+pub mod Together
 pub mod Widening
 pub mod BookValue
 pub mod Scaling

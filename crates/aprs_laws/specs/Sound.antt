@@ -13,6 +13,10 @@ pub record IsSoundRow (x : Row) : Type 0 where
   pub single : x.first ≡ last_of x
       → (r : List ℕ) → r ∈ x.receivers → IsUpTo bytes_cmp r x.greatest.receiver
 
+-- Each of the rows is sound by itself.
+abbrev pub AreSoundRows : List Row → Type 0
+AreSoundRows rows = (x : Row) → x ∈ rows → IsSoundRow x
+
 -- Where the keys are equal, y begins more than `gap` milliseconds after x ends.
 abbrev pub IsFar : ℕ → Row → Row → Type 0
 IsFar gap x y = row_key x ≡ row_key y → last_of x + gap < y.first

@@ -26,7 +26,8 @@ pub use examples::rows::{
 pub use examples::runs::runs_are_maximal;
 pub use examples::soundness::{soundness_is_seen_in_rows, witnesses_are_made_up};
 pub use examples::steps::{
-    gaps_decide_what_is_inserted, rows_are_near_up_to_the_gap, rows_in_order_are_one_book,
+    gaps_decide_what_is_inserted, rows_are_near_up_to_the_gap, rows_have_one_book_in_any_order,
+    rows_in_order_are_one_book,
 };
 pub use gap::Gap;
 pub use laws::book_law::{
@@ -38,8 +39,8 @@ pub use laws::key_law::keys_are_of_parts;
 pub use laws::last_known_law::{books_tell_last_known, books_tell_spans};
 pub use laws::order_law::{equals_are_identical, orders_are_total};
 pub use laws::step_law::{
-    last_row_decides, one_more_joins, reception_is_inserted, rows_in_order_coalesce,
-    steps_give_books, two_rows_are_near_at_most,
+    book_comes_row_by_row, last_row_decides, one_more_joins, reception_is_inserted,
+    rows_are_one_book, rows_in_order_coalesce, steps_give_books, two_rows_are_near_at_most,
 };
 pub use laws::unit_law::units_can_change;
 pub use merge_fault::MergeFault;

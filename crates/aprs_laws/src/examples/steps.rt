@@ -2,6 +2,7 @@
 ghost use Rattle.std.specs.Prelude.{◌≡◌, [], ◌∷◌};
 ghost use Rattle.aprs_laws.specs.JoinRow.{single, IsNear, coalesced_rows};
 ghost use Rattle.aprs_laws.specs.Coalescing.{AreInOrder, StandFor, append_or_join};
+ghost use Rattle.aprs_laws.specs.Together.{book_together};
 ghost use Rattle.aprs_laws.specs.Inserted.{insert_heard, FitsInPlace};
 ghost use Rattle.aprs_laws.specs.Examples.{half_minute, hi_frame, rx2, reception_at, by_rx1, early, row_at, row_to, early_row, late_row, tied_row, short_row};
 
@@ -53,4 +54,16 @@ pub fn rows_in_order_are_one_book()
 
     ensures stands { StandFor (early_row ∷ []) (early ∷ []) }
     ensures misses_witness { StandFor (short_row ∷ []) (by_rx1 1 ∷ []) → ⊥ }
+{}
+
+/// Rows in any order are together one book: up to half a minute apart they are one row of it.
+pub fn rows_have_one_book_in_any_order()
+    ensures apart { book_together half_minute (row_at 30001 ∷ row_at 0 ∷ [])
+        ≡ row_at 0 ∷ row_at 30001 ∷ [] }
+    ensures near { book_together half_minute (row_at 30000 ∷ row_at 0 ∷ [])
+        ≡ row_to 0 30000 ∷ [] }
+    ensures between { book_together half_minute (row_at 0 ∷ row_at 60000 ∷ row_at 30000 ∷ [])
+        ≡ row_to 0 60000 ∷ [] }
+    ensures misses_their_order { book_together half_minute (row_at 30001 ∷ row_at 0 ∷ [])
+        ≡ row_at 30001 ∷ row_at 0 ∷ [] → ⊥ }
 {}

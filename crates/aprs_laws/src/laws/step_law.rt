@@ -2,6 +2,7 @@
 ghost use Rattle.std.specs.Prelude.{ℕ, ◌<◌};
 ghost use Rattle.aprs_laws.specs.Coalescing;
 ghost use Rattle.aprs_laws.specs.StepLaws as Spec;
+ghost use Rattle.aprs_laws.specs.Together;
 
 /// A reception or a sound row that joins a book gives the book of the union, and so do the rows of
 /// a second book, one after another. Receptions that join one after another give their book.
@@ -56,4 +57,20 @@ pub fn rows_in_order_coalesce()
     // The pass, row by row: each either joins the last one so far or comes after it.
     ensures one_by_one { (gap : ℕ) → Coalescing.CoalescesOneByOne gap }
     ensures last { (gap : ℕ) → Coalescing.JoinsLast gap }
+{}
+
+/// Rows that are sound each by itself are together one book, whatever their order, which more rows
+/// join.
+pub fn rows_are_one_book()
+    ensures sound { (gap : ℕ) → 0 < gap → Together.BookIsSound gap }
+    ensures order { (gap : ℕ) → 0 < gap → Together.OrderIsFree gap }
+    ensures more { (gap : ℕ) → Together.MoreJoin gap }
+{}
+
+/// The rows of that book come one by one: of rows that are taken in order, the first two are one
+/// where they are near, and otherwise the first is the first row of the book.
+pub fn book_comes_row_by_row()
+    ensures joined { (gap : ℕ) → Together.FirstsJoin gap }
+    ensures sound { (gap : ℕ) → 0 < gap → Together.NearIsSound gap }
+    ensures first { (gap : ℕ) → Together.FirstStands gap }
 {}

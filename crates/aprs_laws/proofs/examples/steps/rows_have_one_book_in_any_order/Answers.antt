@@ -1,0 +1,33 @@
+use Rattle.aprs_laws.proofs.Common.{◌≡◌, ◌∙◌, ℕ, List, [], ◌∷◌, refl, sym, ap, arith}
+use Rattle.aprs_laws.specs.Examples.{half_minute, row_at}
+use Rattle.aprs_laws.specs.Key.{key_of, key_cmp}
+use Rattle.aprs_laws.specs.Row.{Row}
+use Rattle.aprs_laws.specs.Together.{book_together}
+use Rattle.aprs_laws.proofs.examples.steps.rows_have_one_book_in_any_order.Goals as goal
+
+-- the first moment of the first row
+abbrev first_of : List Row → ℕ
+first_of [] = 0
+first_of (x ∷ xs) = x.first
+
+pub returns-clause-apart : goal.returns-clause-apart
+unfolding key_of key_cmp
+returns-clause-apart c = refl
+
+pub returns-clause-near : goal.returns-clause-near
+unfolding key_of key_cmp
+returns-clause-near c = refl
+
+pub returns-clause-between : goal.returns-clause-between
+unfolding key_of key_cmp
+returns-clause-between c = refl
+
+-- what comes of two rows in the other order
+turned : book_together half_minute (row_at 30001 ∷ row_at 0 ∷ []) ≡ row_at 0 ∷ row_at 30001 ∷ []
+unfolding key_of key_cmp
+turned = refl
+
+pub returns-clause-misses_their_order : goal.returns-clause-misses_their_order
+returns-clause-misses_their_order c = λ e.
+    let n : 0 ≡ 30001 = ap (λ (rows : List Row). first_of rows) (sym turned ∙ e) in
+    omega (arith, n)

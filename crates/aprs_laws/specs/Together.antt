@@ -1,0 +1,48 @@
+-- The book that rows are together, and how its rows come one after another.
+use Rattle.std.specs.Prelude.{◌≡◌, false, ℕ, List, [], ◌∷◌, ◌++◌}
+use Rattle.std.specs.Ordering.{is_eq}
+use Rattle.std.specs.declared.cmp.Ordering.TheVariants.{Equal}
+use Rattle.aprs_laws.specs.Lists.{◌∈◌, SameMembers}
+use Rattle.aprs_laws.specs.Order.{IsUpTo}
+use Rattle.aprs_laws.specs.Row.{Row, row_cmp}
+use Rattle.aprs_laws.specs.Sound.{IsSoundRow, AreSoundRows, Sound}
+use Rattle.aprs_laws.specs.JoinRow.{combine, compare_near, merge}
+
+-- The book that rows are together, whatever their order.
+abbrev pub book_together : ℕ → List Row → List Row
+book_together gap rows = merge gap [] rows
+
+-- It is sound.
+abbrev pub BookIsSound : ℕ → Type 0
+BookIsSound gap = (rows : List Row) → AreSoundRows rows → Sound gap (book_together gap rows)
+
+-- In another order, or with repeats, rows have the same book.
+abbrev pub OrderIsFree : ℕ → Type 0
+OrderIsFree gap =
+    (p q : List Row) → AreSoundRows p → SameMembers p q
+    → book_together gap p ≡ book_together gap q
+
+-- More rows join the book of those before them.
+abbrev pub MoreJoin : ℕ → Type 0
+MoreJoin gap =
+    (rows more : List Row)
+    → book_together gap (rows ++ more) ≡ merge gap (book_together gap rows) more
+
+-- The first two of some rows are one where they are near,
+abbrev pub FirstsJoin : ℕ → Type 0
+FirstsJoin gap =
+    (first next : Row) (rest : List Row) → compare_near gap first next ≡ Equal
+    → book_together gap (first ∷ next ∷ rest) ≡ book_together gap (combine first next ∷ rest)
+
+-- which then is sound.
+abbrev pub NearIsSound : ℕ → Type 0
+NearIsSound gap =
+    (x y : Row) → IsSoundRow x → IsSoundRow y → compare_near gap x y ≡ Equal → IsSoundRow (combine x y)
+
+-- Where they are not, and the second comes after the first and no other before the second, the
+-- first is the first row of the book, whose others are the book of the rows after it.
+abbrev pub FirstStands : ℕ → Type 0
+FirstStands gap =
+    (first next : Row) (rest : List Row) → IsSoundRow next → IsUpTo row_cmp first next
+    → ((y : Row) → y ∈ rest → IsUpTo row_cmp next y) → is_eq (compare_near gap first next) ≡ false
+    → book_together gap (first ∷ next ∷ rest) ≡ first ∷ book_together gap (next ∷ rest)
