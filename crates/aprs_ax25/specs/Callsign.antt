@@ -15,8 +15,7 @@ pub record Call : Type 0 where
 
 -- The byte is a capital or a digit.
 abbrev pub is_callsign_byte : ℕ → Bool
-is_callsign_byte byte =
-    (nat_le 65 byte && nat_le byte 90) || (nat_le 48 byte && nat_le byte 57)
+is_callsign_byte byte = (nat_le 65 byte && nat_le byte 90) || (nat_le 48 byte && nat_le byte 57)
 
 -- It is a callsign that can be: 1 to 6 capitals or digits, and an SSID of 0 to 15.
 pub record IsCall (call : Call) : Type 0 where
