@@ -1,7 +1,7 @@
 -- Lemmas on a check over the lines that a reader gives.
 use Rattle.aprs_convert.proofs.Common.{◌≡◌, ℕ, ◌+◌, List, [], ◌∷◌, ◌++◌, length, Option, None, Some, Ok, Err, refl, ap, sym, ◌∙◌, arith, append_assoc, append-nil, subst, Appends, Appends-nil, Appends-trans, AppendsPrefix, AppendsPrefix-more, AppendsPrefix-then, Answers, end_with, prepend_line, LogFault, Reason, Line}
 use Rattle.std.proofs.lemmas.List.{length-append}
-use Rattle.aprs_log.specs.declared.line.Line.TheVariants.{Received, Passed}
+use Rattle.aprs_log.specs.declared.line.Line.TheVariants.{Heard, Passed}
 use Rattle.aprs_log.specs.Reception.{Received as Reception}
 use Rattle.aprs_convert.specs.Plan.{RunsOver, check_lines, check_of, check_plan, count_heard, count_passed, totals}
 use Rattle.aprs_convert.specs.Check.{passed_line, totals_line}
@@ -20,8 +20,8 @@ sums heard passed = totals_line heard passed ++ 10 ∷ []
 check_lines-append : (n : ℕ) (xs ys : List Line)
     → check_lines n (xs ++ ys) ≡ check_lines n xs ++ check_lines (n + length xs) ys
 check_lines-append n [] ys = let e : n ≡ n + 0 = omega arith in ap (λ k. check_lines k ys) e
-check_lines-append n (Received x ∷ xs) ys =
-    let e : n + 1 + length xs ≡ n + length (Received x ∷ xs) = omega arith in
+check_lines-append n (Heard x ∷ xs) ys =
+    let e : n + 1 + length xs ≡ n + length (Heard x ∷ xs) = omega arith in
     check_lines-append (n + 1) xs ys ∙ ap (λ k. check_lines (n + 1) xs ++ check_lines k ys) e
 check_lines-append n (Passed reason ∷ xs) ys =
     let e : n + 1 + length xs ≡ n + length (Passed reason ∷ xs) = omega arith in
@@ -33,18 +33,18 @@ check_lines-append n (Passed reason ∷ xs) ys =
 count_heard-more : (xs : List Line) (x : Line)
     → count_heard (xs ++ x ∷ []) ≡ count_heard xs + count_heard (x ∷ [])
 count_heard-more [] x = omega arith
-count_heard-more (Received y ∷ xs) x = let e = count_heard-more xs x in omega arith
+count_heard-more (Heard y ∷ xs) x = let e = count_heard-more xs x in omega arith
 count_heard-more (Passed y ∷ xs) x = count_heard-more xs x
 
 count_passed-more : (xs : List Line) (x : Line)
     → count_passed (xs ++ x ∷ []) ≡ count_passed xs + count_passed (x ∷ [])
 count_passed-more [] x = omega arith
-count_passed-more (Received y ∷ xs) x = count_passed-more xs x
+count_passed-more (Heard y ∷ xs) x = count_passed-more xs x
 count_passed-more (Passed y ∷ xs) x = let e = count_passed-more xs x in omega arith
 
 counts : (xs : List Line) → count_heard xs + count_passed xs ≡ length xs
 counts [] = omega arith
-counts (Received x ∷ xs) = let e = counts xs in omega arith
+counts (Heard x ∷ xs) = let e = counts xs in omega arith
 counts (Passed x ∷ xs) = let e = counts xs in omega arith
 
 -- what a check of these lines has written and counted
@@ -88,21 +88,21 @@ Checked-sum first now old new heard passed lines h =
 module _ (first now after : Answers → Type 0) (a b : Option (List ℕ)) (heard passed lines : ℕ)
     (h : Checked first now a b heard passed lines) (count : ℕ) (next_line : count ≡ lines + 1) where
   -- a line is heard
-  pub Checked-heard : (line : Line) (x : Reception) → line ≡ Received x
+  pub Checked-heard : (line : Line) (x : Reception) → line ≡ Heard x
       → ((answers : Answers) → after answers → now (prepend_line line answers))
       → Checked first after a b (heard + 1) passed count
   Checked-heard line x is given =
-      let next = given_as after now line (Received x) is given in
+      let next = given_as after now line (Heard x) is given in
       let k = h.heard_is in
       let p = h.passed_is in
       let n = h.lines_are in
-      let kmore = count_heard-more h.seen (Received x) in
-      let pmore = count_passed-more h.seen (Received x) in
-      let len = length-append h.seen (Received x ∷ []) in
+      let kmore = count_heard-more h.seen (Heard x) in
+      let pmore = count_passed-more h.seen (Heard x) in
+      let len = length-append h.seen (Heard x ∷ []) in
       record {
-        seen = h.seen ++ Received x ∷ [];
-        has = HasSeen-line first now after h.seen (Received x) h.has next;
-        out = subst (Appends a b) (sym (check_lines-append 1 h.seen (Received x ∷ [])
+        seen = h.seen ++ Heard x ∷ [];
+        has = HasSeen-line first now after h.seen (Heard x) h.has next;
+        out = subst (Appends a b) (sym (check_lines-append 1 h.seen (Heard x ∷ [])
             ∙ append-nil (check_lines 1 h.seen))) h.out;
         heard_is = omega arith;
         passed_is = omega arith;
