@@ -195,11 +195,12 @@ async function work() {
   try {
     const texts = await textsOf(good, +byId("gap").value, share => tellProgress(share, words));
     if (mine !== turn) return; // other files came
-    made = texts;
     tellProgress(0.9, "drawing");
     await new Promise(done => setTimeout(done));
     const { history, listing, read, told } = texts;
-    show({ ...optionsOf(), history, listing }, read, told);
+    await show({ ...optionsOf(), history, listing }, read, told);
+    if (mine !== turn) return;
+    made = texts;
     byId("book").disabled = byId("event").disabled = false;
     tellProgress(1);
     say(`${count(page.all.rows.length, "transmission")} of ${count(good.length, "file")}, ` +

@@ -79,7 +79,8 @@ class NetMap {
   }
   show(things) {
     this.things = things.filter(it => it.lastPlace >= 0);
-    later("map", () => this.paintSoon());
+    // they may be painted before that
+    later("map", once(() => this.shown.things === this.things || this.paintSoon()));
   }
   fit() {
     this.fitted = true;
