@@ -233,8 +233,9 @@ def test_widths(page, folder):
     url = event_page(folder / "evening.html", "--title", "Fell race, 21 June 2024", *EVENING)
     (folder / "hostile.log").write_text("".join(hostile.log()))
     long = event_page(folder / "hostile.html", "--title", "x" * 300, str(folder / "hostile.log"))
-    for scheme in "light", "dark":
-        for width in 360, 390, 640, 800, 1280, 1920:
+    for scheme, widths in (("light", (320, 360, 640, 650, 800, 1200, 1280, 1920)),
+                           ("dark", (360, 700, 1280, 1920))):
+        for width in widths:
             for at in long, url:
                 page.open(at, width, 844, scheme)
                 is_(page.js("document.documentElement.scrollWidth <= innerWidth"), True)
