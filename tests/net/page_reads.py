@@ -8,7 +8,9 @@ usage: page_reads.py PAGE.html EXAMPLES [RUNS [PICTURES]]
 """
 import base64
 import collections
+import datetime
 import gzip
+import hashlib
 import json
 import pathlib
 import random
@@ -301,32 +303,62 @@ def test_follow(page, folder):
     is_([it for it in page.requests() if not it.startswith(("blob:", "http://127.0.0.1:"))], [])
 
 
+# from now on, when files were given, when they were shown, and for how long the page stood still
+WATCH = """(() => {
+    let last = performance.now();
+    window.still = window.came = 0;
+    setInterval(() => {
+        const now = performance.now();
+        window.still = Math.max(window.still, now - last);
+        last = now; }, 20);
+    new MutationObserver(() => {
+        if (/ in [0-9.]+ s$/.test(document.getElementById('status').textContent))
+            requestAnimationFrame(() => setTimeout(() => {
+                window.came ||= performance.now() }));
+    }).observe(document.getElementById('status'), { childList: true });
+    document.getElementById('choose').addEventListener('change', () => {
+        window.went = performance.now(); }, true);
+    return 1; })()"""
+DIGEST = """Promise.all([aprsfiles.made().book, new TextEncoder().encode(aprsbook.page.data.history)]
+    .map(it => crypto.subtle.digest('SHA-256', it)))
+    .then(them => them.map(it => [...new Uint8Array(it)]))"""
+
+
+def shown(page, what, logs):
+    """Gives logs to the page, and prints how long it takes until they are shown."""
+    fresh(page)
+    page.js(WATCH)
+    page.js(HEAR_RUNS)
+    page.give("#choose", *logs)
+    page.wait("window.came > 0", 120)
+    spent, still, said = page.js(f"[came - went, still, {STATUS}]")
+    print(f"{page.name}: {what} shown after {spent / 1000:.1f} s ({said}); "
+          f"stood still for at most {still:.0f} ms")
+    own = [program([command], logs).stdout for command in ("merge", "history")]
+    is_(page.js(DIGEST), [list(hashlib.sha256(it).digest()) for it in own])
+
+
 def test_large(page, folder):
     """200,000 lines of three receivers: how long until they are shown, and the page goes on."""
     make_log = EXAMPLES.parent / "bench/make_log.py"
     subprocess.run([sys.executable, make_log, "200000", folder], check=True)
-    logs = sorted(folder.glob("*.log"))
-    fresh(page)
-    page.js("""(() => { let last = performance.now(); window.still = 0;
-        setInterval(() => {
-            const now = performance.now();
-            window.still = Math.max(window.still, now - last);
-            last = now; }, 20);
-        new MutationObserver(() => {
-            if (/ in [0-9.]+ s$/.test(document.getElementById('status').textContent))
-                requestAnimationFrame(() => setTimeout(() => {
-                    window.came ||= performance.now() }));
-        }).observe(document.getElementById('status'), { childList: true });
-        document.getElementById('choose').addEventListener('change', () => {
-            window.went = performance.now(); }, true);
-        return 1; })()""")
-    page.give("#choose", *logs)
-    page.wait("window.came > 0", 120)
-    spent, still, said = page.js(f"[came - went, window.still, {STATUS}]")
-    print(f"{page.name}: 200,000 lines shown after {spent / 1000:.1f} s ({said}); "
-          f"stood still for at most {still:.0f} ms")
-    own = program(["merge"], logs).stdout
-    is_(page.js("aprsfiles.made().book.length"), len(own))
+    shown(page, "200,000 lines", sorted(folder.glob("*.log")))
+
+
+def test_larger(page, folder):
+    """More than 64 MB: the evening on each of 320 days, its lines ten times. The history is the
+    book's then, and isn't made of all the files."""
+    logs = [folder / it.name for it in EVENING]
+    for own, path in zip(EVENING, logs):
+        text = own.read_bytes()
+        days = (datetime.date(2024, 1, 1) + datetime.timedelta(day) for day in range(320))
+        path.write_bytes(b"".join(10 * text.replace(b"2024-06-21", str(day).encode())
+                                  for day in days))
+    assert sum(it.stat().st_size for it in logs) > 2 ** 26
+    shown(page, "more than 64 MB", logs)
+    asked = page.js("[...window.asked]")
+    is_((asked[0], sorted(asked)), ("merge", ["check"] * 3 + ["history", "merge", "show"]))
+    assert asked.index("history") > 3, asked
 
 
 def picture(page, name):
@@ -335,7 +367,7 @@ def picture(page, name):
 
 
 TESTS = (test_same, test_saves, test_faults, test_narrow, test_hostile, test_random, test_follow,
-         test_large)
+         test_large, test_larger)
 there = [it for it, names in ((browser.Browser, ["chromium"]),
                               (firefox.Firefox, ["firefox-esr", "firefox"]))
          if any(map(shutil.which, names))]
