@@ -14,6 +14,7 @@ import tempfile
 
 import firefox
 import hostile
+import scale
 from serving import Server
 
 EXAMPLES = pathlib.Path(sys.argv[1])
@@ -146,10 +147,12 @@ def test_served(page, folder):
         page.wait("!stale.textContent.includes('away')")
 
 
+TESTS = (test_evening, test_hostile, test_keys, test_roster, test_paper, test_served,
+         scale.judged_stations)
 page = firefox.Firefox()
 try:
     with tempfile.TemporaryDirectory() as name:
-        for test in test_evening, test_hostile, test_keys, test_roster, test_paper, test_served:
+        for test in TESTS:
             test(page, pathlib.Path(name))
 finally:
     page.close()

@@ -23,6 +23,7 @@ import time
 import browser
 import firefox
 import hostile
+import scale
 from serving import Server
 
 PAGE, EXAMPLES = map(pathlib.Path, sys.argv[1:3])
@@ -324,16 +325,17 @@ DIGEST = """Promise.all([aprsfiles.made().book, new TextEncoder().encode(aprsboo
     .then(them => them.map(it => [...new Uint8Array(it)]))"""
 
 
-def shown(page, what, logs):
+def dropped(page, what, logs, wanted):
     """Gives logs to the page, and prints how long it takes until they are shown."""
-    fresh(page)
-    page.js(WATCH)
-    page.js(HEAR_RUNS)
-    page.give("#choose", *logs)
-    page.wait("window.came > 0", 120)
-    spent, still, said = page.js(f"[came - went, still, {STATUS}]")
-    print(f"{page.name}: {what} shown after {spent / 1000:.1f} s ({said}); "
-          f"stood still for at most {still:.0f} ms")
+    def measure():
+        fresh(page)
+        page.js(WATCH)
+        page.js(HEAR_RUNS)
+        page.give("#choose", *logs)
+        page.wait("window.came > 0", 120)
+        return page.js("({ shown: came - went, still })")
+
+    scale.judged(measure, wanted, f"{what} dropped in {page.name}")
     own = [program([command], logs).stdout for command in ("merge", "history")]
     is_(page.js(DIGEST), [list(hashlib.sha256(it).digest()) for it in own])
 
@@ -342,7 +344,7 @@ def test_large(page, folder):
     """200,000 lines of three receivers: how long until they are shown, and the page goes on."""
     make_log = EXAMPLES.parent / "bench/make_log.py"
     subprocess.run([sys.executable, make_log, "200000", folder], check=True)
-    shown(page, "200,000 lines", sorted(folder.glob("*.log")))
+    dropped(page, "200,000 lines", sorted(folder.glob("*.log")), {"shown": 3000, "still": 150})
 
 
 def test_larger(page, folder):
@@ -355,7 +357,7 @@ def test_larger(page, folder):
         path.write_bytes(b"".join(10 * text.replace(b"2024-06-21", str(day).encode())
                                   for day in days))
     assert sum(it.stat().st_size for it in logs) > 2 ** 26
-    shown(page, "more than 64 MB", logs)
+    dropped(page, "more than 64 MB", logs, {})
     asked = page.js("[...window.asked]")
     is_((asked[0], sorted(asked)), ("merge", ["check"] * 3 + ["history", "merge", "show"]))
     assert asked.index("history") > 3, asked
