@@ -418,6 +418,24 @@ def test_scale(page, folder):
     picture(page, "many")
 
 
+def test_slices(page, folder):
+    """A large net is drawn in slices: until then the one before stays, and a later one comes in
+    its place."""
+    lines = [place(n % 1400, f"Q{n % 300}", 54 + n % 50 / 25, -4 + n % 61 / 20, f"no. {n}")
+             for n in range(40000)]
+    page.open(page_of(folder / "small.html", place(1, "Q1OLD", 54.5, -3.5)))
+    page.js("(window.names = () => aprsbook.page.net.things.map(it => it.name), "
+            "window.small = aprsbook.page.data, "
+            f"window.large = {{ ...small, history: {json.dumps(''.join(lines))} }}, 1)")
+    for then, wanted in ("1", 300), ("aprsbook.refresh()", 300), ("aprsbook.show(small)", 1):
+        page.js("aprsbook.show(small)")
+        is_(page.js("(async () => { const drawn = aprsbook.show(large), before = names(); "
+                    f"{then}; await drawn; return [before, names().length] }})()"),
+            [["Q1OLD"], wanted])
+        page.wait(f"document.querySelectorAll('#things tbody tr').length === {min(26, wanted)}")
+    is_(page.problems(), [])
+
+
 def test_live(page, folder):
     path = folder / "live.html"
     event_page(path, "--live", "1", EVENING[0])
@@ -463,8 +481,8 @@ def picture(page, name, whole=False):
 
 
 TESTS = (test_hostile, test_contained, test_controls, test_names, test_widths, test_times,
-         test_messages, test_world, test_brought, test_clocks, test_saves, test_scale, test_live,
-         test_served)
+         test_messages, test_world, test_brought, test_clocks, test_saves, test_scale, test_slices,
+         test_live, test_served)
 page = browser.Browser()
 try:
     with tempfile.TemporaryDirectory() as name:
