@@ -376,6 +376,7 @@ function begin() {
 function beginClock() {
   const { net } = page, at = chosen.get("clock"), clock = byId("clock");
   const share = (at - net.begin) / Math.max(1, net.end - net.begin);
-  if (at && net.rows.length) clock.value = share * clock.max;
+  if (!at || !net.rows.length) return;
+  clock.value = share * clock.max;
   turnClock();
 }

@@ -36,7 +36,7 @@ async function inSlices(steps, goOn) {
 
 const waiting = [];
 let timer = 0;
-/** Takes steps once the page has been painted, after those that wait already; `key` is their name. */
+/** Takes steps once the page has been painted, after those that wait; `key` is their name. */
 function later(key, steps) {
   const before = waiting.findIndex(it => it.key === key);
   if (before >= 0) waiting.splice(before, 1);

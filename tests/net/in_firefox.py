@@ -1,6 +1,6 @@
 #!/usr/bin/env python3
-"""Tries event-page in headless Firefox: nothing runs, nothing is asked for, the map, tables and times
-are there, keys reach each control, and paper has what the page has.
+"""Tries event-page in headless Firefox: nothing runs, nothing is asked for, the map, tables and
+times are there, keys reach each control, and paper has what the page has.
 
 usage: in_firefox.py EXAMPLES [PICTURES]    aprsbook, aprsbook-history and the recipes in the PATH;
                                             needs Python 3 and firefox
@@ -156,5 +156,5 @@ try:
             test(page, pathlib.Path(name))
 finally:
     page.close()
-print("event-page in Firefox: the evening, a thing that is picked, nothing ran, no request; keys, a "
-      "roster, paper, a server that goes away")
+print("event-page in Firefox: the evening, a thing that is picked, nothing ran, no request; keys, "
+      "a roster, paper, a server that goes away")

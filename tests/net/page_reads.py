@@ -320,7 +320,8 @@ WATCH = """(() => {
     document.getElementById('choose').addEventListener('change', () => {
         window.went = performance.now(); }, true);
     return 1; })()"""
-DIGEST = """Promise.all([aprsfiles.made().book, new TextEncoder().encode(aprsbook.page.data.history)]
+DIGEST = """Promise.all(
+    [aprsfiles.made().book, new TextEncoder().encode(aprsbook.page.data.history)]
     .map(it => crypto.subtle.digest('SHA-256', it)))
     .then(them => them.map(it => [...new Uint8Array(it)]))"""
 

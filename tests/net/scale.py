@@ -4,8 +4,8 @@ import time
 
 from by_hand import page_of, place
 
-# of the page as it opens, and as it is shown again; of a letter in "find", the middle one of six and
-# the slowest; and of a frame of a drag, the middle one of sixty and the longest
+# of the page as it opens, and as it is shown again; of a letter in "find", the middle one of six
+# and the slowest; and of a frame of a drag, the middle one of sixty and the longest
 WANTED = {"first": 1000, "shown": 1000, "letter": 50, "slowest": 250, "step": 20, "longest": 100}
 TIMES = """(async () => {
     const frame = () => new Promise(requestAnimationFrame);
