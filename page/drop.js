@@ -8,9 +8,12 @@ let made = null, turn = 0, last = 0, began = 0;
 // ---- workers, each with the module: a run is given to one that is free
 
 const workers = [], waiting = new Map(), queue = [];
+/** So many bytes are copied without a pause. */
+const PIECE = 2 ** 23;
+const aMoment = () => new Promise(done => setTimeout(done));
 function addWorker() {
   const url = URL.createObjectURL(new Blob([parts.worker], { type: "text/javascript" }));
-  const worker = { it: new Worker(url), busy: 0 };
+  const worker = { it: new Worker(url), busy: 1 };
   worker.it.onmessage = ({ data: [id, value, fault] }) => {
     const [done, fail] = waiting.get(id);
     waiting.delete(id);
@@ -23,19 +26,36 @@ function addWorker() {
   workers.push(worker);
   return worker;
 }
+/** Asks a worker, which is busy already. */
 function ask(worker, what, given, buffers = []) {
-  worker.busy++;
   return new Promise((done, fail) => {
     waiting.set(++last, [done, fail]);
     worker.it.postMessage([last, what, given], buffers);
   });
 }
+/** Copies, with a pause after some of them, so that the page doesn't stand still for large ones. */
+async function copiesOf(inputs) {
+  const copies = inputs.map(it => new Uint8Array(it.length));
+  let left = PIECE;
+  for (const [k, it] of inputs.entries())
+    for (let at = 0; at < it.length; at += PIECE) {
+      if (left <= 0) {
+        await aMoment();
+        left = PIECE;
+      }
+      const part = it.subarray(at, at + PIECE);
+      copies[k].set(part, at);
+      left -= part.length;
+    }
+  return copies;
+}
 /** A run of the module over inputs; with `read`, of a history, as a text and its columns. */
 async function run(command, options, inputs, read = false) {
   let free;
   while (!(free = workers.find(it => !it.busy))) await new Promise(done => queue.push(done));
+  free.busy++;
   // a copy that is handed over takes less time than what a browser copies itself
-  const copies = inputs.map(it => it.slice()), buffers = copies.map(it => it.buffer);
+  const copies = await copiesOf(inputs), buffers = copies.map(it => it.buffer);
   return ask(free, "run", { command, options, inputs: copies, read }, buffers);
 }
 
@@ -196,7 +216,7 @@ async function work() {
     const texts = await textsOf(good, +byId("gap").value, share => tellProgress(share, words));
     if (mine !== turn) return; // other files came
     tellProgress(0.9, "drawing");
-    await new Promise(done => setTimeout(done));
+    await aMoment();
     const { history, listing, read, told } = texts;
     await show({ ...optionsOf(), history, listing }, read, told);
     if (mine !== turn) return;
