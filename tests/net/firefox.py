@@ -108,7 +108,7 @@ class Firefox:
         self.call("WebDriver:ElementSendKeys", id=next(iter(it.values())),
                   text="\n".join(map(str, paths)))
 
-    def key(self, key):
+    def key(self, key, _=0):
         actions = [{"type": kind, "value": KEYS.get(key, key)} for kind in ("keyDown", "keyUp")]
         self.call("WebDriver:PerformActions",
                   actions=[{"type": "key", "id": "keys", "actions": actions}])

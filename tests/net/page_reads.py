@@ -164,13 +164,25 @@ def test_faults(page, folder):
     notes = page.js("aprsbook.page.data.notes")
     is_(sorted(it.split(" ")[0] for it in notes),
         ["bad.log", "crlf.log", "cut.book", "heard.kiss", "torn.log", "wide.book"])
-    # a stream gets a receiver and a moment
-    page.js("""(() => { const [name, moment] = document.querySelectorAll('#files input');
-        name.value = 'TAPE'; name.dispatchEvent(new Event('change')); })()""")
-    page.js("""(() => { const it = document.querySelectorAll('#files input')[1];
-        it.value = '2024-06-21T18:00:00Z'; it.dispatchEvent(new Event('change')); })()""")
+    # a stream gets a receiver and a moment; the focus stays, though the page reads meanwhile
+    page.js("(document.querySelector('#files input').select(), 1)")
+    for key in "TAPE":
+        page.key(key)
+    page.key("Tab", 9)
+    time.sleep(0.3)
+    page.wait("document.activeElement.placeholder !== undefined && aprsfiles.made() !== null")
+    for key in "2024-06-21T18:00:00Z":
+        page.key(key)
+    page.key("Tab", 9)
     page.wait("aprsbook.page.net?.receivers.some(it => it.name === 'TAPE')")
+    is_(page.js("document.activeElement.textContent"), "take away")
     picture(page, "faults")
+    # so does it where files are taken away
+    page.js("(document.querySelector('#files button').focus(), 1)")
+    for k in range(9):
+        page.key(" ", 32)
+        page.wait(f"aprsfiles.files.length === {8 - k}")
+    is_(page.js("document.activeElement.id"), "choose")
     quiet(page)
 
 
