@@ -5,7 +5,6 @@ usage: in_browser.py EXAMPLES [PICTURES]    aprsbook, aprsbook-history and the r
                                             needs Python 3 and chromium; PICTURES is a folder for
                                             pictures of the page
 """
-import base64
 import csv
 import io
 import json
@@ -293,7 +292,7 @@ def test_messages(page, folder):
     is_(page.js("document.querySelector('main').checkVisibility()"), False)
     is_(page.js("document.querySelectorAll('#ics-rows tr').length"), 5)
     picture(page, "ics-309")
-    pdf = base64.b64decode(page.call("Page.printToPDF")["data"])
+    pdf = page.pdf()
     assert pdf.startswith(b"%PDF")
     if PICTURES:
         (pathlib.Path(PICTURES) / "ics-309.pdf").write_bytes(pdf)

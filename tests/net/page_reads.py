@@ -134,6 +134,27 @@ def test_saves(page, folder):
             raise AssertionError(f"{name} is another")
 
 
+def test_minute(page, folder):
+    """From the page and three logs to book, map and a printed ICS-309 within a minute."""
+    began, path = time.monotonic(), page.saves_in(folder) / "net.book"
+    fresh(page)
+    page.give("#choose", *EVENING)
+    page.wait(MADE)
+    for name in "book", "ics-open":
+        page.js(f"(document.getElementById({name!r}).click(), 1)")
+    (folder / "ics.pdf").write_bytes(page.pdf())
+    while not path.exists() or path.read_bytes() != program(["merge"], EVENING).stdout:
+        assert time.monotonic() - began < 60
+        time.sleep(0.05)
+    is_(page.js("aprsbook.page.map.marks.length"), page.js("aprsbook.page.net.placed.length"))
+    if shutil.which("pdftotext"):
+        said = subprocess.run(["pdftotext", "-layout", folder / "ics.pdf", "-"],
+                              stdout=subprocess.PIPE, check=True).stdout.decode()
+        for it in "ICS 309", "1. incident", "Going up from CP2 (acknowledged)", "6. prepared by":
+            assert it in said, said
+    print(f"{page.name}: book, map and a printed form after {time.monotonic() - began:.1f} s")
+
+
 def test_faults(page, folder):
     log = EVENING[0].read_bytes()
     book = program(["merge"], EVENING).stdout
@@ -386,8 +407,8 @@ def picture(page, name):
         page.picture(f"{PICTURES}/{page.name}-{name}.png")
 
 
-TESTS = (test_same, test_saves, test_faults, test_narrow, test_hostile, test_random, test_follow,
-         test_large, test_larger)
+TESTS = (test_same, test_saves, test_minute, test_faults, test_narrow, test_hostile, test_random,
+         test_follow, test_large, test_larger)
 there = [it for it, names in ((browser.Browser, ["chromium"]),
                               (firefox.Firefox, ["firefox-esr", "firefox"]))
          if any(map(shutil.which, names))]
