@@ -32,7 +32,7 @@ async function again() {
     alive.away = 0;
     if (text !== byId("data").textContent) {
       byId("data").textContent = text;
-      show(JSON.parse(text));
+      await show(JSON.parse(text));
     }
   } catch {
     alive.away ||= Date.now();

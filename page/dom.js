@@ -43,22 +43,6 @@ function oncePerFrame(run) {
   };
 }
 
-const waiting = [];
-/** Calls `run` once the page has been painted, after what waits already; `key` is its name. */
-function later(key, run) {
-  const before = waiting.findIndex(it => it.key === key);
-  if (before >= 0) waiting.splice(before, 1);
-  if (waiting.push({ key, run }) === 1) setTimeout(runWaiting, 30);
-}
-function runWaiting() {
-  waiting.shift()?.run();
-  if (waiting.length) setTimeout(runWaiting);
-}
-/** Calls at once all that waits, for paper. */
-function runAllWaiting() {
-  while (waiting.length) waiting.shift().run();
-}
-
 /** What the reader chose stands in the address after #, where it outlives loading again. */
 const chosen = new URLSearchParams(location.hash.slice(1));
 function choose(key, value) {

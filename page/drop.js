@@ -8,9 +8,12 @@ let made = null, turn = 0, last = 0, began = 0;
 // ---- workers, each with the module: a run is given to one that is free
 
 const workers = [], waiting = new Map(), queue = [];
+/** So many bytes are copied without a pause. */
+const PIECE = 2 ** 23;
+const aMoment = () => new Promise(done => setTimeout(done));
 function addWorker() {
   const url = URL.createObjectURL(new Blob([parts.worker], { type: "text/javascript" }));
-  const worker = { it: new Worker(url), busy: 0 };
+  const worker = { it: new Worker(url), busy: 1 };
   worker.it.onmessage = ({ data: [id, value, fault] }) => {
     const [done, fail] = waiting.get(id);
     waiting.delete(id);
@@ -23,19 +26,36 @@ function addWorker() {
   workers.push(worker);
   return worker;
 }
+/** Asks a worker, which is busy already. */
 function ask(worker, what, given, buffers = []) {
-  worker.busy++;
   return new Promise((done, fail) => {
     waiting.set(++last, [done, fail]);
     worker.it.postMessage([last, what, given], buffers);
   });
 }
+/** Copies, with a pause after some of them, so that the page doesn't stand still for large ones. */
+async function copiesOf(inputs) {
+  const copies = inputs.map(it => new Uint8Array(it.length));
+  let left = PIECE;
+  for (const [k, it] of inputs.entries())
+    for (let at = 0; at < it.length; at += PIECE) {
+      if (left <= 0) {
+        await aMoment();
+        left = PIECE;
+      }
+      const part = it.subarray(at, at + PIECE);
+      copies[k].set(part, at);
+      left -= part.length;
+    }
+  return copies;
+}
 /** A run of the module over inputs; with `read`, of a history, as a text and its columns. */
 async function run(command, options, inputs, read = false) {
   let free;
   while (!(free = workers.find(it => !it.busy))) await new Promise(done => queue.push(done));
+  free.busy++;
   // a copy that is handed over takes less time than what a browser copies itself
-  const copies = inputs.map(it => it.slice()), buffers = copies.map(it => it.buffer);
+  const copies = await copiesOf(inputs), buffers = copies.map(it => it.buffer);
   return ask(free, "run", { command, options, inputs: copies, read }, buffers);
 }
 
@@ -101,34 +121,62 @@ function tellProgress(share, words) {
   byId("progress").value = Math.round(share * 100);
   if (share < 1) say(`${words}: ${Math.round(share * 100)} %`);
 }
+/** Takes a file away; the focus goes to the next one. */
+function takeAway(file) {
+  const at = files.indexOf(file);
+  files.splice(at, 1);
+  work();
+  const next = files[Math.min(at, files.length - 1)];
+  (next ? next.row.querySelector("td:last-child button") : byId("choose")).focus();
+}
+/** Fields for what a KISS stream doesn't say. */
+function fieldsOf(file) {
+  const field = (key, of) => make("input", { value: file[key], ...of, async onchange(event) {
+    file[key] = event.target.value;
+    await look(file);
+    work();
+  } });
+  return make("p", {},
+    make("label", { textContent: "receiver " }, field("receiver", { size: 9 })),
+    make("label", { textContent: " heard at " },
+      field("moment", { size: 24, placeholder: "2024-06-21T18:00:00Z" })));
+}
 function fileRow(file) {
-  const told = make("td", {}, make("span", { className: file.fault ? "bad" : "good",
-    textContent: file.fault || file.said }));
-  if (file.passed.length) {
-    const most = file.passed.slice(0, 50).map(it => make("li", { textContent: it }));
-    const words = `${count(file.passed.length, "line")} passed over`;
-    told.append(make("details", { aria: { "aria-label": "lines passed over" } },
-      make("summary", { textContent: words }), make("ul", {}, ...most)));
-  }
-  if (file.kind === "KISS stream") {
-    const set = key => async event => { file[key] = event.target.value; await look(file); work(); };
-    told.append(make("p", {}, make("label", { textContent: "receiver " },
-      make("input", { value: file.receiver, size: 9, onchange: set("receiver") })),
-    make("label", { textContent: " heard at " }, make("input", { value: file.moment, size: 24,
-      placeholder: "2024-06-21T18:00:00Z", onchange: set("moment") }))));
-  }
   const away = make("button", { type: "button", textContent: "take away",
-    aria: { "aria-label": `take ${file.name} away` },
-    onclick() { files.splice(files.indexOf(file), 1); work(); } });
-  return make("tr", {}, make("th", { scope: "row", textContent: file.name }),
-    make("td", { textContent: file.kind }),
-    make("td", { className: "num", textContent: file.bytes.length.toLocaleString("en") }), told,
+    aria: { "aria-label": `take ${file.name} away` }, onclick: () => takeAway(file) });
+  return make("tr", {}, make("th", { scope: "row", textContent: file.name }), make("td"),
+    make("td", { className: "num" }),
+    make("td", {}, make("span"), file.kind === "KISS stream" ? fieldsOf(file) : null),
     make("td", {}, away));
+}
+function passedOf(file) {
+  const most = file.passed.slice(0, 50).map(it => make("li", { textContent: it }));
+  const words = `${count(file.passed.length, "line")} passed over`;
+  return make("details", { aria: { "aria-label": "lines passed over" } },
+    make("summary", { textContent: words }), make("ul", {}, ...most));
+}
+/** The row of a file as it is now. It is one node all the time, so that the focus stays in it. */
+function rowOf(file) {
+  const row = file.row ||= fileRow(file), [, kind, size, told] = row.cells;
+  kind.textContent = file.kind;
+  size.textContent = file.bytes.length.toLocaleString("en");
+  told.firstChild.className = file.fault ? "bad" : "good";
+  told.firstChild.textContent = file.fault || file.said;
+  const before = told.querySelector("details");
+  if (before?.passed === file.passed) return row;
+  before?.remove();
+  if (file.passed.length)
+    told.firstChild.after(Object.assign(passedOf(file), { passed: file.passed }));
+  return row;
 }
 function list() {
   byId("files-box").hidden = !files.length;
   byId("files-box").parentNode.classList.toggle("filled", files.length > 0);
-  byId("files").tBodies[0].replaceChildren(...files.map(fileRow));
+  const rows = files.map(rowOf), body = byId("files").tBodies[0];
+  for (const it of [...body.children]) if (!rows.includes(it)) it.remove();
+  rows.forEach((row, k) => {
+    if (row !== body.children[k]) body.insertBefore(row, body.children[k] || null);
+  });
 }
 
 // ---- the book, and what is drawn of it
@@ -195,11 +243,12 @@ async function work() {
   try {
     const texts = await textsOf(good, +byId("gap").value, share => tellProgress(share, words));
     if (mine !== turn) return; // other files came
-    made = texts;
     tellProgress(0.9, "drawing");
-    await new Promise(done => setTimeout(done));
+    await aMoment();
     const { history, listing, read, told } = texts;
-    show({ ...optionsOf(), history, listing }, read, told);
+    await show({ ...optionsOf(), history, listing }, read, told);
+    if (mine !== turn) return;
+    made = texts;
     byId("book").disabled = byId("event").disabled = false;
     tellProgress(1);
     say(`${count(page.all.rows.length, "transmission")} of ${count(good.length, "file")}, ` +

@@ -1,10 +1,14 @@
 // The page: what it has of the net, what the reader chose, and what is drawn of both.
 
 const page = { data: null, all: null, net: null, map: null, lists: {}, bases: [], roster: [],
-  found: [], brought: [], until: Infinity, playing: null, typing: 0, finder: new Map() };
+  found: [], brought: [], until: Infinity, playing: null, typing: 0, finder: new Map(),
+  next: null, turn: null, drawn: null };
+/** Of a history of so many letters at most, some 10,000 rows, all is drawn in one step. */
+const SMALL = 2 ** 20;
 
 /** The moment to which ages count: now where the page goes on, or else the last of the inputs. */
-const presentOf = () => page.data.live || page.follows ? Date.now() / 1000 : page.all.end;
+const presentOf = ({ data, all } = page) =>
+  data.live || page.follows ? Date.now() / 1000 : all.end;
 const view = {
   get now() { return presentOf(); },
   get silent() { return page.data.silent * 60; },
@@ -14,17 +18,23 @@ const view = {
 };
 
 /**
- * Draws the page of these texts and options. What the reader chose stays. `read` are the columns of
- * the history, and `listing` what was read of the listing, where they are made already.
+ * Draws the page of these texts and options, and shows what it did before until all is read. What
+ * the reader chose stays. `read` are the columns of the history, and `listing` what was read of the
+ * listing, where they are made already.
  */
-function show(data, read = columnsOf(data.history), listing = readListing(data.listing)) {
-  const rows = new Rows(data.history, read);
-  listing.messages.forEach(judge);
-  page.data = data;
-  page.all = { rows, listing, end: rows.until };
-  byId("title").textContent = document.title = data.title;
-  readBrought();
-  refresh();
+function show(data, read = null, listing = readListing(data.listing)) {
+  page.next = { data, read, listing, all: null };
+  return refresh();
+}
+/** Draws all anew, for the part of the time that is shown. What is given up ends with the next. */
+function refresh() {
+  return page.drawn = draw(page.turn = {});
+}
+async function draw(turn) {
+  const steps = drawing(page.next);
+  if (page.next.data.history.length <= SMALL) return atOnce(steps);
+  await inSlices(steps, () => page.turn === turn);
+  return page.turn === turn ? undefined : page.drawn;
 }
 /** Reads base maps and the roster, those of the page and those that the reader brought. */
 function readBrought() {
@@ -43,26 +53,41 @@ function readBrought() {
   }
   page.map.bases = page.bases;
 }
-/** Draws all anew, for the part of the time that is shown. */
-function refresh() {
+/** What is read of the next texts. */
+function* allOf({ data, read, listing }) {
+  const rows = new Rows(data.history, read || (yield* columnsOf(data.history)));
+  listing.messages.forEach(judge);
+  return { rows, listing, end: rows.until };
+}
+/** The steps of a drawing. */
+function* drawing(next) {
+  next.all ||= yield* allOf(next);
   const hours = +byId("since").value;
-  const since = hours ? presentOf() - hours * 3600 : -Infinity, net = netOf(page.all, since);
-  clocks.local = byId("local").checked;
-  clocks.dated = net.rows.length > 0 && dateText(net.begin) !== dateText(net.end);
-  net.placed = net.things.filter(it => it.lastPlace >= 0);
-  page.net = net;
-  page.map.take(net.placed);
-  page.finder.clear();
-  byId("net").hidden = !page.all.rows.length;
-  byId("controls").hidden = !page.all.rows.length && !page.follows;
+  const since = hours ? presentOf(next) - hours * 3600 : -Infinity;
+  const net = yield* netOf(next.all, since);
+  turnTo(next, net);
   drawAbout();
-  drawLists();
   drawNews();
   drawOne();
-  if (!byId("ics").hidden) fillForm(net);
-  page.map.picked = page.net.things.some(it => it.key === page.picked) ? page.picked : null;
   turnClock();
   sift();
+  yield;
+  drawLists();
+  if (!byId("ics").hidden) fillForm(net);
+}
+/** From now on the page has these texts, and this net of them. */
+function turnTo({ data, all }, net) {
+  const fresh = page.data !== data;
+  Object.assign(page, { data, all, net });
+  byId("title").textContent = document.title = data.title;
+  clocks.local = byId("local").checked;
+  clocks.dated = net.rows.length > 0 && dateText(net.begin) !== dateText(net.end);
+  if (fresh) readBrought();
+  page.map.take(net.placed);
+  page.map.picked = net.things.some(it => it.key === page.picked) ? page.picked : null;
+  page.finder.clear();
+  byId("net").hidden = !all.rows.length;
+  byId("controls").hidden = !all.rows.length && !page.follows;
 }
 
 function drawAbout() {
@@ -118,14 +143,19 @@ function drawLists() {
   lists.bulletins.show([...net.bulletins].sort((a, b) => b.last - a.last));
   byId("roster").hidden = !page.roster.length;
   lists.roster.show(rosterOf(page.roster, net));
-  later("receivers", () => lists.receivers.show(net.receivers));
-  later("pairs", () => Object.assign(net, hearings(all.rows, net.rows)));
-  later("heard", () => { lists.heard = heardList(net); });
-  later("repeated", () => { lists.repeated = repeatedList(net); });
-  later("find", () => net.things.forEach(hayOf));
-  later("timeline", () => {
-    lists.timeline = timelineList(byId("timeline-box"), all.rows, net);
-  });
+  later("receivers", once(() => lists.receivers.show(net.receivers)));
+  later("pairs", drawPairs(all.rows, net));
+  later("find", madeHays(net));
+  later("timeline", drawTimeline(all.rows, net));
+}
+function* drawPairs(rows, net) {
+  Object.assign(net, yield* hearings(rows, net.rows));
+  page.lists.heard = heardList(net);
+  yield;
+  page.lists.repeated = repeatedList(net);
+}
+function* drawTimeline(rows, net) {
+  page.lists.timeline = yield* timelineList(byId("timeline-box"), rows, net);
 }
 const heardList = net => pairList(byId("heard-box"), "heard",
   "how many transmissions each receiver heard", net.heard, net.sent, (source, name, n, of) =>
@@ -139,6 +169,9 @@ function hayOf(it) {
   let text = page.finder.get(it);
   if (text === undefined) page.finder.set(it, text = haystack(it));
   return text;
+}
+function* madeHays(net) {
+  for (const it of net.things) yield hayOf(it);
 }
 /** Filters the things by what is asked for; that holds for the map too. */
 function sift() {
@@ -343,6 +376,7 @@ function begin() {
 function beginClock() {
   const { net } = page, at = chosen.get("clock"), clock = byId("clock");
   const share = (at - net.begin) / Math.max(1, net.end - net.begin);
-  if (at && net.rows.length) clock.value = share * clock.max;
+  if (!at || !net.rows.length) return;
+  clock.value = share * clock.max;
   turnClock();
 }

@@ -55,7 +55,7 @@ class List {
     this.scrolled = false;
     const long = items.length > 10 * PART;
     this.build(long ? FIRST : PART);
-    if (long) later(this.id, () => this.begun());
+    if (long) later(this.id, once(() => this.begun()));
     else this.begun();
   }
   /** Builds so much that a box is full, and takes away the rows of an earlier list. */

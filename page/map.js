@@ -63,6 +63,7 @@ class NetMap {
   measure() {
     const { width, height } = this.node.getBoundingClientRect();
     if (!width || !height) return;
+    const isFirst = !this.measured;
     this.measured = true;
     const ratio = devicePixelRatio || 1;
     this.canvas.width = Math.round(width * ratio);
@@ -70,7 +71,9 @@ class NetMap {
     this.pen.setTransform(ratio, 0, 0, ratio, 0, 0);
     Object.assign(this.view, { width, height });
     if (this.fitted) this.fit();
-    this.paint();
+    // at first there is much else to do before the next picture
+    if (isFirst) this.paintSoon();
+    else this.paint();
   }
   /** All that the map may show; `show` says what of it. */
   take(placed) {
@@ -79,7 +82,8 @@ class NetMap {
   }
   show(things) {
     this.things = things.filter(it => it.lastPlace >= 0);
-    later("map", () => this.paintSoon());
+    // they may be painted before that
+    later("map", once(() => this.shown.things === this.things || this.paintSoon()));
   }
   fit() {
     this.fitted = true;

@@ -77,19 +77,19 @@ const ORDER = { station: 0, object: 1, item: 2 };
 const byKindAndName = (a, b) =>
   ORDER[a.kind] - ORDER[b.kind] || (a.name < b.name ? -1 : a.name > b.name ? 1 : 0);
 /** Stations, then objects, then items, each kind by name, with their places in order. */
-function thingsOf(rows, picks, places) {
+function* thingsOf(rows, picks, places) {
   const things = [], known = rows.things.map(it => places.get(it));
   const thing = n => things[n] ||= new Thing(rows, rows.things[n]);
-  for (const k of picks) {
+  yield* each(picks, k => {
     const station = thing(rows.station[k]);
     station.hear(k);
     if (rows.isStatus(k) && !(rows.last[k] < rows.last[station.lastStatus]))
       station.lastStatus = k;
-    if (!rows.hasPlace(k)) continue;
+    if (!rows.hasPlace(k)) return;
     const it = thing(rows.thing[k]);
     if (it !== station) it.hear(k);
     it.put(k, known[rows.thing[k]]);
-  }
+  });
   return things.filter(Boolean).sort(byKindAndName);
 }
 
@@ -111,25 +111,25 @@ class Pairs {
 }
 
 /** How many rows there are of each station and list of names, such as the receivers. */
-function countLists(rows, picks, column) {
+function* countLists(rows, picks, column) {
   const counts = new Map(), { station } = rows, many = rows.lists.length;
-  for (const k of picks) {
+  yield* each(picks, k => {
     const key = station[k] * many + column[k];
     counts.set(key, (counts.get(key) || 0) + 1);
-  }
+  });
   return [...counts].map(([key, n]) =>
     [nameIn(rows.things[Math.floor(key / many)]), rows.lists[key % many], n]);
 }
 /** Who heard whom, who alone, and who repeated whom; `all` is the sum over the stations. */
-function hearings(rows, picks) {
+function* hearings(rows, picks) {
   const heard = new Pairs(), alone = new Pairs(), repeated = new Pairs(), sent = new Map();
-  for (const [name, list, n] of countLists(rows, picks, rows.heard))
+  for (const [name, list, n] of yield* countLists(rows, picks, rows.heard))
     for (const source of [name, "all"]) {
       sent.set(source, (sent.get(source) || 0) + n);
       for (const receiver of list) heard.add(source, receiver, n);
       if (list.length === 1) alone.add(source, list[0], n);
     }
-  for (const [name, list, n] of countLists(rows, picks, rows.via))
+  for (const [name, list, n] of yield* countLists(rows, picks, rows.via))
     for (const hop of list)
       if (hop.endsWith("*"))
         for (const source of [name, "all"]) repeated.add(source, hop.slice(0, -1), n);
@@ -149,7 +149,7 @@ function medianOf(zeros, list) {
  * have each in one row of its own, with the same text, was one transmission if a clock is wrong.
  * `heard` are the rows of each list of receivers.
  */
-function clocksOf(rows, picks, heard) {
+function* clocksOf(rows, picks, heard) {
   const { same, first } = rows, clocks = new Map(), times = new Uint32Array(rows.length);
   const clock = name => {
     if (!clocks.has(name)) clocks.set(name, { zeros: 0, list: [] });
@@ -157,32 +157,32 @@ function clocksOf(rows, picks, heard) {
   };
   for (const { names, heard: n } of heard)
     if (names.length > 1) for (const name of names) clock(name).zeros += n;
-  for (const k of picks) times[same[k]]++;
+  yield* each(picks, k => times[same[k]]++);
   const before = new Int32Array(rows.length).fill(-1);
-  for (const k of picks) {
-    if (times[same[k]] !== 2) continue;
+  yield* each(picks, k => {
+    if (times[same[k]] !== 2) return;
     const a = before[same[k]];
     before[same[k]] = k;
-    if (a < 0) continue;
+    if (a < 0) return;
     const mine = rows.lists[rows.heard[k]], its = rows.lists[rows.heard[a]];
-    if (its.some(name => mine.includes(name))) continue;
+    if (its.some(name => mine.includes(name))) return;
     for (const name of its) clock(name).list.push(first[a] - first[k]);
     for (const name of mine) clock(name).list.push(first[k] - first[a]);
-  }
+  });
   return new Map([...clocks].map(([name, { zeros, list }]) =>
     [name, { by: medianOf(zeros, list), of: zeros + list.length }]));
 }
 
 /** Each receiver: what it heard, and when. */
-function receiversOf(rows, picks) {
+function* receiversOf(rows, picks) {
   const lists = [], receivers = new Map();
-  for (const k of picks) {
+  yield* each(picks, k => {
     // the rows stand by their first moment, at which one of several receivers heard it at least
     const n = rows.heard[k], list = lists[n] ||= { names: rows.lists[n], heard: 0, last: 0 };
     list.heard++;
     list.last = k;
-  }
-  const heard = lists.filter(Boolean), offsets = clocksOf(rows, picks, heard);
+  });
+  const heard = lists.filter(Boolean), offsets = yield* clocksOf(rows, picks, heard);
   for (const { names, heard: n, last } of heard) {
     const alone = names.length === 1;
     for (const name of names) {
@@ -198,12 +198,15 @@ function receiversOf(rows, picks) {
 }
 
 /** All of the net that was heard since a moment, but who heard whom. */
-function netOf(all, since) {
+function* netOf(all, since) {
   const { rows } = all, picks = rows.since(since), some = picks.length > 0;
   // they stand by their first moment, and the last of all is one of them
   const begin = some ? rows.first[picks[0]] : Infinity, end = some ? rows.until : -Infinity;
   const messages = all.listing.messages.filter(it => it.last >= since);
-  return { rows: picks, begin, end, things: thingsOf(rows, picks, all.listing.places),
+  const things = yield* thingsOf(rows, picks, all.listing.places);
+  const placed = things.filter(it => it.lastPlace >= 0);
+  for (const it of placed) yield it.track; // it is kept
+  return { rows: picks, begin, end, things, placed,
     messages: messages.filter(it => !isBulletin(it)), bulletins: messages.filter(isBulletin),
-    receivers: receiversOf(rows, picks) };
+    receivers: yield* receiversOf(rows, picks) };
 }

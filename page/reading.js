@@ -173,9 +173,12 @@ class HistoryReader {
   }
 }
 /** The columns of a history, which a worker can hand over. */
-function columnsOf(text) {
+function* columnsOf(text) {
   const reader = new HistoryReader(text), { columns } = reader;
-  for (let at = 0, end; (end = text.indexOf("\n", at)) >= 0; at = end + 1) reader.line(at, end);
+  for (let at = 0, end; (end = text.indexOf("\n", at)) >= 0; at = end + 1) {
+    reader.line(at, end);
+    if (reader.n % STEP === 0) yield;
+  }
   columns.order = orderOf(columns.first, reader.n);
   return { columns, things: reader.things, lists: reader.lists.texts, until: reader.until };
 }

@@ -3,14 +3,14 @@
 const PARTS = 144;
 
 /** A strip for all and one for each station, as rows of a list. */
-function timelineList(box, rows, net) {
+function* timelineList(box, rows, net) {
   const width = Math.max(net.end - net.begin, 1) / PARTS, all = new Uint32Array(PARTS);
   const by = [], counts = new Map([["all", all]]);
-  for (const k of net.rows) {
+  yield* each(net.rows, k => {
     const part = Math.min(Math.floor((rows.first[k] - net.begin) / width), PARTS - 1);
     all[part]++;
     (by[rows.station[k]] ||= new Uint32Array(PARTS))[part]++;
-  }
+  });
   by.forEach((parts, n) => counts.set(nameIn(rows.things[n]), parts));
   const row = name => make("tr", {}, make("th", { scope: "row", textContent: name }),
     cell("strip", stripOf(name, counts.get(name))),

@@ -16,10 +16,10 @@ import sys
 
 HERE = pathlib.Path(__file__).resolve().parent
 # what draws, in each page; what reads logs; and what runs the module, beside the page
-DRAWS = ("words dom reading net globe symbols comment grid map hands lists messages tables "
+DRAWS = ("words dom steps reading net globe symbols comment grid map hands lists messages tables "
          "timeline overlays exports event alive begin").split()
 READS = "drop follow".split()
-RUNS = "host reading worker".split()
+RUNS = "host steps reading worker".split()
 FOOTER = "Made by {} from a book of aprsbook."
 
 

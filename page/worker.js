@@ -8,7 +8,7 @@ function answer({ command, options, inputs, read }) {
   const got = run(core, command, options, inputs);
   if (!read || got.status) return [got, [got.bytes.buffer]];
   got.text = new TextDecoder("latin1").decode(got.bytes);
-  got.read = columnsOf(got.text);
+  got.read = atOnce(columnsOf(got.text));
   got.bytes = null;
   return [got, Object.values(got.read.columns).map(it => it.buffer)];
 }

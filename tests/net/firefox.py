@@ -8,6 +8,9 @@ import subprocess
 import tempfile
 import time
 
+# keys that write nothing, as WebDriver names them
+KEYS = {"Tab": "\ue004", "Enter": "\ue007", "End": "\ue010", "Home": "\ue011",
+        "ArrowLeft": "\ue012", "ArrowUp": "\ue013", "ArrowDown": "\ue015"}
 
 class Firefox:
     name = "Firefox"
@@ -104,6 +107,14 @@ class Firefox:
         it = self.call("WebDriver:FindElement", using="css selector", value=selector)["value"]
         self.call("WebDriver:ElementSendKeys", id=next(iter(it.values())),
                   text="\n".join(map(str, paths)))
+
+    def key(self, key, _=0):
+        actions = [{"type": kind, "value": KEYS.get(key, key)} for kind in ("keyDown", "keyUp")]
+        self.call("WebDriver:PerformActions",
+                  actions=[{"type": "key", "id": "keys", "actions": actions}])
+
+    def pdf(self):
+        return base64.b64decode(self.call("WebDriver:Print")["value"])
 
     def saves_in(self, _):
         """The folder where what the page saves goes."""

@@ -5,7 +5,6 @@ usage: in_browser.py EXAMPLES [PICTURES]    aprsbook, aprsbook-history and the r
                                             needs Python 3 and chromium; PICTURES is a folder for
                                             pictures of the page
 """
-import base64
 import csv
 import io
 import json
@@ -18,14 +17,12 @@ import xml.etree.ElementTree
 
 import browser
 import hostile
+import scale
+from by_hand import moment, page_of, place
 from serving import Server
 
-sys.dont_write_bytecode = True
 EXAMPLES = pathlib.Path(sys.argv[1])
 PICTURES = sys.argv[2] if len(sys.argv) > 2 else None
-sys.path.insert(0, str(EXAMPLES.parent / "page"))
-import together  # noqa: E402 (it lies in the folder page)
-
 EVENING = sorted(map(str, EXAMPLES.glob("evening/*.log")))
 CONTROLS = "button slider searchbox combobox checkbox link table img group textbox".split()
 texts = "[...document.querySelectorAll('%s')].map(it => it.textContent)"
@@ -34,17 +31,6 @@ sorted_by_sent = "document.querySelectorAll('#things thead th')[5].getAttribute(
 FIND = "document.getElementById('find')"
 marks = "(aprsbook.page.map.paint(), aprsbook.page.map.marks.length)"
 BADGES = texts % "#news > *"
-# a position of the history, by hand
-PLACE = "position {0} {0} RX1 {1} {2} - {3}/6000 {4}/6000 0 />:{5}\n"
-
-
-def moment(minute):
-    return f"2024-06-{21 + minute // 1440:02}T{minute // 60 % 24:02}:{minute % 60:02}:00.000Z"
-
-
-def place(minute, source, north, east, comment="", via="-"):
-    where = round(north * 6000), round(east * 6000)
-    return PLACE.format(moment(minute), source, via, *where, comment)
 
 
 def event_page(path, *arguments):
@@ -64,14 +50,6 @@ def placed(*inputs):
         elif words[0] in ("object", "item"):
             things.add((words[0], words[6]))
     return len(things)
-
-
-def page_of(path, history, listing="", **options):
-    """The page of texts by hand."""
-    data = {"title": "APRS net", "gap": 30, "live": 0, "silent": 30, "maps": [], "roster": "",
-            "notes": [], "history": history, "listing": listing, **options}
-    path.write_text(together.event(data), encoding="utf-8")
-    return "file://" + str(path)
 
 
 def is_(got, wanted):
@@ -233,8 +211,9 @@ def test_widths(page, folder):
     url = event_page(folder / "evening.html", "--title", "Fell race, 21 June 2024", *EVENING)
     (folder / "hostile.log").write_text("".join(hostile.log()))
     long = event_page(folder / "hostile.html", "--title", "x" * 300, str(folder / "hostile.log"))
-    for scheme in "light", "dark":
-        for width in 360, 390, 640, 800, 1280, 1920:
+    for scheme, widths in (("light", (320, 360, 640, 650, 800, 1200, 1280, 1920)),
+                           ("dark", (360, 700, 1280, 1920))):
+        for width in widths:
             for at in long, url:
                 page.open(at, width, 844, scheme)
                 is_(page.js("document.documentElement.scrollWidth <= innerWidth"), True)
@@ -313,7 +292,7 @@ def test_messages(page, folder):
     is_(page.js("document.querySelector('main').checkVisibility()"), False)
     is_(page.js("document.querySelectorAll('#ics-rows tr').length"), 5)
     picture(page, "ics-309")
-    pdf = base64.b64decode(page.call("Page.printToPDF")["data"])
+    pdf = page.pdf()
     assert pdf.startswith(b"%PDF")
     if PICTURES:
         (pathlib.Path(PICTURES) / "ics-309.pdf").write_bytes(pdf)
@@ -423,46 +402,11 @@ def test_saves(page, folder):
     is_(saved["history (text)"], own.stdout.decode())
 
 
-# how long something takes until the page is painted, and how long the frames of a drag take
-SCALE = """(async () => {
-    const frame = () => new Promise(requestAnimationFrame);
-    const painted = async () => { await frame(); await new Promise(done => setTimeout(done)) };
-    const spent = async run => {
-        const from = performance.now(); run(); await painted(); return performance.now() - from };
-    const find = document.getElementById("find"), letters = [], steps = [];
-    const shown = await spent(() => aprsbook.show(aprsbook.page.data));
-    await new Promise(done => setTimeout(done, 1000)); // until all tables are there again
-    for (const word of ["q", "q1", "q10", "q1", "q", ""]) letters.push(await spent(() => {
-        find.value = word; find.dispatchEvent(new Event("input")) }));
-    const box = map.getBoundingClientRect(), x = box.x + 200, y = box.y + 200;
-    const point = (kind, k) => map.dispatchEvent(new PointerEvent(kind, { bubbles: true,
-        pointerId: 1, clientX: x + 4 * k, clientY: y - 2 * k }));
-    point("pointerdown", 0);
-    await frame();
-    for (let k = 0, last = await frame(); k < 60; k++) {
-        point("pointermove", k);
-        const now = await frame(); steps.push(now - last); last = now }
-    point("pointerup", 60);
-    for (const list of [letters, steps]) list.sort((a, b) => a - b);
-    return { first: performance.getEntriesByName("first-contentful-paint")[0]?.startTime,
-        shown, letter: letters[3], slowest: letters.at(-1), step: steps[30],
-        longest: steps.at(-1) }
-})()"""
-
-
 def test_scale(page, folder):
     """2,000 stations: the time to the first picture, for a letter in find, and for a move."""
-    lines = [place(3 * n % 1400, f"Q{n:04}-{n % 15 + 1}", 54 + n % 50 / 25,
-                   -4 + n % 61 / 20 + k / 100, f"mobile {n}")
-             for n in range(2000) for k in range(3)]
-    began = time.monotonic()
-    page.open(page_of(folder / "many.html", "".join(lines)))
-    page.wait("document.querySelectorAll('#timeline tbody tr').length > 10")
-    times = page.js(SCALE)
+    scale.judged_stations(page, folder)
     assert page.js("document.querySelectorAll('#things tbody tr').length") < 200
     assert page.js("document.documentElement.scrollHeight") < 9000
-    print("2,000 stations, in ms:", {name: it and round(it) for name, it in times.items()},
-          f"opened in {time.monotonic() - began:.1f} s")
     # of a long list the first rows come at once, and those before stay in the places of the rest
     change(page, "find", "", "input")
     page.wait(f"{shown}.length === 26 && {shown}.at(-1) === 'Q0025-11'")
@@ -470,9 +414,25 @@ def test_scale(page, folder):
                    f"return {shown} }})()")
     is_((len(rows), rows[0], rows[-1]), (26, "Q1000-11", "Q0025-11"))
     page.wait(f"{shown}.length === 26 && {shown}.at(-1) === 'Q1025-6'")
-    # a machine that does other things too may take ten times as long
-    assert times["letter"] < 500 and times["shown"] < 5000, times
     picture(page, "many")
+
+
+def test_slices(page, folder):
+    """A large net is drawn in slices: until then the one before stays, and a later one comes in
+    its place."""
+    lines = [place(n % 1400, f"Q{n % 300}", 54 + n % 50 / 25, -4 + n % 61 / 20, f"no. {n}")
+             for n in range(40000)]
+    page.open(page_of(folder / "small.html", place(1, "Q1OLD", 54.5, -3.5)))
+    page.js("(window.names = () => aprsbook.page.net.things.map(it => it.name), "
+            "window.small = aprsbook.page.data, "
+            f"window.large = {{ ...small, history: {json.dumps(''.join(lines))} }}, 1)")
+    for then, wanted in ("1", 300), ("aprsbook.refresh()", 300), ("aprsbook.show(small)", 1):
+        page.js("aprsbook.show(small)")
+        is_(page.js("(async () => { const drawn = aprsbook.show(large), before = names(); "
+                    f"{then}; await drawn; return [before, names().length] }})()"),
+            [["Q1OLD"], wanted])
+        page.wait(f"document.querySelectorAll('#things tbody tr').length === {min(26, wanted)}")
+    is_(page.problems(), [])
 
 
 def test_live(page, folder):
@@ -520,8 +480,8 @@ def picture(page, name, whole=False):
 
 
 TESTS = (test_hostile, test_contained, test_controls, test_names, test_widths, test_times,
-         test_messages, test_world, test_brought, test_clocks, test_saves, test_scale, test_live,
-         test_served)
+         test_messages, test_world, test_brought, test_clocks, test_saves, test_scale, test_slices,
+         test_live, test_served)
 page = browser.Browser()
 try:
     with tempfile.TemporaryDirectory() as name:

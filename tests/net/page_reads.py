@@ -8,7 +8,9 @@ usage: page_reads.py PAGE.html EXAMPLES [RUNS [PICTURES]]
 """
 import base64
 import collections
+import datetime
 import gzip
+import hashlib
 import json
 import pathlib
 import random
@@ -21,6 +23,7 @@ import time
 import browser
 import firefox
 import hostile
+import scale
 from serving import Server
 
 PAGE, EXAMPLES = map(pathlib.Path, sys.argv[1:3])
@@ -64,12 +67,13 @@ def fresh(page, url=None):
     page.wait("!document.getElementById('choose').disabled")
 
 
-# from now on, the page keeps which runs it asks for
+# from now on, the page keeps which runs it asks for, and over how many inputs
 HEAR_RUNS = """(() => {
     const post = Worker.prototype.postMessage;
     window.asked = [];
     Worker.prototype.postMessage = function (...it) {
-        window.asked.push(it[0][2].command);
+        const { command, inputs } = it[0][2];
+        window.asked.push(`${command} ${inputs.length}`);
         post.apply(this, it);
     };
     return 1; })()"""
@@ -92,7 +96,8 @@ def test_same(page, _):
     is_(page.js("aprsbook.page.data.listing"), program(["show"], EVENING).stdout.decode())
     # the history didn't wait for the book, and nothing was done twice
     asked = page.js("[...window.asked]")
-    is_((asked[:2], sorted(asked[2:])), (["history", "merge"], ["check"] * 3 + ["show"]))
+    is_((asked[:2], sorted(asked[2:])),
+        (["history 3", "merge 3"], ["check 1"] * 3 + ["show 1"]))
     own = subprocess.run(["event-page", *EVENING], stdout=subprocess.PIPE, check=True).stdout
     is_(page.js("aprsfiles.eventPage()") == own.decode(), True)
     is_(page.js("(aprsbook.page.map.paint(), aprsbook.page.map.marks.length)"),
@@ -129,6 +134,27 @@ def test_saves(page, folder):
             raise AssertionError(f"{name} is another")
 
 
+def test_minute(page, folder):
+    """From the page and three logs to book, map and a printed ICS-309 within a minute."""
+    began, path = time.monotonic(), page.saves_in(folder) / "net.book"
+    fresh(page)
+    page.give("#choose", *EVENING)
+    page.wait(MADE)
+    for name in "book", "ics-open":
+        page.js(f"(document.getElementById({name!r}).click(), 1)")
+    (folder / "ics.pdf").write_bytes(page.pdf())
+    while not path.exists() or path.read_bytes() != program(["merge"], EVENING).stdout:
+        assert time.monotonic() - began < 60
+        time.sleep(0.05)
+    is_(page.js("aprsbook.page.map.marks.length"), page.js("aprsbook.page.net.placed.length"))
+    if shutil.which("pdftotext"):
+        said = subprocess.run(["pdftotext", "-layout", folder / "ics.pdf", "-"],
+                              stdout=subprocess.PIPE, check=True).stdout.decode()
+        for it in "ICS 309", "1. incident", "Going up from CP2 (acknowledged)", "6. prepared by":
+            assert it in said, said
+    print(f"{page.name}: book, map and a printed form after {time.monotonic() - began:.1f} s")
+
+
 def test_faults(page, folder):
     log = EVENING[0].read_bytes()
     book = program(["merge"], EVENING).stdout
@@ -159,13 +185,25 @@ def test_faults(page, folder):
     notes = page.js("aprsbook.page.data.notes")
     is_(sorted(it.split(" ")[0] for it in notes),
         ["bad.log", "crlf.log", "cut.book", "heard.kiss", "torn.log", "wide.book"])
-    # a stream gets a receiver and a moment
-    page.js("""(() => { const [name, moment] = document.querySelectorAll('#files input');
-        name.value = 'TAPE'; name.dispatchEvent(new Event('change')); })()""")
-    page.js("""(() => { const it = document.querySelectorAll('#files input')[1];
-        it.value = '2024-06-21T18:00:00Z'; it.dispatchEvent(new Event('change')); })()""")
+    # a stream gets a receiver and a moment; the focus stays, though the page reads meanwhile
+    page.js("(document.querySelector('#files input').select(), 1)")
+    for key in "TAPE":
+        page.key(key)
+    page.key("Tab", 9)
+    time.sleep(0.3)
+    page.wait("document.activeElement.placeholder !== undefined && aprsfiles.made() !== null")
+    for key in "2024-06-21T18:00:00Z":
+        page.key(key)
+    page.key("Tab", 9)
     page.wait("aprsbook.page.net?.receivers.some(it => it.name === 'TAPE')")
+    is_(page.js("document.activeElement.textContent"), "take away")
     picture(page, "faults")
+    # so does it where files are taken away
+    page.js("(document.querySelector('#files button').focus(), 1)")
+    for k in range(9):
+        page.key(" ", 32)
+        page.wait(f"aprsfiles.files.length === {8 - k}")
+    is_(page.js("document.activeElement.id"), "choose")
     quiet(page)
 
 
@@ -301,32 +339,67 @@ def test_follow(page, folder):
     is_([it for it in page.requests() if not it.startswith(("blob:", "http://127.0.0.1:"))], [])
 
 
+# from now on, when files were given, when they were shown, for how long no timer had its turn, and,
+# where the browser says so, how long the longest task was
+WATCH = """(() => {
+    let last = performance.now();
+    window.still = window.came = window.task = 0;
+    if (PerformanceObserver.supportedEntryTypes.includes('longtask'))
+        new PerformanceObserver(list => list.getEntries().forEach(it => {
+            window.task = Math.max(window.task, it.duration) })).observe({ type: 'longtask' });
+    setInterval(() => {
+        const now = performance.now();
+        window.still = Math.max(window.still, now - last);
+        last = now; }, 20);
+    new MutationObserver(() => {
+        if (/ in [0-9.]+ s$/.test(document.getElementById('status').textContent))
+            requestAnimationFrame(() => setTimeout(() => {
+                window.came ||= performance.now() }));
+    }).observe(document.getElementById('status'), { childList: true });
+    document.getElementById('choose').addEventListener('change', () => {
+        window.went = performance.now(); }, true);
+    return 1; })()"""
+DIGEST = """Promise.all(
+    [aprsfiles.made().book, new TextEncoder().encode(aprsbook.page.data.history)]
+    .map(it => crypto.subtle.digest('SHA-256', it)))
+    .then(them => them.map(it => [...new Uint8Array(it)]))"""
+
+
+def dropped(page, what, logs, wanted):
+    """Gives logs to the page, and prints how long it takes until they are shown."""
+    def measure():
+        fresh(page)
+        page.js(WATCH)
+        page.js(HEAR_RUNS)
+        page.give("#choose", *logs)
+        page.wait("window.came > 0", 120)
+        return page.js("({ shown: came - went, still, task })")
+
+    scale.judged(measure, wanted, f"{what} dropped in {page.name}")
+    own = [program([command], logs).stdout for command in ("merge", "history")]
+    is_(page.js(DIGEST), [list(hashlib.sha256(it).digest()) for it in own])
+
+
 def test_large(page, folder):
     """200,000 lines of three receivers: how long until they are shown, and the page goes on."""
     make_log = EXAMPLES.parent / "bench/make_log.py"
     subprocess.run([sys.executable, make_log, "200000", folder], check=True)
-    logs = sorted(folder.glob("*.log"))
-    fresh(page)
-    page.js("""(() => { let last = performance.now(); window.still = 0;
-        setInterval(() => {
-            const now = performance.now();
-            window.still = Math.max(window.still, now - last);
-            last = now; }, 20);
-        new MutationObserver(() => {
-            if (/ in [0-9.]+ s$/.test(document.getElementById('status').textContent))
-                requestAnimationFrame(() => setTimeout(() => {
-                    window.came ||= performance.now() }));
-        }).observe(document.getElementById('status'), { childList: true });
-        document.getElementById('choose').addEventListener('change', () => {
-            window.went = performance.now(); }, true);
-        return 1; })()""")
-    page.give("#choose", *logs)
-    page.wait("window.came > 0", 120)
-    spent, still, said = page.js(f"[came - went, window.still, {STATUS}]")
-    print(f"{page.name}: 200,000 lines shown after {spent / 1000:.1f} s ({said}); "
-          f"stood still for at most {still:.0f} ms")
-    own = program(["merge"], logs).stdout
-    is_(page.js("aprsfiles.made().book.length"), len(own))
+    dropped(page, "200,000 lines", sorted(folder.glob("*.log")), {"shown": 3000, "task": 100})
+
+
+def test_larger(page, folder):
+    """More than 64 MB: the evening on each of 320 days, its lines ten times. The history is the
+    book's then, and isn't made of all the files."""
+    logs = [folder / it.name for it in EVENING]
+    for own, path in zip(EVENING, logs):
+        text = own.read_bytes()
+        days = (datetime.date(2024, 1, 1) + datetime.timedelta(day) for day in range(320))
+        path.write_bytes(b"".join(10 * text.replace(b"2024-06-21", str(day).encode())
+                                  for day in days))
+    assert sum(it.stat().st_size for it in logs) > 2 ** 26
+    dropped(page, "more than 64 MB", logs, {})
+    is_(sorted(page.js("[...window.asked]")),
+        ["check 1"] * 3 + ["history 1", "merge 3", "show 1"])
 
 
 def picture(page, name):
@@ -334,8 +407,8 @@ def picture(page, name):
         page.picture(f"{PICTURES}/{page.name}-{name}.png")
 
 
-TESTS = (test_same, test_saves, test_faults, test_narrow, test_hostile, test_random, test_follow,
-         test_large)
+TESTS = (test_same, test_saves, test_minute, test_faults, test_narrow, test_hostile, test_random,
+         test_follow, test_large, test_larger)
 there = [it for it, names in ((browser.Browser, ["chromium"]),
                               (firefox.Firefox, ["firefox-esr", "firefox"]))
          if any(map(shutil.which, names))]
