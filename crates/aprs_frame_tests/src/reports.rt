@@ -343,6 +343,19 @@ const AT_THE_ENDS: &[(&[u8], Report<'static>)] = &[
             comment: b"",
         },
     ),
+    (
+        b"!4903.50NA07201.75W-",
+        Report::Position {
+            messaging: false,
+            stamp: None,
+            place: HERE,
+            symbol: Symbol {
+                table: b'A',
+                code: b'-',
+            },
+            comment: b"",
+        },
+    ),
     (b"!4903.50N[07201.75W-", Report::Raw),
     (b"!4903.50N/07201.75W ", Report::Raw),
     (b"!4903.50N/07201.75W\x7f", Report::Raw),
@@ -421,6 +434,14 @@ const AT_THE_ENDS: &[(&[u8], Report<'static>)] = &[
             addressee: b"WU2Z",
             text: b"Testing",
             id: Some(b"aZ09b"),
+        },
+    ),
+    (
+        b":WU2Z     :Testing{zA",
+        Report::Message {
+            addressee: b"WU2Z",
+            text: b"Testing",
+            id: Some(b"zA"),
         },
     ),
     (
