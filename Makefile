@@ -56,13 +56,14 @@ try:
 test: words recipes
 	RT_JOBS=$(LANES) rt ci
 
-# the manual page and the completions name what the program has, the documents what the crates have, the
-# reading list is that of the sources, the version is one, and the scripts and packaging/system.c are in
-# order
+# the manual page and the completions name what the program has, the documents what the crates have and
+# by the same numbers, the reading list is that of the sources, the version is one, and the scripts and
+# packaging/system.c are in order
 words:
 	tests/version.sh
 	tests/words.sh
 	tests/names.sh
+	tests/numbers.sh
 	tests/map.sh
 	tests/reading.sh
 	tests/library.sh

@@ -138,6 +138,25 @@ fn parses_callsigns(rt: HostRuntime) {
     }
 }
 
+#[test]
+fn callsigns_are_of_capitals_and_digits(rt: HostRuntime) {
+    const CASES: &[(&[u8], bool)] = &[
+        (b"ABCDEF", true),
+        (b"GHIJKL", true),
+        (b"MNOPQR", true),
+        (b"STUVWX", true),
+        (b"YZ0123", true),
+        (b"456789", true),
+        (b"A@", false),
+        (b"A[", false),
+        (b"A/", false),
+        (b"A:", false),
+    ];
+    for &(text, is_call) in CASES {
+        assert!(rt; Callsign::parse(text).is_ok() == is_call, "{text:?}");
+    }
+}
+
 /// A callsign.
 fn call(text: &[u8]) -> Result<Callsign, Fail> {
     Ok(Callsign::parse(text).ok().ok_or("a callsign")?)

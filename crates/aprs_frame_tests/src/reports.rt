@@ -309,8 +309,9 @@ fn acks_and_rejs(rt: HostRuntime) {
     assert!(rt; are_kind(&acks, "ack") && are_kind(&rejs, "rej"));
 }
 
-/// Fields at the ends of what may stand in a place: the letters of a table that lies over another,
-/// a code, a stamp by the hour, a name, an id, and what is cut off at the end of a message.
+/// Fields at the ends of what may stand in a place: what lies over a symbol, a code, the halves of
+/// the globe, a stamp by the hour, names and their lengths, an id, and what is cut off at the end
+/// of a message.
 const AT_THE_ENDS: &[(&[u8], Report<'static>)] = &[
     (
         b"!4903.50NZ07201.75W~",
@@ -321,6 +322,36 @@ const AT_THE_ENDS: &[(&[u8], Report<'static>)] = &[
             symbol: Symbol {
                 table: b'Z',
                 code: b'~',
+            },
+            comment: b"",
+        },
+    ),
+    (
+        b"!4903.50S007201.75E!",
+        Report::Position {
+            messaging: false,
+            stamp: None,
+            place: Place::Plain {
+                lat: -294_350,
+                lon: 432_175,
+                ambiguity: 0,
+            },
+            symbol: Symbol {
+                table: b'0',
+                code: b'!',
+            },
+            comment: b"",
+        },
+    ),
+    (
+        b"!4903.50NA07201.75W-",
+        Report::Position {
+            messaging: false,
+            stamp: None,
+            place: HERE,
+            symbol: Symbol {
+                table: b'A',
+                code: b'-',
             },
             comment: b"",
         },
@@ -336,6 +367,19 @@ const AT_THE_ENDS: &[(&[u8], Report<'static>)] = &[
             place: COMPRESSED,
             symbol: Symbol {
                 table: b'9',
+                code: b'>',
+            },
+            comment: b"",
+        },
+    ),
+    (
+        b"=a5L!!<*e7> sT",
+        Report::Position {
+            messaging: true,
+            stamp: None,
+            place: COMPRESSED,
+            symbol: Symbol {
+                table: b'0',
                 code: b'>',
             },
             comment: b"",
@@ -363,6 +407,26 @@ const AT_THE_ENDS: &[(&[u8], Report<'static>)] = &[
             text: b"092345hNet",
         },
     ),
+    (
+        b")A~C_4903.50N/07201.75W>",
+        Report::Item {
+            name: b"A~C",
+            live: false,
+            place: HERE,
+            symbol: CAR,
+            comment: b"",
+        },
+    ),
+    (
+        b")THE LEADE!4903.50N/07201.75W>",
+        Report::Item {
+            name: b"THE LEADE",
+            live: true,
+            place: HERE,
+            symbol: CAR,
+            comment: b"",
+        },
+    ),
     (b")AI\x7f!4903.50N/07201.75WA", Report::Raw),
     (
         b":WU2Z     :Testing{aZ09b\r\n",
@@ -370,6 +434,14 @@ const AT_THE_ENDS: &[(&[u8], Report<'static>)] = &[
             addressee: b"WU2Z",
             text: b"Testing",
             id: Some(b"aZ09b"),
+        },
+    ),
+    (
+        b":WU2Z     :Testing{zA",
+        Report::Message {
+            addressee: b"WU2Z",
+            text: b"Testing",
+            id: Some(b"zA"),
         },
     ),
     (

@@ -56,6 +56,8 @@ mod refused_memory;
 #[cfg(test)]
 mod refused_runs;
 #[cfg(test)]
+mod retried;
+#[cfg(test)]
 mod runs;
 #[cfg(test)]
 mod show_runs;

@@ -66,6 +66,20 @@ fn a_later_reception_is_greater(rt: HostRuntime) -> Result<(), Fail> {
 }
 
 #[test]
+fn names_have_1_to_16_bytes(rt: HostRuntime) {
+    const CASES: &[(&[u8], bool)] = &[
+        (b"az-AZ_0123456789", true),
+        (b"az-AZ_0123456789a", false),
+        (b"-", true),
+        (b"", false),
+        (b"RX.1", false),
+    ];
+    for &(name, is_name) in CASES {
+        assert!(rt; Receiver::parse(name).is_some() == is_name, "{name:?}");
+    }
+}
+
+#[test]
 fn each_fault_of_a_line(rt: HostRuntime) -> Result<(), Fail> {
     const CASES: &[(&[u8], LineFault)] = &[
         (b"2024-05-01T12:00:60Z RX1 c0", LineFault::Moment),
