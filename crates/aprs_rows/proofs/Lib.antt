@@ -3,13 +3,18 @@ pub mod Common
 pub mod Cases
 pub mod Digits
 pub mod EntryOrder
+pub mod Fronts
 pub mod Groups
 pub mod KeyPrefixes
 pub mod Infos
+pub mod InStore
 pub mod JoinedNames
 pub mod Judgements
+pub mod NameRooms
 pub mod NameTexts
+pub mod Opens
 pub mod Orders
+pub mod Packed
 mod Places
 mod ReceiverNames
 pub mod Refusals

@@ -1,5 +1,5 @@
 -- The text of names that ascend, of equal ones one, is that of their union.
-use Rattle.aprs_rows.proofs.Common.{◌≡◌, ◌∙◌, ℕ, zero, suc, ◌+◌, ◌<◌, ◌≤◌, Bool, true, false, List, [], ◌∷◌, ◌++◌, ◌⊎◌, inl, inr, length, get_or, drop, map, append_assoc, refl, sym, ap, subst, arith, Bor, drop_all, if◌then◌else◌, join_with_byte, IsSorted, IsPermutation, IsTotalOrder, is_lt, is_gt, is_ne, ordering_reverse, on_total, ranks_by, sorted_far, IsPermutation-map, Ordering, Less, Equal, Greater, bytes_cmp, union, ◌∈◌, Ordered, SameMembers, IsBelow, IsUpTo, from_map, bytes_total, bytes_exact, place_of, in_union, same_members, union_ordered}
+use Rattle.aprs_rows.proofs.Common.{◌≡◌, ◌∙◌, ℕ, zero, suc, ◌+◌, ◌<◌, ◌≤◌, Bool, true, false, List, [], ◌∷◌, ◌++◌, ◌⊎◌, inl, inr, length, get_or, drop, map, append_assoc, refl, sym, ap, subst, arith, Bor, drop_all, if◌then◌else◌, join_with_byte, IsSorted, IsPermutation, IsTotalOrder, is_lt, is_gt, is_ne, ordering_reverse, on_total, ranks_by, sorted_far, IsPermutation-map, length-append, Ordering, Less, Equal, Greater, bytes_cmp, union, ◌∈◌, Ordered, SameMembers, IsBelow, IsUpTo, from_map, bytes_total, bytes_exact, place_of, in_union, same_members, union_ordered}
 use Rattle.std.proofs.lemmas.List.{append-nil}
 use Rattle.aprs_rows.proofs.Orders as Orders
 use Rattle.aprs_rows.specs.Sorted.{next_text, further, after_first, ascending_text}
@@ -34,6 +34,18 @@ next_put names others first i d text start longer e l h k =
     ap (λ ys. ys ++ after_first (drop (i + 1) (map now_of names))) k
     ∙ append_assoc text (next_text (get_or names i d).now (get_or others i d).now) _
     ∙ ap (λ ys. text ++ ys) (sym step) ∙ h
+
+-- and is no longer than all
+pub next_fits : (names others : List (Bor (List ℕ))) (first : Bor (List ℕ)) (i : ℕ)
+    (d : Bor (List ℕ)) (text start : List ℕ) → names ≡ first ∷ others → i < length others
+    → text ++ after_first (drop i (map now_of names)) ≡ start
+    → length text + length (next_text (get_or names i d).now (get_or others i d).now)
+    ≤ length start
+next_fits names others first i d text start e l h =
+    let next = next_text (get_or names i d).now (get_or others i d).now in
+    let rest = after_first (drop (i + 1) (map now_of names)) in
+    let all = ap length (next_put names others first i d text start (text ++ next) e l h refl) in
+    omega (arith, all, length-append (text ++ next) rest, length-append text next)
 
 no_more : (first : Bor (List ℕ)) (others : List (Bor (List ℕ))) (i : ℕ) → length others ≤ i
     → after_first (drop i (map now_of (first ∷ others))) ≡ []
@@ -162,7 +174,7 @@ text_is_of_union names (n ∷ sorted) e o =
 
 -- ---- what a sort gives
 
-abbrev names_cmp : Bor (List ℕ) → Bor (List ℕ) → Ordering
+abbrev pub names_cmp : Bor (List ℕ) → Bor (List ℕ) → Ordering
 names_cmp a b = bytes_cmp a.now b.now
 
 names_total : IsTotalOrder names_cmp

@@ -14,7 +14,7 @@ Ascends names = Ordered (IsBelow bytes_cmp) names
 
 -- ---- unions of names
 
-united_alone : (xs : List (List ℕ)) → Ascends xs → union bytes_cmp xs [] ≡ xs
+pub united_alone : (xs : List (List ℕ)) → Ascends xs → union bytes_cmp xs [] ≡ xs
 united_alone xs o =
     same_members bytes_total bytes_exact (union bytes_cmp xs []) xs
     (union_ordered bytes_total bytes_exact xs [] tt) o
@@ -26,7 +26,7 @@ united_alone xs o =
       λ h. (in_union bytes_total bytes_exact xs [] z).1 (inl h),
     ))
 
-united_more : (xs ys : List (List ℕ)) → Ascends ys
+pub united_more : (xs ys : List (List ℕ)) → Ascends ys
     → union bytes_cmp (xs ++ ys) [] ≡ union bytes_cmp (union bytes_cmp xs []) ys
 united_more xs ys o =
     let u = in_union bytes_total bytes_exact in
@@ -53,7 +53,7 @@ united_more xs ys o =
 
 -- ---- all are names
 
-all_append : (xs ys : List (List ℕ)) → All IsName xs → All IsName ys → All IsName (xs ++ ys)
+pub all_append : (xs ys : List (List ℕ)) → All IsName xs → All IsName ys → All IsName (xs ++ ys)
 all_append xs ys h k =
     All-from_recursion IsName (xs ++ ys)
     (both xs ys (recursion_from_All IsName xs h) (recursion_from_All IsName ys k)) where
@@ -71,7 +71,7 @@ names_each : (xs : List (List ℕ)) → ((z : List ℕ) → z ∈ xs → IsName 
 names_each [] f = tt
 names_each (x ∷ xs) f = (f x (inl refl), names_each xs (λ z h. f z (inr h)))
 
-united_names : (xs : List (List ℕ)) → All IsName xs → All IsName (union bytes_cmp xs [])
+pub united_names : (xs : List (List ℕ)) → All IsName xs → All IsName (union bytes_cmp xs [])
 united_names xs h =
     All-from_recursion IsName (union bytes_cmp xs [])
     (names_each (union bytes_cmp xs [])
@@ -80,7 +80,7 @@ united_names xs h =
       | inr j ↦ absurd j
     ]))
 
-united_some : (xs : List (List ℕ)) → 0 < length xs → 0 < length (union bytes_cmp xs [])
+pub united_some : (xs : List (List ℕ)) → 0 < length xs → 0 < length (union bytes_cmp xs [])
 united_some [] h = absurd (omega (arith, h))
 united_some (x ∷ xs) h =
     has_some (union bytes_cmp (x ∷ xs) []) x

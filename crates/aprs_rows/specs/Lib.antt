@@ -1,11 +1,16 @@
 -- Definitions that contracts of rows cite.
+pub mod BookRows
+pub mod BookStore
 pub mod Examples
+pub mod Fronts
 pub mod Groups
 pub mod KeyPrefix
 pub mod KeyPrefixSteps
 pub mod Judging
 pub mod KeptNames
+pub mod NameRoom
 pub mod Names
+pub mod Packed
 pub mod Refusal
 pub mod Rows
 pub mod Sorted

@@ -6,9 +6,9 @@ use Rattle.std.specs.declared.cmp.Ordering.{Ordering}
 use Rattle.aprs_ax25.specs.FrameFault.{parts_of}
 use Rattle.aprs_log.specs.Reception.{bytes_cmp}
 use Rattle.aprs_laws.specs.Key.{key_of}
-use Rattle.aprs_laws.specs.Lists.{◌∈◌}
 use Rattle.aprs_laws.specs.Row.{Row}
 use Rattle.aprs_laws.specs.Sound.{IsSoundRow}
+pub use Rattle.aprs_laws.specs.Sound.{AreSoundRows}
 use Rattle.aprs_rows.specs.KeyPrefix.{key_prefix_of}
 use Rattle.aprs_rows.specs.KeyPrefixSteps.{head_cmp}
 use Rattle.aprs_rows.specs.Names.{row_of_text}
@@ -66,7 +66,3 @@ info_of e bytes = drop (e.receivers + (e.receiver + e.info_at)) (bytes_of e byte
 abbrev pub entry_cmp : List ℕ → Entry → Entry → Ordering
 entry_cmp bytes = then_cmp (on (λ e. e.head) head_cmp)
     (then_cmp (on (λ e. info_of e bytes) bytes_cmp) (on (λ e. e.first) nat_cmp))
-
--- Each of the rows is sound by itself.
-abbrev pub AreSoundRows : List Row → Type 0
-AreSoundRows rows = (x : Row) → x ∈ rows → IsSoundRow x

@@ -1,5 +1,5 @@
-//! Room for one more.
-ghost use Rattle.std.specs.Prelude.{◌≡◌, ◌<◌, ◌≤◌, ◌+◌, ◌/◌, OnOk, vec_len, vec_capacity};
+//! Room for more.
+ghost use Rattle.std.specs.Prelude.{◌≡◌, ◌<◌, ◌≤◌, ◌+◌, ◌/◌, ◌++◌, OnOk, length, vec_len, vec_capacity};
 
 use crate::Memory;
 use std::alloc::Allocator;
@@ -19,4 +19,28 @@ pub(crate) fn reserve_one<T, A: Allocator>(items: &mut Vec<T, A>) -> Result<(), 
         return Err(Memory);
     }
     Ok(())
+}
+
+/// Makes room for `more` items after those that are there, which stay as they are, also after
+/// `Memory`.
+pub(crate) fn reserve<T, A: Allocator>(items: &mut Vec<T, A>, more: usize) -> Result<(), Memory>
+    ensures items { items.new.items ≡ items.old.items }
+    ensures room { OnOk result (vec_len items.new + more ≤ vec_capacity items.new) }
+{
+    match items.reserve(more) {
+        Ok(()) => Ok(()),
+        Err(_) => Err(Memory),
+    }
+}
+
+/// Puts bytes after those that are there. Requires room for them, and so can't fail.
+pub(crate) fn put<A: Allocator>(items: &mut Vec<u8, A>, more: &[u8])
+    requires { vec_len items.old + length more.now ≤ vec_capacity items.old }
+    ensures items { items.new.items ≡ items.old.items ++ more.now }
+    ensures capacity { vec_capacity items.old ≤ vec_capacity items.new }
+    ensures len { vec_len items.new ≡ vec_len items.old + length more.now }
+{
+    if items.extend_from_slice(more).is_err() {
+        unreachable!()
+    }
 }

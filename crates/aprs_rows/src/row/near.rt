@@ -1,7 +1,9 @@
 //! Nearness in time.
 ghost use Rattle.std.specs.Prelude.{◌≡◌, ◌+◌, nat_le};
 ghost use Rattle.aprs_laws.specs.Gap.{millis_of};
+ghost use Rattle.aprs_rows.specs.Fronts.{IsByTest};
 
+use crate::row::row_view::RowView;
 use aprs_laws::Gap;
 use aprs_log::Moment;
 
@@ -11,4 +13,14 @@ pub(crate) fn is_near(gap: Gap, last: Moment, first: Moment) -> bool
     ensures { result ≡ nat_le first (last + millis_of gap) }
 {
     first.millis() <= last.millis() + gap.seconds() * 1000
+}
+
+/// Whether `row` is near to a row of this first moment and the greatest reception of `latest`: it
+/// has the key of that, and neither begins more than the gap after the other ends.
+pub(crate) fn are_near(gap: Gap, first: Moment, latest: &RowView<'_>, row: &RowView<'_>) -> bool
+    ensures { IsByTest result (millis_of gap) first latest.now row.now }
+{
+    is_near(gap, latest.last(), row.first())
+        && is_near(gap, row.last(), first)
+        && latest.key_order(row).is_eq()
 }

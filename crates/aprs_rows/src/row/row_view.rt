@@ -1,5 +1,5 @@
 //! A row in bytes.
-ghost use Rattle.std.specs.Prelude.{◌≡◌, ◌<◌, ◌++◌, ◌∷◌, [], All, IfOk, OnOk, length};
+ghost use Rattle.std.specs.Prelude.{◌≡◌, ◌<◌, ◌++◌, ◌∷◌, [], All, IfOk, IfSome, OnOk, length};
 ghost use Rattle.std.specs.List.{join_with_byte};
 ghost use Rattle.aprs_ax25.specs.Frame.{FrameOf};
 ghost use Rattle.aprs_ax25.specs.FrameFault.{parts_of};
@@ -10,6 +10,7 @@ ghost use Rattle.aprs_laws.specs.Row.{last_of, row_cmp, row_key};
 ghost use Rattle.aprs_laws.specs.Sound.{IsSoundRow};
 ghost use Rattle.aprs_rows.specs.KeyPrefix.{HasKeyPrefix};
 ghost use Rattle.aprs_rows.specs.Names.{names_in, row_of_text};
+ghost use Rattle.aprs_rows.specs.Packed.{IsMarked, Notes, mark_row};
 ghost use Rattle.aprs_rows.specs.Rows.{IsRowIn, entry_row, row_bytes};
 
 use crate::Memory;
@@ -17,6 +18,7 @@ use crate::growth::reserve_one;
 use crate::row::key_prefix::{KeyPrefix, key_order};
 use crate::row::names::{cut_name, read_name};
 use crate::store::entry::Entry;
+use crate::store::mark::Mark;
 use aprs_ax25::Frame;
 use aprs_log::{Moment, Receiver, Reception};
 use std::alloc::Allocator;
@@ -120,6 +122,45 @@ impl<'a> RowView<'a> {
             receiver: self.receiver.len() as u8,
             info_at: self.info_at,
         }
+    }
+
+    /// The row that a mark notes, from the row's bytes: the text of its receivers, then the name of
+    /// the greatest reception's receiver, then the frame.
+    pub(crate) fn of_mark(mark: &Mark, bytes: &'a [u8]) -> RowView<'a>
+        requires { IsMarked mark.now bytes.now }
+        ensures { result ≡ mark_row mark.now bytes.now }
+    {
+        let (receivers, rest) = bytes.split_at(mark.receivers as usize);
+        let (receiver, frame) = rest.split_at(mark.receiver as usize);
+        let (_, info) = frame.split_at(mark.info_at as usize);
+        RowView {
+            first: mark.first,
+            last: mark.last,
+            names: receivers,
+            receiver,
+            frame,
+            info_at: mark.info_at,
+            head: KeyPrefix::of(frame, info),
+        }
+    }
+
+    /// The mark of the row, or `None` where its receivers' names with commas between have
+    /// 4,294,967,296 bytes or more. Requires that the row is sound by itself.
+    pub(crate) fn mark(&self) -> Option<Mark>
+        requires { IsSoundRow self.now }
+        ensures { IfSome result (λ mark. Notes mark self.now) }
+    {
+        let Ok(receivers) = u32::try_from(self.names.len()) else {
+            return None;
+        };
+        Some(Mark {
+            first: self.first,
+            last: self.last,
+            receivers,
+            frame: self.frame.len() as u16,
+            receiver: self.receiver.len() as u8,
+            info_at: self.info_at,
+        })
     }
 
     /// This row with another first moment, and with the names in `receivers`, which commas part, in

@@ -8,6 +8,7 @@ ghost use Rattle.aprs_laws.specs.Row.{Row};
 ghost use Rattle.aprs_laws.specs.Sound.{IsSoundRow};
 
 use crate::Memory;
+use crate::growth::{put, reserve};
 use crate::row::row_view::RowView;
 use crate::store::entry::Entry;
 use crate::store::order::RowsInOrder;
@@ -144,29 +145,5 @@ impl<A: Allocator + Copy> RowStore<A> {
             has_runs,
         } = self;
         RowsInOrder::of(alloc, entries, bytes, has_runs)
-    }
-}
-
-/// Makes room for `more` items after those that are there, which stay as they are, also after
-/// `Memory`.
-fn reserve<T, A: Allocator>(items: &mut Vec<T, A>, more: usize) -> Result<(), Memory>
-    ensures items { items.new.items ≡ items.old.items }
-    ensures room { OnOk result (vec_len items.new + more ≤ vec_capacity items.new) }
-{
-    match items.reserve(more) {
-        Ok(()) => Ok(()),
-        Err(_) => Err(Memory),
-    }
-}
-
-/// Puts bytes after those that are there. Requires room for them, and so can't fail.
-fn put<A: Allocator>(items: &mut Vec<u8, A>, more: &[u8])
-    requires { vec_len items.old + length more.now ≤ vec_capacity items.old }
-    ensures items { items.new.items ≡ items.old.items ++ more.now }
-    ensures capacity { vec_capacity items.old ≤ vec_capacity items.new }
-    ensures len { vec_len items.new ≡ vec_len items.old + length more.now }
-{
-    if items.extend_from_slice(more).is_err() {
-        unreachable!()
     }
 }

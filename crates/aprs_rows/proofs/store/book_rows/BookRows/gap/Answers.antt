@@ -1,0 +1,13 @@
+use Rattle.aprs_rows.proofs.Common.{subst, BookValue, some_millis, millis_of}
+use Rattle.aprs_laws.specs.BookValue.{IsSoundBook}
+use Rattle.aprs_laws.proofs.Together.{book_is_sound}
+use Rattle.aprs_rows.proofs.store.book_rows.BookRows.gap.Goals as goal
+
+pub returns-clause-sound : goal.returns-clause-sound
+returns-clause-sound g c =
+    let coming = c.self.invariant in
+    subst (λ (b : BookValue). IsSoundBook b) c.self.view_is (record {
+      range = coming.range;
+      sound = book_is_sound (millis_of c.self.inside.gap) (some_millis c.self.inside.gap coming.range)
+          c.self.inside.merger coming.each;
+    })

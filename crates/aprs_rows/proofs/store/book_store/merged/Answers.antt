@@ -1,0 +1,40 @@
+use Rattle.aprs_rows.proofs.Common.{◌++◌, List, Row, ap, arith, sym, subst, flat_map, take_all, All-from_recursion, AreInOrder, SameMembers}
+use Rattle.aprs_rows.specs.Fronts.{IsRun}
+use Rattle.aprs_rows.specs.Packed.{room_of}
+use Rattle.aprs_rows.proofs.InStore.{merged_more}
+use Rattle.aprs_rows.proofs.store.book_store.merged.Goals as goal
+
+pub add-requires : goal.add-requires
+add-requires g c =
+    subst IsRun (sym c.rows.ensures.value) (record {
+      ordered = subst AreInOrder (sym c.packed-item.is)
+          (All-from_recursion AreInOrder c.args.sorted.now c.requires c.loop-packed.packed-index
+          c.packed-item.result c.loop-packed-test.true);
+      each = c.rows.ensures.sound;
+    })
+
+pub loop-packed-preserved : goal.loop-packed-preserved
+loop-packed-preserved g c =
+    let more = ap (λ (rows : List Row). room_of rows) c.rows.ensures.value in
+    let sum = c.in-Some.ensures.1 in
+    record {
+      members = merged_more c.args.sorted.now c.loop-packed.packed-index c.packed-item.result
+          c.loop-packed.merger c.add.new.self c.packed-item.is c.loop-packed-test.true
+          c.loop-packed.invariant.members
+          (subst (λ (rows : List Row). SameMembers (rows ++ c.loop-packed.merger) c.add.new.self)
+          c.rows.ensures.value c.in_ok-add.ensures.members);
+      room = omega (
+        arith,
+        c.in_ok-add.ensures.room,
+        more,
+        c.loop-packed.invariant.room,
+        sum,
+        c.room.ensures,
+      );
+    }
+
+pub returns-clause-members : goal.returns-clause-members
+returns-clause-members g c =
+    subst (λ (ls : List (List Row)). SameMembers (flat_map (λ rows. rows) ls) c.loop-packed.merger)
+    (take_all c.loop-packed.packed-index c.args.sorted.now c.loop-packed-test.false)
+    c.loop-packed.invariant.members

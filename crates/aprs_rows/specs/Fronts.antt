@@ -1,0 +1,67 @@
+-- Rows in order of which the first is known, and the rows of all. No public clause cites this
+-- module.
+use Rattle.std.specs.Prelude.{◌≡◌, ℕ, ◌⊎◌, Bool, false, List, [], ◌∷◌}
+use Rattle.std.specs.List.{flat_map, AllByRecursion}
+use Rattle.std.specs.List.Sorted.{IsPermutation}
+use Rattle.std.specs.Ordering.{is_eq, on, flip_args}
+use Rattle.std.specs.declared.cmp.Ordering.{Ordering}
+use Rattle.aprs_laws.specs.Coalescing.{AreInOrder}
+use Rattle.aprs_laws.specs.JoinRow.{compare_near}
+use Rattle.aprs_laws.specs.Lists.{◌∈◌, SameMembers}
+use Rattle.aprs_laws.specs.Order.{IsUpTo}
+use Rattle.aprs_laws.specs.Row.{Row, row_cmp}
+use Rattle.aprs_laws.specs.Sound.{AreSoundRows}
+use Rattle.aprs_rows.specs.Packed.{room_of}
+
+-- The first row, and the rows after it.
+pub record Ahead : Type 0 where
+  pub first : Row
+  pub rest : List Row
+
+-- Both together.
+abbrev pub rows_ahead : Ahead → List Row
+rows_ahead a = a.first ∷ a.rest
+
+-- The rows of all, one list after another.
+abbrev pub all_ahead : List Ahead → List Row
+all_ahead = flat_map rows_ahead
+
+-- The one whose first row comes first is the greatest, as a heap wants it.
+abbrev pub ahead_cmp : Ahead → Ahead → Ordering
+ahead_cmp = flip_args (on (λ a. a.first) row_cmp)
+
+-- The rows are in order, and each is sound by itself.
+pub record IsRun (rows : List Row) : Type 0 where
+  pub ordered : AreInOrder rows
+  pub each : AreSoundRows rows
+
+-- So are those of each.
+abbrev pub AreRuns : List Ahead → Type 0
+AreRuns = AllByRecursion (λ a. IsRun (rows_ahead a))
+
+-- x is taken out of the rows, of which `rest` remain. It comes after none of them.
+pub record IsTakenOut (rows : List Row) (x : Row) (rest : List Row) : Type 0 where
+  pub members : SameMembers rows (x ∷ rest)
+  pub room : room_of rows ≡ room_of (x ∷ rest)
+  pub least : (y : Row) → y ∈ rest → IsUpTo row_cmp x y
+
+-- The rows after a first one are put back, if there are any.
+abbrev pub PutsBack : List Row → List Ahead → List Ahead → Type 0
+PutsBack rows old new =
+    ((rows ≡ []) × (new ≡ old))
+    ⊎ ((a : Ahead) × (rows ≡ rows_ahead a) × IsPermutation (a ∷ old) new)
+
+-- The row of these names, and of the first moment and the greatest reception of others.
+abbrev pub with_names : ℕ → Row → List (List ℕ) → Row
+with_names first x names = record { first = first; receivers = names; greatest = x.greatest }
+
+-- Whether x is near to that row, whatever its names.
+abbrev pub IsByTest : Bool → ℕ → ℕ → Row → Row → Type 0
+IsByTest near gap first latest x =
+    (names : List (List ℕ)) → near ≡ is_eq (compare_near gap (with_names first latest names) x)
+
+-- None of the rows is near to it: there is none, or the first of them in order isn't.
+abbrev pub NoneIsNear : ℕ → ℕ → Row → List Row → Type 0
+NoneIsNear gap first latest rows =
+    (rows ≡ []) ⊎ ((x : Row) × (rest : List Row) × IsTakenOut rows x rest
+    × IsByTest false gap first latest x)

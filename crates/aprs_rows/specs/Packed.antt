@@ -1,0 +1,51 @@
+-- Rows packed in bytes, one after another. No public clause cites this module.
+use Rattle.std.specs.Prelude.{◌≡◌, ℕ, ◌+◌, ◌≤◌, List, length, take, drop}
+use Rattle.std.specs.List.{join_with_byte, sum_by}
+use Rattle.aprs_ax25.specs.FrameFault.{parts_of}
+use Rattle.aprs_laws.specs.Row.{Row}
+use Rattle.aprs_laws.specs.Sound.{IsSoundRow}
+use Rattle.aprs_rows.specs.Groups.{rows_of, AreOf}
+use Rattle.aprs_rows.specs.Names.{row_of_text}
+use Rattle.aprs_rows.specs.Rows.{row_bytes}
+use Rattle.aprs_rows.specs.Told.{IsTold}
+use Rattle.aprs_rows.specs.declared.store.mark.Mark.{Mark}
+
+-- How many bytes the row of a mark has.
+abbrev pub mark_size : Mark → ℕ
+mark_size m = m.receivers + (m.receiver + m.frame)
+
+-- The row of these bytes: the text of its receivers, the greatest reception's receiver, its frame.
+abbrev pub mark_row : Mark → List ℕ → Row
+mark_row m bytes =
+    row_of_text m.first m.last (take m.receivers bytes) (take m.receiver (drop m.receivers bytes))
+    (drop m.receiver (drop m.receivers bytes))
+
+-- The bytes are those of a row that is sound by itself, as the mark says.
+pub record IsMarked (m : Mark) (bytes : List ℕ) : Type 0 where
+  pub size : length bytes ≡ mark_size m
+  pub sound : IsSoundRow (mark_row m bytes)
+  pub told : IsTold (mark_row m bytes)
+  pub within : m.info_at ≤ length (mark_row m bytes).greatest.frame
+  pub info : drop m.info_at (mark_row m bytes).greatest.frame
+      ≡ (parts_of (mark_row m bytes).greatest.frame).info
+
+-- The mark is that of the row.
+pub record Notes (m : Mark) (x : Row) : Type 0 where
+  pub fits : IsMarked m (row_bytes x)
+  pub is : mark_row m (row_bytes x) ≡ x
+
+-- The rows of marks, whose bytes lie one after another.
+abbrev pub rows_of_marks : List Mark → List ℕ → List Row
+rows_of_marks = rows_of mark_size mark_row
+
+-- The bytes are those of the marks.
+abbrev pub AreMarks : List Mark → List ℕ → Type 0
+AreMarks = AreOf mark_size IsMarked
+
+-- How many bytes the names of a row's receivers have, with a comma after each.
+abbrev pub row_room : Row → ℕ
+row_room x = length (join_with_byte 44 x.receivers) + 1
+
+-- And those of all rows.
+abbrev pub room_of : List Row → ℕ
+room_of = sum_by row_room

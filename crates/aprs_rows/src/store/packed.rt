@@ -1,0 +1,204 @@
+//! Rows packed in bytes.
+ghost use Rattle.std.specs.Prelude.{◌≡◌, ◌≤◌, ◌+◌, [], ◌∷◌, ◌++◌, length, vec_len, vec_capacity, IfOk, OnOk, OnErr};
+ghost use Rattle.std.specs.Iterator.{YieldsFirst, item_count};
+ghost use Rattle.aprs_laws.specs.Coalescing.{AreInOrder};
+ghost use Rattle.aprs_laws.specs.JoinRow.{single};
+ghost use Rattle.aprs_laws.specs.Lists.{SameMembers};
+ghost use Rattle.aprs_laws.specs.Sound.{AreSoundRows, IsSoundRow};
+ghost use Rattle.aprs_rows.specs.Packed.{room_of};
+
+use crate::Memory;
+use crate::growth::{put, reserve};
+use crate::row::row_view::RowView;
+use crate::store::mark::Mark;
+use aprs_log::Reception;
+use std::alloc::{Allocator, Global};
+use std::marker::Model;
+
+/// Rows in the order in which they came, in few bytes: 24 for each, the names of its receivers and
+/// its frame.
+pub struct PackedRows<A: Allocator = Global> {
+    alloc: A,
+    marks: Vec<Mark, A>,
+    bytes: Vec<u8, A>,
+    /// How many bytes the names of all receivers have, with a comma after each.
+    room: usize,
+}
+
+impl<A: Allocator> Drop for PackedRows<A> {
+    fn drop(self) {
+        let PackedRows {
+            alloc: _,
+            marks,
+            bytes,
+            room: _,
+        } = self;
+        drop(marks);
+        drop(bytes);
+    }
+}
+
+impl<A: Allocator> Model for PackedRows<A> {
+    ghost use Rattle.std.specs.Prelude.{List, ◌≡◌};
+    ghost use Rattle.aprs_laws.specs.Row.{Row};
+    ghost use Rattle.aprs_rows.specs.Packed.{AreMarks, room_of, rows_of_marks};
+
+    ghost Value = { List Row };
+
+    ghost view = { λ p. rows_of_marks p.marks.items p.bytes.items };
+
+    ghost invariant = { λ p. AreMarks p.marks.items p.bytes.items
+        × (p.room ≡ room_of (rows_of_marks p.marks.items p.bytes.items)) };
+}
+
+impl<A: Allocator + Copy> PackedRows<A> {
+    /// No rows. Takes no memory.
+    pub fn new(alloc: A) -> PackedRows<A>
+        ensures { result ≡ [] }
+    {
+        PackedRows {
+            alloc,
+            marks: Vec::new(alloc),
+            bytes: Vec::new(alloc),
+            room: 0,
+        }
+    }
+
+    /// The number of rows. Takes no memory.
+    pub fn len(&self) -> usize
+        ensures { result ≡ length self.now }
+    {
+        self.marks.len()
+    }
+
+    /// Puts a reception after the rows, as a row of its own. After `Memory` the rows are as before.
+    pub fn push_reception(&mut self, x: &Reception) -> Result<(), Memory>
+        ensures pushed { OnOk result (self.new ≡ self.old ++ single x.now ∷ []) }
+        ensures unchanged { OnErr result (self.new ≡ self.old) }
+    {
+        let name = x.receiver().as_bytes();
+        self.push(&RowView::new(x.moment(), x.moment(), name, name, x.frame()))
+    }
+
+    /// Puts a row after the others. Requires that it is sound by itself. `Memory` is also returned
+    /// where its receivers' names with commas between have 4,294,967,296 bytes or more. After it
+    /// the rows are as before.
+    pub fn push(&mut self, row: &RowView<'_>) -> Result<(), Memory>
+        requires { IsSoundRow row.now }
+        ensures pushed { OnOk result (self.new ≡ self.old ++ row.now ∷ []) }
+        ensures unchanged { OnErr result (self.new ≡ self.old) }
+    {
+        let (receivers, receiver, frame) = (row.receivers(), row.receiver(), row.frame());
+        let Some(mark) = row.mark() else {
+            return Err(Memory);
+        };
+        let Some(room) = self.room.checked_add(receivers.len() + 1) else {
+            return Err(Memory);
+        };
+        reserve(&mut self.marks, 1)?;
+        reserve(
+            &mut self.bytes,
+            receivers.len() + receiver.len() + frame.len(),
+        )?;
+        self.room = room;
+        self.marks.push_reserved(mark);
+        put(&mut self.bytes, receivers);
+        put(&mut self.bytes, receiver);
+        put(&mut self.bytes, frame);
+        Ok(())
+    }
+
+    /// The rows, which lend the bytes here. Takes no memory, nor does the walk.
+    pub(crate) fn rows(&self) -> Unpacked<'_>
+        ensures value { result ≡ self.now }
+        ensures sound { AreSoundRows self.now }
+    {
+        Unpacked {
+            marks: self.marks.as_slice(),
+            bytes: self.bytes.as_slice(),
+        }
+    }
+
+    /// How many bytes the names of all receivers have, with a comma after each.
+    pub(crate) fn room(&self) -> usize
+        ensures { result ≡ room_of self.now }
+    {
+        self.room
+    }
+
+    /// The same rows in the order of key and first moment, in no more memory than they need.
+    pub(crate) fn in_order(&self) -> Result<PackedRows<A>, Memory>
+        ensures same { IfOk result (SameMembers self.now) }
+        ensures ordered { IfOk result AreInOrder }
+    {
+        let mut rows = Vec::with_capacity(self.alloc, self.marks.len())?;
+        for row in self.rows() {
+            if rows.push(row).is_err() {
+                return Err(Memory);
+            }
+        }
+        rows.sort_unstable_by(|row, other| row.order(other));
+        self.of_sorted(rows.as_slice())
+    }
+
+    /// The same rows as `rows` has them, in no more memory than they need.
+    fn of_sorted(&self, rows: &[RowView<'_>]) -> Result<PackedRows<A>, Memory>
+        requires { AreSoundRows rows.now }
+        ensures { IfOk result (λ packed. packed ≡ rows.now) }
+    {
+        let mut packed = PackedRows {
+            alloc: self.alloc,
+            marks: Vec::with_capacity(self.alloc, self.marks.len())?,
+            bytes: Vec::with_capacity(self.alloc, self.bytes.len())?,
+            room: 0,
+        };
+        for row in rows {
+            packed.push(row)?;
+        }
+        Ok(packed)
+    }
+
+    /// Takes all rows out. The memory stays for others.
+    pub(crate) fn clear(&mut self)
+        ensures { self.new ≡ [] }
+    {
+        self.marks.clear();
+        self.bytes.clear();
+        self.room = 0;
+    }
+}
+
+/// Rows that are still to come.
+#[derive(Drop)]
+pub(crate) struct Unpacked<'a> {
+    marks: &'a [Mark],
+    bytes: &'a [u8],
+}
+
+impl<'a> Model for Unpacked<'a> {
+    ghost use Rattle.std.specs.Prelude.{List};
+    ghost use Rattle.aprs_laws.specs.Row.{Row as RowValue};
+    ghost use Rattle.aprs_rows.specs.Packed.{AreMarks, rows_of_marks};
+
+    ghost Value = { List RowValue };
+
+    ghost view = { λ r. rows_of_marks r.marks.now r.bytes.now };
+
+    ghost invariant = { λ r. AreMarks r.marks.now r.bytes.now };
+}
+
+impl<'a> Iterator for Unpacked<'a> {
+    type Item = RowView<'a>;
+
+    ghost next_gives = { YieldsFirst (λ rows. rows) };
+
+    ghost remaining = { item_count (λ rows. rows) };
+
+    fn next(&mut self) -> Option<RowView<'a>> {
+        let (mark, marks) = self.marks.split_first()?;
+        let (own, bytes) = self.bytes.split_at(mark.size());
+        self.marks = marks;
+        self.bytes = bytes;
+        Some(RowView::of_mark(mark, own))
+    }
+}
