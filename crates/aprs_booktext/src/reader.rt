@@ -259,7 +259,8 @@ impl<A: Allocator + Copy> BookReader<A> {
     pub fn finish(&self, ending: InputEnd) -> Result<Gap, BookFault>
         requires { self.now.count ≤ most_input }
         // Where `t` is the text that was read, this is the answer for it with this ending.
-        ensures reads { (before store : List Row) (t : List ℕ) → Spec.HasRead before self.now store t
+        ensures reads { (before store : List Row) (t : List ℕ)
+            → Spec.HasRead before self.now store t
             → IsAnswerFor (book_read result before store) t ending }
         ensures ending { Spec.AgreesWithEnding ending result }
         ensures gap { IfOk result (λ gap. gap ≡ Spec.gap_in self.now.stage) }

@@ -8,7 +8,8 @@ ghost use Rattle.aprs_io.specs.Shown.{is_shown_as_is};
 /// tilde are shown as themselves, and a backslash isn't.
 pub fn monitors_print_frames()
     ensures direct { monitor_text (parts_through []) ≡ codes "N7LEM>NJ7P:>Hi" }
-    ensures repeated { monitor_text (parts_through (address_with nj7p 4 ∷ address_with n7lem 3 ∷ []))
+    ensures repeated { monitor_text
+        (parts_through (address_with nj7p 4 ∷ address_with n7lem 3 ∷ []))
         ≡ codes "N7LEM>NJ7P,NJ7P*,N7LEM:>Hi" }
     ensures kind { kind_text (parts_through []) ≡ codes "status N7LEM>NJ7P:>Hi" }
 

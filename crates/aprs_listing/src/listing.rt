@@ -79,7 +79,8 @@ fn put_listing<W: Write, A: Allocator + Copy>(
     listing: &Listing<'_, A>,
 ) -> Result<(), WriteFault>
     ensures { Puts W.contents result out.old out.new
-        (Spec.show_text listing.now.stations.items listing.now.named.items listing.now.messages.items) }
+        (Spec.show_text listing.now.stations.items listing.now.named.items
+        listing.now.messages.items) }
 {
     put_stations(out, &listing.stations)?;
     put_all_named(out, &listing.named)?;

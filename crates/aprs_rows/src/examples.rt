@@ -34,7 +34,8 @@ pub fn first_causes_hide_others()
     ensures order_not_greatest { refusal half_minute (eighth_row ∷ []) lesser_row ≡ Some Order }
 
     ensures span_near { refusal half_minute (row_at 0 ∷ []) (row_to 2 1) ≡ Some Span }
-    ensures span_receivers { refusal half_minute [] (example_row 1 (rx2 ∷ []) (by_rx1 0)) ≡ Some Span }
+    ensures span_receivers { refusal half_minute [] (example_row 1 (rx2 ∷ []) (by_rx1 0))
+        ≡ Some Span }
 
     ensures near_receivers { refusal half_minute (row_at 0 ∷ []) unlisted_row ≡ Some Near }
     ensures near_not_greatest { refusal half_minute (row_at 0 ∷ []) lesser_row ≡ Some Near }

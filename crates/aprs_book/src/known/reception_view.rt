@@ -116,9 +116,10 @@ impl<'a> ReceptionView<'a> {
     /// Whether this reception is greater than the one that is known, by moment, then receiver, then
     /// frame. Where none is known it is.
     pub(crate) fn exceeds(&self, known: Option<&ReceptionView<'_>>) -> bool
-        ensures kept { result ≡ false
-            → option_copied known.entry ≡ Some (greater_known (option_copied known.entry) self.now) }
-        ensures new { result ≡ true → greater_known (option_copied known.entry) self.now ≡ self.now }
+        ensures kept { result ≡ false → option_copied known.entry
+            ≡ Some (greater_known (option_copied known.entry) self.now) }
+        ensures new { result ≡ true
+            → greater_known (option_copied known.entry) self.now ≡ self.now }
     {
         match known {
             Some(greatest) => greatest.order(self).is_lt(),

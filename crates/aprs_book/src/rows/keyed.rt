@@ -18,7 +18,7 @@ use std::collections::{BTreeMap, VecDeque};
 use std::marker::Model;
 
 /// The rows of a book in a map: under each prefix (the beginning of a key, as numbers) lie the rows
-/// whose keys have that prefix, in order. No prefix is without rows. Prefixes lie in the map itself, so
+/// whose keys have that prefix, in order. No prefix is without rows. Prefixes lie in the map, so
 /// that most keys are told apart without a look at their frames.
 pub(crate) struct KeyedRows<A: Allocator = Global> {
     map: BTreeMap<KeyPrefix, VecDeque<KeptRow<A>, A>, A>,

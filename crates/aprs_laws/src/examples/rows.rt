@@ -47,7 +47,8 @@ pub fn gaps_decide_rows()
 pub fn ties_go_by_receiver_then_frame()
     ensures frame { plain_book half_minute (reception_at 0 rx1 hi_after_digipeater ∷ by_rx1 0 ∷ [])
         ≡ row_at 0 ∷ [] }
-    ensures frame_turned { plain_book half_minute (by_rx1 0 ∷ reception_at 0 rx1 hi_after_digipeater ∷ [])
+    ensures frame_turned { plain_book half_minute
+        (by_rx1 0 ∷ reception_at 0 rx1 hi_after_digipeater ∷ [])
         ≡ row_at 0 ∷ [] }
     ensures receiver { plain_book half_minute tied_pair ≡ tied_row ∷ [] }
 {}

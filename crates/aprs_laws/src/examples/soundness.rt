@@ -10,9 +10,11 @@ ghost use Rattle.aprs_laws.specs.Examples.{half_minute, hi_frame, rx1, rx2, rece
 /// ascend. A row that is near to the last one can't be next.
 pub fn soundness_is_seen_in_rows()
     ensures sound { Sound half_minute (short_row ∷ []) }
-    ensures misses_greatest { Sound half_minute (example_row 1 (rx1 ∷ rx2 ∷ []) (by_rx1 1) ∷ []) → ⊥ }
+    ensures misses_greatest { Sound half_minute
+        (example_row 1 (rx1 ∷ rx2 ∷ []) (by_rx1 1) ∷ []) → ⊥ }
     ensures misses_apart { Sound half_minute (early_row ∷ close_row ∷ []) → ⊥ }
-    ensures misses_receivers { Sound half_minute (example_row 0 (rx2 ∷ rx1 ∷ []) (by_rx1 1) ∷ []) → ⊥ }
+    ensures misses_receivers { Sound half_minute
+        (example_row 0 (rx2 ∷ rx1 ∷ []) (by_rx1 1) ∷ []) → ⊥ }
 
     ensures next { IsNext half_minute (early_row ∷ []) late_row }
     ensures misses_near_next { IsNext half_minute (early_row ∷ []) close_row → ⊥ }

@@ -26,7 +26,8 @@ pub fn rows_are_near_up_to_the_gap()
     ensures near { IsNear half_minute early_row (single (by_rx1 30000)) }
     ensures misses_far { IsNear half_minute early_row (single (by_rx1 30001)) → ⊥ }
 
-    ensures fits { FitsInPlace half_minute (early_row ∷ late_row ∷ []) (reception_at 0 rx2 hi_frame) }
+    ensures fits { FitsInPlace half_minute (early_row ∷ late_row ∷ [])
+        (reception_at 0 rx2 hi_frame) }
     ensures misses_receiver { FitsInPlace half_minute (early_row ∷ []) (by_rx1 10) → ⊥ }
     ensures misses_two { FitsInPlace half_minute (early_row ∷ late_row ∷ [])
         (reception_at 10 rx2 hi_frame) → ⊥ }

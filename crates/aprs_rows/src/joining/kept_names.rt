@@ -48,7 +48,8 @@ impl<A: Allocator + Copy> KeptNames<A> {
     /// `Memory` the names are as before.
     pub(crate) fn insert(&mut self, i: usize, name: &Receiver) -> Result<(), Memory>
         requires { i ≤ length (names_kept self.old) }
-        ensures inserted { OnOk result (names_kept self.new ≡ insert (names_kept self.old) i name.now) }
+        ensures inserted { OnOk result
+            (names_kept self.new ≡ insert (names_kept self.old) i name.now) }
         ensures unchanged { OnErr result (names_kept self.new ≡ names_kept self.old) }
     {
         match self {

@@ -10,8 +10,8 @@ ghost use Rattle.aprs_rows.specs.KeyPrefixSteps.{octets_number};
 use aprs_ax25::Frame;
 use std::cmp::Ordering;
 
-/// The prefix of a frame's key: the numbers of its source, of its destination and of the first eight
-/// bytes of its information. Where two prefixes differ, they are in the order of their keys.
+/// The prefix of a frame's key: the numbers of its source, of its destination and of the first
+/// eight bytes of its information. Where two prefixes differ, they are in the order of their keys.
 #[derive(Clone, Copy, PartialEq, Eq, PartialOrd, Ord)]
 pub struct KeyPrefix {
     source: u64,
@@ -52,7 +52,8 @@ pub(crate) fn key_order(
     other: KeyPrefix,
     other_info: &[u8],
 ) -> Ordering
-    ensures { (f g : List ℕ) → HasKeyPrefix head f → HasKeyPrefix other g → info.now ≡ (parts_of f).info
+    ensures { (f g : List ℕ) → HasKeyPrefix head f → HasKeyPrefix other g
+        → info.now ≡ (parts_of f).info
         → other_info.now ≡ (parts_of g).info → result ≡ key_cmp (key_of f) (key_of g) }
 {
     match head.cmp(&other) {
