@@ -18,17 +18,17 @@ pub trait Listener {
         ensures { FoldsTo hears self.old (judgements_in fed.entry) self.new };
 }
 
-/// Feeds all of a piece of a stream to the reader, and hands each answer to the listener. Takes no
+/// Feeds all of a chunk of a stream to the reader, and hands each answer to the listener. Takes no
 /// memory.
-pub fn feed_all<L: Listener>(reader: &mut KissReader, piece: &[u8], listener: &mut L)
+pub fn feed_all<L: Listener>(reader: &mut KissReader, chunk: &[u8], listener: &mut L)
     // `before` is what came since the last frame end before the call. The listener hears the
     // judgements of the pieces that ended since, in order.
     ensures stands { (before : List ℕ) → StandsAfter reader.old before
-        → StandsAfter reader.new (rest_of (before ++ piece.now)) }
+        → StandsAfter reader.new (rest_of (before ++ chunk.now)) }
     ensures heard { (before : List ℕ) → StandsAfter reader.old before
-        → FoldsTo L.hears listener.old (judgements_of (before ++ piece.now)) listener.new }
+        → FoldsTo L.hears listener.old (judgements_of (before ++ chunk.now)) listener.new }
 {
-    let mut rest = piece;
+    let mut rest = chunk;
     while !rest.is_empty() {
         let (used, fed) = reader.feed(rest);
         listener.hear(fed);

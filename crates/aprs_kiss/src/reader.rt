@@ -70,30 +70,30 @@ impl KissReader {
         }
     }
 
-    /// Takes bytes from the start of `piece`, the next part of a stream: up to and with the first
+    /// Takes bytes from the start of `chunk`, the next part of a stream: up to and with the first
     /// frame end of a nonempty piece of the stream, or all of them where there is none. Returns
     /// how many it took, and what ended there: a data frame of at most 1,023 bytes, which lies in
     /// the reader until the next call, the fault for which a piece is passed over, or nothing.
     /// The next call goes on with the bytes after these. Takes no memory.
-    pub fn feed(&mut self, piece: &[u8]) -> (usize, Fed<'_>)
+    pub fn feed(&mut self, chunk: &[u8]) -> (usize, Fed<'_>)
         // Here and below, `before` is what came since the last frame end before the call. The
         // nonempty pieces that ended are none or one, and its judgement is reported.
         ensures judged { (before : List ℕ) → StandsAfter self.old before
-            → judgements_of (before ++ take result.0 piece.now) ≡ judgements_in result.1 }
+            → judgements_of (before ++ take result.0 chunk.now) ≡ judgements_in result.1 }
         ensures bounds { IsWithinBounds result.1 }
-        ensures used { result.0 ≤ length piece.now }
-        ensures progress { 0 < length piece.now → 0 < result.0 }
-        ensures whole { judgements_in result.1 ≡ [] → result.0 ≡ length piece.now }
+        ensures used { result.0 ≤ length chunk.now }
+        ensures progress { 0 < length chunk.now → 0 < result.0 }
+        ensures whole { judgements_in result.1 ≡ [] → result.0 ≡ length chunk.now }
         // The byte that was used last is the frame end of the piece that is reported.
         ensures ends { (before : List ℕ) → StandsAfter self.old before → judgements_in result.1 ≢ []
-            → EndsPiece (before ++ take result.0 piece.now) }
+            → EndsPiece (before ++ take result.0 chunk.now) }
 
         // Once the frame is given back, the reader stands after what is left of all that came.
         ensures* stands { sem 𝓛 (Rests the_row self.entry (λ new. (before : List ℕ)
             → StandsAfter self.old before
-            → StandsAfter new (rest_of (before ++ take result.0 piece.now)))) }
+            → StandsAfter new (rest_of (before ++ take result.0 chunk.now)))) }
     {
-        let (used, outcome) = self.step(piece);
+        let (used, outcome) = self.step(chunk);
         match outcome {
             None => (used, Fed::Nothing),
             Some(Ok(port)) => {
@@ -121,37 +121,37 @@ impl KissReader {
         *state = State::Ended;
     }
 
-    /// Takes bytes from the start of `piece`, up to and with the first frame end of a nonempty
+    /// Takes bytes from the start of `chunk`, up to and with the first frame end of a nonempty
     /// piece of the stream, or all of them where there is none, and returns how many. Then, where
     /// such a piece ended, the port of its data frame, which lies in the buffer after its type
     /// byte, or why it is passed over; `None` where none ended.
-    fn step(&mut self, piece: &[u8]) -> (usize, Option<Result<u8, PassFault>>)
+    fn step(&mut self, chunk: &[u8]) -> (usize, Option<Result<u8, PassFault>>)
         ensures judged { (before : List ℕ) → StandsAfter self.old before
-            → judgements_of (before ++ take result.0 piece.now)
+            → judgements_of (before ++ take result.0 chunk.now)
             ≡ judgements_of_outcome result.1 self.new.bytes.items }
         ensures frame { IfSome result.1 (λ o.
             IfOk o (λ port. (port < 16) × (0 < length self.new.bytes.items))) }
-        ensures used { result.0 ≤ length piece.now }
+        ensures used { result.0 ≤ length chunk.now }
         ensures progress { OnSome result.1 (0 < result.0) }
-        ensures whole { IfNone result.1 (result.0 ≡ length piece.now) }
+        ensures whole { IfNone result.1 (result.0 ≡ length chunk.now) }
         ensures ends { (before : List ℕ) → StandsAfter self.old before
-            → OnSome result.1 (EndsPiece (before ++ take result.0 piece.now)) }
+            → OnSome result.1 (EndsPiece (before ++ take result.0 chunk.now)) }
 
         ensures stands { (before : List ℕ) → StandsAfter self.old before
-            → StandsAfter self.new (rest_of (before ++ take result.0 piece.now)) }
+            → StandsAfter self.new (rest_of (before ++ take result.0 chunk.now)) }
     {
-        let mut rest = piece;
+        let mut rest = chunk;
         loop {
             let (plain, mark) = cut_plain(rest);
             self.take_plain(plain);
             let Some((byte, after)) = mark else {
-                return (piece.len(), None);
+                return (chunk.len(), None);
             };
             // A frame end right after another ends nothing.
             if byte == FESC {
                 self.take_escape();
             } else if !self.finish() {
-                return (piece.len() - after.len(), Some(self.end_piece()));
+                return (chunk.len() - after.len(), Some(self.end_piece()));
             }
             rest = after;
         }

@@ -4,7 +4,7 @@ use Rattle.aprs_laws.specs.Lists.{◌∈◌, SameMembers}
 use Rattle.aprs_laws.specs.Order.{IsBelow}
 use Rattle.aprs_laws.specs.Key.{Key, key_cmp}
 use Rattle.aprs_laws.specs.Run.{HeardAt, Run}
-use Rattle.aprs_laws.specs.Row.{Row, row_key, last_of, IsOf, RowOf, row_cmp}
+use Rattle.aprs_laws.specs.Row.{Row, row_key, last_moment, IsOf, RowOf, row_cmp}
 use Rattle.aprs_laws.specs.Book.{BookOf}
 use Rattle.aprs_laws.specs.JoinRow.{plain_book}
 use Rattle.aprs_laws.proofs.Lists.{ordered_weaker, ordered_same}
@@ -24,8 +24,8 @@ module _ (gap : ℕ) (S : List Received) (x : Row) (p : IsPart gap S x) where
         (elim (f i.key) [ inl l ↦ omega (arith, i.from) | inr l ↦ omega (arith, i.to) ])
   ]
 
-  run_of_part : Run gap S (row_key x) x.first (last_of x)
-  run_of_part = let l : x.first ≤ (last_of x) = span gap p.X x p.makes in record {
+  run_of_part : Run gap S (row_key x) x.first (last_moment x)
+  run_of_part = let l : x.first ≤ (last_moment x) = span gap p.X x p.makes in record {
     in_order = l;
     at_first = let t = p.makes.at_first in (t.0, p.within t.0 t.1, (p.makes.own t.0 t.1).key, t.2);
     at_last = (x.greatest, p.within x.greatest p.makes.member, refl, refl);
@@ -101,16 +101,18 @@ pub same_row : (x y : Row) → x.first ≡ y.first → x.receivers ≡ y.receive
 same_row x y f r g = λ i. record { first = f i; receivers = r i; greatest = g i }
 
 -- rows of one set that share a reception are one
-pub rows_same : (gap : ℕ) (S : List Received) (x y : Row) (s : Received) → RowOf gap S x → RowOf gap S y
+pub rows_same : (gap : ℕ) (S : List Received) (x y : Row) (s : Received) → RowOf gap S x
+    → RowOf gap S y
     → IsOf x s → IsOf y s → x ≡ y
 rows_same gap S x y s p q i j = same_row x y ends.0 receivers greatest where
   ek : row_key x ≡ row_key y
   ek = sym i.key ∙ j.key
 
-  ends : (x.first ≡ y.first) × (last_of x ≡ last_of y)
+  ends : (x.first ≡ y.first) × (last_moment x ≡ last_moment y)
   ends =
-      runs_same gap S (row_key x) x.first (last_of x) y.first (last_of y) s.moment p.run
-      (subst (λ (k : Key). Run gap S k y.first (last_of y)) (sym ek) q.run) i.from i.to j.from j.to
+      runs_same gap S (row_key x) x.first (last_moment x) y.first (last_moment y) s.moment p.run
+      (subst (λ (k : Key). Run gap S k y.first (last_moment y))
+          (sym ek) q.run) i.from i.to j.from j.to
 
   to : (t : Received) → IsOf x t → IsOf y t
   to t h =
@@ -143,7 +145,7 @@ rows_same gap S x y s p q i j = same_row x y ends.0 receivers greatest where
       (q.greatest x.greatest p.member (to x.greatest (own_of gap S x p)))
       (p.greatest y.greatest q.member (back y.greatest (own_of gap S y q)))
 
-pub below : (gap : ℕ) (x y : Row) → x.first ≤ last_of x → IsBefore gap x y → IsBelow row_cmp x y
+pub below : (gap : ℕ) (x y : Row) → x.first ≤ last_moment x → IsBefore gap x y → IsBelow row_cmp x y
 below gap x y l (inl h) = ap (λ (o : Ordering). ordering_then o (nat_cmp x.first y.first)) h
 below gap x y l (inr h) =
     let e : key_cmp (row_key x) (row_key y) ≡ Equal =
@@ -184,7 +186,7 @@ row_carries gap S T e x r = record {
   run = record {
     in_order = r.run.in_order;
     at_first = to x.first r.run.at_first;
-    at_last = to (last_of x) r.run.at_last;
+    at_last = to (last_moment x) r.run.at_last;
     none_before = λ m a b h. r.run.none_before m a b (back m h);
     none_after = λ m a b h. r.run.none_after m a b (back m h);
     linked = λ m h a b. let t = r.run.linked m (back m h) a b in (t.0, t.1, t.2, to t.0 t.3);
@@ -223,7 +225,8 @@ row_total =
     then_total (on_total (λ (x : Row). (row_key x)) key_total)
     (on_total (λ (x : Row). x.first) nat_cmp_total)
 
-pub one_book : (gap : ℕ) (S : List Received) (p q : List Row) → BookOf gap S p → BookOf gap S q → p ≡ q
+pub one_book : (gap : ℕ) (S : List Received) (p q : List Row) → BookOf gap S p
+    → BookOf gap S q → p ≡ q
 one_book gap S p q b c =
     ordered_same (IsBelow row_cmp) (λ x y. not_both row_total x y) p q b.ascending c.ascending
     (λ x h. (c.exactly x).1 ((b.exactly x).0 h))

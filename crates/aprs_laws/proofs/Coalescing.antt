@@ -3,7 +3,7 @@
 use Rattle.aprs_laws.proofs.Common.{◌≡◌, ℕ, ◌<◌, ◌≤◌, ◌+◌, List, [], ◌∷◌, ◌++◌, ◌↔◌, map, inl, inr, refl, sym, ap, ◌∙◌, subst, arith, false, nat_cmp, ordering_then, is_gt, MatchOrdering, Ordering, Less, Equal, Greater, Received}
 use Rattle.aprs_laws.specs.Lists.{◌∈◌, SameMembers}
 use Rattle.aprs_laws.specs.Order.{IsUpTo}
-use Rattle.aprs_laws.specs.Row.{Row, row_key, last_of, row_cmp}
+use Rattle.aprs_laws.specs.Row.{Row, row_key, last_moment, row_cmp}
 use Rattle.aprs_laws.specs.Book.{BookOf}
 use Rattle.aprs_laws.specs.Sound.{IsSoundRow, Sound}
 use Rattle.aprs_laws.specs.Witnesses.{witnesses_of_row, witnesses}
@@ -251,9 +251,9 @@ first_up_to l x e u =
 pub joins_last : (gap : ℕ) (rows done : List Row) (l x : Row)
     → coalesced_rows gap rows ≡ done ++ l ∷ []
     → AreInOrder (rows ++ x ∷ []) → IsSoundRow x
-    → (compare_near gap l x ≡ Equal) ↔ ((row_key l ≡ row_key x) × (x.first ≤ last_of l + gap))
+    → (compare_near gap l x ≡ Equal) ↔ ((row_key l ≡ row_key x) × (x.first ≤ last_moment l + gap))
 joins_last gap rows done l x c o w = (near, test) where
-  near : compare_near gap l x ≡ Equal → (row_key l ≡ row_key x) × (x.first ≤ last_of l + gap)
+  near : compare_near gap l x ≡ Equal → (row_key l ≡ row_key x) × (x.first ≤ last_moment l + gap)
   near e = let n =
       subst (λ (p : Ordering). MatchOrdering p (IsBefore gap l x) (IsNear gap l x)
       (IsBefore gap x l))
@@ -262,7 +262,7 @@ joins_last gap rows done l x c o w = (near, test) where
   is_last : l ∈ coalesced_rows gap rows
   is_last = subst (λ (ys : List Row). l ∈ ys) (sym c) (in_right l done (l ∷ []) (inl refl))
 
-  test : (row_key l ≡ row_key x) × (x.first ≤ last_of l + gap) → compare_near gap l x ≡ Equal
+  test : (row_key l ≡ row_key x) × (x.first ≤ last_moment l + gap) → compare_near gap l x ≡ Equal
   test t =
       let u = first_up_to l x t.0 (coalesced_up_to gap rows x o l is_last) in
       place_near gap l x

@@ -2,7 +2,7 @@
 use Rattle.aprs_laws.proofs.Common.{◌≡◌, ℕ, ◌<◌, ◌≤◌, min, Bool, true, false, ◌&&◌, not, List, [], ◌∷◌, ◌++◌, inl, inr, refl, sym, ap, ◌∙◌, subst, arith, MatchOrdering, Ordering, Less, Equal, Greater, Received, bytes_cmp}
 use Rattle.aprs_laws.specs.Lists.{◌∈◌, Ordered}
 use Rattle.aprs_laws.specs.Order.{IsBelow}
-use Rattle.aprs_laws.specs.Row.{Row, last_of}
+use Rattle.aprs_laws.specs.Row.{Row, last_moment}
 use Rattle.aprs_laws.specs.Book.{BookOf}
 use Rattle.aprs_laws.specs.Sound.{IsSoundRow, Sound}
 use Rattle.aprs_laws.specs.Witnesses.{witnesses}
@@ -62,13 +62,13 @@ third Greater P Q R h f g = h
 
 -- what follows a row that is near to s does not lie before s
 pub not_before_s : (gap : ℕ) (s : Received) (r x : Row) → IsNear gap r (single s) → IsBefore gap r x
-    → x.first ≤ last_of x → IsBefore gap x (single s) → ⊥
+    → x.first ≤ last_moment x → IsBefore gap x (single s) → ⊥
 not_before_s gap s r x n b l h =
     near_not_before gap r (single s) n (before_trans gap r x (single s) l b h)
 
 -- what follows two rows that are near to s lies after s
 pub after_two : (gap : ℕ) (s : Received) (r x y : Row) → IsNear gap r (single s)
-    → IsNear gap x (single s) → x.first ≤ last_of x → y.first ≤ last_of y → IsBefore gap r x
+    → IsNear gap x (single s) → x.first ≤ last_moment x → y.first ≤ last_moment y → IsBefore gap r x
     → IsBefore gap x y → IsBefore gap (single s) y
 after_two gap s r x y n m lx ly b c =
     third (compare_near gap y (single s)) (IsBefore gap y (single s)) (IsNear gap y (single s))
@@ -83,10 +83,10 @@ bridged_is_joined : (gap : ℕ) (s : Received) (r : Row) (rows : List Row) → I
 bridged_is_joined gap s r [] n w v o = refl
 bridged_is_joined gap s r (x ∷ xs) n w v o =
     by_case (compare_near gap x (single s)) (place_means gap x (single s)) where
-      spans : (combine r (single s)).first ≤ last_of (combine r (single s))
+      spans : (combine r (single s)).first ≤ last_moment (combine r (single s))
       spans = omega (arith, w.in_order, combined_last r (single s))
 
-      each : (y : Row) → y ∈ (x ∷ xs) → y.first ≤ last_of y
+      each : (y : Row) → y ∈ (x ∷ xs) → y.first ≤ last_moment y
       each y h = (v y h).in_order
 
       ascending : Ordered (IsBelow bytes_cmp) (combine r (single s)).receivers
@@ -152,7 +152,8 @@ inserted_is_joined gap s (r ∷ rows) w =
       by_case Greater h e = refl
 
 -- so it turns the book of S into that of S and s
-pub inserted_is_book : (gap : ℕ) (S : List Received) (s : Received) (rows : List Row) → BookOf gap S rows
+pub inserted_is_book : (gap : ℕ) (S : List Received) (s : Received) (rows : List Row)
+    → BookOf gap S rows
     → BookOf gap (S ++ s ∷ []) (insert_heard gap s rows)
 inserted_is_book gap S s rows b =
     subst (λ (p : List Row). BookOf gap (S ++ s ∷ []) p)
@@ -194,13 +195,14 @@ fits_by_test gap s (r ∷ rows) w f =
     (λ g. fits_by_test gap s rows
     (record { ordered = w.ordered.1; each = λ x m. w.each x (inr m) }) g)
     (place_means gap r (single s)) f.member where
-      span : (x : Row) → x ∈ (r ∷ rows) → x.first ≤ last_of x
+      span : (x : Row) → x ∈ (r ∷ rows) → x.first ≤ last_moment x
       span x h = (w.each x h).in_order
 
       none_near : (rows : List Row) → ((x : Row) → x ∈ rows → IsNear gap x (single s) → ⊥)
           → is_near_first gap s rows ≡ false
       none_near [] g = refl
-      none_near (x ∷ xs) g = first (compare_near gap x (single s)) (place_means gap x (single s)) where
+      none_near (x ∷ xs) g = first (compare_near gap x (single s)) (place_means gap x
+          (single s)) where
         first : (q : Ordering)
             → MatchOrdering q (IsBefore gap x (single s)) (IsNear gap x (single s))
             (IsBefore gap (single s) x) → choose q false true false ≡ false

@@ -3,7 +3,7 @@ use Rattle.aprs_laws.proofs.Common.{◌≡◌, ℕ, ◌+◌, ◌<◌, ◌≤◌,
 use Rattle.aprs_laws.specs.Lists.{◌∈◌, Ordered}
 use Rattle.aprs_laws.specs.Order.{IsUpTo}
 use Rattle.aprs_laws.specs.Key.{Key, key_of, key_cmp}
-use Rattle.aprs_laws.specs.Row.{Row, row_key, last_of, IsOf}
+use Rattle.aprs_laws.specs.Row.{Row, row_key, last_moment, IsOf}
 use Rattle.aprs_laws.specs.JoinRow.{single, combine, compare_near, join_row, merge, plain_book}
 use Rattle.aprs_laws.proofs.Lists.{in_left, in_right, in_either}
 use Rattle.aprs_laws.proofs.Orders.{not_both, key_total, heard_total}
@@ -106,7 +106,7 @@ before_join gap S T w (x ∷ xs) r m t f h =
     (λ _. λ y i. elim i [ inl e ↦ subst (λ (z : Row). IsBefore gap w z) e h | inr k ↦ f y k ])
 
 -- a row does not end before it begins
-pub span : (gap : ℕ) (X : List Received) (x : Row) → Makes gap X x → x.first ≤ last_of x
+pub span : (gap : ℕ) (X : List Received) (x : Row) → Makes gap X x → x.first ≤ last_moment x
 span gap X x m = let o = m.own x.greatest m.member in omega arith
 
 pub join_ordered : (gap : ℕ) (S T : List Received) (rows : List Row) (r : Row) → Made gap S rows
@@ -135,10 +135,11 @@ pub record IsPart (gap : ℕ) (S : List Received) (x : Row) : Type 0 where
   pub within : (s : Received) → s ∈ X → s ∈ S
   pub others : (s : Received) → s ∈ S
       → (s ∈ X) ⊎
-      (key_of s.frame ≡ row_key x → (s.moment + gap < x.first) ⊎ (last_of x + gap < s.moment))
+      (key_of s.frame ≡ row_key x → (s.moment + gap < x.first) ⊎ (last_moment x + gap < s.moment))
 
 -- each member of S is of a row
-pub row_of : (gap : ℕ) (S : List Received) (rows : List Row) → Made gap S rows → (s : Received) → s ∈ S
+pub row_of : (gap : ℕ) (S : List Received) (rows : List Row) → Made gap S rows
+    → (s : Received) → s ∈ S
     → (x : Row) × (x ∈ rows) × IsOf x s
 row_of gap S [] m s h = absurd (m s h)
 row_of gap S (x ∷ xs) m s h = elim ((m.2 s).0 h) [
@@ -148,7 +149,7 @@ row_of gap S (x ∷ xs) m s h = elim ((m.2 s).0 h) [
 
 -- what is of a row before x is away from x
 pub away_before : (gap : ℕ) (x y : Row) (s : Received) → IsBefore gap y x → IsOf y s
-    → key_of s.frame ≡ row_key x → (s.moment + gap < x.first) ⊎ (last_of x + gap < s.moment)
+    → key_of s.frame ≡ row_key x → (s.moment + gap < x.first) ⊎ (last_moment x + gap < s.moment)
 away_before gap x y s (inl h) i e =
     let r =
     subst (λ (k : Key). key_cmp k (row_key x) ≡ Less) (sym i.key ∙ e) h in
@@ -156,7 +157,7 @@ away_before gap x y s (inl h) i e =
 away_before gap x y s (inr h) i e = inl (omega (arith, i.to))
 
 pub away_after : (gap : ℕ) (x y : Row) (s : Received) → IsBefore gap x y → IsOf y s
-    → key_of s.frame ≡ row_key x → (s.moment + gap < x.first) ⊎ (last_of x + gap < s.moment)
+    → key_of s.frame ≡ row_key x → (s.moment + gap < x.first) ⊎ (last_moment x + gap < s.moment)
 away_after gap x y s (inl h) i e =
     let r =
     subst (λ (k : Key). key_cmp (row_key x) k ≡ Less) (sym i.key ∙ e) h in

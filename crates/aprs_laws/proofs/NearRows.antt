@@ -2,7 +2,7 @@
 use Rattle.aprs_laws.proofs.Common.{◌≡◌, ℕ, ◌+◌, ◌<◌, ◌≤◌, List, [], ◌∷◌, ◌⊎◌, inl, inr, sym, ◌∙◌, subst, arith, Less, Received}
 use Rattle.aprs_laws.specs.Lists.{◌∈◌, Ordered}
 use Rattle.aprs_laws.specs.Key.{Key, key_cmp}
-use Rattle.aprs_laws.specs.Row.{Row, row_key, last_of}
+use Rattle.aprs_laws.specs.Row.{Row, row_key, last_moment}
 use Rattle.aprs_laws.specs.Sound.{Sound}
 use Rattle.aprs_laws.specs.JoinRow.{single, IsNear}
 use Rattle.aprs_laws.proofs.Orders.{not_both, key_total}
@@ -11,7 +11,7 @@ use Rattle.aprs_laws.proofs.Pushes.{one_relation}
 
 -- rows of one key, one before the other, are more than the gap apart
 pub far_of_before : (gap : ℕ) (x y : Row) → row_key x ≡ row_key y → IsBefore gap x y
-    → last_of x + gap < y.first
+    → last_moment x + gap < y.first
 far_of_before gap x y e (inl h) =
     let r =
     subst (λ (k : Key). key_cmp k (row_key y) ≡ Less) e h in
@@ -19,13 +19,13 @@ far_of_before gap x y e (inl h) =
 far_of_before gap x y e (inr h) = h.1
 
 -- no reception is near to three rows, each before the next
-pub not_three : (gap : ℕ) (s : Received) (x y z : Row) → y.first ≤ last_of y → IsBefore gap x y
+pub not_three : (gap : ℕ) (s : Received) (x y z : Row) → y.first ≤ last_moment y → IsBefore gap x y
     → IsBefore gap y z → IsNear gap x (single s) → IsNear gap y (single s) → IsNear gap z (single s)
     → ⊥
 not_three gap s x y z l b c i j k =
     let f = far_of_before gap x y (i.key ∙ sym j.key) b in
     let g = far_of_before gap y z (j.key ∙ sym k.key) c in
-    apart (last_of x) y.first (last_of y) z.first s.moment f g l i.after k.before where
+    apart (last_moment x) y.first (last_moment y) z.first s.moment f g l i.after k.before where
       apart : (a b c d m : ℕ) → a + gap < b → c + gap < d → b ≤ c → m ≤ a + gap → d ≤ m + gap → ⊥
       apart a b c d m f g l i k = omega arith
 
@@ -40,7 +40,8 @@ one_or_ordered {X} R (w ∷ ws) x y o (inr h) (inl k) =
     inr (inr (subst (λ (v : X). R v x) k (o.0 x h)))
 one_or_ordered R (w ∷ ws) x y o (inr h) (inr k) = one_or_ordered R ws x y o.1 h k
 
-pub two_of_three : (gap : ℕ) (p : List Row) (s : Received) (x y z : Row) → Sound gap p → x ∈ p → y ∈ p
+pub two_of_three : (gap : ℕ) (p : List Row) (s : Received) (x y z : Row) → Sound gap p → x ∈ p
+    → y ∈ p
     → z ∈ p → IsNear gap x (single s) → IsNear gap y (single s) → IsNear gap z (single s)
     → (x ≡ y) ⊎ (y ≡ z) ⊎ (x ≡ z)
 two_of_three gap p s x y z w hx hy hz nx ny nz = elim (lie x y hx hy) [
@@ -56,7 +57,7 @@ two_of_three gap p s x y z w hx hy hz nx ny nz = elim (lie x y hx hy) [
   lie : (v w : Row) → v ∈ p → w ∈ p → (v ≡ w) ⊎ (IsBefore gap v w ⊎ IsBefore gap w v)
   lie v u hv hu = one_or_ordered (IsBefore gap) p v u (one_relation gap p w).ordered hv hu
 
-  span : (v : Row) → v ∈ p → v.first ≤ last_of v
+  span : (v : Row) → v ∈ p → v.first ≤ last_moment v
   span v h = (w.each v h).in_order
 
   no : IsBefore gap x y ⊎ IsBefore gap y x → IsBefore gap y z ⊎ IsBefore gap z y

@@ -4,7 +4,7 @@ use Rattle.aprs_laws.proofs.Common.{◌≡◌, ℕ, ◌+◌, ◌<◌, ◌≤◌,
 use Rattle.aprs_laws.specs.Lists.{◌∈◌, Ordered}
 use Rattle.aprs_laws.specs.Order.{IsUpTo}
 use Rattle.aprs_laws.specs.Key.{Key, key_cmp}
-use Rattle.aprs_laws.specs.Row.{Row, row_key, last_of, row_cmp}
+use Rattle.aprs_laws.specs.Row.{Row, row_key, last_moment, row_cmp}
 use Rattle.aprs_laws.specs.JoinRow.{choose, IsNear, combine, by_moments, compare_near, join_row}
 use Rattle.aprs_laws.proofs.Lists.{in_right}
 use Rattle.aprs_laws.proofs.Orders.{compared, key_total, key_exact}
@@ -21,7 +21,8 @@ at_key gap x y o h = ap (λ (p : Ordering). ordering_then p (by_moments gap x y)
 pub place_before : (gap : ℕ) (x y : Row) → IsBefore gap x y → compare_near gap x y ≡ Less
 place_before gap x y (inl h) = at_key gap x y Less h
 place_before gap x y (inr h) =
-    at_key gap x y Equal (one_key x y h.0) ∙ tests (last_of x) x.first (last_of y) y.first h.1 where
+    at_key gap x y Equal (one_key x y h.0)
+        ∙ tests (last_moment x) x.first (last_moment y) y.first h.1 where
       tests : (a b c d : ℕ) → a + gap < d
           → (if nat_lt (a + gap) d then Less else if nat_lt (c + gap) b then Greater else Equal)
           ≡ Less
@@ -30,19 +31,19 @@ place_before gap x y (inr h) =
 pub place_near : (gap : ℕ) (x y : Row) → IsNear gap x y → compare_near gap x y ≡ Equal
 place_near gap x y n =
     at_key gap x y Equal (one_key x y n.key)
-    ∙ tests (last_of x) x.first (last_of y) y.first n.after n.before where
+    ∙ tests (last_moment x) x.first (last_moment y) y.first n.after n.before where
       tests : (a b c d : ℕ) → d ≤ a + gap → b ≤ c + gap
           → (if nat_lt (a + gap) d then Less else if nat_lt (c + gap) b then Greater else Equal)
           ≡ Equal
       tests a b c d l m = grind (arith, nat_tests)
 
-pub place_after : (gap : ℕ) (x y : Row) → x.first ≤ last_of x → y.first ≤ last_of y
+pub place_after : (gap : ℕ) (x y : Row) → x.first ≤ last_moment x → y.first ≤ last_moment y
     → IsBefore gap y x → compare_near gap x y ≡ Greater
 place_after gap x y p q (inl h) =
     at_key gap x y Greater (key_total.antisymm (row_key x) (row_key y) ∙ ap ordering_reverse h)
 place_after gap x y p q (inr h) =
     at_key gap x y Equal (one_key x y (sym h.0))
-    ∙ tests (last_of x) x.first (last_of y) y.first p q h.1 where
+    ∙ tests (last_moment x) x.first (last_moment y) y.first p q h.1 where
       tests : (a b c d : ℕ) → b ≤ a → d ≤ c → c + gap < b
           → (if nat_lt (a + gap) d then Less else if nat_lt (c + gap) b then Greater else Equal)
           ≡ Greater
@@ -62,8 +63,8 @@ chosen gap x xs r o h =
     (r ∷ x ∷ xs)) h
 
 -- rows that lie after r stay
-pub join_first : (gap : ℕ) (c : List Row) (r : Row) → r.first ≤ last_of r
-    → ((x : Row) → x ∈ c → x.first ≤ last_of x) → ((x : Row) → x ∈ c → IsBefore gap r x)
+pub join_first : (gap : ℕ) (c : List Row) (r : Row) → r.first ≤ last_moment r
+    → ((x : Row) → x ∈ c → x.first ≤ last_moment x) → ((x : Row) → x ∈ c → IsBefore gap r x)
     → join_row gap c r ≡ r ∷ c
 join_first gap [] r l s f = refl
 join_first gap (x ∷ c) r l s f =
@@ -90,8 +91,8 @@ combined_before gap x r y e (inr h) (inr k) =
     inr (combined_key x r e ∙ h.0, omega (arith, h.1, k.1, combined_last x r))
 
 -- rows near to r go into one with it
-pub join_near : (gap : ℕ) (n c : List Row) (r : Row) → r.first ≤ last_of r
-    → ((x : Row) → x ∈ (n ++ c) → x.first ≤ last_of x) → Ordered (IsBefore gap) (n ++ c)
+pub join_near : (gap : ℕ) (n c : List Row) (r : Row) → r.first ≤ last_moment r
+    → ((x : Row) → x ∈ (n ++ c) → x.first ≤ last_moment x) → Ordered (IsBefore gap) (n ++ c)
     → ((x : Row) → x ∈ n → IsNear gap x r) → ((x : Row) → x ∈ c → IsBefore gap r x)
     → join_row gap (n ++ c) r ≡ gather n r ∷ c
 join_near gap [] c r l s o f g = join_first gap c r l s g

@@ -4,8 +4,8 @@ use Rattle.std.specs.List.{last_or}
 use Rattle.aprs_laws.specs.Lists.{◌∈◌, IfLast, Ordered}
 use Rattle.aprs_laws.specs.Order.{IsBelow}
 use Rattle.aprs_laws.specs.Key.{Key, key_cmp}
-use Rattle.aprs_laws.specs.Row.{Row, row_key, last_of, row_cmp}
-use Rattle.aprs_laws.specs.Sound.{ComesAfter, IsSoundRow, IsFar, Sound, IsNext}
+use Rattle.aprs_laws.specs.Row.{Row, row_key, last_moment, row_cmp}
+use Rattle.aprs_laws.specs.Sound.{FollowsFar, IsSoundRow, IsFar, Sound, IsNext}
 use Rattle.aprs_laws.proofs.Lists.{in_left, in_right, in_either, ordered_weaker}
 use Rattle.aprs_laws.proofs.Places.{ordered_append}
 use Rattle.aprs_laws.proofs.Orders.{not_both, key_total}
@@ -44,7 +44,8 @@ two_relations gap rows s = record {
 
 -- what is before all of some rows is known by the last of them
 pub before_last : (gap : ℕ) (prefix : List Row) (l x : Row)
-    → Ordered (IsBefore gap) (prefix ++ l ∷ []) → l.first ≤ last_of l → IsBefore gap l x → (y : Row)
+    → Ordered (IsBefore gap) (prefix ++ l ∷ []) → l.first ≤ last_moment l → IsBefore gap l x
+        → (y : Row)
     → y ∈ (prefix ++ l ∷ []) → IsBefore gap y x
 before_last gap [] l x o s b y h =
     elim h [ inl e ↦ subst (λ (z : Row). IsBefore gap z x) e b | inr k ↦ absurd k ]
@@ -68,7 +69,8 @@ pub push_sound : (gap : ℕ) (prefix : List Row) (l x : Row) → Sound gap (pref
     → IsBelow row_cmp l x → IsFar gap l x → IsSoundRow x → Sound gap ((prefix ++ l ∷ []) ++ x ∷ [])
 push_sound gap prefix l x s b f w =
     let i = one_relation gap (prefix ++ l ∷ []) s in
-    let span : l.first ≤ last_of l = (s.each l (in_right l prefix (l ∷ []) (inl refl))).in_order in
+    let span : l.first ≤ last_moment l = (s.each l (in_right l prefix (l ∷ [])
+        (inl refl))).in_order in
     two_relations gap ((prefix ++ l ∷ []) ++ x ∷ []) (record {
       ordered =
           ordered_append (IsBefore gap) (prefix ++ l ∷ []) (x ∷ []) i.ordered (λ y h. absurd h, tt)
@@ -133,7 +135,7 @@ pub next_of_sound : (gap : ℕ) (rows : List Row) (x : Row) → Sound gap (rows 
     → IsNext gap rows x
 next_of_sound gap rows x s = record {
   own = s.each x (in_right x rows (x ∷ []) (inl refl));
-  after = last_if rows (ComesAfter gap x) (λ prefix l e.
+  after = last_if rows (FollowsFar gap x) (λ prefix l e.
       (lies (IsBelow row_cmp) s.ascending prefix l e, lies (IsFar gap) s.apart prefix l e));
 } where
   lies : (R : Row → Row → Type 0) → Ordered R (rows ++ x ∷ []) → (prefix : List Row) (l : Row)
@@ -146,7 +148,7 @@ pub sound_of_next : (gap : ℕ) (rows : List Row) (x : Row) → Sound gap rows �
     → Sound gap (rows ++ x ∷ [])
 sound_of_next gap rows x s n = elim (empty_or_last rows) [
   | inl e ↦ subst (λ (xs : List Row). Sound gap (xs ++ x ∷ [])) (sym e) (push_first gap x n.own)
-  | inr t ↦ let a = if_last rows (ComesAfter gap x) n.after t.0 t.1 t.2 in
+  | inr t ↦ let a = if_last rows (FollowsFar gap x) n.after t.0 t.1 t.2 in
       subst (λ (xs : List Row). Sound gap (xs ++ x ∷ [])) (sym t.2)
       (push_sound gap t.0 t.1 x (subst (λ (xs : List Row). Sound gap xs) t.2 s) a.0 a.1 n.own)
 ]

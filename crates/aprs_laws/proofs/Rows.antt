@@ -3,7 +3,7 @@ use Rattle.aprs_laws.proofs.Common.{◌≡◌, ℕ, ◌+◌, ◌<◌, ◌≤◌,
 use Rattle.aprs_laws.specs.Lists.{◌∈◌, Ordered}
 use Rattle.aprs_laws.specs.Order.{IsBelow, IsUpTo}
 use Rattle.aprs_laws.specs.Key.{Key, key_of, key_cmp}
-use Rattle.aprs_laws.specs.Row.{Row, row_key, last_of, IsOf}
+use Rattle.aprs_laws.specs.Row.{Row, row_key, last_moment, IsOf}
 use Rattle.aprs_laws.specs.JoinRow.{choose, greater, IsNear, combine, by_moments, compare_near}
 use Rattle.aprs_laws.proofs.Lists.{in_left, in_right, in_either}
 use Rattle.aprs_laws.proofs.Orders.{compared, key_total, key_exact, bytes_total, bytes_exact, heard_total, moment_up_to}
@@ -13,7 +13,7 @@ use Rattle.aprs_laws.proofs.Choices.{in_union, union_ordered}
 pub record Makes (gap : ℕ) (X : List Received) (x : Row) : Type 0 where
   pub own : (s : Received) → s ∈ X → IsOf x s
   pub at_first : (s : Received) × (s ∈ X) × (s.moment ≡ x.first)
-  pub linked : (m : ℕ) → x.first ≤ m → m < last_of x
+  pub linked : (m : ℕ) → x.first ≤ m → m < last_moment x
       → (s : Received) × (s ∈ X) × (m < s.moment) × (s.moment ≤ m + gap)
   pub ascending : Ordered (IsBelow bytes_cmp) x.receivers
   pub receivers : (r : List ℕ) → (r ∈ x.receivers) ↔ ((s : Received) × (s ∈ X) × (s.receiver ≡ r))
@@ -24,13 +24,13 @@ pub record Makes (gap : ℕ) (X : List Received) (x : Row) : Type 0 where
 abbrev pub IsBefore : ℕ → Row → Row → Type 0
 IsBefore gap x y =
     (key_cmp (row_key x) (row_key y) ≡ Less)
-    ⊎ ((row_key x ≡ row_key y) × (last_of x + gap < y.first))
+    ⊎ ((row_key x ≡ row_key y) × (last_moment x + gap < y.first))
 
 -- z is what x and y make
 pub record IsCombined (x y z : Row) : Type 0 where
   pub key : row_key z ≡ row_key x
   pub first : z.first ≡ min x.first y.first
-  pub last : last_of z ≡ max (last_of x) (last_of y)
+  pub last : last_moment z ≡ max (last_moment x) (last_moment y)
   pub ascending : Ordered (IsBelow bytes_cmp) z.receivers
   pub receivers : (r : List ℕ) → (r ∈ z.receivers) ↔ ((r ∈ x.receivers) ⊎ (r ∈ y.receivers))
   pub greatest : ((z.greatest ≡ x.greatest) × IsUpTo heard_cmp y.greatest x.greatest) ⊎
@@ -60,14 +60,14 @@ module _ (gap : ℕ) (X Y : List Received) (x y z : Row) (mx : Makes gap X x) (m
       → (s : Received) × (s ∈ (X ++ Y)) × (m < s.moment) × (s.moment ≤ m + gap)
   from_y m t = (t.0, in_right t.0 X Y t.1, t.2, t.3)
 
-  combined_linked : (m : ℕ) → z.first ≤ m → m < last_of z
+  combined_linked : (m : ℕ) → z.first ≤ m → m < last_moment z
       → (s : Received) × (s ∈ (X ++ Y)) × (m < s.moment) × (s.moment ≤ m + gap)
   combined_linked m f l = elim (cases_lt m x.first) [
-    | inl a ↦ elim (cases_lt m (last_of y)) [
+    | inl a ↦ elim (cases_lt m (last_moment y)) [
       | inl b ↦ from_y m (my.linked m (omega arith) b)
       | inr b ↦ let t = mx.at_first in from_x m (t.0, t.1, omega (arith, t.2), omega (arith, t.2))
     ]
-    | inr a ↦ elim (cases_lt m (last_of x)) [
+    | inr a ↦ elim (cases_lt m (last_moment x)) [
       | inl b ↦ from_x m (mx.linked m a b)
       | inr b ↦ elim (cases_lt m y.first) [
         | inl d ↦ let t = my.at_first in from_y m (t.0, t.1, omega (arith, t.2), omega (arith, t.2))
@@ -141,15 +141,15 @@ combined_key x y e = elim (the_greater x.greatest y.greatest) [
   | inr g ↦ ap (λ (s : Received). key_of s.frame) g.0 ∙ sym e
 ]
 
-pub combined_last : (x y : Row) → last_of (combine x y) ≡ max (last_of x) (last_of y)
+pub combined_last : (x y : Row) → last_moment (combine x y) ≡ max (last_moment x) (last_moment y)
 combined_last x y = elim (the_greater x.greatest y.greatest) [
   | inl g ↦ ap (λ (s : Received). s.moment) g.0 ∙ above (moment_up_to y.greatest x.greatest g.1)
   | inr g ↦ ap (λ (s : Received). s.moment) g.0 ∙ below (moment_up_to x.greatest y.greatest g.1)
 ] where
-  above : last_of y ≤ last_of x → last_of x ≡ max (last_of x) (last_of y)
+  above : last_moment y ≤ last_moment x → last_moment x ≡ max (last_moment x) (last_moment y)
   above l = omega arith
 
-  below : last_of x ≤ last_of y → last_of y ≡ max (last_of x) (last_of y)
+  below : last_moment x ≤ last_moment y → last_moment y ≡ max (last_moment x) (last_moment y)
   below l = omega arith
 
 pub combines : (gap : ℕ) (X Y : List Received) (x y : Row) → row_key x ≡ row_key y → Makes gap X x
@@ -168,8 +168,9 @@ pub place_means : (gap : ℕ) (x y : Row)
 place_means gap x y =
     by_key (key_cmp (row_key x) (row_key y))
     (compared key_total key_exact (row_key x) (row_key y)) where
-      by_moment : (e : row_key x ≡ row_key y) (p q : Bool) → nat_lt (last_of x + gap) y.first ≡ p
-          → nat_lt (last_of y + gap) x.first ≡ q
+      by_moment : (e : row_key x ≡ row_key y) (p q : Bool)
+          → nat_lt (last_moment x + gap) y.first ≡ p
+          → nat_lt (last_moment y + gap) x.first ≡ q
           → MatchOrdering (if p then Less else if q then Greater else Equal) (IsBefore gap x y)
           (IsNear gap x y) (IsBefore gap y x)
       by_moment e true q h k = inr (e, grind (arith, nat_tests))
@@ -184,8 +185,8 @@ place_means gap x y =
           (IsBefore gap y x)
       by_key Less h = inl h
       by_key Equal h =
-          by_moment h (nat_lt (last_of x + gap) y.first)
-          (nat_lt (last_of y + gap) x.first) refl refl
+          by_moment h (nat_lt (last_moment x + gap) y.first)
+          (nat_lt (last_moment y + gap) x.first) refl refl
       by_key Greater h = inl h
 
 -- what is before x is before what x and y make, if it is before both
@@ -197,7 +198,7 @@ before_combined gap w x y z e c (inr h) (inl k) =
     inl (subst (λ (q : Key). key_cmp (row_key w) q ≡ Less) (sym e ∙ sym c.key) k)
 before_combined gap w x y z e c (inr h) (inr k) = inr (h.0 ∙ sym c.key, omega arith)
 
-pub before_trans : (gap : ℕ) (x y z : Row) → y.first ≤ last_of y → IsBefore gap x y
+pub before_trans : (gap : ℕ) (x y z : Row) → y.first ≤ last_moment y → IsBefore gap x y
     → IsBefore gap y z → IsBefore gap x z
 before_trans gap x y z l (inl h) (inl k) =
     inl (key_total.trans (row_key x) (row_key y) (row_key z) h k)

@@ -3,7 +3,7 @@ use Rattle.aprs_laws.proofs.Common.{◌≡◌, ℕ, ◌<◌, List, [], ◌∷◌
 use Rattle.aprs_laws.specs.Lists.{◌∈◌}
 use Rattle.aprs_laws.specs.Key.{Key}
 use Rattle.aprs_laws.specs.Run.{Run}
-use Rattle.aprs_laws.specs.Row.{Row, row_key, last_of}
+use Rattle.aprs_laws.specs.Row.{Row, row_key, last_moment}
 use Rattle.aprs_laws.specs.Book.{BookOf}
 use Rattle.aprs_laws.specs.Sound.{Sound}
 use Rattle.aprs_laws.specs.Witnesses.{witnesses}
@@ -23,8 +23,8 @@ one_row_each gap S rows b =
           let t = a_row gap S rows b h.0 h.1 in
           let e : row_key t.0 ≡ k = sym t.2.key ∙ h.2 in
           let ends =
-          runs_same gap S k f l t.0.first (last_of t.0) f r
-          (subst (λ (q : Key). Run gap S q t.0.first (last_of t.0)) e t.3.run)
+          runs_same gap S k f l t.0.first (last_moment t.0) f r
+          (subst (λ (q : Key). Run gap S q t.0.first (last_moment t.0)) e t.3.run)
           (omega arith) r.in_order (omega (arith, h.3, t.2.from)) (omega (arith, h.3, t.2.to)) in
           (t.0, t.1, record { key_of_row = e; first_of_row = sym ends.0; last_of_row = sym ends.1 })
 
@@ -69,7 +69,8 @@ books_decide_union gap S S' T T' p q c bs bs' bt bt' b =
     (book_carries gap (S' ++ T) (T ++ S') c (around S' T) (congruence gap S S' T p c bs bs' b)))
 
 -- and is the joined value of the books
-pub union_is_joined : (gap : ℕ) → 0 < gap → (S T : List Received) (a b c : List Row) → BookOf gap S a
+pub union_is_joined : (gap : ℕ) → 0 < gap → (S T : List Received) (a b c : List Row)
+    → BookOf gap S a
     → BookOf gap T b → BookOf gap (S ++ T) c ↔ BookOf gap (witnesses a ++ witnesses b) c
 union_is_joined gap pos S T a b c p q =
     let ra = witnessed gap a pos (sound gap S a p) in

@@ -3,7 +3,7 @@ use Rattle.aprs_laws.proofs.Common.{◌≡◌, ℕ, ◌+◌, ◌*◌, ◌/◌, �
 use Rattle.std.proofs.Math.Nat.{add-mul, mul-le-mul_right, mul-lt-mul_of_pos_right, div-mul-le_self, lt-div-mul-add, le-div_iff_mul-le, div-lt_iff_lt-mul, eq_of_mul-eq-mul_right, lt_of_mul-lt-mul_right}
 use Rattle.aprs_laws.specs.Lists.{◌∈◌, Ordered}
 use Rattle.aprs_laws.specs.Order.{IsUpTo}
-use Rattle.aprs_laws.specs.Row.{Row, last_of, IsOf}
+use Rattle.aprs_laws.specs.Row.{Row, last_moment, IsOf}
 use Rattle.aprs_laws.specs.Book.{BookOf}
 use Rattle.aprs_laws.specs.Scaling.{scaled_heard, scaled_row, scaled_rows}
 use Rattle.aprs_laws.proofs.Lists.{in_map, from_map}
@@ -36,13 +36,14 @@ scaled_up_to k s t pos u = ap is_gt (scaled_heard_cmp k s t pos) ∙ u
 
 module _ (k gap : ℕ) (pos : 0 < k) where
   -- each member of a scaled list is a scaled member
-  of_each : (P : Received → Type 0) (X : List Received) → ((s : Received) → s ∈ X → P (scaled_heard k s))
+  of_each : (P : Received → Type 0) (X : List Received) → ((s : Received) → s ∈ X
+      → P (scaled_heard k s))
       → (t : Received) → t ∈ map (scaled_heard k) X → P t
   of_each P X f t h = let u = from_map (scaled_heard k) t X h in subst P u.2 (f u.0 u.1)
 
   -- a moment between two moments of the old unit: the last one of these that isn't after it
   scaled_linked : (X : List Received) (x : Row) → Makes gap X x → (n : ℕ) → x.first * k ≤ n
-      → n < last_of x * k
+      → n < last_moment x * k
       → (s : Received) × (s ∈ map (scaled_heard k) X) × (n < s.moment) × (s.moment ≤ n + gap * k)
   scaled_linked X x m n l u =
       let t = m.linked (n / k) ((le-div_iff_mul-le pos).1 l)
@@ -125,7 +126,7 @@ module _ (k gap : ℕ) (pos : 0 < k) where
   scaled_before x y (inr h) =
       inr (
         h.0,
-        subst (λ (w : ℕ). w < y.first * k) (add-mul (last_of x) gap k)
+        subst (λ (w : ℕ). w < y.first * k) (add-mul (last_moment x) gap k)
             (mul-lt-mul_of_pos_right h.1 pos),
       )
 

@@ -3,7 +3,7 @@ use Rattle.aprs_laws.proofs.Common.{◌≡◌, ℕ, zero, suc, ◌+◌, ◌-◌,
 use Rattle.aprs_laws.specs.Lists.{◌∈◌, Ordered}
 use Rattle.aprs_laws.specs.Order.{IsBelow, IsUpTo}
 use Rattle.aprs_laws.specs.Key.{Key, key_cmp}
-use Rattle.aprs_laws.specs.Row.{Row, row_key, last_of, IsOf, row_cmp}
+use Rattle.aprs_laws.specs.Row.{Row, row_key, last_moment, IsOf, row_cmp}
 use Rattle.aprs_laws.specs.Book.{BookOf}
 use Rattle.aprs_laws.specs.Sound.{IsSoundRow, IsFar, Sound}
 use Rattle.aprs_laws.specs.Witnesses.{moments, witness_at, witness_by, witnesses_of_row, witnesses}
@@ -58,43 +58,45 @@ from_moments m a (suc n) (inr h) =
     let k = from_moments m (a + 1) n h in (omega (arith, k), omega (arith, k))
 
 module _ (gap : ℕ) (x : Row) (w : IsSoundRow x) (pos : 0 < gap) where
-  has_witness_at : (m : ℕ) → x.first ≤ m → m ≤ last_of x → witness_at x m ∈ witnesses_of_row x
+  has_witness_at : (m : ℕ) → x.first ≤ m → m ≤ last_moment x → witness_at x m ∈ witnesses_of_row x
   has_witness_at m l u =
-      in_left (witness_at x m) (map (witness_at x) (moments x.first (last_of x - x.first + 1)))
+      in_left (witness_at x m) (map (witness_at x) (moments x.first (last_moment x - x.first + 1)))
       (map (witness_by x) x.receivers)
-      (in_map (witness_at x) m (moments x.first (last_of x - x.first + 1))
-      (in_moments m x.first (last_of x - x.first + 1) l (omega arith)))
+      (in_map (witness_at x) m (moments x.first (last_moment x - x.first + 1))
+      (in_moments m x.first (last_moment x - x.first + 1) l (omega arith)))
 
   pub has_witness_by : (r : List ℕ) → r ∈ x.receivers → witness_by x r ∈ witnesses_of_row x
   has_witness_by r h =
-      in_right (witness_by x r) (map (witness_at x) (moments x.first (last_of x - x.first + 1)))
+      in_right (witness_by x r) (map (witness_at x) (moments x.first (last_moment x - x.first + 1)))
       (map (witness_by x) x.receivers) (in_map (witness_by x) r x.receivers h)
 
   -- each witness is one of these
-  pub from_witness : (P : Received → Type 0) → ((m : ℕ) → x.first ≤ m → m ≤ last_of x
+  pub from_witness : (P : Received → Type 0) → ((m : ℕ) → x.first ≤ m → m ≤ last_moment x
       → P (witness_at x m))
-      → ((r : List ℕ) → r ∈ x.receivers → P (witness_by x r)) → (s : Received) → s ∈ witnesses_of_row x
+      → ((r : List ℕ) → r ∈ x.receivers → P (witness_by x r)) → (s : Received)
+          → s ∈ witnesses_of_row x
       → P s
   from_witness P f g s h =
       elim
-      (in_either s (map (witness_at x) (moments x.first (last_of x - x.first + 1)))
+      (in_either s (map (witness_at x) (moments x.first (last_moment x - x.first + 1)))
       (map (witness_by x) x.receivers) h) [
-        | inl k ↦ let t = from_map (witness_at x) s (moments x.first (last_of x - x.first + 1)) k in
-            let u = from_moments t.0 x.first (last_of x - x.first + 1) t.1 in
+        | inl k ↦ let t = from_map (witness_at x) s (moments x.first
+            (last_moment x - x.first + 1)) k in
+            let u = from_moments t.0 x.first (last_moment x - x.first + 1) t.1 in
             subst P t.2 (f t.0 u.0 (omega (arith, u, w.in_order)))
         | inr k ↦ let t = from_map (witness_by x) s x.receivers k in subst P t.2 (g t.0 t.1)
       ]
 
   greatest_witness : (s : Received) → s ∈ witnesses_of_row x → IsUpTo heard_cmp s x.greatest
   greatest_witness = from_witness (λ s. IsUpTo heard_cmp s x.greatest)
-      (λ m l u. elim (cases_lt m (last_of x)) [
+      (λ m l u. elim (cases_lt m (last_moment x)) [
         | inl c ↦ up_to_moment (witness_at x m) x.greatest (omega arith)
         | inr c ↦ up_to_receiver (witness_at x m) x.greatest (omega arith)
             (ap is_gt (tied_itself bytes_total x.greatest.receiver)) refl
       ])
-      (λ r h. elim (cases_lt x.first (last_of x)) [
+      (λ r h. elim (cases_lt x.first (last_moment x)) [
         | inl c ↦ up_to_moment (witness_by x r) x.greatest (omega arith)
-        | inr c ↦ let e : x.first ≡ last_of x =
+        | inr c ↦ let e : x.first ≡ last_moment x =
             omega (arith, w.in_order) in
             up_to_receiver (witness_by x r) x.greatest (omega arith) (w.single e r h) refl
       ])
@@ -119,7 +121,7 @@ module _ (gap : ℕ) (x : Row) (w : IsSoundRow x) (pos : 0 < gap) where
       λ t. subst (λ (q : List ℕ). q ∈ x.receivers) t.2
           (from_witness (λ s. s.receiver ∈ x.receivers) (λ m l u. w.receiver) (λ q h. h) t.0 t.1),
     );
-    member = has_witness_at (last_of x) w.in_order (omega arith);
+    member = has_witness_at (last_moment x) w.in_order (omega arith);
     greatest = greatest_witness;
   }
 

@@ -2,7 +2,7 @@
 use Rattle.aprs_laws.proofs.Common.{◌≡◌, ℕ, List, ◌↔◌, sym, subst, arith, Received}
 use Rattle.aprs_laws.specs.Lists.{◌∈◌}
 use Rattle.aprs_laws.specs.Key.{Key, key_of}
-use Rattle.aprs_laws.specs.Row.{Row, row_key, last_of}
+use Rattle.aprs_laws.specs.Row.{Row, row_key, last_moment}
 use Rattle.aprs_laws.specs.Book.{BookOf}
 use Rattle.aprs_laws.specs.Spans.{IsFirstMoment, IsLastMoment, IsLeastFirst, IsGreatestLast}
 use Rattle.aprs_laws.proofs.Views.{a_row}
@@ -16,7 +16,7 @@ module _ (gap : ℕ) (S : List Received) (rows : List Row) (P : Key → Type 0) 
         (t.0, t.1, subst P (sym t.2) k, t.3)
 
     at_last : (x : Row) → x ∈ rows → P (row_key x)
-        → (s : Received) × (s ∈ S) × P (key_of s.frame) × (s.moment ≡ last_of x)
+        → (s : Received) × (s ∈ S) × P (key_of s.frame) × (s.moment ≡ last_moment x)
     at_last x h k = let t = ((b.exactly x).0 h).run.at_last in (t.0, t.1, subst P (sym t.2) k, t.3)
 
     first_shown : (m : ℕ) → IsFirstMoment S P m → IsLeastFirst rows P m
@@ -65,8 +65,8 @@ module _ (gap : ℕ) (S : List Received) (rows : List Row) (P : Key → Type 0) 
               omega (arith, f.greatest u.0 u.1 (subst P u.2.key q), u.2.to);
         }
 
-    pub first_moment : (m : ℕ) → IsFirstMoment S P m ↔ IsLeastFirst rows P m
-    first_moment m = (first_shown m, first_known m)
+    pub first_moment_is : (m : ℕ) → IsFirstMoment S P m ↔ IsLeastFirst rows P m
+    first_moment_is m = (first_shown m, first_known m)
 
-    pub last_moment : (m : ℕ) → IsLastMoment S P m ↔ IsGreatestLast rows P m
-    last_moment m = (last_shown m, last_known m)
+    pub last_moment_is : (m : ℕ) → IsLastMoment S P m ↔ IsGreatestLast rows P m
+    last_moment_is m = (last_shown m, last_known m)

@@ -4,7 +4,7 @@ use Rattle.aprs_log.specs.Reception.{Received}
 use Rattle.aprs_laws.specs.Lists.{◌∈◌, SameMembers}
 use Rattle.aprs_laws.specs.Key.{Key}
 use Rattle.aprs_laws.specs.Run.{Run}
-use Rattle.aprs_laws.specs.Row.{Row, row_key, last_of}
+use Rattle.aprs_laws.specs.Row.{Row, row_key, last_moment}
 use Rattle.aprs_laws.specs.Book.{BookOf}
 use Rattle.aprs_laws.specs.Sound.{Sound}
 use Rattle.aprs_laws.specs.Witnesses.{witnesses}
@@ -16,7 +16,8 @@ EachSetHasBook gap = (S : List Received) → (p : List Row) × BookOf gap S p
 -- Sets with the same members have one book.
 abbrev pub MembersDecideBook : ℕ → Type 0
 MembersDecideBook gap =
-    (S T : List Received) (p q : List Row) → SameMembers S T → BookOf gap S p → BookOf gap T q → p ≡ q
+    (S T : List Received) (p q : List Row) → SameMembers S T → BookOf gap S p → BookOf gap T q
+        → p ≡ q
 
 -- Only the empty set has a book without rows.
 abbrev pub EmptyBookIsOfNothing : ℕ → Type 0
@@ -52,14 +53,14 @@ UnionIsJoined gap =
 pub record IsRowAt (key : Key) (first last : ℕ) (x : Row) : Type 0 where
   pub key_of_row : row_key x ≡ key
   pub first_of_row : x.first ≡ first
-  pub last_of_row : last_of x ≡ last
+  pub last_of_row : last_moment x ≡ last
 
 -- Each transmission in S has exactly one of the rows, and each row is of a transmission.
 pub record HasOneRowEach (gap : ℕ) (S : List Received) (rows : List Row) : Type 0 where
   pub some : (k : Key) (a b : ℕ) → Run gap S k a b → (x : Row) × (x ∈ rows) × IsRowAt k a b x
   pub only : (k : Key) (a b : ℕ) (x y : Row) → x ∈ rows → y ∈ rows
       → IsRowAt k a b x → IsRowAt k a b y → x ≡ y
-  pub run : (x : Row) → x ∈ rows → Run gap S (row_key x) x.first (last_of x)
+  pub run : (x : Row) → x ∈ rows → Run gap S (row_key x) x.first (last_moment x)
 
 -- In a book each transmission of its set has exactly one row.
 abbrev pub RunsHaveOneRowEach : ℕ → Type 0

@@ -5,7 +5,7 @@ use Rattle.std.specs.declared.cmp.Ordering.TheVariants.{Equal}
 use Rattle.aprs_log.specs.Reception.{Received}
 use Rattle.aprs_laws.specs.Lists.{◌∈◌, Ordered, SameMembers}
 use Rattle.aprs_laws.specs.Order.{IsUpTo}
-use Rattle.aprs_laws.specs.Row.{Row, row_key, last_of, row_cmp}
+use Rattle.aprs_laws.specs.Row.{Row, row_key, last_moment, row_cmp}
 use Rattle.aprs_laws.specs.Book.{BookOf}
 use Rattle.aprs_laws.specs.Sound.{IsSoundRow, Sound}
 use Rattle.aprs_laws.specs.Witnesses.{witnesses}
@@ -53,12 +53,14 @@ BooksStand = (gap : ℕ) (rows : List Row) → Sound gap rows → StandFor rows 
 -- Rows that stand for two sets stand together for their union.
 abbrev pub UnionsStand : Type 0
 UnionsStand =
-    (p q : List Row) (S T : List Received) → StandFor p S → StandFor q T → StandFor (p ++ q) (S ++ T)
+    (p q : List Row) (S T : List Received) → StandFor p S → StandFor q T
+        → StandFor (p ++ q) (S ++ T)
 
 -- Receptions in order, each as a row of its own, coalesce to their book.
 abbrev pub CoalescesReceptions : ℕ → Type 0
 CoalescesReceptions gap =
-    (S : List Received) → AreInOrder (map single S) → BookOf gap S (coalesced_rows gap (map single S))
+    (S : List Received) → AreInOrder (map single S)
+        → BookOf gap S (coalesced_rows gap (map single S))
 
 -- The rows of two books, put in order, coalesce to their joined value.
 abbrev pub CoalescesJoined : ℕ → Type 0
@@ -85,4 +87,4 @@ abbrev pub JoinsLast : ℕ → Type 0
 JoinsLast gap =
     (rows done : List Row) (l x : Row) → coalesced_rows gap rows ≡ done ++ l ∷ []
     → AreInOrder (rows ++ x ∷ []) → IsSoundRow x
-    → (compare_near gap l x ≡ Equal) ↔ ((row_key l ≡ row_key x) × (x.first ≤ last_of l + gap))
+    → (compare_near gap l x ≡ Equal) ↔ ((row_key l ≡ row_key x) × (x.first ≤ last_moment l + gap))

@@ -39,8 +39,8 @@ abbrev pub n0call : ℕ → Call
 n0call ssid = record { letters = codes "N0CALL"; ssid = ssid }
 
 -- A property that each key has.
-abbrev pub any_key : Key → Bool
-any_key key = true
+abbrev pub is_any_key : Key → Bool
+is_any_key key = true
 
 -- A receiver.
 abbrev pub rx1 : List ℕ

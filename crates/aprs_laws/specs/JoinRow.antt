@@ -5,7 +5,7 @@ use Rattle.std.specs.declared.cmp.Ordering.{Ordering}
 use Rattle.std.specs.declared.cmp.Ordering.TheVariants.{Less, Equal, Greater}
 use Rattle.aprs_log.specs.Reception.{Received, bytes_cmp, heard_cmp}
 use Rattle.aprs_laws.specs.Key.{key_cmp}
-use Rattle.aprs_laws.specs.Row.{Row, row_key, last_of}
+use Rattle.aprs_laws.specs.Row.{Row, row_key, last_moment}
 
 -- One of three values, by an ordering.
 abbrev pub choose : {A : Type 0} → Ordering → A → A → A → A
@@ -34,8 +34,8 @@ single s = record { first = s.moment; receivers = s.receiver ∷ []; greatest = 
 -- x and y have one key, and neither begins more than `gap` milliseconds after the other ends.
 pub record IsNear (gap : ℕ) (x y : Row) : Type 0 where
   pub key : row_key x ≡ row_key y
-  pub after : y.first ≤ last_of x + gap
-  pub before : x.first ≤ last_of y + gap
+  pub after : y.first ≤ last_moment x + gap
+  pub before : x.first ≤ last_moment y + gap
 
 -- Two near rows as one.
 abbrev pub combine : Row → Row → Row
@@ -48,8 +48,8 @@ combine x y = record {
 -- Of rows of one key: x before y and far from it, near (`Equal`), or after it.
 abbrev pub by_moments : ℕ → Row → Row → Ordering
 by_moments gap x y =
-    if nat_lt (last_of x + gap) y.first then Less
-    else if nat_lt (last_of y + gap) x.first then Greater else Equal
+    if nat_lt (last_moment x + gap) y.first then Less
+    else if nat_lt (last_moment y + gap) x.first then Greater else Equal
 
 -- Where x lies, seen from y: before, near or after.
 abbrev pub compare_near : ℕ → Row → Row → Ordering
@@ -59,7 +59,8 @@ compare_near gap x y = ordering_then (key_cmp (row_key x) (row_key y)) (by_momen
 abbrev pub join_row : ℕ → List Row → Row → List Row
 join_row gap [] r = r ∷ []
 join_row gap (x ∷ xs) r =
-    choose (compare_near gap x r) (x ∷ join_row gap xs r) (join_row gap xs (combine x r)) (r ∷ x ∷ xs)
+    choose (compare_near gap x r) (x ∷ join_row gap xs r) (join_row gap xs (combine x r))
+        (r ∷ x ∷ xs)
 
 -- All rows of the second list join the first.
 abbrev pub merge : ℕ → List Row → List Row → List Row

@@ -20,19 +20,19 @@ abbrev pub row_key : Row → Key
 row_key x = key_of x.greatest.frame
 
 -- The last moment of a row: that of its greatest reception.
-abbrev pub last_of : Row → ℕ
-last_of x = x.greatest.moment
+abbrev pub last_moment : Row → ℕ
+last_moment x = x.greatest.moment
 
 -- s is of the row's key, at a moment from its first to its last.
 pub record IsOf (x : Row) (s : Received) : Type 0 where
   pub key : key_of s.frame ≡ row_key x
   pub from : x.first ≤ s.moment
-  pub to : s.moment ≤ last_of x
+  pub to : s.moment ≤ last_moment x
 
 -- x is the row of a transmission in S: its receivers are those of the transmission's receptions,
 -- ascending and without repeats, and its greatest reception is the greatest of them.
 pub record RowOf (gap : ℕ) (S : List Received) (x : Row) : Type 0 where
-  pub run : Run gap S (row_key x) x.first (last_of x)
+  pub run : Run gap S (row_key x) x.first (last_moment x)
   pub ascending : Ordered (IsBelow bytes_cmp) x.receivers
   pub receivers : (r : List ℕ)
       → (r ∈ x.receivers) ↔ ((s : Received) × (s ∈ S) × IsOf x s × (s.receiver ≡ r))

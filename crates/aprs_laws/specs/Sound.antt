@@ -3,14 +3,14 @@ use Rattle.std.specs.Prelude.{◌≡◌, ℕ, ◌+◌, ◌<◌, ◌≤◌, List}
 use Rattle.aprs_log.specs.Reception.{bytes_cmp}
 use Rattle.aprs_laws.specs.Lists.{◌∈◌, IfLast, Ordered}
 use Rattle.aprs_laws.specs.Order.{IsBelow, IsUpTo}
-use Rattle.aprs_laws.specs.Row.{Row, row_key, last_of, row_cmp}
+use Rattle.aprs_laws.specs.Row.{Row, row_key, last_moment, row_cmp}
 
 -- What a row has by itself. At one moment alone the greatest reception is by the last receiver.
 pub record IsSoundRow (x : Row) : Type 0 where
-  pub in_order : x.first ≤ last_of x
+  pub in_order : x.first ≤ last_moment x
   pub ascending : Ordered (IsBelow bytes_cmp) x.receivers
   pub receiver : x.greatest.receiver ∈ x.receivers
-  pub single : x.first ≡ last_of x
+  pub single : x.first ≡ last_moment x
       → (r : List ℕ) → r ∈ x.receivers → IsUpTo bytes_cmp r x.greatest.receiver
 
 -- Each of the rows is sound by itself.
@@ -19,7 +19,7 @@ AreSoundRows rows = (x : Row) → x ∈ rows → IsSoundRow x
 
 -- Where the keys are equal, y begins more than `gap` milliseconds after x ends.
 abbrev pub IsFar : ℕ → Row → Row → Type 0
-IsFar gap x y = row_key x ≡ row_key y → last_of x + gap < y.first
+IsFar gap x y = row_key x ≡ row_key y → last_moment x + gap < y.first
 
 -- The rows ascend, rows of one key are far from each other, and each is sound by itself.
 pub record Sound (gap : ℕ) (rows : List Row) : Type 0 where
@@ -28,10 +28,10 @@ pub record Sound (gap : ℕ) (rows : List Row) : Type 0 where
   pub each : (x : Row) → x ∈ rows → IsSoundRow x
 
 -- x comes after the row `last` in the order of rows, and far from it.
-abbrev pub ComesAfter : ℕ → Row → Row → Type 0
-ComesAfter gap x last = IsBelow row_cmp last x × IsFar gap last x
+abbrev pub FollowsFar : ℕ → Row → Row → Type 0
+FollowsFar gap x last = IsBelow row_cmp last x × IsFar gap last x
 
 -- x may follow the rows: it is sound by itself, and comes after the last of them, far from it.
 pub record IsNext (gap : ℕ) (rows : List Row) (x : Row) : Type 0 where
   pub own : IsSoundRow x
-  pub after : IfLast rows (ComesAfter gap x)
+  pub after : IfLast rows (FollowsFar gap x)

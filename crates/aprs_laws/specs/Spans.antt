@@ -3,7 +3,7 @@ use Rattle.std.specs.Prelude.{◌≡◌, ℕ, ◌≤◌, List}
 use Rattle.aprs_log.specs.Reception.{Received}
 use Rattle.aprs_laws.specs.Lists.{◌∈◌}
 use Rattle.aprs_laws.specs.Key.{Key, key_of}
-use Rattle.aprs_laws.specs.Row.{Row, row_key, last_of}
+use Rattle.aprs_laws.specs.Row.{Row, row_key, last_moment}
 
 -- The least moment at which S has a reception whose key has the property.
 pub record IsFirstMoment (S : List Received) (P : Key → Type 0) (m : ℕ) : Type 0 where
@@ -22,5 +22,5 @@ pub record IsLeastFirst (rows : List Row) (P : Key → Type 0) (m : ℕ) : Type 
 
 -- The greatest last moment of the rows whose key has the property.
 pub record IsGreatestLast (rows : List Row) (P : Key → Type 0) (m : ℕ) : Type 0 where
-  pub row : (x : Row) × (x ∈ rows) × P (row_key x) × (last_of x ≡ m)
-  pub greatest : (x : Row) → x ∈ rows → P (row_key x) → last_of x ≤ m
+  pub row : (x : Row) × (x ∈ rows) × P (row_key x) × (last_moment x ≡ m)
+  pub greatest : (x : Row) → x ∈ rows → P (row_key x) → last_moment x ≤ m

@@ -3,7 +3,7 @@
 -- What was really heard may be other receptions with the same rows.
 use Rattle.std.specs.Prelude.{ℕ, ◌+◌, ◌-◌, List, [], ◌∷◌, ◌++◌, map, zero, suc}
 use Rattle.aprs_log.specs.Reception.{Received}
-use Rattle.aprs_laws.specs.Row.{Row, last_of}
+use Rattle.aprs_laws.specs.Row.{Row, last_moment}
 
 -- The n moments from m on, a millisecond apart.
 abbrev pub moments : ℕ → ℕ → List ℕ
@@ -21,7 +21,8 @@ witness_by x r = record { moment = x.first; receiver = r; frame = x.greatest.fra
 -- The witnesses of one row: one at each of its milliseconds, and one by each of its receivers.
 abbrev pub witnesses_of_row : Row → List Received
 witnesses_of_row x =
-    map (witness_at x) (moments x.first (last_of x - x.first + 1)) ++ map (witness_by x) x.receivers
+    map (witness_at x) (moments x.first (last_moment x - x.first + 1))
+        ++ map (witness_by x) x.receivers
 
 -- The witnesses of all rows.
 abbrev pub witnesses : List Row → List Received

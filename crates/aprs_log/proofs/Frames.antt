@@ -8,7 +8,7 @@ use Rattle.std.specs.Borrow.{Bor}
 use Rattle.aprs_kiss.specs.declared.fault.PassFault.{PassFault}
 use Rattle.aprs_kiss.specs.declared.reader.Fed.{Fed}
 use Rattle.aprs_kiss.specs.declared.reader.Fed.TheVariants.{Nothing, Frame, Passed}
-use Rattle.aprs_log.specs.FrameEnds.{has_other}
+use Rattle.aprs_log.specs.FrameEnds.{has_other_than_ends}
 use Rattle.aprs_log.specs.Line.{frame_in, frame_or_reason, only_frame}
 use Rattle.aprs_log.specs.Fault.{reason_of_pass}
 use Rattle.aprs_log.specs.declared.fault.Reason.{Reason}
@@ -48,12 +48,12 @@ module _ (used more : List ℕ) (j : Judgement) (u : UsedTo used j)
       judged_in_parts used more ∙ ap (λ js. js ++ judgements_of (rest_of used ++ more)) u.judged
       ∙ ap (λ l. j ∷ judgements_of (l ++ more)) u.left
 
-  frame_in-one : has_other more ≡ false → only_frame (j ∷ []) ≡ frame_in (used ++ more)
+  frame_in-one : has_other_than_ends more ≡ false → only_frame (j ∷ []) ≡ frame_in (used ++ more)
   frame_in-one alone =
       let none = ap (λ js. j ∷ js) (ends_alone more alone) in
       sym (frame_in-ended (used ++ more) e ∙ ap only_frame (judged_then ∙ none))
 
-  frame_in-two : has_other more ≡ true → Err reason.TwoFrames ≡ frame_in (used ++ more)
+  frame_in-two : has_other_than_ends more ≡ true → Err reason.TwoFrames ≡ frame_in (used ++ more)
   frame_in-two other =
       let rest = rest_nil (rest_of (used ++ more)) e in
       let moved : rest_of (used ++ more) ≡ rest_of more
@@ -99,7 +99,7 @@ module _ (bytes : List ℕ) (n : ℕ) (e : false ≡ is_nonempty (rest_of bytes)
     ended = ap (λ l. is_nonempty (rest_of l)) (again bytes n) ∙ sym e
 
     judged_one : (j : Judgement) → FedOnce bytes n (j ∷ [])
-        → false ≡ has_other (take (length bytes - n) (drop n bytes))
+        → false ≡ has_other_than_ends (take (length bytes - n) (drop n bytes))
         → only_frame (j ∷ []) ≡ frame_in bytes
     unfolding after_used
     judged_one j f alone =
@@ -108,7 +108,7 @@ module _ (bytes : List ℕ) (n : ℕ) (e : false ≡ is_nonempty (rest_of bytes)
         ∙ ap frame_in (again bytes n)
 
     judged_two : (j : Judgement) → FedOnce bytes n (j ∷ [])
-        → true ≡ has_other (take (length bytes - n) (drop n bytes))
+        → true ≡ has_other_than_ends (take (length bytes - n) (drop n bytes))
         → Err reason.TwoFrames ≡ frame_in bytes
     unfolding after_used
     judged_two j f other =
@@ -117,13 +117,14 @@ module _ (bytes : List ℕ) (n : ℕ) (e : false ≡ is_nonempty (rest_of bytes)
         ∙ ap frame_in (again bytes n)
 
     -- where all is used, nothing is left
-    used_up : n ≡ length bytes → has_other (take (length bytes - n) (drop n bytes)) ≡ false
+    used_up : n ≡ length bytes
+        → has_other_than_ends (take (length bytes - n) (drop n bytes)) ≡ false
     used_up all =
         let none : length bytes - n ≡ 0 = omega (arith, all) in
-        ap (λ k. has_other (take k (drop n bytes))) none
+        ap (λ k. has_other_than_ends (take k (drop n bytes))) none
 
     pub fed_two : (fed : Fed) → FedOnce bytes n (judgements_in fed)
-        → true ≡ has_other (take (length bytes - n) (drop n bytes))
+        → true ≡ has_other_than_ends (take (length bytes - n) (drop n bytes))
         → Err reason.TwoFrames ≡ frame_in bytes
     fed_two Nothing f other =
         absurd (let no : true ≡ false = other ∙ used_up (f.whole refl) in cc)
@@ -131,25 +132,25 @@ module _ (bytes : List ℕ) (n : ℕ) (e : false ≡ is_nonempty (rest_of bytes)
     fed_two (Passed fault) f other = judged_two _ f other
 
     fed_one : (fed : Fed) → FedOnce bytes n (judgements_in fed)
-        → false ≡ has_other (take (length bytes - n) (drop n bytes))
+        → false ≡ has_other_than_ends (take (length bytes - n) (drop n bytes))
         → frame_in bytes ≡ only_frame (judgements_in fed)
     fed_one Nothing f alone = sym (judged_nothing f)
     fed_one (Frame port frame) f alone = sym (judged_one _ f alone)
     fed_one (Passed fault) f alone = sym (judged_one _ f alone)
 
     pub fed_nothing : (fed : Fed) → FedOnce bytes n (judgements_in fed)
-        → false ≡ has_other (take (length bytes - n) (drop n bytes)) → fed ≡ Nothing
+        → false ≡ has_other_than_ends (take (length bytes - n) (drop n bytes)) → fed ≡ Nothing
         → frame_in bytes ≡ Err reason.NoFrame
     fed_nothing fed f alone is = fed_one fed f alone ∙ ap (λ x. only_frame (judgements_in x)) is
 
     pub fed_passed : (fed : Fed) → FedOnce bytes n (judgements_in fed)
-        → false ≡ has_other (take (length bytes - n) (drop n bytes))
+        → false ≡ has_other_than_ends (take (length bytes - n) (drop n bytes))
         → (fault : PassFault) → fed ≡ Passed fault → frame_in bytes ≡ Err (reason_of_pass fault)
     fed_passed fed f alone fault is = fed_one fed f alone
         ∙ ap (λ x. only_frame (judgements_in x)) is
 
     pub fed_frame : (fed : Fed) → FedOnce bytes n (judgements_in fed)
-        → false ≡ has_other (take (length bytes - n) (drop n bytes))
+        → false ≡ has_other_than_ends (take (length bytes - n) (drop n bytes))
         → (port : ℕ) (frame : Bor (List ℕ)) → fed ≡ Frame port frame
         → frame_in bytes ≡ frame_or_reason (frame_or_fault frame.now)
     fed_frame fed f alone port frame is = fed_one fed f alone

@@ -3,7 +3,7 @@ use Rattle.aprs_log.proofs.Common.{◌≡◌, ℕ, ◌-◌, ◌<◌, ◌≤◌, 
 use Rattle.aprs_kiss.specs.Stream.{rest_of, judgements_of}
 use Rattle.aprs_kiss.specs.Judgement.{judgement_of}
 use Rattle.std.proofs.Common.{append-nil, length-append}
-use Rattle.aprs_log.specs.FrameEnds.{has_other}
+use Rattle.aprs_log.specs.FrameEnds.{has_other_than_ends}
 
 no_end-nil : HasNoEnd []
 no_end-nil = All-nil (λ b. is_frame_end b ≡ false)
@@ -35,7 +35,8 @@ front_and_last xs h =
 
 -- a stream that ends at a frame end, and in which a byte from `more` on is none, has a judgement
 abbrev Judges : List ℕ → List ℕ → Type 0
-Judges d more = HasNoEnd d → rest_of (d ++ more) ≡ [] → (0 < length d) ⊎ (has_other more ≡ true)
+Judges d more = HasNoEnd d → rest_of (d ++ more) ≡ []
+    → (0 < length d) ⊎ (has_other_than_ends more ≡ true)
     → 0 < length (judgements_of (d ++ more))
 
 -- ---- the last byte shows whether bytes follow the last frame end
@@ -72,15 +73,15 @@ after_end more =
     ∙ ap (λ js. js ++ judgements_of (rest_of (0xC0 ∷ []) ++ more)) judgements_of-empty
     ∙ ap (λ l. judgements_of (l ++ more)) (ended_stream [])
 
-ends_from : (x : ℕ) (more : List ℕ) → (has_other more ≡ false → judgements_of more ≡ [])
-    → (t : Bool) → is_frame_end x ≡ t → not t || has_other more ≡ false
+ends_from : (x : ℕ) (more : List ℕ) → (has_other_than_ends more ≡ false → judgements_of more ≡ [])
+    → (t : Bool) → is_frame_end x ≡ t → not t || has_other_than_ends more ≡ false
     → judgements_of (x ∷ more) ≡ []
 ends_from x more rest true e f =
     ap (λ b. judgements_of (b ∷ more)) (eqb-true x 0xC0 e) ∙ after_end more ∙ rest f
 ends_from x more rest false e f = absurd (let g : true ≡ false = f in cc)
 
 -- frame ends alone have no judgement
-pub ends_alone : (more : List ℕ) → has_other more ≡ false → judgements_of more ≡ []
+pub ends_alone : (more : List ℕ) → has_other_than_ends more ≡ false → judgements_of more ≡ []
 ends_alone [] h = begins_empty.0
 ends_alone (x ∷ more) h = ends_from x more (ends_alone more) (is_frame_end x) refl h
 
@@ -123,6 +124,6 @@ judges [] d h whole (inr other) = absurd (let f : false ≡ true = other in cc)
 judges (x ∷ more) d h whole some =
     judges_from d x more (judges more) (is_frame_end x) refl h whole some
 
-pub judges_other : (more : List ℕ) → rest_of more ≡ [] → has_other more ≡ true
+pub judges_other : (more : List ℕ) → rest_of more ≡ [] → has_other_than_ends more ≡ true
     → 0 < length (judgements_of more)
 judges_other more whole other = judges more [] no_end-nil whole (inr other)

@@ -4,5 +4,5 @@ use Rattle.std.specs.List.{list_any}
 use Rattle.aprs_kiss.specs.Spelling.{is_frame_end}
 
 -- Whether any of the bytes is no frame end.
-abbrev pub has_other : List ℕ → Bool
-has_other bytes = list_any (λ b. not (is_frame_end b)) bytes
+abbrev pub has_other_than_ends : List ℕ → Bool
+has_other_than_ends bytes = list_any (λ b. not (is_frame_end b)) bytes

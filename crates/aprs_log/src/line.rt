@@ -14,7 +14,7 @@ use crate::fault::{LineFault, Reason};
 use crate::{Moment, Receiver, Reception};
 use aprs_ax25::Frame;
 use aprs_io::decode_into;
-use fields::{first_moment, take_receiver};
+use fields::{take_moment, take_receiver};
 use frame_in_line::data_in;
 use line_buffers::LineBuffers;
 
@@ -120,7 +120,7 @@ pub(crate) fn read_fields(
     if line.len() > MAX_LINE {
         return Err(LineFault::LongLine);
     }
-    let Some(first) = first_moment(&mut scratch.clock, line) else {
+    let Some(first) = take_moment(&mut scratch.clock, line) else {
         return Err(LineFault::Moment);
     };
     let (moment, rest) = first;

@@ -11,7 +11,7 @@ use crate::{Moment, Receiver};
 
 /// The moment that a line begins with, and what stands after it and a space. `None` where the line
 /// doesn't begin with a moment and a space. `clock` keeps the moment's date.
-pub fn first_moment<'a>(clock: &mut Clock, line: &'a [u8]) -> Option<(Moment, &'a [u8])>
+pub fn take_moment<'a>(clock: &mut Clock, line: &'a [u8]) -> Option<(Moment, &'a [u8])>
     ensures { MatchOption result (Spec.TakesNoMoment line.now)
         (λ found. Spec.TakesMoment line.now found.0 found.1.now) }
 {

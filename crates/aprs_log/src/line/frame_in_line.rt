@@ -2,7 +2,7 @@
 ghost use Rattle.std.specs.Prelude.{◌≡◌, Err, IfSome, MatchResult};
 ghost use Rattle.aprs_kiss.specs.Stream.{is_nonempty, rest_of};
 ghost use Rattle.aprs_ax25.specs.FrameFault.{frame_or_fault};
-ghost use Rattle.aprs_log.specs.FrameEnds.{has_other};
+ghost use Rattle.aprs_log.specs.FrameEnds.{has_other_than_ends};
 ghost use Rattle.aprs_log.specs.Line.{frame_in, frame_or_reason};
 
 use crate::fault::Reason;
@@ -66,7 +66,7 @@ fn fed_frame_in<'r>(reader: &'r mut KissReader, bytes: &[u8]) -> Result<&'r [u8]
     reader.reset();
     let (used, fed) = reader.feed(bytes);
     // The first piece is read: a byte after it that is no frame end is of a second piece.
-    if has_other(&bytes[used..]) {
+    if has_other_than_ends(&bytes[used..]) {
         return Err(Reason::TwoFrames);
     }
     match fed {
@@ -87,8 +87,8 @@ fn is_unended(bytes: &[u8]) -> bool
 }
 
 /// Whether any of the bytes is not a frame end.
-fn has_other(bytes: &[u8]) -> bool
-    ensures { result ≡ has_other bytes.now }
+fn has_other_than_ends(bytes: &[u8]) -> bool
+    ensures { result ≡ has_other_than_ends bytes.now }
 {
     bytes.iter().any(|b| *b != FEND)
 }

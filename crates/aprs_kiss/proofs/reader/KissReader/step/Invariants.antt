@@ -3,7 +3,7 @@ use Rattle.aprs_kiss.proofs.Reading.{HasRead}
 use Rattle.aprs_kiss.proofs.reader.KissReader.step.Given as goal
 
 abbrev pub invariant-loop-byte : goal.invariant-loop-byte
-invariant-loop-byte l = HasRead l.initial.self l.piece l.self l.rest
+invariant-loop-byte l = HasRead l.initial.self l.chunk l.self l.rest
 
 abbrev pub decreases-loop-byte : goal.decreases-loop-byte
 decreases-loop-byte l = length l.rest

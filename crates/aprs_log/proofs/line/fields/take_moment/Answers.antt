@@ -1,6 +1,6 @@
 use Rattle.aprs_log.proofs.Common.{◌+◌, sym, ◌∙◌, take_rest}
 use Rattle.aprs_log.proofs.FirstFields.{EndsMoment-space, TakesMoment-at, TakesNoMoment-nowhere, TakesNoMoment-unread, none_matches}
-use Rattle.aprs_log.proofs.line.fields.first_moment.Goals as goal
+use Rattle.aprs_log.proofs.line.fields.take_moment.Goals as goal
 
 pub returns-in_err-len : goal.returns-in_err-len
 returns-in_err-len c =
