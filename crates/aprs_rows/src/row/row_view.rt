@@ -12,7 +12,6 @@ ghost use Rattle.aprs_rows.specs.KeyPrefix.{HasKeyPrefix};
 ghost use Rattle.aprs_rows.specs.Names.{names_in, row_of_text};
 ghost use Rattle.aprs_rows.specs.Packed.{IsMarked, IsShort, Notes, mark_row};
 ghost use Rattle.aprs_rows.specs.Rows.{IsRowIn, entry_row, row_bytes};
-ghost use Rattle.aprs_rows.specs.Told.{IsTold};
 
 use crate::Memory;
 use crate::growth::reserve_one;
@@ -202,7 +201,6 @@ impl<'a> RowView<'a> {
         ensures text { result.now ≡ join_with_byte 44 self.now.receivers }
         ensures names { names_in result.now ≡ self.now.receivers }
         ensures each { All IsName self.now.receivers }
-        ensures told { IsTold self.now }
     {
         self.names
     }

@@ -1,6 +1,7 @@
 use Rattle.aprs_rows.proofs.Common.{◌∙◌, ◌++◌, List, Row, ap, arith, sym, subst, flat_map, take_all, All-from_recursion, AreInOrder, SameMembers}
 use Rattle.aprs_rows.specs.Fronts.{IsRun}
 use Rattle.aprs_rows.specs.Packed.{room_of}
+use Rattle.aprs_rows.proofs.Cases.{at_err}
 use Rattle.aprs_rows.proofs.InStore.{merged_more, some_of_all}
 use Rattle.aprs_rows.proofs.store.book_store.merged.Goals as goal
 
@@ -34,9 +35,10 @@ loop-packed-preserved g c =
 
 pub returns-in_err-add-clause-some : goal.returns-in_err-add-clause-some
 returns-in_err-add-clause-some g c =
-    some_of_all c.args.sorted.now c.loop-packed.packed-index c.packed-item.result c.packed-item.is
-    c.loop-packed-test.true
-    (λ e. c.in_err-add.ensures.some (c.rows.ensures.value ∙ e))
+    at_err c.from_residual.result
+    (some_of_all c.args.sorted.now c.loop-packed.packed-index c.packed-item.result
+    c.packed-item.is c.loop-packed-test.true
+    (λ e. c.in_err-add.ensures.some (c.rows.ensures.value ∙ e)))
 
 pub returns-clause-members : goal.returns-clause-members
 returns-clause-members g c =
