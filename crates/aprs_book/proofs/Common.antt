@@ -27,8 +27,8 @@ pub use Rattle.aprs_laws.specs.Joining.{Joined}
 pub use Rattle.aprs_laws.specs.Key.{Key, key_cmp}
 pub use Rattle.aprs_laws.specs.Lists.{Ordered, SameMembers, ◌∈◌}
 pub use Rattle.aprs_laws.specs.Order.{IsBelow, IsUpTo}
-pub use Rattle.aprs_laws.specs.Row.{Row, last_of, row_cmp, row_key}
-pub use Rattle.aprs_laws.specs.Sound.{AreSoundRows, ComesAfter, IsFar, IsSoundRow, Sound}
+pub use Rattle.aprs_laws.specs.Row.{Row, last_moment, row_cmp, row_key}
+pub use Rattle.aprs_laws.specs.Sound.{AreSoundRows, FollowsFar, IsFar, IsSoundRow, Sound}
 pub use Rattle.aprs_laws.specs.Widening.{widened_rows}
 pub use Rattle.aprs_laws.specs.Witnesses.{witnesses}
 pub use Rattle.aprs_laws.specs.declared.row_cause.RowCause.{RowCause}

@@ -1,5 +1,5 @@
 -- Rows of a book as a store takes them.
-use Rattle.aprs_book.proofs.Common.{◌≡◌, ◌∙◌, inl, inr, ℕ, ◌<◌, ◌≤◌, List, [], ◌∷◌, ◌++◌, length, Result, Ok, Err, refl, sym, ap, subst, append_assoc, append-nil, arith, All, IfOk, is_gt, join_with_byte, IsName, ◌∈◌, millis_of, AreInOrder, IsBelow, IsUpTo, Row, last_of, row_cmp, IsSoundRow, Sound, merge, Joined, BookValue, IsSoundBook, HaveOneGap, AreJoined, widened_to, widened_rows, one_value, some_millis, ordered_weaker, one_book, together, witnesses, witnessed, widens_witnesses, joined_by_merge, AreSoundRows}
+use Rattle.aprs_book.proofs.Common.{◌≡◌, ◌∙◌, inl, inr, ℕ, ◌<◌, ◌≤◌, List, [], ◌∷◌, ◌++◌, length, Result, Ok, Err, refl, sym, ap, subst, append_assoc, append-nil, arith, All, IfOk, is_gt, join_with_byte, IsName, ◌∈◌, millis_of, AreInOrder, IsBelow, IsUpTo, Row, last_moment, row_cmp, IsSoundRow, Sound, merge, Joined, BookValue, IsSoundBook, HaveOneGap, AreJoined, widened_to, widened_rows, one_value, some_millis, ordered_weaker, one_book, together, witnesses, witnessed, widens_witnesses, joined_by_merge, AreSoundRows}
 use Rattle.aprs_rows.specs.declared.memory.Memory.{Memory}
 use Rattle.aprs_rows.specs.Names.{names_in, row_of_text}
 use Rattle.aprs_rows.proofs.NameTexts.{names_joined}
@@ -23,7 +23,7 @@ module _ (x : Row) (text : List ℕ) (t : text ≡ join_with_byte 44 x.receivers
   names_have = subst (All IsName) (sym names_are) n
 
   pub row_is : (made : Row) (first last : ℕ) (who frame : List ℕ)
-      → made ≡ row_of_text first last text who frame → first ≡ x.first → last ≡ last_of x
+      → made ≡ row_of_text first last text who frame → first ≡ x.first → last ≡ last_moment x
       → who ≡ x.greatest.receiver → frame ≡ x.greatest.frame → made ≡ x
   row_is made first last who frame e a b w f = e ∙ (λ i. record {
     first = a i;

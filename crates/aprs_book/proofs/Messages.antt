@@ -1,5 +1,5 @@
 -- The messages of rows.
-use Rattle.aprs_book.proofs.Common.{◌≡◌, ◌∙◌, ℕ, ◌≤◌, min, max, true, List, Option, Some, None, sym, ap, refl, subst, inl, inr, arith, Bor, Result, Ok, Err, is_ok, OnOk, lookup, keys_of, is_at, insert_entry, option_cmp, option_map, IsTotalOrder, options_total, ordering_then, Ordering, on_total, then_total, cases_lt, CmpEqualImpliesEq, exact_pairs, Call, call_cmp, bytes_cmp, ◌∈◌, Row, row_key, last_of, call_total, call_exact, bytes_total, bytes_exact}
+use Rattle.aprs_book.proofs.Common.{◌≡◌, ◌∙◌, ℕ, ◌≤◌, min, max, true, List, Option, Some, None, sym, ap, refl, subst, inl, inr, arith, Bor, Result, Ok, Err, is_ok, OnOk, lookup, keys_of, is_at, insert_entry, option_cmp, option_map, IsTotalOrder, options_total, ordering_then, Ordering, on_total, then_total, cases_lt, CmpEqualImpliesEq, exact_pairs, Call, call_cmp, bytes_cmp, ◌∈◌, Row, row_key, last_moment, call_total, call_exact, bytes_total, bytes_exact}
 use Rattle.std.specs.List.Sorted.{IsStrictlySortedBy}
 use Rattle.aprs_book.specs.declared.lists.message_key.Span.{Span}
 use Rattle.aprs_book.specs.Messages.{Message, ReportsIt, message_in, message_cmp}
@@ -73,7 +73,7 @@ module _ (rows more : List Row) (x : Row) (adds : Adds rows x more) (m : Message
       row = (x, adds.new, p, refl);
       greatest = λ y h q. elim (adds.to y h) [
         | inl j ↦ absurd (n y j q)
-        | inr e ↦ subst (λ (t : Row). last_of t ≤ last_of x) e (omega arith)
+        | inr e ↦ subst (λ (t : Row). last_moment t ≤ last_moment x) e (omega arith)
       ];
     };
   }
@@ -85,8 +85,8 @@ module _ (rows more : List Row) (x : Row) (adds : Adds rows x more) (m : Message
       | inr l ↦ (x, adds.new, p, omega (arith, l))
     ]
 
-    greatest_row : (y : Row) × (y ∈ more) × P y × (last_of y ≡ max s.last (last_of x))
-    greatest_row = elim (cases_lt s.last (last_of x)) [
+    greatest_row : (y : Row) × (y ∈ more) × P y × (last_moment y ≡ max s.last (last_moment x))
+    greatest_row = elim (cases_lt s.last (last_moment x)) [
       | inl l ↦ (x, adds.new, p, omega (arith, l))
       | inr l ↦ let r = t.last.row in (r.0, adds.old r.0 r.1, r.2, omega (arith, r.3, l))
     ]
@@ -94,7 +94,7 @@ module _ (rows more : List Row) (x : Row) (adds : Adds rows x more) (m : Message
     pub span_grows : IsSpan more m (record {
       first = min s.first x.first;
       last =
-          max s.last (last_of x);
+          max s.last (last_moment x);
     })
     span_grows = record {
       first = record {
@@ -108,7 +108,7 @@ module _ (rows more : List Row) (x : Row) (adds : Adds rows x more) (m : Message
         row = greatest_row;
         greatest = λ y h q. elim (adds.to y h) [
           | inl j ↦ omega (arith, t.last.greatest y j q)
-          | inr e ↦ subst (λ (u : Row). last_of u ≤ max s.last (last_of x)) e (omega arith)
+          | inr e ↦ subst (λ (u : Row). last_moment u ≤ max s.last (last_moment x)) e (omega arith)
         ];
       };
     }

@@ -2,7 +2,7 @@
 use Rattle.aprs_book.proofs.Common.{◌≡◌, ◌∙◌, ℕ, List, [], ◌∷◌, Option, Some, None, Result, Ok, Err, IfOk, sym, refl, subst, Call, SpellsCall, Received, heard_cmp, ◌∈◌, Ordered, IsBelow, IsUpTo, Key, Row, row_key, BookOf, LastKnown, IsBest, a_row, best_of_rows, none_of_rows}
 use Rattle.aprs_laws.specs.Key.{key_of}
 use Rattle.aprs_laws.specs.Spans.{IsFirstMoment, IsLastMoment}
-use Rattle.aprs_laws.proofs.Spans.{first_moment, last_moment}
+use Rattle.aprs_laws.proofs.Spans.{first_moment_is, last_moment_is}
 use Rattle.aprs_book.specs.declared.lists.message.MessageRow.{MessageRow}
 use Rattle.aprs_book.specs.declared.lists.message.MessageState.{MessageState}
 use Rattle.aprs_book.specs.declared.lists.message_key.MessageKey.{MessageKey}
@@ -71,11 +71,11 @@ module _ (gap : ℕ) (S : List Received) (rows : List Row) (b : BookOf gap S row
           first =
               subst (λ (m : Message). IsFirstMoment S (ReportsIt m) x.first) (sym e.2.message)
               (subst (IsFirstMoment S (ReportsIt (message_of e.0.0))) (sym e.2.first)
-              ((first_moment gap S rows (ReportsIt (message_of e.0.0)) b e.0.1.first).1 s.first));
+              ((first_moment_is gap S rows (ReportsIt (message_of e.0.0)) b e.0.1.first).1 s.first));
           last =
               subst (λ (m : Message). IsLastMoment S (ReportsIt m) x.last) (sym e.2.message)
               (subst (IsLastMoment S (ReportsIt (message_of e.0.0))) (sym e.2.last)
-              ((last_moment gap S rows (ReportsIt (message_of e.0.0)) b e.0.1.last).1 s.last));
+              ((last_moment_is gap S rows (ReportsIt (message_of e.0.0)) b e.0.1.last).1 s.last));
           state =
               subst (λ (m : Message). StandsBy S m x.first m.id x.state) (sym e.2.message)
               (subst (λ (n : ℕ). StandsBy S (message_of e.0.0) n (message_of e.0.0).id x.state)

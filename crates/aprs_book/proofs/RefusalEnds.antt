@@ -1,5 +1,5 @@
 -- The end of rows refuses what the rows refuse.
-use Rattle.aprs_book.proofs.Common.{◌≡◌, ◌∙◌, ℕ, ◌==◌, ◌<◌, false, not, ◌&&◌, ltb, List, [], ◌∷◌, ◌++◌, inl, inr, None, length, append_assoc, append-nil, arith, refl, sym, ap, subst, IfSome, last_or, list_any, option_map_or, is_lt, is_gt, ordering_then, Ordering, Less, Equal, Greater, key_cmp, Row, row_key, last_of, ComesAfter, empty_or_last, is_of_last, is_out_of_order, is_too_near, is_ascending, is_same_name, refusal, last_after, first_of, refused_first, free_of_none, next_of_free}
+use Rattle.aprs_book.proofs.Common.{◌≡◌, ◌∙◌, ℕ, ◌==◌, ◌<◌, false, not, ◌&&◌, ltb, List, [], ◌∷◌, ◌++◌, inl, inr, None, length, append_assoc, append-nil, arith, refl, sym, ap, subst, IfSome, last_or, list_any, option_map_or, is_lt, is_gt, ordering_then, Ordering, Less, Equal, Greater, key_cmp, Row, row_key, last_moment, FollowsFar, empty_or_last, is_of_last, is_out_of_order, is_too_near, is_ascending, is_same_name, refusal, last_after, first_of, refused_first, free_of_none, next_of_free}
 use Rattle.aprs_book.specs.Keyed.{LastKeyIsUpTo, IsEndOf}
 
 same_last : (end all : List Row) → IsEndOf end all → last_or None end ≡ last_or None all
@@ -37,10 +37,10 @@ pub refused_at_end : (gap : ℕ) (end all : List Row) (x : Row) → IsEndOf end 
     → refusal gap end x ≡ refusal gap all x
 refused_at_end gap end all x e =
     refused_first gap end x
-    ∙ ap (λ o. first_of (option_map_or (λ l. is_out_of_order l x) o false) (ltb (last_of x) x.first)
+    ∙ ap (λ o. first_of (option_map_or (λ l. is_out_of_order l x) o false) (ltb (last_moment x) x.first)
     (option_map_or (λ l. is_too_near gap l x) o false)
     (not (is_ascending x.receivers && list_any (is_same_name x.greatest.receiver) x.receivers))
-    ((x.first == last_of x) && not (is_of_last (is_same_name x.greatest.receiver) x.receivers)))
+    ((x.first == last_moment x) && not (is_of_last (is_same_name x.greatest.receiver) x.receivers)))
     (same_last end all e)
     ∙ sym (refused_first gap all x)
 
@@ -55,5 +55,5 @@ pub none_ends_up_to : (gap : ℕ) (rows : List Row) (x : Row) → None ≡ refus
 none_ends_up_to gap rows x h prefix l e =
     up_first (key_cmp (row_key l) (row_key x)) _
     (ap (λ o. not (is_lt o))
-    (subst (λ o. IfSome o (ComesAfter gap x)) (ap (last_or None) e ∙ last_after None prefix l)
+    (subst (λ o. IfSome o (FollowsFar gap x)) (ap (last_or None) e ∙ last_after None prefix l)
     (next_of_free gap rows x (free_of_none gap rows x (sym h))).after).0)

@@ -1,5 +1,5 @@
 -- The place of a reception among the rows of its prefix, found by halves.
-use Rattle.aprs_book.proofs.Common.{◌≡◌, ◌∙◌, ℕ, zero, suc, ◌+◌, ◌<◌, ◌≤◌, Bool, true, false, List, [], ◌∷◌, ◌++◌, Some, length, take, drop, get_or, refl, sym, ap, subst, inl, inr, arith, drop_all, IsPartitionedBy, IsPartitionPoint, lookup, is_lt, is_gt, MatchOrdering, Ordering, Less, Equal, Greater, Received, ◌∈◌, Ordered, IsBelow, Row, last_of, row_cmp, single, IsNear, compare_near_to, grow_row, insert_heard, has_place_for, IsFar, Sound, in_right, IsBefore, before_trans, place_means, IsSound, one_relation, sound_prefix, by_order, head_cmp, KeyPrefix}
+use Rattle.aprs_book.proofs.Common.{◌≡◌, ◌∙◌, ℕ, zero, suc, ◌+◌, ◌<◌, ◌≤◌, Bool, true, false, List, [], ◌∷◌, ◌++◌, Some, length, take, drop, get_or, refl, sym, ap, subst, inl, inr, arith, drop_all, IsPartitionedBy, IsPartitionPoint, lookup, is_lt, is_gt, MatchOrdering, Ordering, Less, Equal, Greater, Received, ◌∈◌, Ordered, IsBelow, Row, last_moment, row_cmp, single, IsNear, compare_near_to, grow_row, insert_heard, has_place_for, IsFar, Sound, in_right, IsBefore, before_trans, place_means, IsSound, one_relation, sound_prefix, by_order, head_cmp, KeyPrefix}
 use Rattle.std.proofs.lemmas.List.Sorted.{IsPartitionPoint-from_clause}
 use Rattle.std.specs.Fn.{Called, ComputesKey}
 use denote.Ref.{Bor}
@@ -61,7 +61,7 @@ module _ (gap : ℕ) (x : Received) where
       (IsBefore gap (single x) r)) e (place_means gap r (single x))
 
   -- what lies before a row that lies before x lies before x
-  passes : (q r : Row) → r.first ≤ last_of r → IsBefore gap q r → is_before r ≡ true
+  passes : (q r : Row) → r.first ≤ last_moment r → IsBefore gap q r → is_before r ≡ true
       → is_before q ≡ true
   passes q r l b e =
       ap is_lt (place_before gap q (single x) (before_trans gap q r (single x) l b

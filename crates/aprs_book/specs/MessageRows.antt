@@ -10,7 +10,7 @@ use Rattle.aprs_report.specs.Reading.{Value, ack, rej}
 use Rattle.aprs_laws.specs.Lists.{◌∈◌}
 use Rattle.aprs_laws.specs.Order.{IsBelow, IsUpTo}
 use Rattle.aprs_laws.specs.Key.{Key}
-use Rattle.aprs_laws.specs.Row.{Row, row_key, last_of}
+use Rattle.aprs_laws.specs.Row.{Row, row_key, last_moment}
 use Rattle.aprs_laws.specs.Spans.{IsLeastFirst, IsGreatestLast}
 use Rattle.aprs_book.specs.declared.lists.message_key.MessageKey.{MessageKey}
 use Rattle.aprs_book.specs.declared.lists.message_key.AnswerKey.{AnswerKey}
@@ -39,7 +39,7 @@ message_of x = record {
 
 -- From the first to the last moment of a row.
 abbrev pub span_of : Row → Span
-span_of x = record { first = x.first; last = last_of x }
+span_of x = record { first = x.first; last = last_moment x }
 
 -- A span, if there is one, with that of one more row.
 abbrev pub span_with : Option Span → Span → Span

@@ -18,8 +18,8 @@ pub use Rattle.aprs_laws.specs.Key.{Key}
 pub use Rattle.aprs_laws.specs.Lists.{Ordered, SameMembers, ◌∈◌}
 pub use Rattle.aprs_laws.specs.Merged.{ascending_union}
 pub use Rattle.aprs_laws.specs.Order.{IsBelow, IsUpTo}
-pub use Rattle.aprs_laws.specs.Row.{Row, last_of, row_cmp, row_key}
-pub use Rattle.aprs_laws.specs.Sound.{ComesAfter, IsFar, IsNext, IsSoundRow, Sound}
+pub use Rattle.aprs_laws.specs.Row.{Row, last_moment, row_cmp, row_key}
+pub use Rattle.aprs_laws.specs.Sound.{FollowsFar, IsFar, IsNext, IsSoundRow, Sound}
 pub use Rattle.aprs_laws.specs.declared.row_cause.RowCause.{RowCause}
 pub use Rattle.aprs_log.specs.Receiver.{IsName, is_name_byte}
 pub use Rattle.aprs_log.specs.Reception.{Received, bytes_cmp}

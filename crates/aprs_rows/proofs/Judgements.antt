@@ -1,5 +1,5 @@
 -- Names that are seen one after another, and the row before another.
-use Rattle.aprs_rows.proofs.Common.{◌≡◌, ◌∙◌, ℕ, ◌<◌, ◌==◌, ◌&&◌, ◌||◌, Bool, true, false, not, ltb, List, [], ◌∷◌, length, Option, None, Some, refl, sym, ap, arith, last_or, list_any, option_map_or, is_lt, length-slice_split, bytes_cmp, Row, last_of, IsSoundRow}
+use Rattle.aprs_rows.proofs.Common.{◌≡◌, ◌∙◌, ℕ, ◌<◌, ◌==◌, ◌&&◌, ◌||◌, Bool, true, false, not, ltb, List, [], ◌∷◌, length, Option, None, Some, refl, sym, ap, arith, last_or, list_any, option_map_or, is_lt, length-slice_split, bytes_cmp, Row, last_moment, IsSoundRow}
 use Rattle.aprs_rows.specs.Judging.{list_of}
 use Rattle.aprs_rows.specs.Names.{names_in}
 use Rattle.aprs_rows.specs.Refusal.{is_of_last, is_out_of_order, is_too_near, is_ascending, is_same_name, refusal}
@@ -62,10 +62,10 @@ pub same_refusal : (gap : ℕ) (rows : List Row) (o : Option Row) (x : Row) → 
     → refusal gap (list_of o) x ≡ refusal gap rows x
 same_refusal gap rows o x e =
     refused_first gap (list_of o) x
-    ∙ ap (λ p. first_of (option_map_or (λ l. is_out_of_order l x) p false) (ltb (last_of x) x.first)
+    ∙ ap (λ p. first_of (option_map_or (λ l. is_out_of_order l x) p false) (ltb (last_moment x) x.first)
     (option_map_or (λ l. is_too_near gap l x) p false)
     (not (is_ascending x.receivers && list_any (is_same_name x.greatest.receiver) x.receivers))
-    ((x.first == last_of x) && not (is_of_last (is_same_name x.greatest.receiver) x.receivers)))
+    ((x.first == last_moment x) && not (is_of_last (is_same_name x.greatest.receiver) x.receivers)))
     (alone o ∙ sym e)
     ∙ sym (refused_first gap rows x)
   where

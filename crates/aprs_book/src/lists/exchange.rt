@@ -1,7 +1,7 @@
 //! Messages and their answers, of rows that are taken one after another.
 ghost use Rattle.std.specs.Prelude.{◌≡◌, ◌↔◌, List, [], ◌∷◌, ◌++◌, Some, IfOk, OnOk};
 ghost use Rattle.aprs_laws.specs.Key.{key_of};
-ghost use Rattle.aprs_laws.specs.Row.{Row, row_key, last_of};
+ghost use Rattle.aprs_laws.specs.Row.{Row, row_key, last_moment};
 ghost use Rattle.aprs_book.specs.Messages.{message_in};
 ghost use Rattle.aprs_book.specs.MessageRows as Spec;
 ghost use Rattle.aprs_book.specs.Exchange.{IsExchangeOf};
@@ -84,7 +84,7 @@ fn put_span<'t, A: Allocator + Copy>(
     // The spans of some rows become those of these rows and r, which reports this message.
     ensures { OnOk result ((rows : List Row) (r : Row) → Spec.AreSpans rows spans.old.entries
         → message_in (row_key r) ≡ Some (Spec.message_of message.entry)
-        → more.now.first ≡ r.first → more.now.last ≡ last_of r
+        → more.now.first ≡ r.first → more.now.last ≡ last_moment r
         → Spec.AreSpans (rows ++ r ∷ []) spans.new.entries) }
 {
     let again = message.copy();

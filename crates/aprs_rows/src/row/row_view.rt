@@ -6,7 +6,7 @@ ghost use Rattle.aprs_ax25.specs.FrameFault.{parts_of};
 ghost use Rattle.aprs_log.specs.Receiver.{IsName};
 ghost use Rattle.aprs_log.specs.Reception.{heard_cmp};
 ghost use Rattle.aprs_laws.specs.Key.{key_cmp};
-ghost use Rattle.aprs_laws.specs.Row.{last_of, row_cmp, row_key};
+ghost use Rattle.aprs_laws.specs.Row.{last_moment, row_cmp, row_key};
 ghost use Rattle.aprs_laws.specs.Sound.{IsSoundRow};
 ghost use Rattle.aprs_rows.specs.KeyPrefix.{HasKeyPrefix};
 ghost use Rattle.aprs_rows.specs.Names.{names_in, row_of_text};
@@ -191,7 +191,7 @@ impl<'a> RowView<'a> {
 
     /// The last moment, which is that of the greatest reception. Takes no memory.
     pub fn last(&self) -> Moment
-        ensures { result ≡ last_of self.now }
+        ensures { result ≡ last_moment self.now }
     {
         self.last
     }

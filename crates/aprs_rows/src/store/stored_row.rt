@@ -2,7 +2,7 @@
 ghost use Rattle.std.specs.Prelude.{◌≡◌};
 ghost use Rattle.aprs_log.specs.Reception.{heard_cmp};
 ghost use Rattle.aprs_laws.specs.Key.{key_cmp};
-ghost use Rattle.aprs_laws.specs.Row.{row_key, last_of};
+ghost use Rattle.aprs_laws.specs.Row.{row_key, last_moment};
 ghost use Rattle.aprs_laws.specs.Sound.{IsSoundRow};
 ghost use Rattle.aprs_rows.specs.Names.{names_in};
 ghost use Rattle.aprs_rows.specs.Rows.{bytes_of, entry_row, IsRowIn};
@@ -87,7 +87,7 @@ impl<'a> StoredRow<'a> {
 
     /// The last moment at which the row's transmission was heard.
     pub(crate) fn last(&self) -> Moment
-        ensures { result ≡ last_of self.now }
+        ensures { result ≡ last_moment self.now }
     {
         self.entry.last
     }
