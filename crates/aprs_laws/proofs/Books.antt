@@ -112,7 +112,7 @@ rows_same gap S x y s p q i j = same_row x y ends.0 receivers greatest where
   ends =
       runs_same gap S (row_key x) x.first (last_moment x) y.first (last_moment y) s.moment p.run
       (subst (λ (k : Key). Run gap S k y.first (last_moment y))
-          (sym ek) q.run) i.from i.to j.from j.to
+      (sym ek) q.run) i.from i.to j.from j.to
 
   to : (t : Received) → IsOf x t → IsOf y t
   to t h =

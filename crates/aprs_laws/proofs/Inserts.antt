@@ -203,12 +203,12 @@ fits_by_test gap s (r ∷ rows) w f =
       none_near [] g = refl
       none_near (x ∷ xs) g = first (compare_near gap x (single s)) (place_means gap x
           (single s)) where
-        first : (q : Ordering)
-            → MatchOrdering q (IsBefore gap x (single s)) (IsNear gap x (single s))
-            (IsBefore gap (single s) x) → choose q false true false ≡ false
-        first Less h = refl
-        first Equal h = absurd (g x (inl refl) h)
-        first Greater h = refl
+            first : (q : Ordering)
+                → MatchOrdering q (IsBefore gap x (single s)) (IsNear gap x (single s))
+                (IsBefore gap (single s) x) → choose q false true false ≡ false
+            first Less h = refl
+            first Equal h = absurd (g x (inl refl) h)
+            first Greater h = refl
 
       alone : r ≡ f.row → (x : Row) → x ∈ rows → IsNear gap x (single s) → ⊥
       alone e x h n =

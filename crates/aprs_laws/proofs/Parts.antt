@@ -22,7 +22,7 @@ pub place_before : (gap : ℕ) (x y : Row) → IsBefore gap x y → compare_near
 place_before gap x y (inl h) = at_key gap x y Less h
 place_before gap x y (inr h) =
     at_key gap x y Equal (one_key x y h.0)
-        ∙ tests (last_moment x) x.first (last_moment y) y.first h.1 where
+    ∙ tests (last_moment x) x.first (last_moment y) y.first h.1 where
       tests : (a b c d : ℕ) → a + gap < d
           → (if nat_lt (a + gap) d then Less else if nat_lt (c + gap) b then Greater else Equal)
           ≡ Less

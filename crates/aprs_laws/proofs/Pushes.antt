@@ -45,7 +45,7 @@ two_relations gap rows s = record {
 -- what is before all of some rows is known by the last of them
 pub before_last : (gap : ℕ) (prefix : List Row) (l x : Row)
     → Ordered (IsBefore gap) (prefix ++ l ∷ []) → l.first ≤ last_moment l → IsBefore gap l x
-        → (y : Row)
+    → (y : Row)
     → y ∈ (prefix ++ l ∷ []) → IsBefore gap y x
 before_last gap [] l x o s b y h =
     elim h [ inl e ↦ subst (λ (z : Row). IsBefore gap z x) e b | inr k ↦ absurd k ]
@@ -70,7 +70,7 @@ pub push_sound : (gap : ℕ) (prefix : List Row) (l x : Row) → Sound gap (pref
 push_sound gap prefix l x s b f w =
     let i = one_relation gap (prefix ++ l ∷ []) s in
     let span : l.first ≤ last_moment l = (s.each l (in_right l prefix (l ∷ [])
-        (inl refl))).in_order in
+    (inl refl))).in_order in
     two_relations gap ((prefix ++ l ∷ []) ++ x ∷ []) (record {
       ordered =
           ordered_append (IsBefore gap) (prefix ++ l ∷ []) (x ∷ []) i.ordered (λ y h. absurd h, tt)

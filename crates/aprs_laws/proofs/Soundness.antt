@@ -74,7 +74,7 @@ module _ (gap : ℕ) (x : Row) (w : IsSoundRow x) (pos : 0 < gap) where
   pub from_witness : (P : Received → Type 0) → ((m : ℕ) → x.first ≤ m → m ≤ last_moment x
       → P (witness_at x m))
       → ((r : List ℕ) → r ∈ x.receivers → P (witness_by x r)) → (s : Received)
-          → s ∈ witnesses_of_row x
+      → s ∈ witnesses_of_row x
       → P s
   from_witness P f g s h =
       elim

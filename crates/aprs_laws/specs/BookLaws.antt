@@ -17,7 +17,7 @@ EachSetHasBook gap = (S : List Received) → (p : List Row) × BookOf gap S p
 abbrev pub MembersDecideBook : ℕ → Type 0
 MembersDecideBook gap =
     (S T : List Received) (p q : List Row) → SameMembers S T → BookOf gap S p → BookOf gap T q
-        → p ≡ q
+    → p ≡ q
 
 -- Only the empty set has a book without rows.
 abbrev pub EmptyBookIsOfNothing : ℕ → Type 0

@@ -54,13 +54,13 @@ BooksStand = (gap : ℕ) (rows : List Row) → Sound gap rows → StandFor rows 
 abbrev pub UnionsStand : Type 0
 UnionsStand =
     (p q : List Row) (S T : List Received) → StandFor p S → StandFor q T
-        → StandFor (p ++ q) (S ++ T)
+    → StandFor (p ++ q) (S ++ T)
 
 -- Receptions in order, each as a row of its own, coalesce to their book.
 abbrev pub CoalescesReceptions : ℕ → Type 0
 CoalescesReceptions gap =
     (S : List Received) → AreInOrder (map single S)
-        → BookOf gap S (coalesced_rows gap (map single S))
+    → BookOf gap S (coalesced_rows gap (map single S))
 
 -- The rows of two books, put in order, coalesce to their joined value.
 abbrev pub CoalescesJoined : ℕ → Type 0

@@ -60,7 +60,7 @@ abbrev pub join_row : ℕ → List Row → Row → List Row
 join_row gap [] r = r ∷ []
 join_row gap (x ∷ xs) r =
     choose (compare_near gap x r) (x ∷ join_row gap xs r) (join_row gap xs (combine x r))
-        (r ∷ x ∷ xs)
+    (r ∷ x ∷ xs)
 
 -- All rows of the second list join the first.
 abbrev pub merge : ℕ → List Row → List Row → List Row

@@ -22,7 +22,7 @@ witness_by x r = record { moment = x.first; receiver = r; frame = x.greatest.fra
 abbrev pub witnesses_of_row : Row → List Received
 witnesses_of_row x =
     map (witness_at x) (moments x.first (last_moment x - x.first + 1))
-        ++ map (witness_by x) x.receivers
+    ++ map (witness_by x) x.receivers
 
 -- The witnesses of all rows.
 abbrev pub witnesses : List Row → List Received
