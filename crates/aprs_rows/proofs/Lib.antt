@@ -19,4 +19,5 @@ mod ReceiverNames
 pub mod Refusals
 pub mod Rows
 pub mod SortedTexts
+pub mod Told
 pub mod Unions

@@ -1,5 +1,5 @@
 -- Rows packed in bytes, one after another.
-use Rattle.aprs_rows.proofs.Common.{◌≡◌, ◌∙◌, ℕ, suc, ◌+◌, ◌-◌, ◌<◌, ◌≤◌, List, [], ◌∷◌, ◌++◌, inl, inr, None, Some, length, take, drop, sym, ap, subst, arith, take-append_seam, drop-append_seam, length-append, length-drop, length-take, take_all, drop_all, refl, drop-drop, last_or, slice_get, join_with_byte, join_with_byte-slice_split, parts_of, Row, IsSoundRow}
+use Rattle.aprs_rows.proofs.Common.{◌≡◌, ◌∙◌, ℕ, suc, ◌+◌, ◌-◌, ◌<◌, ◌≤◌, List, [], ◌∷◌, ◌++◌, inl, inr, None, Some, length, take, drop, sym, ap, subst, arith, take-append_seam, drop-append_seam, length-append, length-drop, length-take, take_all, drop_all, refl, drop-drop, last_or, slice_get, join_with_byte, join_with_byte-slice_split, parts_of, Row, IsSoundRow, AllByRecursion}
 use Rattle.std.proofs.lemmas.List.Sums.{sum_by_push, sum_by-cons}
 use Rattle.aprs_laws.specs.Sound.{AreSoundRows}
 use Rattle.aprs_rows.specs.Names.{row_of_text}
@@ -103,13 +103,18 @@ lies_after ms more bytes longer m x a t e l =
       room = ap room_of is ∙ sum_by_push row_room (rows_of_marks ms bytes) x;
     }
 
--- ---- each is sound, and short
+-- ---- each is sound, told and short
 
 pub marks_sound : (ms : List Mark) (bytes : List ℕ) → AreMarks ms bytes
     → AreSoundRows (rows_of_marks ms bytes)
 marks_sound [] bytes a x h = absurd h
 marks_sound (m ∷ ms) bytes a x (inl e) = subst (λ (y : Row). IsSoundRow y) e a.0.sound
 marks_sound (m ∷ ms) bytes a x (inr h) = marks_sound ms (drop (mark_size m) bytes) a.1 x h
+
+pub marks_told : (ms : List Mark) (bytes : List ℕ) → AreMarks ms bytes
+    → AllByRecursion IsTold (rows_of_marks ms bytes)
+marks_told [] bytes a = tt
+marks_told (m ∷ ms) bytes a = (a.0.told, marks_told ms (drop (mark_size m) bytes) a.1)
 
 own_text : (m : Mark) (bytes : List ℕ)
     → length (join_with_byte 44 (mark_row m bytes).receivers) ≡ length (take m.receivers bytes)

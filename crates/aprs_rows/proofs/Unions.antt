@@ -61,14 +61,18 @@ names_each : (xs : List (List ℕ)) → ((z : List ℕ) → z ∈ xs → IsName 
 names_each [] f = tt
 names_each (x ∷ xs) f = (f x (inl refl), names_each xs (λ z h. f z (inr h)))
 
-pub united_names : (xs : List (List ℕ)) → All IsName xs → All IsName (union bytes_cmp xs [])
-united_names xs h =
-    All-from_recursion IsName (union bytes_cmp xs [])
-    (names_each (union bytes_cmp xs [])
-    (λ z k. elim ((in_union bytes_total bytes_exact xs [] z).0 k) [
-      | inl j ↦ each_name xs (recursion_from_All IsName xs h) z j
-      | inr j ↦ absurd j
+pub all_union : (xs ys : List (List ℕ)) → AllByRecursion IsName xs → AllByRecursion IsName ys
+    → All IsName (union bytes_cmp xs ys)
+all_union xs ys h k =
+    All-from_recursion IsName (union bytes_cmp xs ys)
+    (names_each (union bytes_cmp xs ys)
+    (λ z i. elim ((in_union bytes_total bytes_exact xs ys z).0 i) [
+      | inl j ↦ each_name xs h z j
+      | inr j ↦ each_name ys k z j
     ]))
+
+pub united_names : (xs : List (List ℕ)) → All IsName xs → All IsName (union bytes_cmp xs [])
+united_names xs h = all_union xs [] (recursion_from_All IsName xs h) tt
 
 pub united_some : (xs : List (List ℕ)) → 0 < length xs → 0 < length (union bytes_cmp xs [])
 united_some [] h = absurd (omega (arith, h))
