@@ -1,6 +1,7 @@
 -- Lemmas of rows.
 pub mod Common
 pub mod Cases
+pub mod Counts
 pub mod Digits
 pub mod EntryOrder
 pub mod Fronts

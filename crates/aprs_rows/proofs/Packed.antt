@@ -1,13 +1,15 @@
 -- Rows packed in bytes, one after another.
-use Rattle.aprs_rows.proofs.Common.{◌≡◌, ◌∙◌, ℕ, ◌+◌, ◌≤◌, List, [], ◌∷◌, ◌++◌, inl, inr, length, take, drop, sym, ap, subst, arith, take-append_seam, drop-append_seam, length-append, join_with_byte-slice_split, parts_of, Row, IsSoundRow}
-use Rattle.std.proofs.lemmas.List.Sums.{sum_by_push}
+use Rattle.aprs_rows.proofs.Common.{◌≡◌, ◌∙◌, ℕ, suc, ◌+◌, ◌-◌, ◌<◌, ◌≤◌, List, [], ◌∷◌, ◌++◌, inl, inr, None, Some, length, take, drop, sym, ap, subst, arith, take-append_seam, drop-append_seam, length-append, length-drop, length-take, take_all, drop-drop, last_or, slice_get, join_with_byte, join_with_byte-slice_split, parts_of, Row, IsSoundRow}
+use Rattle.std.proofs.lemmas.List.Sums.{sum_by_push, sum_by-cons}
 use Rattle.aprs_laws.specs.Sound.{AreSoundRows}
 use Rattle.aprs_rows.specs.Names.{row_of_text}
-use Rattle.aprs_rows.specs.Packed.{AreMarks, IsMarked, Notes, mark_row, mark_size, row_room, room_of, rows_of_marks}
+use Rattle.aprs_rows.specs.Packed.{AreMarks, AreShort, IsMarked, IsShort, Notes, mark_row, mark_size, row_room, room_of, rows_of_marks}
 use Rattle.aprs_rows.specs.Rows.{row_bytes}
 use Rattle.aprs_rows.specs.Told.{IsTold}
 use Rattle.aprs_rows.specs.declared.store.mark.Mark.{Mark}
-use Rattle.aprs_rows.proofs.Groups.{are_more, rows_more}
+use Rattle.aprs_rows.proofs.Groups.{are_more, length-rows_of, rows_more}
+use Rattle.aprs_rows.proofs.NameTexts.{some_letters}
+use Rattle.aprs_rows.proofs.Places.{as_many}
 
 -- ---- one row
 
@@ -26,10 +28,10 @@ mark_row_of m a b c k n =
     λ t. row_of_text m.first m.last (first t) (second t) (third t)
 
 pub notes : (m : Mark) (x : Row) (a b c : List ℕ) → row_of_text m.first m.last a b c ≡ x
-    → m.receivers ≡ length a → m.receiver ≡ length b → m.frame ≡ length c → m.info_at ≤ length c
-    → drop m.info_at c ≡ (parts_of c).info → IsSoundRow x
-    → IsTold (row_of_text m.first m.last a b c) → Notes m x
-notes m x a b c v k n f w i s h =
+    → m.receivers ≡ length a → m.receiver ≡ length b → m.frame ≡ length c
+    → m.receivers < 4294967296 → m.info_at ≤ length c → drop m.info_at c ≡ (parts_of c).info
+    → IsSoundRow x → IsTold (row_of_text m.first m.last a b c) → Notes m x
+notes m x a b c v k n f short w i s h =
     let text : row_bytes x ≡ a ++ (b ++ c) =
     ap row_bytes (sym v) ∙ ap (λ t. t ++ (b ++ c)) (join_with_byte-slice_split 44 a) in
     let is = mark_row_of m a b c k n in
@@ -37,6 +39,7 @@ notes m x a b c v k n f w i s h =
     record {
       fits = subst (λ bytes. IsMarked m bytes) (sym text) (record {
         size = omega (arith, k, n, f, length-append a (b ++ c), length-append b c);
+        short = short;
         sound = subst IsSoundRow (sym (is ∙ v)) s;
         told = subst IsTold (sym is) h;
         within = subst (λ fs. m.info_at ≤ length fs) frame w;
@@ -69,10 +72,98 @@ lies_after ms more bytes longer m x a t e l =
       room = ap room_of is ∙ sum_by_push row_room (rows_of_marks ms bytes) x;
     }
 
--- ---- each is sound
+-- ---- each is sound, and short
 
 pub marks_sound : (ms : List Mark) (bytes : List ℕ) → AreMarks ms bytes
     → AreSoundRows (rows_of_marks ms bytes)
 marks_sound [] bytes a x h = absurd h
 marks_sound (m ∷ ms) bytes a x (inl e) = subst (λ (y : Row). IsSoundRow y) e a.0.sound
 marks_sound (m ∷ ms) bytes a x (inr h) = marks_sound ms (drop (mark_size m) bytes) a.1 x h
+
+own_text : (m : Mark) (bytes : List ℕ)
+    → length (join_with_byte 44 (mark_row m bytes).receivers) ≡ length (take m.receivers bytes)
+own_text m bytes = ap length (join_with_byte-slice_split 44 (take m.receivers bytes))
+
+pub marks_short : (ms : List Mark) (bytes : List ℕ) → AreMarks ms bytes
+    → AreShort (rows_of_marks ms bytes)
+marks_short [] bytes a x h = absurd h
+marks_short (m ∷ ms) bytes a x (inl e) =
+    let own = take (mark_size m) bytes in
+    let text = own_text m own in
+    let n = length-take m.receivers own in
+    subst (λ (y : Row). IsShort y) e (omega (arith, text, n, a.0.short))
+marks_short (m ∷ ms) bytes a x (inr h) = marks_short ms (drop (mark_size m) bytes) a.1 x h
+
+-- ---- how many they are
+
+pub marks_len : (ms : List Mark) (bytes : List ℕ) (rows : List Row)
+    → rows_of_marks ms bytes ≡ rows → length ms ≡ length rows
+marks_len ms bytes rows e =
+    sym (length-rows_of mark_size mark_row IsMarked (λ m bs h. h.size) ms bytes) ∙ ap length e
+
+-- their names have no more bytes than the rows, each of which has a receiver's name besides
+pub room_fits : (ms : List Mark) (bytes : List ℕ) → AreMarks ms bytes
+    → room_of (rows_of_marks ms bytes) ≤ length bytes
+room_fits [] bytes a = omega arith
+room_fits (m ∷ ms) bytes a =
+    let own = take (mark_size m) bytes in
+    let rest = drop (mark_size m) bytes in
+    omega (
+      arith,
+      own_text m own,
+      length-take m.receivers own,
+      length-take m.receiver (drop m.receivers own),
+      some_letters (take m.receiver (drop m.receivers own)) a.0.told.name_is,
+      a.0.size,
+      length-take (mark_size m) bytes,
+      length-drop (mark_size m) bytes,
+      room_fits ms rest a.1,
+      sum_by-cons row_room (mark_row m own) (rows_of_marks ms rest),
+    )
+
+-- ---- the last of them
+
+-- What is known of the last mark: its row's bytes are the last ones.
+pub record IsLastMark (m : Mark) (bytes : List ℕ) (rows : List Row) : Type 0 where
+  pub within : mark_size m ≤ length bytes
+  pub fits : IsMarked m (drop (length bytes - mark_size m) bytes)
+  pub last : last_or None rows ≡ Some (mark_row m (drop (length bytes - mark_size m) bytes))
+
+pub last_mark : (ms : List Mark) (bytes : List ℕ) (m : Mark)
+    → Some m ≡ slice_get ms (length ms - 1) → AreMarks ms bytes
+    → IsLastMark m bytes (rows_of_marks ms bytes)
+last_mark [] bytes m is a = absurd (cc)
+last_mark (d ∷ []) bytes m is a =
+    let same : d ≡ m = cc in
+    let size = a.0.size in
+    let l = length-take (mark_size d) bytes in
+    let n = length-drop (mark_size d) bytes in
+    let none = ap length a.1 in
+    let own : take (mark_size d) bytes ≡ drop (length bytes - mark_size d) bytes =
+    take_all (mark_size d) bytes (omega (arith, n, none))
+    ∙ ap (λ k. drop k bytes) (zero_is (length bytes - mark_size d) (omega (arith, n, none))) in
+    subst (λ (x : Mark). IsLastMark x bytes (rows_of_marks (d ∷ []) bytes)) same (record {
+      within = omega (arith, size, l);
+      fits = subst (IsMarked d) own a.0;
+      last = ap (λ bs. Some (mark_row d bs)) own;
+    }) where
+      zero_is : (k : ℕ) → k ≡ 0 → 0 ≡ k
+      zero_is k e = sym e
+last_mark (d ∷ f ∷ ms) bytes m is a =
+    let rest = drop (mark_size d) bytes in
+    let ends = last_mark (f ∷ ms) rest m
+    (is ∙ ap (slice_get (d ∷ f ∷ ms)) (less_more d f ms)) a.1 in
+    let within = as_many (mark_size d) bytes a.0.size in
+    let n = length-drop (mark_size d) bytes in
+    let place : mark_size d + (length rest - mark_size m) ≡ length bytes - mark_size m =
+    omega (arith, within, n, ends.within) in
+    let own : drop (length rest - mark_size m) rest ≡ drop (length bytes - mark_size m) bytes =
+    drop-drop (length rest - mark_size m) (mark_size d) bytes ∙ ap (λ k. drop k bytes) place in
+    record {
+      within = omega (arith, n, ends.within);
+      fits = subst (IsMarked m) own ends.fits;
+      last = ends.last ∙ ap (λ bs. Some (mark_row m bs)) own;
+    } where
+      less_more : {X : Type 0} (x y : X) (ys : List X)
+          → length (x ∷ y ∷ ys) - 1 ≡ suc (length (y ∷ ys) - 1)
+      less_more x y ys = omega arith

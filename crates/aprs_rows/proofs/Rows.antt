@@ -151,10 +151,10 @@ pub len_in : (es : List Entry) (bytes : List ℕ) (rows : List Row) → rows_in 
 len_in es bytes rows e =
     sym (length-map es (λ d. entry_row d (bytes_of d bytes))) ∙ ap length e
 
-pub none_exactly : (es : List Entry) (bytes : List ℕ) (rows : List Row) (n : ℕ) (b : Bool)
-    → rows_in es bytes ≡ rows → n ≡ length es → b ≡ (n == 0) → IsTrue b ↔ (rows ≡ [])
-none_exactly es bytes rows n b e l h = (
-  λ t. none rows (omega (arith, len_in es bytes rows e, l, zero_is n (sym h ∙ t))),
+pub none_exactly : (rows : List Row) (n : ℕ) (b : Bool) → n ≡ length rows → b ≡ (n == 0)
+    → IsTrue b ↔ (rows ≡ [])
+none_exactly rows n b l h = (
+  λ t. none rows (omega (arith, l, zero_is n (sym h ∙ t))),
   λ k. h ∙ ap (λ m. m == 0) (nothing k),
 ) where
   zero_is : (m : ℕ) → (m == 0) ≡ true → m ≡ 0
@@ -165,7 +165,7 @@ none_exactly es bytes rows n b e l h = (
   none (x ∷ xs) z = absurd (omega (arith, z))
 
   nothing : rows ≡ [] → n ≡ 0
-  nothing k = let m = ap length k in omega (arith, l, m, len_in es bytes rows e)
+  nothing k = let m = ap length k in omega (arith, l, m)
 
 -- ---- the last of the rows
 

@@ -1,7 +1,8 @@
 -- Rows packed in bytes, one after another. No public clause cites this module.
-use Rattle.std.specs.Prelude.{◌≡◌, ℕ, ◌+◌, ◌≤◌, List, length, take, drop}
+use Rattle.std.specs.Prelude.{◌≡◌, ℕ, ◌+◌, ◌<◌, ◌≤◌, List, length, take, drop}
 use Rattle.std.specs.List.{join_with_byte, sum_by}
 use Rattle.aprs_ax25.specs.FrameFault.{parts_of}
+use Rattle.aprs_laws.specs.Lists.{◌∈◌}
 use Rattle.aprs_laws.specs.Row.{Row}
 use Rattle.aprs_laws.specs.Sound.{IsSoundRow}
 use Rattle.aprs_rows.specs.Groups.{rows_of, AreOf}
@@ -23,6 +24,7 @@ mark_row m bytes =
 -- The bytes are those of a row that is sound by itself, as the mark says.
 pub record IsMarked (m : Mark) (bytes : List ℕ) : Type 0 where
   pub size : length bytes ≡ mark_size m
+  pub short : m.receivers < 4294967296
   pub sound : IsSoundRow (mark_row m bytes)
   pub told : IsTold (mark_row m bytes)
   pub within : m.info_at ≤ length (mark_row m bytes).greatest.frame
@@ -41,6 +43,14 @@ rows_of_marks = rows_of mark_size mark_row
 -- The bytes are those of the marks.
 abbrev pub AreMarks : List Mark → List ℕ → Type 0
 AreMarks = AreOf mark_size IsMarked
+
+-- The names of the row's receivers, with commas between, have fewer bytes than a mark can say.
+abbrev pub IsShort : Row → Type 0
+IsShort x = length (join_with_byte 44 x.receivers) < 4294967296
+
+-- So have those of each row.
+abbrev pub AreShort : List Row → Type 0
+AreShort rows = (x : Row) → x ∈ rows → IsShort x
 
 -- How many bytes the names of a row's receivers have, with a comma after each.
 abbrev pub row_room : Row → ℕ

@@ -1,5 +1,5 @@
 //! A row in bytes.
-ghost use Rattle.std.specs.Prelude.{◌≡◌, ◌<◌, ◌++◌, ◌∷◌, [], All, IfOk, IfSome, OnOk, length};
+ghost use Rattle.std.specs.Prelude.{◌≡◌, ◌<◌, ◌++◌, ◌∷◌, [], All, IfOk, OnOk, length};
 ghost use Rattle.std.specs.List.{join_with_byte};
 ghost use Rattle.aprs_ax25.specs.Frame.{FrameOf};
 ghost use Rattle.aprs_ax25.specs.FrameFault.{parts_of};
@@ -10,7 +10,7 @@ ghost use Rattle.aprs_laws.specs.Row.{last_of, row_cmp, row_key};
 ghost use Rattle.aprs_laws.specs.Sound.{IsSoundRow};
 ghost use Rattle.aprs_rows.specs.KeyPrefix.{HasKeyPrefix};
 ghost use Rattle.aprs_rows.specs.Names.{names_in, row_of_text};
-ghost use Rattle.aprs_rows.specs.Packed.{IsMarked, Notes, mark_row};
+ghost use Rattle.aprs_rows.specs.Packed.{IsMarked, IsShort, Notes, mark_row};
 ghost use Rattle.aprs_rows.specs.Rows.{IsRowIn, entry_row, row_bytes};
 
 use crate::Memory;
@@ -144,23 +144,21 @@ impl<'a> RowView<'a> {
         }
     }
 
-    /// The mark of the row, or `None` where its receivers' names with commas between have
-    /// 4,294,967,296 bytes or more. Requires that the row is sound by itself.
-    pub(crate) fn mark(&self) -> Option<Mark>
-        requires { IsSoundRow self.now }
-        ensures { IfSome result (λ mark. Notes mark self.now) }
+    /// The mark of the row. Requires that the row is sound by itself, and that its receivers' names
+    /// with commas between have fewer than 4,294,967,296 bytes, so that their number fits.
+    pub(crate) fn mark(&self) -> Mark
+        requires sound { IsSoundRow self.now }
+        requires short { IsShort self.now }
+        ensures { Notes result self.now }
     {
-        let Ok(receivers) = u32::try_from(self.names.len()) else {
-            return None;
-        };
-        Some(Mark {
+        Mark {
             first: self.first,
             last: self.last,
-            receivers,
+            receivers: self.names.len() as u32,
             frame: self.frame.len() as u16,
             receiver: self.receiver.len() as u8,
             info_at: self.info_at,
-        })
+        }
     }
 
     /// This row with another first moment, and with the names in `receivers`, which commas part, in

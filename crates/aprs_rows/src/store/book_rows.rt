@@ -1,5 +1,5 @@
 //! The rows of a book, one after another.
-ghost use Rattle.std.specs.Prelude.{◌≡◌, ◌≤◌, [], ◌∷◌, min, length, IfOk, IfSome, IfNone};
+ghost use Rattle.std.specs.Prelude.{◌≡◌, ◌<◌, ◌≤◌, [], ◌∷◌, min, length, IfOk, IfSome, IfNone, OnErr};
 ghost use Rattle.std.specs.Iterator.{YieldsFirst, item_count};
 ghost use Rattle.aprs_laws.specs.BookValue.{IsSoundBook};
 ghost use Rattle.aprs_laws.specs.Gap.{millis_of};
@@ -50,8 +50,9 @@ impl<'a, A: Allocator + Copy> BookRows<'a, A> {
     ) -> Result<BookRows<'a, A>, Memory>
         requires sound { AreSoundRows merger }
         requires room { room_of merger ≤ length room.old }
-        ensures { IfOk result (λ rows. rows
+        ensures book { IfOk result (λ rows. rows
             ≡ record { gap = gap; rows = book_together (millis_of gap) merger.entry }) }
+        ensures some { OnErr result (0 < length room.old) }
     {
         let names = NameRoom::new(alloc, room)?;
         Ok(BookRows { gap, merger, names })
@@ -63,6 +64,13 @@ impl<'a, A: Allocator + Copy> BookRows<'a, A> {
         ensures sound { IsSoundBook self.now }
     {
         self.gap
+    }
+
+    /// A number of rows of which no more come. Takes no memory.
+    pub fn most_rows(&self) -> usize
+        ensures { length self.now.rows ≤ result }
+    {
+        self.names.left()
     }
 
     /// The next row, or `None` after the last. Takes no memory.

@@ -1,5 +1,5 @@
 //! Rows of several lists in order, taken out in the order of all.
-ghost use Rattle.std.specs.Prelude.{◌≡◌, ◌<◌, ◌++◌, ◌+◌, true, [], IfSome, IfNone, OnOk, OnErr};
+ghost use Rattle.std.specs.Prelude.{◌≡◌, ◌≢◌, ◌<◌, ◌++◌, ◌+◌, true, [], IfSome, IfNone, OnOk, OnErr};
 ghost use Rattle.std.specs.BinaryHeap.{heap_len, heap_capacity, heap_items, KeepsHeap};
 ghost use Rattle.aprs_laws.specs.Gap.{millis_of};
 ghost use Rattle.aprs_laws.specs.Lists.{SameMembers};
@@ -54,6 +54,7 @@ impl<'a, A: Allocator + Copy> Merger<'a, A> {
         ensures members { OnOk result (SameMembers (rows.entry ++ self.old) self.new) }
         ensures room { OnOk result (room_of self.new ≡ room_of rows.entry + room_of self.old) }
         ensures unchanged { OnErr result (self.new ≡ self.old) }
+        ensures some { OnErr result (rows.entry ≢ []) }
     {
         let Some(front) = Front::of(rows) else {
             return Ok(());
