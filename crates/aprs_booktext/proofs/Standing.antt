@@ -20,12 +20,6 @@ use Rattle.aprs_booktext.specs.declared.reader.Stage.TheVariants.{Header, Rows, 
 use Rattle.aprs_booktext.specs.declared.version.Version.{Version}
 use Rattle.aprs_booktext.proofs.BookRows.{rows_are, rows_sound}
 
--- the last row, if there is one
-pub last_found : (rows : List Row) (o : Option Row) → IfSome o (λ x. last_or None rows ≡ Some x)
-    → IfNone o (rows ≡ []) → last_or None rows ≡ o
-last_found rows None some none = ap (last_or None) none
-last_found rows (Some x) some none = some
-
 -- ---- one more line
 
 one_more : (ls : List (List ℕ)) (line t : List ℕ) → t ≡ text_of_lines ls ++ line

@@ -105,16 +105,6 @@ JudgesLine Header answer old line new = JudgesHeader answer old line new
 JudgesLine (Rows v) answer old line new = JudgesRowLine v answer old line new
 JudgesLine (Done v) answer old line new = (answer ≡ Err why.After) × (new ≡ old)
 
--- A row's line is judged so after the lines of the old rows: it spells a row, which nothing refuses
--- and which is added to them; or an allocation failed, or the line is wrong.
-abbrev pub AddsRow : Version → Result (Unit {0}) BookCause → List Row → List ℕ → List Row → Type 0
-AddsRow v (Ok u) old line new = (x : Row) × IsBookRow (form_of v) x
-    × (line ≡ row_line (form_of v) x) × (new ≡ old ++ x ∷ [])
-    × (refusal (millis_of (gap_of v)) old x ≡ None)
-AddsRow v (Err cause) old line new = ((cause ≡ why.Memory)
-    ⊎ (is_end line ≡ false → IsWrong (millis_of (gap_of v)) (form_of v) old line cause))
-    × (new ≡ old)
-
 -- ---- a reader
 
 -- How many rows there are, and how many bytes of a line the reader keeps, together.

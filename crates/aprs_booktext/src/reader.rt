@@ -1,10 +1,7 @@
 //! A book's text, while it is read.
-ghost use Rattle.std.specs.Prelude.{◌≡◌, ◌≢◌, ◌+◌, ◌≤◌, ◌++◌, ◌∷◌, ℕ, [], true, false, List, length, OnOk, MatchResult, IfErr, IfNone, IfOk};
+ghost use Rattle.std.specs.Prelude.{◌≡◌, ◌≢◌, ◌+◌, ◌≤◌, ◌++◌, ◌∷◌, ℕ, [], true, false, List, length, OnOk, MatchResult, IfErr, IfOk};
 ghost use Rattle.aprs_io.specs.Input.{most_input};
-ghost use Rattle.aprs_laws.specs.Gap.{millis_of};
 ghost use Rattle.aprs_laws.specs.Row.{Row};
-ghost use Rattle.aprs_laws.specs.Sound.{IsSoundRow};
-ghost use Rattle.aprs_rows.specs.Refusal.{refusal};
 ghost use Rattle.aprs_booktext.specs.BookAnswers.{IsAnswerFor};
 ghost use Rattle.aprs_booktext.specs.Fault.{ending_cause};
 ghost use Rattle.aprs_booktext.specs.Lines.{Lacks};
@@ -18,9 +15,9 @@ use crate::fault::{BookCause, BookFault};
 use crate::row_buffers::RowBuffers;
 use crate::row_line::read_row;
 use crate::version::Version;
-use aprs_book::{Gap, RowCause};
+use aprs_book::Gap;
 use aprs_io::InputEnd;
-use aprs_rows::{PackedRows, RowView};
+use aprs_rows::PackedRows;
 use std::alloc::Allocator;
 
 /// Which line of a book's text comes next.
@@ -368,8 +365,15 @@ fn judge_row_line<A: Allocator + Copy>(
     if line.starts_with(b"END") {
         return judge_end(line, version, rows.len());
     }
-    add_row(rows, buffers, &version, line)?;
-    Ok(Stage::Rows(version))
+    let row = read_row(buffers, version.form(), line)?;
+    let last = rows.last();
+    if let Some(cause) = row.refusal_after(last.as_ref(), version.gap()) {
+        return Err(BookCause::from(cause));
+    }
+    match rows.push(&row) {
+        Ok(()) => Ok(Stage::Rows(version)),
+        Err(_) => Err(BookCause::Memory),
+    }
 }
 
 /// The stage `Done` of this version, where `line` is the last line after so many rows. Fails with
@@ -384,41 +388,6 @@ fn judge_end(line: &[u8], version: Version, count: usize) -> Result<Stage, BookC
     } else {
         Err(BookCause::Ending)
     }
-}
-
-/// Puts the row that `line` spells after the others. Fails, with the rows as before, where the line
-/// spells no row, where the row may not follow the others, or where an allocation failed.
-fn add_row<A: Allocator + Copy>(
-    rows: &mut PackedRows<A>,
-    buffers: &mut RowBuffers,
-    version: &Version,
-    line: &[u8],
-) -> Result<(), BookCause>
-    requires { length line.now ≤ most_input }
-    ensures added { Spec.AddsRow version.now result rows.old line.now rows.new }
-    ensures cause { IfErr result Spec.IsOfText }
-{
-    let row = read_row(buffers, version.form(), line)?;
-    if let Some(cause) = refusal(rows, version.gap(), &row) {
-        return Err(BookCause::from(cause));
-    }
-    match rows.push(&row) {
-        Ok(()) => Ok(()),
-        Err(_) => Err(BookCause::Memory),
-    }
-}
-
-/// The first cause for which a row may not follow the others, or `None` where it may.
-fn refusal<A: Allocator + Copy>(
-    rows: &PackedRows<A>,
-    gap: Gap,
-    row: &RowView<'_>,
-) -> Option<RowCause>
-    ensures cause { result ≡ refusal (millis_of gap) rows.now row.now }
-    ensures sound { IfNone result (IsSoundRow row.now) }
-{
-    let last = rows.last();
-    row.refusal_after(last.as_ref(), gap)
 }
 
 /// The cause of the fault where a text may not end in the way in which its input ended.

@@ -29,5 +29,5 @@ returns g c =
     ∙ c.in_ok-add.ensures.added ∙ ap (λ (b : BookValue). record {
       gap = b.gap;
       rows = merge (millis_of b.gap) b.rows rows;
-    }) c.new-store.ensures ∙ ap (λ (told : List Row). record { gap = c.args.gap; rows = told }) same)
+    }) c.new-store.ensures ∙ ap (λ (own : List Row). record { gap = c.args.gap; rows = own }) same)
     c.of_rows.ensures

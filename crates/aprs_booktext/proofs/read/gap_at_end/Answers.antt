@@ -28,4 +28,5 @@ returns-in-Err-clause-answer g c = λ rows head first limit same got calls.
 
 pub returns-in-Err-clause-refused : goal.returns-in-Err-clause-refused
 returns-in-Err-clause-refused g c = IfErr-weaker c.finish.result _ _
-    (λ f is e. ending_not_memory c.in-Err.ending (sym is ∙ e)) (ends_err _ _ c.finish.ensures.ending)
+    (λ f is e. ending_not_memory c.in-Err.ending (sym is ∙ e))
+    (ends_err _ _ c.finish.ensures.ending)

@@ -58,8 +58,8 @@ returns-in_err-feed-in-Ok-clause-fault g c =
 
 pub returns-in-Err-clause-fault : goal.returns-in-Err-clause-fault
 returns-in-Err-clause-fault g c =
-    rw (c.fault_of_ending.ensures, c.len.ensures) (IsAnswered-end _ c.args.limit c.args.head.now _ _ _
-    c.loop-room.invariant.calls _ _ c.in-Err.ending _ c.loop-room.invariant.got refl
+    rw (c.fault_of_ending.ensures, c.len.ensures) (IsAnswered-end _ c.args.limit c.args.head.now
+    _ _ _ c.loop-room.invariant.calls _ _ c.in-Err.ending _ c.loop-room.invariant.got refl
     c.in-Err.ensures.end c.in-Err.ensures.calls
     (λ t s. first_is _ _ _ (cut_fault _ _ _ t _ (may_end-going _ _
     (sym c.is_done.ensures ∙ c.loop-room-test.true)) s)))

@@ -31,8 +31,8 @@ loop-part-preserved g c = record {
 
 pub returns-clause-stands : goal.returns-clause-stands
 returns-clause-stands g c = on_ok_weaker c.append.result
-    (λ stands. Fed-all _ _ _ _ c.loop-part.invariant.fed (HasRead c.append.new.self c.loop-part.rows)
-    (λ t s. stands t s c.in_default.ensures.none))
+    (λ stands. Fed-all _ _ _ _ c.loop-part.invariant.fed
+    (HasRead c.append.new.self c.loop-part.rows) (λ t s. stands t s c.in_default.ensures.none))
     c.append.ensures.stands
 
 pub returns-clause-fault : goal.returns-clause-fault
