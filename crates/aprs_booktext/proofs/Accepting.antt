@@ -1,5 +1,5 @@
 -- The text of a book is read, unless an allocation or a read fails.
-use Rattle.aprs_booktext.proofs.Common.{◌≡◌, ℕ, ◌+◌, ◌*◌, ◌/◌, ◌%◌, ◌^◌, ◌<◌, ◌≤◌, List, [], ◌∷◌, ◌++◌, length, map, Option, None, Some, IfSome, IfOk, IfErr, Result, Ok, Err, inl, inr, refl, sym, ap, ◌∙◌, subst, append-nil, length-append, arith, length-map, All-weaker, IfErr-weaker, Rose, Counted, most_input, Gets, IsWritable, date_text, time_text, Received, InputEnd, MomentForm, Seconds, Millis, BookValue, Holds, IsGap, millis_of, standard_gap, Row, last_of, text_of_lines}
+use Rattle.aprs_booktext.proofs.Common.{◌≡◌, ℕ, ◌+◌, ◌*◌, ◌/◌, ◌%◌, ◌^◌, ◌<◌, ◌≤◌, List, [], ◌∷◌, ◌++◌, length, map, Option, None, Some, IfSome, IfOk, IfErr, Result, Ok, Err, inl, inr, refl, sym, ap, ◌∙◌, subst, append-nil, length-append, arith, length-map, All-weaker, IfErr-weaker, Rose, Counted, most_input, Gets, IsWritable, date_text, time_text, Received, InputEnd, MomentForm, Seconds, Millis, BookValue, Holds, IsGap, millis_of, standard_gap, Row, last_moment, text_of_lines}
 use Rattle.aprs_log.specs.Moment.{day_after, moment_text_in}
 use Rattle.aprs_io.specs.declared.input.InputEnd.TheVariants as ending
 use Rattle.aprs_laws.specs.Scaling.{scaled_rows, scaled_heard}
@@ -163,7 +163,7 @@ row_more : (form : MomentForm) (x : Row) → IsBookRow form x → IsBookRow Mill
 row_more form x h = record {
   spelled = record {
     first = writable_more form x.first h.spelled.first;
-    last = writable_more form (last_of x) h.spelled.last;
+    last = writable_more form (last_moment x) h.spelled.last;
     some = h.spelled.some;
     receivers = h.spelled.receivers;
     receiver = h.spelled.receiver;

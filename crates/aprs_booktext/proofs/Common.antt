@@ -15,7 +15,7 @@ pub use Rattle.aprs_io.specs.declared.input.InputEnd.{InputEnd}
 pub use Rattle.aprs_laws.proofs.Soundness.{sound, witnessed}
 pub use Rattle.aprs_laws.specs.BookValue.{BookValue, Holds, IsSoundBook}
 pub use Rattle.aprs_laws.specs.Gap.{IsGap, greatest_gap, millis_of, standard_gap}
-pub use Rattle.aprs_laws.specs.Row.{Row, last_of}
+pub use Rattle.aprs_laws.specs.Row.{Row, last_moment}
 pub use Rattle.aprs_laws.specs.Sound.{IsSoundRow, Sound}
 pub use Rattle.aprs_laws.specs.Witnesses.{witnesses}
 pub use Rattle.aprs_laws.specs.declared.row_cause.RowCause.{RowCause}

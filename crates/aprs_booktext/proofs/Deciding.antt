@@ -1,5 +1,5 @@
 -- Each line spells a row or none, and each text is a book's or has a first fault.
-use Rattle.aprs_booktext.proofs.Common.{◌≡◌, ℕ, zero, suc, ◌+◌, ◌<◌, ◌≤◌, Bool, true, false, cond, List, [], ◌∷◌, ◌++◌, length, Option, Some, None, Result, Ok, Err, ◌⊎◌, inl, inr, refl, sym, ap, ◌∙◌, subst, append_assoc, append-nil, length-append, arith, ◌≢◌, All, codes, bytes_eq, AllByRecursion, join_with_byte, cases_lt, nil_from_length, bytes_eq-Decides, All-from_recursion, recursion_from_All, encode_lower, decode_of, decode_of-ok, frame_or_fault, frame_of-is, is-frame_of, FrameFault, IsWritable, moment_in, IsName, is_receiver, MomentForm, moment_in-text, InputEnd, greatest_gap, IsGap, millis_of, Row, last_of, is_refused, row_with, RowCause, is_byte}
+use Rattle.aprs_booktext.proofs.Common.{◌≡◌, ℕ, zero, suc, ◌+◌, ◌<◌, ◌≤◌, Bool, true, false, cond, List, [], ◌∷◌, ◌++◌, length, Option, Some, None, Result, Ok, Err, ◌⊎◌, inl, inr, refl, sym, ap, ◌∙◌, subst, append_assoc, append-nil, length-append, arith, ◌≢◌, All, codes, bytes_eq, AllByRecursion, join_with_byte, cases_lt, nil_from_length, bytes_eq-Decides, All-from_recursion, recursion_from_All, encode_lower, decode_of, decode_of-ok, frame_or_fault, frame_of-is, is-frame_of, FrameFault, IsWritable, moment_in, IsName, is_receiver, MomentForm, moment_in-text, InputEnd, greatest_gap, IsGap, millis_of, Row, last_moment, is_refused, row_with, RowCause, is_byte}
 use Rattle.aprs_log.specs.Moment.{moment_text_in}
 use Rattle.aprs_rows.specs.Refusal.{refusal}
 use Rattle.hex.specs.declared.error.FromHexError.{FromHexError}
@@ -136,7 +136,7 @@ module _ (form : MomentForm) (line t f l n w d : List ℕ)
       | inr none ↦ inr (λ x h e. none x.first h.first
           (same_fields form line t f l n w d is x h e).first)
       | inl first ↦ elim (moment_or_none form l) [
-        | inr none ↦ inr (λ x h e. none (last_of x) h.last
+        | inr none ↦ inr (λ x h e. none (last_moment x) h.last
             (same_fields form line t f l n w d is x h e).last)
         | inl last ↦ elim (names_or_none n) [
           | inr none ↦ inr (λ x h e. none x.receivers

@@ -1,5 +1,5 @@
 -- The text of a book's rows is that of no others, and has no fault but that it may be cut short.
-use Rattle.aprs_booktext.proofs.Common.{◌≡◌, ℕ, ◌+◌, ◌^◌, ◌<◌, true, false, eqb, List, [], ◌∷◌, ◌++◌, length, get_or, map, Some, None, Ok, inl, inr, refl, sym, ap, ◌∙◌, subst, append_assoc, append-nil, length-append, arith, ◌≢◌, All, codes, join_with_byte, All-head, All-tail, false≢true, nil_from_length, flat_map-append, encode_lower, decode_of, decode_of-encode_lower, IsUiFrame, IsWritable, moment_in, MomentForm, InputEnd, BookValue, millis_of, Row, last_of, Sound, row_with, RowCause, none_exactly, text_of_lines}
+use Rattle.aprs_booktext.proofs.Common.{◌≡◌, ℕ, ◌+◌, ◌^◌, ◌<◌, true, false, eqb, List, [], ◌∷◌, ◌++◌, length, get_or, map, Some, None, Ok, inl, inr, refl, sym, ap, ◌∙◌, subst, append_assoc, append-nil, length-append, arith, ◌≢◌, All, codes, join_with_byte, All-head, All-tail, false≢true, nil_from_length, flat_map-append, encode_lower, decode_of, decode_of-encode_lower, IsUiFrame, IsWritable, moment_in, MomentForm, InputEnd, BookValue, millis_of, Row, last_moment, Sound, row_with, RowCause, none_exactly, text_of_lines}
 use Rattle.aprs_log.specs.Moment.{moment_text_in}
 use Rattle.aprs_rows.specs.Refusal.{refusal}
 use Rattle.aprs_io.specs.declared.input.InputEnd.TheVariants as ending
@@ -71,29 +71,29 @@ same_moment form m n h k e =
 pub same_row : (form : MomentForm) (x y : Row) → IsSpelled form x → IsSpelled form y
     → row_line form x ≡ row_line form y → x ≡ y
 same_row form x y h k e =
-    let lists : codes "T" ∷ moment_text_in form x.first ∷ moment_text_in form (last_of x)
+    let lists : codes "T" ∷ moment_text_in form x.first ∷ moment_text_in form (last_moment x)
     ∷ join_with_byte 44 x.receivers ∷ x.greatest.receiver ∷ encode_lower x.greatest.frame ∷ []
-    ≡ codes "T" ∷ moment_text_in form y.first ∷ moment_text_in form (last_of y)
+    ≡ codes "T" ∷ moment_text_in form y.first ∷ moment_text_in form (last_moment y)
     ∷ join_with_byte 44 y.receivers ∷ y.greatest.receiver ∷ encode_lower y.greatest.frame ∷ []
     = sym (row_pieces form x h) ∙ ap (pieces 32) e ∙ row_pieces form y k in
     let first_text : moment_text_in form x.first ≡ moment_text_in form y.first = cc in
-    let last_text : moment_text_in form (last_of x) ≡ moment_text_in form (last_of y) = cc in
+    let last_text : moment_text_in form (last_moment x) ≡ moment_text_in form (last_moment y) = cc in
     let names_text : join_with_byte 44 x.receivers ≡ join_with_byte 44 y.receivers = cc in
     let who : x.greatest.receiver ≡ y.greatest.receiver = cc in
     let digits : encode_lower x.greatest.frame ≡ encode_lower y.greatest.frame = cc in
     let first = same_moment form x.first y.first h.first k.first first_text in
-    let last = same_moment form (last_of x) (last_of y) h.last k.last last_text in
+    let last = same_moment form (last_moment x) (last_moment y) h.last k.last last_text in
     let names = sym (names_pieces x.receivers h.some h.receivers) ∙ ap (pieces 44) names_text
     ∙ names_pieces y.receivers k.some k.receivers in
     let read : Ok x.greatest.frame ≡ Ok y.greatest.frame =
     sym (decode_of-encode_lower x.greatest.frame h.bytes) ∙ ap decode_of digits
     ∙ decode_of-encode_lower y.greatest.frame k.bytes in
     let frame : x.greatest.frame ≡ y.greatest.frame = cc in
-    ap (λ m. row_with m (last_of x) x.receivers x.greatest.receiver x.greatest.frame) first
+    ap (λ m. row_with m (last_moment x) x.receivers x.greatest.receiver x.greatest.frame) first
     ∙ ap (λ m. row_with y.first m x.receivers x.greatest.receiver x.greatest.frame) last
-    ∙ ap (λ r. row_with y.first (last_of y) r x.greatest.receiver x.greatest.frame) names
-    ∙ ap (λ r. row_with y.first (last_of y) y.receivers r x.greatest.frame) who
-    ∙ ap (λ b. row_with y.first (last_of y) y.receivers y.greatest.receiver b) frame
+    ∙ ap (λ r. row_with y.first (last_moment y) r x.greatest.receiver x.greatest.frame) names
+    ∙ ap (λ r. row_with y.first (last_moment y) y.receivers r x.greatest.frame) who
+    ∙ ap (λ b. row_with y.first (last_moment y) y.receivers y.greatest.receiver b) frame
 
 -- ---- the last line
 

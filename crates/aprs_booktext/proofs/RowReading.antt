@@ -1,5 +1,5 @@
 -- Lemmas on reading a row's line field by field.
-use Rattle.aprs_booktext.proofs.Common.{◌≡◌, ℕ, ◌<◌, List, [], ◌∷◌, ◌++◌, length, get_or, take, drop, IsErr, Option, Some, None, inl, inr, refl, sym, ap, ◌∙◌, subst, length-append, arith, take-append_seam, ◌≢◌, All, IfNone, false≢true, join_with_byte, encode_lower, frame_or_fault, frame_of-is, is-frame_of, IsWritable, MomentForm, Seconds, Millis, IsName, Row, last_of}
+use Rattle.aprs_booktext.proofs.Common.{◌≡◌, ℕ, ◌<◌, List, [], ◌∷◌, ◌++◌, length, get_or, take, drop, IsErr, Option, Some, None, inl, inr, refl, sym, ap, ◌∙◌, subst, length-append, arith, take-append_seam, ◌≢◌, All, IfNone, false≢true, join_with_byte, encode_lower, frame_or_fault, frame_of-is, is-frame_of, IsWritable, MomentForm, Seconds, Millis, IsName, Row, last_moment}
 use Rattle.aprs_log.specs.Moment.{moment_text_in}
 use Rattle.aprs_log.specs.Clock.{form_size}
 use Rattle.aprs_rows.specs.Names.{row_of_text}
@@ -88,7 +88,7 @@ abbrev from_names : Row → List ℕ
 from_names x = join_with_byte 44 x.receivers ++ 32 ∷ from_receiver x
 
 abbrev from_last : MomentForm → Row → List ℕ
-from_last form x = moment_text_in form (last_of x) ++ 32 ∷ from_names x
+from_last form x = moment_text_in form (last_moment x) ++ 32 ∷ from_names x
 
 abbrev from_first : MomentForm → Row → List ℕ
 from_first form x = moment_text_in form x.first ++ 32 ∷ from_last form x
@@ -126,13 +126,13 @@ module _ (form : MomentForm) (line a : List ℕ) (tag_is : line ≡ 84 ∷ 32 �
     pub wrong_last : ((m : ℕ) (rest : List ℕ) → IsWritable form m
         → b ≢ moment_text_in form m ++ 32 ∷ rest) → IsWrongRow form line cause.RowSyntax
     wrong_last none = no_row form line
-        (λ x h e. none (last_of x) (from_names x) h.last (at_last x e))
+        (λ x h e. none (last_moment x) (from_names x) h.last (at_last x e))
 
     module _ (last : ℕ) (c : List ℕ)
         (last_is : IsWritable form last × (b ≡ moment_text_in form last ++ 32 ∷ c)) where
       at_names : (x : Row) → line ≡ row_line form x → c ≡ from_names x
-      at_names x e = (one_field b (moment_text_in form last) c (moment_text_in form (last_of x))
-          (from_names x) (lacks_moment form last) (lacks_moment form (last_of x)) last_is.1
+      at_names x e = (one_field b (moment_text_in form last) c (moment_text_in form (last_moment x))
+          (from_names x) (lacks_moment form last) (lacks_moment form (last_moment x)) last_is.1
           (at_last x e)).1
 
       pub wrong_names : ((names rest : List ℕ) → All IsName (pieces 44 names)

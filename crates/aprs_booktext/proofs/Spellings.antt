@@ -1,5 +1,5 @@
 -- Lemmas on the fields of a row's line.
-use Rattle.aprs_booktext.proofs.Common.{◌≡◌, ℕ, zero, suc, ◌/◌, ◌%◌, ◌<◌, ◌≤◌, Bool, true, List, [], ◌∷◌, ◌++◌, length, get_or, Option, Some, None, Ok, refl, sym, ap, ◌∙◌, subst, append_assoc, arith, rules, ◌↔◌, All, IsTrue, codes, join_with_byte, AllByRecursion, list_all, and_parts, nat_tests, All-nil, All-push, recursion_from_All, encode_lower, lower_digits, IsBytes, fraction_text, two_digits, IsWritable, moment_in, civil_text, Civil, MomentForm, Seconds, Millis, IsName, is_name_byte, text-moment_in, one_text, moment_text-is, millis_kept, same_text, Row, last_of, frame_or_fault, frame_fault, unless_fault, FrameFault}
+use Rattle.aprs_booktext.proofs.Common.{◌≡◌, ℕ, zero, suc, ◌/◌, ◌%◌, ◌<◌, ◌≤◌, Bool, true, List, [], ◌∷◌, ◌++◌, length, get_or, Option, Some, None, Ok, refl, sym, ap, ◌∙◌, subst, append_assoc, arith, rules, ◌↔◌, All, IsTrue, codes, join_with_byte, AllByRecursion, list_all, and_parts, nat_tests, All-nil, All-push, recursion_from_All, encode_lower, lower_digits, IsBytes, fraction_text, two_digits, IsWritable, moment_in, civil_text, Civil, MomentForm, Seconds, Millis, IsName, is_name_byte, text-moment_in, one_text, moment_text-is, millis_kept, same_text, Row, last_moment, frame_or_fault, frame_fault, unless_fault, FrameFault}
 use Rattle.hex.specs.Hex.{encode_with}
 use Rattle.aprs_log.specs.Moment.{moment_text_in}
 use Rattle.aprs_log.specs.CivilMoment.{IsMomentTextIn, civil_after}
@@ -134,7 +134,7 @@ row_fields_lack form c x low h =
       (
         high_lacks c (moment_text_in form x.first) below (high_moment form x.first),
         (
-          high_lacks c (moment_text_in form (last_of x)) below (high_moment form (last_of x)),
+          high_lacks c (moment_text_in form (last_moment x)) below (high_moment form (last_moment x)),
           (
             lacks_names c x.receivers low h.receivers,
             (
@@ -159,7 +159,7 @@ row_pieces form x h = pieces_joined 32 (fields_of form x) (omega arith)
 pub record SameFields (form : MomentForm) (x : Row) (t f l n w d : List ℕ) : Type 0 where
   pub tag : t ≡ codes "T"
   pub first : f ≡ moment_text_in form x.first
-  pub last : l ≡ moment_text_in form (last_of x)
+  pub last : l ≡ moment_text_in form (last_moment x)
   pub receivers : n ≡ join_with_byte 44 x.receivers
   pub receiver : w ≡ x.greatest.receiver
   pub frame : d ≡ encode_lower x.greatest.frame
@@ -172,7 +172,7 @@ module _ (form : MomentForm) (line t f l n w d : List ℕ)
       let same : t ∷ f ∷ l ∷ n ∷ w ∷ d ∷ [] ≡ fields_of form x = sym is ∙ ap (pieces 32) e
       ∙ row_pieces form x h in
       let lists : t ∷ f ∷ l ∷ n ∷ w ∷ d ∷ [] ≡ codes "T" ∷ moment_text_in form x.first
-      ∷ moment_text_in form (last_of x) ∷ join_with_byte 44 x.receivers ∷ x.greatest.receiver
+      ∷ moment_text_in form (last_moment x) ∷ join_with_byte 44 x.receivers ∷ x.greatest.receiver
       ∷ encode_lower x.greatest.frame ∷ [] = same in
       record { tag = cc; first = cc; last = cc; receivers = cc; receiver = cc; frame = cc }
 

@@ -1,5 +1,5 @@
 -- Lemmas on the parts of a book's text.
-use Rattle.aprs_booktext.proofs.Common.{◌≡◌, ℕ, ◌+◌, ◌<◌, List, [], ◌∷◌, ◌++◌, length, take, drop, map, refl, sym, ap, ◌∙◌, append_assoc, append-nil, drop-append-add, take-append-add, take_more_set, flat_map-append, flat_map, join_with_byte, codes, encode_lower, moment_text, Millis, BookValue, Row, last_of, row_with}
+use Rattle.aprs_booktext.proofs.Common.{◌≡◌, ℕ, ◌+◌, ◌<◌, List, [], ◌∷◌, ◌++◌, length, take, drop, map, refl, sym, ap, ◌∙◌, append_assoc, append-nil, drop-append-add, take-append-add, take_more_set, flat_map-append, flat_map, join_with_byte, codes, encode_lower, moment_text, Millis, BookValue, Row, last_moment, row_with}
 use Rattle.std.proofs.Math.ListN.{replicate, set}
 use borrow.Rule.Slice.PartMut.{put_mid}
 use Rattle.aprs_booktext.specs.RowLines.{line_and_lf, ended_by_lf}
@@ -29,12 +29,12 @@ line_parts a b names who digits =
     )
 
 pub row_parts : (row : Row) (head tail : List ℕ)
-    → head ≡ codes "T " ++ moment_text row.first ++ 32 ∷ moment_text (last_of row) ++ 32 ∷ []
+    → head ≡ codes "T " ++ moment_text row.first ++ 32 ∷ moment_text (last_moment row) ++ 32 ∷ []
     → tail ≡ 32 ∷ row.greatest.receiver ++ 32 ∷ encode_lower row.greatest.frame ++ 10 ∷ []
     → ended_by_lf (row_line Millis row) ≡ head ++ (join_with_byte 44 row.receivers ++ tail)
 row_parts row head tail h t =
     let first = moment_text row.first in
-    let last = moment_text (last_of row) in
+    let last = moment_text (last_moment row) in
     let names = join_with_byte 44 row.receivers in
     let who = row.greatest.receiver in
     let digits = encode_lower row.greatest.frame in

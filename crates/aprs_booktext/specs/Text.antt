@@ -11,7 +11,7 @@ use Rattle.aprs_log.specs.Reception.{Received}
 use Rattle.aprs_laws.specs.Book.{BookOf}
 use Rattle.aprs_laws.specs.BookValue.{BookValue}
 use Rattle.aprs_laws.specs.Gap.{millis_of}
-use Rattle.aprs_laws.specs.Row.{Row, last_of}
+use Rattle.aprs_laws.specs.Row.{Row, last_moment}
 use Rattle.aprs_booktext.specs.Version.{form_of, gap_of, header_of, IsVersion}
 use Rattle.aprs_booktext.specs.declared.version.Version.{Version}
 use Rattle.aprs_booktext.specs.declared.version.Version.TheVariants.{Three}
@@ -21,7 +21,7 @@ use Rattle.aprs_booktext.specs.declared.version.Version.TheVariants.{Three}
 -- The fields of a row's line: T, the first and the last moment, the receivers with a comma between,
 -- and the greatest reception's receiver, and its frame in lower case hexadecimal.
 abbrev pub fields_of : MomentForm → Row → List (List ℕ)
-fields_of form x = codes "T" ∷ moment_text_in form x.first ∷ moment_text_in form (last_of x)
+fields_of form x = codes "T" ∷ moment_text_in form x.first ∷ moment_text_in form (last_moment x)
     ∷ join_with_byte 44 x.receivers ∷ x.greatest.receiver ∷ encode_lower x.greatest.frame ∷ []
 
 -- The line of a row, without its LF: its fields with a space between.
@@ -67,7 +67,7 @@ most_frame_bytes = 328
 -- greatest reception's frame is 1 to 328 bytes.
 pub record IsSpelled (form : MomentForm) (x : Row) : Type 0 where
   pub first : IsWritable form x.first
-  pub last : IsWritable form (last_of x)
+  pub last : IsWritable form (last_moment x)
   pub some : 0 < length x.receivers
   pub receivers : All IsName x.receivers
   pub receiver : IsName x.greatest.receiver
