@@ -3,9 +3,7 @@ pub mod Common
 pub mod Cases
 pub mod Counts
 pub mod Digits
-pub mod EntryOrder
 pub mod Fronts
-pub mod Groups
 pub mod KeyPrefixes
 pub mod Infos
 pub mod InStore
@@ -21,4 +19,5 @@ mod ReceiverNames
 pub mod Refusals
 pub mod Rows
 pub mod SortedTexts
-pub mod Sweeps
+pub mod Told
+pub mod Unions

@@ -4,7 +4,7 @@ use Rattle.std.proofs.lemmas.List.Sorted.{sum_by-IsPermutation}
 use Rattle.aprs_rows.proofs.Judgements.{some_names}
 use Rattle.aprs_rows.proofs.NameTexts.{names_joined, some_letters}
 use Rattle.aprs_rows.proofs.SortedTexts.{names_cmp, text_of_sort}
-use Rattle.aprs_rows.proofs.Sweeps.{all_append, united_names, united_some}
+use Rattle.aprs_rows.proofs.Unions.{all_append, united_names, united_some}
 use Rattle.std.proofs.lemmas.List.Sums.{sum_by-append, sum_by-cons}
 use Rattle.aprs_rows.specs.NameRoom.{HasRoom, names_size}
 use Rattle.aprs_rows.specs.Names.{names_in}

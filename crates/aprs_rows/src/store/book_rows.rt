@@ -1,5 +1,5 @@
 //! The rows of a book, one after another.
-ghost use Rattle.std.specs.Prelude.{◌≡◌, ◌<◌, ◌≤◌, [], ◌∷◌, min, length, IfOk, IfSome, IfNone, OnErr};
+ghost use Rattle.std.specs.Prelude.{◌≡◌, ◌<◌, ◌≤◌, [], ◌∷◌, min, length, All, IfOk, IfSome, IfNone, OnErr};
 ghost use Rattle.std.specs.Iterator.{YieldsFirst, item_count};
 ghost use Rattle.aprs_laws.specs.BookValue.{IsSoundBook};
 ghost use Rattle.aprs_laws.specs.Gap.{millis_of};
@@ -7,6 +7,7 @@ ghost use Rattle.aprs_laws.specs.JoinRow.{greater};
 ghost use Rattle.aprs_laws.specs.Sound.{AreSoundRows};
 ghost use Rattle.aprs_laws.specs.Together.{book_together};
 ghost use Rattle.aprs_rows.specs.Packed.{room_of};
+ghost use Rattle.aprs_rows.specs.Told.{IsTold};
 
 use crate::Memory;
 use crate::row::name_room::NameRoom;
@@ -62,7 +63,9 @@ impl<'a, A: Allocator + Copy> BookRows<'a, A> {
     pub fn gap(&self) -> Gap
         ensures value { result ≡ self.now.gap }
         ensures sound { IsSoundBook self.now }
+        ensures told { All IsTold self.now.rows }
     {
+        self.merger.told();
         self.gap
     }
 

@@ -1,12 +1,13 @@
 //! Rows packed in bytes.
 ghost use Rattle.std.specs.Prelude.{◌≡◌, ◌↔◌, ◌<◌, ◌≤◌, ◌+◌, [], ◌∷◌, ◌++◌, None, Some, length, vec_len, vec_capacity, IfOk, IfSome, IfNone, IsTrue, OnOk, OnErr};
 ghost use Rattle.std.specs.Iterator.{YieldsFirst, item_count};
-ghost use Rattle.std.specs.List.{join_with_byte, last_or};
+ghost use Rattle.std.specs.List.{join_with_byte, last_or, AllByRecursion};
 ghost use Rattle.aprs_laws.specs.Coalescing.{AreInOrder};
 ghost use Rattle.aprs_laws.specs.JoinRow.{single};
 ghost use Rattle.aprs_laws.specs.Lists.{SameMembers};
 ghost use Rattle.aprs_laws.specs.Sound.{AreSoundRows, IsSoundRow};
 ghost use Rattle.aprs_rows.specs.Packed.{AreShort, room_of};
+ghost use Rattle.aprs_rows.specs.Told.{IsTold};
 
 use crate::Memory;
 use crate::growth::{put, reserve};
@@ -123,6 +124,7 @@ impl<A: Allocator + Copy> PackedRows<A> {
     pub(crate) fn rows(&self) -> Unpacked<'_>
         ensures value { result ≡ self.now }
         ensures sound { AreSoundRows self.now }
+        ensures told { AllByRecursion IsTold self.now }
         ensures short { AreShort self.now }
     {
         Unpacked {

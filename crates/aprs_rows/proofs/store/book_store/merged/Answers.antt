@@ -12,6 +12,7 @@ add-requires g c =
           (All-from_recursion AreInOrder c.args.sorted.now c.requires c.loop-packed.packed-index
           c.packed-item.result c.loop-packed-test.true);
       each = c.rows.ensures.sound;
+      told = c.rows.ensures.told;
     })
 
 pub loop-packed-preserved : goal.loop-packed-preserved
