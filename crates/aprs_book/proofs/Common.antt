@@ -20,12 +20,12 @@ pub use Rattle.aprs_laws.specs.Book.{BookOf}
 pub use Rattle.aprs_laws.specs.BookValue.{AreJoined, BookValue, HaveOneGap, Holds, IsSoundBook, widened_to}
 pub use Rattle.aprs_laws.specs.Coalescing.{AreInOrder}
 pub use Rattle.aprs_laws.specs.Examples.{n0call}
-pub use Rattle.aprs_laws.specs.Gap.{IsGap, millis_of}
+pub use Rattle.aprs_laws.specs.Gap.{millis_of}
 pub use Rattle.aprs_laws.specs.Inserted.{FitsInPlace, bridge_row, compare_near_to, grow_row, has_place_for, insert_heard, is_listed, is_near_first}
 pub use Rattle.aprs_laws.specs.JoinRow.{IsNear, combine, greater, merge, single}
 pub use Rattle.aprs_laws.specs.Joining.{Joined}
 pub use Rattle.aprs_laws.specs.Key.{Key, key_cmp}
-pub use Rattle.aprs_laws.specs.Lists.{Ordered, SameMembers, ◌∈◌}
+pub use Rattle.aprs_laws.specs.Lists.{Ordered, ◌∈◌}
 pub use Rattle.aprs_laws.specs.Order.{IsBelow, IsUpTo}
 pub use Rattle.aprs_laws.specs.Row.{Row, last_moment, row_cmp, row_key}
 pub use Rattle.aprs_laws.specs.Sound.{AreSoundRows, FollowsFar, IsFar, IsSoundRow, Sound}

@@ -1,15 +1,11 @@
-use Rattle.aprs_book.proofs.Common.{◌≡◌, ◌∙◌, List, ◌∷◌, ◌++◌, [], ℕ, None, append_assoc, append-nil, ap, subst, sym, Received, BookValue, IsSoundBook, millis_of, Row, Sound, sound_prefix, reading_of, refusal, none_exactly, free_ascends}
+use Rattle.aprs_book.proofs.Common.{◌≡◌, ◌∙◌, List, ◌∷◌, ◌++◌, [], ℕ, None, append_assoc, ap, subst, sym, Received, BookValue, IsSoundBook, millis_of, Row, Sound, sound_prefix, reading_of, refusal, none_exactly, free_ascends}
 use Rattle.aprs_laws.specs.Key.{key_of}
 use Rattle.aprs_book.specs.Keyed.{LastKeyIsUpTo}
 use Rattle.aprs_book.specs.Known.{report_bytes}
 use Rattle.aprs_book.specs.Notes.{AreNotesOf}
+use Rattle.aprs_book.proofs.InStore.{all_put}
 use Rattle.aprs_book.proofs.RefusalEnds.{none_ends_up_to}
 use Rattle.aprs_book.proofs.book.Book.of_rows.Goals as goal
-
--- after the last row
-all_kept : (kept rest all : List Row) → rest ≡ [] → kept ++ rest ≡ all → kept ≡ all
-all_kept kept rest all none split =
-    sym (append-nil kept) ∙ ap (λ xs. kept ++ xs) (sym none) ∙ split
 
 -- the next of sound rows
 module _ (gap : ℕ) (kept old new all : List Row) (x : Row) (step : old ≡ x ∷ new)
@@ -60,7 +56,7 @@ loop-row-preserved g c =
 
 pub of_kept-requires-clause-sound : goal.of_kept-requires-clause-sound
 of_kept-requires-clause-sound g c =
-    let rows = all_kept c.loop-row.kept c.loop-row.row-iterator.rows c.args.rows.rows
+    let rows = all_put c.loop-row.kept c.loop-row.row-iterator.rows c.args.rows.rows
     c.in-None.ensures.steps.0 c.loop-row.invariant.rows in
     subst (λ (b : BookValue). IsSoundBook b)
     (λ i. record { gap = sym c.gap-gap.ensures.value i; rows = sym rows i })
@@ -75,6 +71,6 @@ returns g c =
     c.of_kept.ensures
     ∙ (λ i. record {
       gap = c.gap-gap.ensures.value i;
-      rows = all_kept c.loop-row.kept c.loop-row.row-iterator.rows c.args.rows.rows
+      rows = all_put c.loop-row.kept c.loop-row.row-iterator.rows c.args.rows.rows
           c.in-None.ensures.steps.0 c.loop-row.invariant.rows i;
     })
