@@ -5,7 +5,7 @@ use Rattle.aprs_io.specs.declared.input.InputEnd.TheVariants as ending
 use Rattle.aprs_booktext.specs.Lines.{Lacks}
 use Rattle.aprs_booktext.proofs.Cuts.{lacks_append}
 use Rattle.aprs_booktext.specs.FirstFault.{FirstFault}
-use Rattle.aprs_booktext.specs.Reader.{HoldsIn, HasReadLines, IsFault, JudgesLine, AgreesWithEnding, gap_in, is_done, line_number, lines_read, may_end}
+use Rattle.aprs_booktext.specs.Reader.{HoldsIn, HasReadLines, Fails, IsFault, JudgesLine, AgreesWithEnding, gap_in, is_done, line_number, lines_read, may_end}
 use Rattle.aprs_booktext.specs.ReadRows.{IsNextLine, StopsAfter}
 use Rattle.aprs_booktext.specs.Text.{row_line, end_line, lines_of, book_text, IsBookRow, IsBookRows}
 use Rattle.aprs_booktext.specs.RowLines.{ended_by_lf}
@@ -176,7 +176,7 @@ ended_fault (Done v) old new line t more c j s =
     })
 
 -- an allocation fails in the line that is read
-pub held_fault : (stage : Stage) (rows : List Row) (line t bytes more : List ℕ)
+held_fault : (stage : Stage) (rows : List Row) (line t bytes more : List ℕ)
     → is_done stage ≡ false → HasReadLines stage rows line t
     → IsFault (length bytes + length more) (record {
       line = line_number stage (length rows);
@@ -397,20 +397,46 @@ Fed-rest P Q piece rest part after p cuts =
 
 -- ---- where an allocation failed
 
--- nothing more is kept of a line
-pub held_stop : (stage : Stage) (rows : List Row) (line t : List ℕ) → is_done stage ≡ false
+held_stop : (stage : Stage) (rows : List Row) (line t : List ℕ) → is_done stage ≡ false
     → HasReadLines stage rows line t → IsNextLine (line_number stage (length rows)) rows
 held_stop Header rows line t going s = inl (refl, s.holds)
 held_stop (Rows v) rows line t going s = inr refl
 held_stop (Done v) rows line t going s = absurd (let f : true ≡ false = going in cc)
 
--- a line isn't judged
-pub judged_stop : (stage : Stage) (old new : List Row) (line read t : List ℕ) (c : BookCause)
-    → JudgesLine stage (Err c) old read new → HasReadLines stage old line t → c ≡ cause.Memory
+-- nothing more is kept of a line
+pub held_fails : (stage : Stage) (rows : List Row) (line t bytes more : List ℕ)
+    → is_done stage ≡ false → HasReadLines stage rows line t
+    → Fails (length bytes + length more) (record {
+      line = line_number stage (length rows);
+      cause =
+          cause.Memory;
+    }) rows ((t ++ bytes) ++ more)
+held_fails stage rows line t bytes more going s = record {
+  is = held_fault stage rows line t bytes more going s;
+  stops = λ e. held_stop stage rows line t going s;
+}
+
+judged_stop : (stage : Stage) (old new : List Row) (line t : List ℕ) (c : BookCause)
+    → JudgesLine stage (Err c) old line new → HasReadLines stage old line t → c ≡ cause.Memory
     → IsNextLine (line_number stage (length new)) new
-judged_stop Header old new line read t c j s e = inl (refl, j.1 ∙ s.holds)
-judged_stop (Rows v) old new line read t c j s e = inr refl
-judged_stop (Done v) old new line read t c j s e = absurd (let f = j.0 in cc)
+judged_stop Header old new line t c j s e = inl (refl, j.1 ∙ s.holds)
+judged_stop (Rows v) old new line t c j s e = inr refl
+judged_stop (Done v) old new line t c j s e = absurd (let f = j.0 in cc)
+
+-- a line isn't judged
+pub ended_fails : (stage : Stage) (old new : List Row) (line t more : List ℕ) (c : BookCause)
+    → JudgesLine stage (Err c) old line new → HasReadLines stage old line t
+    → Fails (length more + 1) (record { line = line_number stage (length new); cause = c }) new
+    (t ++ 10 ∷ more)
+ended_fails stage old new line t more c j s = record {
+  is = ended_fault stage old new line t more c j s;
+  stops = judged_stop stage old new line t c j s;
+}
+
+pub fails_near : (few most : ℕ) (f : BookFault) (rows : List Row) (t : List ℕ) → few ≤ most
+    → Fails few f rows t → Fails most f rows t
+fails_near few most f rows t less h =
+    record { is = fault_near few most f t less h.is; stops = h.stops }
 
 -- the input ended
 pub ending_not_memory : (e : InputEnd) → ending_cause e ≢ cause.Memory

@@ -8,6 +8,7 @@ use Rattle.aprs_rows.specs.Refusal.{refusal}
 use Rattle.aprs_booktext.specs.FirstFault.{FirstFault, IsMemoryAt, IsNoHeader}
 use Rattle.aprs_booktext.specs.TextFault.{IsWrong, is_end}
 use Rattle.aprs_booktext.specs.Lines.{Lacks}
+use Rattle.aprs_booktext.specs.ReadRows.{StopsAfter}
 use Rattle.aprs_booktext.specs.Text.{row_line, end_line, lines_of, IsBookRow, IsBookRows}
 use Rattle.aprs_log.specs.LogText.{text_of_lines}
 use Rattle.aprs_booktext.specs.Fault.{ending_cause}
@@ -43,6 +44,12 @@ pub record HasReadLines (stage : Stage) (rows : List Row) (line text : List ℕ)
 abbrev pub IsFault : ℕ → BookFault → List ℕ → Type 0
 IsFault most fault text =
     IsMemoryAt most text fault ⊎ ((ending : InputEnd) → FirstFault text ending fault)
+
+-- The reader fails so, where this text was read or may follow: the fault is that of the text, and
+-- where an allocation failed, the rows are those of the lines before the one that it names.
+pub record Fails (most : ℕ) (fault : BookFault) (rows : List Row) (text : List ℕ) : Type 0 where
+  pub is : IsFault most fault text
+  pub stops : StopsAfter fault rows
 
 -- The number of the line that is read after the lines of so many rows.
 abbrev pub line_number : Stage → ℕ → ℕ

@@ -5,7 +5,7 @@ ghost use Rattle.aprs_laws.specs.Row.{Row};
 ghost use Rattle.aprs_booktext.specs.BookAnswers.{IsAnswerFor};
 ghost use Rattle.aprs_booktext.specs.Fault.{ending_cause};
 ghost use Rattle.aprs_booktext.specs.Lines.{Lacks};
-ghost use Rattle.aprs_booktext.specs.ReadRows.{book_read, StopsAfter};
+ghost use Rattle.aprs_booktext.specs.ReadRows.{book_read};
 ghost use Rattle.aprs_booktext.specs.Text.{end_line};
 ghost use Rattle.aprs_booktext.specs.Reader as Spec;
 
@@ -85,13 +85,11 @@ impl<A: Allocator + Copy> BookReader<A> {
         ensures size { OnOk result (Spec.read_size self.new rows.new
             ≤ Spec.read_size self.old rows.old + length piece.now) }
 
-        // The fault is that of the text, whatever comes after; or an allocation failed.
+        // The fault is that of the text, whatever comes after; or an allocation failed in the line
+        // after those of the rows.
         ensures fault { IfErr result (λ fault. (t : List ℕ) → Spec.HasRead self.old rows.old t
-            → Spec.IsFault (length piece.now) fault (t ++ piece.now)) }
+            → Spec.Fails (length piece.now) fault rows.new (t ++ piece.now)) }
         ensures cause { IfErr result (λ fault. Spec.IsOfText fault.cause) }
-        // Where an allocation failed, it is in the line after those that were read.
-        ensures rows { IfErr result (λ fault. (t : List ℕ) → Spec.HasRead self.old rows.old t
-            → StopsAfter fault rows.new) }
     {
         let mut rest = piece;
         while let Some((part, after)) = cut(rest, b'\n') {
@@ -113,16 +111,15 @@ impl<A: Allocator + Copy> BookReader<A> {
         ensures size { OnOk result (Spec.read_size self.new rows.now
             ≤ Spec.read_size self.old rows.now + length bytes.now) }
 
-        // The fault is that of the text, whatever comes after; or an allocation failed.
+        // The fault is that of the text, whatever comes after; or an allocation failed in the line
+        // after those of the rows.
         ensures fault { IfErr result (λ fault. (t more : List ℕ)
-            → Spec.HasRead self.old rows.now t
-            → Spec.IsFault (length bytes.now + length more) fault ((t ++ bytes.now) ++ more)) }
+            → Spec.HasRead self.old rows.now t → Spec.Fails (length bytes.now + length more) fault
+            rows.now ((t ++ bytes.now) ++ more)) }
         ensures cause { IfErr result (λ fault. Spec.IsOfText fault.cause) }
-        ensures rows { IfErr result (λ fault. (t : List ℕ) → Spec.HasRead self.old rows.now t
-            → StopsAfter fault rows.now) }
     {
         if is_done(self.stage) {
-            return self.refuse_after_end(rows.len(), bytes);
+            return self.refuse_after_end(rows, bytes);
         }
         match self.line.extend_from_slice(bytes) {
             Ok(()) => Ok(()),
@@ -131,23 +128,23 @@ impl<A: Allocator + Copy> BookReader<A> {
     }
 
     /// `Ok` where there are no bytes after the last line, and else the fault `After`.
-    fn refuse_after_end(&self, count: usize, bytes: &[u8]) -> Result<(), BookFault>
-        requires few { count ≤ most_input }
+    fn refuse_after_end(&self, rows: &PackedRows<A>, bytes: &[u8]) -> Result<(), BookFault>
+        requires few { length rows.now ≤ most_input }
         requires done { Spec.is_done self.now.stage ≡ true }
 
         ensures ok { OnOk result (bytes.now ≡ []) }
 
         // The fault is that of the text, whatever comes after.
-        ensures fault { IfErr result (λ fault. (rows : List Row) (t more : List ℕ)
-            → count ≡ length rows → Spec.HasRead self.now rows t
-            → Spec.IsFault (length bytes.now + length more) fault ((t ++ bytes.now) ++ more)) }
+        ensures fault { IfErr result (λ fault. (t more : List ℕ)
+            → Spec.HasRead self.now rows.now t → Spec.Fails (length bytes.now + length more) fault
+            rows.now ((t ++ bytes.now) ++ more)) }
         ensures cause { IfErr result (λ fault. Spec.IsOfText fault.cause) }
         ensures after { IfErr result (λ fault. fault.cause ≡ BookCause.After) }
     {
         if bytes.is_empty() {
             return Ok(());
         }
-        Err(self.fault(count, BookCause::After))
+        Err(self.fault(rows.len(), BookCause::After))
     }
 
     /// Judges the line that is the kept bytes and then `part`, and puts its row, if it has one,
@@ -162,14 +159,13 @@ impl<A: Allocator + Copy> BookReader<A> {
         ensures size { OnOk result (Spec.read_size self.new rows.new
             ≤ Spec.read_size self.old rows.old + length part.now + 1) }
 
-        // The fault is that of the text, whatever comes after; or an allocation failed.
+        // The fault is that of the text, whatever comes after; or an allocation failed in the line
+        // after those of the rows.
         ensures fault { IfErr result (λ fault. (t more : List ℕ)
             → Spec.HasRead self.old rows.old t → Lacks 10 part.now
-            → Spec.IsFault (length part.now + (length more + 1)) fault
+            → Spec.Fails (length part.now + (length more + 1)) fault rows.new
             ((t ++ part.now) ++ 10 ∷ more)) }
         ensures cause { IfErr result (λ fault. Spec.IsOfText fault.cause) }
-        ensures rows { IfErr result (λ fault. (t : List ℕ) → Spec.HasRead self.old rows.old t
-            → Lacks 10 part.now → StopsAfter fault rows.new) }
     {
         if self.line.is_empty() && !is_done(self.stage) {
             return self.take_line(rows, part);
@@ -192,13 +188,12 @@ impl<A: Allocator + Copy> BookReader<A> {
         ensures size { OnOk result
             (Spec.read_size self.new rows.new ≤ Spec.read_size self.old rows.old + 1) }
 
-        // The fault is that of the text, whatever comes after; or an allocation failed.
+        // The fault is that of the text, whatever comes after; or an allocation failed in the line
+        // after those of the rows.
         ensures fault { IfErr result (λ fault. (t more : List ℕ)
             → Spec.HasRead self.old rows.old t → Lacks 10 line.now
-            → Spec.IsFault (length more + 1) fault ((t ++ line.now) ++ 10 ∷ more)) }
+            → Spec.Fails (length more + 1) fault rows.new ((t ++ line.now) ++ 10 ∷ more)) }
         ensures cause { IfErr result (λ fault. Spec.IsOfText fault.cause) }
-        ensures rows { IfErr result (λ fault. (t : List ℕ) → Spec.HasRead self.old rows.old t
-            → StopsAfter fault rows.new) }
     {
         match judge_line(self.stage, rows, &mut self.buffers, line) {
             Ok(stage) => {
@@ -220,13 +215,12 @@ impl<A: Allocator + Copy> BookReader<A> {
         ensures size { OnOk result
             (Spec.read_size self.new rows.new ≤ Spec.read_size self.old rows.old + 1) }
 
-        // The fault is that of the text, whatever comes after; or an allocation failed.
+        // The fault is that of the text, whatever comes after; or an allocation failed in the line
+        // after those of the rows.
         ensures fault { IfErr result (λ fault. (t more : List ℕ)
             → Spec.HasRead self.old rows.old t
-            → Spec.IsFault (length more + 1) fault (t ++ 10 ∷ more)) }
+            → Spec.Fails (length more + 1) fault rows.new (t ++ 10 ∷ more)) }
         ensures cause { IfErr result (λ fault. Spec.IsOfText fault.cause) }
-        ensures rows { IfErr result (λ fault. (t : List ℕ) → Spec.HasRead self.old rows.old t
-            → StopsAfter fault rows.new) }
     {
         match judge_line(self.stage, rows, &mut self.buffers, self.line.as_slice()) {
             Ok(stage) => {

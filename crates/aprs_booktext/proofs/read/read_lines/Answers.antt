@@ -22,7 +22,7 @@ returns-in_err-feed-clause-fault g c =
     (c.args.limit - length c.args.head.now) (Calls-none _) f c.in_err-feed.ensures.cause
     (Got-none (IsFault most_ahead f) c.args.head.now _ c.args.limit _
     (fault_near (length c.args.head.now) most_ahead f c.args.head.now (omega arith)
-    (c.in_err-feed.ensures.fault [] c.requires.stands)) (omega arith)))
+    (let fails = c.in_err-feed.ensures.fault [] c.requires.stands in fails.is)) (omega arith)))
 
 pub loop-room-preserved : goal.loop-room-preserved
 loop-room-preserved g c =
@@ -53,7 +53,8 @@ returns-in_err-feed-in-Ok-clause-fault g c =
     (Got-more _ c.args.head.now _ _ _ _ c.loop-room.invariant.got (IsFault most_ahead f) _
     (take n c.read_some.new.room) (c.loop-room.left - n)
     (λ t s. fault_near (length (take n c.read_some.new.room)) most_ahead f _
-    (omega (arith, size, some)) (c.in_err-feed-in-Ok.ensures.fault t s))
+    (omega (arith, size, some))
+    (let fails = c.in_err-feed-in-Ok.ensures.fault t s in fails.is))
     c.in-Ok.ensures.bytes (omega (arith, size, some))))
 
 pub returns-in-Err-clause-fault : goal.returns-in-Err-clause-fault
@@ -67,13 +68,15 @@ returns-in-Err-clause-fault g c =
 pub returns-in_err-feed-clause-rows : goal.returns-in_err-feed-clause-rows
 returns-in_err-feed-clause-rows g c =
     let p = err_from_is_err_and c.from_residual.result c.from_residual.ensures.1 in
-    rw (p.1, p.2) (c.in_err-feed.ensures.rows [] c.requires.stands)
+    let fails = c.in_err-feed.ensures.fault [] c.requires.stands in
+    rw (p.1, p.2) fails.stops
 
 pub returns-in_err-feed-in-Ok-clause-rows : goal.returns-in_err-feed-in-Ok-clause-rows
 returns-in_err-feed-in-Ok-clause-rows g c =
     let p = err_from_is_err_and c.from_residual-in_err-feed-in-Ok.result
     c.from_residual-in_err-feed-in-Ok.ensures.1 in
-    rw (p.1, p.2) (c.in_err-feed-in-Ok.ensures.rows _ c.loop-room.invariant.got.stands)
+    let fails = c.in_err-feed-in-Ok.ensures.fault _ c.loop-room.invariant.got.stands in
+    rw (p.1, p.2) fails.stops
 
 pub returns-in-Err-clause-rows : goal.returns-in-Err-clause-rows
 returns-in-Err-clause-rows g c = rw c.fault_of_ending.ensures (ending_stop c.in-Err.ending _ _)

@@ -1,6 +1,6 @@
 use Rattle.aprs_booktext.proofs.Common.{◌+◌, ◌++◌, [], arith, length, subst, append-nil, err_from_is_err_and, on_ok_weaker, IfErr-weaker}
-use Rattle.aprs_booktext.specs.Reader.{IsFault, HasRead}
-use Rattle.aprs_booktext.proofs.Standing.{Fed-none, Fed-line, Fed-fault, Fed-all, Fed-len, Fed-rest, fault_near}
+use Rattle.aprs_booktext.specs.Reader.{Fails, HasRead}
+use Rattle.aprs_booktext.proofs.Standing.{Fed-none, Fed-line, Fed-fault, Fed-all, Fed-len, Fed-rest, fails_near}
 use Rattle.aprs_booktext.proofs.reader.BookReader.feed.Goals as goal
 
 pub loop-part-init : goal.loop-part-init
@@ -11,8 +11,8 @@ returns-in_err-end_line-clause-fault g c =
     let p = err_from_is_err_and c.from_residual.result c.from_residual.ensures.1 in
     let fed = c.loop-part.invariant.fed in
     rw (p.1, p.2) (Fed-fault _ _ _ _ _ _ fed c.in-Some.ensures.some.0
-    (λ text. IsFault (length c.args.piece.now) c.in_err-end_line.field-0.0 text)
-    (λ t s. fault_near _ (length c.args.piece.now) _ _
+    (Fails (length c.args.piece.now) c.in_err-end_line.field-0.0 c.end_line.new.rows)
+    (λ t s. fails_near _ (length c.args.piece.now) _ _ _
     (let l = Fed-rest _ _ _ _ _ _ fed c.in-Some.ensures.some.0 in omega (arith, l))
     (c.in_err-end_line.ensures.fault t c.in-Some.after.now s c.in-Some.ensures.some.1)))
 
@@ -39,21 +39,8 @@ pub returns-clause-fault : goal.returns-clause-fault
 returns-clause-fault g c =
     let fed = c.loop-part.invariant.fed in
     IfErr-weaker c.append.result _ _
-    (λ f fault. Fed-all _ _ _ _ fed (IsFault (length c.args.piece.now) f)
-    (λ t s. fault_near _ (length c.args.piece.now) f _
+    (λ f fails. Fed-all _ _ _ _ fed (Fails (length c.args.piece.now) f c.loop-part.rows)
+    (λ t s. fails_near _ (length c.args.piece.now) f _ _
     (let l = Fed-len _ _ _ _ fed in omega (arith, l))
-    (subst (IsFault (length c.loop-part.rest.now + 0) f) (append-nil (t ++ c.loop-part.rest.now))
-    (fault t [] s)))) c.append.ensures.fault
-
-pub returns-in_err-end_line-clause-rows : goal.returns-in_err-end_line-clause-rows
-returns-in_err-end_line-clause-rows g c =
-    let p = err_from_is_err_and c.from_residual.result c.from_residual.ensures.1 in
-    let fed = c.loop-part.invariant.fed in
-    rw (p.1, p.2) (λ t s. c.in_err-end_line.ensures.rows (t ++ fed.prefix) (fed.fed t s)
-    c.in-Some.ensures.some.1)
-
-pub returns-clause-rows : goal.returns-clause-rows
-returns-clause-rows g c =
-    let fed = c.loop-part.invariant.fed in
-    IfErr-weaker c.append.result _ _ (λ f rows t s. rows (t ++ fed.prefix) (fed.fed t s))
-    c.append.ensures.rows
+    (subst (Fails (length c.loop-part.rest.now + 0) f c.loop-part.rows)
+    (append-nil (t ++ c.loop-part.rest.now)) (fails t [] s)))) c.append.ensures.fault
