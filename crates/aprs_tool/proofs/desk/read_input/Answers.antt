@@ -3,7 +3,7 @@ use Rattle.aprs_tool.specs.InputBook.{ReadsInput}
 use Rattle.aprs_tool.proofs.Inputs.{of_got, of_head, read_alone, refused_log, short_empty, short_fault, short_is_log}
 use Rattle.aprs_tool.proofs.Readers.{AsksInput-then}
 use Rattle.aprs_tool.specs.declared.fault.InputFault.TheVariants.{Log}
-use Rattle.aprs_tool.proofs.input.read_input.Goals as goal
+use Rattle.aprs_tool.proofs.desk.read_input.Goals as goal
 
 pub returns-in-Ok-clause-reads : goal.returns-in-Ok-clause-reads
 returns-in-Ok-clause-reads g c =
