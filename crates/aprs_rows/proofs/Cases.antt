@@ -13,6 +13,11 @@ pub on_not_err : {A E : Type 0} (r : Result A E) (P : Type 0) → OnOk r P → f
 on_not_err (Ok _) P h e = h
 on_not_err (Err _) P h e = absurd (cc)
 
+-- what holds anyhow
+pub at_err : {A E P : Type 0} (r : Result A E) → P → OnErr r P
+at_err (Ok _) h = tt
+at_err (Err _) h = h
+
 -- what holds on `Err` of a result that is no `Ok`
 pub on_err : {A E : Type 0} (r : Result A E) (P : Type 0) → OnErr r P → true ≡ is_err r → P
 on_err (Ok _) P h e = absurd (cc)

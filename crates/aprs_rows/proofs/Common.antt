@@ -3,16 +3,16 @@ pub use Rattle.aprs_ax25.proofs.Spellings.{FrameOf-IsSound}
 pub use Rattle.aprs_ax25.specs.Frame.{FrameOf, Parts, address_field}
 pub use Rattle.aprs_ax25.specs.FrameFault.{call_of, field_len, frame_fault, frame_or_fault, parts_of, unless_fault}
 pub use Rattle.aprs_laws.proofs.Choices.{add_listed, add_ordered, in_union, same_members, union_ordered}
-pub use Rattle.aprs_laws.proofs.Coalescing.{coalesce_one_more, coalesces_book, coalesces_witnesses, single_is_sound}
+pub use Rattle.aprs_laws.proofs.Coalescing.{single_is_sound}
 pub use Rattle.aprs_laws.proofs.Joins.{is_greater_of, some_millis}
 pub use Rattle.aprs_laws.proofs.Lists.{from_map, in_either, in_left, in_right}
 pub use Rattle.aprs_laws.proofs.Merges.{merged_is_union, merged_is_united, merged_ordered}
 pub use Rattle.aprs_laws.proofs.Orders.{bytes_exact, bytes_total, key_exact, key_total, ordering_then_assoc, same_greatest, up_to_itself}
 pub use Rattle.aprs_laws.proofs.Places.{in_place, place_of}
-pub use Rattle.aprs_laws.specs.BookValue.{BookValue, Holds}
-pub use Rattle.aprs_laws.specs.Coalescing.{AreInOrder, append_or_join}
+pub use Rattle.aprs_laws.specs.BookValue.{BookValue}
+pub use Rattle.aprs_laws.specs.Coalescing.{AreInOrder}
 pub use Rattle.aprs_laws.specs.Gap.{IsGap, millis_of}
-pub use Rattle.aprs_laws.specs.JoinRow.{add, choose, coalesce, coalesced_rows, combine, compare_near, greater, single, union}
+pub use Rattle.aprs_laws.specs.JoinRow.{add, choose, combine, compare_near, greater, single, union}
 pub use Rattle.aprs_laws.specs.Joining.{AreAllAlike, FoldsTo, IsGreaterOf, IsUnited}
 pub use Rattle.aprs_laws.specs.Key.{Key}
 pub use Rattle.aprs_laws.specs.Lists.{Ordered, SameMembers, ◌∈◌}
@@ -28,7 +28,7 @@ pub use Rattle.std.proofs.Math.Seq.{drop-append_seam, take-append_seam}
 pub use Rattle.std.proofs.lemmas.Bool.{and_parts, false_from_ne_true}
 pub use Rattle.std.proofs.lemmas.Bool.Decides.{nat_tests}
 pub use Rattle.std.proofs.lemmas.Cmp.{nat_cmp_total, on_total, then_total, tied_itself}
-pub use Rattle.std.proofs.lemmas.List.{drop-drop, drop_all, drop_at, drop_min, get_or-map, length-append, length-drop, length-map, length-replicate, length-take, take-take, take_all, take_at, take_min, take_more, take_rest}
+pub use Rattle.std.proofs.lemmas.List.{drop-drop, drop_all, drop_at, length-append, length-drop, length-map, length-replicate, length-take, take-take, take_all, take_at, take_more, take_rest}
 pub use Rattle.std.proofs.lemmas.List.Elements.{All-cons, All-from_recursion, All-nil, All-push, All-tail, recursion_from_All}
 pub use Rattle.std.proofs.lemmas.List.Sorted.{All-permutation, IsPermutation-map, IsPermutation-sym, ranks_by, sorted_far}
 pub use Rattle.std.proofs.lemmas.List.Splits.{join_with_byte-slice_split, length-slice_split, slice_split_at, slice_split_none}

@@ -4,11 +4,12 @@ use Rattle.std.proofs.lemmas.Cmp.{upto}
 use Rattle.std.proofs.lemmas.List.Sorted.{sum_by-IsPermutation}
 use Rattle.std.proofs.lemmas.List.Sums.{sum_by-append, sum_by-cons}
 use Rattle.std.specs.BinaryHeap.{IsUpperBound}
-use Rattle.std.specs.List.{sum_by}
+use Rattle.std.specs.List.{sum_by, AllByRecursion}
 use Rattle.aprs_laws.specs.Sound.{AreSoundRows}
 use Rattle.aprs_laws.proofs.Books.{row_total}
 use Rattle.aprs_rows.specs.Fronts.{Ahead, rows_ahead, all_ahead, ahead_cmp, AreRuns, IsRun, IsTakenOut, PutsBack}
 use Rattle.aprs_rows.specs.Packed.{row_room, room_of}
+use Rattle.aprs_rows.specs.Told.{IsTold}
 use Rattle.aprs_rows.proofs.Orders.{not_after, same_members}
 
 -- ---- the rows of all
@@ -145,7 +146,8 @@ same_first (h ∷ hs) a b e f l = e ∙ sym f
 
 -- those after the first row
 rest_run : (a : Ahead) → IsRun (rows_ahead a) → IsRun a.rest
-rest_run a r = record { ordered = r.ordered.1; each = λ x h. r.each x (inr h) }
+rest_run a r =
+    record { ordered = r.ordered.1; each = λ x h. r.each x (inr h); told = r.told.1 }
 
 pub runs_back : (hs : List Ahead) (a : Ahead) (gs bs : List Ahead) → IsPermutation hs (a ∷ gs)
     → AreRuns hs → PutsBack a.rest gs bs → AreRuns bs
@@ -160,3 +162,12 @@ sound_ahead (a ∷ gs) r x h = elim (in_either x (rows_ahead a) (all_ahead gs) h
   | inl k ↦ r.0.each x k
   | inr k ↦ sound_ahead gs r.1 x k
 ]
+
+pub told_ahead : (gs : List Ahead) → AreRuns gs → AllByRecursion IsTold (all_ahead gs)
+told_ahead [] r = tt
+told_ahead (a ∷ gs) r = both (rows_ahead a) r.0.told (told_ahead gs r.1)
+  where
+    both : (rows : List Row) → AllByRecursion IsTold rows → AllByRecursion IsTold (all_ahead gs)
+        → AllByRecursion IsTold (rows ++ all_ahead gs)
+    both [] h k = k
+    both (x ∷ rows) h k = (h.0, both rows h.1 k)

@@ -1,11 +1,13 @@
 -- The book of a store stays the same where a chunk is sorted, and takes what is put there.
-use Rattle.aprs_rows.proofs.Common.{◌≡◌, ◌∙◌, ℕ, ◌+◌, ◌<◌, List, [], ◌∷◌, ◌++◌, inl, inr, OnOk, OnErr, Result, Ok, Err, append_assoc, sym, ap, subst, length, take, take_more, get_or, flat_map, AllByRecursion, AreInOrder, millis_of, ◌∈◌, SameMembers, Row, IsSoundRow, in_left, in_right, in_either, single, single_is_sound, Received, some_millis, BookValue}
+use Rattle.aprs_rows.proofs.Common.{◌≡◌, ◌∙◌, ℕ, zero, suc, ◌+◌, ◌<◌, List, [], ◌∷◌, ◌++◌, inl, inr, OnOk, OnErr, Result, Ok, Err, append_assoc, arith, refl, sym, ap, subst, length, take, take_more, get_or, flat_map, AllByRecursion, AreInOrder, millis_of, ◌∈◌, SameMembers, Row, IsSoundRow, in_left, in_right, in_either, single, single_is_sound, Received, some_millis, BookValue}
 use Rattle.std.proofs.lemmas.List.{append-nil}
 use Rattle.aprs_laws.specs.JoinRow.{merge}
 use Rattle.aprs_laws.specs.Sound.{AreSoundRows}
 use Rattle.aprs_laws.specs.Together.{book_together}
 use Rattle.aprs_laws.proofs.Together.{merge_append, order_is_free}
 use Rattle.aprs_rows.specs.BookStore.{IsStored, all_rows, book_stored}
+use Rattle.aprs_rows.specs.Packed.{room_of}
+use Rattle.aprs_rows.proofs.Counts.{some_book}
 
 -- ---- lists of rows
 
@@ -29,6 +31,22 @@ to_end a b c z h = elim (in_either z (a ++ b) c h) [
   ]
   | inr k ↦ in_left z (a ++ c) b (in_right z a c k)
 ]
+
+front_none : (a b : List Row) → a ++ b ≡ [] → a ≡ []
+front_none [] b e = refl
+front_none (x ∷ a) b e = absurd (cc)
+
+back_none : (a b : List Row) → a ++ b ≡ [] → b ≡ []
+back_none [] b e = e
+back_none (x ∷ a) b e = absurd (cc)
+
+-- where one of the lists has rows, they all have
+pub some_of_all : (lists : List (List Row)) (i : ℕ) (rows : List Row) → rows ≡ get_or lists i rows
+    → i < length lists → (rows ≡ [] → ⊥) → flat_map (λ rs. rs) lists ≡ [] → ⊥
+some_of_all [] i rows is l s e = omega (arith, l)
+some_of_all (r ∷ lists) zero rows is l s e = s (is ∙ front_none r (flat_map (λ rs. rs) lists) e)
+some_of_all (r ∷ lists) (suc i) rows is l s e =
+    some_of_all lists i rows is (omega (arith, l)) s (back_none r (flat_map (λ rs. rs) lists) e)
 
 -- rows of a list come to others
 module _ (xs ys : List Row) (same : SameMembers xs ys) where
@@ -107,6 +125,29 @@ walked gap lists others shown chunk rest rows book s m e f n b =
           (sym (order_is_free (millis_of gap) (some_millis gap s.range) (all_rows lists chunk)
           rows s.each all)) ∙ b,
     )
+
+-- ---- where there are rows, the book has some
+
+pub some_in_chunk : (gap : ℕ) (lists : List (List Row)) (chunk : List Row) (book : BookValue)
+    → book_stored gap lists chunk ≡ book → (chunk ≡ [] → ⊥) → book.rows ≡ [] → ⊥
+some_in_chunk gap lists chunk book b some e =
+    some_book (millis_of gap) (all_rows lists chunk)
+    (λ h. some (front_none chunk (flat_map (λ rs. rs) lists) h)) (ap (λ (k : BookValue). k.rows) b ∙ e)
+
+pub some_in_lists : (gap : ℕ) (lists shown : List (List Row)) (chunk : List Row) (book : BookValue)
+    → book_stored gap lists chunk ≡ book → shown ≡ lists → (flat_map (λ rs. rs) shown ≡ [] → ⊥)
+    → book.rows ≡ [] → ⊥
+some_in_lists gap lists shown chunk book b f some e =
+    some_book (millis_of gap) (all_rows lists chunk)
+    (λ h. some (ap (flat_map (λ rs. rs)) f ∙ back_none chunk (flat_map (λ rs. rs) lists) h))
+    (ap (λ (k : BookValue). k.rows) b ∙ e)
+
+pub some_names : (gap : ℕ) (rows : List Row) (book : BookValue)
+    → record { gap = gap; rows = book_together (millis_of gap) rows } ≡ book → 0 < room_of rows
+    → book.rows ≡ [] → ⊥
+some_names gap rows book b h e =
+    some_book (millis_of gap) rows (λ none. let n = ap room_of none in omega (arith, h, n))
+    (ap (λ (k : BookValue). k.rows) b ∙ e)
 
 -- ---- more rows
 

@@ -1,10 +1,9 @@
 -- Lemmas of rows.
 pub mod Common
 pub mod Cases
+pub mod Counts
 pub mod Digits
-pub mod EntryOrder
 pub mod Fronts
-pub mod Groups
 pub mod KeyPrefixes
 pub mod Infos
 pub mod InStore
@@ -20,4 +19,5 @@ mod ReceiverNames
 pub mod Refusals
 pub mod Rows
 pub mod SortedTexts
-pub mod Sweeps
+pub mod Told
+pub mod Unions

@@ -1,10 +1,10 @@
 -- Names that were gathered, and how many bytes they and their text have.
-use Rattle.aprs_rows.proofs.Common.{◌≡◌, ◌∙◌, ℕ, ◌+◌, ◌<◌, ◌≤◌, List, [], ◌∷◌, ◌++◌, length, refl, sym, ap, subst, arith, nat_tests, length-append, join_with_byte-slice_split, length-slice_split, All, AllByRecursion, recursion_from_All, IsName, bytes_cmp, is_ne, join_with_byte, if◌then◌else◌, Bool, true, false, ◌-◌, ◌==◌, Bor, map, IsPermutation, IsPermutation-map, IsSorted, union}
+use Rattle.aprs_rows.proofs.Common.{◌≡◌, ◌∙◌, ℕ, ◌+◌, ◌<◌, ◌≤◌, List, [], ◌∷◌, ◌++◌, length, refl, sym, ap, subst, arith, length-append, join_with_byte-slice_split, length-slice_split, All, AllByRecursion, recursion_from_All, IsName, bytes_cmp, is_ne, join_with_byte, if◌then◌else◌, Bool, true, false, ◌-◌, ◌==◌, Bor, map, IsPermutation, IsPermutation-map, IsSorted, union}
 use Rattle.std.proofs.lemmas.List.Sorted.{sum_by-IsPermutation}
 use Rattle.aprs_rows.proofs.Judgements.{some_names}
-use Rattle.aprs_rows.proofs.NameTexts.{names_joined}
+use Rattle.aprs_rows.proofs.NameTexts.{names_joined, some_letters}
 use Rattle.aprs_rows.proofs.SortedTexts.{names_cmp, text_of_sort}
-use Rattle.aprs_rows.proofs.Sweeps.{all_append, united_names, united_some}
+use Rattle.aprs_rows.proofs.Unions.{all_append, united_names, united_some}
 use Rattle.std.proofs.lemmas.List.Sums.{sum_by-append, sum_by-cons}
 use Rattle.aprs_rows.specs.NameRoom.{HasRoom, names_size}
 use Rattle.aprs_rows.specs.Names.{names_in}
@@ -32,9 +32,7 @@ text_size text = by_names (names_in text) (join_with_byte-slice_split 44 text) (
 few : (names : List (List ℕ)) → AllByRecursion IsName names
     → length names + length names ≤ names_size names
 few [] a = omega arith
-few (x ∷ xs) a = omega (arith, few xs a.1, name_some x a.0, sum_by-cons size_of x xs) where
-  name_some : (r : List ℕ) → IsName r → 0 < length r
-  name_some r n = grind (arith, nat_tests)
+few (x ∷ xs) a = omega (arith, few xs a.1, some_letters x a.0, sum_by-cons size_of x xs)
 
 -- the text of ascending names is no longer than the names with a comma after each
 further_size : (before : List ℕ) (names : List (List ℕ))

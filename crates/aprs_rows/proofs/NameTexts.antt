@@ -17,6 +17,10 @@ lacks (b ∷ bytes) h =
 name_lacks : (r : List ℕ) → IsName r → All (λ b. is_comma b ≡ false) r
 name_lacks r h = All-from_recursion (λ b. is_comma b ≡ false) r (lacks r (and_parts _ _ h).1)
 
+-- a name has a letter
+pub some_letters : (r : List ℕ) → IsName r → 0 < length r
+some_letters r n = grind (arith, nat_tests)
+
 -- a name is the only one in itself
 pub name_alone : (r : List ℕ) → IsName r → names_in r ≡ r ∷ []
 name_alone r h = slice_split_none is_comma r (name_lacks r h)

@@ -13,7 +13,7 @@ use Rattle.aprs_laws.proofs.Streams.{combined_up_to}
 use Rattle.aprs_laws.proofs.Together.{first_stands, firsts_join, near_is_sound, order_is_free}
 use Rattle.aprs_rows.specs.BookRows.{IsOpen}
 use Rattle.aprs_rows.specs.Fronts.{IsByTest, IsTakenOut, NoneIsNear, with_names}
-use Rattle.aprs_rows.proofs.Sweeps.{united_alone, united_more}
+use Rattle.aprs_rows.proofs.Unions.{united_alone, united_more}
 
 near_of : (o : Ordering) → is_eq o ≡ true → o ≡ Equal
 near_of Less e = absurd (cc)

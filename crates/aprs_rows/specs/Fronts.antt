@@ -12,6 +12,7 @@ use Rattle.aprs_laws.specs.Order.{IsUpTo}
 use Rattle.aprs_laws.specs.Row.{Row, row_cmp}
 use Rattle.aprs_laws.specs.Sound.{AreSoundRows}
 use Rattle.aprs_rows.specs.Packed.{room_of}
+use Rattle.aprs_rows.specs.Told.{IsTold}
 
 -- The first row, and the rows after it.
 pub record Ahead : Type 0 where
@@ -30,10 +31,11 @@ all_ahead = flat_map rows_ahead
 abbrev pub ahead_cmp : Ahead → Ahead → Ordering
 ahead_cmp = flip_args (on (λ a. a.first) row_cmp)
 
--- The rows are in order, and each is sound by itself.
+-- The rows are in order, and each is sound by itself and told.
 pub record IsRun (rows : List Row) : Type 0 where
   pub ordered : AreInOrder rows
   pub each : AreSoundRows rows
+  pub told : AllByRecursion IsTold rows
 
 -- So are those of each.
 abbrev pub AreRuns : List Ahead → Type 0

@@ -3,7 +3,6 @@ pub mod BookRows
 pub mod BookStore
 pub mod Examples
 pub mod Fronts
-pub mod Groups
 pub mod KeyPrefix
 pub mod KeyPrefixSteps
 pub mod Judging
@@ -12,9 +11,7 @@ pub mod NameRoom
 pub mod Names
 pub mod Packed
 pub mod Refusal
-pub mod Rows
 pub mod Sorted
-pub mod Sweep
 pub mod Told
 -- What public clauses cite of lower crates.
 pub use Rattle.aprs_log.specs.Reception

@@ -1,14 +1,18 @@
 -- Rows packed in bytes, one after another. No public clause cites this module.
-use Rattle.std.specs.Prelude.{◌≡◌, ℕ, ◌+◌, ◌≤◌, List, length, take, drop}
+use Rattle.std.specs.Prelude.{◌≡◌, ℕ, ◌+◌, ◌<◌, ◌≤◌, List, [], ◌∷◌, ◌++◌, length, take, drop}
 use Rattle.std.specs.List.{join_with_byte, sum_by}
 use Rattle.aprs_ax25.specs.FrameFault.{parts_of}
+use Rattle.aprs_laws.specs.Lists.{◌∈◌}
 use Rattle.aprs_laws.specs.Row.{Row}
 use Rattle.aprs_laws.specs.Sound.{IsSoundRow}
-use Rattle.aprs_rows.specs.Groups.{rows_of, AreOf}
 use Rattle.aprs_rows.specs.Names.{row_of_text}
-use Rattle.aprs_rows.specs.Rows.{row_bytes}
 use Rattle.aprs_rows.specs.Told.{IsTold}
 use Rattle.aprs_rows.specs.declared.store.mark.Mark.{Mark}
+
+-- The bytes of a row: the names of its receivers with commas between, the name of the greatest
+-- reception's receiver, and its frame.
+abbrev pub row_bytes : Row → List ℕ
+row_bytes x = join_with_byte 44 x.receivers ++ (x.greatest.receiver ++ x.greatest.frame)
 
 -- How many bytes the row of a mark has.
 abbrev pub mark_size : Mark → ℕ
@@ -23,6 +27,7 @@ mark_row m bytes =
 -- The bytes are those of a row that is sound by itself, as the mark says.
 pub record IsMarked (m : Mark) (bytes : List ℕ) : Type 0 where
   pub size : length bytes ≡ mark_size m
+  pub short : m.receivers < 4294967296
   pub sound : IsSoundRow (mark_row m bytes)
   pub told : IsTold (mark_row m bytes)
   pub within : m.info_at ≤ length (mark_row m bytes).greatest.frame
@@ -36,11 +41,23 @@ pub record Notes (m : Mark) (x : Row) : Type 0 where
 
 -- The rows of marks, whose bytes lie one after another.
 abbrev pub rows_of_marks : List Mark → List ℕ → List Row
-rows_of_marks = rows_of mark_size mark_row
+rows_of_marks [] bytes = []
+rows_of_marks (m ∷ ms) bytes =
+    mark_row m (take (mark_size m) bytes) ∷ rows_of_marks ms (drop (mark_size m) bytes)
 
--- The bytes are those of the marks.
+-- The bytes are those of the marks, and nothing more.
 abbrev pub AreMarks : List Mark → List ℕ → Type 0
-AreMarks = AreOf mark_size IsMarked
+AreMarks [] bytes = bytes ≡ []
+AreMarks (m ∷ ms) bytes =
+    IsMarked m (take (mark_size m) bytes) × AreMarks ms (drop (mark_size m) bytes)
+
+-- The names of the row's receivers, with commas between, have fewer bytes than a mark can say.
+abbrev pub IsShort : Row → Type 0
+IsShort x = length (join_with_byte 44 x.receivers) < 4294967296
+
+-- So have those of each row.
+abbrev pub AreShort : List Row → Type 0
+AreShort rows = (x : Row) → x ∈ rows → IsShort x
 
 -- How many bytes the names of a row's receivers have, with a comma after each.
 abbrev pub row_room : Row → ℕ

@@ -1,5 +1,5 @@
 //! Room for more.
-ghost use Rattle.std.specs.Prelude.{◌≡◌, ◌<◌, ◌≤◌, ◌+◌, ◌/◌, ◌++◌, OnOk, length, vec_len, vec_capacity};
+ghost use Rattle.std.specs.Prelude.{◌≡◌, ◌<◌, ◌≤◌, ◌+◌, ◌/◌, ◌++◌, OnOk, OnErr, length, vec_len, vec_capacity};
 
 use crate::Memory;
 use std::alloc::Allocator;
@@ -26,6 +26,7 @@ pub(crate) fn reserve_one<T, A: Allocator>(items: &mut Vec<T, A>) -> Result<(), 
 pub(crate) fn reserve<T, A: Allocator>(items: &mut Vec<T, A>, more: usize) -> Result<(), Memory>
     ensures items { items.new.items ≡ items.old.items }
     ensures room { OnOk result (vec_len items.new + more ≤ vec_capacity items.new) }
+    ensures refused { OnErr result (vec_capacity items.old < vec_len items.old + more) }
 {
     match items.reserve(more) {
         Ok(()) => Ok(()),

@@ -18,7 +18,4 @@ pub use row::names::put_names;
 pub use row::row_view::RowView;
 pub use store::book_rows::BookRows;
 pub use store::book_store::BookStore;
-pub use store::order::RowsInOrder;
 pub use store::packed::PackedRows;
-pub use store::row_store::RowStore;
-pub use store::transmissions::{RowViews, Transmissions};

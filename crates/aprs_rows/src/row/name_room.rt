@@ -1,5 +1,5 @@
 //! Names of receivers, gathered from texts and united.
-ghost use Rattle.std.specs.Prelude.{◌≡◌, ◌≢◌, ◌≤◌, ◌+◌, ◌++◌, [], All, length, map, IfOk, vec_len, vec_capacity};
+ghost use Rattle.std.specs.Prelude.{◌≡◌, ◌≢◌, ◌<◌, ◌≤◌, ◌+◌, ◌++◌, [], All, length, map, IfOk, OnErr, vec_len, vec_capacity};
 ghost use Rattle.aprs_log.specs.Receiver.{IsName};
 ghost use Rattle.aprs_log.specs.Reception.{bytes_cmp};
 ghost use Rattle.aprs_laws.specs.JoinRow.{union};
@@ -39,13 +39,21 @@ impl<'a, A: Allocator> Model for NameRoom<'a, A> {
 impl<'a, A: Allocator + Copy> NameRoom<'a, A> {
     /// No names, and all of the room. Takes memory for as many as can be in it.
     pub(crate) fn new(alloc: A, room: &'a mut [u8]) -> Result<NameRoom<'a, A>, Memory>
-        ensures { IfOk result (λ r. r ≡ record { names = []; left = length room.old }) }
+        ensures room { IfOk result (λ r. r ≡ record { names = []; left = length room.old }) }
+        ensures some { OnErr result (0 < length room.old) }
     {
         let mut names = Vec::new(alloc);
-        reserve(&mut names, room.len() / 2 + 1)?;
+        reserve(&mut names, room.len() - room.len() / 2)?;
         let mut text = Vec::new(alloc);
         reserve(&mut text, room.len())?;
         Ok(NameRoom { names, text, room })
+    }
+
+    /// How many bytes of the room are left, where there are no names.
+    pub(crate) fn left(&self) -> usize
+        ensures { self.now.left ≤ result }
+    {
+        self.room.len()
     }
 
     /// Puts the names of a text, which commas part, after those here. Requires that the text and a

@@ -1,11 +1,8 @@
-//! Names of receivers in texts, gathered and united.
+//! Names of receivers in texts.
 ghost use Rattle.std.specs.Prelude.{◌≡◌, ◌<◌, ◌++◌, ◌∷◌, [], All, length, map, IfNone, IfSome, OnOk};
 ghost use Rattle.std.specs.List.{join_with_byte, flat_map};
 ghost use Rattle.aprs_log.specs.Receiver.{IsName};
-ghost use Rattle.aprs_log.specs.Reception.{bytes_cmp};
-ghost use Rattle.aprs_laws.specs.JoinRow.{union};
 ghost use Rattle.aprs_rows.specs.Names.{names_in};
-ghost use Rattle.aprs_rows.specs.Sorted.{next_text, ascending_text};
 
 use crate::Memory;
 use aprs_log::Receiver;
@@ -34,75 +31,6 @@ pub(crate) fn read_name(bytes: &[u8]) -> Receiver
         Some(receiver) => receiver,
         None => unreachable!(),
     }
-}
-
-/// Puts the names of a text, with commas between, after those in `names`. After `Memory` some of
-/// them may have been put.
-pub(crate) fn gather<'a, A: Allocator>(
-    names: &mut Vec<&'a [u8], A>,
-    text: &'a [u8],
-) -> Result<(), Memory>
-    ensures { OnOk result (map (λ n. n.now) names.new.items
-        ≡ map (λ n. n.now) names.old.items ++ names_in text.now) }
-{
-    let mut rest = text;
-    while let Some((name, after)) = cut_name(rest) {
-        push_name(names, name)?;
-        rest = after;
-    }
-    push_name(names, rest)
-}
-
-/// Puts a name after those in `names`.
-fn push_name<'a, A: Allocator>(names: &mut Vec<&'a [u8], A>, name: &'a [u8]) -> Result<(), Memory>
-    ensures { OnOk result (map (λ n. n.now) names.new.items
-        ≡ map (λ n. n.now) names.old.items ++ name.now ∷ []) }
-{
-    if names.push(name).is_err() {
-        return Err(Memory);
-    }
-    Ok(())
-}
-
-/// Puts names, each once and ascending, with commas between, after the text that is there. Sorts
-/// `names` in place. After `Memory` a part may stand in the text.
-pub(crate) fn put_union<A: Allocator, B: Allocator>(
-    text: &mut Vec<u8, A>,
-    names: &mut Vec<&[u8], B>,
-) -> Result<(), Memory>
-    ensures { OnOk result (text.new.items ≡ text.old.items
-        ++ join_with_byte 44 (union bytes_cmp (map (λ n. n.now) names.old.items) [])) }
-{
-    names.sort_unstable();
-    put_ascending(text, names.as_slice())
-}
-
-/// Puts names, which the caller has sorted, with commas between after the text that is there; of
-/// equal names one, and nothing where there are no names.
-fn put_ascending<A: Allocator>(text: &mut Vec<u8, A>, names: &[&[u8]]) -> Result<(), Memory>
-    ensures { OnOk result (text.new.items ≡ text.old.items
-        ++ ascending_text (map (λ n. n.now) names.now)) }
-{
-    let Some((first, others)) = names.split_first() else {
-        return Ok(());
-    };
-    put(text, first)?;
-    for (i, name) in others.iter().enumerate() {
-        put_next(text, names[i], name)?;
-    }
-    Ok(())
-}
-
-/// Puts a comma and `name` after the text, or nothing where `before`, the name before it, is the
-/// same.
-fn put_next<A: Allocator>(text: &mut Vec<u8, A>, before: &[u8], name: &[u8]) -> Result<(), Memory>
-    ensures { OnOk result (text.new.items ≡ text.old.items ++ next_text before.now name.now) }
-{
-    if before.cmp(name).is_eq() {
-        return Ok(());
-    }
-    put(text, b",")?;
-    put(text, name)
 }
 
 /// Writes names over the text, with commas between. After `Memory` a part of them may stand there.

@@ -1,5 +1,5 @@
 //! A row in bytes.
-ghost use Rattle.std.specs.Prelude.{◌≡◌, ◌<◌, ◌++◌, ◌∷◌, [], All, IfOk, IfSome, OnOk, length};
+ghost use Rattle.std.specs.Prelude.{◌≡◌, ◌<◌, ◌++◌, ◌∷◌, [], All, IfOk, OnOk, length};
 ghost use Rattle.std.specs.List.{join_with_byte};
 ghost use Rattle.aprs_ax25.specs.Frame.{FrameOf};
 ghost use Rattle.aprs_ax25.specs.FrameFault.{parts_of};
@@ -10,14 +10,12 @@ ghost use Rattle.aprs_laws.specs.Row.{last_of, row_cmp, row_key};
 ghost use Rattle.aprs_laws.specs.Sound.{IsSoundRow};
 ghost use Rattle.aprs_rows.specs.KeyPrefix.{HasKeyPrefix};
 ghost use Rattle.aprs_rows.specs.Names.{names_in, row_of_text};
-ghost use Rattle.aprs_rows.specs.Packed.{IsMarked, Notes, mark_row};
-ghost use Rattle.aprs_rows.specs.Rows.{IsRowIn, entry_row, row_bytes};
+ghost use Rattle.aprs_rows.specs.Packed.{IsMarked, IsShort, Notes, mark_row};
 
 use crate::Memory;
 use crate::growth::reserve_one;
 use crate::row::key_prefix::{KeyPrefix, key_order};
 use crate::row::names::{cut_name, read_name};
-use crate::store::entry::Entry;
 use crate::store::mark::Mark;
 use aprs_ax25::Frame;
 use aprs_log::{Moment, Receiver, Reception};
@@ -42,8 +40,8 @@ pub struct RowView<'a> {
 
 impl<'a> Model for RowView<'a> {
     ghost use Rattle.aprs_laws.specs.Row.{Row as RowValue};
+    ghost use Rattle.aprs_rows.specs.KeyPrefix.{HasKey};
     ghost use Rattle.aprs_rows.specs.Names.{row_of_text};
-    ghost use Rattle.aprs_rows.specs.Rows.{HasKey};
     ghost use Rattle.aprs_rows.specs.Told.{IsTold};
 
     ghost Value = { RowValue };
@@ -82,48 +80,6 @@ impl<'a> RowView<'a> {
         }
     }
 
-    /// The row that an entry notes, from the row's bytes: the text of its receivers, then the name
-    /// of the greatest reception's receiver, then the frame.
-    pub(crate) fn of_entry(entry: &Entry, bytes: &'a [u8]) -> RowView<'a>
-        requires { IsRowIn entry.now bytes.now }
-        ensures { result ≡ entry_row entry.now bytes.now }
-    {
-        let (receivers, rest) = bytes.split_at(entry.receivers as usize);
-        let (receiver, frame) = rest.split_at(entry.receiver as usize);
-        RowView {
-            first: entry.first,
-            last: entry.last,
-            names: receivers,
-            receiver,
-            frame,
-            info_at: entry.info_at,
-            head: entry.head,
-        }
-    }
-
-    /// The entry of the row, if its bytes are to begin at `place` in a store. Requires that the row
-    /// is sound by itself, and that its receivers' names with commas between have fewer than
-    /// 4,294,967,296 bytes, so that their number fits.
-    pub(crate) fn entry(&self, place: usize) -> Entry
-        requires sound { IsSoundRow self.now }
-        requires short { length (join_with_byte 44 self.now.receivers) < 4294967296 }
-
-        ensures place { result.place ≡ place }
-        ensures row { IsRowIn result (row_bytes self.now) }
-        ensures same { entry_row result (row_bytes self.now) ≡ self.now }
-    {
-        Entry {
-            head: self.head,
-            first: self.first,
-            last: self.last,
-            place,
-            receivers: self.names.len() as u32,
-            frame: self.frame.len() as u16,
-            receiver: self.receiver.len() as u8,
-            info_at: self.info_at,
-        }
-    }
-
     /// The row that a mark notes, from the row's bytes: the text of its receivers, then the name of
     /// the greatest reception's receiver, then the frame.
     pub(crate) fn of_mark(mark: &Mark, bytes: &'a [u8]) -> RowView<'a>
@@ -144,23 +100,21 @@ impl<'a> RowView<'a> {
         }
     }
 
-    /// The mark of the row, or `None` where its receivers' names with commas between have
-    /// 4,294,967,296 bytes or more. Requires that the row is sound by itself.
-    pub(crate) fn mark(&self) -> Option<Mark>
-        requires { IsSoundRow self.now }
-        ensures { IfSome result (λ mark. Notes mark self.now) }
+    /// The mark of the row. Requires that the row is sound by itself, and that its receivers' names
+    /// with commas between have fewer than 4,294,967,296 bytes, so that their number fits.
+    pub(crate) fn mark(&self) -> Mark
+        requires sound { IsSoundRow self.now }
+        requires short { IsShort self.now }
+        ensures { Notes result self.now }
     {
-        let Ok(receivers) = u32::try_from(self.names.len()) else {
-            return None;
-        };
-        Some(Mark {
+        Mark {
             first: self.first,
             last: self.last,
-            receivers,
+            receivers: self.names.len() as u32,
             frame: self.frame.len() as u16,
             receiver: self.receiver.len() as u8,
             info_at: self.info_at,
-        })
+        }
     }
 
     /// This row with another first moment, and with the names in `receivers`, which commas part, in

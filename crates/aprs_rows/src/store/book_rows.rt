@@ -1,5 +1,5 @@
 //! The rows of a book, one after another.
-ghost use Rattle.std.specs.Prelude.{◌≡◌, ◌≤◌, [], ◌∷◌, min, length, IfOk, IfSome, IfNone};
+ghost use Rattle.std.specs.Prelude.{◌≡◌, ◌<◌, ◌≤◌, [], ◌∷◌, min, length, All, IfOk, IfSome, IfNone, OnErr};
 ghost use Rattle.std.specs.Iterator.{YieldsFirst, item_count};
 ghost use Rattle.aprs_laws.specs.BookValue.{IsSoundBook};
 ghost use Rattle.aprs_laws.specs.Gap.{millis_of};
@@ -7,6 +7,7 @@ ghost use Rattle.aprs_laws.specs.JoinRow.{greater};
 ghost use Rattle.aprs_laws.specs.Sound.{AreSoundRows};
 ghost use Rattle.aprs_laws.specs.Together.{book_together};
 ghost use Rattle.aprs_rows.specs.Packed.{room_of};
+ghost use Rattle.aprs_rows.specs.Told.{IsTold};
 
 use crate::Memory;
 use crate::row::name_room::NameRoom;
@@ -50,8 +51,9 @@ impl<'a, A: Allocator + Copy> BookRows<'a, A> {
     ) -> Result<BookRows<'a, A>, Memory>
         requires sound { AreSoundRows merger }
         requires room { room_of merger ≤ length room.old }
-        ensures { IfOk result (λ rows. rows
+        ensures book { IfOk result (λ rows. rows
             ≡ record { gap = gap; rows = book_together (millis_of gap) merger.entry }) }
+        ensures some { OnErr result (0 < length room.old) }
     {
         let names = NameRoom::new(alloc, room)?;
         Ok(BookRows { gap, merger, names })
@@ -61,8 +63,17 @@ impl<'a, A: Allocator + Copy> BookRows<'a, A> {
     pub fn gap(&self) -> Gap
         ensures value { result ≡ self.now.gap }
         ensures sound { IsSoundBook self.now }
+        ensures told { All IsTold self.now.rows }
     {
+        self.merger.told();
         self.gap
+    }
+
+    /// A number of rows of which no more come. Takes no memory.
+    pub fn most_rows(&self) -> usize
+        ensures { length self.now.rows ≤ result }
+    {
+        self.names.left()
     }
 
     /// The next row, or `None` after the last. Takes no memory.

@@ -1,5 +1,5 @@
 //! The book of what is put into a store.
-ghost use Rattle.std.specs.Prelude.{◌≡◌, List, [], IfOk, OnOk, OnErr};
+ghost use Rattle.std.specs.Prelude.{◌≡◌, ◌≢◌, ◌-◌, ◌^◌, List, [], min, IfOk, OnOk, OnErr};
 ghost use Rattle.std.specs.List.{flat_map, AllByRecursion};
 ghost use Rattle.aprs_laws.specs.BookValue.{IsSoundBook};
 ghost use Rattle.aprs_laws.specs.Coalescing.{AreInOrder};
@@ -108,9 +108,10 @@ impl<A: Allocator + Copy> BookStore<A> {
     }
 
     /// The rows of the book, which come one after another. Takes all memory that the walk needs,
-    /// that in `room` for the names of receivers.
+    /// that in `room` for the names of receivers; none where the book has no rows.
     pub fn rows<'s>(&'s mut self, room: &'s mut Vec<u8, A>) -> Result<BookRows<'s, A>, Memory>
-        ensures { IfOk result (λ rows. rows ≡ self.old) }
+        ensures book { IfOk result (λ rows. rows ≡ self.old) }
+        ensures some { OnErr result (self.old.rows ≢ []) }
     {
         close(&mut self.sorted, &mut self.chunk)?;
         let (merger, size) = merged(self.alloc, self.sorted.as_slice())?;
@@ -129,7 +130,7 @@ impl<A: Allocator + Copy> BookStore<A> {
     }
 }
 
-/// Sorts the chunk and puts it to the lists that are sorted. Then it has no rows.
+/// Sorts the chunk, if it has rows, and puts it to the lists that are sorted. Then it has no rows.
 fn close<A: Allocator + Copy>(
     sorted: &mut Vec<PackedRows<A>, A>,
     chunk: &mut PackedRows<A>,
@@ -139,7 +140,11 @@ fn close<A: Allocator + Copy>(
     ensures ordered { AllByRecursion AreInOrder sorted.old.items
         → AllByRecursion AreInOrder sorted.new.items }
     ensures closed { OnOk result (chunk.new ≡ []) }
+    ensures some { OnErr result (chunk.old ≢ []) }
 {
+    if chunk.is_empty() {
+        return Ok(());
+    }
     reserve(sorted, 1)?;
     let rows = chunk.in_order()?;
     sorted.push_reserved(rows);
@@ -148,22 +153,20 @@ fn close<A: Allocator + Copy>(
 }
 
 /// The rows of all lists, and how many bytes the names of all receivers have, with a comma after
-/// each. The lists have to be in order.
+/// each, or `usize::MAX` where they have more. The lists have to be in order.
 fn merged<'a, A: Allocator + Copy>(
     alloc: A,
     sorted: &'a [PackedRows<A>],
 ) -> Result<(Merger<'a, A>, usize), Memory>
     requires { AllByRecursion AreInOrder sorted.now }
     ensures members { IfOk result (λ m. SameMembers (flat_map (λ rows. rows) sorted.now) m.0) }
-    ensures room { IfOk result (λ m. room_of m.0 ≡ m.1) }
+    ensures room { IfOk result (λ m. m.1 ≡ min (room_of m.0) (2 ^ 64 - 1)) }
+    ensures some { OnErr result (flat_map (λ rows. rows) sorted.now ≢ []) }
 {
     let mut merger = Merger::new(alloc);
     let mut room: usize = 0;
     for packed in sorted {
-        let Some(more) = packed.room().checked_add(room) else {
-            return Err(Memory);
-        };
-        room = more;
+        room = room.saturating_add(packed.room());
         merger.add(packed.rows())?;
     }
     Ok((merger, room))

@@ -41,7 +41,8 @@ impl<'a> Front<'a> {
 impl PartialEq for Front<'_> {
     ghost eq = { eq_by_cmp ahead_cmp };
 
-    ghost laws = { partial_equiv_from_equiv (eq_by_cmp_equiv (back_total (on_total (λ a. a.first) row_total))) };
+    ghost laws = { partial_equiv_from_equiv
+        (eq_by_cmp_equiv (back_total (on_total (λ a. a.first) row_total))) };
 
     fn eq(&self, other: &Self) -> bool {
         self.cmp(other).is_eq()
@@ -69,8 +70,8 @@ impl Ord for Front<'_> {
 impl PartialOrd for Front<'_> {
     ghost partial_cmp = { as_partial_cmp ahead_cmp };
 
-    ghost laws = { partial_order_from_agreeing_total ahead_cmp (back_total (on_total (λ a. a.first) row_total)) (λ x y. refl)
-        (λ x y. refl) };
+    ghost laws = { partial_order_from_agreeing_total ahead_cmp
+        (back_total (on_total (λ a. a.first) row_total)) (λ x y. refl) (λ x y. refl) };
 
     fn partial_cmp(&self, other: &Self) -> Option<Ordering> {
         Some(self.cmp(other))

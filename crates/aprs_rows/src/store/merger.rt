@@ -1,11 +1,12 @@
 //! Rows of several lists in order, taken out in the order of all.
-ghost use Rattle.std.specs.Prelude.{◌≡◌, ◌<◌, ◌++◌, ◌+◌, true, [], IfSome, IfNone, OnOk, OnErr};
+ghost use Rattle.std.specs.Prelude.{◌≡◌, ◌≢◌, ◌<◌, ◌++◌, ◌+◌, true, [], All, IfSome, IfNone, OnOk, OnErr};
 ghost use Rattle.std.specs.BinaryHeap.{heap_len, heap_capacity, heap_items, KeepsHeap};
 ghost use Rattle.aprs_laws.specs.Gap.{millis_of};
 ghost use Rattle.aprs_laws.specs.Lists.{SameMembers};
 ghost use Rattle.aprs_laws.specs.Sound.{AreSoundRows};
 ghost use Rattle.aprs_rows.specs.Fronts.{ahead_cmp, IsByTest, IsRun, IsTakenOut, NoneIsNear, PutsBack};
 ghost use Rattle.aprs_rows.specs.Packed.{room_of};
+ghost use Rattle.aprs_rows.specs.Told.{IsTold};
 
 use crate::Memory;
 use crate::row::near::are_near;
@@ -54,6 +55,7 @@ impl<'a, A: Allocator + Copy> Merger<'a, A> {
         ensures members { OnOk result (SameMembers (rows.entry ++ self.old) self.new) }
         ensures room { OnOk result (room_of self.new ≡ room_of rows.entry + room_of self.old) }
         ensures unchanged { OnErr result (self.new ≡ self.old) }
+        ensures some { OnErr result (rows.entry ≢ []) }
     {
         let Some(front) = Front::of(rows) else {
             return Ok(());
@@ -62,6 +64,13 @@ impl<'a, A: Allocator + Copy> Merger<'a, A> {
             return Err(Memory);
         }
         Ok(())
+    }
+
+    /// Each row that is still to come is told. Does nothing.
+    pub(crate) fn told(&self)
+        ensures { All IsTold self.now }
+    {
+        let _heap = &self.heap;
     }
 
     /// Takes out the next row in order, or `None` after the last. Takes no memory.

@@ -1,11 +1,13 @@
 //! Rows packed in bytes.
-ghost use Rattle.std.specs.Prelude.{◌≡◌, ◌≤◌, ◌+◌, [], ◌∷◌, ◌++◌, length, vec_len, vec_capacity, IfOk, OnOk, OnErr};
+ghost use Rattle.std.specs.Prelude.{◌≡◌, ◌↔◌, ◌<◌, ◌≤◌, ◌+◌, [], ◌∷◌, ◌++◌, None, Some, length, vec_len, vec_capacity, IfOk, IfSome, IfNone, IsTrue, OnOk, OnErr};
 ghost use Rattle.std.specs.Iterator.{YieldsFirst, item_count};
+ghost use Rattle.std.specs.List.{join_with_byte, last_or, AllByRecursion};
 ghost use Rattle.aprs_laws.specs.Coalescing.{AreInOrder};
 ghost use Rattle.aprs_laws.specs.JoinRow.{single};
 ghost use Rattle.aprs_laws.specs.Lists.{SameMembers};
 ghost use Rattle.aprs_laws.specs.Sound.{AreSoundRows, IsSoundRow};
-ghost use Rattle.aprs_rows.specs.Packed.{room_of};
+ghost use Rattle.aprs_rows.specs.Packed.{AreShort, room_of};
+ghost use Rattle.aprs_rows.specs.Told.{IsTold};
 
 use crate::Memory;
 use crate::growth::{put, reserve};
@@ -64,11 +66,28 @@ impl<A: Allocator + Copy> PackedRows<A> {
         }
     }
 
+    /// Whether there are no rows. Takes no memory.
+    pub fn is_empty(&self) -> bool
+        ensures { IsTrue result ↔ (self.now ≡ []) }
+    {
+        self.marks.is_empty()
+    }
+
     /// The number of rows. Takes no memory.
     pub fn len(&self) -> usize
         ensures { result ≡ length self.now }
     {
         self.marks.len()
+    }
+
+    /// The row that was put last, or `None` where there are no rows. Takes no memory.
+    pub fn last(&self) -> Option<RowView<'_>>
+        ensures some { IfSome result (λ row. last_or None self.now ≡ Some row) }
+        ensures none { IfNone result (self.now ≡ []) }
+    {
+        let mark = self.marks.last()?;
+        let (_, own) = self.bytes.split_at(self.bytes.len() - mark.size());
+        Some(RowView::of_mark(mark, own))
     }
 
     /// Puts a reception after the rows, as a row of its own. After `Memory` the rows are as before.
@@ -80,28 +99,21 @@ impl<A: Allocator + Copy> PackedRows<A> {
         self.push(&RowView::new(x.moment(), x.moment(), name, name, x.frame()))
     }
 
-    /// Puts a row after the others. Requires that it is sound by itself. `Memory` is also returned
-    /// where its receivers' names with commas between have 4,294,967,296 bytes or more. After it
-    /// the rows are as before.
+    /// Puts a row after the others. Requires that it is sound by itself, and that its receivers'
+    /// names with commas between have fewer than 4,294,967,296 bytes. After `Memory` the rows are
+    /// as before.
     pub fn push(&mut self, row: &RowView<'_>) -> Result<(), Memory>
-        requires { IsSoundRow row.now }
+        requires sound { IsSoundRow row.now }
+        requires short { length (join_with_byte 44 row.now.receivers) < 4294967296 }
         ensures pushed { OnOk result (self.new ≡ self.old ++ row.now ∷ []) }
         ensures unchanged { OnErr result (self.new ≡ self.old) }
     {
         let (receivers, receiver, frame) = (row.receivers(), row.receiver(), row.frame());
-        let Some(mark) = row.mark() else {
-            return Err(Memory);
-        };
-        let Some(room) = self.room.checked_add(receivers.len() + 1) else {
-            return Err(Memory);
-        };
+        let size = receivers.len() + receiver.len() + frame.len();
         reserve(&mut self.marks, 1)?;
-        reserve(
-            &mut self.bytes,
-            receivers.len() + receiver.len() + frame.len(),
-        )?;
-        self.room = room;
-        self.marks.push_reserved(mark);
+        reserve(&mut self.bytes, size)?;
+        self.room += receivers.len() + 1;
+        self.marks.push_reserved(row.mark());
         put(&mut self.bytes, receivers);
         put(&mut self.bytes, receiver);
         put(&mut self.bytes, frame);
@@ -112,6 +124,8 @@ impl<A: Allocator + Copy> PackedRows<A> {
     pub(crate) fn rows(&self) -> Unpacked<'_>
         ensures value { result ≡ self.now }
         ensures sound { AreSoundRows self.now }
+        ensures told { AllByRecursion IsTold self.now }
+        ensures short { AreShort self.now }
     {
         Unpacked {
             marks: self.marks.as_slice(),
@@ -143,7 +157,8 @@ impl<A: Allocator + Copy> PackedRows<A> {
 
     /// The same rows as `rows` has them, in no more memory than they need.
     fn of_sorted(&self, rows: &[RowView<'_>]) -> Result<PackedRows<A>, Memory>
-        requires { AreSoundRows rows.now }
+        requires sound { AreSoundRows rows.now }
+        requires short { AreShort rows.now }
         ensures { IfOk result (λ packed. packed ≡ rows.now) }
     {
         let mut packed = PackedRows {

@@ -1,7 +1,8 @@
-use Rattle.aprs_rows.proofs.Common.{◌++◌, List, Row, ap, arith, sym, subst, flat_map, take_all, All-from_recursion, AreInOrder, SameMembers}
+use Rattle.aprs_rows.proofs.Common.{◌∙◌, ◌++◌, List, Row, ap, arith, sym, subst, flat_map, take_all, All-from_recursion, AreInOrder, SameMembers}
 use Rattle.aprs_rows.specs.Fronts.{IsRun}
 use Rattle.aprs_rows.specs.Packed.{room_of}
-use Rattle.aprs_rows.proofs.InStore.{merged_more}
+use Rattle.aprs_rows.proofs.Cases.{at_err}
+use Rattle.aprs_rows.proofs.InStore.{merged_more, some_of_all}
 use Rattle.aprs_rows.proofs.store.book_store.merged.Goals as goal
 
 pub add-requires : goal.add-requires
@@ -11,12 +12,12 @@ add-requires g c =
           (All-from_recursion AreInOrder c.args.sorted.now c.requires c.loop-packed.packed-index
           c.packed-item.result c.loop-packed-test.true);
       each = c.rows.ensures.sound;
+      told = c.rows.ensures.told;
     })
 
 pub loop-packed-preserved : goal.loop-packed-preserved
 loop-packed-preserved g c =
     let more = ap (λ (rows : List Row). room_of rows) c.rows.ensures.value in
-    let sum = c.in-Some.ensures.1 in
     record {
       members = merged_more c.args.sorted.now c.loop-packed.packed-index c.packed-item.result
           c.loop-packed.merger c.add.new.self c.packed-item.is c.loop-packed-test.true
@@ -28,10 +29,17 @@ loop-packed-preserved g c =
         c.in_ok-add.ensures.room,
         more,
         c.loop-packed.invariant.room,
-        sum,
+        c.saturating_add-room.ensures,
         c.room.ensures,
       );
     }
+
+pub returns-in_err-add-clause-some : goal.returns-in_err-add-clause-some
+returns-in_err-add-clause-some g c =
+    at_err c.from_residual.result
+    (some_of_all c.args.sorted.now c.loop-packed.packed-index c.packed-item.result
+    c.packed-item.is c.loop-packed-test.true
+    (λ e. c.in_err-add.ensures.some (c.rows.ensures.value ∙ e)))
 
 pub returns-clause-members : goal.returns-clause-members
 returns-clause-members g c =

@@ -1,6 +1,8 @@
-use Rattle.aprs_rows.proofs.Common.{subst, BookValue, some_millis, millis_of}
+use Rattle.aprs_rows.proofs.Common.{subst, All, BookValue, recursion_from_All, some_millis, millis_of}
 use Rattle.aprs_laws.specs.BookValue.{IsSoundBook}
 use Rattle.aprs_laws.proofs.Together.{book_is_sound}
+use Rattle.aprs_rows.specs.Told.{IsTold}
+use Rattle.aprs_rows.proofs.Told.{told_together}
 use Rattle.aprs_rows.proofs.store.book_rows.BookRows.gap.Goals as goal
 
 pub returns-clause-sound : goal.returns-clause-sound
@@ -11,3 +13,10 @@ returns-clause-sound g c =
       sound = book_is_sound (millis_of c.self.inside.gap) (some_millis c.self.inside.gap coming.range)
           c.self.inside.merger coming.each;
     })
+
+pub returns-clause-told : goal.returns-clause-told
+returns-clause-told g c =
+    let rows = c.self.inside.merger in
+    subst (λ (b : BookValue). All IsTold b.rows) c.self.view_is
+    (told_together (millis_of c.self.inside.gap) rows
+    (recursion_from_All IsTold rows c.told.ensures))

@@ -5,15 +5,19 @@ use Rattle.aprs_rows.proofs.Rows.{if_ok}
 use Rattle.aprs_rows.proofs.store.packed.PackedRows.in_order.Goals as goal
 
 pub of_sorted-requires : goal.of_sorted-requires
-of_sorted-requires g c = λ x h.
+of_sorted-requires g c =
     let all = sym (append-nil c.loop-row.rows.items)
     ∙ ap (λ rs. c.loop-row.rows.items ++ rs) (sym c.in-None.ensures.steps.0)
     ∙ c.loop-row.invariant in
-    c.rows-row-items.ensures.sound x
-    (subst (λ (rs : List Row). x ∈ rs) all
+    let there = λ (x : Row) (h : x ∈ c.as_slice.result.now).
+    subst (λ (rs : List Row). x ∈ rs) all
     ((same_members c.loop-row.rows.items c.sort_unstable_by.new.self.items
     c.sort_unstable_by.ensures.permutation x).1
-    (subst (λ (rs : List Row). x ∈ rs) c.as_slice.ensures.value h)))
+    (subst (λ (rs : List Row). x ∈ rs) c.as_slice.ensures.value h)) in
+    record {
+      sound = λ x h. c.rows-row-items.ensures.sound x (there x h);
+      short = λ x h. c.rows-row-items.ensures.short x (there x h);
+    }
 
 pub returns-clause-same : goal.returns-clause-same
 returns-clause-same g c =

@@ -9,9 +9,10 @@ new-requires-clause-names g c =
 
 pub push-requires : goal.push-requires
 push-requires g c =
-    (single_row c.args.x.now c.new.result _ _ _ _ c.new.ensures c.moment.ensures c.moment-2.ensures
-    (c.as_bytes-name.ensures.value ∙ c.receiver.ensures) c.frame.ensures
-    (subst IsName c.receiver.ensures c.as_bytes-name.ensures.name)).sound
+    let one = single_row c.args.x.now c.new.result _ _ _ _ c.new.ensures c.moment.ensures
+    c.moment-2.ensures (c.as_bytes-name.ensures.value ∙ c.receiver.ensures) c.frame.ensures
+    (subst IsName c.receiver.ensures c.as_bytes-name.ensures.name) in
+    record { sound = one.sound; short = one.short }
 
 pub returns-clause-pushed : goal.returns-clause-pushed
 returns-clause-pushed g c =

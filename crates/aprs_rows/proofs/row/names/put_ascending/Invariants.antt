@@ -1,8 +1,0 @@
-use Rattle.aprs_rows.proofs.Common.{◌≡◌, ◌++◌, drop, map}
-use Rattle.aprs_rows.specs.Sorted.{after_first, ascending_text}
-use Rattle.aprs_rows.proofs.row.names.put_ascending.Given as goal
-
-abbrev pub invariant-loop-i : goal.invariant-loop-i
-invariant-loop-i g l =
-    l.text.items ++ after_first (drop l.i (map (λ n. n.now) l.names))
-    ≡ l.fn.text.items ++ ascending_text (map (λ n. n.now) l.names)
