@@ -1,31 +1,36 @@
 -- What this crate's proofs cite of the crates below.
 pub use Rattle.aprs_ax25.specs.CallText.{SpellsCall}
 pub use Rattle.aprs_ax25.specs.Callsign.{Call, call_cmp, call_text, ssid_text}
+pub use Rattle.aprs_laws.proofs.Books.{one_book}
 pub use Rattle.aprs_laws.proofs.Inserts.{fits_by_test, inserted_is_book, inserted_is_sound}
-pub use Rattle.aprs_laws.proofs.Joins.{greatest_laws, is_greater_of, one_value, some_millis}
+pub use Rattle.aprs_laws.proofs.Joins.{gap_laws, greatest_laws, is_greater_of, one_value, some_millis}
 pub use Rattle.aprs_laws.proofs.Known.{known_last, known_once, plain_known, rows_know, set_knows}
-pub use Rattle.aprs_laws.proofs.Lists.{from_map, in_either, in_left, in_map, in_right}
+pub use Rattle.aprs_laws.proofs.Lists.{from_map, in_either, in_left, in_map, in_right, ordered_weaker}
 pub use Rattle.aprs_laws.proofs.Orders.{bytes_exact, bytes_total, call_exact, call_total, heard_total, key_total, up_to_itself}
 pub use Rattle.aprs_laws.proofs.Pushes.{IsSound, empty_or_last, one_relation, sound_prefix}
 pub use Rattle.aprs_laws.proofs.Rows.{IsBefore, before_trans, place_means, the_greater}
 pub use Rattle.aprs_laws.proofs.RunRows.{book_of_nothing, union_is_joined}
 pub use Rattle.aprs_laws.proofs.Soundness.{sound, witnessed}
-pub use Rattle.aprs_laws.proofs.Views.{a_row, best_of_rows, none_of_rows}
-pub use Rattle.aprs_laws.proofs.Widening.{coalesces_wider, keeps_under_own_gap, widens_book}
+pub use Rattle.aprs_laws.proofs.Together.{together}
+pub use Rattle.aprs_laws.proofs.Views.{a_row, best_of_rows, joined_by_merge, none_of_rows}
+pub use Rattle.aprs_laws.proofs.Widening.{keeps_under_own_gap, widens_book, widens_witnesses}
 pub use Rattle.aprs_laws.specs.Best.{IsBest, LastKnown, greater_known, known_after, known_of}
 pub use Rattle.aprs_laws.specs.BestLaws.{Passes}
 pub use Rattle.aprs_laws.specs.Book.{BookOf}
 pub use Rattle.aprs_laws.specs.BookValue.{AreJoined, BookValue, HaveOneGap, Holds, IsSoundBook, widened_to}
+pub use Rattle.aprs_laws.specs.Coalescing.{AreInOrder}
 pub use Rattle.aprs_laws.specs.Examples.{n0call}
 pub use Rattle.aprs_laws.specs.Gap.{IsGap, millis_of}
 pub use Rattle.aprs_laws.specs.Inserted.{FitsInPlace, bridge_row, compare_near_to, grow_row, has_place_for, insert_heard, is_listed, is_near_first}
-pub use Rattle.aprs_laws.specs.JoinRow.{IsNear, combine, greater, single}
+pub use Rattle.aprs_laws.specs.JoinRow.{IsNear, combine, greater, merge, single}
 pub use Rattle.aprs_laws.specs.Joining.{Joined}
 pub use Rattle.aprs_laws.specs.Key.{Key, key_cmp}
 pub use Rattle.aprs_laws.specs.Lists.{Ordered, SameMembers, ◌∈◌}
 pub use Rattle.aprs_laws.specs.Order.{IsBelow, IsUpTo}
 pub use Rattle.aprs_laws.specs.Row.{Row, last_of, row_cmp, row_key}
-pub use Rattle.aprs_laws.specs.Sound.{ComesAfter, IsFar, IsSoundRow, Sound}
+pub use Rattle.aprs_laws.specs.Sound.{AreSoundRows, ComesAfter, IsFar, IsSoundRow, Sound}
+pub use Rattle.aprs_laws.specs.Widening.{widened_rows}
+pub use Rattle.aprs_laws.specs.Witnesses.{witnesses}
 pub use Rattle.aprs_laws.specs.declared.row_cause.RowCause.{RowCause}
 pub use Rattle.aprs_log.specs.Receiver.{IsName}
 pub use Rattle.aprs_log.specs.Reception.{Received, bytes_cmp, heard_cmp}
@@ -37,7 +42,6 @@ pub use Rattle.aprs_rows.proofs.Refusals.{Answers, ascending_short, first_of, fr
 pub use Rattle.aprs_rows.specs.KeyPrefix.{HasKeyPrefix}
 pub use Rattle.aprs_rows.specs.KeyPrefixSteps.{head_cmp}
 pub use Rattle.aprs_rows.specs.Refusal.{is_ascending, is_of_last, is_out_of_order, is_same_name, is_too_near, refusal}
-pub use Rattle.aprs_rows.specs.Rows.{AreSoundRows}
 pub use Rattle.aprs_rows.specs.declared.row.key_prefix.KeyPrefix.{KeyPrefix}
 pub use Rattle.std.proofs.Common.{All, Bool, Bor, Err, IfOk, IfSome, IsOkUnless, IsTrue, List, MatchOption, None, Ok, OnErr, OnOk, Option, Result, Some, [], add-one, ap, append-nil, append_assoc, arith, codes, cond, drop, drop-cons, eqb-true, false, get_or, if◌then◌else◌, inl, inr, is_ok, is_some, length, length-drop, ltb, map, max, min, not, refl, rules, slice_set, subst, suc, sym, take, take-append-drop, take-take, true, unwrap_or, zero, ℕ, ◌&&◌, ◌++◌, ◌+◌, ◌-◌, ◌<◌, ◌==◌, ◌↔◌, ◌∙◌, ◌∷◌, ◌≡◌, ◌≢◌, ◌≤◌, ◌⊎◌}
 pub use Rattle.std.proofs.Math.Bool.{and-false, and-true}

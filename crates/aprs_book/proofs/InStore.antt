@@ -1,12 +1,10 @@
 -- Rows of a book as a store takes them.
-use Rattle.aprs_book.proofs.Common.{◌≡◌, ◌∙◌, inl, inr, ℕ, ◌<◌, ◌≤◌, List, [], ◌∷◌, ◌++◌, length, Result, Ok, Err, refl, sym, ap, subst, append_assoc, arith, All, IfOk, join_with_byte, IsName, ◌∈◌, SameMembers, IsGap, millis_of, Row, last_of, IsSoundRow, Sound, Joined, BookValue, IsSoundBook, HaveOneGap, AreJoined, widened_to, one_value, some_millis, coalesces_wider, AreSoundRows}
-use Rattle.aprs_laws.proofs.Coalescing.{coalesces_joined}
+use Rattle.aprs_book.proofs.Common.{◌≡◌, ◌∙◌, inl, inr, ℕ, ◌<◌, ◌≤◌, List, [], ◌∷◌, ◌++◌, length, Result, Ok, Err, refl, sym, ap, subst, append_assoc, append-nil, arith, All, IfOk, is_gt, join_with_byte, IsName, ◌∈◌, millis_of, AreInOrder, IsBelow, IsUpTo, Row, last_of, row_cmp, IsSoundRow, Sound, merge, Joined, BookValue, IsSoundBook, HaveOneGap, AreJoined, widened_to, widened_rows, one_value, some_millis, ordered_weaker, one_book, together, witnesses, witnessed, widens_witnesses, joined_by_merge, AreSoundRows}
 use Rattle.aprs_rows.specs.declared.memory.Memory.{Memory}
 use Rattle.aprs_rows.specs.Names.{names_in, row_of_text}
 use Rattle.aprs_rows.proofs.NameTexts.{names_joined}
-use Rattle.aprs_book.specs.Coalesced.{IsCoalesced}
 use Rattle.aprs_book.specs.Taking.{MergesInto}
-use Rattle.aprs_book.proofs.Taking.{merges_into}
+use Rattle.aprs_book.proofs.Taking.{merges_into, value}
 
 -- ---- a row
 
@@ -59,54 +57,62 @@ pub sound_walk : (b : BookValue) (rows : List Row) → rows ≡ b.rows → IsSou
     → AreSoundRows rows
 sound_walk b rows e w = subst AreSoundRows (sym e) w.sound.each
 
-pub both_put : (start one two a b : List Row) (ours theirs : List Row) → start ≡ []
-    → one ≡ start ++ ours → two ≡ one ++ theirs → ours ≡ a → theirs ≡ b → two ≡ a ++ b
-both_put start one two a b ours theirs s p q x y =
-    q ∙ (λ t. (p ∙ (λ u. s u ++ x u)) t ++ y t)
+-- rows that were all put
+pub all_put : (put rest all : List Row) → rest ≡ [] → put ++ rest ≡ all → put ≡ all
+all_put put rest all none split =
+    sym (append-nil put) ∙ ap (λ rows. put ++ rows) (sym none) ∙ split
 
--- ---- what comes of a store of the rows of books
+pub in_order : (b : BookValue) (rows : List Row) → rows ≡ b.rows → IsSoundBook b → AreInOrder rows
+in_order b rows e w =
+    subst AreInOrder (sym e)
+    (ordered_weaker (IsBelow row_cmp) (IsUpTo row_cmp) b.rows (λ x y hx hy less. ap is_gt less)
+    w.sound.ascending)
 
-module _ (a b : BookValue) (g : ℕ) (told : List Row) (is : g ≡ a.gap) (one : HaveOneGap a b)
-    (all : told ≡ a.rows ++ b.rows) (w : IsSoundBook a) (v : IsSoundBook b) where
-  joined_rows : (rows : List Row) → IsCoalesced (millis_of a.gap) told rows
-      → Joined (millis_of a.gap) a.rows b.rows rows
-  joined_rows rows c =
-      subst (Joined (millis_of a.gap) a.rows b.rows) (sym c.is)
-      (coalesces_joined (millis_of a.gap) (some_millis a.gap w.range) a.rows b.rows c.sorted w.sound
-      (subst (λ k. Sound (millis_of k) b.rows) (sym one) v.sound)
-      (subst (λ (t : List Row). SameMembers t c.sorted) all c.members) c.ordered)
+-- ---- the book in a store
 
-  joined_book : (c : BookValue) → c.gap ≡ g → IsCoalesced (millis_of g) told c.rows
-      → AreJoined a b c
-  joined_book c e k =
-      let same : a.gap ≡ c.gap = sym (e ∙ is) in
-      record {
-        left = same;
-        right = sym one ∙ same;
-        range = subst IsGap same w.range;
-        rows = subst (λ n. Joined (millis_of n) a.rows b.rows c.rows) same
-            (joined_rows c.rows (subst (λ n. IsCoalesced (millis_of n) told c.rows) is k));
-      }
+-- the book with these rows, which join its own
+abbrev pub joined_by : BookValue → List Row → BookValue
+joined_by b rows = record { gap = b.gap; rows = merge (millis_of b.gap) b.rows rows }
 
-  pub united : (r : Result BookValue Memory) → IfOk r (λ c. c.gap ≡ g)
-      → IfOk r (λ c. IsCoalesced (millis_of g) told c.rows) → IfOk r (AreJoined a b)
-  united (Ok c) e k = joined_book c e k
-  united (Err m) e k = tt
+-- the book of these rows under this gap
+abbrev pub of_rows : ℕ → List Row → BookValue
+of_rows gap rows = joined_by (value gap []) rows
 
-  pub united_merges : (r : Result BookValue Memory)
-      → IfOk r (λ c. IsCoalesced (millis_of g) told c.rows)
-      → IfOk r (λ c. MergesInto (millis_of a.gap) a.rows b.rows c.rows)
-  united_merges (Ok c) k =
-      merges_into (millis_of a.gap) (some_millis a.gap w.range) a.rows b.rows c.rows
-      (joined_rows c.rows (subst (λ n. IsCoalesced (millis_of n) told c.rows) is k))
-  united_merges (Err m) k = tt
+-- what holds of the book in a store holds of what was made of it
+pub made_has : (P : BookValue → Type 0) (r : Result BookValue Memory) {stored b : BookValue}
+    → IfOk r (λ made. made ≡ stored) → stored ≡ b → P b → IfOk r P
+made_has P (Ok made) e f h = subst P (sym (e ∙ f)) h
+made_has P (Err m) e f h = tt
 
-pub widened : (b : BookValue) (h : ℕ) (told : List Row) → told ≡ b.rows → IsSoundBook b
-    → b.gap ≤ h → (r : Result BookValue Memory) → IfOk r (λ c. c.gap ≡ h)
-    → IfOk r (λ c. IsCoalesced (millis_of h) told c.rows) → IfOk r (λ c. c ≡ widened_to h b)
-widened b h told all w l (Ok c) e k =
-    one_value c (widened_to h b) e
-    (k.is ∙ coalesces_wider (millis_of b.gap) (millis_of h) b.rows k.sorted
-    (some_millis b.gap w.range) (omega (arith, l)) w.sound
-    (subst (λ (t : List Row). SameMembers t k.sorted) all k.members) k.ordered)
-widened b h told all w l (Err m) e k = tt
+-- a sound book under a gap that is not less
+module _ (b : BookValue) (w : IsSoundBook b) (gap : ℕ) (l : b.gap ≤ gap) where
+  pub widened : of_rows gap b.rows ≡ widened_to gap b
+  widened =
+      let some = some_millis b.gap w.range in
+      one_value (of_rows gap b.rows) (widened_to gap b) refl
+      (one_book (millis_of gap) (witnesses b.rows) (merge (millis_of gap) [] b.rows)
+      (widened_rows (millis_of gap) b.rows)
+      (together (millis_of gap) b.rows (omega (arith, l, some)) w.sound.each)
+      (widens_witnesses (millis_of b.gap) (millis_of gap) b.rows some (omega (arith, l)) w.sound))
+
+-- the book of the rows of both
+abbrev pub both : BookValue → BookValue → BookValue
+both a b = joined_by (of_rows a.gap a.rows) b.rows
+
+module _ (a b : BookValue) (one : HaveOneGap a b) (w : IsSoundBook a) (v : IsSoundBook b) where
+  joined_rows : Joined (millis_of a.gap) a.rows b.rows (both a b).rows
+  joined_rows =
+      let some = some_millis a.gap w.range in
+      subst (λ rows. Joined (millis_of a.gap) a.rows b.rows (merge (millis_of a.gap) rows b.rows))
+      (sym (one_book (millis_of a.gap) (witnesses a.rows) (merge (millis_of a.gap) [] a.rows) a.rows
+      (together (millis_of a.gap) a.rows some w.sound.each)
+      (witnessed (millis_of a.gap) a.rows some w.sound)))
+      (joined_by_merge (millis_of a.gap) some a.rows b.rows w.sound
+      (subst (λ k. Sound (millis_of k) b.rows) (sym one) v.sound))
+
+  pub are_joined : AreJoined a b (both a b)
+  are_joined = record { left = refl; right = sym one; range = w.range; rows = joined_rows }
+
+  pub is_merged : MergesInto (millis_of a.gap) a.rows b.rows (both a b).rows
+  is_merged =
+      merges_into (millis_of a.gap) (some_millis a.gap w.range) a.rows b.rows (both a b).rows joined_rows

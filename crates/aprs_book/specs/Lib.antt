@@ -8,7 +8,6 @@ pub mod Slots
 pub mod Taking
 pub mod Replay
 pub mod Applying
-pub mod Coalesced
 pub mod RowsFault
 pub mod Reports
 pub mod LastKnown
@@ -16,6 +15,7 @@ pub mod Stations
 pub mod Messages
 pub mod Exchange
 pub mod SummaryBuilder
+pub mod Summary
 pub mod MessageRows
 pub mod Names
 pub mod NamedRows

@@ -16,10 +16,10 @@ use crate::rows::kept_row::KeptRow;
 use crate::rows::keyed::KeyedRows;
 use crate::rows::millis::Millis;
 use crate::rows::walk::Walk;
-use crate::stored::{book_of, put_rows};
+use crate::stored::{add_rows, book_of};
 use crate::{Gap, Join, Memory, MergeFault, RowCause, RowParts, Rows, WidenFault};
 use aprs_log::Reception;
-use aprs_rows::RowStore;
+use aprs_rows::BookStore;
 use std::alloc::{Allocator, Global};
 use std::marker::Model;
 
@@ -213,10 +213,10 @@ impl<A: Allocator + Copy> Book<A> {
     {
         let alloc = self.rows.allocator();
         let (ours, theirs) = (self.walk(), other.walk());
-        let mut store = RowStore::new(alloc);
-        put_rows(alloc, &mut store, ours)?;
-        put_rows(alloc, &mut store, theirs)?;
-        book_of(alloc, self.gap, store)
+        let mut store = BookStore::new(alloc, self.gap());
+        add_rows(alloc, &mut store, ours)?;
+        add_rows(alloc, &mut store, theirs)?;
+        book_of(alloc, store)
     }
 
     /// The book of the same set of receptions under a gap that is not less. `Narrower` comes just
@@ -248,9 +248,9 @@ impl<A: Allocator + Copy> Book<A> {
         ensures sound { IsSoundBook self.now }
     {
         let alloc = self.rows.allocator();
-        let mut store = RowStore::new(alloc);
-        put_rows(alloc, &mut store, self.walk())?;
-        book_of(alloc, gap, store)
+        let mut store = BookStore::new(alloc, gap);
+        add_rows(alloc, &mut store, self.walk())?;
+        book_of(alloc, store)
     }
 
     /// The rows as they are kept, one after another.

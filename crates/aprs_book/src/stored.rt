@@ -2,67 +2,67 @@
 ghost use Rattle.std.specs.Prelude.{◌≡◌, ◌++◌, ◌∷◌, [], All, IfOk, OnOk};
 ghost use Rattle.std.specs.List.{join_with_byte};
 ghost use Rattle.aprs_log.specs.Receiver.{IsName};
+ghost use Rattle.aprs_laws.specs.Coalescing.{AreInOrder};
 ghost use Rattle.aprs_laws.specs.Gap.{millis_of};
-ghost use Rattle.aprs_laws.specs.BookValue.{IsSoundBook};
-ghost use Rattle.aprs_laws.specs.Sound.{IsSoundRow};
-ghost use Rattle.aprs_rows.specs.Rows.{AreSoundRows};
-ghost use Rattle.aprs_book.specs.Coalesced.{IsCoalesced};
+ghost use Rattle.aprs_laws.specs.JoinRow.{merge};
+ghost use Rattle.aprs_laws.specs.Sound.{AreSoundRows, IsSoundRow};
 
 use crate::rows::kept_row::KeptRow;
 use crate::rows::walk::Walk;
-use crate::{Book, Gap, Memory};
-use aprs_rows::{RowStore, RowView, put_names};
+use crate::{Book, Memory};
+use aprs_rows::{BookStore, PackedRows, RowView, put_names};
 use std::alloc::Allocator;
 
-/// The book of a store's rows, in any order, under this gap: those that are near are one row. Takes
-/// memory beside the book for the order of the rows, and gives it back.
+/// The book in a store. Takes memory beside the book for the walk over its rows, and gives it back.
 pub(crate) fn book_of<A: Allocator + Copy>(
     alloc: A,
-    gap: Gap,
-    store: RowStore<A>,
+    mut store: BookStore<A>,
 ) -> Result<Book<A>, Memory>
-    ensures gap { IfOk result (λ book. book.gap ≡ gap) }
-    ensures rows { IfOk result (λ book. IsCoalesced (millis_of gap) store book.rows) }
-    ensures sound { IfOk result IsSoundBook }
+    ensures { IfOk result (λ book. book ≡ store) }
 {
-    let rows = store.in_order()?;
-    let joined = rows.transmissions(gap)?;
-    Book::of_rows(alloc, &joined)
+    let mut room = Vec::new(alloc);
+    let rows = store.rows(&mut room)?;
+    Book::of_rows(alloc, rows)
 }
 
-/// Puts the rows of a walk after those of the store. Each has to be sound by itself. After `Memory`
-/// some of them may have been put.
-pub(crate) fn put_rows<A: Allocator + Copy>(
+/// Adds the rows of a walk to the book in a store. They have to be in order, and each sound by
+/// itself. After `Memory` the book in the store is as before.
+pub(crate) fn add_rows<A: Allocator + Copy>(
     alloc: A,
-    store: &mut RowStore<A>,
+    store: &mut BookStore<A>,
     rows: Walk<'_, A>,
 ) -> Result<(), Memory>
-    requires { AreSoundRows rows }
-    ensures { OnOk result (store.new ≡ store.old ++ rows.entry) }
+    requires order { AreInOrder rows }
+    requires sound { AreSoundRows rows }
+    ensures { OnOk result (store.new ≡ record {
+      gap = store.old.gap;
+      rows = merge (millis_of store.old.gap) store.old.rows rows.entry;
+    }) }
 {
+    let mut packed = PackedRows::new(alloc);
     let mut text = Vec::new(alloc);
     for row in rows {
-        put_row(store, &mut text, row)?;
+        put_row(&mut packed, &mut text, row)?;
     }
-    Ok(())
+    store.add(packed)
 }
 
-/// Puts a row after those of the store. It has to be sound by itself. `text` is written over; it is
+/// Puts a row after the others. It has to be sound by itself. `text` is written over; it is
 /// kept from row to row. `Memory` is also returned where the names of the row's receivers, with
-/// commas between, have 4,294,967,296 bytes or more. After it the store is as before.
+/// commas between, have 4,294,967,296 bytes or more. After it the rows are as before.
 fn put_row<A: Allocator + Copy>(
-    store: &mut RowStore<A>,
+    packed: &mut PackedRows<A>,
     text: &mut Vec<u8, A>,
     row: &KeptRow<A>,
 ) -> Result<(), Memory>
     requires { IsSoundRow row.now }
-    ensures { OnOk result (store.new ≡ store.old ++ row.now ∷ []) }
+    ensures { OnOk result (packed.new ≡ packed.old ++ row.now ∷ []) }
 {
     put_names(text, row.names())?;
     if text.len() > u32::MAX as usize {
         return Err(Memory);
     }
-    store.push(&view_of(row, text.as_slice()))
+    packed.push(&view_of(row, text.as_slice()))
 }
 
 /// A row as a store takes it, with the text of its receivers' names, which commas part. The row has

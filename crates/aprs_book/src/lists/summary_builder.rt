@@ -1,9 +1,9 @@
 //! What rows say, in one pass over them.
-ghost use Rattle.std.specs.Prelude.{◌≡◌, ◌<◌, List, [], ◌∷◌, ◌++◌, IfOk, OnOk, length};
+ghost use Rattle.std.specs.Prelude.{◌≡◌, ◌<◌, ◌≤◌, List, [], ◌∷◌, ◌++◌, IfOk, OnOk, length};
 ghost use Rattle.aprs_laws.specs.Key.{key_of};
 ghost use Rattle.aprs_laws.specs.Row.{Row};
 ghost use Rattle.aprs_book.specs.StationRows.{tally_of};
-ghost use Rattle.aprs_book.specs.SummaryBuilder.{IsSummaryOf};
+ghost use Rattle.aprs_book.specs.SummaryBuilder.{IsBuilderOf};
 
 use crate::Memory;
 use crate::known::notes::Notes;
@@ -14,7 +14,7 @@ use crate::lists::sender::Sender;
 use crate::lists::tally::Counting;
 use aprs_ax25::Callsign;
 use aprs_log::Moment;
-use aprs_rows::RowViews;
+use aprs_rows::BookRows;
 use std::alloc::{Allocator, Global};
 
 /// What some rows report, how many each station has, and the messages and answers among them.
@@ -28,7 +28,7 @@ pub(crate) struct SummaryBuilder<'t, A: Allocator = Global> {
 impl<'t, A: Allocator + Copy> SummaryBuilder<'t, A> {
     /// A builder of no rows. Takes no memory.
     fn new(alloc: A) -> SummaryBuilder<'t, A>
-        ensures { IsSummaryOf [] result }
+        ensures { IsBuilderOf [] result }
     {
         SummaryBuilder {
             notes: Notes::new(alloc),
@@ -49,9 +49,9 @@ impl<'t, A: Allocator + Copy> SummaryBuilder<'t, A> {
     ) -> Result<(), Memory>
         requires sender { sender.now ≡ (key_of heard.frame).source }
         requires room { tally_of sender.now self.old.tallies < 18446744073709551615 }
-        ensures { OnOk result ((rows : List Row) (r : Row) → IsSummaryOf rows self.old
+        ensures { OnOk result ((rows : List Row) (r : Row) → IsBuilderOf rows self.old
             → first ≡ r.first → heard.entry ≡ r.greatest
-            → IsSummaryOf (rows ++ r ∷ []) self.new) }
+            → IsBuilderOf (rows ++ r ∷ []) self.new) }
     {
         self.tallies.add(sender)?;
         self.exchange.take(sender, first, &heard)?;
@@ -60,15 +60,15 @@ impl<'t, A: Allocator + Copy> SummaryBuilder<'t, A> {
     }
 }
 
-/// A builder of the rows of a store, in one pass over them. `len` has to be their number: so no
-/// station's number of rows overflows.
+/// A builder of these rows, in one pass over them. At most `most` of them may come: so no station's
+/// number of rows overflows.
 pub(crate) fn summarize<'t, A: Allocator + Copy>(
     alloc: A,
-    rows: RowViews<'t, '_>,
-    len: usize,
+    rows: BookRows<'t, A>,
+    most: usize,
 ) -> Result<SummaryBuilder<'t, A>, Memory>
-    requires { length rows ≡ len }
-    ensures { IfOk result (IsSummaryOf rows.entry) }
+    requires { length rows.rows ≤ most }
+    ensures { IfOk result (IsBuilderOf rows.entry.rows) }
 {
     let mut builder = SummaryBuilder::new(alloc);
     let mut before = None;

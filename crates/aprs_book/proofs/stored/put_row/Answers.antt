@@ -26,5 +26,5 @@ push-requires-clause-short g c =
 pub returns : goal.returns
 returns g c =
     on_ok c.push.result
-    (λ h. h ∙ ap (λ (x : Row). c.args.store.now ++ x ∷ []) c.view_of.ensures)
+    (λ h. h ∙ ap (λ (x : Row). c.args.packed.now ++ x ∷ []) c.view_of.ensures)
     c.push.ensures.pushed

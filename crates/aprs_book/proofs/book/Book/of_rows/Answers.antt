@@ -25,18 +25,18 @@ module _ (gap : ℕ) (kept old new all : List Row) (x : Row) (step : old ≡ x �
 
 pub of_view-requires : goal.of_view-requires
 of_view-requires g c =
-    let gap = millis_of c.args.rows.now.gap in
+    let gap = millis_of c.args.rows.gap in
     free_ascends gap c.loop-row.kept c.in-Some.row
-    (free gap c.loop-row.kept c.loop-row.row-iterator c.next.new.self c.args.rows.now.rows c.in-Some.row
-    c.in-Some.ensures.steps c.loop-row.invariant.rows c.rows-row-items.ensures.sound.sound)
+    (free gap c.loop-row.kept c.loop-row.row-iterator.rows c.next.new.self.rows c.args.rows.rows c.in-Some.row
+    c.in-Some.ensures.steps c.loop-row.invariant.rows c.gap-gap.ensures.sound.sound)
 
 pub append-requires : goal.append-requires
 append-requires g c =
-    let gap = millis_of c.args.rows.now.gap in
+    let gap = millis_of c.args.rows.gap in
     subst (λ (x : Row). LastKeyIsUpTo x c.loop-row.kept) (sym c.in_ok-of_view.ensures)
     (none_ends_up_to gap c.loop-row.kept c.in-Some.row
-    (free gap c.loop-row.kept c.loop-row.row-iterator c.next.new.self c.args.rows.now.rows c.in-Some.row
-    c.in-Some.ensures.steps c.loop-row.invariant.rows c.rows-row-items.ensures.sound.sound))
+    (free gap c.loop-row.kept c.loop-row.row-iterator.rows c.next.new.self.rows c.args.rows.rows c.in-Some.row
+    c.in-Some.ensures.steps c.loop-row.invariant.rows c.gap-gap.ensures.sound.sound))
 
 pub loop-row-preserved : goal.loop-row-preserved
 loop-row-preserved g c =
@@ -49,9 +49,9 @@ loop-row-preserved g c =
     ∙ ap (λ (x : Received). (key_of x.frame).source) heard in
     let info = c.info.ensures ∙ ap (λ (x : Received). (key_of x.frame).info) heard in
     record {
-      rows = ap (λ xs. xs ++ c.next.new.self) added
-          ∙ whole (millis_of c.args.rows.now.gap) kept c.loop-row.row-iterator c.next.new.self
-          c.args.rows.now.rows row c.in-Some.ensures.steps c.loop-row.invariant.rows;
+      rows = ap (λ xs. xs ++ c.next.new.self.rows) added
+          ∙ whole (millis_of c.args.rows.gap) kept c.loop-row.row-iterator.rows c.next.new.self.rows
+          c.args.rows.rows row c.in-Some.ensures.steps c.loop-row.invariant.rows;
       notes = subst (λ (xs : List Row). AreNotesOf xs c.take.new.self) (sym added)
           (c.in_ok-take.ensures kept row c.loop-row.invariant.notes
           (λ topic. c.of.ensures topic
@@ -60,11 +60,11 @@ loop-row-preserved g c =
 
 pub of_kept-requires-clause-sound : goal.of_kept-requires-clause-sound
 of_kept-requires-clause-sound g c =
-    let rows = all_kept c.loop-row.kept c.loop-row.row-iterator c.args.rows.now.rows
+    let rows = all_kept c.loop-row.kept c.loop-row.row-iterator.rows c.args.rows.rows
     c.in-None.ensures.steps.0 c.loop-row.invariant.rows in
     subst (λ (b : BookValue). IsSoundBook b)
-    (λ i. record { gap = sym c.gap.ensures i; rows = sym rows i })
-    c.rows-row-items.ensures.sound
+    (λ i. record { gap = sym c.gap-gap.ensures.value i; rows = sym rows i })
+    c.gap-gap.ensures.sound
 
 pub of_kept-requires-clause-indexes : goal.of_kept-requires-clause-indexes
 of_kept-requires-clause-indexes g c =
@@ -74,7 +74,7 @@ pub returns : goal.returns
 returns g c =
     c.of_kept.ensures
     ∙ (λ i. record {
-      gap = c.gap.ensures i;
-      rows = all_kept c.loop-row.kept c.loop-row.row-iterator c.args.rows.now.rows
+      gap = c.gap-gap.ensures.value i;
+      rows = all_kept c.loop-row.kept c.loop-row.row-iterator.rows c.args.rows.rows
           c.in-None.ensures.steps.0 c.loop-row.invariant.rows i;
     })

@@ -4,6 +4,6 @@ use Rattle.aprs_book.proofs.book.Book.of_rows.Given as goal
 
 abbrev pub invariant-loop-row : goal.invariant-loop-row
 invariant-loop-row g l = record {
-  rows : l.kept ++ l.row-iterator ≡ l.fn.rows.rows;
+  rows : l.kept ++ l.row-iterator.rows ≡ l.fn.rows.rows;
   notes : AreNotesOf l.kept l.notes;
 }
