@@ -371,8 +371,8 @@ module _ (v : Version) (rows : List Row) (line : List ℕ) (s : SpelledRow (form
         frame = frame_of-is s.row.greatest.frame b e;
       })
 
-judge_line : (v : Version) (rows : List Row) (line : List ℕ) → Judged (Rows v) rows line
-judge_line v rows line = by (is_end line) refl where
+judge_row_line : (v : Version) (rows : List Row) (line : List ℕ) → Judged (Rows v) rows line
+judge_row_line v rows line = by (is_end line) refl where
   by : (b : Bool) → is_end line ≡ b → Judged (Rows v) rows line
   by true e = elim (one_or_other line (end_line (length rows))) [
     | inl same ↦ record {
@@ -399,10 +399,10 @@ judge_line v rows line = by (is_end line) refl where
     }
   ]
 
-judge : (stage : Stage) (rows : List Row) (line : List ℕ) → Judged stage rows line
-judge Header rows line = judge_header rows line
-judge (Rows v) rows line = judge_line v rows line
-judge (Done v) rows line = record {
+judge_line : (stage : Stage) (rows : List Row) (line : List ℕ) → Judged stage rows line
+judge_line Header rows line = judge_header rows line
+judge_line (Rows v) rows line = judge_row_line v rows line
+judge_line (Done v) rows line = record {
   result = Err cause.After;
   new = rows;
   judged =
@@ -504,7 +504,7 @@ step : (e : InputEnd) (rest : List ℕ) (stage : Stage) (rows : List Row) (t : L
     → ((more : List ℕ) → length more < length rest → FoundAfter e more) → Found (t ++ rest) e
 step e rest stage rows t going s next = elim (cut_text rest) [
   | inl lacks ↦ at_end stage rows rest (t ++ rest) e (goes_on stage rows rest t going lacks s)
-  | inr c ↦ by c (goes_on stage rows c.line t going c.one s) (judge stage rows c.line)
+  | inr c ↦ by c (goes_on stage rows c.line t going c.one s) (judge_line stage rows c.line)
 ] where
   text_is : (c : CutsLine rest) → (t ++ c.line) ++ 10 ∷ c.more ≡ t ++ rest
   text_is c = append_assoc t c.line (10 ∷ c.more) ∙ ap (λ l. t ++ l) (sym c.is)

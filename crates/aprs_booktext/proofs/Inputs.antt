@@ -3,7 +3,7 @@ use Rattle.aprs_booktext.proofs.Common.{◌≡◌, ℕ, ◌+◌, ◌-◌, ◌≤
 use Rattle.std.specs.Io.KnownBytes.{Consumes}
 use Rattle.std.proofs.KnownBytes.{Consumes-nil, Consumes-trans}
 use Rattle.aprs_io.specs.declared.input.InputEnd.TheVariants as ending
-use Rattle.aprs_booktext.specs.StoredRows.{book_read, rows_after}
+use Rattle.aprs_booktext.specs.ReadRows.{book_read}
 use Rattle.aprs_booktext.specs.Asking.{Takes, TakesAt, TakesAtMost}
 use Rattle.aprs_booktext.specs.TextFault.{most_ahead}
 use Rattle.aprs_booktext.specs.BookAnswers.{ReadsBook, IsAnswerFor}
@@ -178,19 +178,7 @@ module _ {R : Type 0} (remaining : R → Option (List ℕ)) (limit : ℕ) (head 
   }
 
 -- a book's answer is at the end alone, as that of its gap
-pub EndsIn-book : (e : InputEnd) (r : Result ℕ BookFault) (old new : List Row) → AgreesWithEnding e r
-    → AgreesWithEnding e (book_read r old new)
-EndsIn-book e (Ok gap) old new is = is
-EndsIn-book e (Err f) old new is = is
-
--- what is answered of all the rows of a store is a book
-pub answer_book : {R : Type 0} (remaining : R → Option (List ℕ)) (limit : ℕ) (head : List ℕ)
-    (old store : List Row) (gap : ℕ) (book : BookValue) (a c : Counted R)
-    → old ≡ [] → book ≡ record { gap = gap; rows = store }
-    → IsAnswered remaining limit head
-    (Ok (record { gap = gap; rows = rows_after old store })) a c
-    → IsAnswered remaining limit head (Ok book) a c
-answer_book remaining limit head old store gap book a c none is answer =
-    subst (λ (x : Result BookValue BookFault). IsAnswered remaining limit head x a c)
-    (ap (λ (o : List Row). Ok (record { gap = gap; rows = rows_after o store })) none
-    ∙ ap Ok (sym is)) answer
+pub EndsIn-book : (e : InputEnd) (r : Result ℕ BookFault) (rows : List Row) → AgreesWithEnding e r
+    → AgreesWithEnding e (book_read r rows)
+EndsIn-book e (Ok gap) rows is = is
+EndsIn-book e (Err f) rows is = is

@@ -255,8 +255,8 @@ wrong_on v a b line rest tail e c is on text one h = elim h [
       (subst (λ l. IsWrong gap form a l c) same w.holds)
 ]
 
-wrong_at_end : (v : Version) (a b : List Row) (line rest tail : List ℕ) (e : InputEnd) (c : BookCause)
-    → a ≡ b → line ≡ end_line (length b) → rest ≡ line ++ 10 ∷ tail → Lacks 10 line
+wrong_at_end : (v : Version) (a b : List Row) (line rest tail : List ℕ) (e : InputEnd)
+    (c : BookCause) → a ≡ b → line ≡ end_line (length b) → rest ≡ line ++ 10 ∷ tail → Lacks 10 line
     → LineFault v a rest e c → ⊥
 wrong_at_end v a b line rest tail e c same is text one h = elim h [
   | inl cut ↦ not_cut rest line tail e c text cut

@@ -186,7 +186,10 @@ module _ (form : MomentForm) (line a : List ℕ) (tag_is : line ≡ 84 ∷ 32 �
             pub row_found : SpellsFrame g frame
                 → IsBookRow form (row_of_text first last n w frame)
                 × (line ≡ row_line form (row_of_text first last n w frame))
-            row_found h = (record { spelled = spelled h.spelled; frame = frame_of-is frame frame h.is }, lined h.spelled)
+            row_found h = (
+              record { spelled = spelled h.spelled; frame = frame_of-is frame frame h.is },
+              lined h.spelled,
+            )
 
             no_frame : SpellsBytes g frame → IsErr (frame_or_fault frame) → HasNoFrame form line
             no_frame h err = record {

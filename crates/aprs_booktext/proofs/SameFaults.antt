@@ -117,8 +117,8 @@ module _ (text : List ℕ) (e : InputEnd) (fault : BookFault) (h : FirstFault te
     ]
   ]
 
-pub memory_is : (text : List ℕ) (e : InputEnd) (fault : BookFault) → IsMemoryAt most_ahead text fault
-    → HasBookFault text e fault
+pub memory_is : (text : List ℕ) (e : InputEnd) (fault : BookFault)
+    → IsMemoryAt most_ahead text fault → HasBookFault text e fault
 memory_is text e fault m = record {
   lines = m.lines;
   line = m.line;
@@ -190,7 +190,8 @@ module _ (lines : List (List ℕ)) (line more : List ℕ) (e : InputEnd) (one : 
   -- the text stops in a line, or a line can't come after rows
   other : (c : BookCause) → ((c ≡ why.Ending) × BeginBook lines × (more ≡ []) × (e ≡ how.End))
       ⊎ ((v : Version) × (rows : List Row) × AreOfRows v rows lines × EndsLine more
-      × IsWrong (millis_of (gap_of v)) (form_of v) rows line c) → RestIsAtFault lines (line ++ more) e c
+      × IsWrong (millis_of (gap_of v)) (form_of v) rows line c)
+      → RestIsAtFault lines (line ++ more) e c
   other c (inl h) = cut_after c h.1 h.2 (h.0 ∙ sym (ap ending_cause h.3))
   other c (inr h) = inr (inl (record {
     version = h.0;

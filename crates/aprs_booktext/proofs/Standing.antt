@@ -5,8 +5,8 @@ use Rattle.aprs_io.specs.declared.input.InputEnd.TheVariants as ending
 use Rattle.aprs_booktext.specs.Lines.{Lacks}
 use Rattle.aprs_booktext.proofs.Cuts.{lacks_append}
 use Rattle.aprs_booktext.specs.FirstFault.{FirstFault}
-use Rattle.aprs_booktext.specs.Reader.{HoldsIn, HasReadLines, IsFault, JudgesLine, EndsWithRows, EndsWithSuch, StopsAt, AgreesWithEnding, gap_in, is_done, line_number, lines_read, may_end}
-use Rattle.aprs_booktext.specs.StoredRows.{IsNextLine, StopsAfter, rows_after}
+use Rattle.aprs_booktext.specs.Reader.{HoldsIn, HasReadLines, IsFault, JudgesLine, AgreesWithEnding, gap_in, is_done, line_number, lines_read, may_end}
+use Rattle.aprs_booktext.specs.ReadRows.{IsNextLine, StopsAfter}
 use Rattle.aprs_booktext.specs.Text.{row_line, end_line, lines_of, book_text, IsBookRow, IsBookRows}
 use Rattle.aprs_booktext.specs.RowLines.{ended_by_lf}
 use Rattle.aprs_booktext.specs.BookAnswers.{IsAnswerFor}
@@ -19,37 +19,6 @@ use Rattle.aprs_booktext.specs.declared.reader.Stage.{Stage}
 use Rattle.aprs_booktext.specs.declared.reader.Stage.TheVariants.{Header, Rows, Done}
 use Rattle.aprs_booktext.specs.declared.version.Version.{Version}
 use Rattle.aprs_booktext.proofs.BookRows.{rows_are, rows_sound}
-
--- ---- rows of a text, in a store
-
-pub EndsWithSuch-weaker : (before : List Row) (count : ℕ) (store : List Row)
-    (P Q : List Row → Type 0) → ((rows : List Row) → P rows → Q rows)
-    → EndsWithSuch before count store P → EndsWithSuch before count store Q
-EndsWithSuch-weaker before count store P Q step h =
-    record { rows = h.rows; has = h.has; holds = step h.rows h.holds }
-
--- so many rows are the last ones
-pub last_before : (before rows : List Row) (count : ℕ) (store : List Row)
-    → EndsWithRows before rows count store → 0 < count → last_or None store ≡ last_or None rows
-last_before before rows count store h some =
-    ap (last_or None) h.stored ∙ last_after before rows (omega (arith, some, h.counted)) None where
-      last_after : (before rows : List Row) → 0 < length rows → (o : Option Row)
-          → last_or o (before ++ rows) ≡ last_or None rows
-      last_after [] [] some o = absurd (omega (arith, some))
-      last_after [] (x ∷ rows) some o = refl
-      last_after (b ∷ before) rows some o = last_after before rows some (Some b)
-
--- the last one, if there is one
-pub last_found : (rows : List Row) (o : Option Row) → IfSome o (λ x. last_or None rows ≡ Some x)
-    → IfNone o (rows ≡ []) → last_or None rows ≡ o
-last_found rows None some none = ap (last_or None) none
-last_found rows (Some x) some none = some
-
--- they are what came after those from before
-pub rows_stored : (before rows : List Row) (count : ℕ) (store : List Row)
-    → EndsWithRows before rows count store → rows_after before store ≡ rows
-rows_stored before rows count store h =
-    ap (drop (length before)) h.stored ∙ drop-append_seam before rows
 
 -- ---- one more line
 
@@ -449,20 +418,9 @@ ending_not_memory ending.End = λ x. cc
 ending_not_memory ending.Read = λ x. cc
 ending_not_memory ending.TooLong = λ x. cc
 
-pub ending_stop : (e : InputEnd) (line : ℕ) (before : List Row) (count : ℕ) (store : List Row)
-    (P : List Row → Type 0) → EndsWithSuch before count store P
-    → StopsAt before (record { line = line; cause = ending_cause e }) count store
-ending_stop e line before count store P s =
-    record { rows = s.rows; has = s.has; holds = λ x. absurd (ending_not_memory e x) }
-
--- rows that were read into a store
-pub stopped_after : (before : List Row) (f : BookFault) (count : ℕ) (store : List Row)
-    → StopsAt before f count store → StopsAfter f before store
-stopped_after before f count store s e =
-    let rows = rows_stored before s.rows count store s.has in (
-      s.has.stored ∙ ap (λ (l : List Row). before ++ l) (sym rows),
-      subst (IsNextLine f.line) (sym rows) (s.holds e),
-    )
+pub ending_stop : (e : InputEnd) (line : ℕ) (rows : List Row)
+    → StopsAfter (record { line = line; cause = ending_cause e }) rows
+ending_stop e line rows is = absurd (ending_not_memory e is)
 
 pub ends_err : {A : Type 0} (e : InputEnd) (r : Result A BookFault) → AgreesWithEnding e r
     → IfErr r (λ f. f.cause ≡ ending_cause e)

@@ -40,7 +40,8 @@ AreReadBack = (v : Version) (rows : List Row) → IsBookRows v rows
     → (limit : ℕ) → limit ≤ most_input
     → length (book_text v rows) ≤ limit → (after : Option (List ℕ))
     → (answer : Result BookValue BookFault) → ReadsBook limit [] (book_text v rows) after answer
-    → IfErr answer (λ fault. fault.cause ≢ why.Read) → IsBookOrMemory answer (book_of_version v rows)
+    → IfErr answer (λ fault. fault.cause ≢ why.Read)
+    → IsBookOrMemory answer (book_of_version v rows)
 
 -- A text has at most one fault but Memory, for each way of ending.
 abbrev pub HaveOneBookFault : Type 0

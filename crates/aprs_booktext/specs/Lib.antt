@@ -8,9 +8,9 @@ pub mod Lines
 pub mod RowLines
 pub mod Reader
 pub mod Reading
+pub mod ReadRows
 pub mod RowFields
 pub mod Seconds
-pub mod StoredRows
 pub mod Text
 pub mod TextFault
 pub mod Version

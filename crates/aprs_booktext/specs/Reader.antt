@@ -8,7 +8,6 @@ use Rattle.aprs_rows.specs.Refusal.{refusal}
 use Rattle.aprs_booktext.specs.FirstFault.{FirstFault, IsMemoryAt, IsNoHeader}
 use Rattle.aprs_booktext.specs.TextFault.{IsWrong, is_end}
 use Rattle.aprs_booktext.specs.Lines.{Lacks}
-use Rattle.aprs_booktext.specs.StoredRows.{IsNextLine}
 use Rattle.aprs_booktext.specs.Text.{row_line, end_line, lines_of, IsBookRow, IsBookRows}
 use Rattle.aprs_log.specs.LogText.{text_of_lines}
 use Rattle.aprs_booktext.specs.Fault.{ending_cause}
@@ -106,44 +105,12 @@ JudgesLine Header answer old line new = JudgesHeader answer old line new
 JudgesLine (Rows v) answer old line new = JudgesRowLine v answer old line new
 JudgesLine (Done v) answer old line new = (answer ≡ Err why.After) × (new ≡ old)
 
--- ---- the rows of a text, in a store
-
--- The store has those rows from before the text, and then these, of which there are so many.
-pub record EndsWithRows (before rows : List Row) (count : ℕ) (store : List Row) : Type 0 where
-  pub stored : store ≡ before ++ rows
-  pub counted : count ≡ length rows
-
--- The store has those rows from before the text, and then so many rows of which P holds.
-pub record EndsWithSuch (before : List Row) (count : ℕ) (store : List Row) (P : List Row → Type 0)
-    : Type 0 where
-  pub rows : List Row
-  pub has : EndsWithRows before rows count store
-  pub holds : P rows
-
--- The store has those rows from before the text, and then so many. Where an allocation failed, the
--- fault is in the line after theirs.
-abbrev pub StopsAt : List Row → BookFault → ℕ → List Row → Type 0
-StopsAt before fault count store = EndsWithSuch before count store
-    (λ rows. fault.cause ≡ why.Memory → IsNextLine fault.line rows)
-
--- A line adds a row to the store, after these rows of its text: it spells one that nothing refuses;
--- or an allocation failed, or the line is wrong.
-abbrev pub AddsRow : Version → Result (Unit {0}) BookCause → List Row → List ℕ → List Row
-    → List Row → Type 0
-AddsRow v (Ok u) rows line old new = (x : Row) × IsBookRow (form_of v) x
-    × (line ≡ row_line (form_of v) x) × (new ≡ old ++ x ∷ [])
-    × (refusal (millis_of (gap_of v)) rows x ≡ None)
-AddsRow v (Err cause) rows line old new = ((cause ≡ why.Memory)
-    ⊎ (is_end line ≡ false → IsWrong (millis_of (gap_of v)) (form_of v) rows line cause))
-    × (new ≡ old)
-
 -- ---- a reader
 
--- How many rows the reader has read, and how many bytes of a line it keeps, together.
-abbrev pub read_size : {A : Type 0} → BookReader A → ℕ
-read_size reader = reader.count + length reader.line.items
+-- How many rows there are, and how many bytes of a line the reader keeps, together.
+abbrev pub read_size : {A : Type 0} → BookReader A → List Row → ℕ
+read_size reader rows = length rows + length reader.line.items
 
--- The reader has read this text, and its rows are in the store, after those from before it.
-abbrev pub HasRead : {A : Type 0} → List Row → BookReader A → List Row → List ℕ → Type 0
-HasRead before reader store text = EndsWithSuch before reader.count store
-    (λ rows. HasReadLines reader.stage rows reader.line.items text)
+-- The reader has read this text, which has these rows.
+abbrev pub HasRead : {A : Type 0} → BookReader A → List Row → List ℕ → Type 0
+HasRead reader rows text = HasReadLines reader.stage rows reader.line.items text

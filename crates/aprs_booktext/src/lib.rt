@@ -13,7 +13,7 @@ mod row_buffers;
 mod row_line;
 mod version;
 mod write;
-mod write_transmissions;
+mod write_book_rows;
 mod written_row;
 
 pub use example::{
@@ -27,4 +27,4 @@ pub use laws::{
 pub use read::{read_book, read_rows};
 pub use version::Version;
 pub use write::write_book;
-pub use write_transmissions::write_rows;
+pub use write_book_rows::write_rows;

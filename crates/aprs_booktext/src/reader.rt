@@ -1,14 +1,11 @@
 //! A book's text, while it is read.
-ghost use Rattle.std.specs.Prelude.{◌≡◌, ◌≢◌, ◌+◌, ◌≤◌, ◌++◌, ◌∷◌, ℕ, [], true, false, List, length, OnOk, OnErr, MatchResult, IfErr, IfNone, IfOk};
+ghost use Rattle.std.specs.Prelude.{◌≡◌, ◌≢◌, ◌+◌, ◌≤◌, ◌++◌, ◌∷◌, ℕ, [], true, false, List, length, OnOk, MatchResult, IfErr, IfOk};
 ghost use Rattle.aprs_io.specs.Input.{most_input};
-ghost use Rattle.aprs_laws.specs.Gap.{millis_of};
 ghost use Rattle.aprs_laws.specs.Row.{Row};
-ghost use Rattle.aprs_laws.specs.Sound.{IsSoundRow};
-ghost use Rattle.aprs_rows.specs.Refusal.{refusal};
 ghost use Rattle.aprs_booktext.specs.BookAnswers.{IsAnswerFor};
 ghost use Rattle.aprs_booktext.specs.Fault.{ending_cause};
 ghost use Rattle.aprs_booktext.specs.Lines.{Lacks};
-ghost use Rattle.aprs_booktext.specs.StoredRows.{book_read};
+ghost use Rattle.aprs_booktext.specs.ReadRows.{book_read, StopsAfter};
 ghost use Rattle.aprs_booktext.specs.Text.{end_line};
 ghost use Rattle.aprs_booktext.specs.Reader as Spec;
 
@@ -18,9 +15,9 @@ use crate::fault::{BookCause, BookFault};
 use crate::row_buffers::RowBuffers;
 use crate::row_line::read_row;
 use crate::version::Version;
-use aprs_book::{Gap, RowCause};
+use aprs_book::Gap;
 use aprs_io::InputEnd;
-use aprs_rows::{RowStore, RowView};
+use aprs_rows::PackedRows;
 use std::alloc::Allocator;
 
 /// Which line of a book's text comes next.
@@ -34,28 +31,25 @@ pub enum Stage {
     Done(Version),
 }
 
-/// What was read of a book's text: whole lines, and the beginning of the next line. The rows of the
-/// lines are the last rows of a store, as many as `count` says.
+/// What was read of a book's text beside its rows: how far its whole lines went, and the beginning
+/// of the next line.
 #[derive(Drop)]
 pub struct BookReader<A: Allocator> {
-    count: usize,
     line: Vec<u8, A>,
     stage: Stage,
-    scratch: RowBuffers,
+    buffers: RowBuffers,
 }
 
 impl<A: Allocator + Copy> BookReader<A> {
     /// A reader that has read nothing of a text.
     pub fn new(alloc: A) -> BookReader<A>
-        // Whatever the store has, no row of it is of this text.
-        ensures stands { (store : List Row) → Spec.HasRead store result store [] }
-        ensures empty { Spec.read_size result ≡ 0 }
+        ensures stands { Spec.HasRead result [] [] }
+        ensures empty { Spec.read_size result [] ≡ 0 }
     {
         BookReader {
-            count: 0,
             line: Vec::new(alloc),
             stage: Stage::Header,
-            scratch: RowBuffers::new(),
+            buffers: RowBuffers::new(),
         }
     }
 
@@ -77,80 +71,75 @@ impl<A: Allocator + Copy> BookReader<A> {
     }
 
     /// Reads the next piece of the text: puts the rows of the lines that end in it after those of
-    /// the store, and keeps the beginning of the next line. Requires that the number of rows read
-    /// so far, the bytes kept of a line and those of the piece are together at most `MAX_INPUT`
+    /// the lines before, and keeps the beginning of the next line. Requires that the number of
+    /// rows, the bytes kept of a line and those of the piece are together at most `MAX_INPUT`
     /// (1,073,741,824). Fails with the text's first fault where that is in what was read so far,
     /// never with `Read` or `TooLong`, and with `Memory` in the line in which an allocation failed;
-    /// after that the rows of the lines before that one are in the store.
-    pub fn feed(&mut self, store: &mut RowStore<A>, piece: &[u8]) -> Result<(), BookFault>
-        requires { Spec.read_size self.old + length piece.now ≤ most_input }
+    /// after that the rows are those of the lines before that one.
+    pub fn feed(&mut self, rows: &mut PackedRows<A>, piece: &[u8]) -> Result<(), BookFault>
+        requires { Spec.read_size self.old rows.old + length piece.now ≤ most_input }
 
         // If the text `t` was read before, `t` and the piece are read now.
-        ensures stands { OnOk result ((before : List Row) (t : List ℕ)
-            → Spec.HasRead before self.old store.old t
-            → Spec.HasRead before self.new store.new (t ++ piece.now)) }
-        ensures size { OnOk result
-            (Spec.read_size self.new ≤ Spec.read_size self.old + length piece.now) }
+        ensures stands { OnOk result ((t : List ℕ) → Spec.HasRead self.old rows.old t
+            → Spec.HasRead self.new rows.new (t ++ piece.now)) }
+        ensures size { OnOk result (Spec.read_size self.new rows.new
+            ≤ Spec.read_size self.old rows.old + length piece.now) }
 
         // The fault is that of the text, whatever comes after; or an allocation failed.
-        ensures fault { IfErr result (λ fault. (before : List Row) (t : List ℕ)
-            → Spec.HasRead before self.old store.old t
+        ensures fault { IfErr result (λ fault. (t : List ℕ) → Spec.HasRead self.old rows.old t
             → Spec.IsFault (length piece.now) fault (t ++ piece.now)) }
         ensures cause { IfErr result (λ fault. Spec.IsOfText fault.cause) }
         // Where an allocation failed, it is in the line after those that were read.
-        ensures rows { IfErr result (λ fault. (before : List Row) (t : List ℕ)
-            → Spec.HasRead before self.old store.old t
-            → Spec.StopsAt before fault self.new.count store.new) }
+        ensures rows { IfErr result (λ fault. (t : List ℕ) → Spec.HasRead self.old rows.old t
+            → StopsAfter fault rows.new) }
     {
         let mut rest = piece;
         while let Some((part, after)) = cut(rest, b'\n') {
-            self.end_line(store, part)?;
+            self.end_line(rows, part)?;
             rest = after;
         }
-        self.append(rest)
+        self.append(rows, rest)
     }
 
     /// Puts bytes, none of them an LF, after those that are kept of the line. Fails with `After`
     /// where there are any and the last line was read, and with `Memory` where an allocation
     /// failed.
-    fn append(&mut self, bytes: &[u8]) -> Result<(), BookFault>
-        requires { Spec.read_size self.old ≤ most_input }
+    fn append(&mut self, rows: &PackedRows<A>, bytes: &[u8]) -> Result<(), BookFault>
+        requires { Spec.read_size self.old rows.now ≤ most_input }
 
         // If the text `t` was read before, `t` and the bytes are read now.
-        ensures stands { OnOk result ((before store : List Row) (t : List ℕ)
-            → Spec.HasRead before self.old store t → Lacks 10 bytes.now
-            → Spec.HasRead before self.new store (t ++ bytes.now)) }
-        ensures size { OnOk result
-            (Spec.read_size self.new ≤ Spec.read_size self.old + length bytes.now) }
+        ensures stands { OnOk result ((t : List ℕ) → Spec.HasRead self.old rows.now t
+            → Lacks 10 bytes.now → Spec.HasRead self.new rows.now (t ++ bytes.now)) }
+        ensures size { OnOk result (Spec.read_size self.new rows.now
+            ≤ Spec.read_size self.old rows.now + length bytes.now) }
 
         // The fault is that of the text, whatever comes after; or an allocation failed.
-        ensures fault { IfErr result (λ fault. (before store : List Row) (t more : List ℕ)
-            → Spec.HasRead before self.old store t
+        ensures fault { IfErr result (λ fault. (t more : List ℕ)
+            → Spec.HasRead self.old rows.now t
             → Spec.IsFault (length bytes.now + length more) fault ((t ++ bytes.now) ++ more)) }
         ensures cause { IfErr result (λ fault. Spec.IsOfText fault.cause) }
-        ensures rows { IfErr result (λ fault. (before store : List Row) (t : List ℕ)
-            → Spec.HasRead before self.old store t
-            → Spec.StopsAt before fault self.new.count store) }
+        ensures rows { IfErr result (λ fault. (t : List ℕ) → Spec.HasRead self.old rows.now t
+            → StopsAfter fault rows.now) }
     {
         if is_done(self.stage) {
-            return self.refuse_after_end(bytes);
+            return self.refuse_after_end(rows.len(), bytes);
         }
         match self.line.extend_from_slice(bytes) {
             Ok(()) => Ok(()),
-            Err(_) => Err(self.fault(BookCause::Memory)),
+            Err(_) => Err(self.fault(rows.len(), BookCause::Memory)),
         }
     }
 
     /// `Ok` where there are no bytes after the last line, and else the fault `After`.
-    fn refuse_after_end(&self, bytes: &[u8]) -> Result<(), BookFault>
-        requires few { self.now.count ≤ most_input }
+    fn refuse_after_end(&self, count: usize, bytes: &[u8]) -> Result<(), BookFault>
+        requires few { count ≤ most_input }
         requires done { Spec.is_done self.now.stage ≡ true }
 
         ensures ok { OnOk result (bytes.now ≡ []) }
 
         // The fault is that of the text, whatever comes after.
-        ensures fault { IfErr result (λ fault. (before store : List Row) (t more : List ℕ)
-            → Spec.HasRead before self.now store t
+        ensures fault { IfErr result (λ fault. (rows : List Row) (t more : List ℕ)
+            → count ≡ length rows → Spec.HasRead self.now rows t
             → Spec.IsFault (length bytes.now + length more) fault ((t ++ bytes.now) ++ more)) }
         ensures cause { IfErr result (λ fault. Spec.IsOfText fault.cause) }
         ensures after { IfErr result (λ fault. fault.cause ≡ BookCause.After) }
@@ -158,157 +147,152 @@ impl<A: Allocator + Copy> BookReader<A> {
         if bytes.is_empty() {
             return Ok(());
         }
-        Err(self.fault(BookCause::After))
+        Err(self.fault(count, BookCause::After))
     }
 
     /// Judges the line that is the kept bytes and then `part`, and puts its row, if it has one,
-    /// after those of the store. Where `part` is the whole line, it isn't copied first. Fails where
-    /// the line is wrong, or where an allocation failed.
-    fn end_line(&mut self, store: &mut RowStore<A>, part: &[u8]) -> Result<(), BookFault>
-        requires { Spec.read_size self.old + length part.now ≤ most_input }
+    /// after the others. Where `part` is the whole line, it isn't copied first. Fails where the
+    /// line is wrong, or where an allocation failed.
+    fn end_line(&mut self, rows: &mut PackedRows<A>, part: &[u8]) -> Result<(), BookFault>
+        requires { Spec.read_size self.old rows.old + length part.now ≤ most_input }
 
         // If the text `t` was read before, `t`, `part` and an LF are read now.
-        ensures stands { OnOk result ((before : List Row) (t : List ℕ)
-            → Spec.HasRead before self.old store.old t → Lacks 10 part.now
-            → Spec.HasRead before self.new store.new ((t ++ part.now) ++ 10 ∷ [])) }
-        ensures size { OnOk result
-            (Spec.read_size self.new ≤ Spec.read_size self.old + length part.now + 1) }
+        ensures stands { OnOk result ((t : List ℕ) → Spec.HasRead self.old rows.old t
+            → Lacks 10 part.now → Spec.HasRead self.new rows.new ((t ++ part.now) ++ 10 ∷ [])) }
+        ensures size { OnOk result (Spec.read_size self.new rows.new
+            ≤ Spec.read_size self.old rows.old + length part.now + 1) }
 
         // The fault is that of the text, whatever comes after; or an allocation failed.
-        ensures fault { IfErr result (λ fault. (before : List Row) (t more : List ℕ)
-            → Spec.HasRead before self.old store.old t → Lacks 10 part.now
+        ensures fault { IfErr result (λ fault. (t more : List ℕ)
+            → Spec.HasRead self.old rows.old t → Lacks 10 part.now
             → Spec.IsFault (length part.now + (length more + 1)) fault
             ((t ++ part.now) ++ 10 ∷ more)) }
         ensures cause { IfErr result (λ fault. Spec.IsOfText fault.cause) }
-        ensures rows { IfErr result (λ fault. (before : List Row) (t : List ℕ)
-            → Spec.HasRead before self.old store.old t → Lacks 10 part.now
-            → Spec.StopsAt before fault self.new.count store.new) }
+        ensures rows { IfErr result (λ fault. (t : List ℕ) → Spec.HasRead self.old rows.old t
+            → Lacks 10 part.now → StopsAfter fault rows.new) }
     {
         if self.line.is_empty() && !is_done(self.stage) {
-            return self.take_line(store, part);
+            return self.take_line(rows, part);
         }
-        self.append(part)?;
-        self.take_kept_line(store)
+        self.append(rows, part)?;
+        self.take_kept_line(rows)
     }
 
     /// Judges a whole line, where nothing is kept and the last line wasn't read, and puts its row,
-    /// if it has one, after those of the store. Fails where the line is wrong, or where an
-    /// allocation failed.
-    fn take_line(&mut self, store: &mut RowStore<A>, line: &[u8]) -> Result<(), BookFault>
-        requires size { Spec.read_size self.old + length line.now ≤ most_input }
+    /// if it has one, after the others. Fails where the line is wrong, or where an allocation
+    /// failed.
+    fn take_line(&mut self, rows: &mut PackedRows<A>, line: &[u8]) -> Result<(), BookFault>
+        requires size { Spec.read_size self.old rows.old + length line.now ≤ most_input }
         requires none { self.old.line.items ≡ [] }
         requires going { Spec.is_done self.old.stage ≡ false }
 
         // If the text `t` was read before, `t`, the line and an LF are read now.
-        ensures stands { OnOk result ((before : List Row) (t : List ℕ)
-            → Spec.HasRead before self.old store.old t → Lacks 10 line.now
-            → Spec.HasRead before self.new store.new ((t ++ line.now) ++ 10 ∷ [])) }
-        ensures size { OnOk result (Spec.read_size self.new ≤ Spec.read_size self.old + 1) }
+        ensures stands { OnOk result ((t : List ℕ) → Spec.HasRead self.old rows.old t
+            → Lacks 10 line.now → Spec.HasRead self.new rows.new ((t ++ line.now) ++ 10 ∷ [])) }
+        ensures size { OnOk result
+            (Spec.read_size self.new rows.new ≤ Spec.read_size self.old rows.old + 1) }
 
         // The fault is that of the text, whatever comes after; or an allocation failed.
-        ensures fault { IfErr result (λ fault. (before : List Row) (t more : List ℕ)
-            → Spec.HasRead before self.old store.old t → Lacks 10 line.now
+        ensures fault { IfErr result (λ fault. (t more : List ℕ)
+            → Spec.HasRead self.old rows.old t → Lacks 10 line.now
             → Spec.IsFault (length more + 1) fault ((t ++ line.now) ++ 10 ∷ more)) }
         ensures cause { IfErr result (λ fault. Spec.IsOfText fault.cause) }
-        ensures rows { IfErr result (λ fault. (before : List Row) (t : List ℕ)
-            → Spec.HasRead before self.old store.old t
-            → Spec.StopsAt before fault self.new.count store.new) }
+        ensures rows { IfErr result (λ fault. (t : List ℕ) → Spec.HasRead self.old rows.old t
+            → StopsAfter fault rows.new) }
     {
-        match judge(self.stage, store, &mut self.scratch, &mut self.count, line) {
+        match judge_line(self.stage, rows, &mut self.buffers, line) {
             Ok(stage) => {
                 self.stage = stage;
                 Ok(())
             }
-            Err(cause) => Err(self.fault(cause)),
+            Err(cause) => Err(self.fault(rows.len(), cause)),
         }
     }
 
-    /// Judges the kept bytes as a whole line, puts its row, if it has one, after those of the
-    /// store, and then keeps nothing. Fails where the line is wrong, or where an allocation failed.
-    fn take_kept_line(&mut self, store: &mut RowStore<A>) -> Result<(), BookFault>
-        requires { Spec.read_size self.old ≤ most_input }
+    /// Judges the kept bytes as a whole line, puts its row, if it has one, after the others, and
+    /// then keeps nothing. Fails where the line is wrong, or where an allocation failed.
+    fn take_kept_line(&mut self, rows: &mut PackedRows<A>) -> Result<(), BookFault>
+        requires { Spec.read_size self.old rows.old ≤ most_input }
 
         // If the text `t` was read before, `t` and an LF are read now.
-        ensures stands { OnOk result ((before : List Row) (t : List ℕ)
-            → Spec.HasRead before self.old store.old t
-            → Spec.HasRead before self.new store.new (t ++ 10 ∷ [])) }
-        ensures size { OnOk result (Spec.read_size self.new ≤ Spec.read_size self.old + 1) }
+        ensures stands { OnOk result ((t : List ℕ) → Spec.HasRead self.old rows.old t
+            → Spec.HasRead self.new rows.new (t ++ 10 ∷ [])) }
+        ensures size { OnOk result
+            (Spec.read_size self.new rows.new ≤ Spec.read_size self.old rows.old + 1) }
 
         // The fault is that of the text, whatever comes after; or an allocation failed.
-        ensures fault { IfErr result (λ fault. (before : List Row) (t more : List ℕ)
-            → Spec.HasRead before self.old store.old t
+        ensures fault { IfErr result (λ fault. (t more : List ℕ)
+            → Spec.HasRead self.old rows.old t
             → Spec.IsFault (length more + 1) fault (t ++ 10 ∷ more)) }
         ensures cause { IfErr result (λ fault. Spec.IsOfText fault.cause) }
-        ensures rows { IfErr result (λ fault. (before : List Row) (t : List ℕ)
-            → Spec.HasRead before self.old store.old t
-            → Spec.StopsAt before fault self.new.count store.new) }
+        ensures rows { IfErr result (λ fault. (t : List ℕ) → Spec.HasRead self.old rows.old t
+            → StopsAfter fault rows.new) }
     {
-        let line = self.line.as_slice();
-        match judge(self.stage, store, &mut self.scratch, &mut self.count, line) {
+        match judge_line(self.stage, rows, &mut self.buffers, self.line.as_slice()) {
             Ok(stage) => {
                 self.stage = stage;
                 self.line.clear();
                 Ok(())
             }
-            Err(cause) => Err(self.fault(cause)),
+            Err(cause) => Err(self.fault(rows.len(), cause)),
         }
     }
 
     /// The gap of the text's book, where its last line was read and the input ended after it
-    /// (`End`). Otherwise the fault of a text that ends in this way, in the line that comes next.
-    pub fn finish(&self, ending: InputEnd) -> Result<Gap, BookFault>
-        requires { self.now.count ≤ most_input }
+    /// (`End`). Otherwise the fault of a text that ends in this way, in the line that comes after
+    /// so many rows.
+    pub fn finish(&self, count: usize, ending: InputEnd) -> Result<Gap, BookFault>
+        requires { count ≤ most_input }
         // Where `t` is the text that was read, this is the answer for it with this ending.
-        ensures reads { (before store : List Row) (t : List ℕ)
-            → Spec.HasRead before self.now store t
-            → IsAnswerFor (book_read result before store) t ending }
+        ensures reads { (rows : List Row) (t : List ℕ) → count ≡ length rows
+            → Spec.HasRead self.now rows t → IsAnswerFor (book_read result rows) t ending }
         ensures ending { Spec.AgreesWithEnding ending result }
         ensures gap { IfOk result (λ gap. gap ≡ Spec.gap_in self.now.stage) }
     {
         if may_end(self.stage, ending) {
             return Ok(self.gap());
         }
-        Err(self.fault_of_ending(ending))
+        Err(self.fault_of_ending(count, ending))
     }
 
     /// The fault of a text that ends in this way where a book's text may not end: `Ending`, `Read`
-    /// or `TooLong`, in the line that comes next.
-    pub fn fault_of_ending(&self, ending: InputEnd) -> BookFault
-        requires { self.now.count ≤ most_input }
+    /// or `TooLong`, in the line that comes after so many rows.
+    pub fn fault_of_ending(&self, count: usize, ending: InputEnd) -> BookFault
+        requires { count ≤ most_input }
         ensures { result ≡ record {
-          line = Spec.line_number self.now.stage self.now.count;
+          line = Spec.line_number self.now.stage count;
           cause = ending_cause ending;
         } }
     {
-        self.fault(ending_cause(ending))
+        self.fault(count, ending_cause(ending))
     }
 
-    /// The fault where memory is refused after the last line was read. It is in that line, which
-    /// comes after the header and the rows.
-    pub fn memory_fault_at_last(&self) -> BookFault
-        requires { self.now.count ≤ most_input }
-        ensures { result ≡ record { line = self.now.count + 2; cause = BookCause.Memory } }
-    {
-        BookFault {
-            line: self.count as u64 + 2,
-            cause: BookCause::Memory,
-        }
-    }
-
-    /// A fault of this cause in the line that comes next. Its number counts from 1 and goes by the
-    /// stage: first the header, then the rows and the last line, then what follows that.
-    pub fn fault(&self, cause: BookCause) -> BookFault
-        requires { self.now.count ≤ most_input }
+    /// A fault of this cause in the line that comes after so many rows. Its number counts from 1
+    /// and goes by the stage: first the header, then the rows and the last line, then what follows
+    /// that.
+    pub fn fault(&self, count: usize, cause: BookCause) -> BookFault
+        requires { count ≤ most_input }
         ensures { result
-            ≡ record { line = Spec.line_number self.now.stage self.now.count; cause = cause } }
+            ≡ record { line = Spec.line_number self.now.stage count; cause = cause } }
     {
-        let rows = self.count as u64;
         let line = match self.stage {
             Stage::Header => 1,
-            Stage::Rows(_) => rows + 2,
-            Stage::Done(_) => rows + 3,
+            Stage::Rows(_) => count as u64 + 2,
+            Stage::Done(_) => count as u64 + 3,
         };
         BookFault { line, cause }
+    }
+}
+
+/// The fault where memory is refused after the last line was read, which comes after the header and
+/// so many rows. It is in that line.
+pub fn memory_fault_at_last(count: usize) -> BookFault
+    requires { count ≤ most_input }
+    ensures { result ≡ record { line = count + 2; cause = BookCause.Memory } }
+{
+    BookFault {
+        line: count as u64 + 2,
+        cause: BookCause::Memory,
     }
 }
 
@@ -330,33 +314,23 @@ fn may_end(stage: Stage, ending: InputEnd) -> bool
     is_done(stage) && ending == InputEnd::End
 }
 
-/// Judges a whole line at this stage, and returns the stage after it. The last `count` rows of the
-/// store are those of this text: a row's line puts its row after them, and `count` rises by 1.
-/// Fails with the cause for which the line is wrong, or with `Memory` where an allocation failed,
-/// and then the store and `count` are as before.
-fn judge<A: Allocator + Copy>(
+/// Judges a whole line at this stage, after the lines of these rows, and returns the stage after
+/// it. A row's line puts its row after the others. Fails with the cause for which the line is
+/// wrong, or with `Memory` where an allocation failed, and then the rows are as before.
+fn judge_line<A: Allocator + Copy>(
     stage: Stage,
-    store: &mut RowStore<A>,
-    scratch: &mut RowBuffers,
-    count: &mut usize,
+    rows: &mut PackedRows<A>,
+    buffers: &mut RowBuffers,
     line: &[u8],
 ) -> Result<Stage, BookCause>
-    requires { count.old + length line.now ≤ most_input }
-
-    // Where the store is `before` and then `rows`, the `count` rows of this text, the line is
-    // judged after those rows.
-    ensures judged { (before rows : List Row) → Spec.EndsWithRows before rows count.old store.old
-        → Spec.EndsWithSuch before count.new store.new
-        (Spec.JudgesLine stage result rows line.now) }
-    ensures count { count.new ≤ count.old + 1 }
-
+    requires { length line.now ≤ most_input }
+    ensures judged { Spec.JudgesLine stage result rows.old line.now rows.new }
+    ensures count { length rows.new ≤ length rows.old + 1 }
     ensures cause { IfErr result Spec.IsOfText }
-
-    ensures unchanged { OnErr result (count.new ≡ count.old) }
 {
     match stage {
         Stage::Header => judge_header(line),
-        Stage::Rows(version) => judge_line(store, scratch, count, version, line),
+        Stage::Rows(version) => judge_row_line(rows, buffers, version, line),
         Stage::Done(_) => Err(BookCause::After),
     }
 }
@@ -373,96 +347,47 @@ fn judge_header(line: &[u8]) -> Result<Stage, BookCause>
     }
 }
 
-/// Judges a line after the header in a text of this version, and returns the stage after it: `Done`
-/// after the last line, else `Rows`. The last `count` rows of the store are those of this text: a
-/// row's line puts its row after them, and `count` rises by 1. Fails with the cause for which the
-/// line is wrong, or with `Memory` where an allocation failed, and then the store and `count` are
-/// as before.
-fn judge_line<A: Allocator + Copy>(
-    store: &mut RowStore<A>,
-    scratch: &mut RowBuffers,
-    count: &mut usize,
+/// Judges a line after those of the header and these rows in a text of this version, and returns
+/// the stage after it: `Done` after the last line, else `Rows`. A row's line puts its row after the
+/// others. Fails with the cause for which the line is wrong, or with `Memory` where an allocation
+/// failed, and then the rows are as before.
+fn judge_row_line<A: Allocator + Copy>(
+    rows: &mut PackedRows<A>,
+    buffers: &mut RowBuffers,
     version: Version,
     line: &[u8],
 ) -> Result<Stage, BookCause>
-    // Each row that was counted took bytes of the input, and so does this line.
-    requires { count.old + length line.now ≤ most_input }
-
-    // Where the store is `before` and then `rows`, the `count` rows of this text, the line is
-    // judged after those rows.
-    ensures judged { (before rows : List Row) → Spec.EndsWithRows before rows count.old store.old
-        → Spec.EndsWithSuch before count.new store.new
-        (Spec.JudgesRowLine version result rows line.now) }
-    ensures count { count.new ≤ count.old + 1 }
-
+    requires { length line.now ≤ most_input }
+    ensures judged { Spec.JudgesRowLine version result rows.old line.now rows.new }
+    ensures count { length rows.new ≤ length rows.old + 1 }
     ensures cause { IfErr result Spec.IsOfText }
-
-    ensures unchanged { OnErr result (count.new ≡ count.old) }
 {
     if line.starts_with(b"END") {
-        return judge_end(line, version, *count);
+        return judge_end(line, version, rows.len());
     }
-    add_row(store, scratch, *count, &version, line)?;
-    *count += 1;
-    Ok(Stage::Rows(version))
-}
-
-/// The stage `Done` of this version, where `line` is the last line after this many rows. Fails with
-/// `Ending` where it isn't.
-fn judge_end(line: &[u8], version: Version, rows: usize) -> Result<Stage, BookCause>
-    ensures { MatchResult result
-        (λ stage. (stage ≡ Stage.Done version) × (line.now ≡ end_line rows))
-        (λ cause. (cause ≡ BookCause.Ending) × (line.now ≢ end_line rows)) }
-{
-    if line == end_line(rows).as_slice() {
-        Ok(Stage::Done(version))
-    } else {
-        Err(BookCause::Ending)
-    }
-}
-
-/// Puts the row that `line` spells at the end of the store, whose last `count` rows are those of
-/// this text so far. Fails, with the store as before, where the line spells no row, where the row
-/// may not follow those of its text, or where an allocation failed.
-fn add_row<A: Allocator + Copy>(
-    store: &mut RowStore<A>,
-    scratch: &mut RowBuffers,
-    count: usize,
-    version: &Version,
-    line: &[u8],
-) -> Result<(), BookCause>
-    requires { length line.now ≤ most_input }
-    ensures added { (before rows : List Row) → Spec.EndsWithRows before rows count store.old
-        → Spec.AddsRow version.now result rows line.now store.old store.new }
-    ensures cause { IfErr result Spec.IsOfText }
-{
-    let row = read_row(scratch, version.form(), line)?;
-    if let Some(cause) = refusal(store, count, version.gap(), &row) {
+    let row = read_row(buffers, version.form(), line)?;
+    let last = rows.last();
+    if let Some(cause) = row.refusal_after(last.as_ref(), version.gap()) {
         return Err(BookCause::from(cause));
     }
-    match store.push(&row) {
-        Ok(()) => Ok(()),
+    match rows.push(&row) {
+        Ok(()) => Ok(Stage::Rows(version)),
         Err(_) => Err(BookCause::Memory),
     }
 }
 
-/// The first cause for which a row may not follow the last `count` rows of the store, which are
-/// those of its text, or `None` where it may.
-fn refusal<A: Allocator + Copy>(
-    store: &RowStore<A>,
-    count: usize,
-    gap: Gap,
-    row: &RowView<'_>,
-) -> Option<RowCause>
-    ensures cause { (before rows : List Row) → Spec.EndsWithRows before rows count store.now
-        → result ≡ refusal (millis_of gap) rows row.now }
-    ensures sound { IfNone result (IsSoundRow row.now) }
+/// The stage `Done` of this version, where `line` is the last line after so many rows. Fails with
+/// `Ending` where it isn't.
+fn judge_end(line: &[u8], version: Version, count: usize) -> Result<Stage, BookCause>
+    ensures { MatchResult result
+        (λ stage. (stage ≡ Stage.Done version) × (line.now ≡ end_line count))
+        (λ cause. (cause ≡ BookCause.Ending) × (line.now ≢ end_line count)) }
 {
-    if count == 0 {
-        return row.refusal_after(None, gap);
+    if line == end_line(count).as_slice() {
+        Ok(Stage::Done(version))
+    } else {
+        Err(BookCause::Ending)
     }
-    let last = store.last();
-    row.refusal_after(last.as_ref(), gap)
 }
 
 /// The cause of the fault where a text may not end in the way in which its input ended.

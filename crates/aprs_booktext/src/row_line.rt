@@ -17,9 +17,9 @@ use aprs_rows::RowView;
 
 /// The row that a line spells, with its moments in this form. Fails with `RowSyntax` where the line
 /// spells no row, and with `Frame` where it spells one but for its frame, whose bytes aren't a UI
-/// frame. The frame is read into `scratch`, of which the row borrows it.
+/// frame. The frame is read into `buffers`, of which the row borrows it.
 pub fn read_row<'l>(
-    scratch: &'l mut RowBuffers,
+    buffers: &'l mut RowBuffers,
     form: MomentForm,
     line: &'l [u8],
 ) -> Result<RowView<'l>, BookCause>
@@ -29,10 +29,10 @@ pub fn read_row<'l>(
     let Some(rest) = cut_tag(line) else {
         return Err(BookCause::RowSyntax);
     };
-    let Some(first) = cut_moment(&mut scratch.clock, form, rest) else {
+    let Some(first) = cut_moment(&mut buffers.clock, form, rest) else {
         return Err(BookCause::RowSyntax);
     };
-    let Some(last) = cut_moment(&mut scratch.clock, form, first.1) else {
+    let Some(last) = cut_moment(&mut buffers.clock, form, first.1) else {
         return Err(BookCause::RowSyntax);
     };
     let Some((receivers, rest)) = cut_names(last.1) else {
@@ -41,8 +41,8 @@ pub fn read_row<'l>(
     let Some((receiver, digits)) = cut_name(rest) else {
         return Err(BookCause::RowSyntax);
     };
-    read_frame(&mut scratch.bytes, &mut scratch.frame, digits)?;
-    Ok(RowView::new(first.0, last.0, receivers, receiver, &scratch.frame))
+    read_frame(&mut buffers.bytes, &mut buffers.frame, digits)?;
+    Ok(RowView::new(first.0, last.0, receivers, receiver, &buffers.frame))
 }
 
 /// What follows the tag of a row's line, `T`, and a space, or `None` where the line doesn't begin

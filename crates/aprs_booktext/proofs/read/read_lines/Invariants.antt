@@ -7,9 +7,9 @@ abbrev pub invariant-loop-room : goal.invariant-loop-room
 invariant-loop-room g l =
     let remaining = g.R.Read.remaining in
     record {
-      got : Got (HasRead l.fn.store l.reader l.store) l.head (remaining (device_of l.fn.source))
+      got : Got (HasRead l.reader l.rows) l.head (remaining (device_of l.fn.source))
           (remaining (device_of l.source)) l.limit l.left;
-      few : read_size l.reader + l.left ≤ l.limit;
+      few : read_size l.reader l.rows + l.left ≤ l.limit;
       calls : Calls Going l.fn.source l.source;
     }
 

@@ -16,5 +16,5 @@ returns-in_err-put_rows-clause-puts g c =
 pub returns-clause-puts : goal.returns-clause-puts
 returns-clause-puts g c =
     let whole = text_parts c.args.book.now _ _ c.gap.ensures (cc) _ _ c.len.ensures (cc) in
-    Puts-is (Puts-then c.in_ok-put.ensures (Puts-then c.in_ok-put_rows.ensures.puts c.put-2.ensures))
-    (sym whole)
+    Puts-is (Puts-then c.in_ok-put.ensures (Puts-then c.in_ok-put_rows.ensures.puts
+    c.put-2.ensures)) (sym whole)

@@ -6,7 +6,8 @@ pub returns-in_err-put_book-clause-sends : goal.returns-in_err-put_book-clause-s
 returns-in_err-put_book-clause-sends g c =
     subst (λ w. Sends g.W.Write.contents c.from_residual.result c.args.w.now w
     (written_text c.args.book.now)) (search rules)
-    (Sends-unput c.new-out.ensures.nothing _ c.from_residual.ensures.0 c.in_err-put_book.ensures.puts)
+    (Sends-unput c.new-out.ensures.nothing _ c.from_residual.ensures.0
+    c.in_err-put_book.ensures.puts)
 
 pub returns-clause-sends : goal.returns-clause-sends
 returns-clause-sends g c =

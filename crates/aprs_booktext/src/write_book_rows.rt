@@ -1,14 +1,13 @@
-//! Writing what the rows of a store are together.
-ghost use Rattle.std.specs.Prelude.{flat_map, OnOk};
+//! Writing the rows of a book as they come.
+ghost use Rattle.std.specs.Prelude.{OnOk};
 ghost use Rattle.aprs_io.specs.Device.{Sends};
 ghost use Rattle.aprs_io.specs.Outlet.{Puts};
-ghost use Rattle.aprs_booktext.specs.RowLines.{line_and_lf};
 ghost use Rattle.aprs_booktext.specs.Text.{IsBookRows, written_text, written_version};
 
 use crate::write::{end_line_and_lf, header_line, put_row};
 use crate::written_row::WrittenRow;
 use aprs_io::{Counted, Outlet, WriteFault};
-use aprs_rows::Transmissions;
+use aprs_rows::BookRows;
 use std::alloc::Allocator;
 use std::io::Write;
 
@@ -17,11 +16,11 @@ use std::io::Write;
 /// and the count of the device's failures rose. Takes no memory.
 pub fn write_rows<W: Write, A: Allocator + Copy>(
     w: &mut Counted<W>,
-    rows: &Transmissions<'_, A>,
+    rows: BookRows<'_, A>,
 ) -> Result<(), WriteFault>
-    ensures sends { Sends W.contents result w.old w.new (written_text rows.now) }
+    ensures sends { Sends W.contents result w.old w.new (written_text rows.entry) }
     // A text that was written whole is that of a book, which can be read back.
-    ensures spelled { OnOk result (IsBookRows (written_version rows.now) rows.now.rows) }
+    ensures spelled { OnOk result (IsBookRows (written_version rows.entry) rows.entry.rows) }
 {
     let mut out = Outlet::new(w);
     put_text(&mut out, rows)?;
@@ -32,28 +31,19 @@ pub fn write_rows<W: Write, A: Allocator + Copy>(
 /// fault a prefix of what `out` held and of this text went out.
 fn put_text<W: Write, A: Allocator + Copy>(
     out: &mut Outlet<'_, W>,
-    rows: &Transmissions<'_, A>,
+    rows: BookRows<'_, A>,
 ) -> Result<(), WriteFault>
-    ensures puts { Puts W.contents result out.old out.new (written_text rows.now) }
-    ensures spelled { OnOk result (IsBookRows (written_version rows.now) rows.now.rows) }
+    ensures puts { Puts W.contents result out.old out.new (written_text rows.entry) }
+    ensures spelled { OnOk result (IsBookRows (written_version rows.entry) rows.entry.rows) }
 {
+    // No more rows come than this, so their number can't pass it.
+    let most = rows.most_rows();
     out.put(header_line(rows.gap()).as_slice())?;
-    put_lines(out, rows)?;
-    out.put(end_line_and_lf(rows.len()).as_slice())
-}
-
-/// Puts the lines of these rows into `out`. At a fault a prefix of what `out` held and of these
-/// lines went out.
-fn put_lines<W: Write, A: Allocator + Copy>(
-    out: &mut Outlet<'_, W>,
-    rows: &Transmissions<'_, A>,
-) -> Result<(), WriteFault>
-    ensures puts { Puts W.contents result out.old out.new (flat_map line_and_lf rows.now.rows) }
-    ensures spelled { OnOk result (IsBookRows (written_version rows.now) rows.now.rows) }
-{
     let mut room = WrittenRow::new();
-    for row in rows.rows() {
+    let mut count: usize = 0;
+    for row in rows {
         put_row(out, &mut room, &row)?;
+        count += 1;
     }
-    Ok(())
+    out.put(end_line_and_lf(count).as_slice())
 }
