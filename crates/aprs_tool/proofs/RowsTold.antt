@@ -1,12 +1,9 @@
 -- Lemmas on the rows of inputs, and the books that they join.
-use Rattle.aprs_tool.proofs.Common.{◌≡◌, ◌∙◌, ℕ, ◌<◌, ◌≤◌, List, [], ◌∷◌, ◌++◌, inl, inr, refl, sym, ap, subst, append_assoc, append-nil, length, map, arith, Result, Ok, Err, OnOk, Received, BookOf, BookValue, Holds, IsSoundBook, widened_to, IsGap, millis_of, join_row, merge, single, Ordered, Row, Sound, witnesses, book_carries, one_book, in_either, in_left, in_right, book_of_nothing, joined_rows, together, witnessed, merged}
+use Rattle.aprs_tool.proofs.Common.{◌≡◌, ◌∙◌, ℕ, ◌<◌, ◌≤◌, List, [], ◌∷◌, ◌++◌, inl, inr, refl, sym, ap, subst, append_assoc, append-nil, length, map, arith, Result, Ok, Err, OnOk, Received, BookOf, BookValue, Holds, IsSoundBook, widened_to, IsGap, millis_of, join_row, merge, single, Row, witnesses, book_carries, one_book, in_either, in_left, in_right, book_of_nothing, joined_rows, together, witnessed, merged}
 use Rattle.aprs_log.specs.declared.InputEnd.{InputEnd}
 use Rattle.std.specs.declared.cmp.Ordering.{Ordering}
 use Rattle.std.specs.declared.cmp.Ordering.TheVariants.{Less, Equal, Greater}
-use Rattle.std.specs.Ordering.{is_gt}
-use Rattle.aprs_laws.specs.Coalescing.{AreInOrder, StandFor}
-use Rattle.aprs_laws.specs.Order.{IsBelow}
-use Rattle.aprs_laws.specs.Row.{row_cmp}
+use Rattle.aprs_laws.specs.Coalescing.{StandFor}
 use Rattle.aprs_laws.specs.JoinRow.{choose, combine, compare_near}
 use Rattle.aprs_laws.proofs.BookValues.{widened_holds}
 use Rattle.aprs_laws.proofs.Joins.{some_millis}
@@ -93,14 +90,6 @@ holds_wide gap own old new t c r o l none h S gives =
     (widened_holds gap h.set narrow l its) in
     subst (λ (rows : List Row). BookOf (millis_of gap) S rows) (sym (read ∙ same))
     (widened_holds gap S narrow l (set_book own t c S h.set narrow.rows gives h.gives its))
-
--- sound rows are in order
-pub in_order : (gap : ℕ) (rows : List Row) → Sound gap rows → AreInOrder rows
-in_order gap rows s = up_to rows s.ascending
-  where
-    up_to : (rows : List Row) → Ordered (IsBelow row_cmp) rows → AreInOrder rows
-    up_to [] h = tt
-    up_to (x ∷ rows) h = (λ y k. ap is_gt (h.0 y k), up_to rows h.1)
 
 -- ---- a book that rows joined has rows
 

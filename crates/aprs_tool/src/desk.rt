@@ -17,7 +17,6 @@ use crate::head::read_head;
 use crate::input::{BOOK_MARK, read_log, read_short};
 use aprs_book::{Book, Gap, MergeFault};
 use aprs_booktext::read_book;
-use crate::stub::of_rows;
 use aprs_io::Counted;
 use aprs_rows::BookStore;
 use std::alloc::{Allocator, Global};
@@ -152,7 +151,7 @@ pub fn read_input<R: Read, A: Allocator + Copy>(
             read_log(alloc, limit, head.as_slice(), &mut store, r)?;
             let mut room = Vec::new(alloc);
             let rows = store.rows(&mut room)?;
-            Ok(of_rows(alloc, rows)?)
+            Ok(Book::of_rows(alloc, rows)?)
         }
         Err(short) => {
             read_short(&short)?;

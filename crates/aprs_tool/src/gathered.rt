@@ -7,9 +7,9 @@ ghost use Rattle.aprs_tool.specs.ToldBook.{IsHistory, IsShown, WritesTold, answe
 
 use crate::fault::RunFault;
 use aprs_book::{Gap, Memory, Summary};
-use crate::stub::{write_history, write_rows};
+use aprs_booktext::write_rows;
 use aprs_io::{Counted, WriteFault};
-use aprs_listing::Listing;
+use aprs_listing::{Listing, write_history};
 use aprs_rows::{BookStore, PackedRows};
 use std::alloc::{Allocator, Global};
 use std::io::Write;
@@ -132,8 +132,10 @@ impl<A: Allocator + Copy> Gathered<A> {
         let alloc = self.alloc;
         let mut room = Vec::new(alloc);
         let mut store = self.into_store()?;
-        let _rows = store.rows(&mut room)?;
-        Err(OutputFault::Memory)
+        let rows = store.rows(&mut room)?;
+        let summary = Summary::of(alloc, rows)?;
+        let listing = Listing::of(&summary)?;
+        Ok(listing.write(w)?)
     }
 
     /// Writes the history of the book. At `Memory` an allocation failed, and nothing was written;
@@ -159,7 +161,7 @@ pub(crate) fn add_rows<A: Allocator + Copy>(
     ensures unchanged { OnErr result (store.new ≡ store.old) }
     ensures some { OnErr result (rows ≢ []) }
 {
-    if rows.len() == 0 {
+    if rows.is_empty() {
         return Ok(());
     }
     store.add(rows)

@@ -18,7 +18,7 @@ use crate::fault::InputFault;
 use crate::gathered::{Gathered, add_rows};
 use crate::head::{ShortInput, read_head};
 use aprs_book::{Gap, Memory};
-use crate::stub::read_rows;
+use aprs_booktext::read_rows;
 use aprs_io::{Counted, InputEnd};
 use aprs_log::{Line, LogCause, LogFault, LogReader};
 use aprs_rows::{BookStore, PackedRows};

@@ -13,7 +13,6 @@ mod laws;
 mod merge;
 mod run;
 mod show;
-mod stub;
 mod widen;
 
 pub use aprs_command::{

@@ -1,9 +1,9 @@
-use Rattle.aprs_tool.proofs.Common.{◌≡◌, ◌∙◌, refl, ap, sym, err_from_is_err_and, millis_of}
+use Rattle.aprs_tool.proofs.Common.{◌≡◌, ◌∙◌, refl, ap, sym, err_from_is_err_and}
 use Rattle.aprs_tool.specs.Gathered.{with_rows}
 use Rattle.aprs_tool.specs.InputRows.{ReadsLog}
 use Rattle.aprs_tool.specs.declared.fault.InputFault.TheVariants.{Log}
 use Rattle.aprs_tool.proofs.Inputs.{gives_log, is_mark_eq, is_other_eq, none_read, of_got, of_log, of_mark, refused_input, refused_log, rows_input, short_empty, short_fault, short_is_log}
-use Rattle.aprs_tool.proofs.RowsTold.{in_order}
+use Rattle.aprs_book.proofs.InStore.{in_order}
 use Rattle.aprs_tool.proofs.input.read_input_rows.Goals as goal
 
 -- ---- an allocation failed before
@@ -17,7 +17,7 @@ returns-in_err-add_rows-clause-reads g c =
 
 pub invariant_of-gathered-then-eq : goal.invariant_of-gathered-then-eq
 invariant_of-gathered-then-eq g c = let sound = c.in_ok-own-in-Ok.ensures.sound in
-    in_order (millis_of c.in_ok-own-in-Ok.own) c.read_rows.new.rows sound.sound
+    in_order _ c.read_rows.new.rows refl sound
 
 pub returns-in_ok-own-in-Ok-clause-reads : goal.returns-in_ok-own-in-Ok-clause-reads
 returns-in_ok-own-in-Ok-clause-reads g c =
