@@ -1,21 +1,13 @@
-use Rattle.aprs_booktext.proofs.Common.{◌≡◌, ◌<◌, ◌∙◌, List, [], ◌∷◌, ap, arith, IfOk-weaker, millis_of, BookValue, Row, witnesses, witnessed}
-use Rattle.std.specs.Ordering.{is_gt}
-use Rattle.aprs_laws.specs.Coalescing.{AreInOrder}
+use Rattle.aprs_booktext.proofs.Common.{◌≡◌, ◌<◌, ◌∙◌, List, ap, arith, refl, IfOk-weaker, millis_of, BookValue, Row, witnesses, witnessed}
 use Rattle.aprs_laws.specs.JoinRow.{merge}
-use Rattle.aprs_laws.specs.Lists.{Ordered}
-use Rattle.aprs_laws.specs.Order.{IsBelow}
-use Rattle.aprs_laws.specs.Row.{row_cmp}
 use Rattle.aprs_laws.specs.Together.{book_together}
 use Rattle.aprs_laws.proofs.Books.{one_book}
 use Rattle.aprs_laws.proofs.Together.{together}
+use Rattle.aprs_book.proofs.InStore.{in_order}
 use Rattle.aprs_booktext.proofs.read.book_in.Goals as goal
 
-ascending_in_order : (rows : List Row) → Ordered (IsBelow row_cmp) rows → AreInOrder rows
-ascending_in_order [] h = tt
-ascending_in_order (x ∷ rows) h = ((λ y k. ap is_gt (h.0 y k)), ascending_in_order rows h.1)
-
 pub add-requires : goal.add-requires
-add-requires g c = ascending_in_order c.args.rows c.requires.sound.ascending
+add-requires g c = in_order _ c.args.rows refl c.requires
 
 pub returns : goal.returns
 returns g c =
