@@ -21,10 +21,10 @@ use Rattle.aprs_tool.specs.declared.fault.InputFault.TheVariants.{Log, Book, Mem
 -- ---- which of both it is
 
 -- the test of the code, which asks whether the bytes are those
-pub is_mark_eq : (head : List ℕ) (b : Bool) → b ≡ bytes_eq head mark → b ≡ true → head ≡ mark
+is_mark_eq : (head : List ℕ) (b : Bool) → b ≡ bytes_eq head mark → b ≡ true → head ≡ mark
 is_mark_eq head b e same = (bytes_eq-Decides head mark).0 (sym e ∙ same)
 
-pub is_other_eq : (head : List ℕ) (b : Bool) → b ≡ bytes_eq head mark → b ≡ false → head ≡ mark → ⊥
+is_other_eq : (head : List ℕ) (b : Bool) → b ≡ bytes_eq head mark → b ≡ false → head ≡ mark → ⊥
 is_other_eq head b e other same =
     let f : false ≡ true = sym other ∙ e ∙ (bytes_eq-Decides head mark).1 same in
     absurd cc
@@ -271,22 +271,22 @@ of_head (Some input) None after limit head P took h = absurd took
 of_head (Some input) (Some rest) after limit head P took h =
     subst (λ l. HoldsOfGot limit l after P) (sym took) h
 
--- a head that is the mark
-pub of_mark : (known mid after : Option (List ℕ)) (limit : ℕ) (head : List ℕ)
-    (P : List ℕ → InputEnd → Type 0) → head ≡ mark → Consumes known mid head
-    → IfSome mid (λ input. HoldsOfGot limit (mark ++ input) after P) → OfGot limit known after P
-of_mark known mid after limit head P is took h =
-    of_head known mid after limit mark P (subst (λ l. Consumes known mid l) is took) h
+-- a head whose bytes were compared with the mark
+module _ (known mid after : Option (List ℕ)) (limit : ℕ) {head shown : List ℕ} {test : Bool}
+    (same : shown ≡ head) (tested : test ≡ bytes_eq shown mark) (took : Consumes known mid head) where
+  -- it is the mark
+  pub of_mark : (P : List ℕ → InputEnd → Type 0) → test ≡ true
+      → IfSome mid (λ input. HoldsOfGot limit (mark ++ input) after P) → OfGot limit known after P
+  of_mark P is h = of_head known mid after limit mark P
+      (subst (λ l. Consumes known mid l) (sym same ∙ is_mark_eq shown test tested is) took) h
 
--- and one that isn't
-pub of_log : (known mid after : Option (List ℕ)) (limit : ℕ) (head : List ℕ)
-    (P Q : List ℕ → InputEnd → Type 0) → IsHead head → (head ≡ mark → ⊥)
-    → ((t : List ℕ) (c : InputEnd) → has_book_mark t ≡ false → P t c → Q t c)
-    → Consumes known mid head → IfSome mid (λ input. HoldsOfGot limit (head ++ input) after P)
-    → OfGot limit known after Q
-of_log known mid after limit head P Q whole other follows took h =
-    of_head known mid after limit head Q took
-    (log_input mid after limit head P Q whole other follows h)
+  -- or it isn't
+  pub of_log : (P Q : List ℕ → InputEnd → Type 0) → test ≡ false → IsHead head
+      → ((t : List ℕ) (c : InputEnd) → has_book_mark t ≡ false → P t c → Q t c)
+      → IfSome mid (λ input. HoldsOfGot limit (head ++ input) after P) → OfGot limit known after Q
+  of_log P Q is whole follows h = of_head known mid after limit head Q took
+      (log_input mid after limit head P Q whole
+      (λ e. is_other_eq shown test tested is (same ∙ e)) follows h)
 
 -- nothing was asked of the input, where an allocation failed before
 pub none_read : (known : Option (List ℕ)) (limit : ℕ) (Q : List ℕ → InputEnd → Type 0)

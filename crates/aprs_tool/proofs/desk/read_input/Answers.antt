@@ -1,6 +1,6 @@
 use Rattle.aprs_tool.proofs.Common.{[], ◌∙◌, refl, sym, inl, inr, err_from_is_err_and, BookValue, Calls-then}
 use Rattle.aprs_tool.specs.declared.fault.InputFault.TheVariants.{Log}
-use Rattle.aprs_tool.proofs.Inputs.{book_input, is_mark_eq, is_other_eq, of_got, of_log, of_mark, read_alone, refused_input, refused_log, short_empty, short_fault, short_is_log}
+use Rattle.aprs_tool.proofs.Inputs.{book_input, of_got, of_log, of_mark, read_alone, refused_input, refused_log, short_empty, short_fault, short_is_log}
 use Rattle.aprs_tool.proofs.Readers.{AsksInput-then}
 use Rattle.aprs_tool.proofs.desk.read_input.Goals as goal
 
@@ -8,20 +8,16 @@ use Rattle.aprs_tool.proofs.desk.read_input.Goals as goal
 
 pub returns-in_ok-read_book-in-Ok-clause-reads : goal.returns-in_ok-read_book-in-Ok-clause-reads
 returns-in_ok-read_book-in-Ok-clause-reads g c =
-    of_mark _ _ _ c.args.limit c.in-Ok.head.items _
-    (sym c.as_slice.ensures.value
-    ∙ is_mark_eq c.as_slice.result.now c.eq.result c.eq.ensures c.if-eq.true)
-    c.in-Ok.ensures.bytes
+    of_mark _ _ _ c.args.limit c.as_slice.ensures.value c.eq.ensures
+    c.in-Ok.ensures.bytes _ c.if-eq.true
     (book_input c.args.gap _ _ c.args.limit c.in_ok-read_book-in-Ok.field-0
     c.in_ok-read_book-in-Ok.ensures.reads)
 
 pub returns-in_err-read_book-in-Ok-clause-reads : goal.returns-in_err-read_book-in-Ok-clause-reads
 returns-in_err-read_book-in-Ok-clause-reads g c =
     let p = err_from_is_err_and c.from_residual.result c.from_residual.ensures.1 in
-    rw (p.1, p.2) (of_mark _ _ _ c.args.limit c.in-Ok.head.items _
-    (sym c.as_slice.ensures.value
-    ∙ is_mark_eq c.as_slice.result.now c.eq.result c.eq.ensures c.if-eq.true)
-    c.in-Ok.ensures.bytes
+    rw (p.1, p.2) (of_mark _ _ _ c.args.limit c.as_slice.ensures.value c.eq.ensures
+    c.in-Ok.ensures.bytes _ c.if-eq.true
     (refused_input _ _ c.args.limit c.in_err-read_book-in-Ok.field-0.0
     c.in_err-read_book-in-Ok.ensures.reads))
 
@@ -41,40 +37,34 @@ pub returns-in_err-read_log-in-Ok-2-clause-reads : goal.returns-in_err-read_log-
 returns-in_err-read_log-in-Ok-2-clause-reads g c =
     let p = err_from_is_err_and c.from_residual-in_err-read_log-in-Ok-2.result
     c.from_residual-in_err-read_log-in-Ok-2.ensures.1 in
-    let other = is_other_eq c.as_slice.result.now c.eq.result c.eq.ensures c.if-eq.false in
-    rw (p.1, p.2) (of_log _ _ _ c.args.limit c.in-Ok.head.items _ _ c.in-Ok.ensures.whole.0
-    (λ same. other (c.as_slice.ensures.value ∙ same))
+    rw (p.1, p.2) (of_log _ _ _ c.args.limit c.as_slice.ensures.value c.eq.ensures
+    c.in-Ok.ensures.bytes _ _ c.if-eq.false c.in-Ok.ensures.whole.0
     (refused_log c.in_err-read_log-in-Ok-2.field-0.0 c.new-store.result c.read_log.new.store)
-    c.in-Ok.ensures.bytes
     (rw c.as_slice-in-Ok-2.ensures.value at c.in_err-read_log-in-Ok-2.ensures.reads))
 
 pub returns-in_err-rows-in-Ok-2-clause-reads : goal.returns-in_err-rows-in-Ok-2-clause-reads
 returns-in_err-rows-in-Ok-2-clause-reads g c =
     let p = err_from_is_err_and c.from_residual-in_err-rows-in-Ok-2.result
     c.from_residual-in_err-rows-in-Ok-2.ensures.1 in
-    let other = is_other_eq c.as_slice.result.now c.eq.result c.eq.ensures c.if-eq.false in
-    rw (p.1, p.2) (of_log _ _ _ c.args.limit c.in-Ok.head.items _ _ c.in-Ok.ensures.whole.0
-    (λ same. other (c.as_slice.ensures.value ∙ same)) (λ t e is h. is) c.in-Ok.ensures.bytes
+    rw (p.1, p.2) (of_log _ _ _ c.args.limit c.as_slice.ensures.value c.eq.ensures
+    c.in-Ok.ensures.bytes _ _ c.if-eq.false c.in-Ok.ensures.whole.0 (λ t e is h. is)
     (rw c.as_slice-in-Ok-2.ensures.value at c.in_ok-read_log-in-Ok-2.ensures.reads))
 
 pub returns-in_err-of_rows-in-Ok-2-clause-reads : goal.returns-in_err-of_rows-in-Ok-2-clause-reads
 returns-in_err-of_rows-in-Ok-2-clause-reads g c =
     let p = err_from_is_err_and c.from_residual-in_err-of_rows-in-Ok-2.result
     c.from_residual-in_err-of_rows-in-Ok-2.ensures.1 in
-    let other = is_other_eq c.as_slice.result.now c.eq.result c.eq.ensures c.if-eq.false in
-    rw (p.1, p.2) (of_log _ _ _ c.args.limit c.in-Ok.head.items _ _ c.in-Ok.ensures.whole.0
-    (λ same. other (c.as_slice.ensures.value ∙ same)) (λ t e is h. is) c.in-Ok.ensures.bytes
+    rw (p.1, p.2) (of_log _ _ _ c.args.limit c.as_slice.ensures.value c.eq.ensures
+    c.in-Ok.ensures.bytes _ _ c.if-eq.false c.in-Ok.ensures.whole.0 (λ t e is h. is)
     (rw c.as_slice-in-Ok-2.ensures.value at c.in_ok-read_log-in-Ok-2.ensures.reads))
 
 pub returns-in_ok-of_rows-in-Ok-2-clause-reads : goal.returns-in_ok-of_rows-in-Ok-2-clause-reads
 returns-in_ok-of_rows-in-Ok-2-clause-reads g c =
-    let other = is_other_eq c.as_slice.result.now c.eq.result c.eq.ensures c.if-eq.false in
-    of_log _ _ _ c.args.limit c.in-Ok.head.items _ _ c.in-Ok.ensures.whole.0
-    (λ same. other (c.as_slice.ensures.value ∙ same))
+    of_log _ _ _ c.args.limit c.as_slice.ensures.value c.eq.ensures
+    c.in-Ok.ensures.bytes _ _ c.if-eq.false c.in-Ok.ensures.whole.0
     (λ t e is. read_alone c.args.gap c.in_ok-of_rows-in-Ok-2.field-0 c.new-store.result
     c.read_log.new.store t e is c.new-store.ensures
     (c.in_ok-of_rows-in-Ok-2.ensures ∙ c.in_ok-rows-in-Ok-2.ensures.book))
-    c.in-Ok.ensures.bytes
     (rw c.as_slice-in-Ok-2.ensures.value at c.in_ok-read_log-in-Ok-2.ensures.reads)
 
 pub returns-in_err-read_log-in-Ok-2-clause-calls : goal.returns-in_err-read_log-in-Ok-2-clause-calls

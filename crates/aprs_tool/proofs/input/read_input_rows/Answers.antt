@@ -2,7 +2,7 @@ use Rattle.aprs_tool.proofs.Common.{◌≡◌, ◌∙◌, refl, ap, sym, err_fro
 use Rattle.aprs_tool.specs.Gathered.{with_rows}
 use Rattle.aprs_tool.specs.InputRows.{ReadsLog}
 use Rattle.aprs_tool.specs.declared.fault.InputFault.TheVariants.{Log}
-use Rattle.aprs_tool.proofs.Inputs.{gives_log, is_mark_eq, is_other_eq, none_read, of_got, of_log, of_mark, refused_input, refused_log, rows_input, short_empty, short_fault, short_is_log}
+use Rattle.aprs_tool.proofs.Inputs.{gives_log, none_read, of_got, of_log, of_mark, refused_input, refused_log, rows_input, short_empty, short_fault, short_is_log}
 use Rattle.aprs_book.proofs.InStore.{in_order}
 use Rattle.aprs_tool.proofs.input.read_input_rows.Goals as goal
 
@@ -24,10 +24,8 @@ returns-in_ok-own-in-Ok-clause-reads g c =
     let rows = c.read_rows.new.rows in
     let was = c.in_ok-add_rows.ensures.added
     ∙ ap (with_rows c.gathered.inside.store) c.replace-file.ensures.value ∙ c.gathered.view_is in
-    of_mark _ _ _ c.args.limit c.in-Ok.head.items _
-    (sym c.as_slice.ensures.value
-    ∙ is_mark_eq c.as_slice.result.now c.eq.result c.eq.ensures c.if-eq.true)
-    c.in-Ok.ensures.bytes
+    of_mark _ _ _ c.args.limit c.as_slice.ensures.value c.eq.ensures
+    c.in-Ok.ensures.bytes _ c.if-eq.true
     (rows_input c.args.gathered.now.gap c.in_ok-own-in-Ok.own c.args.gathered.now
     (with_rows c.add_rows.new.store rows) rows _ _ c.args.limit (λ t. with_rows (was t) rows)
     c.in_ok-own-in-Ok.ensures.reads)
@@ -36,10 +34,8 @@ pub returns-in_err-own-in-Ok-clause-reads : goal.returns-in_err-own-in-Ok-clause
 returns-in_err-own-in-Ok-clause-reads g c =
     let p = err_from_is_err_and c.from_residual-in_err-own-in-Ok.result
     c.from_residual-in_err-own-in-Ok.ensures.1 in
-    rw (p.1, p.2) (of_mark _ _ _ c.args.limit c.in-Ok.head.items _
-    (sym c.as_slice.ensures.value
-    ∙ is_mark_eq c.as_slice.result.now c.eq.result c.eq.ensures c.if-eq.true)
-    c.in-Ok.ensures.bytes
+    rw (p.1, p.2) (of_mark _ _ _ c.args.limit c.as_slice.ensures.value c.eq.ensures
+    c.in-Ok.ensures.bytes _ c.if-eq.true
     (refused_input _ _ c.args.limit c.in_err-own-in-Ok.field-0.0 c.in_err-own-in-Ok.ensures.reads))
 
 -- ---- a log
@@ -48,26 +44,22 @@ pub returns-in_err-read_log-in-Ok-2-clause-reads : goal.returns-in_err-read_log-
 returns-in_err-read_log-in-Ok-2-clause-reads g c =
     let p = err_from_is_err_and c.from_residual-in_err-read_log-in-Ok-2.result
     c.from_residual-in_err-read_log-in-Ok-2.ensures.1 in
-    let other = is_other_eq c.as_slice.result.now c.eq.result c.eq.ensures c.if-eq.false in
-    rw (p.1, p.2) (of_log _ _ _ c.args.limit c.in-Ok.head.items _ _ c.in-Ok.ensures.whole.0
-    (λ same. other (c.as_slice.ensures.value ∙ same))
+    rw (p.1, p.2) (of_log _ _ _ c.args.limit c.as_slice.ensures.value c.eq.ensures
+    c.in-Ok.ensures.bytes _ _ c.if-eq.false c.in-Ok.ensures.whole.0
     (refused_log c.in_err-read_log-in-Ok-2.field-0.0 c.add_rows.new.store c.read_log.new.store)
-    c.in-Ok.ensures.bytes
     (rw c.as_slice-in-Ok-2.ensures.value at c.in_err-read_log-in-Ok-2.ensures.reads))
 
 pub returns-in_ok-read_log-in-Ok-2-clause-reads : goal.returns-in_ok-read_log-in-Ok-2-clause-reads
 returns-in_ok-read_log-in-Ok-2-clause-reads g c =
     let now = c.args.gathered.now in
     let store = c.read_log.new.store in
-    let other = is_other_eq c.as_slice.result.now c.eq.result c.eq.ensures c.if-eq.false in
-    of_log _ _ _ c.args.limit c.in-Ok.head.items _ _ c.in-Ok.ensures.whole.0
-    (λ same. other (c.as_slice.ensures.value ∙ same))
+    of_log _ _ _ c.args.limit c.as_slice.ensures.value c.eq.ensures
+    c.in-Ok.ensures.bytes _ _ c.if-eq.false c.in-Ok.ensures.whole.0
     (λ t e. gives_log now.gap c.gap-gap.result now (with_rows store c.replace-file.new.dest)
     c.add_rows.new.store store t e (c.gap-gap.ensures.value ∙ ap (λ b. b.gap) c.gathered.view_is)
     (c.in_ok-add_rows.ensures.added
     ∙ ap (with_rows c.gathered.inside.store) c.replace-file.ensures.value ∙ c.gathered.view_is)
     (ap (with_rows store) (c.replace-file.ensures.after ∙ c.new.ensures)))
-    c.in-Ok.ensures.bytes
     (rw c.as_slice-in-Ok-2.ensures.value at c.in_ok-read_log-in-Ok-2.ensures.reads)
 
 pub returns-in_err-read_short-in-Err-clause-reads : goal.returns-in_err-read_short-in-Err-clause-reads
