@@ -24,7 +24,7 @@ use aprs_io::{Counted, Outlet, WriteFault};
 use aprs_log::Moment;
 use aprs_mice::MicE;
 use aprs_report::{Place, Report, Stamp, Symbol};
-use aprs_rows::{RowView, Transmissions};
+use aprs_rows::{BookRows, RowView};
 use std::alloc::Allocator;
 use std::io::Write;
 
@@ -32,11 +32,12 @@ use std::io::Write;
 /// of this went out. Takes no memory.
 pub fn write_history<W: Write, A: Allocator + Copy>(
     w: &mut Counted<W>,
-    rows: &Transmissions<'_, A>,
+    rows: BookRows<'_, A>,
 ) -> Result<(), WriteFault>
-    ensures sends { Sends W.contents result w.old w.new (history_text rows.now.rows) }
-    ensures lines { HasOneLineEach rows.now.rows }
+    ensures sends { Sends W.contents result w.old w.new (history_text rows.entry.rows) }
+    ensures lines { HasOneLineEach rows.entry.rows }
 {
+    let _told = rows.gap();
     let mut out = Outlet::new(w);
     put_history(&mut out, rows)?;
     out.flush()
@@ -45,12 +46,11 @@ pub fn write_history<W: Write, A: Allocator + Copy>(
 /// Puts the lines of the rows, in their order. Fails where the output is refused.
 fn put_history<W: Write, A: Allocator + Copy>(
     out: &mut Outlet<'_, W>,
-    rows: &Transmissions<'_, A>,
+    rows: BookRows<'_, A>,
 ) -> Result<(), WriteFault>
-    ensures puts { Puts W.contents result out.old out.new (history_text rows.now.rows) }
-    ensures lines { HasOneLineEach rows.now.rows }
+    ensures { Puts W.contents result out.old out.new (history_text rows.entry.rows) }
 {
-    for row in rows.rows() {
+    for row in rows {
         put_row_history(out, &row)?;
     }
     Ok(())

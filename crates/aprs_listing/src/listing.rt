@@ -1,9 +1,10 @@
 //! The listing of a book: its stations, objects, items and messages.
-ghost use Rattle.std.specs.Prelude.{◌≡◌, IfOk};
+ghost use Rattle.std.specs.Prelude.{◌≡◌, ℕ, List, IfOk};
 ghost use Rattle.std.specs.List.{flat_map};
 ghost use Rattle.aprs_io.specs.Device.{Sends};
 ghost use Rattle.aprs_io.specs.Outlet.{Puts};
-ghost use Rattle.aprs_laws.specs.Gap.{millis_of};
+ghost use Rattle.aprs_laws.specs.Row.{Row};
+ghost use Rattle.aprs_book.specs.Summary.{IsSummaryOf};
 ghost use Rattle.aprs_book.specs.Stations.{ReportsStations};
 ghost use Rattle.aprs_book.specs.Names.{ReportsNamed};
 ghost use Rattle.aprs_book.specs.Messages.{ReportsMessages};
@@ -42,20 +43,20 @@ impl<'a, A: Allocator> Drop for Listing<'a, A> {
 }
 
 impl<'a, A: Allocator + Copy> Listing<'a, A> {
-    /// What is listed of rows in a store, from the summary of them: their stations, their
-    /// objects and items, and their messages. `Memory` where an allocation failed for it.
-    pub fn of(rows: &'a Summary<'_, '_, A>) -> Result<Listing<'a, A>, Memory>
-        ensures stations { IfOk result (λ v.
-            ReportsStations (millis_of rows.now.gap) rows.now.rows v.stations.items) }
-        ensures named { IfOk result (λ v.
-            ReportsNamed (millis_of rows.now.gap) rows.now.rows v.named.items) }
-        ensures messages { IfOk result (λ v.
-            ReportsMessages (millis_of rows.now.gap) rows.now.rows v.messages.items) }
+    /// What is listed of rows, from the summary of them: their stations, their objects and items,
+    /// and their messages. `Memory` where an allocation failed for it.
+    pub fn of(summary: &'a Summary<'_, A>) -> Result<Listing<'a, A>, Memory>
+        ensures stations { (gap : ℕ) (rows : List Row) → IsSummaryOf rows summary.now
+            → IfOk result (λ v. ReportsStations gap rows v.stations.items) }
+        ensures named { (gap : ℕ) (rows : List Row) → IsSummaryOf rows summary.now
+            → IfOk result (λ v. ReportsNamed gap rows v.named.items) }
+        ensures messages { (gap : ℕ) (rows : List Row) → IsSummaryOf rows summary.now
+            → IfOk result (λ v. ReportsMessages gap rows v.messages.items) }
     {
         Ok(Listing {
-            stations: rows.stations()?,
-            named: rows.objects()?,
-            messages: rows.messages()?,
+            stations: summary.stations()?,
+            named: summary.objects()?,
+            messages: summary.messages()?,
         })
     }
 

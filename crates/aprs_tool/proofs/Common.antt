@@ -20,6 +20,7 @@ pub use Rattle.aprs_laws.proofs.Known.{known_once, rows_know}
 pub use Rattle.aprs_laws.proofs.Lists.{in_either, in_left, in_right}
 pub use Rattle.aprs_laws.proofs.RunRows.{book_of_nothing, empty_book}
 pub use Rattle.aprs_laws.proofs.Soundness.{exists, has_witness_by, witnessed}
+pub use Rattle.aprs_laws.proofs.Together.{joined_rows, merge_append, together}
 pub use Rattle.aprs_laws.proofs.Unions.{around, merged}
 pub use Rattle.aprs_laws.specs.Best.{LastKnown}
 pub use Rattle.aprs_laws.specs.BestLaws.{Passes}

@@ -1,17 +1,18 @@
 -- Lemmas on inputs, of which the first bytes are known.
-use Rattle.aprs_tool.proofs.Common.{◌≡◌, ℕ, zero, suc, get_or, ◌<◌, Bool, true, false, List, [], ◌∷◌, ◌++◌, length, map, take, drop, Option, None, Some, Ok, Err, IfSome, inl, inr, refl, ap, sym, ◌∙◌, append_assoc, append-nil, length-append, subst, arith, take-append_seam, bytes_eq-Decides, Consumes, BookOf, BookValue, Holds, single, book_carries, millis_of, witnesses, Row, Sound, witnessed, Gets, end_with, log_answers, receptions_of, answers-log_fault, LogFault, book_text, IsBookRows, gap_of, IsVersion, Version, One, Two, Three, BookFault, OfGot}
+use Rattle.aprs_tool.proofs.Common.{◌≡◌, ℕ, zero, suc, get_or, ◌<◌, Bool, true, false, List, [], ◌∷◌, ◌++◌, length, map, take, drop, Option, None, Some, Ok, Err, IfSome, inl, inr, refl, ap, sym, ◌∙◌, append_assoc, append-nil, length-append, subst, arith, take-append_seam, bytes_eq-Decides, Consumes, BookOf, BookValue, Holds, single, book_of_nothing, millis_of, witnesses, Row, Sound, witnessed, Gets, end_with, log_answers, receptions_of, answers-log_fault, LogFault, book_text, IsBookRows, gap_of, IsVersion, Version, One, Two, Three, BookFault, OfGot}
 use Rattle.std.specs.Str.{bytes_eq}
 use Rattle.aprs_laws.proofs.Coalescing.{books_stand, singles_stand}
-use Rattle.aprs_booktext.specs.StoredRows.{rows_after}
 use Rattle.aprs_io.specs.declared.input.InputEnd.{InputEnd}
 use Rattle.aprs_io.specs.declared.input.InputEnd.TheVariants as ending
 use Rattle.aprs_booktext.specs.BookAnswers.{ReadsBook}
 use Rattle.aprs_booktext.proofs.BookRows.{rows_sound}
+use Rattle.aprs_tool.specs.Gathered.{with_rows}
 use Rattle.aprs_tool.specs.Head.{IsHead}
 use Rattle.aprs_tool.specs.InputBook.{IsGapOf, ReadsInput}
 use Rattle.aprs_tool.specs.Inputs.{GivesSet, has_book_mark}
 use Rattle.aprs_tool.specs.Refused.{IsFaulty}
 use Rattle.aprs_tool.proofs.Beginnings.{begins, book_begins, is_book, mark}
+use Rattle.aprs_tool.proofs.RowsTold.{joined_heard}
 use Rattle.aprs_tool.proofs.Sets.{log_of, set_book}
 use Rattle.aprs_tool.specs.InputRows.{GivesRows, HoldsOfGot, ReadsLog, ReadsRows}
 use Rattle.aprs_tool.specs.declared.fault.InputFault.{InputFault}
@@ -20,10 +21,10 @@ use Rattle.aprs_tool.specs.declared.fault.InputFault.TheVariants.{Log, Book, Mem
 -- ---- which of both it is
 
 -- the test of the code, which asks whether the bytes are those
-pub is_mark_eq : (head : List ℕ) (b : Bool) → b ≡ bytes_eq head mark → b ≡ true → head ≡ mark
+is_mark_eq : (head : List ℕ) (b : Bool) → b ≡ bytes_eq head mark → b ≡ true → head ≡ mark
 is_mark_eq head b e same = (bytes_eq-Decides head mark).0 (sym e ∙ same)
 
-pub is_other_eq : (head : List ℕ) (b : Bool) → b ≡ bytes_eq head mark → b ≡ false → head ≡ mark → ⊥
+is_other_eq : (head : List ℕ) (b : Bool) → b ≡ bytes_eq head mark → b ≡ false → head ≡ mark → ⊥
 is_other_eq head b e other same =
     let f : false ≡ true = sym other ∙ e ∙ (bytes_eq-Decides head mark).1 same in
     absurd cc
@@ -82,7 +83,7 @@ short_is_log t short = by (has_book_mark t) refl
 
 -- ---- a log
 
-pub refused_log : (e : InputFault) (old new : List Row) (t : List ℕ) (c : InputEnd)
+pub refused_log : (e : InputFault) (old new : BookValue) (t : List ℕ) (c : InputEnd)
     → has_book_mark t ≡ false → ReadsLog (Err e) old new t c → IsFaulty e t c
 refused_log (Log f) old new t c is h = (is, answers-log_fault t c f h)
 refused_log Memory old new t c is h = is
@@ -90,37 +91,38 @@ refused_log (Book f) old new t c is h = absurd h
 refused_log OtherGap old new t c is h = absurd h
 refused_log Narrower old new t c is h = absurd h
 
--- the rows of what is read of a log stand for its receptions
-pub gives_log : (asked : ℕ) (old new : List Row) (t : List ℕ) (c : InputEnd)
-    → has_book_mark t ≡ false → ReadsLog (Ok tt) old new t c → GivesRows asked asked old new t c
-gives_log asked old new t c is h =
+-- the receptions of what is read of a log join the book
+pub gives_log : (asked own : ℕ) (old new was now : BookValue) (t : List ℕ) (c : InputEnd)
+    → own ≡ asked → was ≡ old → new ≡ now → has_book_mark t ≡ false → ReadsLog (Ok tt) was now t c
+    → GivesRows asked own old new t c
+gives_log asked own old new was now t c its before after is h =
     let heard = receptions_of (log_answers t c).given in record {
-      gap_is = λ log. refl;
+      gap_is = λ log. its;
       rows = map single heard;
-      new_is = h.1;
+      new_is = after ∙ h.1 ∙ ap (λ (v : BookValue). with_rows v (map single heard)) before;
       set = heard;
       gives = inr (log_of t c h.0);
       stand = singles_stand heard;
     }
 
--- the book of what is read of a log is its book
-pub read_alone : (asked : ℕ) (b : BookValue) (old rows : List Row) (t : List ℕ) (c : InputEnd)
-    → has_book_mark t ≡ false → b.gap ≡ asked → old ≡ [] → Holds (witnesses rows) b
-    → ReadsLog (Ok tt) old rows t c → ReadsInput asked (Ok b) t c
-read_alone asked b old rows t c is its none holds h =
+-- the book of what is read of a log into no others is its book
+pub read_alone : (asked : ℕ) (b old new : BookValue) (t : List ℕ) (c : InputEnd)
+    → has_book_mark t ≡ false → old ≡ record { gap = asked; rows = [] } → b ≡ new
+    → ReadsLog (Ok tt) old new t c → ReadsInput asked (Ok b) t c
+read_alone asked b old new t c is none same h =
     let heard = receptions_of (log_answers t c).given in
-    let all : rows ≡ map single heard = h.1 ∙ ap (λ T. T ++ map single heard) none in
-    let gives : GivesSet b.gap t c heard = inr (log_of t c h.0) in (
-      λ log. its,
+    let its = with_rows (record { gap = asked; rows = [] }) (map single heard) in
+    let gives : GivesSet asked t c heard = inr (log_of t c h.0) in
+    subst (λ (v : BookValue). ReadsInput asked (Ok v) t c)
+    (sym (same ∙ h.1 ∙ ap (λ (v : BookValue). with_rows v (map single heard)) none)) (
+      λ log. refl,
       (heard, gives),
-      λ S set. set_book b.gap t c S heard b.rows set gives
-          (book_carries (millis_of b.gap) (witnesses (map single heard)) heard b.rows
-          (singles_stand heard).members
-          (subst (λ rs. BookOf (millis_of b.gap) (witnesses rs) b.rows) all holds)),
+      λ S set. set_book asked t c S heard its.rows set gives
+          (joined_heard (millis_of asked) [] heard [] (book_of_nothing (millis_of asked))),
     )
 
 -- what was got of one is read as a log's text
-pub log_input : (known after : Option (List ℕ)) (limit : ℕ) (head : List ℕ) (P Q : List ℕ → InputEnd
+log_input : (known after : Option (List ℕ)) (limit : ℕ) (head : List ℕ) (P Q : List ℕ → InputEnd
     → Type 0) → IsHead head → (head ≡ mark → ⊥)
     → ((t : List ℕ) (c : InputEnd) → has_book_mark t ≡ false → P t c → Q t c)
     → IfSome known (λ input. HoldsOfGot limit (head ++ input) after P)
@@ -134,15 +136,15 @@ log_input (Some input) after limit head P Q size other follows h = (
 )
 
 -- a short one has this fault, or none
-pub short_fault : (t : List ℕ) (c : InputEnd) (fault : LogFault) (rows : List Row)
-    → log_answers t c ≡ end_with (Some fault) → ReadsLog (Err (Log fault)) rows rows t c
-short_fault t c fault rows e = ap (λ a. a.fault) e
+pub short_fault : (t : List ℕ) (c : InputEnd) (fault : LogFault) (book : BookValue)
+    → log_answers t c ≡ end_with (Some fault) → ReadsLog (Err (Log fault)) book book t c
+short_fault t c fault book e = ap (λ a. a.fault) e
 
-pub short_empty : (t : List ℕ) (c : InputEnd) (rows : List Row)
-    → log_answers t c ≡ end_with None → ReadsLog (Ok tt) rows rows t c
-short_empty t c rows e = (
+pub short_empty : (t : List ℕ) (c : InputEnd) (book : BookValue)
+    → log_answers t c ≡ end_with None → ReadsLog (Ok tt) book book t c
+short_empty t c book e = (
   ap (λ a. a.fault) e,
-  sym (append-nil rows) ∙ ap (λ a. rows ++ map single (receptions_of a.given)) (sym e),
+  ap (λ a. with_rows book (map single (receptions_of a.given))) (sym e),
 )
 
 -- ---- a book file
@@ -186,8 +188,8 @@ reads_book asked b v same is =
     )
 
 -- the rows of a book stand for their witnesses
-gives_book : (asked own : ℕ) (old new rows : List Row) (v : Version) → own ≡ gap_of v
-    → IsBookRows v rows → new ≡ old ++ rows
+gives_book : (asked own : ℕ) (old new : BookValue) (rows : List Row) (v : Version) → own ≡ gap_of v
+    → IsBookRows v rows → new ≡ with_rows old rows
     → GivesRows asked own old new (book_text v rows) ending.End
 gives_book asked own old new rows v same is e = record {
   gap_is = its_own asked own v rows;
@@ -215,12 +217,11 @@ module _ (limit : ℕ) (input : List ℕ) (after : Option (List ℕ)) where
       (subst (λ t. Gets limit (mark ++ input) after t h.ending) h.reads.2 h.gets) in
       (book_text v b.rows, ending.End, gets, reads_book asked b v h.reads.1 h.reads.3)
 
-  pub rows_read : (asked own : ℕ) (old new : List Row) → new ≡ old ++ rows_after old new
-      → ReadsBook limit mark input after (Ok (record { gap = own; rows = rows_after old new }))
+  pub rows_read : (asked own : ℕ) (old new : BookValue) (rows : List Row) → new ≡ with_rows old rows
+      → ReadsBook limit mark input after (Ok (record { gap = own; rows = rows }))
       → HoldsOfGot limit (mark ++ input) after (GivesRows asked own old new)
-  rows_read asked own old new e h =
+  rows_read asked own old new rows e h =
       let v = h.reads.0 in
-      let rows = rows_after old new in
       let gets : Gets limit (mark ++ input) after (book_text v rows) ending.End =
       subst (λ c. Gets limit (mark ++ input) after (book_text v rows) c) h.reads.4
       (subst (λ t. Gets limit (mark ++ input) after t h.ending) h.reads.2 h.gets) in (
@@ -231,34 +232,27 @@ module _ (limit : ℕ) (input : List ℕ) (after : Option (List ℕ)) where
       )
 
 -- where its bytes may not be known
-pub rows_input : (asked own : ℕ) (old new : List Row) (known after : Option (List ℕ)) (limit : ℕ)
-    (head : List ℕ) → head ≡ mark → new ≡ old ++ rows_after old new
-    → IfSome known (λ input. ReadsBook limit head input after
-    (Ok (record { gap = own; rows = rows_after old new })))
-    → IfSome known (λ input. HoldsOfGot limit (head ++ input) after
+pub rows_input : (asked own : ℕ) (old new : BookValue) (rows : List Row)
+    (known after : Option (List ℕ)) (limit : ℕ) → new ≡ with_rows old rows
+    → IfSome known (λ input. ReadsBook limit mark input after
+    (Ok (record { gap = own; rows = rows })))
+    → IfSome known (λ input. HoldsOfGot limit (mark ++ input) after
     (ReadsRows asked (Ok own) old new))
-rows_input asked own old new None after limit head is e h = tt
-rows_input asked own old new (Some input) after limit head is e h =
-    subst (λ l. HoldsOfGot limit (l ++ input) after (ReadsRows asked (Ok own) old new)) (sym is)
-    (rows_read limit input after asked own old new e
-    (subst (λ l. ReadsBook limit l input after
-    (Ok (record { gap = own; rows = rows_after old new }))) is h))
+rows_input asked own old new rows None after limit e h = tt
+rows_input asked own old new rows (Some input) after limit e h =
+    rows_read limit input after asked own old new rows e h
 
-pub book_input : (asked : ℕ) (known after : Option (List ℕ)) (limit : ℕ) (head : List ℕ)
-    (b : BookValue) → head ≡ mark → IfSome known (λ input. ReadsBook limit head input after (Ok b))
-    → IfSome known (λ input. HoldsOfGot limit (head ++ input) after (ReadsInput asked (Ok b)))
-book_input asked None after limit head b is h = tt
-book_input asked (Some input) after limit head b is h =
-    subst (λ l. HoldsOfGot limit (l ++ input) after (ReadsInput asked (Ok b))) (sym is)
-    (read_book limit input after asked b (subst (λ l. ReadsBook limit l input after (Ok b)) is h))
+pub book_input : (asked : ℕ) (known after : Option (List ℕ)) (limit : ℕ) (b : BookValue)
+    → IfSome known (λ input. ReadsBook limit mark input after (Ok b))
+    → IfSome known (λ input. HoldsOfGot limit (mark ++ input) after (ReadsInput asked (Ok b)))
+book_input asked None after limit b h = tt
+book_input asked (Some input) after limit b h = read_book limit input after asked b h
 
-pub refused_input : (known after : Option (List ℕ)) (limit : ℕ) (head : List ℕ) (f : BookFault)
-    → head ≡ mark → IfSome known (λ input. ReadsBook limit head input after (Err f))
-    → IfSome known (λ input. HoldsOfGot limit (head ++ input) after (IsFaulty (Book f)))
-refused_input None after limit head f is h = tt
-refused_input (Some input) after limit head f is h =
-    subst (λ l. HoldsOfGot limit (l ++ input) after (IsFaulty (Book f))) (sym is)
-    (refused_book limit input after f (subst (λ l. ReadsBook limit l input after (Err f)) is h))
+pub refused_input : (known after : Option (List ℕ)) (limit : ℕ) (f : BookFault)
+    → IfSome known (λ input. ReadsBook limit mark input after (Err f))
+    → IfSome known (λ input. HoldsOfGot limit (mark ++ input) after (IsFaulty (Book f)))
+refused_input None after limit f h = tt
+refused_input (Some input) after limit f h = refused_book limit input after f h
 
 -- what was got is read so
 pub of_got : (known after : Option (List ℕ)) (limit : ℕ) (t : List ℕ) (c : InputEnd) (P : List ℕ
@@ -269,10 +263,34 @@ of_got (Some input) after limit t c P gets reads =
     (t, c, gets, reads)
 
 -- and so is what was got after a head
-pub of_head : (known mid after : Option (List ℕ)) (limit : ℕ) (head : List ℕ)
+of_head : (known mid after : Option (List ℕ)) (limit : ℕ) (head : List ℕ)
     (P : List ℕ → InputEnd → Type 0) → Consumes known mid head
     → IfSome mid (λ input. HoldsOfGot limit (head ++ input) after P) → OfGot limit known after P
 of_head None mid after limit head P took h = tt
 of_head (Some input) None after limit head P took h = absurd took
 of_head (Some input) (Some rest) after limit head P took h =
     subst (λ l. HoldsOfGot limit l after P) (sym took) h
+
+-- a head whose bytes were compared with the mark
+module _ (known mid after : Option (List ℕ)) (limit : ℕ) {head shown : List ℕ} {test : Bool}
+    (same : shown ≡ head) (tested : test ≡ bytes_eq shown mark) (took : Consumes known mid head) where
+  -- it is the mark
+  pub of_mark : (P : List ℕ → InputEnd → Type 0) → test ≡ true
+      → IfSome mid (λ input. HoldsOfGot limit (mark ++ input) after P) → OfGot limit known after P
+  of_mark P is h = of_head known mid after limit mark P
+      (subst (λ l. Consumes known mid l) (sym same ∙ is_mark_eq shown test tested is) took) h
+
+  -- or it isn't
+  pub of_log : (P Q : List ℕ → InputEnd → Type 0) → test ≡ false → IsHead head
+      → ((t : List ℕ) (c : InputEnd) → has_book_mark t ≡ false → P t c → Q t c)
+      → IfSome mid (λ input. HoldsOfGot limit (head ++ input) after P) → OfGot limit known after Q
+  of_log P Q is whole follows h = of_head known mid after limit head Q took
+      (log_input mid after limit head P Q whole
+      (λ e. is_other_eq shown test tested is (same ∙ e)) follows h)
+
+-- nothing was asked of the input, where an allocation failed before
+pub none_read : (known : Option (List ℕ)) (limit : ℕ) (Q : List ℕ → InputEnd → Type 0)
+    → Q [] ending.Read → OfGot limit known known Q
+none_read None limit Q h = tt
+none_read (Some input) limit Q h =
+    ([], ending.Read, record { rest = input; whole = refl; ends = (refl, omega arith) }, h)

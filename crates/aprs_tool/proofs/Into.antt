@@ -53,7 +53,7 @@ module _ (gap : ℕ) (t : List ℕ) (c : InputEnd) (b : BookValue) (h : ReadsInp
       inr (h.1.0, subst (λ g. GivesSet g t c h.1.0) (sym same) h.1.1)
 
 -- rows of another gap are not taken
-pub other_rows : (gap own : ℕ) (old new : List Row) (t : List ℕ) (c : InputEnd) → (own ≡ gap → ⊥)
+pub other_rows : (gap own : ℕ) (old new : BookValue) (t : List ℕ) (c : InputEnd) → (own ≡ gap → ⊥)
     → GivesRows gap own old new t c → IsNotTaken gap OtherGap t c
 other_rows gap own old new t c differs h =
     (own, h.set, differs, file_of gap own t c h.set differs h.gap_is h.gives)

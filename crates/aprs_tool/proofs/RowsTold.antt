@@ -1,54 +1,28 @@
--- Lemmas on the rows of inputs, and the book that they are together.
-use Rattle.aprs_tool.proofs.Common.{◌≡◌, ◌∙◌, ℕ, ◌<◌, ◌≤◌, List, [], ◌∷◌, ◌++◌, inl, inr, refl, sym, ap, subst, append_assoc, append-nil, length, arith, Result, Ok, Err, OnOk, Received, BookOf, BookValue, Holds, IsSoundBook, widened_to, IsGap, millis_of, join_row, merge, ◌∈◌, SameMembers, Row, IsSoundRow, witnesses, witnesses_of_row, witness_by, book_carries, one_book, in_either, in_left, in_right, book_of_nothing, empty_book, has_witness_by, witnessed, merged}
+-- Lemmas on the rows of inputs, and the books that they join.
+use Rattle.aprs_tool.proofs.Common.{◌≡◌, ◌∙◌, ℕ, ◌<◌, ◌≤◌, List, [], ◌∷◌, ◌++◌, inl, inr, refl, sym, ap, subst, append_assoc, append-nil, length, map, arith, Result, Ok, Err, OnOk, Received, BookOf, BookValue, Holds, IsSoundBook, widened_to, IsGap, millis_of, join_row, merge, single, Row, witnesses, book_carries, one_book, in_either, in_left, in_right, book_of_nothing, joined_rows, together, witnessed, merged}
 use Rattle.aprs_log.specs.declared.InputEnd.{InputEnd}
+use Rattle.std.specs.declared.cmp.Ordering.{Ordering}
+use Rattle.std.specs.declared.cmp.Ordering.TheVariants.{Less, Equal, Greater}
 use Rattle.aprs_laws.specs.Coalescing.{StandFor}
+use Rattle.aprs_laws.specs.JoinRow.{choose, combine, compare_near}
 use Rattle.aprs_laws.proofs.BookValues.{widened_holds}
 use Rattle.aprs_laws.proofs.Joins.{some_millis}
-use Rattle.aprs_laws.proofs.Streams.{in_witnesses}
-use Rattle.aprs_tool.specs.Gathered.{book_of_rows}
+use Rattle.aprs_laws.proofs.TakenSteps.{taken_last}
 use Rattle.aprs_tool.specs.InputRows.{GivesRows}
 use Rattle.aprs_tool.specs.InputBook.{TakesInput}
 use Rattle.aprs_tool.specs.Inputs.{GivesSet}
 use Rattle.aprs_tool.proofs.Sets.{set_book}
 
-abbrev AreSound : List Row → Type 0
-AreSound rows = (x : Row) → x ∈ rows → IsSoundRow x
-
 -- ---- rows that join the book of a set
 
-one_row : (gap : ℕ) (x : Row) → 0 < gap → IsSoundRow x
-    → BookOf gap (witnesses (x ∷ [])) (x ∷ [])
-one_row gap x pos s =
-    witnessed gap (x ∷ []) pos (record {
-      ascending = (λ y h. absurd h, tt);
-      apart = (λ y h. absurd h, tt);
-      each = λ y h. elim h [
-        | inl e ↦ subst (λ (z : Row). IsSoundRow z) e s
-        | inr k ↦ absurd k
-      ];
-    })
-
--- the rows of a book, and rows that are each sound: the book of the set and their witnesses
-pub joined_rows : (gap : ℕ) (S : List Received) (p rows : List Row) → 0 < gap → AreSound rows
-    → BookOf gap S p → BookOf gap (S ++ witnesses rows) (merge gap p rows)
-joined_rows gap S p [] pos s b = subst (λ T. BookOf gap T p) (sym (append-nil S)) b
-joined_rows gap S p (x ∷ rows) pos s b =
-    let own = witnesses_of_row x in
-    subst (λ T. BookOf gap T (merge gap (join_row gap p x) rows))
-    (append_assoc S (own ++ []) (witnesses rows)
-    ∙ ap (λ ws. S ++ (ws ++ witnesses rows)) (append-nil own))
-    (joined_rows gap (S ++ witnesses (x ∷ [])) (join_row gap p x) rows pos
-    (λ y h. s y (inr h))
-    (merged gap S (witnesses (x ∷ [])) p (x ∷ []) b (one_row gap x pos (s x (inl refl)))))
-
-pub alone : (gap : ℕ) (rows : List Row) → 0 < gap → AreSound rows
-    → BookOf gap (witnesses rows) (merge gap [] rows)
-alone gap rows pos s = joined_rows gap [] [] rows pos s (book_of_nothing gap)
-
-merge_append : (gap : ℕ) (p xs ys : List Row)
-    → merge gap p (xs ++ ys) ≡ merge gap (merge gap p xs) ys
-merge_append gap p [] ys = refl
-merge_append gap p (x ∷ xs) ys = merge_append gap (join_row gap p x) xs ys
+-- receptions, each as a row
+pub joined_heard : (gap : ℕ) (S T : List Received) (p : List Row) → BookOf gap S p
+    → BookOf gap (S ++ T) (merge gap p (map single T))
+joined_heard gap S [] p b = subst (λ U. BookOf gap U p) (sym (append-nil S)) b
+joined_heard gap S (t ∷ T) p b =
+    subst (λ U. BookOf gap U (merge gap (join_row gap p (single t)) (map single T)))
+    (append_assoc S (t ∷ []) T)
+    (joined_heard gap (S ++ t ∷ []) T (join_row gap p (single t)) (taken_last gap S t p b))
 
 -- of a set that the rows stand for
 carried : (gap : ℕ) (S T : List Received) (rows p : List Row) → StandFor rows T
@@ -66,20 +40,11 @@ carried gap S T rows p f b =
       ],
     )) b
 
-adds_rows : (gap : ℕ) (T : List Received) (old rows new : List Row) → 0 < millis_of gap
-    → StandFor rows T → new ≡ old ++ rows → (S : List Received)
-    → BookOf (millis_of gap) S (merge (millis_of gap) [] old)
-    → BookOf (millis_of gap) (S ++ T) (merge (millis_of gap) [] new)
-adds_rows gap T old rows new pos f e S b =
-    subst (λ rs. BookOf (millis_of gap) (S ++ T) rs)
-    (sym (ap (merge (millis_of gap) []) e ∙ merge_append (millis_of gap) [] old rows))
-    (carried (millis_of gap) S T rows _ f
-    (joined_rows (millis_of gap) S (merge (millis_of gap) [] old) rows pos f.each b))
-
 -- their book, of a set that they stand for
 own_book : (gap : ℕ) (T : List Received) (rows : List Row) → 0 < gap → StandFor rows T
     → BookOf gap T (merge gap [] rows)
-own_book gap T rows pos f = carried gap [] T rows (merge gap [] rows) f (alone gap rows pos f.each)
+own_book gap T rows pos f =
+    carried gap [] T rows (merge gap [] rows) f (together gap rows pos f.each)
 
 -- two sets with one book add the same
 added : (gap : ℕ) (S T U : List Received) (old own new : List Row) → BookOf gap S old
@@ -89,81 +54,64 @@ added gap S T U old own new book first second whole =
     (one_book gap (S ++ U) (merge gap old own) new (merged gap S U old own book second) whole)
     (merged gap S T old own book first)
 
--- the rows of a faultless input are taken into those of a book of its gap
-pub takes_rows : (gap own : ℕ) (old new : List Row) (t : List ℕ) (c : InputEnd) → IsGap gap
-    → own ≡ gap → GivesRows gap own old new t c
-    → TakesInput gap (Ok tt) (merge (millis_of gap) [] old) (merge (millis_of gap) [] new) t c
-takes_rows gap own old new t c r e h =
+-- the rows of a faultless input are taken into a book of its gap
+pub takes_rows : (own : ℕ) (old new : BookValue) (t : List ℕ) (c : InputEnd) → IsGap old.gap
+    → own ≡ old.gap → GivesRows old.gap own old new t c
+    → TakesInput old.gap (Ok tt) old.rows new.rows t c
+takes_rows own old new t c r e h =
+    let gap = millis_of old.gap in
     let its = subst (λ g. GivesSet g t c h.set) e h.gives in
-    let pos = some_millis gap r in
-    let own = own_book (millis_of gap) h.set h.rows pos h.stand in (
+    let pos = some_millis old.gap r in
+    let alone = own_book gap h.set h.rows pos h.stand in (
       (h.set, its),
-      λ S T gives book. added (millis_of gap) S T h.set (merge (millis_of gap) [] old)
-          (merge (millis_of gap) [] h.rows) (merge (millis_of gap) [] new) book
-          (set_book gap t c T h.set (merge (millis_of gap) [] h.rows) gives its own) own
-          (adds_rows gap h.set old h.rows new pos h.stand h.new_is S book),
+      λ S T gives book. subst (λ (b : BookValue). BookOf gap (S ++ T) b.rows) (sym h.new_is)
+          (added gap S T h.set old.rows (merge gap [] h.rows) (merge gap old.rows h.rows) book
+          (set_book old.gap t c T h.set (merge gap [] h.rows) gives its alone) alone
+          (carried gap S h.set h.rows (merge gap old.rows h.rows) h.stand
+          (joined_rows gap S old.rows h.rows pos h.stand.each book))),
     )
 
--- ---- their book
-
--- whatever holds what rows stand for is their book
-pub same_book : (gap : ℕ) (rows : List Row) (b : BookValue) → IsGap gap → AreSound rows
-    → b.gap ≡ gap → Holds (witnesses rows) b → b ≡ book_of_rows gap rows
-same_book gap rows b r s e h =
-    let lines =
-    one_book (millis_of gap) (witnesses rows) b.rows (merge (millis_of gap) [] rows)
-    (subst (λ n. BookOf (millis_of n) (witnesses rows) b.rows) e h)
-    (alone (millis_of gap) rows (some_millis gap r) s) in
-    λ t. record { gap = e t; rows = lines t }
-
--- where there are rows, it has rows
-pub some_rows : (gap : ℕ) (rows : List Row) → IsGap gap → AreSound rows → (rows ≡ [] → ⊥)
-    → (book_of_rows gap rows).rows ≡ [] → ⊥
-some_rows gap [] r s some e = some refl
-some_rows gap (x ∷ rows) r s some e =
-    let pos = some_millis gap r in
-    let none : witnesses (x ∷ rows) ≡ [] =
-    (empty_book (millis_of gap) (witnesses (x ∷ rows))).0
-    (subst (λ rs. BookOf (millis_of gap) (witnesses (x ∷ rows)) rs) e
-    (alone (millis_of gap) (x ∷ rows) pos s)) in
-    let own = s x (inl refl) in
-    let there = (in_witnesses (x ∷ rows) (witness_by x x.greatest.receiver)).1
-    (x, inl refl, has_witness_by (millis_of gap) x own pos x.greatest.receiver own.receiver) in
-    absurd (subst (λ (ws : List Received). witness_by x x.greatest.receiver ∈ ws) none there)
-
--- the book of an input whose rows alone were read
-holds_read : (gap asked own : ℕ) (new : List Row) (t : List ℕ) (c : InputEnd) → IsGap gap
-    → (h : GivesRows asked own [] new t c) → Holds h.set (book_of_rows gap new)
-holds_read gap asked own new t c r h =
-    subst (λ rs. BookOf (millis_of gap) h.set (merge (millis_of gap) [] rs)) (sym h.new_is)
+-- rows that were read into no others, under a gap that is not less than their own: the book is that
+-- of each set that the input stands for
+pub holds_wide : (gap own : ℕ) (old new : BookValue) (t : List ℕ) (c : InputEnd) → IsGap gap
+    → IsGap own → own ≤ gap → old ≡ record { gap = gap; rows = [] }
+    → (h : GivesRows gap own old new t c) → (S : List Received) → GivesSet own t c S
+    → BookOf (millis_of gap) S new.rows
+holds_wide gap own old new t c r o l none h S gives =
+    let wide = merge (millis_of gap) [] h.rows in
+    let narrow : BookValue = record { gap = own; rows = merge (millis_of own) [] h.rows } in
+    let read : new.rows ≡ wide = ap (λ (b : BookValue). b.rows) h.new_is
+    ∙ ap (λ (b : BookValue). merge (millis_of b.gap) b.rows h.rows) none in
+    let its : Holds h.set narrow =
+    own_book (millis_of own) h.set h.rows (some_millis own o) h.stand in
+    let same : wide ≡ (widened_to gap narrow).rows = one_book (millis_of gap) h.set wide
+    (widened_to gap narrow).rows
     (own_book (millis_of gap) h.set h.rows (some_millis gap r) h.stand)
+    (widened_holds gap h.set narrow l its) in
+    subst (λ (rows : List Row). BookOf (millis_of gap) S rows) (sym (read ∙ same))
+    (widened_holds gap S narrow l (set_book own t c S h.set narrow.rows gives h.gives its))
 
--- under a gap that is not less it is the widened book
-wide_read : (gap own : ℕ) (new : List Row) (t : List ℕ) (c : InputEnd) → IsGap gap → IsGap own
-    → own ≤ gap → GivesRows gap own [] new t c
-    → book_of_rows gap new ≡ widened_to gap (book_of_rows own new)
-wide_read gap own new t c r o l h =
-    let lines =
-    one_book (millis_of gap) h.set (merge (millis_of gap) [] new)
-    (widened_to gap (book_of_rows own new)).rows (holds_read gap gap own new t c r h)
-    (widened_holds gap h.set (book_of_rows own new) l (holds_read own gap own new t c o h)) in
-    λ i. record { gap = gap; rows = lines i }
+-- ---- a book that rows joined has rows
 
--- which is that of each set that the input stands for
-pub holds_wide : (gap own : ℕ) (new : List Row) (t : List ℕ) (c : InputEnd) → IsGap gap → IsGap own
-    → own ≤ gap → GivesRows gap own [] new t c → (S : List Received) → GivesSet own t c S
-    → Holds S (book_of_rows gap new)
-holds_wide gap own new t c r o l h S gives =
-    subst (λ (b : BookValue). Holds S b) (sym (wide_read gap own new t c r o l h))
-    (widened_holds gap S (book_of_rows own new) l
-    (set_book own t c S h.set (book_of_rows own new).rows gives h.gives
-    (holds_read own gap own new t c o h)))
+joined_some : (gap : ℕ) (p : List Row) (r : Row) → 0 < length (join_row gap p r)
+joined_some gap [] r = omega arith
+joined_some gap (x ∷ p) r = by (compare_near gap x r) (joined_some gap p (combine x r))
+  where
+    by : (o : Ordering) → 0 < length (join_row gap p (combine x r))
+        → 0 < length (choose o (x ∷ join_row gap p r) (join_row gap p (combine x r)) (r ∷ x ∷ p))
+    by Less h = omega arith
+    by Equal h = h
+    by Greater h = omega arith
 
--- rows of which none are others
-pub none_same : (xs ys : List Row) → SameMembers xs ys → xs ≡ [] → ys ≡ []
-none_same xs [] m e = refl
-none_same xs (y ∷ ys) m e =
-    absurd (subst (λ (zs : List Row). y ∈ zs) e ((m y).1 (inl refl)))
+merged_some : (gap : ℕ) (p rows : List Row) → 0 < length p → 0 < length (merge gap p rows)
+merged_some gap p [] h = h
+merged_some gap p (r ∷ rows) h = merged_some gap (join_row gap p r) rows (joined_some gap p r)
+
+pub some_rows : (gap : ℕ) (p rows : List Row) → (rows ≡ [] → ⊥) → merge gap p rows ≡ [] → ⊥
+some_rows gap p [] some e = some refl
+some_rows gap p (r ∷ rows) some e =
+    let more = merged_some gap (join_row gap p r) rows (joined_some gap p r) in
+    absurd (omega (arith, more, ap length e))
 
 -- ---- a book that another is merged into
 

@@ -15,9 +15,10 @@ use Rattle.aprs_tool.specs.declared.fault.RunFault.TheVariants.{Input}
 use Rattle.aprs_tool.specs.declared.gathered.OutputFault.{OutputFault}
 use Rattle.aprs_tool.specs.declared.gathered.OutputFault.TheVariants.{Memory, Write}
 
--- The book of this gap that rows are together, whatever their order.
-abbrev pub book_of_rows : ℕ → List Row → BookValue
-book_of_rows gap rows = record { gap = gap; rows = merge (millis_of gap) [] rows }
+-- The book that these rows joined.
+abbrev pub with_rows : BookValue → List Row → BookValue
+with_rows book rows =
+    record { gap = book.gap; rows = merge (millis_of book.gap) book.rows rows }
 
 -- The text of the book is written, or a prefix of it where the output was refused. Where an
 -- allocation failed, nothing is, and the book has rows.

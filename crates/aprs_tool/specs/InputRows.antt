@@ -1,15 +1,17 @@
--- What an input's rows are in a store, and why its book isn't merged. No public clause cites this
+-- What an input's rows make of a book, and why its book isn't merged. No public clause cites this
 -- module.
-use Rattle.std.specs.Prelude.{◌≡◌, ◌≢◌, ℕ, List, ◌++◌, Option, None, Some, Result, Ok, Err, map}
+use Rattle.std.specs.Prelude.{◌≡◌, ◌≢◌, ℕ, List, Option, None, Some, Result, Ok, Err, map}
 use Rattle.aprs_io.specs.Input.{Gets}
 use Rattle.aprs_io.specs.declared.input.InputEnd.{InputEnd}
 use Rattle.aprs_log.specs.LogAnswers.{log_answers, receptions_of}
 use Rattle.aprs_log.specs.Reception.{Received}
+use Rattle.aprs_laws.specs.BookValue.{BookValue}
 use Rattle.aprs_laws.specs.Coalescing.{StandFor}
 use Rattle.aprs_laws.specs.JoinRow.{single}
 use Rattle.aprs_laws.specs.Row.{Row}
 use Rattle.aprs_laws.specs.declared.merge_fault.MergeFault.{MergeFault}
 use Rattle.aprs_laws.specs.declared.merge_fault.MergeFault.TheVariants as merge
+use Rattle.aprs_tool.specs.Gathered.{with_rows}
 use Rattle.aprs_tool.specs.InputBook.{IsGapOf}
 use Rattle.aprs_tool.specs.Inputs.{GivesSet}
 use Rattle.aprs_tool.specs.Refused.{IsFaulty}
@@ -28,26 +30,26 @@ IsLogRefused (Log fault) text ending = (log_answers text ending).fault ≡ Some 
 IsLogRefused Memory text ending = Unit {0}
 IsLogRefused fault text ending = ⊥
 
--- The receptions of a faultless log come after the rows that were there, each as a row, and any
--- other log is refused.
-abbrev pub ReadsLog : Result (Unit {0}) InputFault → List Row → List Row → List ℕ → InputEnd → Type 0
+-- The receptions of a faultless log join the book, each as a row, and any other log is refused.
+abbrev pub ReadsLog : Result (Unit {0}) InputFault → BookValue → BookValue → List ℕ → InputEnd
+    → Type 0
 ReadsLog (Ok u) old new text ending = ((log_answers text ending).fault ≡ None)
-    × (new ≡ old ++ map single (receptions_of (log_answers text ending).given))
+    × (new ≡ with_rows old (map single (receptions_of (log_answers text ending).given)))
 ReadsLog (Err fault) old new text ending = IsLogRefused fault text ending
 
--- The rows that came after the old ones stand for a set that the input stands for, under its own
--- gap or the one asked for.
-pub record GivesRows (asked own : ℕ) (old new : List Row) (text : List ℕ) (ending : InputEnd)
+-- The rows that joined the book stand for a set that the input stands for, under its own gap or the
+-- one asked for.
+pub record GivesRows (asked own : ℕ) (old new : BookValue) (text : List ℕ) (ending : InputEnd)
     : Type 0 where
   pub gap_is : IsGapOf asked text own
   pub rows : List Row
-  pub new_is : new ≡ old ++ rows
+  pub new_is : new ≡ with_rows old rows
   pub set : List Received
   pub gives : GivesSet own text ending set
   pub stand : StandFor rows set
 
 -- The rows of a faultless input are read, and any other input is refused.
-abbrev pub ReadsRows : ℕ → Result ℕ InputFault → List Row → List Row → List ℕ → InputEnd → Type 0
+abbrev pub ReadsRows : ℕ → Result ℕ InputFault → BookValue → BookValue → List ℕ → InputEnd → Type 0
 ReadsRows asked (Ok own) old new text ending = GivesRows asked own old new text ending
 ReadsRows asked (Err fault) old new text ending = IsFaulty fault text ending
 

@@ -1,11 +1,24 @@
-//! A book that inputs are merged into.
-ghost use Rattle.std.specs.Prelude.{◌≤◌};
+//! A book that inputs are merged into, and the book of one input.
+ghost use Rattle.std.specs.Prelude.{◌≡◌, ◌≤◌, List, IfOk, IfErr, OnOk};
+ghost use Rattle.aprs_io.specs.Device.{device_of};
 ghost use Rattle.aprs_io.specs.Input.{most_input};
+ghost use Rattle.aprs_log.specs.Reception.{Received};
+ghost use Rattle.aprs_laws.specs.Book.{BookOf};
+ghost use Rattle.aprs_laws.specs.BookValue.{HaveOneGap};
+ghost use Rattle.aprs_laws.specs.Gap.{millis_of};
+ghost use Rattle.aprs_book.specs.Taking.{MergesInto};
+ghost use Rattle.aprs_convert.specs.Got.{OfGot};
+ghost use Rattle.aprs_tool.specs.Devices.{AsksInput};
+ghost use Rattle.aprs_tool.specs.InputBook.{ReadsInput};
+ghost use Rattle.aprs_tool.specs.InputRows.{RefusesGaps};
 
 use crate::fault::InputFault;
-use crate::input::{merge_books, read_input};
-use aprs_book::{Book, Gap};
+use crate::head::read_head;
+use crate::input::{BOOK_MARK, read_log, read_short};
+use aprs_book::{Book, Gap, MergeFault};
+use aprs_booktext::read_book;
 use aprs_io::Counted;
+use aprs_rows::BookStore;
 use std::alloc::{Allocator, Global};
 use std::io::Read;
 
@@ -108,4 +121,66 @@ impl<A: Allocator + Copy> Desk<A> {
         } = self;
         book
     }
+}
+
+/// Reads the book of an input. An input whose first eight bytes are `APRSBOOK` is a book file, and
+/// gives its book with its own gap. Every other is a log, and gives the book of its receptions with
+/// the gap that is asked for; lines without a frame are passed over. Requires that `limit` is at
+/// most `MAX_INPUT` (1,073,741,824). At most `limit` bytes are read: an input that has more is
+/// faulty. A faulty input gives its first fault. Where an allocation failed before that fault, a
+/// log gives `Memory`, and a book file gives `Book` with the cause `Memory` and the line that was
+/// being read. An input of which fewer than eight bytes are got is a log, and so is one with an LF
+/// among the first eight.
+/// Keeps in memory the book, one line and a log's receptions, packed in bytes.
+pub fn read_input<R: Read, A: Allocator + Copy>(
+    alloc: A,
+    limit: u64,
+    gap: Gap,
+    r: &mut Counted<R>,
+) -> Result<Book<A>, InputFault>
+    requires { limit ≤ most_input }
+    ensures reads { OfGot limit (R.remaining (device_of r.old))
+        (R.remaining (device_of r.new)) (ReadsInput gap result) }
+    // The reader is asked neither after its end nor after a fault.
+    ensures calls { AsksInput result r.old r.new }
+{
+    match read_head(limit, r) {
+        Ok(head) if head.as_slice() == BOOK_MARK => Ok(read_book(alloc, limit, BOOK_MARK, r)?),
+        Ok(head) => {
+            let mut store = BookStore::new(alloc, gap);
+            read_log(alloc, limit, head.as_slice(), &mut store, r)?;
+            let mut room = Vec::new(alloc);
+            let rows = store.rows(&mut room)?;
+            Ok(Book::of_rows(alloc, rows)?)
+        }
+        Err(short) => {
+            read_short(&short)?;
+            Ok(Book::with_gap(alloc, gap))
+        }
+    }
+}
+
+/// The book of the receptions of both books: the second itself where the first has no rows. Fails
+/// with `OtherGap` where their gaps differ, and with `Memory` where an allocation failed.
+fn merge_books<A: Allocator + Copy>(
+    book: &Book<A>,
+    input: Book<A>,
+) -> Result<Book<A>, MergeFault>
+    ensures merges { IfOk result (λ both.
+        MergesInto (millis_of book.now.gap) book.now.rows input.rows both.rows) }
+    ensures gap { IfOk result (λ both. both.gap ≡ book.now.gap) }
+    ensures one { OnOk result (HaveOneGap book.now input) }
+    // The first book is that of some set of receptions.
+    ensures known { OnOk result ((S : List Received)
+        × BookOf (millis_of book.now.gap) S book.now.rows) }
+
+    ensures refused { IfErr result (λ fault. RefusesGaps fault book.now.gap input.gap) }
+{
+    if book.gap() != input.gap() {
+        return Err(MergeFault::OtherGap);
+    }
+    if book.len() == 0 {
+        return Ok(input);
+    }
+    book.merge(&input)
 }

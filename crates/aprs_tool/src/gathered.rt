@@ -1,7 +1,8 @@
-//! The rows of inputs, before their book is made.
-ghost use Rattle.std.specs.Prelude.{◌≡◌, []};
+//! The book of inputs, as it is gathered.
+ghost use Rattle.std.specs.Prelude.{◌≡◌, ◌≢◌, [], IfOk, OnOk, OnErr};
 ghost use Rattle.aprs_laws.specs.BookValue.{BookValue};
-ghost use Rattle.aprs_tool.specs.Gathered.{book_of_rows, WritesText};
+ghost use Rattle.aprs_laws.specs.Coalescing.{AreInOrder};
+ghost use Rattle.aprs_tool.specs.Gathered.{with_rows, WritesText};
 ghost use Rattle.aprs_tool.specs.ToldBook.{IsHistory, IsShown, WritesTold, answer_of_output};
 
 use crate::fault::RunFault;
@@ -9,39 +10,41 @@ use aprs_book::{Gap, Memory, Summary};
 use aprs_booktext::write_rows;
 use aprs_io::{Counted, WriteFault};
 use aprs_listing::{Listing, write_history};
-use aprs_rows::RowStore;
+use aprs_rows::{BookStore, PackedRows};
 use std::alloc::{Allocator, Global};
 use std::io::Write;
 use std::marker::Model;
 
-/// The rows of logs and book files, for a book of this gap.
+/// The book of logs and book files. The rows of a book file join the store before the next input is
+/// read, so that no allocation fails for them when it was read to its end.
 pub(crate) struct Gathered<A: Allocator = Global> {
     pub(crate) alloc: A,
-    pub(crate) gap: Gap,
-    pub(crate) store: RowStore<A>,
+    pub(crate) store: BookStore<A>,
+    pub(crate) file: PackedRows<A>,
 }
 
 impl<A: Allocator> Drop for Gathered<A> {
     fn drop(self) {
         let Gathered {
             alloc: _,
-            gap: _,
             store,
+            file,
         } = self;
         drop(store);
+        drop(file);
     }
 }
 
 impl<A: Allocator> Model for Gathered<A> {
     ghost use Rattle.aprs_laws.specs.BookValue.{BookValue};
-    ghost use Rattle.aprs_laws.specs.Gap.{IsGap};
-    ghost use Rattle.aprs_tool.specs.Gathered.{book_of_rows};
+    ghost use Rattle.aprs_laws.specs.Coalescing.{AreInOrder};
+    ghost use Rattle.aprs_tool.specs.Gathered.{with_rows};
 
     ghost Value = { BookValue };
 
-    ghost view = { λ g. book_of_rows g.gap g.store };
+    ghost view = { λ g. with_rows g.store g.file };
 
-    ghost invariant = { λ g. IsGap g.gap };
+    ghost invariant = { λ g. AreInOrder g.file };
 }
 
 /// Why the book of the gathered rows, its listing or its history isn't written.
@@ -85,60 +88,81 @@ impl From<WriteFault> for OutputFault {
 }
 
 impl<A: Allocator + Copy> Gathered<A> {
-    /// No rows, for a book of this gap. Takes no memory.
+    /// The book of no rows, under this gap. Takes no memory.
     pub(crate) fn new(alloc: A, gap: Gap) -> Gathered<A>
         ensures { result ≡ record { gap = gap; rows = [] } }
     {
-        Gathered::of(alloc, gap, RowStore::new(alloc))
+        Gathered {
+            alloc,
+            store: BookStore::new(alloc, gap),
+            file: PackedRows::new(alloc),
+        }
     }
 
-    /// These rows, for a book of this gap. Takes no memory.
-    pub(crate) fn of(alloc: A, gap: Gap, store: RowStore<A>) -> Gathered<A>
-        ensures { result ≡ book_of_rows gap store }
-    {
-        Gathered { alloc, gap, store }
-    }
-
-    /// Writes the text of the book of all rows. At `Memory` an allocation failed, and nothing was
-    /// written; without any row this doesn't come. At `Write` a prefix of the text was written.
-    pub(crate) fn write<W: Write>(self, w: &mut Counted<W>) -> Result<(), OutputFault>
-        ensures { WritesText W.contents result self w.old w.new }
+    /// A store with the book. At `Memory` the book has rows.
+    fn into_store(self) -> Result<BookStore<A>, Memory>
+        ensures book { IfOk result (λ store. store ≡ self) }
+        ensures some { OnErr result (self.rows ≢ []) }
     {
         let Gathered {
             alloc: _,
-            gap,
-            store,
+            mut store,
+            file,
         } = self;
-        let order = store.in_order()?;
-        let rows = order.transmissions(gap)?;
-        Ok(write_rows(w, &rows)?)
+        add_rows(&mut store, file)?;
+        Ok(store)
     }
 
-    /// Writes the listing of the book of all rows. At `Memory` an allocation failed, and nothing
-    /// was written; at `Write` a prefix of the listing was written.
+    /// Writes the text of the book. At `Memory` an allocation failed, and nothing was written;
+    /// without any row this doesn't come. At `Write` a prefix of the text was written.
+    pub(crate) fn write<W: Write>(self, w: &mut Counted<W>) -> Result<(), OutputFault>
+        ensures { WritesText W.contents result self w.old w.new }
+    {
+        let mut room = Vec::new(self.alloc);
+        let mut store = self.into_store()?;
+        let rows = store.rows(&mut room)?;
+        Ok(write_rows(w, rows)?)
+    }
+
+    /// Writes the listing of the book. At `Memory` an allocation failed, and nothing was written;
+    /// at `Write` a prefix of the listing was written.
     pub(crate) fn show<W: Write>(self, w: &mut Counted<W>) -> Result<(), OutputFault>
         ensures { WritesTold IsShown W.contents result self w.old w.new }
     {
-        let Gathered { alloc, gap, store } = self;
-        let order = store.in_order()?;
-        let rows = order.transmissions(gap)?;
-        let summary = Summary::of(alloc, &rows)?;
+        let alloc = self.alloc;
+        let mut room = Vec::new(alloc);
+        let mut store = self.into_store()?;
+        let rows = store.rows(&mut room)?;
+        let summary = Summary::of(alloc, rows)?;
         let listing = Listing::of(&summary)?;
         Ok(listing.write(w)?)
     }
 
-    /// Writes the history of the book of all rows. At `Memory` an allocation failed, and nothing
-    /// was written; at `Write` a prefix of the history was written.
+    /// Writes the history of the book. At `Memory` an allocation failed, and nothing was written;
+    /// at `Write` a prefix of the history was written.
     pub(crate) fn history<W: Write>(self, w: &mut Counted<W>) -> Result<(), OutputFault>
         ensures { WritesTold IsHistory W.contents result self w.old w.new }
     {
-        let Gathered {
-            alloc: _,
-            gap,
-            store,
-        } = self;
-        let order = store.in_order()?;
-        let rows = order.transmissions(gap)?;
-        Ok(write_history(w, &rows)?)
+        let mut room = Vec::new(self.alloc);
+        let mut store = self.into_store()?;
+        let rows = store.rows(&mut room)?;
+        Ok(write_history(w, rows)?)
     }
+}
+
+/// Adds rows, which have to be in order, to the book of a store. After `Memory` the book is as
+/// before. Without any row this doesn't come.
+pub(crate) fn add_rows<A: Allocator + Copy>(
+    store: &mut BookStore<A>,
+    rows: PackedRows<A>,
+) -> Result<(), Memory>
+    requires { AreInOrder rows }
+    ensures added { OnOk result (store.new ≡ with_rows store.old rows) }
+    ensures unchanged { OnErr result (store.new ≡ store.old) }
+    ensures some { OnErr result (rows ≢ []) }
+{
+    if rows.is_empty() {
+        return Ok(());
+    }
+    store.add(rows)
 }

@@ -20,11 +20,10 @@ pub use aprs_command::{
 };
 pub use aprs_convert::Form;
 pub use aprs_io::{Counted, DeviceFault, WriteFault, send};
-pub use desk::Desk;
+pub use desk::{Desk, read_input};
 pub use example::{book_files_stand_for_their_sets, logs_stand_for_their_receptions};
 pub use fault::{InputFault, RunFault, status_of};
 pub use history::history_run;
-pub use input::read_input;
 pub use laws::{
     faultless_inputs_have_no_fault, histories_tell_places, listings_tell_positions,
     same_receptions_same_bytes, same_receptions_same_history,

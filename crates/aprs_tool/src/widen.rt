@@ -13,7 +13,6 @@ use crate::gathered::{Gathered, OutputFault};
 use crate::input::read_input_rows;
 use aprs_book::Gap;
 use aprs_io::Counted;
-use aprs_rows::RowStore;
 use std::alloc::Allocator;
 use std::io::{Read, Write};
 
@@ -49,15 +48,15 @@ pub fn widen_run<R: Read, W: Write, A: Allocator + Copy>(
     ensures asks { AsksEach result (r.old ∷ []) (r.new ∷ []) }
     ensures calls { CallsOutput result w.old w.new }
 {
-    let mut store = RowStore::new(alloc);
-    let own = match read_input_rows(alloc, limit, gap, &mut store, r) {
+    let mut gathered = Gathered::new(alloc, gap);
+    let own = match read_input_rows(alloc, limit, &mut gathered, r) {
         Ok(own) => own,
         Err(fault) => return Err(RunFault::Input { index: 0, fault }),
     };
     if own.seconds() > gap.seconds() {
         return Err(narrower_fault());
     }
-    match Gathered::of(alloc, gap, store).write(w) {
+    match gathered.write(w) {
         Ok(()) => Ok(()),
         Err(OutputFault::Memory) => Err(RunFault::Memory),
         Err(OutputFault::Write) => Err(RunFault::Write),

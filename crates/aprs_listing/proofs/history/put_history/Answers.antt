@@ -1,14 +1,11 @@
 use Rattle.aprs_listing.proofs.Histories.{PutSoFar-all, PutSoFar-broken, PutSoFar-more, PutSoFar-none}
-use Rattle.aprs_listing.proofs.OneLines.{lines_of_told}
 use Rattle.aprs_listing.proofs.history.put_history.Goals as goal
 
 pub loop-row-init : goal.loop-row-init
-loop-row-init g c =
-    rw (c.into_iter-row-iterator.ensures.into_iter_gives, c.rows-row-items.ensures.rows)
-    (PutSoFar-none _ _)
+loop-row-init g c = rw (c.into_iter-row-iterator.ensures.into_iter_gives) (PutSoFar-none _ _)
 
-pub returns-in_err-put_row_history-clause-puts : goal.returns-in_err-put_row_history-clause-puts
-returns-in_err-put_row_history-clause-puts g c =
+pub returns-in_err-put_row_history : goal.returns-in_err-put_row_history
+returns-in_err-put_row_history g c =
     PutSoFar-broken c.loop-row.invariant _ _ c.in-Some.ensures.steps _ c.from_residual.ensures.0
     c.in_err-put_row_history.ensures
 
@@ -16,11 +13,5 @@ pub loop-row-preserved : goal.loop-row-preserved
 loop-row-preserved g c =
     PutSoFar-more c.loop-row.invariant _ _ c.in-Some.ensures.steps c.in_ok-put_row_history.ensures
 
-pub returns-clause-puts : goal.returns-clause-puts
-returns-clause-puts g c = PutSoFar-all c.loop-row.invariant c.in-None.ensures.steps.0
-
-pub returns-in_err-put_row_history-clause-lines : goal.returns-in_err-put_row_history-clause-lines
-returns-in_err-put_row_history-clause-lines g c = lines_of_told _ c.rows-row-items.ensures.told
-
-pub returns-clause-lines : goal.returns-clause-lines
-returns-clause-lines g c = lines_of_told _ c.rows-row-items.ensures.told
+pub returns : goal.returns
+returns g c = PutSoFar-all c.loop-row.invariant c.in-None.ensures.steps.0

@@ -3,4 +3,4 @@ use Rattle.aprs_listing.proofs.history.put_history.Given as goal
 
 abbrev pub invariant-loop-row : goal.invariant-loop-row
 invariant-loop-row g l =
-    PutSoFar g.W.Write.contents l.initial.out l.out l.fn.rows.rows l.row-iterator
+    PutSoFar g.W.Write.contents l.initial.out l.out l.fn.rows.rows l.row-iterator.rows

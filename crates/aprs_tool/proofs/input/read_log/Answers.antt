@@ -1,5 +1,6 @@
 use Rattle.aprs_tool.proofs.Common.{single, ap, map, refl, rules, sym, ◌∙◌, ◌++◌, ◌∷◌, [], subst, IfSome, Ok, Err, err_from_is_err_and, Calls, Going, device_of, Calls-none, Calls-then, receptions_of, current_of, lent_device, Line}
 use Rattle.aprs_io.specs.Device.{End}
+use Rattle.aprs_tool.specs.Gathered.{with_rows}
 use Rattle.aprs_tool.specs.InputRows.{HoldsOfGot, ReadsLog}
 use Rattle.aprs_tool.specs.declared.fault.InputFault.TheVariants.{Log, Memory}
 use Rattle.aprs_log.specs.Awaits.{last_of_cause}
@@ -12,6 +13,7 @@ lines-init g c = record {
   calls = subst (Calls Going c.args.r.now) (sym c.new-reader.ensures.source) (Calls-none _);
   going = c.new-reader.ensures.starts.going;
   took = λ end. Took-none _ _;
+  gap = refl;
 }
 
 pub lines-preserved : goal.lines-preserved
@@ -24,8 +26,10 @@ lines-preserved g c =
       going = gives.1;
       took = λ end. Took-line _ _ _ _ _ _ _ (current_of c.advance.new.self) refl
           (c.lines.invariant.took end) (gives.2 end)
-          (c.in_ok-push_heard.ensures ∙ ap (λ (y : Line). c.lines.store ++ map single (receptions_of (y ∷ [])))
+          (c.in_ok-push_heard.ensures.pushed
+          ∙ ap (λ (y : Line). with_rows c.lines.store (map single (receptions_of (y ∷ []))))
           c.current.ensures);
+      gap = c.push_heard.ensures.gap ∙ c.lines.invariant.gap;
     }
 
 pub returns-then-not-branch-clause-reads : goal.returns-then-not-branch-clause-reads

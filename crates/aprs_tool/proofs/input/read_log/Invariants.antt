@@ -12,6 +12,7 @@ invariant-lines g l =
       took : (end : Option (List ℕ)) → Took
           (Awaits (remaining (device_of (lent_device l.initial.reader))) end l.initial.reader)
           (Awaits (remaining (device_of (lent_device l.reader))) end l.reader) l.fn.store l.store;
+      gap : l.store.gap ≡ l.fn.store.gap;
     }
 
 abbrev pub decreases-lines : goal.decreases-lines

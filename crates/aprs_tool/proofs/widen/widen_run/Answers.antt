@@ -1,5 +1,4 @@
-use Rattle.aprs_tool.proofs.Common.{Ok, Err, refl, subst, got_so}
-use Rattle.aprs_tool.specs.Gathered.{WritesText}
+use Rattle.aprs_tool.proofs.Common.{refl, got_so}
 use Rattle.aprs_tool.proofs.LastRefused.{text_cut, text_none, text_sent}
 use Rattle.aprs_tool.proofs.Outcomes.{prefix_went, text_went}
 use Rattle.aprs_tool.proofs.Widens.{not_wide, not_widened, wide_text, within}
@@ -21,8 +20,8 @@ returns-then-seconds-clause-refuses g c =
     rw c.narrower_fault.ensures
     (got_so _ _ c.args.limit (λ input. input) _ _
     (λ t e h. (
-      not_wide c.args.gap c.in-Ok.own _ _ _ c.read_input_rows.new.store t e
-          c.seconds-2.ensures.value c.seconds.ensures.value c.new-store.ensures h c.if-seconds.true,
+      not_wide c.args.gap c.in-Ok.own _ _ _ c.read_input_rows.new.gathered t e
+          c.seconds-2.ensures.value c.seconds.ensures.value c.new-gathered.ensures h c.if-seconds.true,
       refl,
     ))
     c.in-Ok.ensures.reads)
@@ -33,12 +32,10 @@ pub returns-in-Ok-write-clause-writes : goal.returns-in-Ok-write-clause-writes
 returns-in-Ok-write-clause-writes g c =
     got_so _ _ c.args.limit (λ input. input) _ _
     (λ t e h. text_went _ g.W.Write.contents c.args.w.now c.write.new.w _
-    (wide_text c.args.gap c.in-Ok.own _ _ _ c.read_input_rows.new.store t e
-    c.seconds-2.ensures.value c.seconds.ensures.value c.new-store.ensures h
+    (wide_text c.args.gap c.in-Ok.own _ _ _ c.read_input_rows.new.gathered t e
+    c.seconds-2.ensures.value c.seconds.ensures.value c.new-gathered.ensures h
     c.seconds-2.ensures.range c.seconds.ensures.range c.if-seconds.false)
-    (text_sent _ _ _ _ (subst
-    (λ b. WritesText g.W.Write.contents (Ok tt) b c.args.w.now c.write.new.w) c.of.ensures
-    c.in-Ok-write.ensures))) c.in-Ok.ensures.reads
+    (text_sent _ _ _ _ c.in-Ok-write.ensures)) c.in-Ok.ensures.reads
 
 pub returns-in-Ok-write-clause-refuses : goal.returns-in-Ok-write-clause-refuses
 returns-in-Ok-write-clause-refuses g c =
@@ -58,8 +55,8 @@ returns-in-Err-Memory-clause-refuses g c =
     let none = text_none _ _ _ _ _ c.in-Err-Memory.field-0-is c.in-Err-Memory.ensures in
     got_so _ _ c.args.limit (λ input. input) _ _
     (λ t e h. (
-      within c.args.gap c.in-Ok.own _ _ _ c.read_input_rows.new.store t e
-          c.seconds-2.ensures.value c.seconds.ensures.value c.new-store.ensures h c.if-seconds.false,
+      within c.args.gap c.in-Ok.own _ _ _ c.read_input_rows.new.gathered t e
+          c.seconds-2.ensures.value c.seconds.ensures.value c.new-gathered.ensures h c.if-seconds.false,
       none.0,
     )) c.in-Ok.ensures.reads
 
@@ -73,12 +70,10 @@ pub returns-in-Err-Write-clause-writes : goal.returns-in-Err-Write-clause-writes
 returns-in-Err-Write-clause-writes g c =
     got_so _ _ c.args.limit (λ input. input) _ _
     (λ t e h. prefix_went _ g.W.Write.contents c.args.w.now c.write.new.w _
-    (wide_text c.args.gap c.in-Ok.own _ _ _ c.read_input_rows.new.store t e
-    c.seconds-2.ensures.value c.seconds.ensures.value c.new-store.ensures h
+    (wide_text c.args.gap c.in-Ok.own _ _ _ c.read_input_rows.new.gathered t e
+    c.seconds-2.ensures.value c.seconds.ensures.value c.new-gathered.ensures h
     c.seconds-2.ensures.range c.seconds.ensures.range c.if-seconds.false)
-    (text_cut _ _ _ _ _ c.in-Err-Write.field-0-is (subst
-    (λ b. WritesText g.W.Write.contents (Err c.in-Err-Write.field-0) b c.args.w.now
-    c.write.new.w) c.of.ensures c.in-Err-Write.ensures))) c.in-Ok.ensures.reads
+    (text_cut _ _ _ _ _ c.in-Err-Write.field-0-is c.in-Err-Write.ensures)) c.in-Ok.ensures.reads
 
 pub returns-in-Err-Write-clause-refuses : goal.returns-in-Err-Write-clause-refuses
 returns-in-Err-Write-clause-refuses g c =

@@ -1,12 +1,11 @@
-use Rattle.aprs_tool.proofs.Common.{Ok, Err, refl, subst, ◌∙◌, ap, err_from_is_err_and, Sends-err, Sends-ok, BookValue}
+use Rattle.aprs_tool.proofs.Common.{Ok, Err, refl, subst, ◌∙◌, err_from_is_err_and, Sends-err, Sends-ok}
 use Rattle.aprs_tool.specs.ToldBook.{IsHistory, WritesTold}
 use Rattle.aprs_tool.specs.declared.gathered.OutputFault.TheVariants.{Write}
-use Rattle.aprs_tool.proofs.RowsTold.{same_book}
 use Rattle.aprs_tool.proofs.gathered.Gathered.history.Goals as goal
 
-pub returns-in_err-order : goal.returns-in_err-order
+pub returns-in_err-store : goal.returns-in_err-store
 unfolding WritesTold
-returns-in_err-order g c =
+returns-in_err-store g c =
     let p = err_from_is_err_and c.from_residual.result c.from_residual.ensures.1 in
     rw (p.1, p.2) refl
 
@@ -22,13 +21,8 @@ unfolding WritesTold
 returns-in_err-write_history g c =
     let p = err_from_is_err_and c.from_residual-in_err-write_history.result
     c.from_residual-in_err-write_history.ensures.1 in
-    let was = c.self.inside in
     rw (p.1, p.2) (subst (λ b. WritesTold IsHistory g.W.Write.contents (Err Write) b c.args.w.now
-    c.write_history.new.w)
-    (same_book was.gap was.store c.in_ok-rows.rows c.self.invariant c.in_ok-order.ensures.sound
-    (ap (λ (b : BookValue). b.gap) c.in_ok-rows.ensures.rows)
-    (c.in_ok-rows.ensures.book was.store c.in_ok-order.ensures.members)
-    ∙ c.self.view_is) (
+    c.write_history.new.w) (c.in_ok-rows.ensures.book ∙ c.in_ok-store.ensures.book) (
       _,
       (c.in_err-write_history.ensures.lines, refl),
       Sends-err (Err Write) refl c.in_err-write_history.ensures.sends,
@@ -37,12 +31,8 @@ returns-in_err-write_history g c =
 pub returns : goal.returns
 unfolding WritesTold
 returns g c =
-    let was = c.self.inside in
     subst (λ b. WritesTold IsHistory g.W.Write.contents (Ok tt) b c.args.w.now c.write_history.new.w)
-    (same_book was.gap was.store c.in_ok-rows.rows c.self.invariant c.in_ok-order.ensures.sound
-    (ap (λ (b : BookValue). b.gap) c.in_ok-rows.ensures.rows)
-    (c.in_ok-rows.ensures.book was.store c.in_ok-order.ensures.members)
-    ∙ c.self.view_is) (
+    (c.in_ok-rows.ensures.book ∙ c.in_ok-store.ensures.book) (
       _,
       (c.in_ok-write_history.ensures.lines, refl),
       Sends-ok c.in_ok-write_history.ensures.sends,

@@ -1,13 +1,12 @@
-use Rattle.aprs_tool.proofs.Common.{Ok, Err, refl, subst, ◌∙◌, ap, err_from_is_err_and, Sends-err, Sends-ok, BookValue}
+use Rattle.aprs_tool.proofs.Common.{Ok, Err, refl, subst, ◌∙◌, err_from_is_err_and, Sends-err, Sends-ok, millis_of}
 use Rattle.aprs_tool.specs.ToldBook.{IsShown, WritesTold}
 use Rattle.aprs_tool.specs.declared.gathered.OutputFault.TheVariants.{Write}
-use Rattle.aprs_tool.proofs.RowsTold.{same_book}
 use Rattle.aprs_tool.proofs.Shows.{shown_text}
 use Rattle.aprs_tool.proofs.gathered.Gathered.show.Goals as goal
 
-pub returns-in_err-order : goal.returns-in_err-order
+pub returns-in_err-store : goal.returns-in_err-store
 unfolding WritesTold
-returns-in_err-order g c =
+returns-in_err-store g c =
     let p = err_from_is_err_and c.from_residual.result c.from_residual.ensures.1 in
     rw (p.1, p.2) refl
 
@@ -37,32 +36,29 @@ unfolding WritesTold
 returns-in_err-write g c =
     let p = err_from_is_err_and c.from_residual-in_err-write.result
     c.from_residual-in_err-write.ensures.1 in
-    let was = c.self.inside in
     let listing = c.in_ok-listing.ensures in
+    let rows = c.in_ok-rows.rows in
+    let summary = c.in_ok-summary.ensures in
     rw (p.1, p.2) (subst (λ b. WritesTold IsShown g.W.Write.contents (Err Write) b c.args.w.now
-    c.write.new.w)
-    (c.in_ok-summary.ensures
-    ∙ same_book was.gap was.store c.in_ok-rows.rows c.self.invariant c.in_ok-order.ensures.sound
-    (ap (λ (b : BookValue). b.gap) c.in_ok-rows.ensures.rows)
-    (c.in_ok-rows.ensures.book was.store c.in_ok-order.ensures.members)
-    ∙ c.self.view_is) (
+    c.write.new.w) (c.in_ok-rows.ensures.book ∙ c.in_ok-store.ensures.book) (
       _,
-      shown_text _ _ _ _ listing.stations listing.named listing.messages,
+      shown_text rows _ _ _ (listing.stations (millis_of rows.gap) rows.rows summary)
+          (listing.named (millis_of rows.gap) rows.rows summary)
+          (listing.messages (millis_of rows.gap) rows.rows summary),
       Sends-err (Err Write) refl c.in_err-write.ensures,
     ))
 
 pub returns : goal.returns
 unfolding WritesTold
 returns g c =
-    let was = c.self.inside in
     let listing = c.in_ok-listing.ensures in
+    let rows = c.in_ok-rows.rows in
+    let summary = c.in_ok-summary.ensures in
     subst (λ b. WritesTold IsShown g.W.Write.contents (Ok tt) b c.args.w.now c.write.new.w)
-    (c.in_ok-summary.ensures
-    ∙ same_book was.gap was.store c.in_ok-rows.rows c.self.invariant c.in_ok-order.ensures.sound
-    (ap (λ (b : BookValue). b.gap) c.in_ok-rows.ensures.rows)
-    (c.in_ok-rows.ensures.book was.store c.in_ok-order.ensures.members)
-    ∙ c.self.view_is) (
+    (c.in_ok-rows.ensures.book ∙ c.in_ok-store.ensures.book) (
       _,
-      shown_text _ _ _ _ listing.stations listing.named listing.messages,
+      shown_text rows _ _ _ (listing.stations (millis_of rows.gap) rows.rows summary)
+          (listing.named (millis_of rows.gap) rows.rows summary)
+          (listing.messages (millis_of rows.gap) rows.rows summary),
       Sends-ok c.in_ok-write.ensures,
     )

@@ -1,7 +1,7 @@
 use Rattle.aprs_tool.proofs.Common.{arith}
 use Rattle.aprs_tool.proofs.Into.{merges_empty}
 use Rattle.aprs_tool.proofs.RowsTold.{known_none, known_sound, whatever}
-use Rattle.aprs_tool.proofs.input.merge_books.Goals as goal
+use Rattle.aprs_tool.proofs.desk.merge_books.Goals as goal
 
 pub returns-then-len-eq0-clause-merges : goal.returns-then-len-eq0-clause-merges
 returns-then-len-eq0-clause-merges g c = merges_empty _ c.args.book.now.rows c.args.input.rows
