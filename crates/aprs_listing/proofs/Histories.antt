@@ -1,5 +1,5 @@
 -- Lemmas on the lines of a history.
-use Rattle.aprs_listing.proofs.Common.{◌≡◌, ℕ, List, [], ◌∷◌, ◌++◌, map, Option, Some, None, Result, Ok, Err, refl, sym, ap, ap₂, ◌∙◌, append_assoc, append-nil, flat_map, join_with_byte, option_map, flat_map_more, flat_map-append, Call, call_text, Parts, parts_of, hop_of, shown_text, Puts, Puts-fails, Puts-is, Puts-none, Puts-then, Row, last_of, moment_text, reading_of, Value, mic_e_view}
+use Rattle.aprs_listing.proofs.Common.{◌≡◌, ℕ, List, [], ◌∷◌, ◌++◌, map, Option, Some, None, Result, Ok, Err, refl, sym, ap, ap₂, ◌∙◌, append_assoc, append-nil, flat_map, join_with_byte, option_map, flat_map_more, flat_map-append, Call, call_text, Parts, parts_of, hop_of, shown_text, Puts, Puts-fails, Puts-is, Puts-none, Puts-then, Row, last_moment, moment_text, reading_of, Value, mic_e_view}
 use Rattle.aprs_mice.specs.Reader.{mic_e_or_none}
 use Rattle.std.specs.Result.{IsErr}
 use denote.Ref.{Bor}
@@ -49,7 +49,7 @@ id_of (Some id) = refl
 -- what a row is read as
 pub row_told : (x : Row) (first last : ℕ) (who via frame info : List ℕ) (source : Call)
     (told : List (List ℕ)) (v : Value) → frame ≡ x.greatest.frame → first ≡ x.first
-    → last ≡ last_of x → who ≡ join_with_byte 44 x.receivers
+    → last ≡ last_moment x → who ≡ join_with_byte 44 x.receivers
     → source ≡ (parts_of frame).source.call
     → via ≡ via_text (map hop_of (parts_of frame).digipeaters)
     → told ≡ moment_text first ∷ moment_text last ∷ who ∷ call_text source ∷ via ∷ []

@@ -1,5 +1,5 @@
 -- No line of a history has an LF but at its end.
-use Rattle.aprs_listing.proofs.Common.{All, ◌≡◌, ◌≢◌, ◌∙◌, ℕ, zero, suc, ◌+◌, ◌/◌, ◌%◌, Bool, true, false, not, ◌&&◌, cond, nat_lt, ◌==◌, List, [], ◌∷◌, ◌++◌, map, get_or, Option, Some, None, pos, negsuc, ℤ, refl, ap, sym, append_assoc, arith, codes, AllByRecursion, flat_map, join_with_byte, list_all, decimal, digit_glyph, digits_onto, signed_decimal, Call, IsCall, call_text, is_callsign_byte, Parts, IsParts, parts_of, hop_of, hop_text, is_shown_as_is, shown_byte, shown_text, moment_text, two_digits, Row, last_of, reading_of, Value, Reads, position, object, item, message, ack, rej, status, raw, MicEValue, message_name}
+use Rattle.aprs_listing.proofs.Common.{All, ◌≡◌, ◌≢◌, ◌∙◌, ℕ, zero, suc, ◌+◌, ◌/◌, ◌%◌, Bool, true, false, not, ◌&&◌, cond, nat_lt, ◌==◌, List, [], ◌∷◌, ◌++◌, map, get_or, Option, Some, None, pos, negsuc, ℤ, refl, ap, sym, append_assoc, arith, codes, AllByRecursion, flat_map, join_with_byte, list_all, decimal, digit_glyph, digits_onto, signed_decimal, Call, IsCall, call_text, is_callsign_byte, Parts, IsParts, parts_of, hop_of, hop_text, is_shown_as_is, shown_byte, shown_text, moment_text, two_digits, Row, last_moment, reading_of, Value, Reads, position, object, item, message, ack, rej, status, raw, MicEValue, message_name}
 use Rattle.std.specs.Fmt.{digits}
 use Rattle.aprs_log.specs.Moment.{day_after, moment_text_in}
 use Rattle.aprs_mice.specs.Reader.{mic_e_or_none}
@@ -365,7 +365,7 @@ row_line x h =
     told (row_fields x) (
       free_moment x.first,
       (
-        free_moment (last_of x),
+        free_moment (last_moment x),
         (
           free_names x.receivers (recursion_from_All IsName x.receivers h.names_are),
           (free_call p.source.call are.source.call, (free_via p.digipeaters are.digipeaters, tt)),

@@ -13,7 +13,7 @@ use Rattle.aprs_mice.specs.MicE.{MicEValue}
 use Rattle.aprs_mice.specs.MicEMessage.{message_name}
 use Rattle.aprs_mice.specs.Reader.{mic_e_or_none}
 use Rattle.aprs_log.specs.Moment.{moment_text}
-use Rattle.aprs_laws.specs.Row.{Row, last_of}
+use Rattle.aprs_laws.specs.Row.{Row, last_moment}
 use Rattle.aprs_listing.specs.Listing.{line_with, line_with_text, live_text, place_fields, stamp_text, word}
 
 -- ---- fields
@@ -32,7 +32,7 @@ id_word (Some id) = id
 -- The fields of a row: its first and its last moment, its receivers with a comma between, and who
 -- sent its greatest reception's frame, by which digipeaters.
 abbrev pub row_fields : Row → List (List ℕ)
-row_fields x = moment_text x.first ∷ moment_text (last_of x) ∷ join_with_byte 44 x.receivers
+row_fields x = moment_text x.first ∷ moment_text (last_moment x) ∷ join_with_byte 44 x.receivers
     ∷ call_text (parts_of x.greatest.frame).source.call
     ∷ via_text (map hop_of (parts_of x.greatest.frame).digipeaters) ∷ []
 
