@@ -12,7 +12,8 @@ abbrev pub IsRefusedFor : ℕ → List Row → Row → RowCause → Type 0
 IsRefusedFor gap rows x cause =
     (refusal gap rows x ≡ Some cause) ⊎ ((cause ≡ Memory) × (refusal gap rows x ≡ None))
 
--- The place is that of a row, the rows before it are sound, and it isn't added after them.
+-- The place is that of a row. Those before it are sound, and after them it isn't added, for the
+-- fault's cause.
 pub record IsRowsFault (gap : ℕ) (rows : List Row) (fault : RowsFault) : Type 0 where
   pub row : Row
   pub at_place : slice_get rows fault.place ≡ Some row

@@ -49,7 +49,7 @@ UnionIsJoined gap =
     (S T : List Received) (a b c : List Row) → BookOf gap S a → BookOf gap T b
     → BookOf gap (S ++ T) c ↔ BookOf gap (witnesses a ++ witnesses b) c
 
--- The row is of the transmission of this key from its first to its last moment.
+-- The row has this key, this first and this last moment.
 pub record IsRowAt (key : Key) (first last : ℕ) (x : Row) : Type 0 where
   pub key_of_row : row_key x ≡ key
   pub first_of_row : x.first ≡ first

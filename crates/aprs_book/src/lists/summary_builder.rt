@@ -60,8 +60,8 @@ impl<'t, A: Allocator + Copy> SummaryBuilder<'t, A> {
     }
 }
 
-/// A builder of these rows, in one pass over them. At most `most` of them may come: so no station's
-/// number of rows overflows.
+/// A builder of these rows, in one pass over them. At most `most` of them may come, which the
+/// contract alone reads: so no station's number of rows overflows.
 pub(crate) fn summarize<'t, A: Allocator + Copy>(
     alloc: A,
     rows: BookRows<'t, A>,

@@ -108,7 +108,8 @@ impl<A: Allocator + Copy> BookStore<A> {
     }
 
     /// The rows of the book, which come one after another. Takes all memory that the walk needs,
-    /// that in `room` for the names of receivers; none where the book has no rows.
+    /// that for the names of receivers in `room`, which is written over; none where the book has no
+    /// rows.
     pub fn rows<'s>(&'s mut self, room: &'s mut Vec<u8, A>) -> Result<BookRows<'s, A>, Memory>
         ensures book { IfOk result (λ rows. rows ≡ self.old) }
         ensures some { OnErr result (self.old.rows ≢ []) }
