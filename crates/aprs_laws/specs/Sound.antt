@@ -5,8 +5,8 @@ use Rattle.aprs_laws.specs.Lists.{◌∈◌, IfLast, Ordered}
 use Rattle.aprs_laws.specs.Order.{IsBelow, IsUpTo}
 use Rattle.aprs_laws.specs.Row.{Row, row_key, last_moment, row_cmp}
 
--- A row is sound by itself: its first moment isn't after its last, its receivers ascend, and that of
--- its greatest reception is among them, the last of them where all was heard at one moment.
+-- A row is sound by itself: its first moment isn't after its last, its receivers ascend, and that
+-- of its greatest reception is among them, the last of them where all was heard at one moment.
 pub record IsSoundRow (x : Row) : Type 0 where
   pub in_order : x.first ≤ last_moment x
   pub ascending : Ordered (IsBelow bytes_cmp) x.receivers
