@@ -7,7 +7,7 @@ use crate::vectors::{REPEATED, receiver};
 use aprs_ax25::Frame;
 use aprs_book::{Book, Gap, Heard, Row};
 use aprs_log::{Moment, Receiver, Reception};
-use aprs_rows::RowStore;
+use aprs_rows::BookStore;
 use std::alloc::{Allocator, Global};
 use std::test::Fail;
 
@@ -211,15 +211,15 @@ const FIVE: [Plain; 5] = [
     },
 ];
 
-/// Whether this is the book of a store's rows.
+/// Whether this is the book in a store.
 fn is_of_store<A: Allocator + Copy>(
     alloc: A,
-    store: RowStore<A>,
+    store: &mut BookStore<A>,
     book: &Book<A>,
 ) -> Result<bool, Fail> {
-    let order = store.in_order().ok().ok_or("memory")?;
-    let rows = order.transmissions(Gap::STANDARD).ok().ok_or("memory")?;
-    let made = Book::of_rows(alloc, &rows).ok().ok_or("memory")?;
+    let mut room = Vec::new(alloc);
+    let rows = store.rows(&mut room).ok().ok_or("memory")?;
+    let made = Book::of_rows(alloc, rows).ok().ok_or("memory")?;
     Ok(made.same(book))
 }
 
@@ -228,7 +228,7 @@ fn take_and_store(
     alloc: Global,
     frames: &[Frame],
     both: &mut Both,
-    store: &mut RowStore,
+    store: &mut BookStore,
     x: Plain,
 ) -> Result<(), Fail> {
     let heard = reception(frames, x)?;
@@ -254,14 +254,14 @@ fn five_in_order(order: usize) -> [Plain; 5] {
 /// Takes the five in the order of this number into both, and into a store.
 fn agrees_in_order(alloc: Global, frames: &[Frame], order: usize) -> Result<bool, Fail> {
     let mut both = Both::new(alloc);
-    let mut store = RowStore::new(alloc);
+    let mut store = BookStore::new(alloc, Gap::STANDARD);
     for x in five_in_order(order) {
         take_and_store(alloc, frames, &mut both, &mut store, x)?;
         if !both.agree(frames)? {
             return Ok(false);
         }
     }
-    is_of_store(alloc, store, &both.book)
+    is_of_store(alloc, &mut store, &both.book)
 }
 
 #[test]
@@ -357,7 +357,7 @@ fn a_hundred_sequences_of_steps(rt: HostRuntime) -> Result<(), Fail> {
 /// Takes a thousand rows of one key, this many places apart, into both, and into a store.
 fn agrees_in_a_thousand(alloc: Global, frames: &[Frame], stride: u64) -> Result<bool, Fail> {
     let mut both = Both::new(alloc);
-    let mut store = RowStore::new(alloc);
+    let mut store = BookStore::new(alloc, Gap::STANDARD);
     for i in 0..1000u64 {
         let x = Plain {
             milli: i.wrapping_mul(stride) % 1000 * 30_001,
@@ -369,7 +369,7 @@ fn agrees_in_a_thousand(alloc: Global, frames: &[Frame], stride: u64) -> Result<
     Ok(
         both.agree(frames)?
             && both.plain.rows.len() == 1000
-            && is_of_store(alloc, store, &both.book)?,
+            && is_of_store(alloc, &mut store, &both.book)?,
     )
 }
 

@@ -8,7 +8,7 @@ use aprs_book::{Book, Gap, Join, Receivers, Step, Summary, from_rows, replay, st
 use aprs_booktext::read_book;
 use aprs_kiss::Counted;
 use aprs_log::MAX_INPUT;
-use aprs_rows::Transmissions;
+use aprs_rows::BookRows;
 use aprs_tool::{Desk, merge_run, read_input, show_run};
 use linked_list_allocator::LocalHeap;
 use std::alloc::Global;
@@ -24,9 +24,8 @@ enum Made {
     Stations,
     Objects,
     Messages,
-    RowStore,
-    RowsInOrder,
-    Transmissions,
+    BookStore,
+    BookRows,
     BookOfRows,
     Summary,
     ListedStations,
@@ -49,9 +48,8 @@ const MADE: &[Made] = &[
     Made::Stations,
     Made::Objects,
     Made::Messages,
-    Made::RowStore,
-    Made::RowsInOrder,
-    Made::Transmissions,
+    Made::BookStore,
+    Made::BookRows,
     Made::BookOfRows,
     Made::Summary,
     Made::ListedStations,
@@ -110,26 +108,23 @@ fn used_of_entries<'a>(
 
 /// How much is in use with a store, and with what is made of it.
 fn used_of_store(heap: &LocalHeap, made: Made) -> Result<usize, Fail> {
-    let store = store_of_sent(heap)?;
-    if let Made::RowStore = made {
+    let mut store = store_of_sent(heap)?;
+    if let Made::BookStore = made {
         return Ok(heap.used());
     }
-    let order = store.in_order().ok().ok_or("memory")?;
-    if let Made::RowsInOrder = made {
-        return Ok(heap.used());
-    }
-    let rows = order.transmissions(Gap::STANDARD).ok().ok_or("memory")?;
+    let mut room = Vec::new(heap);
+    let rows = store.rows(&mut room).ok().ok_or("memory")?;
     match made {
-        Made::Transmissions => Ok(heap.used()),
-        Made::BookOfRows => used_with(heap, Book::of_rows(heap, &rows)),
-        _ => used_of_summary(heap, &rows, made),
+        Made::BookRows => Ok(heap.used()),
+        Made::BookOfRows => used_with(heap, Book::of_rows(heap, rows)),
+        _ => used_of_summary(heap, rows, made),
     }
 }
 
 /// How much is in use with what these rows say, and with what is made of it.
 fn used_of_summary<'a>(
     heap: &'a LocalHeap,
-    rows: &Transmissions<'_, &'a LocalHeap>,
+    rows: BookRows<'_, &'a LocalHeap>,
     made: Made,
 ) -> Result<usize, Fail> {
     let summary = Summary::of(heap, rows).ok().ok_or("memory")?;

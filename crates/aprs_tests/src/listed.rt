@@ -3,7 +3,7 @@
 use crate::last_known::sent;
 use aprs_book::{Book, Gap, MessageRow, MessageState, Named, Summary};
 use aprs_log::Reception;
-use aprs_rows::RowStore;
+use aprs_rows::BookStore;
 use std::alloc::{Allocator, Global};
 use std::test::Fail;
 
@@ -63,8 +63,8 @@ fn fifty_taken<A: Allocator + Copy>(alloc: A) -> Result<Book<A>, Fail> {
 }
 
 /// The store of fifty of both.
-fn fifty_stored<A: Allocator + Copy>(alloc: A) -> Result<RowStore<A>, Fail> {
-    let mut store = RowStore::new(alloc);
+fn fifty_stored<A: Allocator + Copy>(alloc: A) -> Result<BookStore<A>, Fail> {
+    let mut store = BookStore::new(alloc, Gap::STANDARD);
     for i in 0..50u64 {
         for x in both(i)? {
             store.push_reception(&x).ok().ok_or("memory")?;
@@ -81,14 +81,14 @@ fn book_has_fifty<A: Allocator + Copy>(book: &Book<A>) -> Result<bool, Fail> {
 }
 
 /// Whether these rows tell of the fifty messages and the fifty items.
-fn summary_has_fifty<A: Allocator + Copy>(summary: &Summary<'_, '_, A>) -> Result<bool, Fail> {
+fn summary_has_fifty<A: Allocator + Copy>(summary: &Summary<'_, A>) -> Result<bool, Fail> {
     let messages = summary.messages().ok().ok_or("memory")?;
     let named = summary.objects().ok().ok_or("memory")?;
     Ok(are_fifty(messages.as_slice(), named.as_slice()))
 }
 
 /// Whether these rows are of two stations of fifty transmissions each.
-fn summary_has_two<A: Allocator + Copy>(summary: &Summary<'_, '_, A>) -> Result<bool, Fail> {
+fn summary_has_two<A: Allocator + Copy>(summary: &Summary<'_, A>) -> Result<bool, Fail> {
     let stations = summary.stations().ok().ok_or("memory")?;
     Ok(stations.len() == 2 && stations.iter().all(|station| station.transmissions == 50))
 }
@@ -106,10 +106,10 @@ fn many_rows_of_a_book_are_listed(rt: HostRuntime) -> Result<(), Fail> {
 #[test]
 fn many_rows_of_a_store_are_listed(rt: HostRuntime) -> Result<(), Fail> {
     let alloc = rt.alloc();
-    let store = fifty_stored(alloc)?;
-    let order = store.in_order().ok().ok_or("memory")?;
-    let rows = order.transmissions(Gap::STANDARD).ok().ok_or("memory")?;
-    let summary = Summary::of(alloc, &rows).ok().ok_or("memory")?;
+    let mut store = fifty_stored(alloc)?;
+    let mut room = Vec::new(alloc);
+    let rows = store.rows(&mut room).ok().ok_or("memory")?;
+    let summary = Summary::of(alloc, rows).ok().ok_or("memory")?;
     assert!(rt; summary_has_fifty(&summary)?);
     assert!(rt; summary_has_two(&summary)?);
     Ok(())

@@ -5,7 +5,7 @@ use crate::last_known::callsign;
 use crate::refused_calls::{SENT, book_of_sent, squeeze, store_of_sent};
 use crate::vectors::{DIRECT, heard, receiver};
 use aprs_book::{Book, Gap, Join, MergeFault, Receivers, RowCause, WidenFault, all_fit};
-use aprs_rows::{RowStore, RowsInOrder, Transmissions};
+use aprs_rows::{BookRows, BookStore, PackedRows};
 use bumpalo::Bump;
 use std::alloc::{Allocator, Global};
 use std::test::Fail;
@@ -34,6 +34,7 @@ fn a_request_shows(rt: HostRuntime) -> Result<(), Fail> {
 enum Call {
     New,
     NewStore,
+    NewRows,
     NewReceivers,
     Gap,
     Rows,
@@ -52,6 +53,7 @@ enum Call {
 const CALLS: &[Call] = &[
     Call::New,
     Call::NewStore,
+    Call::NewRows,
     Call::NewReceivers,
     Call::Gap,
     Call::Rows,
@@ -70,7 +72,8 @@ const CALLS: &[Call] = &[
 /// Whether what is new is empty.
 fn is_empty<A: Allocator + Copy>(alloc: A, call: Call) -> bool {
     match call {
-        Call::NewStore => RowStore::new(alloc).is_empty(),
+        Call::NewStore => BookStore::new(alloc, Gap::STANDARD).gap() == Gap::STANDARD,
+        Call::NewRows => PackedRows::new(alloc).is_empty(),
         Call::NewReceivers => Receivers::new(alloc).as_slice().is_empty(),
         _ => Book::new(alloc).len() == 0,
     }
@@ -130,7 +133,7 @@ fn is_answered<A: Allocator + Copy>(alloc: A, call: Call, books: &[Book<A>]) -> 
         return Err("two books".into());
     };
     match call {
-        Call::New | Call::NewStore | Call::NewReceivers => Ok(is_empty(alloc, call)),
+        Call::New | Call::NewStore | Call::NewRows | Call::NewReceivers => Ok(is_empty(alloc, call)),
         Call::Gap | Call::Rows | Call::Same | Call::Fits => Ok(is_seen(call, book, wide)),
         Call::AllFit => Ok(!all_fit(book, books)),
         Call::OtherGap | Call::Narrower => Ok(is_refused(call, book, wide)),
@@ -224,10 +227,10 @@ fn listed_names_ask_for_none(rt: HostRuntime) -> Result<(), Fail> {
     Ok(())
 }
 
-/// How many rows are shown that RX1 alone heard, at one moment.
-fn shown_transmissions<A: Allocator + Copy>(rows: &Transmissions<'_, A>) -> usize {
+/// How many of these rows RX1 alone heard, at one moment.
+fn shown_transmissions<A: Allocator + Copy>(rows: BookRows<'_, A>) -> usize {
     let mut shown = 0usize;
-    for row in rows.rows() {
+    for row in rows {
         if row.first() == row.last()
             && row.receivers() == b"RX1".as_slice()
             && row.receiver() == b"RX1".as_slice()
@@ -240,90 +243,68 @@ fn shown_transmissions<A: Allocator + Copy>(rows: &Transmissions<'_, A>) -> usiz
     shown
 }
 
-/// Whether calls of a store answer as they have to, and ask for no memory, nor does putting its
-/// receptions in order, which is given.
-fn store_asks_for_none<'a>(
-    bump: &'a Bump,
-    store: RowStore<&'a Bump>,
-) -> Result<RowsInOrder<&'a Bump>, Fail> {
+/// Whether calls of rows answer as they have to, and ask for no memory.
+fn rows_ask_for_none<'a>(bump: &'a Bump, rows: BookRows<'_, &'a Bump>) -> Result<bool, Fail> {
     let _filling = fill(bump)?;
     let size = bump.allocated_bytes();
-    if !answers(&store) {
-        return Err("another answer".into());
-    }
-    let order = store.in_order().ok().ok_or("memory")?;
-    if bump.allocated_bytes() > size {
-        return Err("a request".into());
-    }
-    Ok(order)
+    let is_right = rows.gap() == Gap::STANDARD
+        && rows.most_rows() >= SENT.len()
+        && shown_transmissions(rows) == SENT.len();
+    Ok(is_right && bump.allocated_bytes() == size)
 }
 
-/// Whether calls of a store of what was sent answer as they have to.
-fn answers<A: Allocator + Copy>(store: &RowStore<A>) -> bool {
-    match store.last() {
+#[test]
+fn calls_of_a_stores_rows_ask_for_none(rt: HostRuntime) -> Result<(), Fail> {
+    let bump = Bump::try_with_capacity(rt.alloc(), 65_536)?;
+    let mut store = store_of_sent(&bump)?;
+    let mut room = Vec::new(&bump);
+    let rows = store.rows(&mut room).ok().ok_or("memory")?;
+    assert!(rt; rows_ask_for_none(&bump, rows)?);
+    Ok(())
+}
+
+#[test]
+fn rows_of_nothing_ask_for_none(rt: HostRuntime) -> Result<(), Fail> {
+    let bump = Bump::try_with_capacity(rt.alloc(), 4096)?;
+    let mut store = BookStore::new(&bump, Gap::STANDARD);
+    store.add(PackedRows::new(&bump)).ok().ok_or("memory")?;
+    let _filling = fill(&bump)?;
+    let size = bump.allocated_bytes();
+    let mut room = Vec::new(&bump);
+    let mut rows = store.rows(&mut room).ok().ok_or("memory")?;
+    assert!(rt; rows.next().is_none() && bump.allocated_bytes() == size);
+    Ok(())
+}
+
+/// Rows of what was heard at each of ten minutes.
+fn ten_minutes<A: Allocator + Copy>(alloc: A) -> Result<PackedRows<A>, Fail> {
+    let mut rows = PackedRows::new(alloc);
+    for minute in 0..10u64 {
+        let x = heard(minute * 60, b"RX1", &DIRECT)?;
+        rows.push_reception(&x).ok().ok_or("memory")?;
+    }
+    Ok(rows)
+}
+
+/// Whether these are the rows of ten minutes.
+fn are_ten_minutes<A: Allocator + Copy>(rows: &PackedRows<A>) -> bool {
+    match rows.last() {
         Some(last) => {
-            !store.is_empty()
-                && store.len() == SENT.len()
+            !rows.is_empty()
+                && rows.len() == 10
+                && last.first().seconds() == 9 * 60
                 && last.refusal_after(Some(&last), Gap::STANDARD) == Some(RowCause::Order)
         }
         None => false,
     }
 }
 
-/// Whether calls of rows answer as they have to, and ask for no memory.
-fn rows_ask_for_none<'a>(bump: &'a Bump, rows: &Transmissions<'_, &'a Bump>) -> Result<bool, Fail> {
-    let _filling = fill(bump)?;
-    let size = bump.allocated_bytes();
-    let is_right = rows.gap() == Gap::STANDARD
-        && rows.len() == SENT.len()
-        && shown_transmissions(rows) == SENT.len();
-    Ok(is_right && bump.allocated_bytes() == size)
-}
-
 #[test]
-fn calls_of_stores_ask_for_none(rt: HostRuntime) -> Result<(), Fail> {
+fn calls_of_packed_rows_ask_for_none(rt: HostRuntime) -> Result<(), Fail> {
     let bump = Bump::try_with_capacity(rt.alloc(), 65_536)?;
-    let order = store_asks_for_none(&bump, store_of_sent(&bump)?)?;
-    let rows = order.transmissions(Gap::STANDARD).ok().ok_or("memory")?;
-    assert!(rt; rows_ask_for_none(&bump, &rows)?);
-    Ok(())
-}
-
-/// Minutes of an hour, out of order and more than a sort puts in order without memory that takes
-/// some.
-const MINUTES: &[u64] = &[
-    11, 3, 20, 7, 15, 1, 18, 9, 13, 5, 0, 16, 2, 19, 8, 14, 4, 10, 17, 6, 12,
-];
-
-/// A store of what was heard at these minutes.
-fn store_of_minutes<A: Allocator + Copy>(alloc: A) -> Result<RowStore<A>, Fail> {
-    let mut store = RowStore::new(alloc);
-    for minute in MINUTES {
-        let x = heard(minute.saturating_mul(60), b"RX1", &DIRECT)?;
-        store.push_reception(&x).ok().ok_or("memory")?;
-    }
-    Ok(store)
-}
-
-#[test]
-fn many_receptions_are_put_in_order_with_none(rt: HostRuntime) -> Result<(), Fail> {
-    let bump = Bump::try_with_capacity(rt.alloc(), 65_536)?;
-    let store = store_of_minutes(&bump)?;
+    let rows = ten_minutes(&bump)?;
     let _filling = fill(&bump)?;
     let size = bump.allocated_bytes();
-    let order = store.in_order().ok().ok_or("memory")?;
-    assert!(rt; bump.allocated_bytes() == size);
-    drop(order);
-    Ok(())
-}
-
-// A transmission has 40 bytes, and their names none: so 7 units of 128 bytes are room enough.
-#[test]
-fn transmissions_ask_for_one_place_each(rt: HostRuntime) -> Result<(), Fail> {
-    let bump = Bump::try_with_capacity(rt.alloc(), 65_536)?;
-    let order = store_of_minutes(&bump)?.in_order().ok().ok_or("memory")?;
-    let _filling = squeeze(&bump, 7)?;
-    let rows = order.transmissions(Gap::STANDARD).ok().ok_or("memory")?;
-    assert!(rt; rows.len() == MINUTES.len());
+    assert!(rt; are_ten_minutes(&rows) && bump.allocated_bytes() == size);
     Ok(())
 }

@@ -4,7 +4,7 @@ use crate::last_known::sent;
 use crate::shown::is_shown;
 use crate::vectors::receiver;
 use aprs_book::{Book, Gap, Join, Receivers, Step, all_fit, join_all, replay};
-use aprs_rows::RowStore;
+use aprs_rows::BookStore;
 use bumpalo::Bump;
 use std::alloc::{Allocator, Global};
 use std::test::Fail;
@@ -28,9 +28,9 @@ pub fn book_of_sent<A: Allocator + Copy>(alloc: A, gap: Gap, later: u64) -> Resu
     Ok(book)
 }
 
-/// A store of them.
-pub fn store_of_sent<A: Allocator + Copy>(alloc: A) -> Result<RowStore<A>, Fail> {
-    let mut store = RowStore::new(alloc);
+/// A store of them, under the standard gap.
+pub fn store_of_sent<A: Allocator + Copy>(alloc: A) -> Result<BookStore<A>, Fail> {
+    let mut store = BookStore::new(alloc, Gap::STANDARD);
     for &(second, source, info) in SENT {
         let x = sent(second, source, info)?;
         store.push_reception(&x).ok().ok_or("memory")?;

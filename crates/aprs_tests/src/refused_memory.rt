@@ -7,7 +7,7 @@ use aprs_book::{Book, Gap, RowCause, RowParts, RowsFault, from_rows};
 use aprs_booktext::{BookCause, BookFault, read_book, read_rows};
 use aprs_kiss::Counted;
 use aprs_log::{MAX_INPUT, Reception};
-use aprs_rows::RowStore;
+use aprs_rows::PackedRows;
 use linked_list_allocator::LocalHeap;
 use std::alloc::{Allocator, Global};
 use std::test::Fail;
@@ -217,15 +217,15 @@ fn memory_is_refused_at_a_row(rt: HostRuntime) -> Result<(), Fail> {
 }
 
 /// The line of a book file in which memory is refused with so much room, if one is, where just its
-/// rows are to be read. Then the store has to have the rows of the lines before it.
+/// rows are to be read. Then the rows have to be those of the lines before it.
 fn refused_line(alloc: Global, room: usize) -> Result<Option<u64>, Fail> {
     let heap = LocalHeap::new(alloc, 65_536)?;
     let _fill = filled(&heap, room)?;
-    let mut store = RowStore::new(&heap);
+    let mut rows = PackedRows::new(&heap);
     let mut file = Counted::new(MERGED_TEXT);
-    match read_rows(&heap, MAX_INPUT, b"", &mut file, &mut store) {
+    match read_rows(&heap, MAX_INPUT, b"", &mut file, &mut rows) {
         Ok(_) => Ok(None),
-        Err(BookFault { line, .. }) if store.len() as u64 == line.saturating_sub(2) => {
+        Err(BookFault { line, .. }) if rows.len() as u64 == line.saturating_sub(2) => {
             Ok(Some(line))
         }
         Err(_) => Err("other rows".into()),

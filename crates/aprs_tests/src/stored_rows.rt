@@ -7,21 +7,21 @@ use crate::shown::is_shown;
 use crate::vectors::{DIRECT, heard};
 use aprs_ax25::Frame;
 use aprs_book::{Book, Gap, Memory, RowCause, Summary};
-use aprs_rows::{RowStore, RowView, RowsInOrder};
+use aprs_rows::{BookStore, RowView};
 use bumpalo::Bump;
 use std::alloc::{Allocator, Global};
 use std::test::Fail;
 
 /// The book of a store's rows.
-fn book_of<A: Allocator + Copy>(alloc: A, store: RowStore<A>) -> Result<Book<A>, Memory> {
-    let order = store.in_order()?;
-    let rows = order.transmissions(Gap::STANDARD)?;
-    Book::of_rows(alloc, &rows)
+fn book_of<A: Allocator + Copy>(alloc: A, store: &mut BookStore<A>) -> Result<Book<A>, Memory> {
+    let mut room = Vec::new(alloc);
+    let rows = store.rows(&mut room)?;
+    Book::of_rows(alloc, rows)
 }
 
 /// The receptions of a hundred minutes by RX2 from this second on, the last first, and by RX1.
-fn two_hundred<A: Allocator + Copy>(alloc: A, first: u64) -> Result<RowStore<A>, Fail> {
-    let mut store = RowStore::new(alloc);
+fn two_hundred<A: Allocator + Copy>(alloc: A, first: u64) -> Result<BookStore<A>, Fail> {
+    let mut store = BookStore::new(alloc, Gap::STANDARD);
     for minute in 0..100u64 {
         let second = first.saturating_add(99u64.saturating_sub(minute) * 60);
         let x = heard(second, b"RX2", &DIRECT)?;
@@ -46,8 +46,8 @@ fn two_hundred_receptions_are_put_in_order(rt: HostRuntime) -> Result<(), Fail> 
     let alloc = rt.alloc();
     const CASES: &[(u64, usize)] = &[(0, 100), (30, 1), (6031, 200)];
     for &(first, rows) in CASES {
-        let store = two_hundred(alloc, first)?;
-        let book = book_of(alloc, store).ok().ok_or("memory")?;
+        let mut store = two_hundred(alloc, first)?;
+        let book = book_of(alloc, &mut store).ok().ok_or("memory")?;
         assert!(rt; book.len() == rows);
         assert!(rt; book.same(&taken(alloc, first)?));
     }
@@ -55,7 +55,7 @@ fn two_hundred_receptions_are_put_in_order(rt: HostRuntime) -> Result<(), Fail> 
 }
 
 /// Stores what was sent, each again where memory was refused, and returns how often it was.
-fn store_sent<'a>(bump: &'a Bump, store: &mut RowStore<&'a Bump>) -> Result<u64, Fail> {
+fn store_sent<'a>(bump: &'a Bump, store: &mut BookStore<&'a Bump>) -> Result<u64, Fail> {
     let mut refused = 0u64;
     for &(second, source, info) in SENT {
         let x = sent(second, source, info)?;
@@ -72,9 +72,9 @@ fn store_sent<'a>(bump: &'a Bump, store: &mut RowStore<&'a Bump>) -> Result<u64,
 fn refusals(alloc: Global, units: usize) -> Result<(bool, bool), Fail> {
     let bump = Bump::try_with_capacity(alloc, 65_536)?;
     let _fill = squeeze(&bump, units)?;
-    let mut store = RowStore::new(&bump);
+    let mut store = BookStore::new(&bump, Gap::STANDARD);
     let refused = store_sent(&bump, &mut store)?;
-    let Ok(book) = book_of(&bump, store) else {
+    let Ok(book) = book_of(&bump, &mut store) else {
         return Ok((refused > 0, true));
     };
     if is_shown(alloc, &book, ROWS) {
@@ -102,34 +102,29 @@ fn refused_stores_are_as_before(rt: HostRuntime) -> Result<(), Fail> {
     Ok(())
 }
 
-/// How many stations, objects and items, and messages these rows tell of.
+/// How many stations, objects and items, and messages the rows of a store tell of.
 fn counts<A: Allocator + Copy>(
     alloc: A,
-    order: &RowsInOrder<A>,
+    store: &mut BookStore<A>,
 ) -> Result<(usize, usize, usize), Memory> {
-    let rows = order.transmissions(Gap::STANDARD)?;
-    let summary = Summary::of(alloc, &rows)?;
+    let mut room = Vec::new(alloc);
+    let rows = store.rows(&mut room)?;
+    let summary = Summary::of(alloc, rows)?;
     let stations = summary.stations()?;
     let named = summary.objects()?;
     let messages = summary.messages()?;
     Ok((stations.len(), named.len(), messages.len()))
 }
 
-/// The same, or nothing where memory was refused.
-fn listed<'a>(bump: &'a Bump, order: &RowsInOrder<&'a Bump>) -> Option<(usize, usize, usize)> {
-    counts(bump, order).ok()
-}
-
 /// Whether what is listed of what was sent is refused with so many units of room.
 fn is_list_refused(alloc: Global, units: usize) -> Result<bool, Fail> {
     let bump = Bump::try_with_capacity(alloc, 65_536)?;
-    let mut store = RowStore::new(&bump);
+    let mut store = BookStore::new(&bump, Gap::STANDARD);
     store_sent(&bump, &mut store)?;
-    let order = store.in_order().ok().ok_or("memory")?;
     let _fill = squeeze(&bump, units)?;
-    let is_refused = listed(&bump, &order).is_none();
+    let is_refused = counts(&bump, &mut store).is_err();
     bump.set_allocation_limit(None);
-    if listed(&bump, &order) == Some((3, 2, 1)) {
+    if counts(&bump, &mut store).ok() == Some((3, 2, 1)) {
         Ok(is_refused)
     } else {
         Err("another list".into())
@@ -166,12 +161,79 @@ fn made_again<'a>(row: &RowView<'a>, frame: &'a Frame) -> RowView<'a> {
 // What a row shows is all that it takes to make one: it can't follow the first, nor come before it.
 #[test]
 fn rows_are_made_of_what_rows_show(rt: HostRuntime) -> Result<(), Fail> {
-    let store = store_of_sent(rt.alloc())?;
-    let row = store.last().ok_or("a row")?;
+    let alloc = rt.alloc();
+    let mut store = store_of_sent(alloc)?;
+    let mut room = Vec::new(alloc);
+    let mut rows = store.rows(&mut room).ok().ok_or("memory")?;
+    let row = rows.next().ok_or("a row")?;
     let frame = row.read_frame();
     let again = made_again(&row, &frame);
     assert!(rt; again.refusal_after(Some(&row), Gap::STANDARD) == Some(RowCause::Order));
     assert!(rt; row.refusal_after(Some(&again), Gap::STANDARD) == Some(RowCause::Order));
     assert!(rt; again.receivers() == row.receivers() && again.frame() == row.frame());
+    Ok(())
+}
+
+/// How many receptions a store sorts at a time.
+const CHUNK: u64 = 8192;
+
+/// Puts what a receiver heard at each of so many minutes into a store, the last first.
+fn push_minutes<A: Allocator + Copy>(
+    store: &mut BookStore<A>,
+    name: &[u8],
+    count: u64,
+) -> Result<(), Fail> {
+    for before in 0..count {
+        let minute = count.saturating_sub(before);
+        let x = heard(minute.saturating_mul(60), name, &DIRECT)?;
+        store.push_reception(&x).ok().ok_or("memory")?;
+    }
+    Ok(())
+}
+
+/// Whether the rows of a store are those of so many minutes, each heard by these.
+fn are_minutes<A: Allocator + Copy>(
+    alloc: A,
+    store: &mut BookStore<A>,
+    names: &[u8],
+    count: u64,
+) -> Result<bool, Fail> {
+    let mut room = Vec::new(alloc);
+    let rows = store.rows(&mut room).ok().ok_or("memory")?;
+    let mut minute = 0u64;
+    for row in rows {
+        minute = minute.saturating_add(1);
+        if row.first() != row.last()
+            || row.first().seconds() != minute.saturating_mul(60)
+            || row.receivers() != names
+        {
+            return Ok(false);
+        }
+    }
+    Ok(minute == count)
+}
+
+#[test]
+fn chunks_are_put_in_order(rt: HostRuntime) -> Result<(), Fail> {
+    let alloc = rt.alloc();
+    for count in [CHUNK - 1, CHUNK, CHUNK + 1, 2 * CHUNK, 2 * CHUNK + 1] {
+        let mut store = BookStore::new(alloc, Gap::STANDARD);
+        push_minutes(&mut store, b"RX1", count)?;
+        assert!(rt; are_minutes(alloc, &mut store, b"RX1", count)?, "{count} minutes");
+        // The rows stay, and come again.
+        assert!(rt; are_minutes(alloc, &mut store, b"RX1", count)?, "{count} minutes");
+    }
+    Ok(())
+}
+
+// Each chunk is of one receiver; the first receiver comes once more. Each name stands once.
+#[test]
+fn names_are_united_over_chunks(rt: HostRuntime) -> Result<(), Fail> {
+    let alloc = rt.alloc();
+    let mut store = BookStore::new(alloc, Gap::STANDARD);
+    for name in [b"RX2".as_slice(), b"RX1".as_slice(), b"RX2".as_slice()] {
+        push_minutes(&mut store, name, CHUNK)?;
+    }
+    assert!(rt; are_minutes(alloc, &mut store, b"RX1,RX2", CHUNK)?);
     Ok(())
 }
