@@ -1,5 +1,5 @@
--- What an opener of inputs was asked for.
-use Rattle.std.specs.Prelude.{◌≡◌, ◌⊎◌, ℕ, ◌+◌, ⊤, List, ◌++◌, map, take, slice_get, string_bytes, Option, None, Some}
+-- What an opener of inputs was asked for, and what is complained of.
+use Rattle.std.specs.Prelude.{◌≡◌, ℕ, ⊤, List, [], ◌∷◌, ◌++◌, map, take, slice_get, string_bytes, Option, None, Some}
 use Rattle.std.specs.declared.string.String.{String}
 use Rattle.std.specs.Borrow.{Bor}
 use Rattle.aprs_program.specs.declared.complaint.Complaint.{Complaint}
@@ -7,25 +7,41 @@ use Rattle.aprs_program.specs.declared.complaint.Complaint.TheVariants as why
 use Rattle.aprs_program.specs.declared.opening.OpenFault.{OpenFault}
 use Rattle.aprs_program.specs.declared.opening.OpenFault.TheVariants as fault
 
--- After the paths that it was asked for before, where these are known, the opener was asked for
--- these, in this order.
-abbrev pub AsksFor : Option (List (List ℕ)) → Option (List (List ℕ)) → List (List ℕ) → Type 0
-AsksFor None new paths = ⊤
-AsksFor (Some before) None paths = ⊥
-AsksFor (Some before) (Some after) paths = after ≡ before ++ paths
+-- What an opener was asked for and its answer: a path, and why its input can't be opened, or
+-- `None` where it is open.
+abbrev pub Asked : Type 0
+Asked = List ℕ × Option OpenFault
+
+-- After what the opener was asked for before, where that is known, it was asked for these, in this
+-- order.
+abbrev pub AsksFor : Option (List Asked) → Option (List Asked) → List Asked → Type 0
+AsksFor None new asked = ⊤
+AsksFor (Some before) None asked = ⊥
+AsksFor (Some before) (Some after) asked = after ≡ before ++ asked
+
+-- These paths, where each of their inputs is open.
+abbrev pub opened : {Z : Type 0} → List (String Z) → List Asked
+opened paths = map (λ path. (string_bytes path, None)) paths
 
 -- What is complained of where the input of this path can't be opened.
 abbrev pub complaint_at : Bor (List ℕ) → OpenFault → Complaint
 complaint_at path fault.Refused = why.CannotOpen path
 complaint_at path fault.Memory = why.OutOfMemory
 
--- One input can't be opened: it is the last that the opener was asked for, after all before it, and
--- what is complained of is that, or that memory was refused.
-pub record StopsAtPath {Z : Type 0} (old new : Option (List (List ℕ))) (paths : List (String Z))
+-- What is complained of after this answer for this path: that its input can't be opened, and why;
+-- or, where it is open, that memory was refused.
+abbrev pub ComplainsOf : {Z : Type 0} → String Z → Option OpenFault → Complaint → Type 0
+ComplainsOf path None complaint = complaint ≡ why.OutOfMemory
+ComplainsOf path (Some refused) complaint =
+    (it : Bor (List ℕ)) × (it.now ≡ string_bytes path) × (complaint ≡ complaint_at it refused)
+
+-- The path of this number is the last that the opener was asked for, and the inputs of all before
+-- it are open. Its answer decides what is complained of.
+pub record StopsAtPath {Z : Type 0} (old new : Option (List Asked)) (paths : List (String Z))
     (complaint : Complaint) : Type 0 where
   pub at : ℕ
   pub path : String Z
+  pub answer : Option OpenFault
   pub is_there : slice_get paths at ≡ Some path
-  pub asked : AsksFor old new (map (λ it. string_bytes it) (take (at + 1) paths))
-  pub says : (complaint ≡ why.OutOfMemory) ⊎ ((it : Bor (List ℕ)) × (it.now ≡ string_bytes path)
-      × (complaint ≡ why.CannotOpen it))
+  pub asked : AsksFor old new (opened (take at paths) ++ (string_bytes path, answer) ∷ [])
+  pub says : ComplainsOf path answer complaint

@@ -1,6 +1,7 @@
 //! Opening the inputs of a run.
-ghost use Rattle.std.specs.Prelude.{◌≡◌, ◌∷◌, [], IfErr, IfOk, OnOk, length, map, string_bytes, take, List, Option, None, ℕ};
-ghost use Rattle.aprs_program.specs.Opening.{AsksFor, StopsAtPath, complaint_at};
+ghost use Rattle.std.specs.Prelude.{◌≡◌, ◌∷◌, [], IfErr, IfOk, OnOk, length, List, Option, None};
+ghost use Rattle.std.specs.Result.{result_err};
+ghost use Rattle.aprs_program.specs.Opening.{Asked, AsksFor, StopsAtPath, complaint_at, opened};
 
 use crate::complaint::Complaint;
 use aprs_io::Counted;
@@ -21,12 +22,13 @@ pub trait Opener {
     /// An input that is open.
     type Input: Read + Drop;
 
-    /// The paths that it was asked for, in order, where they are known.
-    ghost asked: { Self → Option (List (List ℕ)) } = { λ _. None };
+    /// The paths that it was asked for and its answers, in order, where they are known.
+    ghost asked: { Self → Option (List Asked) } = { λ _. None };
 
     /// Opens the input of this path.
     fn open(&mut self, path: &str) -> Result<Self::Input, OpenFault>
-        ensures asks { AsksFor (asked self.old) (asked self.new) (path.now ∷ []) };
+        ensures asks { AsksFor (asked self.old) (asked self.new)
+            ((path.now, result_err result) ∷ []) };
 }
 
 /// Opens all inputs, in the order of their paths. Where one can't be opened, or an allocation
@@ -36,10 +38,11 @@ pub fn open_all<'t, O: Opener, A: Allocator>(
     alloc: A,
     paths: &'t [String],
 ) -> Result<Vec<Counted<O::Input>, A>, Complaint<'t>>
-    // All are opened, in order; or one can't be, and none after it is asked for.
+    // All are opened, in order; or one can't be, or there is no memory for it, and none after it is
+    // asked for. What is complained of is what the opener answered last.
     ensures each { IfOk result (λ inputs. length inputs.items ≡ length paths.entry.now) }
     ensures in_order { OnOk result (AsksFor (O.asked opener.old) (O.asked opener.new)
-        (map (λ path. string_bytes path) paths.entry.now)) }
+        (opened paths.entry.now)) }
     ensures stops { IfErr result (StopsAtPath (O.asked opener.old) (O.asked opener.new)
         paths.entry.now) }
 {
