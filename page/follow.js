@@ -22,6 +22,7 @@ let following = false;
 async function follow() {
   const list = byId("follow").value;
   page.follows = list !== "";
+  if (!list) byId("stale").textContent = "";
   if (!list || following) return;
   following = true;
   let grown = false;
@@ -29,7 +30,7 @@ async function follow() {
     const base = new URL(list, location.href), answer = await fetchOwn(base);
     const names = (await answer.text()).split(/\r?\n/).map(it => it.trim())
       .filter(it => it && !it.startsWith("#"));
-    for (const name of names) grown = await followOne(name, new URL(name, base)) || grown;
+    for (const name of names) grown = await followOne(name, addressOf(name, base)) || grown;
     Object.assign(alive, { away: 0, refused: "" });
   } catch (fault) {
     if (fault instanceof Refused) alive.refused = `${list}: ${fault.message}`;
@@ -39,6 +40,8 @@ async function follow() {
   following = false;
   tick();
 }
+/** The address of a log: what means something else in an address is a letter of a name. */
+const addressOf = (name, base) => new URL(name.replace(/[%?#]/g, encodeURIComponent), base);
 /** The server is there, and hands out no such file. */
 class Refused extends Error {}
 async function fetchOwn(url, options = {}) {
