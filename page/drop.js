@@ -68,11 +68,11 @@ const NO_CAPTURE = "the receiver isn't written as RX1, or the moment as 2024-06-
 const place = got =>
   (/^[A-Z]/.test(got.fault) ? `line ${got.line}: ` : "") + (got.fault || "out of memory");
 
-/** What a file is, by how it begins, but for the mark of UTF-8 that Windows writes first. */
+/** What a file is, by its name and by how it begins, after a mark of UTF-8, as Windows has it. */
 function kindOf(bytes, name) {
   const begin = asText(bytes.subarray(0, 2000)).replace(/^\xef\xbb\xbf/, "");
   if (begin.startsWith("APRSBOOK")) return "book";
-  if (bytes[0] === 0xc0) return "KISS stream";
+  if (bytes[0] === 0xc0 || /\.kiss$/i.test(name)) return "KISS stream";
   if (/^\s*(\{|<([^]*<)?([\w-]+:)?gpx[\s>])/.test(begin)) return "map";
   if (!/^\d{4}-\d\d-\d\dT/.test(begin) && /\.(txt|csv)$/i.test(name) &&
     /^\s*[A-Za-z0-9]{1,6}(-\d{1,2})?([\s,;]|$)/.test(begin)) return "roster";

@@ -260,6 +260,17 @@ def test_unread(page, folder):
     is_(page.js(BOOK), base64_of(program(["merge"], EVENING).stdout))
     is_(page.js("aprsbook.page.data.notes"),
         [f"{name} was left out: {why}" for name, why in sorted(bad.items())])
+    # a capture that begins within a frame, and a moment that is none
+    (folder / "tape.kiss").write_bytes(program(["convert", "kiss"], EVENING[:1]).stdout[9:])
+    fresh(page)
+    page.give("#choose", folder / "tape.kiss")
+    page.wait(f"{TOLD}['tape.kiss'] === \"give the receiver's name and the moment\"")
+    for moment, wanted in ("2024-06-21 18:00", "the receiver isn't written as RX1, or the moment "
+                           "as 2024-06-21T18:00:00Z"), ("2024-06-21T18:00:00Z", None):
+        page.js("(() => { const it = document.querySelectorAll('#files input')[1]; "
+                f"it.value = {moment!r}; it.dispatchEvent(new Event('change')); return 1 }})()")
+        page.wait(f"{TOLD}['tape.kiss'] === {json.dumps(wanted)}" if wanted else MADE)
+    is_(page.js("aprsfiles.made().book.length > 1000"), True)
     quiet(page)
 
 
