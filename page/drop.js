@@ -71,7 +71,7 @@ const place = got =>
 /** What a file is, by its name and by how it begins, after a mark of UTF-8, as Windows has it. */
 function kindOf(bytes, name) {
   const begin = asText(bytes.subarray(0, 2000)).replace(/^\xef\xbb\xbf/, "");
-  if (begin.startsWith("APRSBOOK")) return "book";
+  if (begin.startsWith("APRSBOOK") || !begin && /\.book$/i.test(name)) return "book";
   if (bytes[0] === 0xc0 || /\.kiss$/i.test(name)) return "KISS stream";
   if (/^\s*(\{|<([^]*<)?([\w-]+:)?gpx[\s>])/.test(begin)) return "map";
   if (!/^\d{4}-\d\d-\d\dT/.test(begin) && /\.(txt|csv)$/i.test(name) &&
@@ -102,7 +102,7 @@ async function look(file) {
 async function lookInto(file) {
   let { bytes } = file;
   const refuse = got => { file.fault = place(got); };
-  if (/\.book$/i.test(file.name) && !bytes.length) return refuse({ fault: EMPTY_BOOK });
+  if (file.kind === "book" && !bytes.length) return refuse({ fault: EMPTY_BOOK });
   if (file.kind === "KISS stream") {
     if (!file.moment) return refuse({ fault: "give the receiver's name and the moment" });
     const got = await run("convert capture", [file.receiver, file.moment], [bytes]);

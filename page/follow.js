@@ -74,10 +74,11 @@ async function growOne(file, url) {
   if (mark === file.mark && head.headers.get("content-length")) return false;
   file.whole = await grownOf(file.whole, url, +head.headers.get("content-length"));
   file.mark = mark;
-  // only whole lines: the last one may still be on its way
-  file.bytes = file.whole.subarray(0, file.whole.lastIndexOf(10) + 1);
-  file.kind = kindOf(file.bytes, file.name + ".log");
-  if (file.kind === "book") file.bytes = file.whole;
+  const kind = kindOf(file.whole, file.name);
+  file.kind = kind === "map" || kind === "roster" ? "log" : kind;
+  // of a log only whole lines: the last one may still be on its way
+  file.bytes = file.kind === "log"
+    ? file.whole.subarray(0, file.whole.lastIndexOf(10) + 1) : file.whole;
   await look(file);
   return true;
 }

@@ -329,13 +329,15 @@ def test_narrow(page, folder):
     log = folder / "receiver-coast-2024-06-21-evening.log"
     log.write_bytes(EVENING[0].read_bytes())
     (folder / "roster.txt").write_text("Q1RUN leader\nQ1MED-7 at the second post\nQ1NINE\n")
-    page.open(PAGE.resolve().as_uri(), 360, 844)
-    page.wait("!document.getElementById('choose').disabled")
-    page.give("#choose", log, folder / "roster.txt", *EVENING[1:])
-    page.wait(MADE + " && document.querySelectorAll('#timeline tbody tr').length > 10")
-    is_(page.js("[...document.querySelectorAll('.wide'), document.documentElement]"
-                ".filter(it => it.scrollWidth > it.clientWidth).map(it => it.id)"), [])
-    is_(page.js("document.querySelector('#files tbody th').clientHeight < 70"), True)
+    (folder / "tape.kiss").write_bytes(program(["convert", "kiss"], EVENING[:1]).stdout)
+    for width in 320, 360:
+        page.open(PAGE.resolve().as_uri(), width, 844)
+        page.wait("!document.getElementById('choose').disabled")
+        page.give("#choose", log, folder / "roster.txt", folder / "tape.kiss", *EVENING[1:])
+        page.wait(MADE + " && document.querySelectorAll('#timeline tbody tr').length > 10")
+        is_(page.js("[...document.querySelectorAll('.wide'), document.documentElement]"
+                    ".filter(it => it.scrollWidth > it.clientWidth).map(it => it.id)"), [])
+        is_(page.js("document.querySelector('#files tbody th').clientHeight < 70"), True)
     picture(page, "narrow")
 
 
