@@ -290,9 +290,9 @@ function bring(name, text) {
     it.fault = fault.message;
   }
   page.brought = [...page.brought.filter(one => one.name !== name), it];
-  const said = page.brought.map(one => `${one.name}: ` +
+  const told = page.brought.map(one => `${one.name}: ` +
     (one.fault || (one.base ? "a map" : count(one.roster.length, "call"))));
-  tell(said.join("; "), page.brought.some(one => one.fault));
+  tell(told.reverse().join("; "), page.brought.some(one => one.fault));
   readBrought();
   refresh();
 }

@@ -311,7 +311,7 @@ def test_brought(page, folder):
         ["course.gpx: not well-formed XML", "ours.csv: 2 calls", "their.txt: 2 calls"])
     (folder / "their.txt").write_bytes(b"Q1WX-13\r\n")
     drop(page, folder / "their.txt")
-    page.wait("told.textContent.endsWith('; their.txt: 1 call')")
+    page.wait("told.textContent.startsWith('their.txt: 1 call; ')")
     is_(page.js("aprsbook.page.roster.map(it => it.call).sort()"), ["Q1MED-7", "Q1RUN", "Q1WX-13"])
     page.wait(MADE)
     roster = folder / "both.txt"
