@@ -244,6 +244,7 @@ async function textsOf(good, gap, tellShare) {
   const [history, listing] = await Promise.all([answerOf("history", [book]), shown]);
   return { book, history: history.text, read: history.read, ...listing };
 }
+/** Draws these texts, with the options as they stand. */
 const draw = ({ history, listing, read, told }) =>
   show({ ...optionsOf(), history, listing }, read, told);
 async function work() {
@@ -279,6 +280,7 @@ async function work() {
     say((good[fault.at] ? good[fault.at].name + ": " : "") + fault.message, true);
   }
 }
+/** A row of the table of files, with what else a kind of file has. */
 const fileOf = (name, kind, bytes, of = {}) =>
   ({ name, kind, bytes, receiver: "RX1", moment: "", passed: [], said: "", fault: "", ...of });
 /** Reads a dropped file; a map or a roster goes to the page at once. */
