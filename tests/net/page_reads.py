@@ -26,7 +26,7 @@ import hostile
 import scale
 from serving import Server
 
-PAGE, EXAMPLES = map(pathlib.Path, sys.argv[1:3])
+PAGE, EXAMPLES = (pathlib.Path(it).resolve() for it in sys.argv[1:3])
 RUNS = int(sys.argv[3]) if len(sys.argv) > 3 else 1000
 PICTURES = sys.argv[4] if len(sys.argv) > 4 else None
 EVENING = sorted(EXAMPLES.glob("evening/*.log"))
@@ -63,7 +63,7 @@ def is_(got, wanted):
 
 
 def fresh(page, url=None):
-    page.open(url or PAGE.resolve().as_uri(), 1280, 1400)
+    page.open(url or PAGE.as_uri(), 1280, 1400)
     page.wait("!document.getElementById('choose').disabled")
 
 
@@ -301,14 +301,14 @@ def test_options(page, _):
 def test_brought(page, folder):
     """Rosters as Windows writes them, one of which is put right, beside a map that is none."""
     files = {"ours.csv": b"\xef\xbb\xbfQ1RUN;leader\r\nQ1MED-7;second post\r\n",
-             "their.txt": b"Q1NINE\r\nQ1TEN", "course.gpx": b"<gpx><wpt></gpx>"}
+             "their.txt": b"Q1NINE\r\nQ1TEN", "course.gpx": b"<gpx><wpt lat='91' lon='0'/></gpx>"}
     for name, text in files.items():
         (folder / name).write_bytes(text)
     fresh(page)
     drop(page, *[folder / name for name in files], *EVENING)
     page.wait(MADE)
     is_(sorted(page.js("told.textContent").split("; ")),
-        ["course.gpx: not well-formed XML", "ours.csv: 2 calls", "their.txt: 2 calls"])
+        ["course.gpx: a place off the earth", "ours.csv: 2 calls", "their.txt: 2 calls"])
     (folder / "their.txt").write_bytes(b"Q1WX-13\r\n")
     drop(page, folder / "their.txt")
     page.wait("told.textContent.startsWith('their.txt: 1 call; ')")
@@ -331,7 +331,7 @@ def test_narrow(page, folder):
     (folder / "roster.txt").write_text("Q1RUN leader\nQ1MED-7 at the second post\nQ1NINE\n")
     (folder / "tape.kiss").write_bytes(program(["convert", "kiss"], EVENING[:1]).stdout)
     for width in 320, 360:
-        page.open(PAGE.resolve().as_uri(), width, 844)
+        page.open(PAGE.as_uri(), width, 844)
         page.wait("!document.getElementById('choose').disabled")
         page.give("#choose", log, folder / "roster.txt", folder / "tape.kiss", *EVENING[1:])
         page.wait(MADE + " && document.querySelectorAll('#timeline tbody tr').length > 10")
