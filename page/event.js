@@ -345,7 +345,11 @@ function listenToControls() {
     for (const list of Object.values(page.lists)) list.whole();
     dressFor(true);
   });
-  addEventListener("afterprint", () => dressFor(false));
+  addEventListener("afterprint", () => {
+    dressFor(false);
+    // in Firefox all is as wide as on paper until the next picture
+    requestAnimationFrame(() => page.map.measure());
+  });
 }
 /** Puts on the colours of paper, or takes them off. */
 function dressFor(paper) {

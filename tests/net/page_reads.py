@@ -12,6 +12,7 @@ import datetime
 import gzip
 import hashlib
 import json
+import os
 import pathlib
 import random
 import shutil
@@ -26,6 +27,7 @@ import hostile
 import scale
 from serving import Server
 
+os.environ["LC_ALL"] = "C.UTF-8"  # by which browsers find any name
 PAGE, EXAMPLES = (pathlib.Path(it).resolve() for it in sys.argv[1:3])
 RUNS = int(sys.argv[3]) if len(sys.argv) > 3 else 1000
 PICTURES = sys.argv[4] if len(sys.argv) > 4 else None
