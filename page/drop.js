@@ -357,11 +357,12 @@ function listen() {
   byId("name").onchange = byId("silent").onchange = () => made && draw(made);
   for (const kind of ["dragover", "dragleave", "drop"])
     addEventListener(kind, event => {
-      const { dataTransfer } = event;
-      if (!dataTransfer?.types.includes("Files")) return;
+      const { dataTransfer, target } = event;
+      const hasFiles = Boolean(dataTransfer?.types.includes("Files"));
+      if (!hasFiles && target.matches?.("input")) return; // a text may be dropped into a field
       event.preventDefault();
-      byId("drop").classList.toggle("over", kind === "dragover");
-      if (kind === "drop") add(dataTransfer.files, [...dataTransfer.items]
+      byId("drop").classList.toggle("over", hasFiles && kind === "dragover");
+      if (hasFiles && kind === "drop") add(dataTransfer.files, [...dataTransfer.items]
         .filter(it => it.kind === "file").map(it => it.webkitGetAsEntry()?.isDirectory));
     });
 }

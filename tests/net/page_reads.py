@@ -204,11 +204,11 @@ def test_faults(page, folder):
     quiet(page)
 
 
-def drop(page, *paths):
-    """Drops files; Firefox has no such call, and chooses them."""
+def drop(page, *paths, items=()):
+    """Drops files, or other items; Firefox has no such call, and chooses the files."""
     if not hasattr(page, "events"):
-        return page.give("#choose", *[it for it in paths if it.is_file()])
-    data = {"items": [], "files": list(map(str, paths)), "dragOperationsMask": 1}
+        return paths and page.give("#choose", *[it for it in paths if it.is_file()])
+    data = {"items": items, "files": list(map(str, paths)), "dragOperationsMask": 1}
     for kind in "dragEnter", "dragOver", "drop":
         page.call("Input.dispatchDragEvent", type=kind, x=300, y=130, data=data)
 
@@ -262,6 +262,12 @@ def test_unread(page, folder):
     is_(page.js(BOOK), base64_of(program(["merge"], EVENING).stdout))
     is_(page.js("aprsbook.page.data.notes"),
         [f"{name} was left out: {why}" for name, why in sorted(bad.items())])
+    # a link is no file, and doesn't take the place of the page
+    before = page.js(f"[location.href, {STATUS}]")
+    drop(page, items=[{"mimeType": "text/uri-list", "data": "about:blank"}])
+    time.sleep(0.3)
+    is_(page.js(f"[location.href, {STATUS}]"), before)
+    is_(page.js("document.getElementById('progress').hidden"), True)
     # a capture that begins within a frame, and a moment that is none
     (folder / "tape.kiss").write_bytes(program(["convert", "kiss"], EVENING[:1]).stdout[9:])
     fresh(page)
