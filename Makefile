@@ -92,7 +92,7 @@ tried = $(foreach it,$(TRIED),tests/$(it).sh $(PROGRAM) &&) \
 # its sources; each says what it leaves out because a tool isn't there
 recipes:
 	@if [ -x $(PROGRAM) ] && [ -x $(HISTORY) ] && \
-	    [ -z "$$(find crates -name '*.rt' -newer $(PROGRAM))" ]; then \
+	    [ -z "$$(find crates -name out -prune -o -name '*.rt' -newer $(PROGRAM) -print)" ]; then \
 	    $(MAKE) --no-print-directory elsewhere && \
 	    $(tried) examples/cookbook.sh --posix $(PROGRAM); \
 	else echo 'left out: the recipes of the cookbook, since no program is built (make build)'; fi

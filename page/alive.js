@@ -1,6 +1,6 @@
 // A page that goes on: it asks for itself again, ages count to now, and it says what it misses.
 
-const alive = { asked: Date.now(), touched: 0, away: 0 };
+const alive = { asked: Date.now(), touched: 0, away: 0, refused: "" };
 
 /** Has the page of an event ask for itself again, unless somebody is at work in it. */
 function beginAlive() {
@@ -48,6 +48,7 @@ function tick() {
   for (const row of byId("things-box").querySelectorAll("tr.station"))
     row.classList.toggle("silent", now - row.querySelector(".age").dataset.v > view.silent);
   drawNews();
+  if (alive.refused) words.push(alive.refused);
   if (alive.away) words.push(`the server has been away since ${fullText(alive.away / 1000)}`);
   if (page.all.rows.length && quiet > 600) words.push(`nothing was heard for ${age(quiet)}`);
   byId("stale").textContent = words.join("; ");

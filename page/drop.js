@@ -62,16 +62,18 @@ async function run(command, options, inputs, read = false) {
 // ---- files
 
 const asText = bytes => new TextDecoder("latin1").decode(bytes);
+const EMPTY_BOOK = "is empty, which no book is";
+const NO_CAPTURE = "the receiver isn't written as RX1, or the moment as 2024-06-21T18:00:00Z";
 /** A fault of an input, as the program says it. */
 const place = got =>
   (/^[A-Z]/.test(got.fault) ? `line ${got.line}: ` : "") + (got.fault || "out of memory");
 
-/** What a file is, by how it begins. */
+/** What a file is, by its name and by how it begins, after a mark of UTF-8, as Windows has it. */
 function kindOf(bytes, name) {
-  const begin = asText(bytes.subarray(0, 2000));
-  if (begin.startsWith("APRSBOOK")) return "book";
-  if (bytes[0] === 0xc0) return "KISS stream";
-  if (/^(\xef\xbb\xbf)?\s*(\{|<([^]*<)?([\w-]+:)?gpx[\s>])/.test(begin)) return "map";
+  const begin = asText(bytes.subarray(0, 2000)).replace(/^\xef\xbb\xbf/, "");
+  if (begin.startsWith("APRSBOOK") || !begin && /\.book$/i.test(name)) return "book";
+  if (bytes[0] === 0xc0 || /\.kiss$/i.test(name)) return "KISS stream";
+  if (/^\s*(\{|<([^]*<)?([\w-]+:)?gpx[\s>])/.test(begin)) return "map";
   if (!/^\d{4}-\d\d-\d\dT/.test(begin) && /\.(txt|csv)$/i.test(name) &&
     /^\s*[A-Za-z0-9]{1,6}(-\d{1,2})?([\s,;]|$)/.test(begin)) return "roster";
   return "log";
@@ -80,23 +82,36 @@ async function bytesOf(file) {
   const bytes = new Uint8Array(await file.arrayBuffer());
   if (bytes[0] !== 0x1f || bytes[1] !== 0x8b) return bytes;
   const stream = new Blob([bytes]).stream().pipeThrough(new DecompressionStream("gzip"));
-  return new Uint8Array(await new Response(stream).arrayBuffer());
+  try {
+    return new Uint8Array(await new Response(stream).arrayBuffer());
+  } catch {
+    throw new Error("gzip can't unpack it");
+  }
 }
+/** What stands in the field for a gap or for silence; where it is no such number, 30. */
+const numberIn = id => byId(id).validity.valid ? +byId(id).value : 30;
 /** Reads a file as what it is, and keeps what the program says of it. */
 async function look(file) {
-  Object.assign(file, { fault: "", said: "", passed: [], taken: null });
+  Object.assign(file, { fault: file.unread || "", said: "", passed: [], taken: null });
+  try {
+    if (!file.unread) await lookInto(file);
+  } catch (fault) {
+    file.fault = fault.message;
+  }
+}
+async function lookInto(file) {
   let { bytes } = file;
-  const refuse = got => {
-    file.fault = got.status === 2 ? "give the receiver's name and the moment" : place(got);
-  };
+  const refuse = got => { file.fault = place(got); };
+  if (file.kind === "book" && !bytes.length) return refuse({ fault: EMPTY_BOOK });
   if (file.kind === "KISS stream") {
-    if (!file.moment) return refuse({ status: 2 });
+    if (!file.moment) return refuse({ fault: "give the receiver's name and the moment" });
     const got = await run("convert capture", [file.receiver, file.moment], [bytes]);
+    if (got.status === 2) return refuse({ fault: NO_CAPTURE });
     if (got.status) return refuse(got);
     bytes = got.bytes;
   }
   if (file.kind === "book") {
-    const got = await run("merge", +byId("gap").value, [bytes]);
+    const got = await run("merge", numberIn("gap"), [bytes]);
     if (got.status) return refuse(got);
     const rows = asText(got.bytes.subarray(-20)).match(/END (\d+)\n$/)[1];
     file.said = count(+rows, "transmission");
@@ -159,7 +174,7 @@ function passedOf(file) {
 function rowOf(file) {
   const row = file.row ||= fileRow(file), [, kind, size, told] = row.cells;
   kind.textContent = file.kind;
-  size.textContent = file.bytes.length.toLocaleString("en");
+  size.textContent = file.unread ? "" : file.bytes.length.toLocaleString("en");
   told.firstChild.className = file.fault ? "bad" : "good";
   told.firstChild.textContent = file.fault || file.said;
   const before = told.querySelector("details");
@@ -181,9 +196,10 @@ function list() {
 
 // ---- the book, and what is drawn of it
 
-const optionsOf = () => ({ title: byId("name").value || "APRS net", gap: +byId("gap").value,
-  live: 0, silent: +byId("silent").value || 30, maps: [], roster: "",
-  notes: files.filter(it => it.fault).map(it => `${it.name} was left out: ${it.fault}`) });
+const optionsOf = () => ({ title: byId("name").value || "APRS net", gap: numberIn("gap"),
+  live: 0, silent: numberIn("silent"), maps: [], roster: "",
+  notes: files.filter(it => it.fault && !it.taken)
+    .map(it => `${it.name} was left out: ${it.fault}`) });
 
 // runs that began before their files were checked: the files, the gap, and what comes of each run
 let early = null;
@@ -194,7 +210,7 @@ const EARLY_BYTES = 2 ** 26;
  * not wait for the book; but two runs then hold all files at once, so only where they are small.
  */
 function beginEarly(all) {
-  const gap = +byId("gap").value, inputs = all.map(it => it.taken || it.bytes), got = {};
+  const gap = numberIn("gap"), inputs = all.map(it => it.taken || it.bytes), got = {};
   const size = inputs.reduce((sum, it) => sum + it.length, 0);
   const begin = (command, given) =>
     run(command, gap, given, command === "history").catch(() => null);
@@ -228,12 +244,18 @@ async function textsOf(good, gap, tellShare) {
   const [history, listing] = await Promise.all([answerOf("history", [book]), shown]);
   return { book, history: history.text, read: history.read, ...listing };
 }
+/** Draws these texts, with the options as they stand. */
+const draw = ({ history, listing, read, told }) =>
+  show({ ...optionsOf(), history, listing }, read, told);
 async function work() {
   list();
   const good = files.filter(it => it.taken), mine = ++turn, begin = began || performance.now();
   began = 0;
   byId("book").disabled = byId("event").disabled = true;
   made = null;
+  tellProgress(1);
+  if (!byId("gap").validity.valid)
+    return say("the gap has to be a whole number of seconds, from 1 to 3600", true);
   if (!good.length) {
     show({ ...optionsOf(), notes: [], history: "", listing: "", waits: true });
     return say(files.length ? "no file can be read" : "", true);
@@ -241,12 +263,11 @@ async function work() {
   const words = `merging ${count(good.length, "file")}`;
   tellProgress(0.3, words);
   try {
-    const texts = await textsOf(good, +byId("gap").value, share => tellProgress(share, words));
+    const texts = await textsOf(good, numberIn("gap"), share => tellProgress(share, words));
     if (mine !== turn) return; // other files came
     tellProgress(0.9, "drawing");
     await aMoment();
-    const { history, listing, read, told } = texts;
-    await show({ ...optionsOf(), history, listing }, read, told);
+    await draw(texts);
     if (mine !== turn) return;
     made = texts;
     byId("book").disabled = byId("event").disabled = false;
@@ -254,27 +275,35 @@ async function work() {
     say(`${count(page.all.rows.length, "transmission")} of ${count(good.length, "file")}, ` +
       `in ${((performance.now() - begin) / 1000).toFixed(1)} s`);
   } catch (fault) {
+    if (mine !== turn) return;
     tellProgress(1);
     say((good[fault.at] ? good[fault.at].name + ": " : "") + fault.message, true);
   }
 }
+/** A row of the table of files, with what else a kind of file has. */
+const fileOf = (name, kind, bytes, of = {}) =>
+  ({ name, kind, bytes, receiver: "RX1", moment: "", passed: [], said: "", fault: "", ...of });
 /** Reads a dropped file; a map or a roster goes to the page at once. */
-async function take(it) {
+async function take(it, isFolder) {
+  const unread = why => fileOf(it.name, isFolder ? "folder" : "file", new Uint8Array(),
+    { unread: why });
+  if (isFolder) return unread("drop the files in it");
   try {
     const bytes = await bytesOf(it), kind = kindOf(bytes, it.name);
-    if (kind === "map" || kind === "roster") bring(it.name, new TextDecoder().decode(bytes));
-    else return { name: it.name, bytes, kind, receiver: "RX1", moment: "", passed: [] };
+    if (kind !== "map" && kind !== "roster") return fileOf(it.name, kind, bytes);
+    bring(it.name, new TextDecoder().decode(bytes));
+    return null;
   } catch (fault) {
-    say(`${it.name}: ${fault.message}`, true);
+    return unread(`can't be read: ${fault.message}`);
   }
-  return null;
 }
 /** Takes files: each is checked while the runs over all of them go on. */
-async function add(dropped) {
+async function add(dropped, areFolders = []) {
   began = performance.now();
   tellProgress(0, "reading");
-  const read = (await Promise.all([...dropped].map(take))).filter(Boolean);
-  const whole = [...files.filter(it => it.taken), ...read];
+  const taken = await Promise.all([...dropped].map((it, k) => take(it, areFolders[k])));
+  const read = taken.filter(Boolean);
+  const whole = [...files.filter(it => it.taken), ...read.filter(it => !it.unread)];
   if (read.length && whole.every(it => it.kind !== "KISS stream")) beginEarly(whole);
   let done = 0;
   await Promise.all(read.map(async file => {
@@ -296,9 +325,9 @@ const asHtml = text => text.replace(/[&<>"']/g, it =>
 /** The page of the event, the same that event-page makes of these files. */
 function eventPage() {
   const { digests } = parts, { waits, ...data } = page.data;
-  for (const it of page.brought) {
+  for (const it of page.brought.filter(one => !one.fault)) {
     if (it.base) data.maps = [...data.maps, it.text];
-    else data.roster += it.text;
+    else data.roster += (data.roster && "\n") + it.text;
   }
   const values = { TITLE: asHtml(data.title), STYLE: document.querySelector("style").textContent,
     POLICY: `default-src 'none'; script-src ${digests.draws}; style-src ${digests.style}; ` +
@@ -317,16 +346,24 @@ function drawOwnSaves() {
 // ---- begin
 
 function listen() {
-  byId("choose").onchange = event => add(event.target.files);
-  byId("gap").onchange = byId("name").onchange = byId("silent").onchange = async () => {
-    for (const it of files) await look(it);
+  byId("choose").onchange = ({ target }) => {
+    add(target.files);
+    target.value = ""; // so that the same file can be chosen again
+  };
+  byId("gap").onchange = async () => {
+    if (byId("gap").validity.valid) for (const it of files) await look(it);
     work();
   };
+  byId("name").onchange = byId("silent").onchange = () => made && draw(made);
   for (const kind of ["dragover", "dragleave", "drop"])
     addEventListener(kind, event => {
+      const { dataTransfer, target } = event;
+      const hasFiles = Boolean(dataTransfer?.types.includes("Files"));
+      if (!hasFiles && target.matches?.("input")) return; // a text may be dropped into a field
       event.preventDefault();
-      byId("drop").classList.toggle("over", kind === "dragover");
-      if (kind === "drop" && event.dataTransfer) add(event.dataTransfer.files);
+      byId("drop").classList.toggle("over", hasFiles && kind === "dragover");
+      if (hasFiles && kind === "drop") add(dataTransfer.files, [...dataTransfer.items]
+        .filter(it => it.kind === "file").map(it => it.webkitGetAsEntry()?.isDirectory));
     });
 }
 async function beginReading() {

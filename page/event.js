@@ -279,17 +279,20 @@ function play() {
 
 // ---- what the reader brings and takes away
 
-/** Takes a base map or a roster; says so where it is none. */
+/** Takes a base map or a roster, in place of one of its name; says so where it is none. */
 function bring(name, text) {
+  const it = { name, text, base: null, roster: [], fault: "" };
   try {
-    const base = /^\s*[<{[]/.test(text) ? readBase(text) : null;
-    const roster = base ? [] : readRoster(text);
-    if (!base && !roster.length) throw new Error("no map and no list of calls");
-    page.brought.push({ name, text, base, roster });
-    tell(`${name}: ${base ? "a map" : count(roster.length, "call")}`);
+    if (/^\s*[<{[]/.test(text)) it.base = readBase(text);
+    else it.roster = readRoster(text);
+    if (!it.base && !it.roster.length) throw new Error("no map and no list of calls");
   } catch (fault) {
-    tell(`${name}: ${fault.message}`, true);
+    it.fault = fault.message;
   }
+  page.brought = [...page.brought.filter(one => one.name !== name), it];
+  const told = page.brought.map(one => `${one.name}: ` +
+    (one.fault || (one.base ? "a map" : count(one.roster.length, "call"))));
+  tell(told.reverse().join("; "), page.brought.some(one => one.fault));
   readBrought();
   refresh();
 }
@@ -328,7 +331,10 @@ function listenToControls() {
     refresh();
   });
   on("one-close", "click", () => pick(page.picked));
-  on("bring", "change", event => bringAll(event.target.files));
+  on("bring", "change", ({ target }) => {
+    bringAll([...target.files]);
+    target.value = ""; // so that the same file can be brought again
+  });
   on("away", "click", () => { page.brought = []; tell(""); readBrought(); refresh(); });
   on("ics-open", "click", () => openForm(true));
   on("ics-close", "click", () => openForm(false));
@@ -339,7 +345,11 @@ function listenToControls() {
     for (const list of Object.values(page.lists)) list.whole();
     dressFor(true);
   });
-  addEventListener("afterprint", () => dressFor(false));
+  addEventListener("afterprint", () => {
+    dressFor(false);
+    // in Firefox all is as wide as on paper until the next picture
+    requestAnimationFrame(() => page.map.measure());
+  });
 }
 /** Puts on the colours of paper, or takes them off. */
 function dressFor(paper) {

@@ -15,46 +15,70 @@ function beginFollowing() {
   setInterval(() => page.follows && tick(), 1000);
   if (box.value) follow();
 }
-/** Asks for all logs of the list once. */
+// the logs that were asked for, by their addresses; one that was taken away stays away
+const followed = new Map();
 let following = false;
+/** Asks for all logs of the list once. */
 async function follow() {
   const list = byId("follow").value;
   page.follows = list !== "";
+  if (!list) byId("stale").textContent = "";
   if (!list || following) return;
   following = true;
+  let grown = false;
   try {
     const base = new URL(list, location.href), answer = await fetchOwn(base);
     const names = (await answer.text()).split(/\r?\n/).map(it => it.trim())
       .filter(it => it && !it.startsWith("#"));
-    let grown = false;
-    for (const name of names) grown = await followOne(name, new URL(name, base)) || grown;
-    alive.away = 0;
-    if (grown) await work();
-  } catch {
-    alive.away ||= Date.now();
+    for (const name of names) grown = await followOne(name, addressOf(name, base)) || grown;
+    Object.assign(alive, { away: 0, refused: "" });
+  } catch (fault) {
+    if (fault instanceof Refused) alive.refused = `${list}: ${fault.message}`;
+    else alive.away ||= Date.now();
   }
+  if (grown) await work();
   following = false;
   tick();
 }
+/** The address of a log: what means something else in an address is a letter of a name. */
+const addressOf = (name, base) => new URL(name.replace(/[%?#]/g, encodeURIComponent), base);
+/** The server is there, and hands out no such file. */
+class Refused extends Error {}
 async function fetchOwn(url, options = {}) {
   const answer = await fetch(url, { cache: "no-store", ...options });
-  if (!answer.ok) throw new Error(`${url.pathname}: ${answer.status}`);
+  if (!answer.ok) throw new Refused(`the server answers ${answer.status}`);
   return answer;
 }
 /** Asks for what is new in a log; says whether there was something. */
 async function followOne(name, url) {
-  let file = files.find(it => it.name === name);
-  if (!file) files.push(file = { name, kind: "log", receiver: "RX1", moment: "", passed: [],
-    said: "", fault: "", whole: new Uint8Array(), bytes: new Uint8Array(), mark: "" });
+  let file = followed.get(url.href);
+  if (!file) {
+    file = fileOf(name, "log", new Uint8Array(), { whole: new Uint8Array(), mark: "" });
+    followed.set(url.href, file);
+    files.push(file);
+  }
+  if (!files.includes(file)) return false;
+  try {
+    return await growOne(file, url);
+  } catch (fault) {
+    if (!(fault instanceof Refused)) throw fault;
+    // what was read before stays, and is asked for again
+    const isNew = file.fault !== fault.message;
+    Object.assign(file, { fault: fault.message, mark: "" });
+    return isNew;
+  }
+}
+async function growOne(file, url) {
   const head = await fetchOwn(url, { method: "HEAD" });
   const mark = ["content-length", "last-modified", "etag"].map(it => head.headers.get(it)).join();
   if (mark === file.mark && head.headers.get("content-length")) return false;
   file.whole = await grownOf(file.whole, url, +head.headers.get("content-length"));
   file.mark = mark;
-  // only whole lines: the last one may still be on its way
-  file.bytes = file.whole.subarray(0, file.whole.lastIndexOf(10) + 1);
-  file.kind = kindOf(file.bytes, name + ".log");
-  if (file.kind === "book") file.bytes = file.whole;
+  const kind = kindOf(file.whole, file.name);
+  file.kind = kind === "map" || kind === "roster" ? "log" : kind;
+  // of a log only whole lines: the last one may still be on its way
+  file.bytes = file.kind === "log"
+    ? file.whole.subarray(0, file.whole.lastIndexOf(10) + 1) : file.whole;
   await look(file);
   return true;
 }

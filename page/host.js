@@ -42,7 +42,7 @@ class Layout {
     try {
       if (pages > 0) grow(memory, pages);
     } catch (fault) {
-      throw new OutOfMemory(String(fault));
+      throw new OutOfMemory("out of memory", { cause: fault });
     }
   }
 }

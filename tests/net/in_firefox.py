@@ -129,6 +129,9 @@ def test_paper(page, folder):
             done = subprocess.run(["pdftotext", "-layout", path, "-"], stdout=subprocess.PIPE)
             text = done.stdout.decode()
             assert all(it in text for it in wanted), text
+        if name == "page":
+            page.wait("Math.round(map.getBoundingClientRect().width * devicePixelRatio) === "
+                      "document.querySelector('canvas').width", 5)
         page.js("(document.getElementById('ics-open').click(), 1)")
     is_(page.js("document.documentElement.classList.contains('printed')"), False)
 

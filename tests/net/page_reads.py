@@ -12,6 +12,7 @@ import datetime
 import gzip
 import hashlib
 import json
+import os
 import pathlib
 import random
 import shutil
@@ -26,7 +27,8 @@ import hostile
 import scale
 from serving import Server
 
-PAGE, EXAMPLES = map(pathlib.Path, sys.argv[1:3])
+os.environ["LC_ALL"] = "C.UTF-8"  # by which browsers find any name
+PAGE, EXAMPLES = (pathlib.Path(it).resolve() for it in sys.argv[1:3])
 RUNS = int(sys.argv[3]) if len(sys.argv) > 3 else 1000
 PICTURES = sys.argv[4] if len(sys.argv) > 4 else None
 EVENING = sorted(EXAMPLES.glob("evening/*.log"))
@@ -63,7 +65,7 @@ def is_(got, wanted):
 
 
 def fresh(page, url=None):
-    page.open(url or PAGE.resolve().as_uri(), 1280, 1400)
+    page.open(url or PAGE.as_uri(), 1280, 1400)
     page.wait("!document.getElementById('choose').disabled")
 
 
@@ -112,12 +114,7 @@ def test_saves(page, folder):
     """What a click saves is what the programs and event-page write."""
     folder = page.saves_in(folder)
     fresh(page)
-    if hasattr(page, "events"):
-        data = {"items": [], "files": list(map(str, EVENING)), "dragOperationsMask": 1}
-        for kind in "dragEnter", "dragOver", "drop":
-            page.call("Input.dispatchDragEvent", type=kind, x=300, y=130, data=data)
-    else:  # Firefox has no such call
-        page.give("#choose", *EVENING)
+    drop(page, *EVENING)
     page.wait(MADE)
     for name, words in (("net.book", ["aprsbook", "merge"]), ("net.txt", ["aprsbook", "show"]),
                         ("history.txt", ["aprsbook-history"]), ("event.html", ["event-page"])):
@@ -207,6 +204,132 @@ def test_faults(page, folder):
     quiet(page)
 
 
+def drop(page, *paths, items=()):
+    """Drops files, or other items; Firefox has no such call, and chooses the files."""
+    if not hasattr(page, "events"):
+        return paths and page.give("#choose", *[it for it in paths if it.is_file()])
+    data = {"items": items, "files": list(map(str, paths)), "dragOperationsMask": 1}
+    for kind in "dragEnter", "dragOver", "drop":
+        page.call("Input.dispatchDragEvent", type=kind, x=300, y=130, data=data)
+
+
+def change(page, name, value):
+    page.js(f"(() => {{ const it = document.getElementById({name!r}); it.value = {value!r}; "
+            "it.dispatchEvent(new Event('change')); return 1 })()")
+
+
+def test_names(page, folder):
+    """Any name, and one name twice; a file can be chosen again."""
+    paths = [folder / "my log (1) [x].log", folder / "\u0433\u043e\u0440\u0430.log",
+             folder / "day/my log (1) [x].log"]
+    (folder / "day").mkdir()
+    for path, own in zip(paths, EVENING):
+        path.write_bytes(own.read_bytes())
+    fresh(page)
+    page.give("#choose", *paths)
+    page.wait(MADE)
+    is_(page.js("[...document.querySelectorAll('#files tbody th')].map(it => it.textContent)"),
+        [paths[0].name, paths[2].name, paths[1].name])
+    is_(page.js(BOOK), base64_of(program(["merge"], EVENING).stdout))
+    page.js("(document.querySelector('#files button').click(), 1)")
+    page.wait(f"aprsfiles.files.length === 2 && {MADE}")
+    sizes = page.js("aprsfiles.files.map(it => it.bytes.length)")
+    left = [path for path in paths if path.stat().st_size in sizes]
+    is_(page.js(BOOK), base64_of(program(["merge"], left).stdout))
+    is_(page.js("document.getElementById('choose').files.length"), 0)
+    page.give("#choose", *[path for path in paths if path not in left])
+    page.wait(f"aprsfiles.files.length === 3 && {MADE}")
+    is_(page.js(BOOK), base64_of(program(["merge"], EVENING).stdout))
+    quiet(page)
+
+
+def test_unread(page, folder):
+    """A folder, an empty book and a file that is cut off are named, with others or alone."""
+    (folder / "logs").mkdir()
+    (folder / "net.book").write_bytes(b"")
+    (folder / "torn.log.gz").write_bytes(gzip.compress(EVENING[0].read_bytes())[:-9])
+    bad = {"net.book": "is empty, which no book is",
+           "torn.log.gz": "can't be read: gzip can't unpack it"}
+    if hasattr(page, "events"):
+        bad["logs"] = "drop the files in it"
+    for good in [], EVENING:
+        fresh(page)
+        drop(page, folder / "logs", *[folder / name for name in bad if name != "logs"], *good)
+        page.wait(MADE if good else f"{STATUS} === 'no file can be read'")
+        told = page.js(TOLD)
+        is_({name: told[name] for name in bad}, bad)
+        is_(page.js("document.getElementById('progress').hidden"), True)
+    is_(page.js(BOOK), base64_of(program(["merge"], EVENING).stdout))
+    is_(page.js("aprsbook.page.data.notes"),
+        [f"{name} was left out: {why}" for name, why in sorted(bad.items())])
+    # a link is no file, and doesn't take the place of the page
+    before = page.js(f"[location.href, {STATUS}]")
+    drop(page, items=[{"mimeType": "text/uri-list", "data": "about:blank"}])
+    time.sleep(0.3)
+    is_(page.js(f"[location.href, {STATUS}]"), before)
+    is_(page.js("document.getElementById('progress').hidden"), True)
+    # a capture that begins within a frame, and a moment that is none
+    (folder / "tape.kiss").write_bytes(program(["convert", "kiss"], EVENING[:1]).stdout[9:])
+    fresh(page)
+    page.give("#choose", folder / "tape.kiss")
+    page.wait(f"{TOLD}['tape.kiss'] === \"give the receiver's name and the moment\"")
+    for moment, wanted in ("2024-06-21 18:00", "the receiver isn't written as RX1, or the moment "
+                           "as 2024-06-21T18:00:00Z"), ("2024-06-21T18:00:00Z", None):
+        page.js("(() => { const it = document.querySelectorAll('#files input')[1]; "
+                f"it.value = {moment!r}; it.dispatchEvent(new Event('change')); return 1 }})()")
+        page.wait(f"{TOLD}['tape.kiss'] === {json.dumps(wanted)}" if wanted else MADE)
+    is_(page.js("aprsfiles.made().book.length > 1000"), True)
+    quiet(page)
+
+
+def test_options(page, _):
+    """A gap that is none is named, and the page keeps what it shows; a title is shown at once."""
+    fresh(page)
+    page.give("#choose", *EVENING)
+    page.wait(MADE)
+    page.js(HEAR_RUNS)
+    change(page, "name", "Fell race")
+    page.wait("document.title === 'Fell race'")
+    change(page, "silent", "5")
+    page.wait("document.getElementById('news').textContent.includes('silent for over 5 min')")
+    is_(page.js("[window.asked.length, aprsfiles.made() !== null]"), [0, True])
+    for gap in "", "0", "1.5", "3601":
+        change(page, "gap", gap)
+        is_(page.js(f"[{STATUS}, aprsfiles.made(), document.getElementById('book').disabled]"),
+            ["the gap has to be a whole number of seconds, from 1 to 3600", None, True])
+    change(page, "gap", "60")
+    page.wait(MADE)
+    is_(page.js(BOOK), base64_of(program(["merge", "--gap", "60"], EVENING).stdout))
+    own = subprocess.run(["event-page", "--gap", "60", "--title", "Fell race", "--silent", "5",
+                          *EVENING], stdout=subprocess.PIPE, check=True).stdout
+    is_(page.js("aprsfiles.eventPage()") == own.decode(), True)
+    quiet(page)
+
+
+def test_brought(page, folder):
+    """Rosters as Windows writes them, one of which is put right, beside a map that is none."""
+    files = {"ours.csv": b"\xef\xbb\xbfQ1RUN;leader\r\nQ1MED-7;second post\r\n",
+             "their.txt": b"Q1NINE\r\nQ1TEN", "course.gpx": b"<gpx><wpt lat='91' lon='0'/></gpx>"}
+    for name, text in files.items():
+        (folder / name).write_bytes(text)
+    fresh(page)
+    drop(page, *[folder / name for name in files], *EVENING)
+    page.wait(MADE)
+    is_(sorted(page.js("told.textContent").split("; ")),
+        ["course.gpx: a place off the earth", "ours.csv: 2 calls", "their.txt: 2 calls"])
+    (folder / "their.txt").write_bytes(b"Q1WX-13\r\n")
+    drop(page, folder / "their.txt")
+    page.wait("told.textContent.startsWith('their.txt: 1 call; ')")
+    is_(page.js("aprsbook.page.roster.map(it => it.call).sort()"), ["Q1MED-7", "Q1RUN", "Q1WX-13"])
+    page.wait(MADE)
+    roster = folder / "both.txt"
+    roster.write_bytes(files["ours.csv"] + b"\nQ1WX-13\r\n")
+    own = subprocess.run(["event-page", "--roster", roster, *EVENING], stdout=subprocess.PIPE,
+                         check=True).stdout
+    is_(page.js("aprsfiles.eventPage()") == own.decode(), True)
+    quiet(page)
+
+
 def test_narrow(page, folder):
     """On a telephone names of files stay whole, and no table runs past its box."""
     if not hasattr(page, "events"):
@@ -214,13 +337,15 @@ def test_narrow(page, folder):
     log = folder / "receiver-coast-2024-06-21-evening.log"
     log.write_bytes(EVENING[0].read_bytes())
     (folder / "roster.txt").write_text("Q1RUN leader\nQ1MED-7 at the second post\nQ1NINE\n")
-    page.open(PAGE.resolve().as_uri(), 360, 844)
-    page.wait("!document.getElementById('choose').disabled")
-    page.give("#choose", log, folder / "roster.txt", *EVENING[1:])
-    page.wait(MADE + " && document.querySelectorAll('#timeline tbody tr').length > 10")
-    is_(page.js("[...document.querySelectorAll('.wide'), document.documentElement]"
-                ".filter(it => it.scrollWidth > it.clientWidth).map(it => it.id)"), [])
-    is_(page.js("document.querySelector('#files tbody th').clientHeight < 70"), True)
+    (folder / "tape.kiss").write_bytes(program(["convert", "kiss"], EVENING[:1]).stdout)
+    for width in 320, 360:
+        page.open(PAGE.as_uri(), width, 844)
+        page.wait("!document.getElementById('choose').disabled")
+        page.give("#choose", log, folder / "roster.txt", folder / "tape.kiss", *EVENING[1:])
+        page.wait(MADE + " && document.querySelectorAll('#timeline tbody tr').length > 10")
+        is_(page.js("[...document.querySelectorAll('.wide'), document.documentElement]"
+                    ".filter(it => it.scrollWidth > it.clientWidth).map(it => it.id)"), [])
+        is_(page.js("document.querySelector('#files tbody th').clientHeight < 70"), True)
     picture(page, "narrow")
 
 
@@ -339,6 +464,49 @@ def test_follow(page, folder):
     is_([it for it in page.requests() if not it.startswith(("blob:", "http://127.0.0.1:"))], [])
 
 
+def test_missed(page, folder):
+    """A followed log that isn't there holds back no other; one that is taken away stays away, and
+    one that was dropped is another, by the same name."""
+    shutil.copy(PAGE, folder / "net.html")
+    logs = dict(zip(["coast.log", "my hill (1) #2 50%.log", "north.log"],
+                    [it.read_bytes() for it in EVENING]))
+    (folder / "logs.txt").write_text("gone.log\r\n" + "\r\n".join(logs))
+    (folder / "day").mkdir()
+    for name, text in logs.items():
+        (folder / name).write_bytes(text)
+    (folder / "day/coast.log").write_bytes(logs["coast.log"][:1000])
+    again = "(document.getElementById('follow').dispatchEvent(new Event('change')), 1)"
+    with Server(folder) as server:
+        fresh(page, f"http://127.0.0.1:{server.port}/net.html")
+        page.give("#choose", folder / "day/coast.log")
+        page.wait("document.getElementById('status').textContent === 'no file can be read'")
+        change(page, "follow", "log.txt")
+        page.wait("stale.textContent.includes('log.txt: the server answers 404')")
+        change(page, "follow", "logs.txt")
+        page.wait(f"{MADE} && !stale.textContent.includes('404')")
+        is_(page.js(BOOK), base64_of(program(["merge"], EVENING).stdout))
+        is_(sorted(page.js("aprsfiles.files.map(it => it.name)")),
+            ["coast.log", "coast.log", "gone.log", "my hill (1) #2 50%.log", "north.log"])
+        is_(page.js(TOLD)["gone.log"], "the server answers 404")
+        is_(page.js("aprsbook.page.data.notes.length"), 2)
+        # what was read once stays, though the server has it no longer
+        (folder / "north.log").unlink()
+        page.js(again)
+        page.wait(f"{MADE} && {TOLD}['north.log'] === 'the server answers 404'")
+        is_(page.js(BOOK), base64_of(program(["merge"], EVENING).stdout))
+        (folder / "north.log").write_bytes(logs["north.log"])
+        (folder / "gone.log").write_bytes(b"")
+        page.js(again)
+        page.wait(f"{MADE} && {TOLD}['gone.log'] === 'heard 0 passed 0'")
+        is_(page.js(TOLD)["north.log"], checked(EVENING[2]))
+        page.js("([...document.querySelectorAll('#files button')].at(-1).click(), 1)")
+        page.wait(f"aprsfiles.files.length === 4 && {MADE}")
+        page.js(again)
+        time.sleep(0.5)
+        is_(page.js("aprsfiles.files.map(it => it.name).includes('north.log')"), False)
+        is_(page.js(BOOK), base64_of(program(["merge"], EVENING[:2]).stdout))
+
+
 # from now on, when files were given, when they were shown, for how long no timer had its turn, and,
 # where the browser says so, how long the longest task was
 WATCH = """(() => {
@@ -407,8 +575,9 @@ def picture(page, name):
         page.picture(f"{PICTURES}/{page.name}-{name}.png")
 
 
-TESTS = (test_same, test_saves, test_minute, test_faults, test_narrow, test_hostile, test_random,
-         test_follow, test_large, test_larger)
+TESTS = (test_same, test_saves, test_minute, test_faults, test_names, test_unread, test_options,
+         test_brought, test_narrow, test_hostile, test_random, test_follow, test_missed, test_large,
+         test_larger)
 there = [it for it, names in ((browser.Browser, ["chromium"]),
                               (firefox.Firefox, ["firefox-esr", "firefox"]))
          if any(map(shutil.which, names))]
