@@ -1,5 +1,5 @@
 -- Lemmas on what a reader of a book holds.
-use Rattle.aprs_booktext.proofs.Common.{◌≡◌, ℕ, ◌+◌, ◌<◌, ◌≤◌, true, false, List, [], ◌∷◌, ◌++◌, length, drop, map, Option, None, Some, Result, Ok, Err, inl, inr, refl, sym, ap, ◌∙◌, subst, append_assoc, append-nil, length-append, arith, ◌≢◌, All, IfErr, IfNone, IfSome, last_or, length-map, map_push, flat_map-append, drop-append_seam, All-nil, All-push, InputEnd, millis_of, Row, Sound, none_exactly, text_of_lines}
+use Rattle.aprs_booktext.proofs.Common.{◌≡◌, ℕ, ◌+◌, ◌<◌, ◌≤◌, true, false, List, [], ◌∷◌, ◌++◌, length, map, None, Result, Ok, Err, inl, inr, refl, sym, ap, ◌∙◌, subst, append_assoc, append-nil, length-append, arith, ◌≢◌, All, IfErr, length-map, map_push, flat_map-append, All-nil, All-push, InputEnd, millis_of, Row, Sound, none_exactly, text_of_lines}
 use Rattle.aprs_rows.specs.Refusal.{refusal}
 use Rattle.aprs_io.specs.declared.input.InputEnd.TheVariants as ending
 use Rattle.aprs_booktext.specs.Lines.{Lacks}

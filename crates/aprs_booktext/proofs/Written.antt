@@ -1,5 +1,5 @@
 -- Rows that were written can be read.
-use Rattle.aprs_booktext.proofs.Common.{◌≡◌, ℕ, ◌+◌, ◌<◌, List, [], ◌∷◌, ◌++◌, length, Option, Result, Ok, Err, inl, refl, sym, ap, ◌∙◌, subst, append_assoc, append-nil, arith, All, flat_map, IsErr, flat_map_more, flat_map-append, All-nil, All-push, Puts, Puts-fails, Puts-is, Puts-none, Puts-then, Millis, BookValue, IsSoundBook, Row, Sound}
+use Rattle.aprs_booktext.proofs.Common.{◌≡◌, ℕ, ◌<◌, List, [], ◌∷◌, ◌++◌, length, Option, Result, Ok, Err, inl, refl, sym, ap, ◌∙◌, subst, append_assoc, append-nil, arith, All, flat_map, IsErr, flat_map_more, flat_map-append, All-nil, All-push, Puts, Puts-fails, Puts-is, Puts-none, Puts-then, Millis, BookValue, IsSoundBook, Row, Sound}
 use Rattle.aprs_io.specs.declared.device.WriteFault.{WriteFault}
 use Rattle.aprs_io.specs.declared.outlet.Outlet.{Outlet}
 use Rattle.aprs_laws.specs.Lists.{◌∈◌}

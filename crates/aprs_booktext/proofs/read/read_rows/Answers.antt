@@ -1,4 +1,4 @@
-use Rattle.aprs_booktext.proofs.Common.{◌≡◌, err_from_is_err_and, IfErr-weaker, IfOk-weaker, sym, subst, IsSoundBook}
+use Rattle.aprs_booktext.proofs.Common.{err_from_is_err_and, IfErr-weaker, IfOk-weaker, sym, subst, IsSoundBook}
 use Rattle.aprs_booktext.specs.Reading.{IsAnswered}
 use Rattle.aprs_booktext.specs.ReadRows.{book_read}
 use Rattle.aprs_booktext.proofs.Accepting.{answer_accepts, answer_seconds}

@@ -1,4 +1,4 @@
-use Rattle.aprs_booktext.proofs.Common.{◌≡◌, ◌+◌, length, Err, arith, ap, refl, rules, sym, Puts-fails, Puts-is, Puts-then}
+use Rattle.aprs_booktext.proofs.Common.{◌≡◌, length, Err, arith, ap, refl, rules, sym, Puts-fails, Puts-is, Puts-then}
 use Rattle.aprs_booktext.specs.Text.{IsBookRows, written_version}
 use Rattle.aprs_booktext.proofs.TextParts.{text_parts}
 use Rattle.aprs_booktext.proofs.Written.{PutSoFar-all, PutSoFar-broken, PutSoFar-each, PutSoFar-more, PutSoFar-none, book_rows}
