@@ -133,7 +133,9 @@ fn is_answered<A: Allocator + Copy>(alloc: A, call: Call, books: &[Book<A>]) -> 
         return Err("two books".into());
     };
     match call {
-        Call::New | Call::NewStore | Call::NewRows | Call::NewReceivers => Ok(is_empty(alloc, call)),
+        Call::New | Call::NewStore | Call::NewRows | Call::NewReceivers => Ok(is_empty(
+            alloc, call,
+        )),
         Call::Gap | Call::Rows | Call::Same | Call::Fits => Ok(is_seen(call, book, wide)),
         Call::AllFit => Ok(!all_fit(book, books)),
         Call::OtherGap | Call::Narrower => Ok(is_refused(call, book, wide)),

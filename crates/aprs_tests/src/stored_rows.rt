@@ -219,9 +219,15 @@ fn chunks_are_put_in_order(rt: HostRuntime) -> Result<(), Fail> {
     for count in [CHUNK - 1, CHUNK, CHUNK + 1, 2 * CHUNK, 2 * CHUNK + 1] {
         let mut store = BookStore::new(alloc, Gap::STANDARD);
         push_minutes(&mut store, b"RX1", count)?;
-        assert!(rt; are_minutes(alloc, &mut store, b"RX1", count)?, "{count} minutes");
+        assert!(rt;
+            are_minutes(alloc, &mut store, b"RX1", count)?,
+            "{count} minutes"
+        );
         // The rows stay, and come again.
-        assert!(rt; are_minutes(alloc, &mut store, b"RX1", count)?, "{count} minutes");
+        assert!(rt;
+            are_minutes(alloc, &mut store, b"RX1", count)?,
+            "{count} minutes"
+        );
     }
     Ok(())
 }
