@@ -1,4 +1,4 @@
--- What is told of a book's rows.
+-- What is told of a book's rows. A caller needs no part of it.
 use Rattle.std.specs.Prelude.{List}
 use Rattle.aprs_laws.specs.Row.{Row}
 use Rattle.aprs_book.specs.declared.lists.summary.Summary.{Summary}
