@@ -45,6 +45,10 @@ here = Plain (pos 294350) (minus 432175) 0
 abbrev pub leader : Bool → Value
 leader live = object (codes "LEADER") live (stamp_with 122) here (example_symbol 47 62) []
 
+-- The object LEADER, live, with the mark of its stamp.
+abbrev pub leader_by : ℕ → Value
+leader_by mark = object (codes "LEADER") true (stamp_with mark) here (example_symbol 47 62) []
+
 -- The item LEADER, a car that is here.
 abbrev pub leader_item : Bool → Value
 leader_item live = item (codes "LEADER") live here (example_symbol 47 62) []

@@ -4,7 +4,7 @@ ghost use Rattle.std.specs.Prelude.{◌≡◌, [], Some, None, true, false, pos,
 ghost use Rattle.aprs_report.specs.declared.place.Place.TheVariants.{Base91};
 ghost use Rattle.aprs_report.specs.Place.{latitude_of, longitude_of};
 ghost use Rattle.aprs_report.specs.Reading.{message, ack, rej, status, raw};
-ghost use Rattle.aprs_report.specs.Examples.{Example, minus, fraction, plain, compressed_position, stamp_with, leader, leader_item};
+ghost use Rattle.aprs_report.specs.Examples.{Example, minus, fraction, plain, compressed_position, stamp_with, leader, leader_by, leader_item};
 
 /// Examples of plain positions. `plain` is a house (symbol `/-`) at these hundredths of minutes
 /// north and east (`minus`: south and west), with this number of digits left out. `raw` is a
@@ -51,6 +51,9 @@ pub fn object_examples()
     ensures killed { Example (codes ";LEADER   _092345z4903.50N/07201.75W>") (leader false) }
     ensures no_name { Example (codes ";         *092345z4903.50N/07201.75W>") raw }
     ensures no_stamp { Example (codes ";LEADER   *4903.50N/07201.75W>") raw }
+    ensures local_time { Example (codes ";LEADER   *092345/4903.50N/07201.75W>") (leader_by 47) }
+    ensures to_seconds { Example (codes ";LEADER   *092345h4903.50N/07201.75W>") (leader_by 104) }
+    ensures no_mark { Example (codes ";LEADER   *092345x4903.50N/07201.75W>") raw }
 
     ensures item { Example (codes ")LEADER!4903.50N/07201.75W>") (leader_item true) }
     ensures killed_item { Example (codes ")LEADER_4903.50N/07201.75W>") (leader_item false) }
@@ -73,6 +76,10 @@ pub fn message_examples()
         (message (codes "WU2Z") (codes "Testing") (Some (codes "003"))) }
     ensures line_end { Example (codes ":WU2Z     :Testing{003\r")
         (message (codes "WU2Z") (codes "Testing") (Some (codes "003"))) }
+    ensures line_feed { Example (codes ":WU2Z     :Testing{003\r\n")
+        (message (codes "WU2Z") (codes "Testing") (Some (codes "003"))) }
+    ensures longest_id { Example (codes ":WU2Z     :Testing{12345")
+        (message (codes "WU2Z") (codes "Testing") (Some (codes "12345"))) }
     ensures last_brace { Example (codes ":WU2Z     :a{1{2")
         (message (codes "WU2Z") (codes "a{1") (Some (codes "2"))) }
     ensures reply_ack { Example (codes ":WU2Z     :Testing{AB}CD")

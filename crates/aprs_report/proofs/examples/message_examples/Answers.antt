@@ -9,6 +9,8 @@ unfolding report_by_form message_with addressee_and_part_of answer_at text_and_i
 returns c = record {
   numbered = computed refl;
   line_end = computed refl;
+  line_feed = computed refl;
+  longest_id = computed refl;
   last_brace = computed refl;
   reply_ack = computed refl;
   long_id = computed refl;
