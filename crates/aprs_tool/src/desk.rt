@@ -162,10 +162,7 @@ pub fn read_input<R: Read, A: Allocator + Copy>(
 
 /// The book of the receptions of both books: the second itself where the first has no rows. Fails
 /// with `OtherGap` where their gaps differ, and with `Memory` where an allocation failed.
-fn merge_books<A: Allocator + Copy>(
-    book: &Book<A>,
-    input: Book<A>,
-) -> Result<Book<A>, MergeFault>
+fn merge_books<A: Allocator + Copy>(book: &Book<A>, input: Book<A>) -> Result<Book<A>, MergeFault>
     ensures merges { IfOk result (λ both.
         MergesInto (millis_of book.now.gap) book.now.rows input.rows both.rows) }
     ensures gap { IfOk result (λ both. both.gap ≡ book.now.gap) }
