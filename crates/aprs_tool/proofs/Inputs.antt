@@ -1,5 +1,5 @@
 -- Lemmas on inputs, of which the first bytes are known.
-use Rattle.aprs_tool.proofs.Common.{◌≡◌, ℕ, zero, suc, get_or, ◌<◌, Bool, true, false, List, [], ◌∷◌, ◌++◌, length, map, take, drop, Option, None, Some, Ok, Err, IfSome, inl, inr, refl, ap, sym, ◌∙◌, append_assoc, append-nil, length-append, subst, arith, take-append_seam, bytes_eq-Decides, Consumes, BookOf, BookValue, Holds, single, book_of_nothing, millis_of, witnesses, Row, Sound, witnessed, Gets, end_with, log_answers, receptions_of, answers-log_fault, LogFault, book_text, IsBookRows, gap_of, IsVersion, Version, One, Two, Three, BookFault, OfGot}
+use Rattle.aprs_tool.proofs.Common.{◌≡◌, ℕ, zero, suc, get_or, ◌<◌, Bool, true, false, List, [], ◌∷◌, ◌++◌, length, map, take, drop, Option, None, Some, Ok, Err, IfSome, inl, inr, refl, ap, sym, ◌∙◌, append_assoc, length-append, subst, arith, take-append_seam, bytes_eq-Decides, Consumes, BookValue, single, book_of_nothing, millis_of, witnesses, Row, Sound, witnessed, Gets, end_with, log_answers, receptions_of, answers-log_fault, LogFault, book_text, IsBookRows, gap_of, IsVersion, Version, One, Two, Three, BookFault, OfGot}
 use Rattle.std.specs.Str.{bytes_eq}
 use Rattle.aprs_laws.proofs.Coalescing.{books_stand, singles_stand}
 use Rattle.aprs_io.specs.declared.input.InputEnd.{InputEnd}
@@ -273,7 +273,8 @@ of_head (Some input) (Some rest) after limit head P took h =
 
 -- a head whose bytes were compared with the mark
 module _ (known mid after : Option (List ℕ)) (limit : ℕ) {head shown : List ℕ} {test : Bool}
-    (same : shown ≡ head) (tested : test ≡ bytes_eq shown mark) (took : Consumes known mid head) where
+    (same : shown ≡ head) (tested : test ≡ bytes_eq shown mark)
+    (took : Consumes known mid head) where
   -- it is the mark
   pub of_mark : (P : List ℕ → InputEnd → Type 0) → test ≡ true
       → IfSome mid (λ input. HoldsOfGot limit (mark ++ input) after P) → OfGot limit known after P

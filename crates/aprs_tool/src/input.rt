@@ -92,8 +92,8 @@ pub(crate) fn read_input_rows<R: Read, A: Allocator + Copy>(
 
 /// Adds the receptions of a log to the book of a store. The log's first bytes, `head`, were read
 /// before; `r` gives the others. At most `limit` bytes are read, `head` among them. Fails with the
-/// log's first fault, or with `Memory` where an allocation failed; after that any rows may be in the
-/// book.
+/// log's first fault, or with `Memory` where an allocation failed; after that any receptions may
+/// have joined the book.
 pub(crate) fn read_log<R: Read, A: Allocator + Copy>(
     alloc: A,
     limit: u64,

@@ -1,6 +1,5 @@
-use Rattle.aprs_tool.proofs.Common.{◌≡◌, ◌∙◌, refl, ap, sym, err_from_is_err_and}
+use Rattle.aprs_tool.proofs.Common.{◌∙◌, refl, ap, err_from_is_err_and}
 use Rattle.aprs_tool.specs.Gathered.{with_rows}
-use Rattle.aprs_tool.specs.InputRows.{ReadsLog}
 use Rattle.aprs_tool.specs.declared.fault.InputFault.TheVariants.{Log}
 use Rattle.aprs_tool.proofs.Inputs.{gives_log, none_read, of_got, of_log, of_mark, refused_input, refused_log, rows_input, short_empty, short_fault, short_is_log}
 use Rattle.aprs_book.proofs.InStore.{in_order}

@@ -21,7 +21,8 @@ returns-then-seconds-clause-refuses g c =
     (got_so _ _ c.args.limit (λ input. input) _ _
     (λ t e h. (
       not_wide c.args.gap c.in-Ok.own _ _ _ c.read_input_rows.new.gathered t e
-          c.seconds-2.ensures.value c.seconds.ensures.value c.new-gathered.ensures h c.if-seconds.true,
+          c.seconds-2.ensures.value c.seconds.ensures.value c.new-gathered.ensures h
+          c.if-seconds.true,
       refl,
     ))
     c.in-Ok.ensures.reads)
@@ -56,7 +57,8 @@ returns-in-Err-Memory-clause-refuses g c =
     got_so _ _ c.args.limit (λ input. input) _ _
     (λ t e h. (
       within c.args.gap c.in-Ok.own _ _ _ c.read_input_rows.new.gathered t e
-          c.seconds-2.ensures.value c.seconds.ensures.value c.new-gathered.ensures h c.if-seconds.false,
+          c.seconds-2.ensures.value c.seconds.ensures.value c.new-gathered.ensures h
+          c.if-seconds.false,
       none.0,
     )) c.in-Ok.ensures.reads
 

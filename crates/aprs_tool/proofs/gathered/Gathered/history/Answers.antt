@@ -31,8 +31,8 @@ returns-in_err-write_history g c =
 pub returns : goal.returns
 unfolding WritesTold
 returns g c =
-    subst (λ b. WritesTold IsHistory g.W.Write.contents (Ok tt) b c.args.w.now c.write_history.new.w)
-    (c.in_ok-rows.ensures.book ∙ c.in_ok-store.ensures.book) (
+    subst (λ b. WritesTold IsHistory g.W.Write.contents (Ok tt) b c.args.w.now
+    c.write_history.new.w) (c.in_ok-rows.ensures.book ∙ c.in_ok-store.ensures.book) (
       _,
       (c.in_ok-write_history.ensures.lines, refl),
       Sends-ok c.in_ok-write_history.ensures.sends,
