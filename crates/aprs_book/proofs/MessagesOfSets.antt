@@ -1,5 +1,5 @@
 -- What rows report of messages is what their set has.
-use Rattle.aprs_book.proofs.Common.{◌≡◌, ◌∙◌, ℕ, List, [], ◌∷◌, Option, Some, None, Result, Ok, Err, IfOk, sym, refl, subst, Call, SpellsCall, Received, heard_cmp, ◌∈◌, Ordered, IsBelow, IsUpTo, Key, Row, row_key, BookOf, LastKnown, IsBest, a_row, best_of_rows, none_of_rows}
+use Rattle.aprs_book.proofs.Common.{◌≡◌, ◌∙◌, ℕ, List, [], ◌∷◌, Option, Some, None, sym, refl, subst, Call, SpellsCall, Received, heard_cmp, ◌∈◌, Ordered, IsBelow, IsUpTo, Key, Row, row_key, BookOf, LastKnown, IsBest, a_row, best_of_rows, none_of_rows}
 use Rattle.aprs_laws.specs.Key.{key_of}
 use Rattle.aprs_laws.specs.Spans.{IsFirstMoment, IsLastMoment}
 use Rattle.aprs_laws.proofs.Spans.{first_moment, last_moment}
