@@ -1,5 +1,5 @@
 -- What rows report of messages is what their set has.
-use Rattle.aprs_book.proofs.Common.{◌≡◌, ◌∙◌, ℕ, List, [], ◌∷◌, Option, Some, None, Result, Ok, Err, IfOk, sym, refl, subst, Call, SpellsCall, Received, heard_cmp, ◌∈◌, Ordered, IsBelow, IsUpTo, Key, Row, row_key, BookOf, LastKnown, IsBest, a_row, best_of_rows, none_of_rows}
+use Rattle.aprs_book.proofs.Common.{◌≡◌, ◌∙◌, ℕ, List, [], ◌∷◌, Option, Some, None, sym, refl, subst, Call, SpellsCall, Received, heard_cmp, ◌∈◌, Ordered, IsBelow, IsUpTo, Key, Row, row_key, BookOf, LastKnown, IsBest, a_row, best_of_rows, none_of_rows}
 use Rattle.aprs_laws.specs.Key.{key_of}
 use Rattle.aprs_laws.specs.Spans.{IsFirstMoment, IsLastMoment}
 use Rattle.aprs_laws.proofs.Spans.{first_moment_is, last_moment_is}
@@ -8,7 +8,7 @@ use Rattle.aprs_book.specs.declared.lists.message.MessageState.{MessageState}
 use Rattle.aprs_book.specs.declared.lists.message_key.MessageKey.{MessageKey}
 use Rattle.aprs_book.specs.declared.lists.message_key.Span.{Span}
 use Rattle.aprs_book.specs.declared.lists.message_key.AnswerKey.{AnswerKey}
-use Rattle.aprs_book.specs.Messages.{Message, message_cmp, ReportsIt, AnswersIt, StandsBy, shown_message, IsMessageRow, AreMessages, IsListedBefore, ReportsMessages}
+use Rattle.aprs_book.specs.Messages.{Message, message_cmp, ReportsIt, AnswersIt, IsStateOf, shown_message, IsMessageRow, AreMessages, IsListedBefore, ReportsMessages}
 use Rattle.aprs_book.specs.MessageRows.{message_of, Answer, answer_of, GivesAnswer, AreSpans, AreAnswers, IsFor, ReportsAnswer, StateFrom, IsRowOfMessage, Zipped, IsKeyBefore}
 use Rattle.aprs_book.proofs.Listings.{in_zip_right, in_zip_left}
 
@@ -56,7 +56,7 @@ module _ (gap : ℕ) (S : List Received) (rows : List Row) (b : BookOf gap S row
 
   stands : (es : List (AnswerKey × Received)) → AreAnswers rows es → (m : Message) (first : ℕ)
       (id : Option (List ℕ)) (state : MessageState) → StateFrom es m first id state
-      → StandsBy S m first id state
+      → IsStateOf S m first id state
   stands es c m first None state h = h
   stands es c m first (Some id) state h = (h.0, answer_known es c m id h.0 h.1, h.2)
 
@@ -77,8 +77,8 @@ module _ (gap : ℕ) (S : List Received) (rows : List Row) (b : BookOf gap S row
               (subst (IsLastMoment S (ReportsIt (message_of e.0.0))) (sym e.2.last)
               ((last_moment_is gap S rows (ReportsIt (message_of e.0.0)) b e.0.1.last).1 s.last));
           state =
-              subst (λ (m : Message). StandsBy S m x.first m.id x.state) (sym e.2.message)
-              (subst (λ (n : ℕ). StandsBy S (message_of e.0.0) n (message_of e.0.0).id x.state)
+              subst (λ (m : Message). IsStateOf S m x.first m.id x.state) (sym e.2.message)
+              (subst (λ (n : ℕ). IsStateOf S (message_of e.0.0) n (message_of e.0.0).id x.state)
               (sym e.2.first)
               (stands rs ca (message_of e.0.0) e.0.1.first
               (message_of e.0.0).id x.state e.2.state));
@@ -121,14 +121,8 @@ module _ (gap : ℕ) (S : List Received) (rows : List Row) (b : BookOf gap S row
         in_order es xs z.1 o.1,
       )
 
-pub messages_of_book : {E : Type 0} (gap : ℕ) (A : Type 0) (items : A → List MessageRow)
-    (r : Result A E)
-    (kept again rows : List Row) (es : List (MessageKey × Span)) (rs : List (AnswerKey × Received))
-    → kept ≡ rows → again ≡ rows → AreSpans kept es → AreAnswers again rs → Ordered IsKeyBefore es
-    → IfOk r (λ v. Zipped (IsRowOfMessage rs) es (items v))
-    → IfOk r (λ v. ReportsMessages gap rows (items v))
-messages_of_book gap A items (Ok v) kept again rows es rs e f cs cr o z = λ S b.
-    messages_of_set gap S rows b es rs (items v)
-    (subst (λ (t : List Row). AreSpans t es) e cs)
-    (subst (λ (t : List Row). AreAnswers t rs) f cr) o z
-messages_of_book gap A items (Err q) kept again rows es rs e f cs cr o z = tt
+pub messages_of_book : (gap : ℕ) (rows : List Row) (es : List (MessageKey × Span))
+    (rs : List (AnswerKey × Received)) (xs : List MessageRow) → AreSpans rows es
+    → AreAnswers rows rs → Ordered IsKeyBefore es → Zipped (IsRowOfMessage rs) es xs
+    → ReportsMessages gap rows xs
+messages_of_book gap rows es rs xs cs cr o z = λ S b. messages_of_set gap S rows b es rs xs cs cr o z

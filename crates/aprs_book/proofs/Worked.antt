@@ -6,7 +6,7 @@ use Rattle.aprs_ax25.proofs.Calls.{ssid_text-one}
 use Rattle.aprs_book.specs.declared.lists.message.MessageState.{MessageState}
 use Rattle.aprs_book.specs.Reports.{report_of}
 use Rattle.aprs_book.specs.Names.{ReportsOf}
-use Rattle.aprs_book.specs.Messages.{AnswersIt, ReportsIt, StandsBy, message_in, state_by}
+use Rattle.aprs_book.specs.Messages.{AnswersIt, ReportsIt, IsStateOf, message_in, state_by}
 use Rattle.aprs_book.specs.Examples.{hi_message, one, asked_at, acknowledged_at, rejected_at, asked_again, object_at, killed_at, item_at}
 
 -- ---- texts of callsigns
@@ -139,7 +139,7 @@ answered_once = record {
 
 -- a message has one state
 pub one_state : (S : List Received) (first : ℕ) (a b : MessageState)
-    → StandsBy S (hi_message one) first one a → StandsBy S (hi_message one) first one b → a ≡ b
+    → IsStateOf S (hi_message one) first one a → IsStateOf S (hi_message one) first one b → a ≡ b
 one_state S first a b s t = s.2
     ∙ (ap (state_by first) (known_once S S Answers s.0 t.0 (λ x. (λ h. h, λ h. h)) s.1 t.1)
     ∙ sym t.2)

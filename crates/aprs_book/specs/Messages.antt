@@ -71,9 +71,9 @@ state_by first (Some a) =
 
 -- The state of a message of S with this first moment and id: without an id it can't be answered;
 -- otherwise its greatest answer in S says it.
-abbrev pub StandsBy : List Received → Message → ℕ → Option (List ℕ) → MessageState → Type 0
-StandsBy S m first None state = state ≡ Unnumbered
-StandsBy S m first (Some id) state =
+abbrev pub IsStateOf : List Received → Message → ℕ → Option (List ℕ) → MessageState → Type 0
+IsStateOf S m first None state = state ≡ Unnumbered
+IsStateOf S m first (Some id) state =
     (answer : Option Received) × LastKnown S (AnswersIt m id) answer × (state ≡ state_by first answer)
 
 -- ---- all messages
@@ -99,7 +99,7 @@ IsListedBefore x y = IsBelow message_cmp (shown_message x) (shown_message y)
 pub record IsMessageRow (S : List Received) (x : MessageRow) : Type 0 where
   pub first : IsFirstMoment S (ReportsIt (shown_message x)) x.first
   pub last : IsLastMoment S (ReportsIt (shown_message x)) x.last
-  pub state : StandsBy S (shown_message x) x.first (shown_message x).id x.state
+  pub state : IsStateOf S (shown_message x) x.first (shown_message x).id x.state
 
 -- One row for each message in S, in order.
 pub record AreMessages (S : List Received) (xs : List MessageRow) : Type 0 where

@@ -49,16 +49,16 @@ pub fn addressees_answer()
 
 /// The greatest answer says what came of a message, and counts from the message's first moment on.
 pub fn greatest_answers_count()
-    ensures unnumbered { Spec.StandsBy (asked_at 0 ∷ []) (hi_message one) 0 None Unnumbered }
-    ensures unanswered { Spec.StandsBy (asked_at 0 ∷ []) (hi_message one) 0 one Unanswered }
-    ensures at_first_moment { Spec.StandsBy (asked_at 7 ∷ acknowledged_at 7 ∷ []) (hi_message one) 7
+    ensures unnumbered { Spec.IsStateOf (asked_at 0 ∷ []) (hi_message one) 0 None Unnumbered }
+    ensures unanswered { Spec.IsStateOf (asked_at 0 ∷ []) (hi_message one) 0 one Unanswered }
+    ensures at_first_moment { Spec.IsStateOf (asked_at 7 ∷ acknowledged_at 7 ∷ []) (hi_message one) 7
         one Acknowledged }
-    ensures rejected { Spec.StandsBy (asked_at 0 ∷ acknowledged_at 10 ∷ rejected_at 20 ∷ [])
+    ensures rejected { Spec.IsStateOf (asked_at 0 ∷ acknowledged_at 10 ∷ rejected_at 20 ∷ [])
         (hi_message one) 0 one Rejected }
 
-    ensures misses_before { Spec.StandsBy (asked_at 7 ∷ acknowledged_at 6 ∷ []) (hi_message one) 7
+    ensures misses_before { Spec.IsStateOf (asked_at 7 ∷ acknowledged_at 6 ∷ []) (hi_message one) 7
         one Acknowledged → ⊥ }
-    ensures misses_lesser { Spec.StandsBy (asked_at 0 ∷ acknowledged_at 10 ∷ rejected_at 20 ∷ [])
+    ensures misses_lesser { Spec.IsStateOf (asked_at 0 ∷ acknowledged_at 10 ∷ rejected_at 20 ∷ [])
         (hi_message one) 0 one Acknowledged → ⊥ }
 {}
 

@@ -75,7 +75,7 @@ fn greatest_from<'a, A: Allocator + Copy>(
 {
     let mut known = None;
     for row in rows {
-        known = known_with(known, station, row.greatest());
+        known = known_after(known, station, row.greatest());
     }
     known
 }
@@ -83,7 +83,7 @@ fn greatest_from<'a, A: Allocator + Copy>(
 /// What is known of this station after one more reception: the greater of this and what is known
 /// where it is from the station, and otherwise nothing new.
 #[tactic(auto, unfolding(aprs_laws::specs::Key::key_of))]
-fn known_with<'a>(
+fn known_after<'a>(
     known: Option<&'a Reception>,
     station: &Callsign,
     x: &'a Reception,
@@ -102,7 +102,7 @@ fn known_with<'a>(
 }
 
 /// The greater of the reception that is known and `x`; `x` where none is known.
-pub(crate) fn greater<'a>(
+pub(crate) fn greater_known<'a>(
     known: Option<&ReceptionView<'a>>,
     x: ReceptionView<'a>,
 ) -> ReceptionView<'a>

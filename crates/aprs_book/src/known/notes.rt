@@ -6,7 +6,7 @@ ghost use Rattle.aprs_book.specs.Notes.{AreNotesOf, known_with};
 
 use crate::Memory;
 use crate::known::indexes::Indexes;
-use crate::known::last_known::greater;
+use crate::known::last_known::greater_known;
 use crate::known::reception_view::ReceptionView;
 use crate::known::subject::Subject;
 use std::alloc::{Allocator, Global};
@@ -58,7 +58,7 @@ impl<'t, A: Allocator + Copy> Notes<'t, A> {
         }
         match self.last.take() {
             Some(run) if run.subject.is_same(&subject) => {
-                let greatest = greater(Some(&run.greatest), x);
+                let greatest = greater_known(Some(&run.greatest), x);
                 self.last = Some(Streak { subject, greatest });
                 Ok(())
             }

@@ -7,7 +7,7 @@ ghost use Rattle.aprs_book.specs.MessageRows as Spec;
 ghost use Rattle.aprs_book.specs.Exchange.{IsExchangeOf};
 
 use crate::Memory;
-use crate::known::last_known::greater;
+use crate::known::last_known::greater_known;
 use crate::known::reception_view::ReceptionView;
 use crate::lists::message_key::{
     AnswerKey, MessageKey, Span, answer_in, is_addressed, message_in, span_with,
@@ -113,7 +113,7 @@ fn put_answer<'t, A: Allocator + Copy>(
         → heard.now ≡ r.greatest
         → Spec.AreAnswers (rows ++ r ∷ []) answers.new.entries) }
 {
-    let answer = greater(answers.get(&key), heard.copy());
+    let answer = greater_known(answers.get(&key), heard.copy());
     if answers.insert(key, answer).is_err() {
         return Err(Memory);
     }

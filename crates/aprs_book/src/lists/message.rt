@@ -1,7 +1,6 @@
 //! The messages of a book.
 ghost use Rattle.std.specs.Prelude.{◌≡◌, ℕ, List, IfOk};
 ghost use Rattle.std.specs.Option.{option_copied};
-ghost use Rattle.aprs_laws.specs.Lists.{Ordered};
 ghost use Rattle.aprs_report.specs.Reader.{reading_of};
 ghost use Rattle.aprs_laws.specs.Gap.{millis_of};
 ghost use Rattle.aprs_laws.specs.Row.{Row};
@@ -72,23 +71,9 @@ pub(crate) fn messages_of<'a, A: Allocator + Copy>(
     ensures { (gap : ℕ) (rows : List Row) → IsExchangeOf rows exchange.now
         → IfOk result (λ messages. ReportsMessages gap rows messages.items) }
 {
-    list_messages(alloc, &exchange.spans, &exchange.answers)
-}
-
-/// A row for each message that has a span, in order, with its moments and its state by these
-/// answers.
-fn list_messages<'a, A: Allocator + Copy>(
-    alloc: A,
-    spans: &BTreeMap<MessageKey<'a>, Span, A>,
-    answers: &BTreeMap<AnswerKey<'a>, ReceptionView<'a>, A>,
-) -> Result<Vec<MessageRow<'a>, A>, Memory>
-    ensures ascending { Ordered Spec.IsKeyBefore spans.now.entries }
-    ensures rows { IfOk result (λ list.
-        Spec.Zipped (Spec.IsRowOfMessage answers.now.entries) spans.now.entries list.items) }
-{
     let mut list = Vec::new(alloc);
-    for (message, span) in spans.iter() {
-        if list.push(row_of(message, span, answers)).is_err() {
+    for (message, span) in exchange.spans.iter() {
+        if list.push(row_of(message, span, &exchange.answers)).is_err() {
             return Err(Memory);
         }
     }

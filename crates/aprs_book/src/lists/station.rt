@@ -1,12 +1,10 @@
 //! The stations of a book.
 ghost use Rattle.std.specs.Prelude.{ℕ, List, IfOk};
 ghost use Rattle.aprs_laws.specs.Gap.{millis_of};
-ghost use Rattle.aprs_laws.specs.Lists.{Ordered};
 ghost use Rattle.aprs_book.specs.Known.{AreIndexesOf};
 ghost use Rattle.aprs_laws.specs.Row.{Row};
 ghost use Rattle.aprs_book.specs.Stations.{ReportsStations};
-ghost use Rattle.aprs_book.specs.StationRows.{AreTallies, IsStationIn, IsStationBefore};
-ghost use Rattle.aprs_book.specs.MessageRows.{Zipped};
+ghost use Rattle.aprs_book.specs.StationRows.{AreTallies, IsStationIn};
 
 use crate::known::heard::heard_of;
 use crate::known::indexes::Indexes;
@@ -50,19 +48,6 @@ pub(crate) fn stations_of<'a, A: Allocator + Copy>(
     ensures { (gap : ℕ) (rows : List Row) → AreTallies rows tallies.now.entries
         → AreIndexesOf rows indexes.now
         → IfOk result (λ stations. ReportsStations gap rows stations.items) }
-{
-    list_stations(alloc, tallies, indexes)
-}
-
-/// A row for each station that was counted, ascending by callsign.
-fn list_stations<'a, A: Allocator + Copy>(
-    alloc: A,
-    tallies: &BTreeMap<Callsign, u64, A>,
-    indexes: &'a Indexes<A>,
-) -> Result<Vec<Station<'a>, A>, Memory>
-    ensures ascending { Ordered IsStationBefore tallies.now.entries }
-    ensures rows { IfOk result (λ list.
-        Zipped (IsStationIn indexes.now) tallies.now.entries list.items) }
 {
     let mut list = Vec::new(alloc);
     for (call, transmissions) in tallies.iter() {

@@ -2,7 +2,7 @@ use Rattle.aprs_book.proofs.Common.{◌≡◌, ℕ, Option, Some, None, unwrap_o
 use Rattle.aprs_laws.specs.Key.{key_of}
 use Rattle.aprs_book.specs.declared.lists.message.MessageRow.{MessageRow}
 use Rattle.aprs_book.specs.declared.lists.message.MessageState.TheVariants.{Unanswered, Acknowledged}
-use Rattle.aprs_book.specs.Messages.{Message, ReportsIt, IsMessageRow, StandsBy, reported_state, shown_message}
+use Rattle.aprs_book.specs.Messages.{Message, ReportsIt, IsMessageRow, IsStateOf, reported_state, shown_message}
 use Rattle.aprs_book.specs.Examples.{hi_message, one, hi_listed, asked_at, acknowledged_at, asked_again}
 use Rattle.aprs_book.proofs.Worked.{asked_is, acknowledged_is, acknowledged_reads, answered_once, one_state}
 use Rattle.aprs_book.proofs.examples.messages.messages_are_judged_from_their_first_moment.Goals as goal
@@ -26,7 +26,7 @@ module _ (m : Message) (s : Received) where
     ]
   ]
 
-state : StandsBy asked_again (hi_message one) 0 one Acknowledged
+state : IsStateOf asked_again (hi_message one) 0 one Acknowledged
 state = (Some (acknowledged_at 10), answered_once, ap reported_state (sym acknowledged_reads))
 
 row : IsMessageRow asked_again (hi_listed 0 20 Acknowledged)

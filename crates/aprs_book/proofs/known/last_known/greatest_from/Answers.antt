@@ -12,7 +12,7 @@ pub loop-row-preserved : goal.loop-row-preserved
 loop-row-preserved g c =
     let test = has_source c.args.station.now in
     ap (λ k. known_of test k (map greatest_of c.next.new.self))
-    (c.known_with-known.ensures
+    (c.known_after-known.ensures
     ∙ ap (λ x. known_after test (option_copied c.loop-row.known) x) c.greatest.ensures)
     ∙ sym (ap (λ rows. known_of test (option_copied c.loop-row.known) (map greatest_of rows))
     c.in-Some.ensures.steps)

@@ -7,9 +7,9 @@ use Rattle.aprs_book.proofs.lists.exchange.put_answer.Goals as goal
 pub returns : goal.returns
 returns g c = λ rows r held asked is.
     answers_put rows _ r (adds_last rows r) c.args.answers.now.entries held _ answer_keys_alike
-    c.args.key c.greater-answer.result c.insert.new.self.entries asked
-    (kept_greater c.greater-answer.result c.get.result _ c.copy.result r.greatest
-    c.greater-answer.ensures c.get.ensures.value (c.copy.ensures ∙ is))
+    c.args.key c.greater_known-answer.result c.insert.new.self.entries asked
+    (kept_greater c.greater_known-answer.result c.get.result _ c.copy.result r.greatest
+    c.greater_known-answer.ensures c.get.ensures.value (c.copy.ensures ∙ is))
     (where_ok c.insert.result (c.is_err.ensures.negation ∙ ap not c.if-is_err.false)
     c.insert.ensures.entries)
     c.insert.ensures.ordered

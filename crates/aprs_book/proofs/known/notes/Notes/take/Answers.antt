@@ -17,8 +17,8 @@ returns-in-Some g c = λ rows r known reported is topic bytes.
     let last : c.args.self.now.last ≡ Some c.in-Some.run' =
     sym c.take.ensures.value ∙ c.in-Some.is in
     let one = c.is_same.ensures c.if-is_same.true topic in
-    let made : greater c.in-Some.run'.greatest r.greatest ≡ c.greater-greatest.result =
-    sym (c.greater-greatest.ensures ∙ ap (λ (x : Received). greater c.in-Some.run'.greatest x) is) in
+    let made : greater c.in-Some.run'.greatest r.greatest ≡ c.greater_known-greatest.result =
+    sym (c.greater_known-greatest.ensures ∙ ap (λ (x : Received). greater c.in-Some.run'.greatest x) is) in
     subst (λ (x : Received). LastKnown (map greatest_of (rows ++ r ∷ []))
     (Passes (is_report_on (topic_bytes topic) bytes))
     (if has_bytes bytes (subject_bytes topic c.args.subject)
