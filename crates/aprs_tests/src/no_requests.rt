@@ -3,7 +3,7 @@
 
 use crate::last_known::callsign;
 use crate::refused_calls::{SENT, book_of_sent, squeeze, store_of_sent};
-use crate::vectors::{DIRECT, heard, receiver};
+use crate::vectors::{DIRECT, NOON, heard, receiver};
 use aprs_book::{Book, Gap, Join, MergeFault, Receivers, RowCause, WidenFault, all_fit};
 use aprs_rows::{BookRows, BookStore, PackedRows};
 use bumpalo::Bump;
@@ -294,7 +294,7 @@ fn are_ten_minutes<A: Allocator + Copy>(rows: &PackedRows<A>) -> bool {
         Some(last) => {
             !rows.is_empty()
                 && rows.len() == 10
-                && last.first().seconds() == 9 * 60
+                && last.first().seconds() == NOON + 9 * 60
                 && last.refusal_after(Some(&last), Gap::STANDARD) == Some(RowCause::Order)
         }
         None => false,

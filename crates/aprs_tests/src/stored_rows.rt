@@ -4,7 +4,7 @@ use crate::ample_memory::hundred;
 use crate::last_known::sent;
 use crate::refused_calls::{ROWS, SENT, squeeze, store_of_sent};
 use crate::shown::is_shown;
-use crate::vectors::{DIRECT, heard};
+use crate::vectors::{DIRECT, NOON, heard};
 use aprs_ax25::Frame;
 use aprs_book::{Book, Gap, Memory, RowCause, Summary};
 use aprs_rows::{BookStore, RowView};
@@ -204,7 +204,7 @@ fn are_minutes<A: Allocator + Copy>(
     for row in rows {
         minute = minute.saturating_add(1);
         if row.first() != row.last()
-            || row.first().seconds() != minute.saturating_mul(60)
+            || row.first().seconds() != NOON.saturating_add(minute.saturating_mul(60))
             || row.receivers() != names
         {
             return Ok(false);
