@@ -9,9 +9,11 @@ pub use Rattle.aprs_kiss.proofs.Bytes.{AppendsPrefix-more, AppendsPrefix-then, o
 pub use Rattle.aprs_kiss.specs.Device.{AppendsPrefix, Calls, Going, device_of}
 pub use Rattle.aprs_kiss.specs.Judgement.{Judgement}
 pub use Rattle.aprs_kiss.specs.Stream.{judgements_of, rest_of}
-pub use Rattle.aprs_log.proofs.LineTexts.{passed-line_of, reports-line_of}
+pub use Rattle.aprs_log.proofs.LineTexts.{line_of-passed, line_of-reports, passed-line_of, reports-line_of}
 pub use Rattle.aprs_log.proofs.Lines.{HasFields, line_of-syntax}
 pub use Rattle.aprs_log.proofs.LogTexts.{answers-log_fault, answers-log_text, line_lacks, log_fault-answers, log_text-answers}
+pub use Rattle.aprs_log.proofs.Worked.{hi_read, unended_read}
+pub use Rattle.aprs_log.specs.Examples.{heard_after, hi_line, unended_line}
 pub use Rattle.aprs_log.specs.Fault.{log_cause_of, reason_name}
 pub use Rattle.aprs_log.specs.Line.{frame_in, heard_or_passed, line_of, written_line}
 pub use Rattle.aprs_log.specs.LogAnswers.{Answers, Gets, answers_from, answers_of, end_with, fault_at, is_lf, log_answers, prepend_line, receptions_of, tail_cause, then_answers}

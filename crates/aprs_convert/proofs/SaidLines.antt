@@ -22,7 +22,7 @@ reason_in m name (Ok frame) reason e = absurd cc
 reason_in m name (Err other) reason e = let same : other ≡ reason = cc in ap Err same
 
 -- the reason why a line is passed over is that of its bytes
-reason_of : (l : List ℕ) (m : ℕ) (name bytes : List ℕ) (reason : Reason) → IsLine l m name bytes
+pub reason_of : (l : List ℕ) (m : ℕ) (name bytes : List ℕ) (reason : Reason) → IsLine l m name bytes
     → line_of l ≡ Ok (line.Passed reason) → frame_in bytes ≡ Err reason
 reason_of l m name bytes reason is e = reason_in m name (frame_in bytes) reason
     (same_line _ (line.Passed reason) (line_of l) (line_of-syntax l m name bytes is) e)

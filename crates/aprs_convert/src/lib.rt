@@ -15,7 +15,7 @@ mod text;
 mod write_line;
 
 pub use check::check_log;
-pub use example::checks_count_lines;
+pub use example::{checks_count_lines, checks_name_lines};
 pub use fault::ConvertFault;
 pub use form::Form;
 pub use laws::{one_text_is_checked, one_text_is_converted};

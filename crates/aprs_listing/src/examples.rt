@@ -1,5 +1,5 @@
 //! Worked examples of the lines of a history, and near misses. Their functions do nothing.
-ghost use Rattle.std.specs.Prelude.{◌≡◌, codes};
+ghost use Rattle.std.specs.Prelude.{◌≡◌, ◌∷◌, ◌++◌, [], codes};
 ghost use Rattle.aprs_laws.specs.Examples.{early_row, near_row};
 ghost use Rattle.aprs_listing.specs.Examples.{ended, heard_once, jeep_info, line_once, reported_once};
 ghost use Rattle.aprs_listing.specs.History.{history_line};
@@ -25,6 +25,11 @@ pub fn histories_tell_reports()
     ensures object { history_line (reported_once (codes ";LEADER   *092345z4903.50N/07201.75W>"))
         ≡ line_once (codes "object")
         (codes "LEADER live 092345z 294350/6000 -432175/6000 0 />:") }
+    ensures killed { history_line (reported_once (codes ";LEADER   _092345z4903.50N/07201.75W>"))
+        ≡ line_once (codes "object")
+        (codes "LEADER killed 092345z 294350/6000 -432175/6000 0 />:") }
+    ensures compressed { history_line (reported_once (codes "=/5L!!<*e7> sT"))
+        ≡ line_once (codes "position") (codes "- 18855837/380926 -13856184/190463 c />:") }
     ensures item { history_line (reported_once (codes ")AID #2!4903.50N/07201.75WA"))
         ≡ line_once (codes "item")
         (codes "AID\\x20#2 live - 294350/6000 -432175/6000 0 /A:") }
@@ -36,11 +41,15 @@ pub fn histories_tell_reports()
         ≡ line_once (codes "rej") (codes "WU2Z 003") }
     ensures raw { history_line (reported_once (codes "T#005"))
         ≡ line_once (codes "raw") (codes "APRS:T#005") }
+    ensures numbers { history_line (reported_once (codes ">Hi" ++ 10 ∷ 92 ∷ 255 ∷ []))
+        ≡ line_once (codes "status") (codes "-:Hi\\x0a\\x5c\\xff") }
 
     ensures misses_north { history_line (reported_once (codes "!4903.50N/07201.75W-Test"))
         ≡ line_once (codes "position") (codes "- -432175/6000 294350/6000 0 /-:Test") → ⊥ }
     ensures misses_addressee { history_line (reported_once (codes ":WU2Z     :Testing{003"))
         ≡ line_once (codes "message") (codes "003 WU2Z:Testing") → ⊥ }
+    ensures misses_capital { history_line (reported_once (codes ">Hi" ++ 10 ∷ []))
+        ≡ line_once (codes "status") (codes "-:Hi\\x0A") → ⊥ }
     ensures misses_rej { history_line (reported_once (codes ":WU2Z     :rej003"))
         ≡ line_once (codes "ack") (codes "WU2Z 003") → ⊥ }
 {}
