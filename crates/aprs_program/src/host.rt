@@ -6,7 +6,6 @@ use crate::retried::Retried;
 use crate::work::{Gathering, Single, Work, run_gathering, run_single};
 use aprs_io::{Counted, WriteFault};
 use aprs_laws::Gap;
-use aprs_log::MAX_INPUT;
 use aprs_tool::{JobFault, RunFault};
 use std::alloc::Global;
 use std::env;
@@ -181,7 +180,7 @@ fn run<R: Read + Drop>(
         return report(rt, program, Complaint::OutOfMemory);
     };
     let mut r = Counted::new(input);
-    let outcome = run_single(alloc, MAX_INPUT, single, &mut r, &mut w);
+    let outcome = run_single(alloc, single, &mut r, &mut w);
     finish(rt, program, place, &outcome, w)
 }
 
@@ -199,7 +198,7 @@ fn gather<R: Read + Drop>(
     let Some(mut w) = open_output(rt, alloc) else {
         return report(rt, program, Complaint::OutOfMemory);
     };
-    let outcome = run_gathering(alloc, MAX_INPUT, gathering, gap, inputs, &mut w);
+    let outcome = run_gathering(alloc, gathering, gap, inputs, &mut w);
     // Only a fault of an input names a place.
     let place = match &outcome {
         Err(RunFault::Input { index, .. }) => input_name(paths, *index),

@@ -1,5 +1,5 @@
 //! What a program is to do, and which run does it.
-ghost use Rattle.std.specs.Prelude.{◌≡◌, ◌≤◌};
+ghost use Rattle.std.specs.Prelude.{◌≡◌};
 ghost use Rattle.aprs_command.specs.Arguments.{inputs_of, paths_of};
 ghost use Rattle.aprs_io.specs.Input.{most_input};
 ghost use Rattle.aprs_tool.specs.Devices.{CallsOutput};
@@ -9,6 +9,7 @@ ghost use Rattle.aprs_program.specs.Work as Spec;
 
 use aprs_io::Counted;
 use aprs_laws::Gap;
+use aprs_log::MAX_INPUT;
 use aprs_tool::{
     Form, Job, RunFault, check_run, convert_run, history_run, merge_run, show_run, widen_run,
 };
@@ -60,50 +61,45 @@ pub fn work_of(job: Job) -> (Work, Vec<String>)
     }
 }
 
-/// Does the work over one input. Requires that `limit` is at most `MAX_INPUT` (1,073,741,824). What
+/// Does the work over one input, of which at most `MAX_INPUT` bytes (1,073,741,824) are read. What
 /// it writes, when it ends with which fault and what memory it takes is as `check_run`,
 /// `convert_run` and `widen_run` of `aprs_tool` say.
 pub fn run_single<R: Read, W: Write, A: Allocator + Copy>(
     alloc: A,
-    limit: u64,
     single: Single,
     r: &mut Counted<R>,
     w: &mut Counted<W>,
 ) -> Result<(), RunFault>
-    requires { limit ≤ most_input }
-    ensures { Spec.Does single limit R.remaining W.contents result r.old r.new w.old w.new }
+    ensures { Spec.Does single most_input R.remaining W.contents result r.old r.new w.old w.new }
 {
     match single {
-        Single::Check => check_run(alloc, limit, r, w),
-        Single::Convert(form) => convert_run(alloc, limit, form, r, w),
-        Single::Widen(gap) => widen_run(alloc, limit, gap, r, w),
+        Single::Check => check_run(alloc, MAX_INPUT, r, w),
+        Single::Convert(form) => convert_run(alloc, MAX_INPUT, form, r, w),
+        Single::Widen(gap) => widen_run(alloc, MAX_INPUT, gap, r, w),
     }
 }
 
-/// Does the work over several inputs. Requires that `limit` is at most `MAX_INPUT` (1,073,741,824).
-/// What it writes, when it ends with which fault and what memory it takes is as `merge_run`,
-/// `show_run` and `history_run` of `aprs_tool` say.
+/// Does the work over several inputs, of each of which at most `MAX_INPUT` bytes (1,073,741,824)
+/// are read. What it writes, when it ends with which fault and what memory it takes is as
+/// `merge_run`, `show_run` and `history_run` of `aprs_tool` say.
 pub fn run_gathering<R: Read, W: Write, A: Allocator + Copy>(
     alloc: A,
-    limit: u64,
     gathering: Gathering,
     gap: Gap,
     inputs: &mut [Counted<R>],
     w: &mut Counted<W>,
 ) -> Result<(), RunFault>
-    requires { limit ≤ most_input }
-
-    ensures writes { OfEach limit R.remaining inputs.old inputs.new (λ gots.
+    ensures writes { OfEach most_input R.remaining inputs.old inputs.new (λ gots.
         WritesFor (IsToldOf (GiveUnion gap gots) (Spec.IsOutputOf gathering gap)) W.contents result
         w.old w.new) }
-    ensures refuses { OfEach limit R.remaining inputs.old inputs.new (λ gots.
+    ensures refuses { OfEach most_input R.remaining inputs.old inputs.new (λ gots.
         RefusesFor (GiveUnion gap gots) (IsFirstRefused gap gots) result w.old w.new) }
     ensures asks { Spec.AsksAll gathering result inputs.old inputs.new }
     ensures calls { CallsOutput result w.old w.new }
 {
     match gathering {
-        Gathering::Merge => merge_run(alloc, limit, gap, inputs, w),
-        Gathering::Show => show_run(alloc, limit, gap, inputs, w),
-        Gathering::History => history_run(alloc, limit, gap, inputs, w),
+        Gathering::Merge => merge_run(alloc, MAX_INPUT, gap, inputs, w),
+        Gathering::Show => show_run(alloc, MAX_INPUT, gap, inputs, w),
+        Gathering::History => history_run(alloc, MAX_INPUT, gap, inputs, w),
     }
 }

@@ -1,4 +1,5 @@
 use Rattle.aprs_program.proofs.Common.{subst, sym}
+use Rattle.aprs_io.specs.Input.{most_input}
 use Rattle.aprs_tool.specs.Outcome.{IsToldOf, WritesFor}
 use Rattle.aprs_tool.specs.Several.{GiveUnion, OfEach}
 use Rattle.aprs_program.specs.Work.{AsksAll, IsOutputOf}
@@ -7,21 +8,21 @@ use Rattle.aprs_program.proofs.work.run_gathering.Goals as goal
 
 pub returns-in-Merge-clause-writes : goal.returns-in-Merge-clause-writes
 returns-in-Merge-clause-writes g c =
-    subst (λ (of : Gathering). OfEach c.args.limit g.R.Read.remaining c.args.inputs.now
+    subst (λ (of : Gathering). OfEach most_input g.R.Read.remaining c.args.inputs.now
     c.merge_run.new.inputs (λ gots. WritesFor (IsToldOf (GiveUnion c.args.gap gots)
     (IsOutputOf of c.args.gap)) g.W.Write.contents c.merge_run.result c.args.w.now
     c.merge_run.new.w)) (sym c.in-Merge.is) c.merge_run.ensures.writes
 
 pub returns-in-Show-clause-writes : goal.returns-in-Show-clause-writes
 returns-in-Show-clause-writes g c =
-    subst (λ (of : Gathering). OfEach c.args.limit g.R.Read.remaining c.args.inputs.now
+    subst (λ (of : Gathering). OfEach most_input g.R.Read.remaining c.args.inputs.now
     c.show_run.new.inputs (λ gots. WritesFor (IsToldOf (GiveUnion c.args.gap gots)
     (IsOutputOf of c.args.gap)) g.W.Write.contents c.show_run.result c.args.w.now
     c.show_run.new.w)) (sym c.in-Show.is) c.show_run.ensures.writes
 
 pub returns-in-History-clause-writes : goal.returns-in-History-clause-writes
 returns-in-History-clause-writes g c =
-    subst (λ (of : Gathering). OfEach c.args.limit g.R.Read.remaining c.args.inputs.now
+    subst (λ (of : Gathering). OfEach most_input g.R.Read.remaining c.args.inputs.now
     c.history_run.new.inputs (λ gots. WritesFor (IsToldOf (GiveUnion c.args.gap gots)
     (IsOutputOf of c.args.gap)) g.W.Write.contents c.history_run.result c.args.w.now
     c.history_run.new.w)) (sym c.in-History.is) c.history_run.ensures.writes
