@@ -360,7 +360,7 @@ fn judge_row_line<A: Allocator + Copy>(
         return judge_end(line, version, rows.len());
     }
     let row = read_row(buffers, version.form(), line)?;
-    let last = rows.last();
+    let last = if rows.len() > 1 { rows.last() } else { None };
     if let Some(cause) = row.refusal_after(last.as_ref(), version.gap()) {
         return Err(BookCause::from(cause));
     }
