@@ -360,7 +360,7 @@ fn judge_row_line<A: Allocator + Copy>(
         return judge_end(line, version, rows.len());
     }
     let row = read_row(buffers, version.form(), line)?;
-    let last = if rows.len() > 1 { rows.last() } else { None };
+    let last = rows.last();
     if let Some(cause) = row.refusal_after(last.as_ref(), version.gap()) {
         return Err(BookCause::from(cause));
     }
