@@ -138,6 +138,13 @@ fn parses_callsigns(rt: HostRuntime) {
     }
 }
 
+// Length comes before Character, and Character before Ssid.
+#[test]
+fn callsigns_are_refused_for_their_first_fault(rt: HostRuntime) {
+    assert!(rt; matches!(Callsign::parse(b"n0callx-0"), Err(CallFault::Length)));
+    assert!(rt; matches!(Callsign::parse(b"n0call-0"), Err(CallFault::Character)));
+}
+
 #[test]
 fn callsigns_are_of_capitals_and_digits(rt: HostRuntime) {
     const CASES: &[(&[u8], bool)] = &[
