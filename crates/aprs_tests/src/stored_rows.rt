@@ -2,12 +2,12 @@
 
 use crate::ample_memory::hundred;
 use crate::last_known::sent;
-use crate::refused_calls::{ROWS, SENT, squeeze, store_of_sent};
+use crate::refused_calls::{ROWS, SENT, squeeze};
 use crate::shown::is_shown;
 use crate::vectors::{DIRECT, NOON, heard};
 use aprs_ax25::Frame;
 use aprs_book::{Book, Gap, Memory, RowCause, Summary};
-use aprs_rows::{BookStore, RowView};
+use aprs_rows::{BookStore, PackedRows, RowView};
 use bumpalo::Bump;
 use std::alloc::{Allocator, Global};
 use std::test::Fail;
@@ -161,11 +161,10 @@ fn made_again<'a>(row: &RowView<'a>, frame: &'a Frame) -> RowView<'a> {
 // What a row shows is all that it takes to make one: it can't follow the first, nor come before it.
 #[test]
 fn rows_are_made_of_what_rows_show(rt: HostRuntime) -> Result<(), Fail> {
-    let alloc = rt.alloc();
-    let mut store = store_of_sent(alloc)?;
-    let mut room = Vec::new(alloc);
-    let mut rows = store.rows(&mut room).ok().ok_or("memory")?;
-    let row = rows.next().ok_or("a row")?;
+    let mut rows = PackedRows::new(rt.alloc());
+    let x = heard(0, b"RX1", &DIRECT)?;
+    rows.push_reception(&x).ok().ok_or("memory")?;
+    let row = rows.last().ok_or("a row")?;
     let frame = row.read_frame();
     let again = made_again(&row, &frame);
     assert!(rt; again.refusal_after(Some(&row), Gap::STANDARD) == Some(RowCause::Order));
