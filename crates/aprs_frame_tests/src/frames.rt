@@ -138,6 +138,19 @@ fn parses_callsigns(rt: HostRuntime) {
     }
 }
 
+// Of changes that each make a fault the first in this order counts: Address, Callsign, Control, Pid.
+#[test]
+fn frames_are_refused_for_their_first_fault(rt: HostRuntime) {
+    let mut bytes = PLAIN;
+    bytes[15] = 0xcf;
+    bytes[14] = 0x13;
+    assert!(rt; Frame::read(&bytes).err() == Some(FrameFault::Control));
+    bytes[7] = 0x40;
+    assert!(rt; Frame::read(&bytes).err() == Some(FrameFault::Callsign));
+    bytes[6] = 0xe1;
+    assert!(rt; Frame::read(&bytes).err() == Some(FrameFault::Address));
+}
+
 // Length comes before Character, and Character before Ssid.
 #[test]
 fn callsigns_are_refused_for_their_first_fault(rt: HostRuntime) {
