@@ -138,7 +138,7 @@ fn parses_callsigns(rt: HostRuntime) {
     }
 }
 
-// Of changes that each make a fault the first in this order counts: Address, Callsign, Control, Pid.
+// Of several faults the first in this order counts: Address, Callsign, Control, Pid.
 #[test]
 fn frames_are_refused_for_their_first_fault(rt: HostRuntime) {
     let mut bytes = PLAIN;
