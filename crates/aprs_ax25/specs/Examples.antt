@@ -29,6 +29,10 @@ to_nj7p = 0x9C ∷ 0x94 ∷ 0x6E ∷ 0xA0 ∷ 0x40 ∷ 0x40 ∷ 0xE0 ∷ []
 abbrev pub from_n7lem : ℕ → List ℕ
 from_n7lem last = 0x9C ∷ 0x6E ∷ 0x98 ∷ 0x8A ∷ 0x9A ∷ 0x40 ∷ last ∷ []
 
+-- The source's address with a space before its letters, so no callsign, and with this last octet.
+abbrev pub no_callsign : ℕ → List ℕ
+no_callsign last = 0x40 ∷ 0x6E ∷ 0x98 ∷ 0x8A ∷ 0x9A ∷ 0x40 ∷ last ∷ []
+
 -- The digipeater's address: N7OO-1, with this last octet.
 abbrev pub by_n7oo : ℕ → List ℕ
 by_n7oo last = 0x9C ∷ 0x6E ∷ 0x9E ∷ 0x9E ∷ 0x40 ∷ 0x40 ∷ last ∷ []

@@ -13,7 +13,8 @@ mod scan;
 pub use callsign::Callsign;
 pub use examples::callsigns::callsigns_have_texts;
 pub use examples::frames::{
-    frames_are_as_the_standard_shows_them, frames_are_made_as_commands, frames_have_limits,
+    first_faults_count, frames_are_as_the_standard_shows_them, frames_are_made_as_commands,
+    frames_have_limits,
 };
 pub use fault::{CallFault, FrameFault, MakeFault};
 pub use frame::Frame;

@@ -18,7 +18,8 @@ HoldsValue digits values j =
 abbrev pub byte_of : ℕ → ℕ → ℕ
 byte_of high low = (high * 16 % 256 + low) % 256
 
--- Pair k of `digits` are the digits of byte k.
+-- Pair k of `digits` are the lower case hexadecimal digits of byte k: first the high half, then the
+-- low half.
 abbrev pub HoldsDigits : List ℕ → List ℕ → ℕ → Type 0
 HoldsDigits bytes digits k =
     (slice_index digits (2 * k) ≡ slice_index lower_digits (slice_index bytes k / 16))
@@ -30,7 +31,8 @@ HoldsTwice bytes twice k =
     (slice_index twice (2 * k) ≡ slice_index bytes k)
     × (slice_index twice (2 * k + 1) ≡ slice_index bytes k)
 
--- Digit k is that of the high half of the byte at its place if k is even, or else of the low half.
+-- Digit k is the lower case hexadecimal digit of the high half of byte k if k is even, or else of
+-- the low half.
 abbrev pub HoldsDigit : List ℕ → List ℕ → ℕ → Type 0
 HoldsDigit bytes digits k =
     (k % 2 ≡ 0 → slice_index digits k ≡ slice_index lower_digits (slice_index bytes k / 16))

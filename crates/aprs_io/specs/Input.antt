@@ -22,8 +22,8 @@ EndsSo how.Read limit text rest after = (after ≡ Some rest) × (length text �
 EndsSo how.TooLong limit text rest after =
     (0 < length rest) × (length text ≡ limit) × (after ≡ Some (drop 1 rest))
 
--- A text of at most `limit` bytes is read of the input, which then ends in this way; the device
--- then has `after`.
+-- A text of at most `limit` bytes is read of the input, which then ends in this way; what the device
+-- then has, `after`, is as `EndsSo` says.
 pub record Gets (limit : ℕ) (input : List ℕ) (after : Option (List ℕ)) (text : List ℕ)
     (ending : InputEnd) : Type 0 where
   pub rest : List ℕ

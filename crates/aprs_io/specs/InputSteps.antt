@@ -5,8 +5,9 @@ use Rattle.aprs_io.specs.Input.{EndsHere, last_of_ending}
 use Rattle.aprs_io.specs.declared.device.Counted.{Counted}
 use Rattle.aprs_io.specs.declared.input.InputEnd.{InputEnd}
 
--- The input ends in this way, where the limit allows `left` bytes more. If the device was asked
--- again after the end, or after a fault, its counts of answers would show it.
+-- Nothing more is read of the input, since it ends in this way where the limit allows `left` bytes
+-- more. The device answered last what goes with this way, and no call came after an end or a fault:
+-- its counts of answers would show it. No more tries failed than may fail in one call.
 pub record EndsInput {R : Type 0} (remaining : R → Option (List ℕ)) (way : InputEnd) (left : ℕ)
     (old new : Counted R) : Type 0 where
   pub end : EndsHere way left (remaining old.device) (remaining new.device)

@@ -1,21 +1,18 @@
 -- Books under another gap.
 use Rattle.aprs_laws.proofs.Common.{◌≡◌, ℕ, ◌<◌, ◌≤◌, List, [], ◌∷◌, ◌++◌, ap, arith, is_gt, Received}
-use Rattle.aprs_laws.specs.Lists.{SameMembers}
 use Rattle.aprs_laws.specs.Order.{IsBelow, IsUpTo}
 use Rattle.aprs_laws.specs.Row.{Row, row_cmp}
 use Rattle.aprs_laws.specs.Book.{BookOf}
 use Rattle.aprs_laws.specs.Sound.{Sound}
 use Rattle.aprs_laws.specs.Witnesses.{witnesses}
 use Rattle.aprs_laws.specs.Joining.{Joined}
-use Rattle.aprs_laws.specs.JoinRow.{coalesced_rows}
-use Rattle.aprs_laws.specs.Coalescing.{AreInOrder}
 use Rattle.aprs_laws.specs.Widening.{widened_rows}
 use Rattle.aprs_laws.proofs.Lists.{ordered_weaker}
 use Rattle.aprs_laws.proofs.Rows.{Makes}
 use Rattle.aprs_laws.proofs.Made.{Made}
 use Rattle.aprs_laws.proofs.Books.{keeps_of_book, one_book}
 use Rattle.aprs_laws.proofs.Soundness.{sound, witnessed}
-use Rattle.aprs_laws.proofs.Coalescing.{books_stand, coalesces_book, made_is_book}
+use Rattle.aprs_laws.proofs.Coalescing.{made_is_book}
 use Rattle.aprs_laws.proofs.RunRows.{union_is_joined}
 
 -- what is linked under a gap is linked under a greater one
@@ -73,11 +70,3 @@ widens_joined g h a b c pos l v w j =
     (widened_rows h c)
     (widens_witnesses g h a pos l v) (widens_witnesses g h b pos l w)).0
     (widens_book g h (witnesses a ++ witnesses b) c l j)
-
--- rows of a book, put in order
-pub coalesces_wider : (g h : ℕ) (told rows : List Row) → 0 < g → g ≤ h → Sound g told
-    → SameMembers told rows → AreInOrder rows → coalesced_rows h rows ≡ widened_rows h told
-coalesces_wider g h told rows pos l w e o =
-    one_book h (witnesses told) (coalesced_rows h rows) (widened_rows h told)
-    (coalesces_book h (omega (arith, pos, l)) (witnesses told) told rows (books_stand g told w) e o)
-    (widens_witnesses g h told pos l w)

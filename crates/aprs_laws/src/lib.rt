@@ -40,7 +40,7 @@ pub use laws::last_known_law::{books_tell_last_known, books_tell_spans};
 pub use laws::order_law::{equals_are_identical, orders_are_total};
 pub use laws::step_law::{
     book_comes_row_by_row, last_row_decides, one_more_joins, reception_is_inserted,
-    rows_are_one_book, rows_in_order_coalesce, steps_give_books, two_rows_are_near_at_most,
+    rows_are_one_book, steps_give_books, two_rows_are_near_at_most,
 };
 pub use laws::unit_law::units_can_change;
 pub use merge_fault::MergeFault;

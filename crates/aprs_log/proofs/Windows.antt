@@ -1,6 +1,5 @@
 -- The bytes of a window, after a write past its end or a step of its start.
 use Rattle.aprs_log.proofs.Common.{◌≡◌, ℕ, ◌+◌, ◌-◌, ◌≤◌, List, ◌++◌, length, take, drop, slice_range, refl, sym, ap, ◌∙◌, arith, take_at, drop_at, take-append-le, drop-append-le, drop-take, drop-drop, length-take-le, length-drop}
-use Rattle.std.proofs.lemmas.List.{append-nil}
 use borrow.Rule.Slice.PartMut.{put_mid, post_of}
 use lib.Seq.{take-add}
 
@@ -24,13 +23,6 @@ grown xs ys start end k n ordered within fits =
           (post_of end k xs) fits,
       same,
     ) refl)
-
-pub kept : (xs ys : List ℕ) (start end k : ℕ) → start ≤ end → end ≤ length xs
-    → slice_range (put_mid end k xs ys) start end ≡ slice_range xs start end
-kept xs ys start end k ordered within =
-    let none : end ≡ end + 0 = omega arith in
-    ap (slice_range (put_mid end k xs ys) start) none
-    ∙ grown xs ys start end k 0 ordered within (omega arith) ∙ append-nil _
 
 pub consumed : (xs : List ℕ) (start end count : ℕ) → start + count ≤ end
     → slice_range xs (start + count) end ≡ drop count (slice_range xs start end)

@@ -16,4 +16,8 @@ pub fn callsigns_have_texts()
     ensures misses_seven { FirstCallFault (codes "N0CALLS") call.Length }
     ensures misses_none { FirstCallFault (codes "-1") call.Length }
     ensures misses_small { FirstCallFault (codes "n7oo-1") call.Character }
+
+    // Texts with more than one fault: the first is told.
+    ensures misses_all { FirstCallFault (codes "n0calls-0") call.Length }
+    ensures misses_two { FirstCallFault (codes "n7oo-01") call.Character }
 {}

@@ -5,7 +5,7 @@ ghost use Rattle.aprs_ax25.specs.declared.fault.MakeFault.TheVariants as make;
 ghost use Rattle.aprs_ax25.specs.Frame.{FrameOf, spelling};
 ghost use Rattle.aprs_ax25.specs.FrameFault.{frame_fault, parts_of};
 ghost use Rattle.aprs_ax25.specs.Making.{made_parts, hop_address, make_fault};
-ghost use Rattle.aprs_ax25.specs.Examples.{nj7p, n7lem, to_nj7p, from_n7lem, by_n7oo, hi_after, direct_field, direct_frame, repeated_frame, parts_through, through_n7oo, field_through, letters_a};
+ghost use Rattle.aprs_ax25.specs.Examples.{nj7p, n7lem, to_nj7p, from_n7lem, no_callsign, by_n7oo, hi_after, direct_field, direct_frame, repeated_frame, parts_through, through_n7oo, field_through, letters_a};
 
 /// The frames that AX.25 2.2 shows in section 3.12, as UI frames. There they are I frames, control
 /// 3E, which APRS doesn't have.
@@ -23,8 +23,8 @@ pub fn frames_are_as_the_standard_shows_them()
         ≡ Some Address }
     ensures misses_early_bit { frame_fault (to_nj7p ++ from_n7lem 0x61 ++ by_n7oo 0xE3
         ++ hi_after 0x03 0xF0) ≡ Some Control }
-    ensures misses_space { frame_fault (to_nj7p ++ (0x40 ∷ 0x6E ∷ 0x98 ∷ 0x8A ∷ 0x9A ∷ 0x40 ∷ 0x61
-        ∷ []) ++ hi_after 0x03 0xF0) ≡ Some Callsign }
+    ensures misses_space { frame_fault (to_nj7p ++ no_callsign 0x61 ++ hi_after 0x03 0xF0)
+        ≡ Some Callsign }
 {}
 
 /// A frame has at most 8 digipeaters, and 1 to 256 bytes of information.
@@ -41,6 +41,19 @@ pub fn frames_have_limits()
     ensures misses_hops { make_fault 9 0 ≡ Some make.Hops }
     ensures misses_none { make_fault 8 0 ≡ Some make.NoInfo }
     ensures misses_long { make_fault 8 257 ≡ Some make.LongInfo }
+{}
+
+/// Bytes with two faults or more are refused for the first of them: address field, callsign,
+/// control, PID, information.
+pub fn first_faults_count()
+    ensures misses_all { frame_fault (to_nj7p ++ no_callsign 0x60 ++ 0x13 ∷ 0xCF ∷ [])
+        ≡ Some Address }
+    ensures misses_callsign { frame_fault (to_nj7p ++ no_callsign 0x61 ++ 0x13 ∷ 0xCF ∷ [])
+        ≡ Some Callsign }
+    ensures misses_control { frame_fault (direct_field ++ 0x13 ∷ 0xCF ∷ []) ≡ Some Control }
+    ensures misses_pid { frame_fault (direct_field ++ 0x03 ∷ 0xCF ∷ []) ≡ Some Pid }
+    ensures misses_long_pid { frame_fault (direct_field ++ 0x03 ∷ 0xCF ∷ letters_a 257)
+        ≡ Some Pid }
 {}
 
 /// A frame is made as a command: the destination's C bit is 1, and the source's 0.

@@ -1,7 +1,7 @@
 //! Worked examples of the steps by which code makes a book, and near misses.
 ghost use Rattle.std.specs.Prelude.{◌≡◌, [], ◌∷◌};
 ghost use Rattle.aprs_laws.specs.JoinRow.{single, IsNear, coalesced_rows};
-ghost use Rattle.aprs_laws.specs.Coalescing.{AreInOrder, StandFor, append_or_join};
+ghost use Rattle.aprs_laws.specs.Coalescing.{AreInOrder, StandFor};
 ghost use Rattle.aprs_laws.specs.Together.{book_together};
 ghost use Rattle.aprs_laws.specs.Inserted.{insert_heard, FitsInPlace};
 ghost use Rattle.aprs_laws.specs.Examples.{half_minute, hi_frame, rx2, reception_at, by_rx1, early, row_at, row_to, early_row, late_row, tied_row, short_row};
@@ -46,12 +46,6 @@ pub fn rows_in_order_are_one_book()
     ensures tied { coalesced_rows half_minute (early_row ∷ row_at 0 ∷ []) ≡ tied_row ∷ [] }
     ensures misses_order { coalesced_rows half_minute (row_at 30001 ∷ row_at 0 ∷ [])
         ≡ row_at 0 ∷ row_at 30001 ∷ [] → ⊥ }
-
-    ensures appended { append_or_join half_minute (row_at 0 ∷ row_at 60001 ∷ []) (row_at 90001)
-        ≡ row_at 0 ∷ row_to 60001 90001 ∷ [] }
-    ensures misses_insertion { append_or_join half_minute (row_at 0 ∷ row_at 60001 ∷ [])
-        (row_at 30000)
-        ≡ row_at 0 ∷ row_at 30000 ∷ row_at 60001 ∷ [] → ⊥ }
 
     ensures stands { StandFor (early_row ∷ []) (early ∷ []) }
     ensures misses_witness { StandFor (short_row ∷ []) (by_rx1 1 ∷ []) → ⊥ }

@@ -1,6 +1,5 @@
 //! Laws of the step that books are made with. The functions do nothing: their clauses are the laws.
 ghost use Rattle.std.specs.Prelude.{ℕ, ◌<◌};
-ghost use Rattle.aprs_laws.specs.Coalescing;
 ghost use Rattle.aprs_laws.specs.StepLaws as Spec;
 ghost use Rattle.aprs_laws.specs.Together;
 
@@ -37,26 +36,6 @@ pub fn two_rows_are_near_at_most()
 pub fn steps_give_books()
     ensures books { (gap : ℕ) → Spec.StepsGiveBooks gap }
     ensures equal { (gap : ℕ) → Spec.SameTakenSameRows gap }
-{}
-
-/// Rows in order of key and first moment, each sound by itself, become the book of what they stand
-/// for where each joins the one before it that it is near to. So one pass over the rows of any
-/// books and over receptions, put in order, gives the book of all.
-pub fn rows_in_order_coalesce()
-    ensures book { (gap : ℕ) → 0 < gap → Coalescing.CoalescesBook gap }
-    ensures witnesses { (gap : ℕ) → 0 < gap → Coalescing.CoalescesWitnesses gap }
-    ensures receptions { (gap : ℕ) → Coalescing.CoalescesReceptions gap }
-    ensures joined { (gap : ℕ) → 0 < gap → Coalescing.CoalescesJoined gap }
-    ensures wider { Coalescing.CoalescesWider }
-
-    // Which rows stand for which set.
-    ensures singles { Coalescing.SinglesStand }
-    ensures books { Coalescing.BooksStand }
-    ensures unions { Coalescing.UnionsStand }
-
-    // The pass, row by row: each either joins the last one so far or comes after it.
-    ensures one_by_one { (gap : ℕ) → Coalescing.CoalescesOneByOne gap }
-    ensures last { (gap : ℕ) → Coalescing.JoinsLast gap }
 {}
 
 /// Rows that are sound each by itself are together one book, whatever their order, which more rows

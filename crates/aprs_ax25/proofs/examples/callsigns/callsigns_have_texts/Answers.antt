@@ -24,3 +24,9 @@ returns-clause-misses_nought c = call_fault-FirstCallFault _ _ refl
 
 pub returns-clause-misses_leading_nought : goal.returns-clause-misses_leading_nought
 returns-clause-misses_leading_nought c = call_fault-FirstCallFault _ _ refl
+
+pub returns-clause-misses_all : goal.returns-clause-misses_all
+returns-clause-misses_all c = call_fault-FirstCallFault _ _ refl
+
+pub returns-clause-misses_two : goal.returns-clause-misses_two
+returns-clause-misses_two c = call_fault-FirstCallFault _ _ refl

@@ -4,7 +4,6 @@ use Rattle.aprs_laws.specs.Key.{key_of, key_cmp}
 use Rattle.aprs_laws.specs.Row.{Row, row_cmp}
 use Rattle.aprs_laws.specs.Examples.{half_minute, by_rx1, early, early_row, late_row, row_at}
 use Rattle.aprs_laws.specs.JoinRow.{coalesced_rows}
-use Rattle.aprs_laws.specs.Coalescing.{append_or_join}
 use Rattle.aprs_laws.proofs.Coalescing.{singles_stand}
 use Rattle.aprs_laws.proofs.examples.steps.rows_in_order_are_one_book.Goals as goal
 
@@ -17,11 +16,6 @@ firsts (x ∷ xs) = x.first ∷ firsts xs
 abbrev least : List ℕ → ℕ
 least [] = 0
 least (n ∷ ns) = n
-
--- the second
-abbrev next : List ℕ → ℕ
-next [] = 0
-next (n ∷ ns) = least ns
 
 pub returns-clause-in_order : goal.returns-clause-in_order
 unfolding key_of key_cmp
@@ -58,21 +52,6 @@ turned = refl
 pub returns-clause-misses_order : goal.returns-clause-misses_order
 returns-clause-misses_order c = λ e.
     let n : 30001 ≡ 0 = ap (λ (rows : List Row). least (firsts rows)) (sym turned ∙ e) in
-    omega (arith, n)
-
-pub returns-clause-appended : goal.returns-clause-appended
-unfolding key_of key_cmp
-returns-clause-appended c = refl
-
--- what comes of a row between two others, put after them
-late : append_or_join half_minute (row_at 0 ∷ row_at 60001 ∷ []) (row_at 30000)
-    ≡ row_at 0 ∷ row_at 60001 ∷ row_at 30000 ∷ []
-unfolding key_of key_cmp
-late = refl
-
-pub returns-clause-misses_insertion : goal.returns-clause-misses_insertion
-returns-clause-misses_insertion c = λ e.
-    let n : 60001 ≡ 30000 = ap (λ (rows : List Row). next (firsts rows)) (sym late ∙ e) in
     omega (arith, n)
 
 pub returns-clause-stands : goal.returns-clause-stands
