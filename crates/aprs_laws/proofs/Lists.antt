@@ -16,6 +16,16 @@ in_either z [] ys h = inr h
 in_either z (x ∷ xs) ys (inl e) = inl (inl e)
 in_either z (x ∷ xs) ys (inr h) = elim (in_either z xs ys h) [ inl k ↦ inl (inr k) | inr k ↦ inr k ]
 
+-- what holds of each member, one after another
+abbrev pub EachOf : {X : Type 0} → (X → Type 0) → List X → Type 0
+EachOf P [] = Unit {0}
+EachOf P (x ∷ xs) = P x × EachOf P xs
+
+pub each_of : {X : Type 0} (P : X → Type 0) (xs : List X) → EachOf P xs → (x : X) → x ∈ xs → P x
+each_of P [] a z h = absurd h
+each_of P (x ∷ xs) a z (inl e) = subst P e a.0
+each_of P (x ∷ xs) a z (inr h) = each_of P xs a.1 z h
+
 -- members of a list that a function made
 pub in_map : {X Y : Type 0} (f : X → Y) (x : X) (xs : List X) → x ∈ xs → f x ∈ map f xs
 in_map f a [] h = absurd h

@@ -20,6 +20,7 @@ pub fn gaps_are_of_seconds()
 /// A book holds a set under its own gap, which is at least a second, and is joined with books of
 /// that gap alone. Rows that are far enough apart under 30 seconds, and not under 31, become one
 /// row where the book is widened.
+#[tactic(auto, unfolding(crate::specs::Key::key_of, crate::specs::Key::key_cmp))]
 pub fn books_have_gaps()
     ensures holds { Holds far_pair (book_under 30) }
     ensures misses_gap { Holds far_pair (book_under 31) → ⊥ }
@@ -36,6 +37,7 @@ pub fn books_have_gaps()
 {}
 
 /// Two rows 30,001 milliseconds apart are one under a gap of 30,001, and stay two under their own.
+#[tactic(auto, unfolding(crate::specs::Key::key_of, crate::specs::Key::key_cmp))]
 pub fn wider_gaps_join_rows()
     ensures widened { widened_rows 30001 (early_row ∷ late_row ∷ [])
         ≡ example_row 0 (rx1 ∷ rx2 ∷ []) (by_rx1 30001) ∷ [] }
@@ -45,6 +47,7 @@ pub fn wider_gaps_join_rows()
 
 /// One transmission of 30,000 milliseconds is one of 30,000,000 microseconds under the gap in
 /// microseconds. Under the gap in milliseconds it would be two.
+#[tactic(auto, unfolding(crate::specs::Key::key_of, crate::specs::Key::key_cmp))]
 pub fn units_scale_gaps_too()
     ensures scaled { scaled_rows 1000 (near_row ∷ [])
         ≡ example_row 0 (rx1 ∷ rx2 ∷ []) (by_rx1 30000000) ∷ [] }

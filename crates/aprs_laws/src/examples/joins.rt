@@ -25,6 +25,7 @@ pub fn joins_take_both()
 
 /// Two books whose rows are near are joined to one row: neither the rows of one book alone, nor
 /// those of both side by side.
+#[tactic(auto, unfolding(crate::specs::Key::key_of, crate::specs::Key::key_cmp))]
 pub fn joined_books_are_books()
     ensures joined { Joined half_minute (early_row ∷ []) (close_row ∷ []) (near_row ∷ []) }
     ensures one_pass { coalesced_rows half_minute (early_row ∷ close_row ∷ [])

@@ -18,6 +18,7 @@ pub fn copies_have_one_key()
 {}
 
 /// Keys are ordered by source first. SSIDs are ordered as numbers, and not as their texts.
+#[tactic(auto, unfolding(crate::specs::Key::key_cmp))]
 pub fn sources_are_ordered_first()
     ensures source { key_cmp (key_by 2 (codes "b")) (key_by 10 (codes "a")) ≡ Less }
     ensures misses_information { bytes_cmp (codes "b") (codes "a") ≡ Greater }

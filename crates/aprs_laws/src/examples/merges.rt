@@ -8,6 +8,7 @@ ghost use Rattle.aprs_laws.specs.Examples.{half_minute, hi_frame, rx1, rx2, rece
 /// A merge takes what the other place has then, and not what comes there later. Steps fit a number
 /// of places if each place that they name is below it. Two places that take from each other have
 /// the same book afterwards.
+#[tactic(auto, unfolding(crate::specs::Key::key_of, crate::specs::Key::key_cmp))]
 pub fn merges_take_what_is_there()
     ensures taken { sets_after take_merge_take 1 ≡ by_rx1 0 ∷ [] }
     ensures misses_later { by_rx1 30001 ∈ sets_after take_merge_take 1 → ⊥ }

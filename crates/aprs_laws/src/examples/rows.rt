@@ -27,6 +27,7 @@ pub fn books_are_whole()
 /// Neighbours 30 seconds apart are of one transmission, and 30,001 milliseconds apart of two. One
 /// more reception that is near to two rows makes them one, and a further one between its first and
 /// its last moment doesn't change that row.
+#[tactic(auto, unfolding(crate::specs::Key::key_of, crate::specs::Key::key_cmp))]
 pub fn gaps_decide_rows()
     ensures thirty_joins { plain_book half_minute near_pair ≡ near_row ∷ [] }
     ensures a_millisecond_more_does_not { plain_book half_minute far_pair
@@ -44,6 +45,7 @@ pub fn gaps_decide_rows()
 
 /// Of receptions at one moment that of the greater receiver is greatest, and of one receiver's that
 /// with the greater frame, in whatever order they come.
+#[tactic(auto, unfolding(crate::specs::Key::key_of, crate::specs::Key::key_cmp))]
 pub fn ties_go_by_receiver_then_frame()
     ensures frame { plain_book half_minute (reception_at 0 rx1 hi_after_digipeater ∷ by_rx1 0 ∷ [])
         ≡ row_at 0 ∷ [] }
@@ -54,6 +56,7 @@ pub fn ties_go_by_receiver_then_frame()
 {}
 
 /// Receivers stand in ascending order, each once.
+#[tactic(auto, unfolding(crate::specs::Key::key_of, crate::specs::Key::key_cmp))]
 pub fn receivers_ascend()
     ensures { plain_book half_minute
         (reception_at 10 rx2 hi_frame ∷ reception_at 5 rx1 hi_as_response ∷ early ∷ [])

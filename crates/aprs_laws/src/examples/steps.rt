@@ -9,6 +9,7 @@ ghost use Rattle.aprs_laws.specs.Examples.{half_minute, hi_frame, rx2, reception
 /// A reception that code inserts into rows becomes a row of its own where it is far from all, makes
 /// a near row longer, makes two near rows one, or, inside a row that has its receiver, changes
 /// nothing.
+#[tactic(auto, unfolding(crate::specs::Key::key_of, crate::specs::Key::key_cmp))]
 pub fn gaps_decide_what_is_inserted()
     ensures apart { insert_heard half_minute (by_rx1 60001) (row_at 0 ∷ [])
         ≡ row_at 0 ∷ row_at 60001 ∷ [] }
@@ -36,6 +37,7 @@ pub fn rows_are_near_up_to_the_gap()
 /// Of rows in order each joins the last so far, where it is near to that, or comes after it. Rows
 /// that aren't in order are neither sorted nor put in their place. A row stands for all its
 /// witnesses, and for no fewer.
+#[tactic(auto, unfolding(crate::specs::Key::key_of, crate::specs::Key::key_cmp))]
 pub fn rows_in_order_are_one_book()
     ensures in_order { AreInOrder (early_row ∷ row_at 0 ∷ late_row ∷ []) }
     ensures misses_later_first { AreInOrder (late_row ∷ early_row ∷ []) → ⊥ }
@@ -52,6 +54,7 @@ pub fn rows_in_order_are_one_book()
 {}
 
 /// Rows in any order are together one book: up to half a minute apart they are one row of it.
+#[tactic(auto, unfolding(crate::specs::Key::key_of, crate::specs::Key::key_cmp))]
 pub fn rows_have_one_book_in_any_order()
     ensures apart { book_together half_minute (row_at 30001 ∷ row_at 0 ∷ [])
         ≡ row_at 0 ∷ row_at 30001 ∷ [] }

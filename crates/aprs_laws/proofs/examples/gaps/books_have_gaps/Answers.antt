@@ -1,5 +1,4 @@
 use Rattle.aprs_laws.proofs.Common.{[], ◌∷◌, inl, refl, arith}
-use Rattle.aprs_laws.specs.Key.{key_of, key_cmp}
 use Rattle.aprs_laws.specs.Examples.{far_pair, early_row, late_row}
 use Rattle.aprs_laws.proofs.Soundness.{sound}
 use Rattle.aprs_laws.proofs.Worked.{same_key, far_book}
@@ -31,7 +30,3 @@ returns-clause-misses_other c = λ e. omega (arith, e)
 
 pub returns-clause-misses_joined : goal.returns-clause-misses_joined
 returns-clause-misses_joined c = λ j. let h = j.right in omega (arith, h)
-
-pub returns-clause-widened : goal.returns-clause-widened
-unfolding key_of key_cmp
-returns-clause-widened c = refl

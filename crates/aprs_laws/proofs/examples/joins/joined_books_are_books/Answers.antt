@@ -1,7 +1,6 @@
-use Rattle.aprs_laws.proofs.Common.{◌≡◌, List, [], ◌∷◌, ◌++◌, refl, ap, length, arith}
+use Rattle.aprs_laws.proofs.Common.{◌≡◌, List, [], ◌∷◌, ◌++◌, ap, length, arith}
 use Rattle.aprs_laws.specs.Row.{Row}
 use Rattle.aprs_laws.specs.Witnesses.{witnesses}
-use Rattle.aprs_laws.specs.Key.{key_of, key_cmp}
 use Rattle.aprs_laws.specs.Examples.{early_row, late_row, close_row, near_row}
 use Rattle.aprs_laws.proofs.Books.{one_book}
 use Rattle.aprs_laws.proofs.Worked.{joined_near, joined_far}
@@ -9,10 +8,6 @@ use Rattle.aprs_laws.proofs.examples.joins.joined_books_are_books.Goals as goal
 
 pub returns-clause-joined : goal.returns-clause-joined
 returns-clause-joined c = joined_near
-
-pub returns-clause-one_pass : goal.returns-clause-one_pass
-unfolding key_of key_cmp
-returns-clause-one_pass c = refl
 
 pub returns-clause-misses_side_by_side : goal.returns-clause-misses_side_by_side
 returns-clause-misses_side_by_side c = λ j. let n : 2 ≡ 1 =

@@ -1,16 +1,7 @@
 use Rattle.aprs_laws.proofs.Common.{inl, inr, refl, arith}
-use Rattle.aprs_laws.specs.Key.{key_of, key_cmp}
 use Rattle.aprs_laws.specs.Taken.{Take}
 use Rattle.aprs_laws.specs.Examples.{rx2, hi_frame, reception_at}
 use Rattle.aprs_laws.proofs.examples.merges.merges_take_what_is_there.Goals as goal
-
-pub returns-clause-first_book : goal.returns-clause-first_book
-unfolding key_of key_cmp
-returns-clause-first_book c = refl
-
-pub returns-clause-second_book : goal.returns-clause-second_book
-unfolding key_of key_cmp
-returns-clause-second_book c = refl
 
 pub returns-clause-misses_place : goal.returns-clause-misses_place
 returns-clause-misses_place c =

@@ -10,18 +10,6 @@ abbrev first_of : List Row → ℕ
 first_of [] = 0
 first_of (x ∷ xs) = x.first
 
-pub returns-clause-apart : goal.returns-clause-apart
-unfolding key_of key_cmp
-returns-clause-apart c = refl
-
-pub returns-clause-near : goal.returns-clause-near
-unfolding key_of key_cmp
-returns-clause-near c = refl
-
-pub returns-clause-between : goal.returns-clause-between
-unfolding key_of key_cmp
-returns-clause-between c = refl
-
 -- what comes of two rows in the other order
 turned : book_together half_minute (row_at 30001 ∷ row_at 0 ∷ []) ≡ row_at 0 ∷ row_at 30001 ∷ []
 unfolding key_of key_cmp

@@ -1,10 +1,11 @@
-use Rattle.aprs_laws.proofs.Common.{◌≡◌, ℕ, List, [], ◌∷◌, inl, inr, refl, sym, ap, ◌∙◌, arith, is_gt, Received}
+use Rattle.aprs_laws.proofs.Common.{◌≡◌, ℕ, List, [], ◌∷◌, inl, inr, refl, sym, ap, ◌∙◌, arith, Received}
 use Rattle.aprs_laws.specs.Order.{IsUpTo}
 use Rattle.aprs_laws.specs.Key.{key_of, key_cmp}
 use Rattle.aprs_laws.specs.Row.{Row, row_cmp}
 use Rattle.aprs_laws.specs.Examples.{half_minute, by_rx1, early, early_row, late_row, row_at}
 use Rattle.aprs_laws.specs.JoinRow.{coalesced_rows}
 use Rattle.aprs_laws.proofs.Coalescing.{singles_stand}
+use Rattle.aprs_laws.proofs.Lists.{each_of}
 use Rattle.aprs_laws.proofs.examples.steps.rows_in_order_are_one_book.Goals as goal
 
 -- the first moments of rows
@@ -20,29 +21,13 @@ least (n ∷ ns) = n
 pub returns-clause-in_order : goal.returns-clause-in_order
 unfolding key_of key_cmp
 returns-clause-in_order c = (
-  λ y h. elim h [
-    | inl e ↦ ends early_row (row_at 0) y e refl
-    | inr k ↦ elim k [ inl e ↦ ends early_row late_row y e refl | inr j ↦ absurd j ]
-  ],
-  (
-    λ y h. elim h [ inl e ↦ ends (row_at 0) late_row y e refl | inr j ↦ absurd j ],
-    (λ y h. absurd h, tt),
-  ),
-) where
-  ends : (x z y : Row) → z ≡ y → IsUpTo row_cmp x z → IsUpTo row_cmp x y
-  ends x z y e u = ap (λ (w : Row). is_gt (row_cmp x w)) (sym e) ∙ u
+  each_of (IsUpTo row_cmp early_row) (row_at 0 ∷ late_row ∷ []) (refl, (refl, tt)),
+  (each_of (IsUpTo row_cmp (row_at 0)) (late_row ∷ []) (refl, tt), (λ y h. absurd h, tt)),
+)
 
 pub returns-clause-misses_later_first : goal.returns-clause-misses_later_first
 unfolding key_of key_cmp
 returns-clause-misses_later_first c = λ o. let h = o.0 early_row (inl refl) in cc h
-
-pub returns-clause-inside : goal.returns-clause-inside
-unfolding key_of key_cmp
-returns-clause-inside c = refl
-
-pub returns-clause-tied : goal.returns-clause-tied
-unfolding key_of key_cmp
-returns-clause-tied c = refl
 
 -- what comes of two rows in the other order
 turned : coalesced_rows half_minute (row_at 30001 ∷ row_at 0 ∷ []) ≡ row_at 30001 ∷ row_at 0 ∷ []
