@@ -20,7 +20,6 @@ pub fn gaps_are_of_seconds()
 /// A book holds a set under its own gap, which is at least a second, and is joined with books of
 /// that gap alone. Rows that are far enough apart under 30 seconds, and not under 31, become one
 /// row where the book is widened.
-#[tactic(auto, unfolding(crate::specs::Key::key_of, crate::specs::Key::key_cmp))]
 pub fn books_have_gaps()
     ensures holds { Holds far_pair (book_under 30) }
     ensures misses_gap { Holds far_pair (book_under 31) → ⊥ }

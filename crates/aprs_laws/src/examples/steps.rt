@@ -37,7 +37,6 @@ pub fn rows_are_near_up_to_the_gap()
 /// Of rows in order each joins the last so far, where it is near to that, or comes after it. Rows
 /// that aren't in order are neither sorted nor put in their place. A row stands for all its
 /// witnesses, and for no fewer.
-#[tactic(auto, unfolding(crate::specs::Key::key_of, crate::specs::Key::key_cmp))]
 pub fn rows_in_order_are_one_book()
     ensures in_order { AreInOrder (early_row ∷ row_at 0 ∷ late_row ∷ []) }
     ensures misses_later_first { AreInOrder (late_row ∷ early_row ∷ []) → ⊥ }

@@ -10,30 +10,22 @@ use Rattle.aprs_log.proofs.LineTexts.{line_of-passed, line_of-reports, reports-l
 use Rattle.aprs_log.proofs.Worked.{empty_read, half_line_read, hi_read, unended_read}
 use Rattle.aprs_log.proofs.examples.lines_report_frames.Goals as goal
 
-pub returns-clause-reports : goal.returns-clause-reports
-returns-clause-reports c = line_of-reports hi_line (heard_after 0) hi_read
-
-pub returns-clause-millis : goal.returns-clause-millis
-returns-clause-millis c =
-    line_of-reports (line_by (codes "2024-05-01T12:00:00.500Z") hi_digits) (heard_after 500)
-    half_line_read
-
 reception_of : (x y : Received) (r : Result Line LineFault) → r ≡ Ok (line.Heard x)
     → r ≡ Ok (line.Heard y) → x ≡ y
 reception_of x y r e f = cc
 
-pub returns-clause-misses_moment : goal.returns-clause-misses_moment
-returns-clause-misses_moment c = λ h.
-    let same = ap (λ (x : Received). x.moment) (reception_of (heard_after 0) (heard_after 1)
-    (line_of hi_line) hi_read (reports-line_of hi_line (heard_after 1) h)) in omega (arith, same)
-
-pub returns-clause-passed : goal.returns-clause-passed
-returns-clause-passed c = line_of-passed unended_line (reason.Unended, unended_read)
-
-pub returns-clause-misses_unended : goal.returns-clause-misses_unended
-returns-clause-misses_unended c = λ x h.
-    let same : Ok (line.Passed reason.Unended) ≡ Ok (line.Heard x)
-    = sym unended_read ∙ reports-line_of unended_line x h in absurd cc
-
-pub returns-clause-empty : goal.returns-clause-empty
-returns-clause-empty c = line_of-passed (line_by noon []) (reason.NoFrame, empty_read)
+pub returns : goal.returns
+returns c = record {
+  reports = line_of-reports hi_line (heard_after 0) hi_read;
+  millis =
+      line_of-reports (line_by (codes "2024-05-01T12:00:00.500Z") hi_digits) (heard_after 500)
+      half_line_read;
+  misses_moment = λ h.
+      let same = ap (λ (x : Received). x.moment) (reception_of (heard_after 0) (heard_after 1)
+      (line_of hi_line) hi_read (reports-line_of hi_line (heard_after 1) h)) in omega (arith, same);
+  passed = line_of-passed unended_line (reason.Unended, unended_read);
+  misses_unended = λ x h.
+      let same : Ok (line.Passed reason.Unended) ≡ Ok (line.Heard x)
+      = sym unended_read ∙ reports-line_of unended_line x h in absurd cc;
+  empty = line_of-passed (line_by noon []) (reason.NoFrame, empty_read);
+}

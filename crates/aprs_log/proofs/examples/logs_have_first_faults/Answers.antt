@@ -27,39 +27,33 @@ second rest e cause wrong = record {
   wrong = wrong;
 }
 
-pub returns-clause-faultless : goal.returns-clause-faultless
-returns-clause-faultless c = record {
-  lines = unended_line ∷ hi_line ∷ [];
-  text_is = refl;
-  whole = refl;
-  report = inl (line_of-passed unended_line (reason.Unended, unended_read), one_report);
-}
-
 wrong : HasLogFault (hi_line ++ 10 ∷ leap_line ++ 10 ∷ []) End
     (record { line = 2; cause = why.Moment })
 wrong = second (leap_line ++ 10 ∷ []) End why.Moment
     (inr (leap_line, [], refl, leap_has_no_lf, line_of-wrong leap_line fault.Moment leap_line_read))
 
-pub returns-clause-wrong : goal.returns-clause-wrong
-returns-clause-wrong c = wrong
-
 both_ways : (text : List ℕ) (f : LogFault) → (log_answers text End).fault ≡ Some f
     → (log_answers text End).fault ≡ None → ⊥
 both_ways text f e g = absurd cc
 
-pub returns-clause-misses_wrong : goal.returns-clause-misses_wrong
-returns-clause-misses_wrong c = λ S h.
-    let text = hi_line ++ 10 ∷ leap_line ++ 10 ∷ [] in
-    both_ways text (record { line = 2; cause = why.Moment })
-    (log_fault-answers text End (record { line = 2; cause = why.Moment }) wrong)
-    (log_text-answers text End S h).0
-
 short : length hi_line ≤ 8192
 short = omega arith
 
-pub returns-clause-unended : goal.returns-clause-unended
-returns-clause-unended c = second hi_line End why.NoNewline
-    (inl (hi_has_no_lf, (short, refl, λ e. let bad : ⊥ = absurd cc in bad)))
-
-pub returns-clause-cut_short : goal.returns-clause-cut_short
-returns-clause-cut_short c = second hi_line Read why.Read (inl (hi_has_no_lf, (short, refl)))
+pub returns : goal.returns
+returns c = record {
+  faultless = record {
+    lines = unended_line ∷ hi_line ∷ [];
+    text_is = refl;
+    whole = refl;
+    report = inl (line_of-passed unended_line (reason.Unended, unended_read), one_report);
+  };
+  misses_wrong = λ S h.
+      let text = hi_line ++ 10 ∷ leap_line ++ 10 ∷ [] in
+      both_ways text (record { line = 2; cause = why.Moment })
+      (log_fault-answers text End (record { line = 2; cause = why.Moment }) wrong)
+      (log_text-answers text End S h).0;
+  wrong = wrong;
+  unended = second hi_line End why.NoNewline
+      (inl (hi_has_no_lf, (short, refl, λ e. let bad : ⊥ = absurd cc in bad)));
+  cut_short = second hi_line Read why.Read (inl (hi_has_no_lf, (short, refl)));
+}

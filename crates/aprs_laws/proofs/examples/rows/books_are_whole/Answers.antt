@@ -6,15 +6,13 @@ use Rattle.aprs_laws.proofs.Books.{one_book}
 use Rattle.aprs_laws.proofs.Worked.{far_book}
 use Rattle.aprs_laws.proofs.examples.rows.books_are_whole.Goals as goal
 
-pub returns-clause-book : goal.returns-clause-book
-returns-clause-book c = far_book
-
-pub returns-clause-misses_row : goal.returns-clause-misses_row
-returns-clause-misses_row c = λ b. let n : 1 ≡ 2 =
-    ap (λ (rows : List Row). length rows)
-    (one_book 30000 far_pair (early_row ∷ []) (early_row ∷ late_row ∷ []) b far_book) in
-    omega (arith, n)
-
-pub returns-clause-misses_order : goal.returns-clause-misses_order
+pub returns : goal.returns
 unfolding key_of key_cmp
-returns-clause-misses_order c = λ b. let h = b.ascending.0 early_row (inl refl) in cc h
+returns c = record {
+  book = far_book;
+  misses_row = λ b. let n : 1 ≡ 2 =
+      ap (λ (rows : List Row). length rows)
+      (one_book 30000 far_pair (early_row ∷ []) (early_row ∷ late_row ∷ []) b far_book) in
+      omega (arith, n);
+  misses_order = λ b. let h = b.ascending.0 early_row (inl refl) in cc h;
+}

@@ -8,12 +8,10 @@ use Rattle.aprs_laws.proofs.Folds.{fold_same}
 use Rattle.aprs_laws.proofs.Merges.{merged_is_united}
 use Rattle.aprs_laws.proofs.laws.join_law.receivers_join.Goals as goal
 
-pub returns-clause-laws : goal.returns-clause-laws
-returns-clause-laws c = receivers_laws bytes_total bytes_exact
-
-pub returns-clause-folds : goal.returns-clause-folds
-returns-clause-folds c = fold_same (Ordered (IsBelow bytes_cmp)) AreAny (IsUnited bytes_cmp)
-    (receivers_laws bytes_total bytes_exact)
-
-pub returns-clause-one_pass : goal.returns-clause-one_pass
-returns-clause-one_pass c = merged_is_united bytes_total bytes_exact
+pub returns : goal.returns
+returns c = record {
+  laws = receivers_laws bytes_total bytes_exact;
+  folds = fold_same (Ordered (IsBelow bytes_cmp)) AreAny (IsUnited bytes_cmp)
+      (receivers_laws bytes_total bytes_exact);
+  one_pass = merged_is_united bytes_total bytes_exact;
+}
