@@ -1,18 +1,20 @@
 //! What the rows of a book say together.
-ghost use Rattle.std.specs.Prelude.{ℕ, List, IfOk};
+ghost use Rattle.std.specs.Prelude.{◌≡◌, ℕ, List, IfOk, map};
 ghost use Rattle.aprs_laws.specs.Row.{Row};
 ghost use Rattle.aprs_book.specs.Messages.{ReportsMessages};
-ghost use Rattle.aprs_book.specs.Names.{ReportsNamed};
+ghost use Rattle.aprs_book.specs.declared.lists.named.Named.{Named};
+ghost use Rattle.aprs_book.specs.Names.{ReportsNamed, shown_report};
 ghost use Rattle.aprs_book.specs.Stations.{ReportsStations};
 ghost use Rattle.aprs_book.specs.Summary.{IsSummaryOf};
 
 use crate::known::indexes::Indexes;
+use crate::known::reception_view::ReceptionView;
 use crate::lists::exchange::Exchange;
 use crate::lists::message::messages_of;
-use crate::lists::named::objects_of;
-use crate::lists::station::stations_of;
+use crate::lists::named_walk::NamedWalk;
+use crate::lists::station_walk::StationWalk;
 use crate::lists::summary_builder::{SummaryBuilder, summarize};
-use crate::{Memory, MessageRow, Named, Station};
+use crate::{Memory, MessageRow};
 use aprs_ax25::Callsign;
 use aprs_rows::BookRows;
 use std::alloc::{Allocator, Global};
@@ -21,7 +23,7 @@ use std::collections::BTreeMap;
 /// What the rows of a book say. Their frames stay where they lie, so that memory is taken only for
 /// what is shown.
 pub struct Summary<'t, A: Allocator = Global> {
-    indexes: Indexes<A>,
+    indexes: Indexes<ReceptionView<'t>, A>,
     tallies: BTreeMap<Callsign, u64, A>,
     exchange: Exchange<'t, A>,
     alloc: A,
@@ -65,20 +67,22 @@ impl<'t, A: Allocator + Copy> Summary<'t, A> {
     }
 
     /// The stations that were heard, ascending by callsign.
-    pub fn stations(&self) -> Result<Vec<Station<'_>, A>, Memory>
+    /// Takes no memory, nor does the walk.
+    pub fn stations(&self) -> StationWalk<'_, 't, A>
         ensures { (gap : ℕ) (rows : List Row) → IsSummaryOf rows self.now
-            → IfOk result (λ stations. ReportsStations gap rows stations.items) }
+            → ReportsStations gap rows result }
     {
-        stations_of(self.alloc, &self.tallies, &self.indexes)
+        StationWalk::of(&self.tallies, &self.indexes)
     }
 
     /// The last report of each object, ascending by name, and then of each item, ascending by
-    /// name. Killed ones are among them.
-    pub fn objects(&self) -> Result<Vec<Named<'_>, A>, Memory>
+    /// name. Killed ones are among them. Takes no memory, nor does the walk.
+    pub fn objects(&self) -> NamedWalk<'_, 't, A>
+        // Whichever list shows these things and receptions is that of the objects and items.
         ensures { (gap : ℕ) (rows : List Row) → IsSummaryOf rows self.now
-            → IfOk result (λ named. ReportsNamed gap rows named.items) }
+            → (xs : List Named) → map shown_report xs ≡ result → ReportsNamed gap rows xs }
     {
-        objects_of(self.alloc, &self.indexes)
+        NamedWalk::of(&self.indexes)
     }
 
     /// The messages that were heard, ascending by source, addressee, text and id; one without an id
