@@ -3,8 +3,8 @@ use Rattle.aprs_book.proofs.Common.{◌≡◌, ◌∙◌, ℕ, Bool, true, false
 use Rattle.aprs_laws.specs.Key.{key_of}
 use Rattle.aprs_book.specs.declared.lists.named.Named.{Named}
 use Rattle.aprs_book.specs.Reports.{report_of}
-use Rattle.aprs_book.specs.Names.{Thing, reported_thing, thing_cmp, ReportsOf, shown_thing, IsNamedBefore, AreNamed, ReportsNamed}
-use Rattle.aprs_book.specs.NamedRows.{shown_report, report_in, reports_in}
+use Rattle.aprs_book.specs.Names.{Thing, reported_thing, thing_cmp, ReportsOf, shown_report, shown_thing, IsNamedBefore, AreNamed, ReportsNamed}
+use Rattle.aprs_book.specs.NamedRows.{report_in, reports_in}
 use Rattle.aprs_book.specs.Known.{Entries, FourIndexes, Topic, objects, items, index_of, entry_at, entry_known, known_at, has_bytes, is_report_on, report_bytes, topic_bytes, IsEntryBefore, AreIndexesOf}
 use Rattle.aprs_book.proofs.Collected.{found, absent, one_entry}
 use Rattle.aprs_book.proofs.IndexSteps.{entry_reports}
@@ -287,18 +287,9 @@ module _ (i : FourIndexes) (o : Ordered IsEntryBefore i.objects)
       each = best;
     }
 
-pub named_of_indexes : (gap : ℕ) (rows : List Row) (i : FourIndexes) (first second : Entries)
-    (none some all : List Named) → AreIndexesOf rows i → first ≡ index_of objects i
-    → second ≡ index_of items i → Ordered IsEntryBefore first → Ordered IsEntryBefore second
-    → none ≡ []
-    → map shown_report some ≡ map shown_report none ++ reports_in false first
-    → map shown_report all ≡ map shown_report some ++ reports_in true second
-    → ReportsNamed gap rows all
-named_of_indexes gap rows i first second none some all h e f o p n s t = λ S b.
-    named_of_set i (subst (Ordered IsEntryBefore) e o) (subst (Ordered IsEntryBefore) f p) gap S
-    rows b h all
-    (t
-    ∙ ap (λ l. l ++ reports_in true second)
-    (s ∙ ap (λ l. map shown_report l ++ reports_in false first) n)
-    ∙ ap (λ es. reports_in false es ++ reports_in true second) e
-    ∙ ap (λ es. reports_in false i.objects ++ reports_in true es) f)
+-- whichever list shows what the indexes know
+pub named_of_indexes : (gap : ℕ) (rows : List Row) (i : FourIndexes) → AreIndexesOf rows i
+    → Ordered IsEntryBefore (index_of objects i) → Ordered IsEntryBefore (index_of items i)
+    → (xs : List Named) → map shown_report xs ≡ reports_in false (index_of objects i)
+    ++ reports_in true (index_of items i) → ReportsNamed gap rows xs
+named_of_indexes gap rows i h o p xs e = λ S b. named_of_set i o p gap S rows b h xs e

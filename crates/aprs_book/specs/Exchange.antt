@@ -1,5 +1,5 @@
--- When messages were reported, and how they were answered, by key. Public clauses cite it through
--- `IsSummaryOf` alone.
+-- When messages were reported, and how they were answered, by key. No public clause
+-- cites this module.
 use Rattle.std.specs.Prelude.{List}
 use Rattle.aprs_laws.specs.Row.{Row}
 use Rattle.aprs_book.specs.declared.lists.exchange.Exchange.{Exchange}

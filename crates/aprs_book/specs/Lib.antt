@@ -15,7 +15,6 @@ pub mod Stations
 pub mod Messages
 pub mod Exchange
 pub mod SummaryBuilder
-pub mod Summary
 pub mod MessageRows
 pub mod Names
 pub mod NamedRows

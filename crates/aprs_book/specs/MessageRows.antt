@@ -1,5 +1,5 @@
--- Which rows report a message, and which an answer to one. Public clauses cite it through
--- `IsSummaryOf` alone.
+-- Which rows report a message, and which an answer to one. No public clause cites this
+-- module.
 use Rattle.std.specs.Prelude.{◌≡◌, ◌==◌, ◌⊎◌, ℕ, Bool, false, min, max, List, [], ◌∷◌, Option, Some, None}
 use Rattle.std.specs.Option.{option_map}
 use Rattle.std.specs.Ordering.{on, then_cmp}

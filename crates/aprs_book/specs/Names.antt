@@ -37,6 +37,10 @@ thing_cmp = then_cmp (on (λ t. t.is_item) bool_cmp) (on (λ t. t.name) bytes_cm
 abbrev pub shown_thing : Named → Thing
 shown_thing x = record { is_item = x.is_item; name = x.name.now }
 
+-- An object or an item, and its last report.
+abbrev pub shown_report : Named → Thing × Received
+shown_report x = (shown_thing x, x.heard)
+
 -- The one's object or item is below the other's.
 abbrev pub IsNamedBefore : Named → Named → Type 0
 IsNamedBefore x y = IsBelow thing_cmp (shown_thing x) (shown_thing y)

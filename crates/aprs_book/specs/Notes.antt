@@ -17,7 +17,7 @@ known_with (Some run) topic bytes indexes =
     else known_at bytes (index_of topic indexes)
 
 -- Whatever the rows report on, its greatest reception in them is noted.
-abbrev pub AreNotesOf : {A : Type 0} → List Row → Notes A → Type 0
+abbrev pub AreNotesOf : {X A : Type 0} → List Row → Notes X A → Type 0
 AreNotesOf rows notes = (topic : Topic) (bytes : List ℕ)
     → LastKnown (map greatest_of rows) (Passes (is_report_on (topic_bytes topic) bytes))
     (known_with notes.last topic bytes notes.indexes)

@@ -29,7 +29,7 @@ use std::marker::Model;
 pub struct Book<A: Allocator = Global> {
     gap: Gap,
     rows: KeyedRows<A>,
-    indexes: Indexes<A>,
+    indexes: Indexes<Reception, A>,
 }
 
 impl<A: Allocator> Drop for Book<A> {
@@ -80,7 +80,7 @@ impl<A: Allocator + Copy> Book<A> {
     }
 
     /// The book of this gap and of these rows, whose indexes those have to be.
-    pub(crate) fn of_kept(gap: Gap, rows: KeyedRows<A>, indexes: Indexes<A>) -> Book<A>
+    pub(crate) fn of_kept(gap: Gap, rows: KeyedRows<A>, indexes: Indexes<Reception, A>) -> Book<A>
         requires sound { IsSoundBook (record { gap = gap; rows = rows }) }
         requires indexes { AreIndexesOf rows indexes }
         ensures { result ≡ record { gap = gap; rows = rows } }
@@ -262,7 +262,7 @@ impl<A: Allocator + Copy> Book<A> {
     }
 
     /// The indexes of what is last known, which are those of the rows.
-    pub(crate) fn indexes(&self) -> &Indexes<A>
+    pub(crate) fn indexes(&self) -> &Indexes<Reception, A>
         ensures { AreIndexesOf self.now.rows result.now }
     {
         &self.indexes

@@ -40,13 +40,29 @@ back_none : (a b : List Row) → a ++ b ≡ [] → b ≡ []
 back_none [] b e = e
 back_none (x ∷ a) b e = absurd (cc)
 
--- where one of the lists has rows, they all have
-pub some_of_all : (lists : List (List Row)) (i : ℕ) (rows : List Row) → rows ≡ get_or lists i rows
+-- where the chunk or one of the lists has rows, they all have
+pub some_in_first : (lists : List (List Row)) (chunk : List Row) → (chunk ≡ [] → ⊥)
+    → all_rows lists chunk ≡ [] → ⊥
+some_in_first lists chunk s e = s (front_none chunk (flat_map (λ rs. rs) lists) e)
+
+some_of_lists : (lists : List (List Row)) (i : ℕ) (rows : List Row) → rows ≡ get_or lists i rows
     → i < length lists → (rows ≡ [] → ⊥) → flat_map (λ rs. rs) lists ≡ [] → ⊥
-some_of_all [] i rows is l s e = omega (arith, l)
-some_of_all (r ∷ lists) zero rows is l s e = s (is ∙ front_none r (flat_map (λ rs. rs) lists) e)
-some_of_all (r ∷ lists) (suc i) rows is l s e =
-    some_of_all lists i rows is (omega (arith, l)) s (back_none r (flat_map (λ rs. rs) lists) e)
+some_of_lists [] i rows is l s e = omega (arith, l)
+some_of_lists (r ∷ lists) zero rows is l s e =
+    s (is ∙ front_none r (flat_map (λ rs. rs) lists) e)
+some_of_lists (r ∷ lists) (suc i) rows is l s e =
+    some_of_lists lists i rows is (omega (arith, l)) s
+    (back_none r (flat_map (λ rs. rs) lists) e)
+
+pub some_of_all : (lists : List (List Row)) (chunk : List Row) (i : ℕ) (rows : List Row)
+    → rows ≡ get_or lists i rows → i < length lists → (rows ≡ [] → ⊥)
+    → all_rows lists chunk ≡ [] → ⊥
+some_of_all lists chunk i rows is l s e =
+    some_of_lists lists i rows is l s (back_none chunk (flat_map (λ rs. rs) lists) e)
+
+none_same : (rows : List Row) → ((z : Row) → z ∈ rows → z ∈ []) → rows ≡ []
+none_same [] h = refl
+none_same (x ∷ rows) h = absurd (h x (inl refl))
 
 -- rows of a list come to others
 module _ (xs ys : List Row) (same : SameMembers xs ys) where
@@ -62,6 +78,18 @@ module _ (xs ys : List Row) (same : SameMembers xs ys) where
     ],
   )
 
+  pub same_before : (all : List Row) → SameMembers (xs ++ all) (ys ++ all)
+  same_before all z = (
+    λ h. elim (in_either z xs all h) [
+      | inl k ↦ in_left z ys all ((same z).0 k)
+      | inr k ↦ in_right z ys all k
+    ],
+    λ h. elim (in_either z ys all h) [
+      | inl k ↦ in_left z xs all ((same z).1 k)
+      | inr k ↦ in_right z xs all k
+    ],
+  )
+
 -- the chunk becomes a list
 pub closed : (lists others : List (List Row)) (chunk rows rest : List Row) → SameMembers chunk rows
     → others ≡ lists ++ rows ∷ [] → rest ≡ []
@@ -72,16 +100,17 @@ closed lists others chunk rows rest m e n =
     (swapped chunk rows m (flat_map (λ rs. rs) lists))
 
 -- one more list is merged
-pub merged_more : (lists : List (List Row)) (i : ℕ) (rows old new : List Row)
+pub merged_more : (lists : List (List Row)) (chunk : List Row) (i : ℕ) (rows old new : List Row)
     → rows ≡ get_or lists i rows → i < length lists
-    → SameMembers (flat_map (λ rs. rs) (take i lists)) old → SameMembers (rows ++ old) new
-    → SameMembers (flat_map (λ rs. rs) (take (i + 1) lists)) new
-merged_more lists i rows old new is l m n z =
-    let before = flat_map (λ rs. rs) (take i lists) in
-    let all : flat_map (λ rs. rs) (take (i + 1) lists) ≡ before ++ rows =
-    ap (flat_map (λ rs. rs)) (take_more lists i rows l
+    → SameMembers (all_rows (take i lists) chunk) old → SameMembers (rows ++ old) new
+    → SameMembers (all_rows (take (i + 1) lists) chunk) new
+merged_more lists chunk i rows old new is l m n z =
+    let before = all_rows (take i lists) chunk in
+    let all : all_rows (take (i + 1) lists) chunk ≡ before ++ rows =
+    ap (λ (ls : List (List Row)). all_rows ls chunk) (take_more lists i rows l
     ∙ ap (λ (r : List Row). take i lists ++ r ∷ []) (sym is))
-    ∙ flat_more (take i lists) rows in (
+    ∙ ap (λ rs. chunk ++ rs) (flat_more (take i lists) rows)
+    ∙ sym (append_assoc chunk (flat_map (λ rs. rs) (take i lists)) rows) in (
       λ h. (n z).0 (elim (in_either z before rows (subst (λ (xs : List Row). z ∈ xs) all h)) [
         | inl k ↦ in_right z rows old ((m z).0 k)
         | inr k ↦ in_left z rows old k
@@ -92,6 +121,12 @@ merged_more lists i rows old new is l m n z =
             | inr k ↦ in_left z before rows ((m z).1 k)
           ]),
     )
+
+-- the chunk comes first
+pub merged_first : (chunk rows none new : List Row) → rows ≡ chunk → none ≡ []
+    → SameMembers (rows ++ none) new → SameMembers (all_rows [] chunk) new
+merged_first chunk rows none new is e m =
+    subst (λ (xs : List Row). SameMembers xs new) (λ i. is i ++ e i) m
 
 -- ---- the same book
 
@@ -106,19 +141,20 @@ book_same gap lists others chunk rest s m o = (
       (all_rows others rest) s.each m)),
 )
 
--- and the same again of the rows that a merger has
-pub walked : (gap : ℕ) (lists others shown : List (List Row)) (chunk rest rows : List Row)
+-- and the same again of the rows that a merger has, where the chunk was sorted
+pub walked : (gap : ℕ) (lists shown : List (List Row)) (chunk sorted rows : List Row)
     (book : BookValue)
-    → IsStored gap lists chunk → SameMembers (all_rows lists chunk) (all_rows others rest)
-    → rest ≡ [] → shown ≡ others → SameMembers (flat_map (λ rs. rs) shown) rows
-    → book_stored gap lists chunk ≡ book
+    → IsStored gap lists chunk → SameMembers chunk sorted → shown ≡ lists
+    → SameMembers (all_rows shown sorted) rows → book_stored gap lists chunk ≡ book
     → AreSoundRows rows
     × (record { gap = gap; rows = book_together (millis_of gap) rows } ≡ book)
-walked gap lists others shown chunk rest rows book s m e f n b =
-    let is : all_rows others rest ≡ flat_map (λ rs. rs) shown = λ i. all_rows (sym f i) (e i) in
+walked gap lists shown chunk sorted rows book s m f n b =
+    let own : SameMembers (all_rows lists chunk) (all_rows shown sorted) =
+    subst (λ (ls : List (List Row)). SameMembers (all_rows lists chunk) (all_rows ls sorted)) (sym f)
+    (same_before chunk sorted m (flat_map (λ rs. rs) lists)) in
     let all : SameMembers (all_rows lists chunk) rows = λ z. (
-      λ h. (n z).0 (subst (λ (xs : List Row). z ∈ xs) is ((m z).0 h)),
-      λ h. (m z).1 (subst (λ (xs : List Row). z ∈ xs) (sym is) ((n z).1 h)),
+      λ h. (n z).0 ((own z).0 h),
+      λ h. (own z).1 ((n z).1 h),
     ) in (
       λ x h. s.each x ((all x).1 h),
       ap (λ rs. record { gap = gap; rows = rs })
@@ -131,16 +167,21 @@ walked gap lists others shown chunk rest rows book s m e f n b =
 pub some_in_chunk : (gap : ℕ) (lists : List (List Row)) (chunk : List Row) (book : BookValue)
     → book_stored gap lists chunk ≡ book → (chunk ≡ [] → ⊥) → book.rows ≡ [] → ⊥
 some_in_chunk gap lists chunk book b some e =
-    some_book (millis_of gap) (all_rows lists chunk)
-    (λ h. some (front_none chunk (flat_map (λ rs. rs) lists) h)) (ap (λ (k : BookValue). k.rows) b ∙ e)
-
-pub some_in_lists : (gap : ℕ) (lists shown : List (List Row)) (chunk : List Row) (book : BookValue)
-    → book_stored gap lists chunk ≡ book → shown ≡ lists → (flat_map (λ rs. rs) shown ≡ [] → ⊥)
-    → book.rows ≡ [] → ⊥
-some_in_lists gap lists shown chunk book b f some e =
-    some_book (millis_of gap) (all_rows lists chunk)
-    (λ h. some (ap (flat_map (λ rs. rs)) f ∙ back_none chunk (flat_map (λ rs. rs) lists) h))
+    some_book (millis_of gap) (all_rows lists chunk) (some_in_first lists chunk some)
     (ap (λ (k : BookValue). k.rows) b ∙ e)
+
+pub some_in_store : (gap : ℕ) (lists shown : List (List Row)) (chunk sorted : List Row)
+    (book : BookValue)
+    → book_stored gap lists chunk ≡ book → SameMembers chunk sorted → shown ≡ lists
+    → (all_rows shown sorted ≡ [] → ⊥) → book.rows ≡ [] → ⊥
+some_in_store gap lists shown chunk sorted book b m f some e =
+    some_book (millis_of gap) (all_rows lists chunk)
+    (λ h. some (λ i. none_after m (front_none chunk (flat_map (λ rs. rs) lists) h) i
+    ++ (ap (flat_map (λ rs. rs)) f ∙ back_none chunk (flat_map (λ rs. rs) lists) h) i))
+    (ap (λ (k : BookValue). k.rows) b ∙ e)
+  where
+    none_after : SameMembers chunk sorted → chunk ≡ [] → sorted ≡ []
+    none_after m h = none_same sorted (λ z k. subst (λ (xs : List Row). z ∈ xs) h ((m z).1 k))
 
 pub some_names : (gap : ℕ) (rows : List Row) (book : BookValue)
     → record { gap = gap; rows = book_together (millis_of gap) rows } ≡ book → 0 < room_of rows

@@ -12,8 +12,8 @@ use Rattle.aprs_rows.specs.declared.row.key_prefix.KeyPrefix.{KeyPrefix}
 abbrev pub call_number : Call → ℕ
 call_number call = from_be_bytes w64 (0 ∷ letters_and_spaces call.letters ++ call.ssid ∷ [])
 
--- The prefix of a key: the numbers of the callsigns, and of the first eight bytes of the information,
--- base 256. `from_be_bytes` reads zeros where there are fewer.
+-- The prefix of a key: the numbers of the callsigns, and of the first eight bytes of the
+-- information, base 256. `from_be_bytes` reads zeros where there are fewer.
 unfoldable pub key_prefix_of : Key → KeyPrefix
 key_prefix_of key = record {
   source = call_number key.source;

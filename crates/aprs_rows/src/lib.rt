@@ -19,3 +19,4 @@ pub use row::row_view::RowView;
 pub use store::book_rows::BookRows;
 pub use store::book_store::BookStore;
 pub use store::packed::PackedRows;
+pub use store::walk_room::WalkRoom;

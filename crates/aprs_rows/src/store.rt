@@ -6,3 +6,4 @@ pub(crate) mod front;
 pub(crate) mod mark;
 pub(crate) mod merger;
 pub(crate) mod packed;
+pub(crate) mod walk_room;

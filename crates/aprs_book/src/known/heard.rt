@@ -2,6 +2,7 @@
 ghost use Rattle.std.specs.Prelude.{◌≡◌};
 ghost use Rattle.std.specs.Option.{option_copied};
 
+use crate::known::reception_view::ReceptionView;
 use aprs_ax25::Frame;
 use aprs_log::{Moment, Receiver, Reception};
 use aprs_report::Report;
@@ -58,6 +59,27 @@ pub(crate) fn heard_of<'a>(known: Option<&'a Reception>) -> Option<Heard<'a>>
 {
     match known {
         Some(x) => Some(Heard::of(x)),
+        None => None,
+    }
+}
+
+/// The reception in this view, read into the place, with what it says.
+pub(crate) fn heard_at<'r>(place: &'r mut Option<Reception>, x: &ReceptionView<'_>) -> Heard<'r>
+    ensures { result ≡ x.now }
+{
+    Heard::of(place.insert(x.read()))
+}
+
+/// The reception that is known, read into the place, with what it says, or `None` where none is
+/// known.
+pub(crate) fn heard_in<'r>(
+    place: &'r mut Option<Reception>,
+    known: Option<&ReceptionView<'_>>,
+) -> Option<Heard<'r>>
+    ensures { result ≡ option_copied known.entry }
+{
+    match known {
+        Some(x) => Some(heard_at(place, x)),
         None => None,
     }
 }

@@ -1,6 +1,6 @@
 //! What is last known, by the bytes of what it is known of.
 ghost use Rattle.std.specs.Prelude.{◌≡◌, ℕ, List, [], Some, IsOk, OnOk, OnErr, cond};
-ghost use Rattle.std.specs.Option.{option_copied};
+ghost use Rattle.std.specs.Option.{option_copied, option_map};
 ghost use Rattle.std.specs.Ordering.{is_eq};
 ghost use Rattle.aprs_log.specs.Reception.{bytes_cmp};
 ghost use Rattle.aprs_laws.specs.Best.{greater_known};
@@ -8,8 +8,8 @@ ghost use Rattle.aprs_laws.specs.Lists.{Ordered};
 ghost use Rattle.aprs_book.specs.Known as Spec;
 
 use crate::Memory;
+use crate::known::kept::{Kept, KeptFrom};
 use crate::known::reception_view::ReceptionView;
-use aprs_log::Reception;
 use std::alloc::{Allocator, Global};
 use std::collections::BTreeMap;
 use std::collections::btree_map::Iter;
@@ -17,29 +17,29 @@ use std::marker::Model;
 
 /// The greatest reception that reports on each callsign or name, by the bytes of these. An entry
 /// with `None` says as much as no entry: nothing is known.
-pub(crate) struct Index<A: Allocator = Global> {
-    map: BTreeMap<Vec<u8, A>, Option<Reception>, A>,
+pub(crate) struct Index<X: Kept, A: Allocator = Global> {
+    map: BTreeMap<Vec<u8, A>, Option<X>, A>,
     alloc: A,
 }
 
-impl<A: Allocator> Drop for Index<A> {
+impl<X: Kept, A: Allocator> Drop for Index<X, A> {
     fn drop(self) {
         let Index { map, alloc: _ } = self;
         drop(map);
     }
 }
 
-impl<A: Allocator> Model for Index<A> {
+impl<X: Kept, A: Allocator> Model for Index<X, A> {
     ghost use Rattle.aprs_book.specs.Known.{Entries, plain_entries};
 
     ghost Value = { Entries };
 
-    ghost view = { λ k. plain_entries (λ key. key.items) k.map.entries };
+    ghost view = { λ k. plain_entries (λ key. key.items) X.received k.map.entries };
 }
 
-impl<A: Allocator + Copy> Index<A> {
+impl<X: Kept, A: Allocator + Copy> Index<X, A> {
     /// An index in which nothing is known. Takes no memory.
-    pub(crate) fn new(alloc: A) -> Index<A>
+    pub(crate) fn new(alloc: A) -> Index<X, A>
         ensures { result ≡ [] }
     {
         Index {
@@ -70,7 +70,9 @@ impl<A: Allocator + Copy> Index<A> {
     /// Keeps the reception in the entry at these bytes, if nothing, or a lesser reception, is
     /// known there. The entry has to be there. What is known at other bytes stays. Takes no
     /// memory.
-    pub(crate) fn note(&mut self, bytes: &[u8], x: &ReceptionView<'_>)
+    pub(crate) fn note<'t>(&mut self, bytes: &[u8], x: &ReceptionView<'t>)
+    where
+        X: KeptFrom<'t>,
         requires { Spec.HasEntry bytes.now self.old }
         ensures { (q : List ℕ) → Spec.known_at q self.new ≡ cond (is_eq (bytes_cmp bytes.now q))
             (Some (greater_known (Spec.known_at q self.old) x.now)) (Spec.known_at q self.old) }
@@ -83,7 +85,9 @@ impl<A: Allocator + Copy> Index<A> {
     /// Keeps the reception in the entry at these bytes, if nothing, or a lesser reception, is
     /// known there. The entry is made where there is none. What is known at other bytes stays.
     /// After `Memory` the same is known as before.
-    pub(crate) fn take(&mut self, bytes: &[u8], x: &ReceptionView<'_>) -> Result<(), Memory>
+    pub(crate) fn take<'t>(&mut self, bytes: &[u8], x: &ReceptionView<'t>) -> Result<(), Memory>
+    where
+        X: KeptFrom<'t>,
         ensures taken { OnOk result ((q : List ℕ)
             → Spec.known_at q self.new ≡ cond (is_eq (bytes_cmp bytes.now q))
             (Some (greater_known (Spec.known_at q self.old) x.now)) (Spec.known_at q self.old)) }
@@ -100,8 +104,8 @@ impl<A: Allocator + Copy> Index<A> {
     }
 
     /// The reception that is known at these bytes, or `None`. Takes no memory.
-    pub(crate) fn get(&self, bytes: &[u8]) -> Option<&Reception>
-        ensures { option_copied result ≡ Spec.known_at bytes.now self.now }
+    pub(crate) fn get(&self, bytes: &[u8]) -> Option<&X>
+        ensures { option_map X.received (option_copied result) ≡ Spec.known_at bytes.now self.now }
     {
         match self.map.get(bytes) {
             Some(known) => known.as_ref(),
@@ -111,8 +115,8 @@ impl<A: Allocator + Copy> Index<A> {
 
     /// The entries, ascending by their bytes, empty ones too. Takes no memory, nor does walking
     /// over them.
-    pub(crate) fn iter(&self) -> Iter<'_, Vec<u8, A>, Option<Reception>>
-        ensures entries { Spec.plain_entries (λ key. key.items) result ≡ self.now }
+    pub(crate) fn iter(&self) -> Iter<'_, Vec<u8, A>, Option<X>>
+        ensures entries { Spec.plain_entries (λ key. key.items) X.received result ≡ self.now }
         ensures ascending { Ordered Spec.IsEntryBefore self.now }
     {
         self.map.iter()
@@ -120,11 +124,12 @@ impl<A: Allocator + Copy> Index<A> {
 }
 
 /// Puts `x` into `known`, unless a reception is there that is as great or greater.
-fn keep(known: &mut Option<Reception>, x: &ReceptionView<'_>)
-    ensures { known.new ≡ Some (greater_known known.old x.now) }
+fn keep<'t, X: KeptFrom<'t>>(known: &mut Option<X>, x: &ReceptionView<'t>)
+    ensures { option_map X.received known.new
+        ≡ Some (greater_known (option_map X.received known.old) x.now) }
 {
-    match known {
-        Some(greatest) if !x.exceeds(Some(&ReceptionView::of(greatest))) => {}
-        _ => *known = Some(x.read()),
+    match &*known {
+        Some(greatest) if !x.exceeds(Some(&greatest.view())) => {}
+        _ => *known = Some(X::kept_from(x)),
     }
 }

@@ -1,26 +1,26 @@
 //! What is last known of each station, object and item.
 ghost use Rattle.std.specs.Prelude.{◌≡◌, [], IsOk, OnOk, OnErr};
-ghost use Rattle.std.specs.Option.{option_copied};
+ghost use Rattle.std.specs.Option.{option_copied, option_map};
 ghost use Rattle.aprs_book.specs.Known as Spec;
 
 use crate::Memory;
 use crate::known::index::Index;
+use crate::known::kept::{Kept, KeptFrom};
 use crate::known::reception_view::ReceptionView;
 use crate::known::subject::{Subject, call_bytes};
 use aprs_ax25::Callsign;
-use aprs_log::Reception;
 use std::alloc::{Allocator, Global};
 use std::marker::Model;
 
 /// The last position and status by callsign, and the last report of an object and an item by name.
-pub(crate) struct Indexes<A: Allocator = Global> {
-    positions: Index<A>,
-    statuses: Index<A>,
-    objects: Index<A>,
-    items: Index<A>,
+pub(crate) struct Indexes<X: Kept, A: Allocator = Global> {
+    positions: Index<X, A>,
+    statuses: Index<X, A>,
+    objects: Index<X, A>,
+    items: Index<X, A>,
 }
 
-impl<A: Allocator> Drop for Indexes<A> {
+impl<X: Kept, A: Allocator> Drop for Indexes<X, A> {
     fn drop(self) {
         let Indexes {
             positions,
@@ -35,7 +35,7 @@ impl<A: Allocator> Drop for Indexes<A> {
     }
 }
 
-impl<A: Allocator> Model for Indexes<A> {
+impl<X: Kept, A: Allocator> Model for Indexes<X, A> {
     ghost use Rattle.aprs_book.specs.Known.{FourIndexes};
 
     ghost Value = { FourIndexes };
@@ -48,9 +48,9 @@ impl<A: Allocator> Model for Indexes<A> {
     } };
 }
 
-impl<A: Allocator + Copy> Indexes<A> {
+impl<X: Kept, A: Allocator + Copy> Indexes<X, A> {
     /// Four indexes in which nothing is known. Takes no memory.
-    pub(crate) fn new(alloc: A) -> Indexes<A>
+    pub(crate) fn new(alloc: A) -> Indexes<X, A>
         ensures { (topic : Spec.Topic) → Spec.index_of topic result ≡ [] }
     {
         Indexes {
@@ -63,8 +63,8 @@ impl<A: Allocator + Copy> Indexes<A> {
 
     /// The greatest reception of a position report from this station, or `None` where none is
     /// known. Takes no memory.
-    pub(crate) fn position(&self, station: &Callsign) -> Option<&Reception>
-        ensures { option_copied result
+    pub(crate) fn position(&self, station: &Callsign) -> Option<&X>
+        ensures { option_map X.received (option_copied result)
             ≡ Spec.known_at (Spec.call_bytes station.now) (Spec.index_of Spec.positions self.now) }
     {
         self.positions.get(call_bytes(station).as_slice())
@@ -72,8 +72,8 @@ impl<A: Allocator + Copy> Indexes<A> {
 
     /// The greatest reception of a status report from this station, or `None` where none is known.
     /// Takes no memory.
-    pub(crate) fn status(&self, station: &Callsign) -> Option<&Reception>
-        ensures { option_copied result
+    pub(crate) fn status(&self, station: &Callsign) -> Option<&X>
+        ensures { option_map X.received (option_copied result)
             ≡ Spec.known_at (Spec.call_bytes station.now) (Spec.index_of Spec.statuses self.now) }
     {
         self.statuses.get(call_bytes(station).as_slice())
@@ -81,8 +81,8 @@ impl<A: Allocator + Copy> Indexes<A> {
 
     /// The greatest reception of a report of the object of this name, or `None` where none is
     /// known. The name must have no spaces at its end. Takes no memory.
-    pub(crate) fn object(&self, name: &[u8]) -> Option<&Reception>
-        ensures { option_copied result
+    pub(crate) fn object(&self, name: &[u8]) -> Option<&X>
+        ensures { option_map X.received (option_copied result)
             ≡ Spec.known_at name.now (Spec.index_of Spec.objects self.now) }
     {
         self.objects.get(name)
@@ -90,22 +90,22 @@ impl<A: Allocator + Copy> Indexes<A> {
 
     /// The greatest reception of a report of the item of this name, or `None` where none is known.
     /// The name must have no spaces at its end. Takes no memory.
-    pub(crate) fn item(&self, name: &[u8]) -> Option<&Reception>
-        ensures { option_copied result
+    pub(crate) fn item(&self, name: &[u8]) -> Option<&X>
+        ensures { option_map X.received (option_copied result)
             ≡ Spec.known_at name.now (Spec.index_of Spec.items self.now) }
     {
         self.items.get(name)
     }
 
     /// The last report of each object, by name.
-    pub(crate) fn objects(&self) -> &Index<A>
+    pub(crate) fn objects(&self) -> &Index<X, A>
         ensures { result.now ≡ Spec.index_of Spec.objects self.now }
     {
         &self.objects
     }
 
     /// The last report of each item, by name.
-    pub(crate) fn items(&self) -> &Index<A>
+    pub(crate) fn items(&self) -> &Index<X, A>
         ensures { result.now ≡ Spec.index_of Spec.items self.now }
     {
         &self.items
@@ -130,7 +130,9 @@ impl<A: Allocator + Copy> Indexes<A> {
 
     /// Keeps the reception as what is last known of its subject, where nothing was known or it is
     /// greater. The subject has to have its entry; for `Nothing` nothing is kept. Takes no memory.
-    pub(crate) fn note(&mut self, subject: &Subject<'_>, x: &ReceptionView<'_>)
+    pub(crate) fn note<'t>(&mut self, subject: &Subject<'_>, x: &ReceptionView<'t>)
+    where
+        X: KeptFrom<'t>,
         requires { Spec.HaveEntries subject.now self.old }
         ensures { Spec.NotesReport subject.now x.now self.old self.new }
     {
@@ -146,11 +148,13 @@ impl<A: Allocator + Copy> Indexes<A> {
     /// Keeps the reception as what is last known of its subject, where nothing was known or it is
     /// greater, and makes the subject's entry where there is none. For `Nothing` nothing is kept.
     /// After `Memory` the same is known as before.
-    pub(crate) fn take(
+    pub(crate) fn take<'t>(
         &mut self,
         subject: &Subject<'_>,
-        x: &ReceptionView<'_>,
+        x: &ReceptionView<'t>,
     ) -> Result<(), Memory>
+    where
+        X: KeptFrom<'t>,
         ensures taken { OnOk result (Spec.NotesReport subject.now x.now self.old self.new) }
         ensures same { OnErr result (Spec.SameKnown self.old self.new) }
     {

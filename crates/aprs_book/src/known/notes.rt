@@ -6,6 +6,7 @@ ghost use Rattle.aprs_book.specs.Notes.{AreNotesOf, known_with};
 
 use crate::Memory;
 use crate::known::indexes::Indexes;
+use crate::known::kept::{Kept, KeptFrom};
 use crate::known::last_known::greater_known;
 use crate::known::reception_view::ReceptionView;
 use crate::known::subject::Subject;
@@ -21,21 +22,21 @@ pub(crate) struct Streak<'t> {
 /// What rows report. The last rows that report on one thing are kept in `last`. They are put into
 /// the indexes when a row follows that reports on something else, since most rows report on what
 /// the row before them does.
-pub(crate) struct Notes<'t, A: Allocator = Global> {
-    indexes: Indexes<A>,
+pub(crate) struct Notes<'t, X: Kept, A: Allocator = Global> {
+    indexes: Indexes<X, A>,
     last: Option<Streak<'t>>,
 }
 
-impl<'t, A: Allocator> Drop for Notes<'t, A> {
+impl<'t, X: Kept, A: Allocator> Drop for Notes<'t, X, A> {
     fn drop(self) {
         let Notes { indexes, last: _ } = self;
         drop(indexes);
     }
 }
 
-impl<'t, A: Allocator + Copy> Notes<'t, A> {
+impl<'t, X: KeptFrom<'t>, A: Allocator + Copy> Notes<'t, X, A> {
     /// The notes of no rows. Takes no memory.
-    pub(crate) fn new(alloc: A) -> Notes<'t, A>
+    pub(crate) fn new(alloc: A) -> Notes<'t, X, A>
         ensures { AreNotesOf [] result }
     {
         Notes {
@@ -81,7 +82,7 @@ impl<'t, A: Allocator + Copy> Notes<'t, A> {
     }
 
     /// The indexes of all rows that were noted.
-    pub(crate) fn into_indexes(self) -> Result<Indexes<A>, Memory>
+    pub(crate) fn into_indexes(self) -> Result<Indexes<X, A>, Memory>
         ensures { IfOk result (λ indexes. (rows : List Row) → AreNotesOf rows self.entry
             → Spec.AreIndexesOf rows indexes) }
     {
@@ -93,9 +94,9 @@ impl<'t, A: Allocator + Copy> Notes<'t, A> {
 
 /// Puts into the indexes what the last rows report; `None` changes nothing. After `Memory` the
 /// same is known as before.
-fn put<A: Allocator + Copy>(
-    indexes: &mut Indexes<A>,
-    last: Option<Streak<'_>>,
+fn put<'t, X: KeptFrom<'t>, A: Allocator + Copy>(
+    indexes: &mut Indexes<X, A>,
+    last: Option<Streak<'t>>,
 ) -> Result<(), Memory>
     ensures put { OnOk result ((topic : Spec.Topic) (bytes : List ℕ)
         → Spec.known_at bytes (Spec.index_of topic indexes.new)

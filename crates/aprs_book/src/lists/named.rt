@@ -4,12 +4,13 @@ ghost use Rattle.aprs_laws.specs.Gap.{millis_of};
 ghost use Rattle.aprs_laws.specs.Lists.{Ordered};
 ghost use Rattle.aprs_book.specs.Known.{AreIndexesOf, IsEntryBefore};
 ghost use Rattle.aprs_laws.specs.Row.{Row};
-ghost use Rattle.aprs_book.specs.Names.{ReportsNamed};
-ghost use Rattle.aprs_book.specs.NamedRows.{shown_report, reports_in};
+ghost use Rattle.aprs_book.specs.Names.{ReportsNamed, shown_report};
+ghost use Rattle.aprs_book.specs.NamedRows.{reports_in};
 
 use crate::known::index::Index;
 use crate::known::indexes::Indexes;
 use crate::{Book, Heard, Memory};
+use aprs_log::Reception;
 use std::alloc::Allocator;
 
 /// An object or an item that was heard of.
@@ -38,7 +39,7 @@ impl<A: Allocator + Copy> Book<A> {
 /// with the last report of each.
 pub(crate) fn objects_of<'a, A: Allocator + Copy>(
     alloc: A,
-    indexes: &'a Indexes<A>,
+    indexes: &'a Indexes<Reception, A>,
 ) -> Result<Vec<Named<'a>, A>, Memory>
     ensures { (gap : ℕ) (rows : List Row) → AreIndexesOf rows indexes.now
         → IfOk result (λ named. ReportsNamed gap rows named.items) }
@@ -55,7 +56,7 @@ pub(crate) fn objects_of<'a, A: Allocator + Copy>(
 fn push_reports<'a, A: Allocator + Copy>(
     list: &mut Vec<Named<'a>, A>,
     is_item: bool,
-    known: &'a Index<A>,
+    known: &'a Index<Reception, A>,
 ) -> Result<(), Memory>
     ensures ascending { Ordered IsEntryBefore known.now }
     ensures reports { OnOk result (map shown_report list.new.items

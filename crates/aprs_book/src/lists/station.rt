@@ -1,16 +1,17 @@
 //! The stations of a book.
-ghost use Rattle.std.specs.Prelude.{ℕ, List, IfOk};
+ghost use Rattle.std.specs.Prelude.{◌≡◌, ℕ, List, IfOk};
 ghost use Rattle.aprs_laws.specs.Gap.{millis_of};
 ghost use Rattle.aprs_book.specs.Known.{AreIndexesOf};
 ghost use Rattle.aprs_laws.specs.Row.{Row};
 ghost use Rattle.aprs_book.specs.Stations.{ReportsStations};
-ghost use Rattle.aprs_book.specs.StationRows.{AreTallies, IsStationIn};
+ghost use Rattle.aprs_book.specs.StationRows.{AreTallies, station_in};
 
 use crate::known::heard::heard_of;
 use crate::known::indexes::Indexes;
 use crate::lists::tally::tallies;
 use crate::{Book, Heard, Memory};
 use aprs_ax25::Callsign;
+use aprs_log::Reception;
 use std::alloc::Allocator;
 use std::collections::BTreeMap;
 
@@ -43,7 +44,7 @@ impl<A: Allocator + Copy> Book<A> {
 pub(crate) fn stations_of<'a, A: Allocator + Copy>(
     alloc: A,
     tallies: &BTreeMap<Callsign, u64, A>,
-    indexes: &'a Indexes<A>,
+    indexes: &'a Indexes<Reception, A>,
 ) -> Result<Vec<Station<'a>, A>, Memory>
     ensures { (gap : ℕ) (rows : List Row) → AreTallies rows tallies.now.entries
         → AreIndexesOf rows indexes.now
@@ -66,9 +67,9 @@ pub(crate) fn stations_of<'a, A: Allocator + Copy>(
 fn station_of<'a, A: Allocator + Copy>(
     call: &Callsign,
     transmissions: u64,
-    indexes: &'a Indexes<A>,
+    indexes: &'a Indexes<Reception, A>,
 ) -> Station<'a>
-    ensures { IsStationIn indexes.now (call.now, transmissions) result }
+    ensures { result ≡ station_in indexes.now (call.now, transmissions) }
 {
     Station {
         call: call.copy(),

@@ -1,27 +1,29 @@
 //! What the rows of a book say together.
-ghost use Rattle.std.specs.Prelude.{ℕ, List, IfOk};
-ghost use Rattle.aprs_laws.specs.Row.{Row};
+ghost use Rattle.std.specs.Prelude.{◌≡◌, List, IfOk, map};
+ghost use Rattle.aprs_laws.specs.Gap.{millis_of};
+ghost use Rattle.aprs_book.specs.declared.lists.named.Named.{Named};
 ghost use Rattle.aprs_book.specs.Messages.{ReportsMessages};
-ghost use Rattle.aprs_book.specs.Names.{ReportsNamed};
+ghost use Rattle.aprs_book.specs.Names.{ReportsNamed, shown_report};
 ghost use Rattle.aprs_book.specs.Stations.{ReportsStations};
-ghost use Rattle.aprs_book.specs.Summary.{IsSummaryOf};
 
 use crate::known::indexes::Indexes;
+use crate::known::reception_view::ReceptionView;
 use crate::lists::exchange::Exchange;
 use crate::lists::message::messages_of;
-use crate::lists::named::objects_of;
-use crate::lists::station::stations_of;
+use crate::lists::named_walk::NamedWalk;
+use crate::lists::station_walk::StationWalk;
 use crate::lists::summary_builder::{SummaryBuilder, summarize};
-use crate::{Memory, MessageRow, Named, Station};
+use crate::{Memory, MessageRow};
 use aprs_ax25::Callsign;
-use aprs_rows::BookRows;
+use aprs_rows::{BookStore, WalkRoom};
 use std::alloc::{Allocator, Global};
 use std::collections::BTreeMap;
+use std::marker::Model;
 
-/// What the rows of a book say. Their frames stay where they lie, so that memory is taken only for
-/// what is shown.
+/// What the rows of the book in a store say. Their frames stay where they lie.
 pub struct Summary<'t, A: Allocator = Global> {
-    indexes: Indexes<A>,
+    store: &'t BookStore<A>,
+    indexes: Indexes<ReceptionView<'t>, A>,
     tallies: BTreeMap<Callsign, u64, A>,
     exchange: Exchange<'t, A>,
     alloc: A,
@@ -30,6 +32,7 @@ pub struct Summary<'t, A: Allocator = Global> {
 impl<'t, A: Allocator> Drop for Summary<'t, A> {
     fn drop(self) {
         let Summary {
+            store: _,
             indexes,
             tallies,
             exchange,
@@ -41,13 +44,32 @@ impl<'t, A: Allocator> Drop for Summary<'t, A> {
     }
 }
 
+impl<'t, A: Allocator> Model for Summary<'t, A> {
+    ghost use Rattle.aprs_laws.specs.BookValue.{BookValue};
+    ghost use Rattle.aprs_book.specs.Exchange.{IsExchangeOf};
+    ghost use Rattle.aprs_book.specs.Known.{AreIndexesOf};
+    ghost use Rattle.aprs_book.specs.StationRows.{AreTallies};
+
+    ghost Value = { BookValue };
+
+    ghost view = { λ s. s.store.now };
+
+    ghost invariant = { λ s. AreIndexesOf s.store.now.rows s.indexes
+        × AreTallies s.store.now.rows s.tallies.entries
+        × IsExchangeOf s.store.now.rows s.exchange };
+}
+
 impl<'t, A: Allocator + Copy> Summary<'t, A> {
-    /// What these rows say, in one pass over them. Takes memory for the number of rows, the last
-    /// position and the last status of each station, the last report of each object and item, each
-    /// message and the last answer to it.
-    pub fn of(alloc: A, rows: BookRows<'t, A>) -> Result<Summary<'t, A>, Memory>
-        ensures { IfOk result (IsSummaryOf rows.entry.rows) }
+    /// What the rows of this store say, in one pass over them. Takes memory for the walk over them,
+    /// each station, object, item, message and answer. The room has to last as long as the summary.
+    pub fn of(
+        alloc: A,
+        store: &'t BookStore<A>,
+        room: &'t mut WalkRoom<A>,
+    ) -> Result<Summary<'t, A>, Memory>
+        ensures { IfOk result (λ summary. summary ≡ store.now) }
     {
+        let rows = store.rows(room)?;
         let most = rows.most_rows();
         let SummaryBuilder {
             notes,
@@ -57,6 +79,7 @@ impl<'t, A: Allocator + Copy> Summary<'t, A> {
         let indexes = notes.into_indexes()?;
         let tallies = tallies.into_map()?;
         Ok(Summary {
+            store,
             indexes,
             tallies,
             exchange,
@@ -64,28 +87,28 @@ impl<'t, A: Allocator + Copy> Summary<'t, A> {
         })
     }
 
-    /// The stations that were heard, ascending by callsign.
-    pub fn stations(&self) -> Result<Vec<Station<'_>, A>, Memory>
-        ensures { (gap : ℕ) (rows : List Row) → IsSummaryOf rows self.now
-            → IfOk result (λ stations. ReportsStations gap rows stations.items) }
+    /// The stations that were heard, ascending by callsign. Takes no memory, nor does the walk.
+    pub fn stations(&self) -> StationWalk<'_, 't, A>
+        ensures { ReportsStations (millis_of self.now.gap) self.now.rows result }
     {
-        stations_of(self.alloc, &self.tallies, &self.indexes)
+        StationWalk::of(&self.tallies, &self.indexes)
     }
 
     /// The last report of each object, ascending by name, and then of each item, ascending by
-    /// name. Killed ones are among them.
-    pub fn objects(&self) -> Result<Vec<Named<'_>, A>, Memory>
-        ensures { (gap : ℕ) (rows : List Row) → IsSummaryOf rows self.now
-            → IfOk result (λ named. ReportsNamed gap rows named.items) }
+    /// name. Killed ones are among them. Takes no memory, nor does the walk.
+    pub fn objects(&self) -> NamedWalk<'_, 't, A>
+        // Whichever list shows these things and receptions is that of the objects and items.
+        ensures { (xs : List Named) → map shown_report xs ≡ result
+            → ReportsNamed (millis_of self.now.gap) self.now.rows xs }
     {
-        objects_of(self.alloc, &self.indexes)
+        NamedWalk::of(&self.indexes)
     }
 
     /// The messages that were heard, ascending by source, addressee, text and id; one without an id
     /// comes before those with one.
     pub fn messages(&self) -> Result<Vec<MessageRow<'_>, A>, Memory>
-        ensures { (gap : ℕ) (rows : List Row) → IsSummaryOf rows self.now
-            → IfOk result (λ messages. ReportsMessages gap rows messages.items) }
+        ensures { IfOk result (λ messages.
+            ReportsMessages (millis_of self.now.gap) self.now.rows messages.items) }
     {
         messages_of(self.alloc, &self.exchange)
     }

@@ -20,7 +20,7 @@ use std::alloc::{Allocator, Global};
 /// What some rows report, how many each station has, and the messages and answers among them.
 #[derive(Drop)]
 pub(crate) struct SummaryBuilder<'t, A: Allocator = Global> {
-    pub notes: Notes<'t, A>,
+    pub notes: Notes<'t, ReceptionView<'t>, A>,
     pub tallies: Counting<A>,
     pub exchange: Exchange<'t, A>,
 }

@@ -15,6 +15,7 @@ use crate::growth::reserve;
 use crate::store::book_rows::BookRows;
 use crate::store::merger::Merger;
 use crate::store::packed::PackedRows;
+use crate::store::walk_room::WalkRoom;
 use aprs_laws::Gap;
 use aprs_log::Reception;
 use std::alloc::{Allocator, Global};
@@ -107,17 +108,17 @@ impl<A: Allocator + Copy> BookStore<A> {
         Ok(())
     }
 
-    /// The rows of the book, which come one after another. Takes all memory that the walk needs,
-    /// that for the names of receivers in `room`, which is written over; none where the book has no
-    /// rows.
-    pub fn rows<'s>(&'s mut self, room: &'s mut Vec<u8, A>) -> Result<BookRows<'s, A>, Memory>
-        ensures book { IfOk result (λ rows. rows ≡ self.old) }
-        ensures some { OnErr result (self.old.rows ≢ []) }
+    /// The rows of the book, which come one after another. Takes all memory that the walk needs;
+    /// what is in the room is written over. Where the book has no rows, takes none.
+    pub fn rows<'s>(&'s self, room: &'s mut WalkRoom<A>) -> Result<BookRows<'s, A>, Memory>
+        ensures book { IfOk result (λ rows. rows ≡ self.now) }
+        ensures some { OnErr result (self.now.rows ≢ []) }
     {
-        close(&mut self.sorted, &mut self.chunk)?;
-        let (merger, size) = merged(self.alloc, self.sorted.as_slice())?;
-        room.resize(size, 0)?;
-        BookRows::new(self.alloc, self.gap, merger, room.as_mut_slice())
+        let WalkRoom { sorted, names } = room;
+        *sorted = self.chunk.in_order()?;
+        let (merger, size) = merged(self.alloc, self.sorted.as_slice(), sorted)?;
+        names.resize(size, 0)?;
+        BookRows::new(self.alloc, self.gap, merger, names.as_mut_slice())
     }
 
     /// Sorts the chunk where it is full. The book stays as it is, also after `Memory`.
@@ -131,7 +132,7 @@ impl<A: Allocator + Copy> BookStore<A> {
     }
 }
 
-/// Sorts the chunk, if it has rows, and puts it to the lists that are sorted. Then it has no rows.
+/// Sorts the chunk and puts it to the lists that are sorted. Then it has no rows.
 fn close<A: Allocator + Copy>(
     sorted: &mut Vec<PackedRows<A>, A>,
     chunk: &mut PackedRows<A>,
@@ -141,11 +142,7 @@ fn close<A: Allocator + Copy>(
     ensures ordered { AllByRecursion AreInOrder sorted.old.items
         → AllByRecursion AreInOrder sorted.new.items }
     ensures closed { OnOk result (chunk.new ≡ []) }
-    ensures some { OnErr result (chunk.old ≢ []) }
 {
-    if chunk.is_empty() {
-        return Ok(());
-    }
     reserve(sorted, 1)?;
     let rows = chunk.in_order()?;
     sorted.push_reserved(rows);
@@ -153,22 +150,26 @@ fn close<A: Allocator + Copy>(
     Ok(())
 }
 
-/// The rows of all lists, and how many bytes the names of all receivers have, with a comma after
-/// each, or `usize::MAX` where they have more. The lists have to be in order.
+/// The rows of the chunk and of all lists, and how many bytes the names of all receivers have, with
+/// a comma after each, or `usize::MAX` where they have more. The chunk and the lists have to be in
+/// order. Takes no memory where there are no rows.
 fn merged<'a, A: Allocator + Copy>(
     alloc: A,
     sorted: &'a [PackedRows<A>],
+    chunk: &'a PackedRows<A>,
 ) -> Result<(Merger<'a, A>, usize), Memory>
-    requires { AllByRecursion AreInOrder sorted.now }
-    ensures members { IfOk result (λ m. SameMembers (flat_map (λ rows. rows) sorted.now) m.0) }
+    requires lists { AllByRecursion AreInOrder sorted.now }
+    requires chunk { AreInOrder chunk.now }
+    ensures members { IfOk result (λ m. SameMembers (all_rows sorted.now chunk.now) m.0) }
     ensures room { IfOk result (λ m. m.1 ≡ min (room_of m.0) (2 ^ 64 - 1)) }
-    ensures some { OnErr result (flat_map (λ rows. rows) sorted.now ≢ []) }
+    ensures some { OnErr result (all_rows sorted.now chunk.now ≢ []) }
 {
     let mut merger = Merger::new(alloc);
-    let mut room: usize = 0;
+    merger.add(chunk.rows())?;
+    let mut room = chunk.room();
     for packed in sorted {
-        room = room.saturating_add(packed.room());
         merger.add(packed.rows())?;
+        room = room.saturating_add(packed.room());
     }
     Ok((merger, room))
 }

@@ -1,5 +1,5 @@
 //! Rows packed in bytes.
-ghost use Rattle.std.specs.Prelude.{◌≡◌, ◌↔◌, ◌<◌, ◌≤◌, ◌+◌, [], ◌∷◌, ◌++◌, None, Some, length, vec_len, vec_capacity, IfOk, IfSome, IfNone, IsTrue, OnOk, OnErr};
+ghost use Rattle.std.specs.Prelude.{◌≡◌, ◌≢◌, ◌↔◌, ◌<◌, ◌≤◌, ◌+◌, [], ◌∷◌, ◌++◌, None, Some, length, vec_len, vec_capacity, IfOk, IfSome, IfNone, IsTrue, OnOk, OnErr};
 ghost use Rattle.std.specs.Iterator.{YieldsFirst, item_count};
 ghost use Rattle.std.specs.List.{join_with_byte, last_or, AllByRecursion};
 ghost use Rattle.aprs_laws.specs.Coalescing.{AreInOrder};
@@ -144,7 +144,11 @@ impl<A: Allocator + Copy> PackedRows<A> {
     pub(crate) fn in_order(&self) -> Result<PackedRows<A>, Memory>
         ensures same { IfOk result (SameMembers self.now) }
         ensures ordered { IfOk result AreInOrder }
+        ensures some { OnErr result (self.now ≢ []) }
     {
+        if self.is_empty() {
+            return Ok(PackedRows::new(self.alloc));
+        }
         let mut rows = Vec::with_capacity(self.alloc, self.marks.len())?;
         for row in self.rows() {
             if rows.push(row).is_err() {

@@ -1,14 +1,14 @@
-use Rattle.aprs_book.proofs.Common.{◌∙◌, None, Some}
+use Rattle.aprs_book.proofs.Common.{◌∙◌, None, Some, ap, option_map}
 use Rattle.aprs_book.proofs.KnownSteps.{known_got}
 use Rattle.aprs_book.proofs.known.index.Index.get.Goals as goal
 
 pub returns-in-Some : goal.returns-in-Some
 returns-in-Some g c =
-    c.as_ref.ensures.value
-    ∙ known_got (λ k. k.items) c.args.bytes.now c.self.inside.map.entries _ c.self.view_is
+    ap (option_map g.X.Kept.received) c.as_ref.ensures.value
+    ∙ known_got (λ k. k.items) g.X.Kept.received c.args.bytes.now c.self.inside.map.entries _ c.self.view_is
     (Some c.in-Some.known.now) c.in-Some.ensures.value
 
 pub returns-in-None : goal.returns-in-None
 returns-in-None g c =
-    known_got (λ k. k.items) c.args.bytes.now c.self.inside.map.entries _ c.self.view_is
+    known_got (λ k. k.items) g.X.Kept.received c.args.bytes.now c.self.inside.map.entries _ c.self.view_is
     None c.in-None.ensures.value

@@ -6,4 +6,4 @@ use Rattle.aprs_book.proofs.known.index.Index.iter.Goals as goal
 pub returns-clause-ascending : goal.returns-clause-ascending
 returns-clause-ascending g c =
     subst (Ordered IsEntryBefore) c.self.view_is
-    (plain_ascend (λ k. k.items) c.self.inside.map.entries c.iter.ensures.ordered)
+    (plain_ascend (λ k. k.items) g.X.Kept.received c.self.inside.map.entries c.iter.ensures.ordered)

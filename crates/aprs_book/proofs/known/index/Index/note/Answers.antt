@@ -7,14 +7,14 @@ use Rattle.aprs_book.proofs.known.index.Index.note.Goals.{in-Some, in_default}
 pub returns : goal.returns
 returns g c = λ q. elim c.match-get_mut.branch [
   | in-Some w ↦
-      ap (λ m. known_at q (plain_entries (λ k. k.items) m.map.entries)) w.self-inside-is
-      ∙ noted_at (λ k. k.items) c.args.bytes.now c.self.inside.map.entries _ c.self.view_is
+      ap (λ m. known_at q (plain_entries (λ k. k.items) g.X.Kept.received m.map.entries)) w.self-inside-is
+      ∙ noted_at (λ k. k.items) g.X.Kept.received c.args.bytes.now c.self.inside.map.entries _ c.self.view_is
       (c.get_mut.follows.lender w.keep.new.known).entries w.in-Some.known.now w.keep.new.known
       c.args.x.now q w.in-Some.ensures.value (c.get_mut.follows.holds w.keep.new.known).0
       w.keep.ensures
   | in_default w ↦
       let no : false ≡ true =
-      is_none_there (λ k. k.items) c.args.bytes.now c.self.inside.map.entries _ c.self.view_is
+      is_none_there (λ k. k.items) g.X.Kept.received c.args.bytes.now c.self.inside.map.entries _ c.self.view_is
       w.in_default.ensures.value c.requires in
       absurd (cc)
 ]

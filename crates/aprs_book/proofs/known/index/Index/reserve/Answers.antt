@@ -4,30 +4,30 @@ use Rattle.aprs_book.proofs.known.index.Index.reserve.Goals as goal
 
 pub returns-then-contains_key-clause-made : goal.returns-then-contains_key-clause-made
 returns-then-contains_key-clause-made g c =
-    is_there (λ k. k.items) c.args.bytes.now c.self.inside.map.entries _ c.self.view_is
+    is_there (λ k. k.items) g.X.Kept.received c.args.bytes.now c.self.inside.map.entries _ c.self.view_is
     c.if-contains_key.ensures
 
 pub returns-in_default-clause-there : goal.returns-in_default-clause-there
 returns-in_default-clause-there g c = λ h.
     let no : false ≡ true =
-    not_there (λ k. k.items) c.args.bytes.now c.self.inside.map.entries _ c.self.view_is
+    not_there (λ k. k.items) g.X.Kept.received c.args.bytes.now c.self.inside.map.entries _ c.self.view_is
     c.if-contains_key.ensures h in
     absurd (cc)
 
 pub returns-then-is_err-clause-there : goal.returns-then-is_err-clause-there
 returns-then-is_err-clause-there g c = λ h.
-    not_there (λ k. k.items) c.args.bytes.now c.self.inside.map.entries _ c.self.view_is
+    not_there (λ k. k.items) g.X.Kept.received c.args.bytes.now c.self.inside.map.entries _ c.self.view_is
     c.if-contains_key.ensures h
 
 pub returns-clause-same : goal.returns-clause-same
 returns-clause-same g c =
-    placed_same (λ k. k.items) c.args.bytes.now c.self.inside.map.entries _ c.self.view_is
+    placed_same (λ k. k.items) g.X.Kept.received c.args.bytes.now c.self.inside.map.entries _ c.self.view_is
     c.insert.new.self.entries c.in-Ok.key c.in-Ok.ensures.items
     (on_not_err c.insert.result _ c.insert.ensures.entries c.if-is_err.ensures.value)
     c.if-contains_key.ensures
 
 pub returns-clause-made : goal.returns-clause-made
 returns-clause-made g c =
-    placed_made (λ k. k.items) c.args.bytes.now c.self.inside.map.entries _ c.self.view_is
+    placed_made (λ k. k.items) g.X.Kept.received c.args.bytes.now c.self.inside.map.entries _ c.self.view_is
     c.insert.new.self.entries c.in-Ok.key c.in-Ok.ensures.items
     (on_not_err c.insert.result _ c.insert.ensures.entries c.if-is_err.ensures.value)

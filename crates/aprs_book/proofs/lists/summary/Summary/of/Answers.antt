@@ -1,13 +1,13 @@
-use Rattle.aprs_book.proofs.Common.{sym, subst}
+use Rattle.aprs_book.proofs.Common.{sym, subst, BookValue}
 use Rattle.aprs_book.specs.StationRows.{AreTallies}
+use Rattle.aprs_book.specs.SummaryBuilder.{IsBuilderOf}
 use Rattle.aprs_book.proofs.lists.summary.Summary.of.Goals as goal
 
-pub returns : goal.returns
-returns g c =
-    let builder = c.in_ok-notes.ensures in
-    record {
-      indexes = c.in_ok-indexes.ensures c.args.rows.rows builder.notes;
-      tallies =
-          subst (AreTallies c.args.rows.rows) (sym c.in_ok-tallies.ensures) builder.tallies;
-      exchange = builder.exchange;
-    }
+pub invariant_of-result : goal.invariant_of-result
+invariant_of-result g c =
+    let builder = subst (λ (b : BookValue). IsBuilderOf b.rows c.in_ok-notes.field-0)
+    c.in_ok-rows.ensures.book c.in_ok-notes.ensures in (
+      c.in_ok-indexes.ensures c.args.store.now.rows builder.notes,
+      subst (AreTallies c.args.store.now.rows) (sym c.in_ok-tallies.ensures) builder.tallies,
+      builder.exchange,
+    )
