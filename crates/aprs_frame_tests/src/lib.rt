@@ -1,5 +1,4 @@
-//! Worked examples of the crates below a book: devices, streams, frames, reports and
-//! Mic-E. Each is a test.
+//! Tests of devices, streams, frames, reports and Mic-E.
 #![tactic(auto)]
 
 #[cfg(test)]

@@ -1,9 +1,9 @@
 //! With memory there no call refuses it: books of a hundred rows, and nine inputs.
 
 use crate::pushed_rows::parts;
-use crate::vectors::{DIRECT, NOON, heard};
 use aprs_book::{Book, Gap, Join, all_fit, join_all};
-use aprs_booktext::{read_book, write_book};
+use aprs_booktext::read_book;
+use aprs_fixtures::{DIRECT, NOON, heard, text_of};
 use aprs_kiss::Counted;
 use aprs_log::{MAX_INPUT, write_line};
 use aprs_tool::{merge_run, read_input, show_run};
@@ -33,13 +33,6 @@ fn hundred_lines<A: Allocator + Copy>(
         write_line(&mut log, &x).ok().ok_or("memory")?;
     }
     Ok(log.into_inner())
-}
-
-/// The text of a book.
-pub fn text_of<A: Allocator + Copy>(alloc: A, book: &Book<A>) -> Result<Vec<u8, A>, Fail> {
-    let mut out = Counted::new(Vec::new(alloc));
-    write_book(&mut out, book).ok().ok_or("memory")?;
-    Ok(out.into_inner())
 }
 
 /// The number of rows of a hundred minutes by RX1 together with as many by RX2 from this second on.

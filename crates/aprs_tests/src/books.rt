@@ -1,9 +1,8 @@
 //! Books that take receptions, merge and replay.
 
 use crate::ample_memory::joined_all;
-use crate::shown::is_shown;
-use crate::vectors::{ANSWERED, DIRECT, REPEATED, heard, receiver};
 use aprs_book::{Book, Gap, Greatest, Join, Receivers, Step, join_all, replay, steps_fit};
+use aprs_fixtures::{ANSWERED, DIRECT, REPEATED, heard, is_shown, receiver};
 use std::alloc::{Allocator, Global};
 use std::test::Fail;
 

@@ -1,11 +1,10 @@
 //! The book beside a plain one, which keeps its rows in one vector: after each step both have the
 //! same rows, and the same is last known to both.
 
-use crate::last_known::{callsign, frame_of};
 use crate::plain_book::{Plain, PlainBook, PlainRow};
-use crate::vectors::{REPEATED, receiver};
 use aprs_ax25::Frame;
 use aprs_book::{Book, Gap, Heard, Row};
+use aprs_fixtures::{REPEATED, callsign, frame_of, receiver};
 use aprs_log::{Moment, Receiver, Reception};
 use aprs_rows::BookStore;
 use std::alloc::{Allocator, Global};

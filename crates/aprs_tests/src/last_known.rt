@@ -1,9 +1,8 @@
 //! What is last known of stations, objects and items.
 
-use crate::vectors::{NOON, receiver};
-use aprs_ax25::{Callsign, Frame};
 use aprs_book::{Book, Heard, Station};
-use aprs_log::{Moment, Reception};
+use aprs_fixtures::{callsign, sent};
+use aprs_log::Reception;
 use aprs_report::{Place, Report, Stamp, Symbol};
 use std::alloc::{Allocator, Global};
 use std::test::Fail;
@@ -24,26 +23,6 @@ const CAR: Symbol = Symbol {
     table: b'/',
     code: b'>',
 };
-
-pub fn callsign(text: &[u8]) -> Result<Callsign, Fail> {
-    Ok(Callsign::parse(text).ok().ok_or("callsign")?)
-}
-
-/// A frame to APRS.
-pub fn frame_of(source: &[u8], info: &[u8]) -> Result<Frame, Fail> {
-    let destination = callsign(b"APRS")?;
-    let frame = Frame::make(&destination, &callsign(source)?, &[], info);
-    Ok(frame.ok().ok_or("frame")?)
-}
-
-/// What RX1 hears of a station at a second of the hour.
-pub fn sent(second: u64, source: &[u8], info: &[u8]) -> Result<Reception, Fail> {
-    Ok(Reception::new(
-        Moment::new(NOON.saturating_add(second)).ok_or("moment")?,
-        receiver(b"RX1")?,
-        frame_of(source, info)?,
-    ))
-}
 
 fn book_of<A: Allocator + Copy>(alloc: A, receptions: &[&Reception]) -> Result<Book<A>, Fail> {
     let mut book = Book::new(alloc);

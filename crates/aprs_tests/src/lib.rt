@@ -1,4 +1,4 @@
-//! Worked examples of the libraries as they are used together. Each is a test.
+//! Tests of lines, books and stores.
 #![tactic(auto)]
 
 #[cfg(test)]
@@ -12,14 +12,6 @@ mod books;
 #[cfg(test)]
 mod compared_books;
 #[cfg(test)]
-mod devices;
-#[cfg(test)]
-mod ends;
-#[cfg(test)]
-mod failing_inputs;
-#[cfg(test)]
-mod gaps;
-#[cfg(test)]
 mod given_back;
 #[cfg(test)]
 mod last_known;
@@ -30,19 +22,9 @@ mod lines;
 #[cfg(test)]
 mod listed;
 #[cfg(test)]
-mod listings;
-#[cfg(test)]
 mod logs;
 #[cfg(test)]
-mod merges;
-#[cfg(test)]
-mod millis;
-#[cfg(test)]
-mod mixed_inputs;
-#[cfg(test)]
 mod no_requests;
-#[cfg(test)]
-mod pieces;
 #[cfg(test)]
 mod plain_book;
 #[cfg(test)]
@@ -54,18 +36,4 @@ mod refused_calls;
 #[cfg(test)]
 mod refused_memory;
 #[cfg(test)]
-mod refused_runs;
-#[cfg(test)]
-mod retried;
-#[cfg(test)]
-mod runs;
-#[cfg(test)]
-mod show_runs;
-#[cfg(test)]
-mod shown;
-#[cfg(test)]
 mod stored_rows;
-#[cfg(test)]
-mod vectors;
-#[cfg(test)]
-mod words;

@@ -1,10 +1,10 @@
 //! Examples of a few calls each, most of which docs/library.md shows as they stand here:
 //! `tests/library.sh` compares these.
 
-use crate::vectors::{DIRECT, DIRECT_LINE, DIRECT_TEXT, NOON, ONE_LINE, receiver};
 use aprs_ax25::{Callsign, Frame, Hop};
 use aprs_book::{Book, Gap};
 use aprs_booktext::{BookFault, read_book, write_book};
+use aprs_fixtures::{DIRECT, DIRECT_LINE, DIRECT_TEXT, NOON, ONE_LINE, receiver};
 use aprs_kiss::{Counted, Fed, KissReader, WriteFault, write_kiss};
 use aprs_log::{Line, MAX_INPUT, Moment, Receiver, Reception, read_line};
 use aprs_mice::MicE;

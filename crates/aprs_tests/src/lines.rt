@@ -1,6 +1,6 @@
 //! Moments, and the lines of a log.
 
-use crate::vectors::{DIRECT, DIRECT_LINE, LOG};
+use aprs_fixtures::{DIRECT, DIRECT_LINE, LOG};
 use aprs_kiss::Counted;
 use aprs_log::{
     Line, LineFault, LogCause, Moment, Reason, Receiver, Reception, read_line, write_line,

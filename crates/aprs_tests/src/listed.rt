@@ -1,7 +1,7 @@
 //! Objects and messages of a larger book, as values.
 
-use crate::last_known::sent;
 use aprs_book::{Book, Gap, MessageRow, MessageState, Named, Summary};
+use aprs_fixtures::sent;
 use aprs_log::Reception;
 use aprs_rows::BookStore;
 use std::alloc::{Allocator, Global};

@@ -1,7 +1,6 @@
 //! Logs to their end or their first fault.
 
-use crate::devices::Failing;
-use crate::vectors::LOG;
+use aprs_fixtures::{Failing, LOG};
 use aprs_kiss::Counted;
 use aprs_log::{Line, LogCause, LogFault, LogReader, MAX_INPUT};
 use std::io::Read;

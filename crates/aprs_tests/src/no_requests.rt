@@ -1,10 +1,9 @@
 //! Calls that take no memory ask for none. A full arena grows at a request and stays as large, so
 //! that a request shows even where what it got is given back at once.
 
-use crate::last_known::callsign;
-use crate::refused_calls::{SENT, book_of_sent, squeeze, store_of_sent};
-use crate::vectors::{DIRECT, NOON, heard, receiver};
+use crate::refused_calls::{SENT, book_of_sent, store_of_sent};
 use aprs_book::{Book, Gap, Join, MergeFault, Receivers, RowCause, WidenFault, all_fit};
+use aprs_fixtures::{DIRECT, NOON, callsign, heard, receiver, squeeze};
 use aprs_rows::{BookRows, BookStore, PackedRows};
 use bumpalo::Bump;
 use std::alloc::{Allocator, Global};

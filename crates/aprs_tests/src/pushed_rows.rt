@@ -1,9 +1,8 @@
 //! Rows that are pushed after the last, and rows that are refused.
 
-use crate::shown::is_shown;
-use crate::vectors::{DIRECT, NOON, heard, receiver};
 use aprs_ax25::Frame;
 use aprs_book::{Book, Gap, RowCause, RowParts, RowsFault, from_rows};
+use aprs_fixtures::{DIRECT, NOON, heard, is_shown, receiver};
 use aprs_log::{Moment, Receiver};
 use std::alloc::{Allocator, Global};
 use std::test::Fail;

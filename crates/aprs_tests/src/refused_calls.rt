@@ -1,9 +1,7 @@
 //! Memory that is refused in the midst of each call that joins books or lists what is in them.
 
-use crate::last_known::sent;
-use crate::shown::is_shown;
-use crate::vectors::receiver;
 use aprs_book::{Book, Gap, Join, Receivers, Step, all_fit, join_all, replay};
+use aprs_fixtures::{is_shown, receiver, sent, squeeze};
 use aprs_rows::BookStore;
 use bumpalo::Bump;
 use std::alloc::{Allocator, Global};
@@ -134,15 +132,6 @@ fn replayed<A: Allocator + Copy>(alloc: A, steps: &[Step]) -> Option<usize> {
     }
     let books = replay(alloc, Gap::STANDARD, 2, steps).ok()?;
     Some(books.first()?.len())
-}
-
-/// Takes all room but for so many units of 128 bytes, and refuses any growth beyond.
-pub fn squeeze(bump: &Bump, units: usize) -> Result<Vec<u8, &Bump>, Fail> {
-    bump.set_allocation_limit(Some(0));
-    let mut fill = Vec::new(bump);
-    let room = units.saturating_mul(128);
-    fill.reserve(bump.chunk_capacity().saturating_sub(room))?;
-    Ok(fill)
 }
 
 /// Whether the call was refused with so many units of room. Then the books are as before, and with

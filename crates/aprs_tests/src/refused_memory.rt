@@ -1,10 +1,9 @@
 //! Memory that is refused in the midst of a call.
 
 use crate::pushed_rows::parts;
-use crate::shown::{is_shown, is_written_as, shown};
-use crate::vectors::{DIRECT, MERGED_TEXT, NOON, heard};
 use aprs_book::{Book, Gap, RowCause, RowParts, RowsFault, from_rows};
 use aprs_booktext::{BookCause, BookFault, read_book, read_rows};
+use aprs_fixtures::{DIRECT, MERGED_TEXT, NOON, heard, is_shown, is_written_as, shown};
 use aprs_kiss::Counted;
 use aprs_log::{MAX_INPUT, Reception};
 use aprs_rows::PackedRows;

@@ -1,12 +1,10 @@
 //! Rows in a store, with ample memory and with each growth refused.
 
 use crate::ample_memory::hundred;
-use crate::last_known::sent;
-use crate::refused_calls::{ROWS, SENT, squeeze};
-use crate::shown::is_shown;
-use crate::vectors::{DIRECT, NOON, heard};
+use crate::refused_calls::{ROWS, SENT};
 use aprs_ax25::Frame;
 use aprs_book::{Book, Gap, Memory, RowCause, Summary};
+use aprs_fixtures::{DIRECT, NOON, heard, is_shown, sent, squeeze};
 use aprs_rows::{BookStore, PackedRows, RowView};
 use bumpalo::Bump;
 use std::alloc::{Allocator, Global};

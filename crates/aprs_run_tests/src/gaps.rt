@@ -1,11 +1,8 @@
 //! Books of other gaps than 30 seconds.
 
-use crate::refused_calls::squeeze;
-use crate::refused_runs::arena;
-use crate::shown::is_shown;
-use crate::vectors::{DIRECT, REPEATED, heard};
 use aprs_book::{Book, Gap, MergeFault, WidenFault};
 use aprs_booktext::BookCause;
+use aprs_fixtures::{DIRECT, REPEATED, arena, heard, is_shown, squeeze};
 use aprs_kiss::Counted;
 use aprs_log::MAX_INPUT;
 use aprs_tool::{Desk, InputFault, RunFault, merge_run, status_of, widen_run};

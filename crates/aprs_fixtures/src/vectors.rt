@@ -1,11 +1,4 @@
-//! Frames, lines of logs and texts of books that the examples share.
-
-use aprs_ax25::Frame;
-use aprs_log::{Moment, Receiver, Reception};
-use std::test::Fail;
-
-/// An hour's first second.
-pub const NOON: u64 = 1_714_564_800;
+//! Frames, lines of logs and texts of books.
 
 /// N0CALL-7>APRS:>Hi
 pub const DIRECT: [u8; 19] = [
@@ -95,20 +88,6 @@ T 1970-01-01T00:00:00Z 1970-01-01T00:00:30Z RX1,RX2 RX2 \
 T 2099-12-31T23:59:59Z 2099-12-31T23:59:59Z RX2 RX2 82a0a4a64040e09c60868298986f03f03e4869
 END 2
 ";
-
-/// A name.
-pub fn receiver(name: &[u8]) -> Result<Receiver, Fail> {
-    Ok(Receiver::parse(name).ok_or("receiver")?)
-}
-
-/// What a receiver heard at a second of the hour.
-pub fn heard(second: u64, name: &[u8], frame: &[u8]) -> Result<Reception, Fail> {
-    Ok(Reception::new(
-        Moment::new(NOON.saturating_add(second)).ok_or("moment")?,
-        receiver(name)?,
-        Frame::read(frame).ok().ok_or("frame")?,
-    ))
-}
 
 /// The line in which a text ends after so many bytes.
 pub fn line_after(text: &[u8], good: usize) -> u64 {

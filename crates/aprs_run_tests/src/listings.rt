@@ -1,8 +1,7 @@
 //! Listings, word for word.
 
-use crate::last_known::frame_of;
-use crate::vectors::receiver;
 use aprs_book::Gap;
+use aprs_fixtures::{frame_of, receiver};
 use aprs_kiss::Counted;
 use aprs_log::{MAX_INPUT, Moment, Reception, write_line};
 use aprs_tool::show_run;

@@ -1,9 +1,8 @@
 //! Logs and book files in one merge, in each order.
 
-use crate::ample_memory::text_of;
 use crate::merges::is_merged_to;
-use crate::vectors::{DIRECT, EMPTY_TEXT, MERGED_TEXT, heard};
 use aprs_book::Book;
+use aprs_fixtures::{DIRECT, EMPTY_TEXT, MERGED_TEXT, heard, text_of};
 use std::alloc::Global;
 use std::test::Fail;
 

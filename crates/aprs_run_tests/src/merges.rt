@@ -1,9 +1,9 @@
 //! Merges, and the inputs of one.
 ghost use Rattle.std.specs.Prelude.{◌≤◌};
 
-use crate::vectors::{DIRECT_TEXT, EMPTY_TEXT, FIRST_LINE, MERGED_TEXT, ONE_LINE};
 use aprs_book::Gap;
 use aprs_booktext::{BookCause, BookFault, write_book};
+use aprs_fixtures::{DIRECT_TEXT, EMPTY_TEXT, FIRST_LINE, MERGED_TEXT, ONE_LINE};
 use aprs_kiss::Counted;
 use aprs_log::{LogCause, LogFault, MAX_INPUT};
 use aprs_tool::{Desk, InputFault, RunFault, merge_run, read_input, show_run, status_of};

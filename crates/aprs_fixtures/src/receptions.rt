@@ -1,0 +1,43 @@
+//! What receivers hear.
+
+use aprs_ax25::{Callsign, Frame};
+use aprs_log::{Moment, Receiver, Reception};
+use std::test::Fail;
+
+/// An hour's first second.
+pub const NOON: u64 = 1_714_564_800;
+
+/// A name.
+pub fn receiver(name: &[u8]) -> Result<Receiver, Fail> {
+    Ok(Receiver::parse(name).ok_or("receiver")?)
+}
+
+/// What a receiver heard at a second of the hour.
+pub fn heard(second: u64, name: &[u8], frame: &[u8]) -> Result<Reception, Fail> {
+    Ok(Reception::new(
+        Moment::new(NOON.saturating_add(second)).ok_or("moment")?,
+        receiver(name)?,
+        Frame::read(frame).ok().ok_or("frame")?,
+    ))
+}
+
+/// A callsign.
+pub fn callsign(text: &[u8]) -> Result<Callsign, Fail> {
+    Ok(Callsign::parse(text).ok().ok_or("callsign")?)
+}
+
+/// A frame to APRS.
+pub fn frame_of(source: &[u8], info: &[u8]) -> Result<Frame, Fail> {
+    let destination = callsign(b"APRS")?;
+    let frame = Frame::make(&destination, &callsign(source)?, &[], info);
+    Ok(frame.ok().ok_or("frame")?)
+}
+
+/// What RX1 hears of a station at a second of the hour.
+pub fn sent(second: u64, source: &[u8], info: &[u8]) -> Result<Reception, Fail> {
+    Ok(Reception::new(
+        Moment::new(NOON.saturating_add(second)).ok_or("moment")?,
+        receiver(b"RX1")?,
+        frame_of(source, info)?,
+    ))
+}
