@@ -10,17 +10,14 @@ ghost use Rattle.aprs_laws.specs.Sound.{AreSoundRows, IsSoundRow};
 use crate::rows::kept_row::KeptRow;
 use crate::rows::walk::Walk;
 use crate::{Book, Memory};
-use aprs_rows::{BookStore, PackedRows, RowView, put_names};
+use aprs_rows::{BookStore, PackedRows, RowView, WalkRoom, put_names};
 use std::alloc::Allocator;
 
 /// The book in a store. Takes memory beside the book for the walk over its rows, and gives it back.
-pub(crate) fn book_of<A: Allocator + Copy>(
-    alloc: A,
-    mut store: BookStore<A>,
-) -> Result<Book<A>, Memory>
+pub(crate) fn book_of<A: Allocator + Copy>(alloc: A, store: BookStore<A>) -> Result<Book<A>, Memory>
     ensures { IfOk result (λ book. book ≡ store) }
 {
-    let mut room = Vec::new(alloc);
+    let mut room = WalkRoom::new(alloc);
     let rows = store.rows(&mut room)?;
     Book::of_rows(alloc, rows)
 }
