@@ -32,6 +32,13 @@ same_after r xs ys e z = (
   λ h. elim h [ inl i ↦ inl i | inr k ↦ inr ((e z).1 k) ],
 )
 
+-- a sound row has its names each once and ascending
+as_it_lies : (x : Row) (names : List (List ℕ)) (first : ℕ) → IsSoundRow x → names ≡ x.receivers
+    → first ≡ x.first → x ≡ with_names first x (union bytes_cmp names [])
+as_it_lies x names first own e f =
+    let united = ap (λ ns. union bytes_cmp ns []) e ∙ united_alone x.receivers own.ascending in
+    λ i. with_names (sym f i) x (sym united i)
+
 -- the first row is the open one
 pub starts : (gap : ℕ) → 0 < gap → (old : List Row) (x : Row) (rest : List Row)
     (names : List (List ℕ)) (first : ℕ) (book : List Row)
@@ -39,9 +46,7 @@ pub starts : (gap : ℕ) → 0 < gap → (old : List Row) (x : Row) (rest : List
     → book_together gap old ≡ book → IsOpen gap first x names rest book
 starts gap pos old x rest names first book s t e f b =
     let own = s x ((t.members x).1 (inl refl)) in
-    let united = ap (λ ns. union bytes_cmp ns []) e ∙ united_alone x.receivers own.ascending in
-    let same : x ≡ with_names first x (union bytes_cmp names []) =
-    λ i. with_names (sym f i) x (sym united i) in
+    let same = as_it_lies x names first own e f in
     record {
       each = subst (λ r. AreSoundRows (r ∷ rest)) same (λ y h. s y ((t.members y).1 h));
       least = subst (λ r. (y : Row) → y ∈ rest → IsUpTo row_cmp r y) same t.least;
@@ -114,3 +119,14 @@ module _ (gap : ℕ) (pos : 0 < gap) (first : ℕ) (latest : Row) (names : List 
       (o.least x ((t.members x).1 (inl refl))) t.least (sym (far (union bytes_cmp names [])))
       ∙ ap (λ rs. row ∷ rs) (sym (order_is_free gap pos rows (x ∷ rest)
       (λ y h. o.each y (inr h)) t.members))
+
+-- where none is near to it, the first row is that of the book
+pub stands : (gap : ℕ) → 0 < gap → (old : List Row) (x : Row) (rest : List Row) (first : ℕ)
+    (book : List Row)
+    → AreSoundRows old → IsTakenOut old x rest → first ≡ x.first → book_together gap old ≡ book
+    → NoneIsNear gap first x rest → book ≡ x ∷ book_together gap rest
+stands gap pos old x rest first book s t f b far =
+    ends gap pos first x x.receivers rest book
+    (starts gap pos old x rest x.receivers first book s t refl f b) far
+    ∙ ap (λ r. r ∷ book_together gap rest)
+    (sym (as_it_lies x x.receivers first (s x ((t.members x).1 (inl refl))) refl f))

@@ -81,9 +81,14 @@ impl<'a, A: Allocator + Copy> BookRows<'a, A> {
         ensures some { IfSome result (λ x. self.old.rows ≡ x ∷ self.new.rows) }
         ensures none { IfNone result ((self.old.rows ≡ []) × (self.new.rows ≡ [])) }
     {
-        let mut greatest = self.merger.take()?;
-        let mut first = greatest.first();
-        self.names.gather(greatest.receivers());
+        let row = self.merger.take()?;
+        let first = row.first();
+        let Some(near) = self.merger.take_near(self.gap, first, &row) else {
+            return Some(row);
+        };
+        self.names.gather(row.receivers());
+        self.names.gather(near.receivers());
+        let (mut first, mut greatest) = grown(first, row, near);
         while let Some(row) = self.merger.take_near(self.gap, first, &greatest) {
             self.names.gather(row.receivers());
             let (start, greater) = grown(first, greatest, row);
