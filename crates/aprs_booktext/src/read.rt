@@ -16,7 +16,7 @@ use crate::fault::{BookCause, BookFault};
 use crate::reader::{BookReader, memory_fault_at_last};
 use aprs_book::{Book, Gap, Memory};
 use aprs_io::{Counted, read_some};
-use aprs_rows::{BookStore, PackedRows};
+use aprs_rows::{BookStore, PackedRows, WalkRoom};
 use std::alloc::Allocator;
 use std::io::Read;
 
@@ -198,7 +198,7 @@ fn book_in<A: Allocator + Copy>(alloc: A, gap: Gap, rows: PackedRows<A>) -> Resu
 {
     let mut store = BookStore::new(alloc, gap);
     store.add(rows)?;
-    let mut room = Vec::new(alloc);
+    let mut room = WalkRoom::new(alloc);
     let book_rows = store.rows(&mut room)?;
     Book::of_rows(alloc, book_rows)
 }

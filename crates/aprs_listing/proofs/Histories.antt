@@ -1,12 +1,9 @@
 -- Lemmas on the lines of a history.
-use Rattle.aprs_listing.proofs.Common.{◌≡◌, ℕ, List, [], ◌∷◌, ◌++◌, map, Option, Some, None, Result, Ok, Err, refl, sym, ap, ap₂, ◌∙◌, append_assoc, append-nil, flat_map, join_with_byte, option_map, flat_map_more, flat_map-append, Call, call_text, Parts, parts_of, hop_of, shown_text, Puts, Puts-fails, Puts-is, Puts-none, Puts-then, Row, last_moment, moment_text, reading_of, Value, mic_e_view}
+use Rattle.aprs_listing.proofs.Common.{◌≡◌, ℕ, List, [], ◌∷◌, ◌++◌, map, Option, Some, None, refl, sym, ap, ap₂, ◌∙◌, append_assoc, flat_map, join_with_byte, option_map, flat_map-append, Call, call_text, Parts, parts_of, hop_of, shown_text, Row, last_moment, moment_text, reading_of, Value, mic_e_view}
 use Rattle.aprs_mice.specs.Reader.{mic_e_or_none}
-use Rattle.std.specs.Result.{IsErr}
 use denote.Ref.{Bor}
-use Rattle.aprs_io.specs.declared.device.WriteFault.{WriteFault}
-use Rattle.aprs_io.specs.declared.outlet.Outlet.{Outlet}
 use Rattle.aprs_mice.specs.declared.mic_e.MicE.{MicE}
-use Rattle.aprs_listing.specs.History.{history_line, history_text, id_word, told_line, via_text}
+use Rattle.aprs_listing.specs.History.{history_line, id_word, told_line, via_text}
 use Rattle.aprs_listing.specs.Lines.{field_text, spaced_field}
 use Rattle.aprs_listing.specs.Listing.{after_space, id_text, line_with, line_with_text}
 use Rattle.aprs_listing.specs.declared.field.Field.{Field}
@@ -66,42 +63,3 @@ pub mic_e_read : (p : Parts) (to : Call) (info : List ℕ) (r : Option MicE)
 mic_e_read p to info r t i is = is
     ∙ ap (λ (call : Call). mic_e_or_none call.letters info) t
     ∙ ap (mic_e_or_none p.destination.call.letters) i
-
--- The lines of a prefix of the rows were put.
-pub record PutSoFar {W : Type 0} (contents : W → Option (List ℕ)) (first now : Outlet W)
-    (all rest : List Row) : Type 0 where
-  pub prefix : List Row
-  pub whole : all ≡ prefix ++ rest
-  pub puts : Puts {E = WriteFault} contents (Ok tt) first now (history_text prefix)
-
-module _ {W : Type 0} {contents : W → Option (List ℕ)} where
-  pub PutSoFar-none : (o : Outlet W) (all : List Row) → PutSoFar contents o o all all
-  PutSoFar-none o all = record { prefix = []; whole = refl; puts = Puts-none o }
-
-  module _ {o p : Outlet W} {all rest : List Row} (so : PutSoFar contents o p all rest) where
-    module _ (x : Row) (more : List Row) (next : rest ≡ x ∷ more) where
-      cut : all ≡ so.prefix ++ x ∷ more
-      cut = so.whole ∙ ap (λ r. so.prefix ++ r) next
-
-      -- one row more
-      pub PutSoFar-more : {q : Outlet W}
-          → Puts {E = WriteFault} contents (Ok tt) p q (history_line x)
-          → PutSoFar contents o q all more
-      PutSoFar-more {q} put = record {
-        prefix = so.prefix ++ x ∷ [];
-        whole = cut ∙ sym (append_assoc so.prefix (x ∷ []) more);
-        puts = Puts-is (Puts-then so.puts put) (flat_map_more history_line [] so.prefix x);
-      }
-
-      -- a row could not be put
-      pub PutSoFar-broken : {q : Outlet W} {e : WriteFault} (r : Result (Unit {0}) WriteFault)
-          → IsErr r → Puts contents (Err e) p q (history_line x)
-          → Puts contents r o q (history_text all)
-      PutSoFar-broken r is put = Puts-is
-          (Puts-then so.puts (Puts-fails r is put (history_text more)))
-          (sym (ap history_text cut ∙ flat_map-append history_line so.prefix (x ∷ more)))
-
-    -- all rows were put
-    pub PutSoFar-all : rest ≡ [] → Puts {E = WriteFault} contents (Ok tt) o p (history_text all)
-    PutSoFar-all none = Puts-is so.puts (ap history_text
-        (sym (so.whole ∙ ap (λ r. so.prefix ++ r) none ∙ append-nil so.prefix)))

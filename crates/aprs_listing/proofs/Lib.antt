@@ -2,4 +2,5 @@
 mod Lines
 mod Histories
 mod OneLines
+pub mod SoFar
 pub mod Common

@@ -20,6 +20,7 @@ use Rattle.aprs_book.specs.Reports.{report_of}
 use Rattle.aprs_book.specs.declared.lists.message.MessageRow.{MessageRow}
 use Rattle.aprs_book.specs.declared.lists.message.MessageState.{MessageState}
 use Rattle.aprs_book.specs.declared.lists.message.MessageState.TheVariants.{Unnumbered, Unanswered, Acknowledged, Rejected}
+use Rattle.aprs_book.specs.Names.{Thing}
 use Rattle.aprs_book.specs.declared.lists.named.Named.{Named}
 use Rattle.aprs_book.specs.declared.lists.station.Station.{Station}
 use Rattle.aprs_io.specs.Shown.{shown_byte, shown_text}
@@ -134,6 +135,10 @@ station_line x = line_with (codes "station") (call_text x.call ∷ decimal x.tra
 -- The lines of a station: its own, and those of its last known position and status.
 abbrev pub station_lines : Station → List ℕ
 station_lines x = station_line x ++ (known_line x.position ++ known_line x.status)
+
+-- The line of an object or an item, whose last report this is.
+abbrev pub thing_line : Thing × Received → List ℕ
+thing_line x = heard_line x.1
 
 -- The line of an object or an item.
 abbrev pub named_line : Named → List ℕ

@@ -1,61 +1,50 @@
 //! The listing of a book: its stations, objects, items and messages.
-ghost use Rattle.std.specs.Prelude.{◌≡◌, ℕ, List, IfOk};
+ghost use Rattle.std.specs.Prelude.{◌≡◌, List, IfOk, map};
 ghost use Rattle.std.specs.List.{flat_map};
 ghost use Rattle.aprs_io.specs.Device.{Sends};
 ghost use Rattle.aprs_io.specs.Outlet.{Puts};
-ghost use Rattle.aprs_laws.specs.Row.{Row};
-ghost use Rattle.aprs_book.specs.Summary.{IsSummaryOf};
+ghost use Rattle.aprs_laws.specs.Gap.{millis_of};
+ghost use Rattle.aprs_book.specs.declared.lists.named.Named.{Named};
 ghost use Rattle.aprs_book.specs.Stations.{ReportsStations};
-ghost use Rattle.aprs_book.specs.Names.{ReportsNamed};
+ghost use Rattle.aprs_book.specs.Names.{ReportsNamed, shown_report};
 ghost use Rattle.aprs_book.specs.Messages.{ReportsMessages};
 ghost use Rattle.aprs_listing.specs.Listing as Spec;
 
 use crate::field::Field;
 use crate::heard_line::put_heard;
 use crate::line::{put_line, put_text_line};
-use aprs_book::{Heard, Memory, MessageRow, MessageState, Named, Station, Summary};
+use aprs_book::{
+    Heard, HeardRoom, Memory, MessageRow, MessageState, NamedWalk, Station, StationWalk, Summary,
+};
 use aprs_io::{Counted, Outlet, WriteFault};
 use std::alloc::{Allocator, Global};
 use std::io::Write;
 
-/// What is listed of a book.
-pub struct Listing<'a, A: Allocator = Global> {
+/// What is listed of a book. Stations, objects and items are read as they are written.
+#[derive(Drop)]
+pub struct Listing<'s, 't, A: Allocator = Global> {
     /// The stations, ascending by callsign.
-    pub stations: Vec<Station<'a>, A>,
+    pub stations: StationWalk<'s, 't, A>,
     /// The objects by name, and then the items by name.
-    pub named: Vec<Named<'a>, A>,
+    pub named: NamedWalk<'s, 't, A>,
     /// The messages, ascending by source, addressee, text and id.
-    pub messages: Vec<MessageRow<'a>, A>,
+    pub messages: Vec<MessageRow<'s>, A>,
 }
 
-impl<'a, A: Allocator> Drop for Listing<'a, A> {
-    /// Gives the memory of the three lists back.
-    fn drop(self) {
-        let Listing {
-            stations,
-            named,
-            messages,
-        } = self;
-        drop(stations);
-        drop(named);
-        drop(messages);
-    }
-}
-
-impl<'a, A: Allocator + Copy> Listing<'a, A> {
-    /// What is listed of rows, from the summary of them: their stations, their objects and items,
-    /// and their messages. `Memory` where an allocation failed for it.
-    pub fn of(summary: &'a Summary<'_, A>) -> Result<Listing<'a, A>, Memory>
-        ensures stations { (gap : ℕ) (rows : List Row) → IsSummaryOf rows summary.now
-            → IfOk result (λ v. ReportsStations gap rows v.stations.items) }
-        ensures named { (gap : ℕ) (rows : List Row) → IsSummaryOf rows summary.now
-            → IfOk result (λ v. ReportsNamed gap rows v.named.items) }
-        ensures messages { (gap : ℕ) (rows : List Row) → IsSummaryOf rows summary.now
-            → IfOk result (λ v. ReportsMessages gap rows v.messages.items) }
+impl<'s, 't, A: Allocator + Copy> Listing<'s, 't, A> {
+    /// What is listed of a book, from its summary: its stations, its objects and items, and its
+    /// messages. Takes memory for the messages alone.
+    pub fn of(summary: &'s Summary<'t, A>) -> Result<Listing<'s, 't, A>, Memory>
+        ensures stations { IfOk result (λ v.
+            ReportsStations (millis_of summary.now.gap) summary.now.rows v.stations) }
+        ensures named { IfOk result (λ v. (xs : List Named) → map shown_report xs ≡ v.named
+            → ReportsNamed (millis_of summary.now.gap) summary.now.rows xs) }
+        ensures messages { IfOk result (λ v.
+            ReportsMessages (millis_of summary.now.gap) summary.now.rows v.messages.items) }
     {
         Ok(Listing {
-            stations: summary.stations()?,
-            named: summary.objects()?,
+            stations: summary.stations(),
+            named: summary.objects(),
             messages: summary.messages()?,
         })
     }
@@ -63,9 +52,10 @@ impl<'a, A: Allocator + Copy> Listing<'a, A> {
     /// Writes the listing: for each station its line and those of its last known position and
     /// status; then a line for each object, item and message. At a fault a prefix of this went out.
     /// Takes no memory.
-    pub fn write<W: Write>(&self, w: &mut Counted<W>) -> Result<(), WriteFault>
-        ensures { Sends W.contents result w.old w.new
-            (Spec.show_text self.now.stations.items self.now.named.items self.now.messages.items) }
+    pub fn write<W: Write>(self, w: &mut Counted<W>) -> Result<(), WriteFault>
+        ensures { (named : List Named) → map shown_report named ≡ self.entry.named
+            → Sends W.contents result w.old w.new
+            (Spec.show_text self.entry.stations named self.entry.messages.items) }
     {
         let mut out = Outlet::new(w);
         put_listing(&mut out, self)?;
@@ -77,35 +67,46 @@ impl<'a, A: Allocator + Copy> Listing<'a, A> {
 /// messages. Fails where the output is refused.
 fn put_listing<W: Write, A: Allocator + Copy>(
     out: &mut Outlet<'_, W>,
-    listing: &Listing<'_, A>,
+    listing: Listing<'_, '_, A>,
 ) -> Result<(), WriteFault>
-    ensures { Puts W.contents result out.old out.new
-        (Spec.show_text listing.now.stations.items listing.now.named.items
-        listing.now.messages.items) }
+    ensures { (named : List Named) → map shown_report named ≡ listing.entry.named
+        → Puts W.contents result out.old out.new
+        (Spec.show_text listing.entry.stations named listing.entry.messages.items) }
 {
-    put_stations(out, &listing.stations)?;
-    put_all_named(out, &listing.named)?;
-    put_messages(out, &listing.messages)
+    let Listing {
+        stations,
+        named,
+        messages,
+    } = listing;
+    put_stations(out, stations)?;
+    put_all_named(out, named)?;
+    put_messages(out, &messages)
 }
 
 /// Puts the lines of the stations, in their order. Fails where the output is refused.
-fn put_stations<W: Write>(
+fn put_stations<W: Write, A: Allocator + Copy>(
     out: &mut Outlet<'_, W>,
-    stations: &[Station<'_>],
+    mut stations: StationWalk<'_, '_, A>,
 ) -> Result<(), WriteFault>
-    ensures { Puts W.contents result out.old out.new (flat_map Spec.station_lines stations.now) }
+    ensures { Puts W.contents result out.old out.new
+        (flat_map Spec.station_lines stations.entry) }
 {
-    for station in stations {
-        put_station(out, station)?;
+    let mut room = HeardRoom::new();
+    while let Some(station) = stations.next(&mut room) {
+        put_station(out, &station)?;
     }
     Ok(())
 }
 
 /// Puts the lines of the objects and items, in their order. Fails where the output is refused.
-fn put_all_named<W: Write>(out: &mut Outlet<'_, W>, all: &[Named<'_>]) -> Result<(), WriteFault>
-    ensures { Puts W.contents result out.old out.new (flat_map Spec.named_line all.now) }
+fn put_all_named<W: Write, A: Allocator + Copy>(
+    out: &mut Outlet<'_, W>,
+    mut all: NamedWalk<'_, '_, A>,
+) -> Result<(), WriteFault>
+    ensures { Puts W.contents result out.old out.new (flat_map Spec.thing_line all.entry) }
 {
-    for named in all {
+    let mut room = HeardRoom::new();
+    while let Some(named) = all.next(&mut room) {
         put_heard(out, &named.heard)?;
     }
     Ok(())

@@ -6,7 +6,7 @@ use aprs_ax25::Frame;
 use aprs_book::{Book, Gap, Heard, Row};
 use aprs_fixtures::{REPEATED, callsign, frame_of, receiver};
 use aprs_log::{Moment, Receiver, Reception};
-use aprs_rows::BookStore;
+use aprs_rows::{BookStore, WalkRoom};
 use std::alloc::{Allocator, Global};
 use std::test::Fail;
 
@@ -213,10 +213,10 @@ const FIVE: [Plain; 5] = [
 /// Whether this is the book in a store.
 fn is_of_store<A: Allocator + Copy>(
     alloc: A,
-    store: &mut BookStore<A>,
+    store: &BookStore<A>,
     book: &Book<A>,
 ) -> Result<bool, Fail> {
-    let mut room = Vec::new(alloc);
+    let mut room = WalkRoom::new(alloc);
     let rows = store.rows(&mut room).ok().ok_or("memory")?;
     let made = Book::of_rows(alloc, rows).ok().ok_or("memory")?;
     Ok(made.same(book))
@@ -260,7 +260,7 @@ fn agrees_in_order(alloc: Global, frames: &[Frame], order: usize) -> Result<bool
             return Ok(false);
         }
     }
-    is_of_store(alloc, &mut store, &both.book)
+    is_of_store(alloc, &store, &both.book)
 }
 
 #[test]
@@ -368,7 +368,7 @@ fn agrees_in_a_thousand(alloc: Global, frames: &[Frame], stride: u64) -> Result<
     Ok(
         both.agree(frames)?
             && both.plain.rows.len() == 1000
-            && is_of_store(alloc, &mut store, &both.book)?,
+            && is_of_store(alloc, &store, &both.book)?,
     )
 }
 

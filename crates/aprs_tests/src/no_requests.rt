@@ -4,7 +4,7 @@
 use crate::refused_calls::{SENT, book_of_sent, store_of_sent};
 use aprs_book::{Book, Gap, Join, MergeFault, Receivers, RowCause, WidenFault, all_fit};
 use aprs_fixtures::{DIRECT, NOON, callsign, heard, receiver, squeeze};
-use aprs_rows::{BookRows, BookStore, PackedRows};
+use aprs_rows::{BookRows, BookStore, PackedRows, WalkRoom};
 use bumpalo::Bump;
 use std::alloc::{Allocator, Global};
 use std::test::Fail;
@@ -257,8 +257,8 @@ fn rows_ask_for_none<'a>(bump: &'a Bump, rows: BookRows<'_, &'a Bump>) -> Result
 #[test]
 fn calls_of_a_stores_rows_ask_for_none(rt: HostRuntime) -> Result<(), Fail> {
     let bump = Bump::try_with_capacity(rt.alloc(), 65_536)?;
-    let mut store = store_of_sent(&bump)?;
-    let mut room = Vec::new(&bump);
+    let store = store_of_sent(&bump)?;
+    let mut room = WalkRoom::new(&bump);
     let rows = store.rows(&mut room).ok().ok_or("memory")?;
     assert!(rt; rows_ask_for_none(&bump, rows)?);
     Ok(())
@@ -271,7 +271,7 @@ fn rows_of_nothing_ask_for_none(rt: HostRuntime) -> Result<(), Fail> {
     store.add(PackedRows::new(&bump)).ok().ok_or("memory")?;
     let _filling = fill(&bump)?;
     let size = bump.allocated_bytes();
-    let mut room = Vec::new(&bump);
+    let mut room = WalkRoom::new(&bump);
     let mut rows = store.rows(&mut room).ok().ok_or("memory")?;
     assert!(rt; rows.next().is_none() && bump.allocated_bytes() == size);
     Ok(())

@@ -5,14 +5,14 @@ use crate::refused_calls::{ROWS, SENT};
 use aprs_ax25::Frame;
 use aprs_book::{Book, Gap, Memory, RowCause, Summary};
 use aprs_fixtures::{DIRECT, NOON, heard, is_shown, sent, squeeze};
-use aprs_rows::{BookStore, PackedRows, RowView};
+use aprs_rows::{BookStore, PackedRows, RowView, WalkRoom};
 use bumpalo::Bump;
 use std::alloc::{Allocator, Global};
 use std::test::Fail;
 
 /// The book of a store's rows.
-fn book_of<A: Allocator + Copy>(alloc: A, store: &mut BookStore<A>) -> Result<Book<A>, Memory> {
-    let mut room = Vec::new(alloc);
+fn book_of<A: Allocator + Copy>(alloc: A, store: &BookStore<A>) -> Result<Book<A>, Memory> {
+    let mut room = WalkRoom::new(alloc);
     let rows = store.rows(&mut room)?;
     Book::of_rows(alloc, rows)
 }
@@ -45,7 +45,7 @@ fn two_hundred_receptions_are_put_in_order(rt: HostRuntime) -> Result<(), Fail> 
     const CASES: &[(u64, usize)] = &[(0, 100), (30, 1), (6031, 200)];
     for &(first, rows) in CASES {
         let mut store = two_hundred(alloc, first)?;
-        let book = book_of(alloc, &mut store).ok().ok_or("memory")?;
+        let book = book_of(alloc, &store).ok().ok_or("memory")?;
         assert!(rt; book.len() == rows);
         assert!(rt; book.same(&taken(alloc, first)?));
     }
@@ -72,7 +72,7 @@ fn refusals(alloc: Global, units: usize) -> Result<(bool, bool), Fail> {
     let _fill = squeeze(&bump, units)?;
     let mut store = BookStore::new(&bump, Gap::STANDARD);
     let refused = store_sent(&bump, &mut store)?;
-    let Ok(book) = book_of(&bump, &mut store) else {
+    let Ok(book) = book_of(&bump, &store) else {
         return Ok((refused > 0, true));
     };
     if is_shown(alloc, &book, ROWS) {
@@ -191,11 +191,11 @@ fn push_minutes<A: Allocator + Copy>(
 /// Whether the rows of a store are those of so many minutes, each heard by these.
 fn are_minutes<A: Allocator + Copy>(
     alloc: A,
-    store: &mut BookStore<A>,
+    store: &BookStore<A>,
     names: &[u8],
     count: u64,
 ) -> Result<bool, Fail> {
-    let mut room = Vec::new(alloc);
+    let mut room = WalkRoom::new(alloc);
     let rows = store.rows(&mut room).ok().ok_or("memory")?;
     let mut minute = 0u64;
     for row in rows {
@@ -217,12 +217,12 @@ fn chunks_are_put_in_order(rt: HostRuntime) -> Result<(), Fail> {
         let mut store = BookStore::new(alloc, Gap::STANDARD);
         push_minutes(&mut store, b"RX1", count)?;
         assert!(rt;
-            are_minutes(alloc, &mut store, b"RX1", count)?,
+            are_minutes(alloc, &store, b"RX1", count)?,
             "{count} minutes"
         );
         // The rows stay, and come again.
         assert!(rt;
-            are_minutes(alloc, &mut store, b"RX1", count)?,
+            are_minutes(alloc, &store, b"RX1", count)?,
             "{count} minutes"
         );
     }
@@ -237,6 +237,6 @@ fn names_are_united_over_chunks(rt: HostRuntime) -> Result<(), Fail> {
     for name in [b"RX2".as_slice(), b"RX1".as_slice(), b"RX2".as_slice()] {
         push_minutes(&mut store, name, CHUNK)?;
     }
-    assert!(rt; are_minutes(alloc, &mut store, b"RX1,RX2", CHUNK)?);
+    assert!(rt; are_minutes(alloc, &store, b"RX1,RX2", CHUNK)?);
     Ok(())
 }

@@ -18,7 +18,7 @@ use crate::input::{BOOK_MARK, read_log, read_short};
 use aprs_book::{Book, Gap, MergeFault};
 use aprs_booktext::read_book;
 use aprs_io::Counted;
-use aprs_rows::BookStore;
+use aprs_rows::{BookStore, WalkRoom};
 use std::alloc::{Allocator, Global};
 use std::io::Read;
 
@@ -149,7 +149,7 @@ pub fn read_input<R: Read, A: Allocator + Copy>(
         Ok(head) => {
             let mut store = BookStore::new(alloc, gap);
             read_log(alloc, limit, head.as_slice(), &mut store, r)?;
-            let mut room = Vec::new(alloc);
+            let mut room = WalkRoom::new(alloc);
             let rows = store.rows(&mut room)?;
             Ok(Book::of_rows(alloc, rows)?)
         }

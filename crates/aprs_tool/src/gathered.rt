@@ -10,7 +10,7 @@ use aprs_book::{Gap, Memory, Summary};
 use aprs_booktext::write_rows;
 use aprs_io::{Counted, WriteFault};
 use aprs_listing::{Listing, write_history};
-use aprs_rows::{BookStore, PackedRows};
+use aprs_rows::{BookStore, PackedRows, WalkRoom};
 use std::alloc::{Allocator, Global};
 use std::io::Write;
 use std::marker::Model;
@@ -118,8 +118,8 @@ impl<A: Allocator + Copy> Gathered<A> {
     pub(crate) fn write<W: Write>(self, w: &mut Counted<W>) -> Result<(), OutputFault>
         ensures { WritesText W.contents result self w.old w.new }
     {
-        let mut room = Vec::new(self.alloc);
-        let mut store = self.into_store()?;
+        let mut room = WalkRoom::new(self.alloc);
+        let store = self.into_store()?;
         let rows = store.rows(&mut room)?;
         Ok(write_rows(w, rows)?)
     }
@@ -130,8 +130,8 @@ impl<A: Allocator + Copy> Gathered<A> {
         ensures { WritesTold IsShown W.contents result self w.old w.new }
     {
         let alloc = self.alloc;
-        let mut room = Vec::new(alloc);
-        let mut store = self.into_store()?;
+        let mut room = WalkRoom::new(alloc);
+        let store = self.into_store()?;
         let rows = store.rows(&mut room)?;
         let summary = Summary::of(alloc, rows)?;
         let listing = Listing::of(&summary)?;
@@ -143,8 +143,8 @@ impl<A: Allocator + Copy> Gathered<A> {
     pub(crate) fn history<W: Write>(self, w: &mut Counted<W>) -> Result<(), OutputFault>
         ensures { WritesTold IsHistory W.contents result self w.old w.new }
     {
-        let mut room = Vec::new(self.alloc);
-        let mut store = self.into_store()?;
+        let mut room = WalkRoom::new(self.alloc);
+        let store = self.into_store()?;
         let rows = store.rows(&mut room)?;
         Ok(write_history(w, rows)?)
     }

@@ -1,6 +1,7 @@
-use Rattle.aprs_listing.proofs.Histories.{PutSoFar}
+use Rattle.aprs_listing.specs.History.{history_line}
+use Rattle.aprs_listing.proofs.SoFar.{PutSoFar}
 use Rattle.aprs_listing.proofs.history.put_history.Given as goal
 
 abbrev pub invariant-loop-row : goal.invariant-loop-row
 invariant-loop-row g l =
-    PutSoFar g.W.Write.contents l.initial.out l.out l.fn.rows.rows l.row-iterator.rows
+    PutSoFar history_line g.W.Write.contents l.initial.out l.out l.fn.rows.rows l.row-iterator.rows
