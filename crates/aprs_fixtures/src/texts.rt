@@ -1,10 +1,9 @@
-//! A book as a line of text and as its text, and the fault of a text that is none.
-ghost use Rattle.std.specs.Prelude.{◌≤◌};
+//! A book as a line of text, and as its text.
 
 use aprs_book::{Book, Row};
-use aprs_booktext::{BookFault, read_book, write_book};
+use aprs_booktext::write_book;
 use aprs_kiss::Counted;
-use aprs_log::{MAX_INPUT, Receiver};
+use aprs_log::Receiver;
 use std::alloc::{Allocator, Global};
 use std::fmt::Write;
 use std::test::Fail;
@@ -57,19 +56,4 @@ pub fn text_of<A: Allocator + Copy>(alloc: A, book: &Book<A>) -> Result<Vec<u8, 
     let mut out = Counted::new(Vec::new(alloc));
     write_book(&mut out, book).ok().ok_or("memory")?;
     Ok(out.into_inner())
-}
-
-/// The line and the name of the cause of a text's fault, or nothing.
-pub fn fault_of(alloc: Global, text: &[u8]) -> Option<(u64, &'static str)> {
-    fault_within(alloc, MAX_INPUT, text)
-}
-
-/// The same of a text under a limit.
-pub fn fault_within(alloc: Global, limit: u64, text: &[u8]) -> Option<(u64, &'static str)>
-    requires { limit ≤ 1073741824 }
-{
-    match read_book(alloc, limit, b"", &mut Counted::new(text)) {
-        Ok(_) => None,
-        Err(BookFault { line, cause }) => Some((line, cause.name())),
-    }
 }

@@ -1,8 +1,9 @@
 //! Books of other gaps than 30 seconds.
 
+use crate::refused_runs::arena;
 use aprs_book::{Book, Gap, MergeFault, WidenFault};
 use aprs_booktext::BookCause;
-use aprs_fixtures::{DIRECT, REPEATED, arena, heard, is_shown, squeeze};
+use aprs_fixtures::{DIRECT, REPEATED, heard, is_shown, squeeze};
 use aprs_kiss::Counted;
 use aprs_log::MAX_INPUT;
 use aprs_tool::{Desk, InputFault, RunFault, merge_run, status_of, widen_run};

@@ -1,6 +1,12 @@
-//! Tests of runs and their words.
+//! Tests of runs and their texts.
 #![tactic(auto)]
 
+#[cfg(test)]
+mod book_faults;
+#[cfg(test)]
+mod book_texts;
+#[cfg(test)]
+mod devices;
 #[cfg(test)]
 mod ends;
 #[cfg(test)]
@@ -8,7 +14,11 @@ mod failing_inputs;
 #[cfg(test)]
 mod gaps;
 #[cfg(test)]
+mod lines;
+#[cfg(test)]
 mod listings;
+#[cfg(test)]
+mod logs;
 #[cfg(test)]
 mod merges;
 #[cfg(test)]
@@ -17,6 +27,8 @@ mod millis;
 mod mixed_inputs;
 #[cfg(test)]
 mod pieces;
+#[cfg(test)]
+mod printed;
 #[cfg(test)]
 mod refused_runs;
 #[cfg(test)]

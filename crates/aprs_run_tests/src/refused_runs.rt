@@ -3,7 +3,7 @@
 use crate::pieces::{RUNS, writes};
 use aprs_book::Gap;
 use aprs_booktext::BookCause;
-use aprs_fixtures::{MERGED_TEXT, THREE_LINES, arena, is_shown, is_written_as, shown};
+use aprs_fixtures::{MERGED_TEXT, THREE_LINES, is_shown, is_written_as, shown};
 use aprs_kiss::Counted;
 use aprs_log::MAX_INPUT;
 use aprs_tool::{Desk, InputFault, RunFault, merge_run, read_input, show_run, status_of};
@@ -13,6 +13,19 @@ use std::test::Fail;
 
 /// What is listed of `MERGED_TEXT`.
 pub const MERGED_LISTING: &[u8] = b"station N0CALL-7 2\nstatus 2099-12-31T23:59:59.000Z RX2 -:Hi\n";
+
+/// An arena that has room for so many units of 64 bytes, and refuses the growth that would take it
+/// beyond until its limit is lifted.
+pub fn arena(alloc: Global, units: usize) -> Result<Bump, Fail> {
+    let room = units.saturating_mul(64);
+    let bump = Bump::try_with_capacity(alloc, room)?;
+    bump.set_allocation_limit(Some(0));
+    let beyond = bump.chunk_capacity().saturating_sub(room);
+    if beyond > 0 {
+        bump.try_alloc_slice_fill_clone(beyond, 0u8)?;
+    }
+    Ok(bump)
+}
 
 /// Memory was refused for a log, or in a line of a book.
 fn is_memory(fault: &InputFault, is_book: bool) -> bool {

@@ -1,6 +1,6 @@
 //! Writes below a buffer that are interrupted.
 
-use aprs_fixtures::Halting;
+use crate::devices::Halting;
 use aprs_program::write_some;
 
 #[test]

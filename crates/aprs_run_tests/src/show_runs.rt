@@ -1,8 +1,9 @@
 //! Listings of several inputs, and outputs that refuse them.
 
+use crate::devices::{Full, Tight};
 use crate::listings::listing_of;
 use aprs_book::Gap;
-use aprs_fixtures::{DIRECT_TEXT, EMPTY_TEXT, Full, ONE_LINE, Tight};
+use aprs_fixtures::{DIRECT_TEXT, EMPTY_TEXT, ONE_LINE};
 use aprs_kiss::Counted;
 use aprs_log::MAX_INPUT;
 use aprs_tool::{RunFault, show_run, status_of};

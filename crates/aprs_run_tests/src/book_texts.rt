@@ -1,10 +1,11 @@
 //! Books and their texts.
 
+use crate::devices::{Failing, Tight};
 use aprs_book::Book;
 use aprs_booktext::{BookCause, read_book, write_book};
 use aprs_fixtures::{
-    DIRECT_LINE, DIRECT_TEXT, EMPTY_TEXT, FIRST_LINE, Failing, LAST_LINE, MERGED_TEXT, NOON,
-    REPEATED_LINE, Tight, callsign, is_written_as,
+    DIRECT_LINE, DIRECT_TEXT, EMPTY_TEXT, FIRST_LINE, LAST_LINE, MERGED_TEXT, NOON, REPEATED_LINE,
+    callsign, is_written_as,
 };
 use aprs_kiss::{Counted, WriteFault};
 use aprs_log::{Line, MAX_INPUT, read_line};

@@ -1,13 +1,27 @@
 //! Texts that are no book's.
+ghost use Rattle.std.specs.Prelude.{◌≤◌};
 
-use aprs_booktext::{BookCause, read_book, write_book};
-use aprs_fixtures::{
-    DIRECT_TEXT, MERGED_TEXT, OLD_DIRECT_TEXT, OLD_MERGED_TEXT, fault_of, fault_within, line_after,
-};
+use aprs_booktext::{BookCause, BookFault, read_book, write_book};
+use aprs_fixtures::{DIRECT_TEXT, MERGED_TEXT, OLD_DIRECT_TEXT, OLD_MERGED_TEXT, line_after};
 use aprs_kiss::Counted;
 use aprs_log::MAX_INPUT;
 use std::alloc::Global;
 use std::test::Fail;
+
+/// The line and the name of the cause of a text's fault, or nothing.
+pub fn fault_of(alloc: Global, text: &[u8]) -> Option<(u64, &'static str)> {
+    fault_within(alloc, MAX_INPUT, text)
+}
+
+/// The same of a text under a limit.
+fn fault_within(alloc: Global, limit: u64, text: &[u8]) -> Option<(u64, &'static str)>
+    requires { limit ≤ 1073741824 }
+{
+    match read_book(alloc, limit, b"", &mut Counted::new(text)) {
+        Ok(_) => None,
+        Err(BookFault { line, cause }) => Some((line, cause.name())),
+    }
+}
 
 /// A text between a header and the last line of so many rows.
 fn text_of(alloc: Global, lines: &[&[u8]], last: &[u8]) -> Result<Vec<u8>, Fail> {

@@ -1,6 +1,7 @@
 //! Logs to their end or their first fault.
 
-use aprs_fixtures::{Failing, LOG};
+use crate::devices::Failing;
+use aprs_fixtures::LOG;
 use aprs_kiss::Counted;
 use aprs_log::{Line, LogCause, LogFault, LogReader, MAX_INPUT};
 use std::io::Read;
