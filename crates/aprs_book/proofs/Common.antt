@@ -5,7 +5,7 @@ pub use Rattle.aprs_laws.proofs.Books.{one_book}
 pub use Rattle.aprs_laws.proofs.Inserts.{fits_by_test, inserted_is_book, inserted_is_sound}
 pub use Rattle.aprs_laws.proofs.Joins.{gap_laws, greatest_laws, is_greater_of, one_value, some_millis}
 pub use Rattle.aprs_laws.proofs.Known.{known_last, known_once, plain_known, rows_know, set_knows}
-pub use Rattle.aprs_laws.proofs.Lists.{from_map, in_either, in_left, in_map, in_right, ordered_weaker}
+pub use Rattle.aprs_laws.proofs.Lists.{each_of, from_map, in_either, in_left, in_map, in_right, ordered_weaker}
 pub use Rattle.aprs_laws.proofs.Orders.{bytes_exact, bytes_total, call_exact, call_total, heard_total, key_total, up_to_itself}
 pub use Rattle.aprs_laws.proofs.Pushes.{IsSound, empty_or_last, one_relation, sound_prefix}
 pub use Rattle.aprs_laws.proofs.Rows.{IsBefore, before_trans, place_means, the_greater}

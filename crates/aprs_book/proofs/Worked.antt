@@ -1,5 +1,5 @@
 -- Worked examples.
-use Rattle.aprs_book.proofs.Common.{◌≡◌, ℕ, true, false, None, List, [], ◌∷◌, ◌++◌, codes, inl, inr, refl, sym, ap, ◌∙◌, subst, arith, SpellsCall, Received, heard_cmp, message, ack, rej, IsUpTo, Key, IsBest, LastKnown, n0call, known_once, heard_total, up_to_itself}
+use Rattle.aprs_book.proofs.Common.{◌≡◌, ℕ, ◌+◌, ◌<◌, true, false, None, List, [], ◌∷◌, ◌++◌, codes, inl, inr, refl, sym, ap, ◌∙◌, arith, SpellsCall, Received, heard_cmp, message, ack, rej, IsUpTo, Key, IsBest, LastKnown, n0call, known_once, heard_total, up_to_itself, each_of}
 use Rattle.aprs_report.specs.Reader.{report_by_form, message_with, addressee_and_part_of, answer_at, text_and_id_of, object_of, item_of, item_field_of, stamp_at, place_of, plain_of, angle_of, minutes_of, numeral_of, cut_end}
 use Rattle.aprs_laws.specs.Key.{key_of}
 use Rattle.aprs_ax25.proofs.Calls.{ssid_text-one}
@@ -11,17 +11,18 @@ use Rattle.aprs_book.specs.Examples.{hi_message, one, asked_at, acknowledged_at,
 
 -- ---- texts of callsigns
 
-pub seven_text : SpellsCall (n0call 7) (codes "N0CALL-7")
-seven_text = record {
+n0call_text : (ssid : ℕ) → 0 < ssid → ssid < 10
+    → SpellsCall (n0call ssid) (codes "N0CALL" ++ (45 ∷ (48 + ssid) ∷ []))
+n0call_text ssid some few = record {
   call = record { some = omega arith; most = omega arith; bytes = refl; ssid = omega arith };
-  spelled = ap (λ ssid. codes "N0CALL" ++ ssid) (sym (ssid_text-one 7 (omega arith) (omega arith)));
+  spelled = ap (λ text. codes "N0CALL" ++ text) (sym (ssid_text-one ssid some few));
 }
 
+pub seven_text : SpellsCall (n0call 7) (codes "N0CALL-7")
+seven_text = n0call_text 7 (omega arith) (omega arith)
+
 pub eight_text : SpellsCall (n0call 8) (codes "N0CALL-8")
-eight_text = record {
-  call = record { some = omega arith; most = omega arith; bytes = refl; ssid = omega arith };
-  spelled = ap (λ ssid. codes "N0CALL" ++ ssid) (sym (ssid_text-one 8 (omega arith) (omega arith)));
-}
+eight_text = n0call_text 8 (omega arith) (omega arith)
 
 -- ---- what frames report
 
@@ -77,29 +78,22 @@ no_answer a = elim a.answer [
   | inr e ↦ let d = sym asked_reads ∙ e in cc d
 ]
 
--- a member of a set that is this one
-is_up_to : (x y s : Received) → x ≡ s → IsUpTo heard_cmp x y → IsUpTo heard_cmp s y
-is_up_to x y s e u = subst (λ (t : Received). IsUpTo heard_cmp t y) e u
-
-asked_answers_not : (m : ℕ) (s : Received) → asked_at m ≡ s → Answers (key_of s.frame) → ⊥
-asked_answers_not m s e a = no_answer (subst (λ (t : Received). Answers (key_of t.frame)) (sym e) a)
+-- if the one answers, it is up to the other
+abbrev IsUpToIfAnswer : Received → Received → Type 0
+IsUpToIfAnswer best s = Answers (key_of s.frame) → IsUpTo heard_cmp s best
 
 pub none_answers : LastKnown (asked_at 0 ∷ []) Answers None
-none_answers = λ s h a. elim h [ inl e ↦ asked_answers_not 0 s e a | inr j ↦ j ]
+none_answers =
+    each_of (λ (s : Received). Answers (key_of s.frame) → ⊥) (asked_at 0 ∷ []) (no_answer, tt)
 
 -- the message at 7 and its acknowledgement
 pub answered_at : (m : ℕ) → IsBest (asked_at 7 ∷ acknowledged_at m ∷ []) Answers (acknowledged_at m)
 answered_at m = record {
   member = inr (inl refl);
   property = acknowledges;
-  greatest = λ s h a. elim h [
-    | inl e ↦ absurd (asked_answers_not 7 s e a)
-    | inr k ↦ elim k [
-      | inl e ↦ is_up_to (acknowledged_at m) (acknowledged_at m) s e
-          (up_to_itself heard_total (acknowledged_at m))
-      | inr j ↦ absurd j
-    ]
-  ];
+  greatest =
+      each_of (IsUpToIfAnswer (acknowledged_at m)) (asked_at 7 ∷ acknowledged_at m ∷ [])
+      (λ a. absurd (no_answer a), (λ a. up_to_itself heard_total (acknowledged_at m), tt));
 }
 
 pub rejected_last : IsBest (asked_at 0 ∷ acknowledged_at 10 ∷ rejected_at 20 ∷ []) Answers
@@ -107,34 +101,19 @@ pub rejected_last : IsBest (asked_at 0 ∷ acknowledged_at 10 ∷ rejected_at 20
 rejected_last = record {
   member = inr (inr (inl refl));
   property = rejects;
-  greatest = λ s h a. elim h [
-    | inl e ↦ absurd (asked_answers_not 0 s e a)
-    | inr k ↦ elim k [
-      | inl e ↦ is_up_to (acknowledged_at 10) (rejected_at 20) s e refl
-      | inr j ↦ elim j [
-        | inl e ↦ is_up_to (rejected_at 20) (rejected_at 20) s e
-            (up_to_itself heard_total (rejected_at 20))
-        | inr i ↦ absurd i
-      ]
-    ]
-  ];
+  greatest =
+      each_of (IsUpToIfAnswer (rejected_at 20))
+      (asked_at 0 ∷ acknowledged_at 10 ∷ rejected_at 20 ∷ [])
+      (λ a. absurd (no_answer a), (λ a. refl, (λ a. refl, tt)));
 }
 
 pub answered_once : IsBest asked_again Answers (acknowledged_at 10)
 answered_once = record {
   member = inr (inl refl);
   property = acknowledges;
-  greatest = λ s h a. elim h [
-    | inl e ↦ absurd (asked_answers_not 0 s e a)
-    | inr k ↦ elim k [
-      | inl e ↦ is_up_to (acknowledged_at 10) (acknowledged_at 10) s e
-          (up_to_itself heard_total (acknowledged_at 10))
-      | inr j ↦ elim j [
-        | inl e ↦ absurd (asked_answers_not 20 s e a)
-        | inr i ↦ absurd i
-      ]
-    ]
-  ];
+  greatest =
+      each_of (IsUpToIfAnswer (acknowledged_at 10)) asked_again
+      (λ a. absurd (no_answer a), (λ a. refl, (λ a. absurd (no_answer a), tt)));
 }
 
 -- a message has one state

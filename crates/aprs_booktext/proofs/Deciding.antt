@@ -5,7 +5,7 @@ use Rattle.aprs_rows.specs.Refusal.{refusal}
 use Rattle.hex.specs.declared.error.FromHexError.{FromHexError}
 use Rattle.aprs_laws.specs.declared.row_cause.RowCause.TheVariants as row
 use Rattle.aprs_booktext.specs.FirstFault.{FirstFault}
-use Rattle.aprs_booktext.specs.TextFault.{is_end}
+use Rattle.aprs_booktext.specs.TextFault.{is_end, SpellsRefusedRow}
 use Rattle.aprs_booktext.specs.Law.{IsBookText}
 use Rattle.aprs_booktext.specs.Lines.{Lacks, pieces}
 use Rattle.aprs_booktext.specs.Reader.{JudgesLine, HasReadLines, is_done, line_number, may_end}
@@ -112,8 +112,7 @@ bytes_or_none d = by (decode_of d) refl where
           record {
             digits_are = digits;
             bytes_are = (decode_of-ok d b is).3;
-            few =
-                (some, few);
+            few = (some, few);
           },
         )
       ]
@@ -164,12 +163,10 @@ module _ (form : MomentForm) (line t f l n w d : List ℕ)
                   first = first.1.0;
                   last = last.1.0;
                   some = names.1.some;
-                  receivers =
-                      names.1.names_are;
+                  receivers = names.1.names_are;
                   receiver = name.0;
                   bytes = bytes.1.bytes_are;
-                  few =
-                      bytes.1.few;
+                  few = bytes.1.few;
                 };
                 line_is = spelled_by form line t f l n w d is
                     (row_with first.0 last.0 names.0 w bytes.0)
@@ -177,8 +174,7 @@ module _ (form : MomentForm) (line t f l n w d : List ℕ)
                       tag = tag;
                       first = first.1.1;
                       last = last.1.1;
-                      receivers =
-                          names.1.field_is;
+                      receivers = names.1.field_is;
                       receiver = refl;
                       frame = bytes.1.digits_are;
                     });
@@ -217,6 +213,11 @@ pub record Judged (stage : Stage) (rows : List Row) (line : List ℕ) : Type 0 w
   pub judged : JudgesLine stage result rows line new
   pub known : result ≢ Err cause.Memory
 
+judged_as : {stage : Stage} {rows : List Row} {line : List ℕ} (r : Result Stage BookCause)
+    (new : List Row) → JudgesLine stage r rows line new → r ≢ Err cause.Memory
+    → Judged stage rows line
+judged_as r new judged known = record { result = r; new = new; judged = judged; known = known }
+
 five : (a b c d e : Bool) → cond a (Some row.Order)
     (cond b (Some row.Span) (cond c (Some row.Near)
     (cond d (Some row.Receivers) (cond e (Some row.NotGreatest) None)))) ≡ Some row.Memory → ⊥
@@ -252,163 +253,76 @@ gap_or_none line (suc n) h = elim (gap_or_none line n (omega (arith, h))) [
 
 judge_header : (rows : List Row) (line : List ℕ) → Judged Header rows line
 judge_header rows line = elim (one_or_other line (header_of One)) [
-  | inl same ↦ record {
-    result = Ok (Rows One);
-    new = rows;
-    judged = (standard_range, same, refl);
-    known =
-        λ e. absurd cc;
-  }
+  | inl same ↦ judged_as (Ok (Rows One)) rows (standard_range, same, refl) (λ e. absurd cc)
   | inr first ↦ elim (one_or_other line (header_of Two)) [
-    | inl same ↦ record {
-      result = Ok (Rows Two);
-      new = rows;
-      judged = (standard_range, same, refl);
-      known =
-          λ e. absurd cc;
-    }
+    | inl same ↦ judged_as (Ok (Rows Two)) rows (standard_range, same, refl) (λ e. absurd cc)
     | inr second ↦ elim (gap_or_none line greatest_gap (omega arith)) [
-      | inl third ↦ record {
-        result = Ok (Rows (Three third.0));
-        new = rows;
-        judged =
-            (third.1, third.2, refl);
-        known = λ e. absurd cc;
-      }
-      | inr none ↦ record {
-        result = Err cause.Header;
-        new = rows;
-        judged = ((no_header line first second (λ g is. none g is.0 is.1), refl), refl);
-        known = λ e. absurd cc;
-      }
+      | inl third ↦ judged_as (Ok (Rows (Three third.0))) rows (third.1, third.2, refl) (λ e. absurd cc)
+      | inr none ↦ judged_as (Err cause.Header) rows
+          ((no_header line first second (λ g is. none g is.0 is.1), refl), refl) (λ e. absurd cc)
     ]
   ]
 ]
 
 module _ (v : Version) (rows : List Row) (line : List ℕ) (s : SpelledRow (form_of v) line) where
+  -- the row is refused, for this reason
+  refused : (why : RowCause) → refusal (millis_of (gap_of v)) rows s.row ≡ Some why
+      → IsBookRow (form_of v) s.row
+      → SpellsRefusedRow (millis_of (gap_of v)) (form_of v) rows line why
+  refused why e is = record { row = s.row; is = is; spelled = s.line_is; refused = e }
+
   judge_why : (why : RowCause) → refusal (millis_of (gap_of v)) rows s.row ≡ Some why
       → IsBookRow (form_of v) s.row → Judged (Rows v) rows line
-  judge_why row.Order e is = record {
-    result = Err cause.Order;
-    new = rows;
-    judged =
-        (inr (record { row = s.row; is = is; spelled = s.line_is; refused = e }), refl);
-    known =
-        λ f. absurd cc;
-  }
-  judge_why row.Span e is = record {
-    result = Err cause.Span;
-    new = rows;
-    judged =
-        (inr (record { row = s.row; is = is; spelled = s.line_is; refused = e }), refl);
-    known =
-        λ f. absurd cc;
-  }
-  judge_why row.Near e is = record {
-    result = Err cause.Near;
-    new = rows;
-    judged =
-        (inr (record { row = s.row; is = is; spelled = s.line_is; refused = e }), refl);
-    known =
-        λ f. absurd cc;
-  }
-  judge_why row.Receivers e is = record {
-    result = Err cause.Receivers;
-    new = rows;
-    judged =
-        (inr (record { row = s.row; is = is; spelled = s.line_is; refused = e }), refl);
-    known =
-        λ f. absurd cc;
-  }
-  judge_why row.NotGreatest e is = record {
-    result = Err cause.NotGreatest;
-    new = rows;
-    judged =
-        (inr (record { row = s.row; is = is; spelled = s.line_is; refused = e }), refl);
-    known =
-        λ f. absurd cc;
-  }
+  judge_why row.Order e is =
+      judged_as (Err cause.Order) rows (inr (refused row.Order e is), refl) (λ f. absurd cc)
+  judge_why row.Span e is =
+      judged_as (Err cause.Span) rows (inr (refused row.Span e is), refl) (λ f. absurd cc)
+  judge_why row.Near e is =
+      judged_as (Err cause.Near) rows (inr (refused row.Near e is), refl) (λ f. absurd cc)
+  judge_why row.Receivers e is =
+      judged_as (Err cause.Receivers) rows (inr (refused row.Receivers e is), refl) (λ f. absurd cc)
+  judge_why row.NotGreatest e is =
+      judged_as (Err cause.NotGreatest) rows (inr (refused row.NotGreatest e is), refl) (λ f. absurd cc)
   judge_why row.Memory e is = absurd (never_memory (millis_of (gap_of v)) rows s.row e)
 
   judge_row : (o : Option RowCause) → refusal (millis_of (gap_of v)) rows s.row ≡ o
       → IsBookRow (form_of v) s.row → Judged (Rows v) rows line
-  judge_row None e is = record {
-    result = Ok (Rows v);
-    new = rows ++ s.row ∷ [];
-    judged = (
-      refl,
-      s.row,
-      is,
-      s.line_is,
-      refl,
-      e,
-    );
-    known = λ f. absurd cc;
-  }
+  judge_row None e is =
+      judged_as (Ok (Rows v)) (rows ++ s.row ∷ []) (refl, s.row, is, s.line_is, refl, e) (λ f. absurd cc)
   judge_row (Some why) e is = judge_why why e is
 
   judge_frame : (r : Result (List ℕ) FrameFault)
       → frame_or_fault s.row.greatest.frame ≡ r → Judged (Rows v) rows line
-  judge_frame (Err fault) e = record {
-    result = Err cause.Frame;
-    new = rows;
-    judged = (
-      inr (record {
-        row = s.row;
-        is = s.is;
-        spelled = s.line_is;
-        refused = λ u. absurd (let x : Err fault ≡ Ok s.row.greatest.frame = sym e
-            ∙ is-frame_of s.row.greatest.frame u in cc);
-      }),
-      refl,
-    );
-    known = λ f. absurd cc;
-  }
+  judge_frame (Err fault) e = judged_as (Err cause.Frame) rows (
+    inr (record {
+      row = s.row;
+      is = s.is;
+      spelled = s.line_is;
+      refused = λ u. absurd (let x : Err fault ≡ Ok s.row.greatest.frame = sym e
+          ∙ is-frame_of s.row.greatest.frame u in cc);
+    }),
+    refl,
+  ) (λ f. absurd cc)
   judge_frame (Ok b) e =
       judge_row (refusal (millis_of (gap_of v)) rows s.row) refl
-      (record {
-        spelled = s.is;
-        frame = frame_of-is s.row.greatest.frame b e;
-      })
+      (record { spelled = s.is; frame = frame_of-is s.row.greatest.frame b e })
 
 judge_row_line : (v : Version) (rows : List Row) (line : List ℕ) → Judged (Rows v) rows line
 judge_row_line v rows line = by (is_end line) refl where
   by : (b : Bool) → is_end line ≡ b → Judged (Rows v) rows line
   by true e = elim (one_or_other line (end_line (length rows))) [
-    | inl same ↦ record {
-      result = Ok (Done v);
-      new = rows;
-      judged = (refl, same, refl);
-      known =
-          λ f. absurd cc;
-    }
-    | inr other ↦ record {
-      result = Err cause.Ending;
-      new = rows;
-      judged = (inr (e, other), refl);
-      known = λ f. absurd cc;
-    }
+    | inl same ↦ judged_as (Ok (Done v)) rows (refl, same, refl) (λ f. absurd cc)
+    | inr other ↦ judged_as (Err cause.Ending) rows (inr (e, other), refl) (λ f. absurd cc)
   ]
   by false e = elim (by_fields (form_of v) line (pieces 32 line) refl) [
     | inl s ↦ judge_frame v rows line s (frame_or_fault s.row.greatest.frame) refl
-    | inr none ↦ record {
-      result = Err cause.RowSyntax;
-      new = rows;
-      judged = (inr (e, none), refl);
-      known = λ f. absurd cc;
-    }
+    | inr none ↦ judged_as (Err cause.RowSyntax) rows (inr (e, none), refl) (λ f. absurd cc)
   ]
 
 judge_line : (stage : Stage) (rows : List Row) (line : List ℕ) → Judged stage rows line
 judge_line Header rows line = judge_header rows line
 judge_line (Rows v) rows line = judge_row_line v rows line
-judge_line (Done v) rows line = record {
-  result = Err cause.After;
-  new = rows;
-  judged =
-      (refl, refl);
-  known = λ f. absurd cc;
-}
+judge_line (Done v) rows line = judged_as (Err cause.After) rows (refl, refl) (λ f. absurd cc)
 
 -- ---- a text, line by line
 
@@ -426,8 +340,7 @@ cut_text (b ∷ text) = by (cut_text text) (is_byte 10 b) refl where
   by others true e = inr (record {
     line = [];
     more = text;
-    is =
-        ap (λ n. n ∷ text) (grind (arith, e));
+    is = ap (λ n. n ∷ text) (grind (arith, e));
     one = tt;
   })
   by others false e = elim others [
@@ -436,8 +349,7 @@ cut_text (b ∷ text) = by (cut_text text) (is_byte 10 b) refl where
       line = b ∷ c.line;
       more = c.more;
       is = ap (λ l. b ∷ l) c.is;
-      one =
-          (e, c.one);
+      one = (e, c.one);
     })
   ]
 
@@ -460,8 +372,7 @@ at_end stage rows line t e s = by (may_end stage e) refl where
         rows = rows;
         is = r.is;
         text_is = r.text_is;
-        ended =
-            r.ended;
+        ended = r.ended;
       })
   by false may = inr (record { fault = _; first = cut_fault stage rows line t e may s })
 
@@ -488,8 +399,7 @@ after_last v rows rest t e some s = record {
       rows = rows;
       sound = s.holds.0;
       read = refl;
-      fault =
-          inl (some, refl);
+      fault = inl (some, refl);
     }));
   };
 }

@@ -48,8 +48,7 @@ two_prefixes [] [] r s h k e = inl (refl, e)
 two_prefixes [] (y ∷ b) r s h k e = inr (inl (record {
   line = y;
   more = b;
-  tail =
-      text_of_lines b ++ s;
+  tail = text_of_lines b ++ s;
   is = refl;
   one = k.0;
   text_is = e ∙ line_first y b s;
@@ -57,8 +56,7 @@ two_prefixes [] (y ∷ b) r s h k e = inr (inl (record {
 two_prefixes (x ∷ a) [] r s h k e = inr (inr (record {
   line = x;
   more = a;
-  tail =
-      text_of_lines a ++ r;
+  tail = text_of_lines a ++ r;
   is = refl;
   one = h.0;
   text_is = sym e ∙ line_first x a r;
@@ -73,8 +71,7 @@ two_prefixes (x ∷ a) (y ∷ b) r s h k e =
           line = f.line;
           more = f.more;
           tail = f.tail;
-          is =
-              ap (λ l. y ∷ l) f.is ∙ ap (λ z. z ∷ (a ++ f.line ∷ f.more)) (sym t.0);
+          is = ap (λ l. y ∷ l) f.is ∙ ap (λ z. z ∷ (a ++ f.line ∷ f.more)) (sym t.0);
           one = f.one;
           text_is = f.text_is;
         }))
@@ -82,11 +79,9 @@ two_prefixes (x ∷ a) (y ∷ b) r s h k e =
           line = g.line;
           more = g.more;
           tail = g.tail;
-          is =
-              ap (λ l. x ∷ l) g.is ∙ ap (λ z. z ∷ (b ++ g.line ∷ g.more)) t.0;
+          is = ap (λ l. x ∷ l) g.is ∙ ap (λ z. z ∷ (b ++ g.line ∷ g.more)) t.0;
           one = g.one;
-          text_is =
-              g.text_is;
+          text_is = g.text_is;
         }))
       ]
     ]
@@ -117,8 +112,7 @@ rows_on form [] (y ∷ b) line more h k e = record {
   row_is = y;
   more = b;
   is = refl;
-  line_is =
-      (let f : row_line form y ≡ line = cc in sym f);
+  line_is = (let f : row_line form y ≡ line = cc in sym f);
 }
 rows_on form (x ∷ a) [] line more h k e = absurd (let l = ap length e in omega (arith, l))
 rows_on form (x ∷ a) (y ∷ b) line more h k e =
@@ -147,8 +141,7 @@ end_on form [] (y ∷ b) n line more h k e = inl
       row_is = y;
       more = b;
       is = refl;
-      line_is =
-          (let f : row_line form y ≡ line = cc in sym f);
+      line_is = (let f : row_line form y ≡ line = cc in sym f);
     })
 end_on form (x ∷ a) [] n line more h k e = absurd (let f : end_line n ≡ row_line form x = cc in
     end_is_row form n x f)

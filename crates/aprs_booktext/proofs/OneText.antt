@@ -206,8 +206,7 @@ ended v w a b rest h k e = last p.1.more p.1.rows p.1.text where
       record {
         version = p.0;
         rows = same;
-        none =
-            nil_from_length rest (omega (arith, left, right, ap length both));
+        none = nil_from_length rest (omega (arith, left, right, ap length both));
       }
   last (x ∷ more) r t = absurd (end_or_row (form_of v) (length b) x (10 ∷ rest)
       (10 ∷ row_lines (form_of v) more (length a)) (t

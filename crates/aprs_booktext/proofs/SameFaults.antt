@@ -48,22 +48,14 @@ module _ (lines : List (List ℕ)) (line more : List ℕ) (e : InputEnd) where
   at_row : (v : Version) (rows : List Row) → AreOfRows v rows lines → (c : BookCause)
       → IsWrong (millis_of (gap_of v)) (form_of v) rows line c
       → IsWrongRest lines line (10 ∷ more) e c
-  at_row v rows are why.Ending w =
-      inr (v, rows, are, (more, refl), w)
-  at_row v rows are why.RowSyntax w =
-      inr (v, rows, are, (more, refl), w)
-  at_row v rows are why.Frame w =
-      inr (v, rows, are, (more, refl), w)
-  at_row v rows are why.Order w =
-      inr (v, rows, are, (more, refl), w)
-  at_row v rows are why.Span w =
-      inr (v, rows, are, (more, refl), w)
-  at_row v rows are why.Near w =
-      inr (v, rows, are, (more, refl), w)
-  at_row v rows are why.Receivers w =
-      inr (v, rows, are, (more, refl), w)
-  at_row v rows are why.NotGreatest w =
-      inr (v, rows, are, (more, refl), w)
+  at_row v rows are why.Ending w = inr (v, rows, are, (more, refl), w)
+  at_row v rows are why.RowSyntax w = inr (v, rows, are, (more, refl), w)
+  at_row v rows are why.Frame w = inr (v, rows, are, (more, refl), w)
+  at_row v rows are why.Order w = inr (v, rows, are, (more, refl), w)
+  at_row v rows are why.Span w = inr (v, rows, are, (more, refl), w)
+  at_row v rows are why.Near w = inr (v, rows, are, (more, refl), w)
+  at_row v rows are why.Receivers w = inr (v, rows, are, (more, refl), w)
+  at_row v rows are why.NotGreatest w = inr (v, rows, are, (more, refl), w)
   at_row v rows are why.Header w = absurd w
   at_row v rows are why.After w = absurd w
   at_row v rows are why.Read w = absurd w

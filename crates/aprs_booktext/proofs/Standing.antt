@@ -180,8 +180,7 @@ held_fault : (stage : Stage) (rows : List Row) (line t bytes more : List ℕ)
     → is_done stage ≡ false → HasReadLines stage rows line t
     → IsFault (length bytes + length more) (record {
       line = line_number stage (length rows);
-      cause =
-          cause.Memory;
+      cause = cause.Memory;
     }) ((t ++ bytes) ++ more)
 held_fault Header rows line t bytes more going s = inl (record {
   refused = refl;
@@ -228,8 +227,7 @@ pub after_fault : (stage : Stage) (rows : List Row) (line t bytes more : List �
     → is_done stage ≡ true → 0 < length bytes → HasReadLines stage rows line t
     → IsFault (length bytes + length more) (record {
       line = line_number stage (length rows);
-      cause =
-          cause.After;
+      cause = cause.After;
     }) ((t ++ bytes) ++ more)
 after_fault Header rows line t bytes more done some s = absurd (let f : false ≡ true = done in cc)
 after_fault (Rows v) rows line t bytes more done some s = absurd (let f : false ≡ true = done in cc)
@@ -278,8 +276,7 @@ cut_fault Header rows line t e may s = record {
   lines = [];
   rest = line;
   whole = s.text_is;
-  line =
-      refl;
+  line = refl;
   fault = inl (record { none_read = refl; fault = inl (s.one, refl) });
 }
 cut_fault (Rows v) rows line t e may s = record {
@@ -408,8 +405,7 @@ pub held_fails : (stage : Stage) (rows : List Row) (line t bytes more : List ℕ
     → is_done stage ≡ false → HasReadLines stage rows line t
     → Fails (length bytes + length more) (record {
       line = line_number stage (length rows);
-      cause =
-          cause.Memory;
+      cause = cause.Memory;
     }) rows ((t ++ bytes) ++ more)
 held_fails stage rows line t bytes more going s = record {
   is = held_fault stage rows line t bytes more going s;

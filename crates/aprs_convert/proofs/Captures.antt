@@ -63,8 +63,7 @@ module _ (text : Judgement → List ℕ) where
   HasCaptured-none old before chunk = record {
     seen = [];
     cut = refl;
-    captures =
-        Captures-none old before;
+    captures = Captures-none old before;
   }
 
   -- one call of the reader, whose answer is written

@@ -65,8 +65,7 @@ Checked-none first a lines none =
       has = HasSeen-none first;
       out = Appends-nil a;
       heard_is = refl;
-      passed_is =
-          refl;
+      passed_is = refl;
       lines_are = none;
     }
 

@@ -259,8 +259,7 @@ pub of_got : (known after : Option (List ℕ)) (limit : ℕ) (t : List ℕ) (c :
     → InputEnd → Type 0) → IfSome known (λ input. Gets limit input after t c)
     → P t c → OfGot limit known after P
 of_got None after limit t c P gets reads = tt
-of_got (Some input) after limit t c P gets reads =
-    (t, c, gets, reads)
+of_got (Some input) after limit t c P gets reads = (t, c, gets, reads)
 
 -- and so is what was got after a head
 of_head : (known mid after : Option (List ℕ)) (limit : ℕ) (head : List ℕ)

@@ -7,8 +7,7 @@ use Rattle.aprs_convert.proofs.capture.capture_chunk.Goals as goal
 pub loop-rest-init : goal.loop-rest-init
 loop-rest-init g c = record {
   calls = Calls-none _;
-  captured =
-      HasCaptured-none (capture_text c.args.receiver.now c.args.moment.now) _ _ _;
+  captured = HasCaptured-none (capture_text c.args.receiver.now c.args.moment.now) _ _ _;
 }
 
 pub returns-in_err-write_fed-clause-prefix : goal.returns-in_err-write_fed-clause-prefix

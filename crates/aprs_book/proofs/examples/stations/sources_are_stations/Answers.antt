@@ -1,9 +1,9 @@
-use Rattle.aprs_book.proofs.Common.{◌≡◌, ℕ, Bool, Option, Some, None, inl, inr, refl, sym, ap, ◌∙◌, subst, arith, option_map_or, Call, call_cmp, Received, IsBelow, Key, LastKnown, known_of, Passes, n0call, plain_known, known_once}
+use Rattle.aprs_book.proofs.Common.{◌≡◌, ℕ, Bool, Option, Some, None, List, [], ◌∷◌, inl, inr, refl, ap, subst, arith, option_map_or, Call, Received, Key, LastKnown, known_of, Passes, n0call, plain_known, known_once, ◌∈◌, each_of}
 use Rattle.aprs_report.specs.Reader.{report_by_form, utc_at, stamp_at, position_of, place_of, plain_of, angle_of, minutes_of, numeral_of, cut_end}
 use Rattle.aprs_laws.specs.Key.{key_of}
 use Rattle.aprs_book.specs.declared.lists.station.Station.{Station}
 use Rattle.aprs_book.specs.Reports.{reports_position, reports_status}
-use Rattle.aprs_book.specs.Stations.{IsStation}
+use Rattle.aprs_book.specs.Stations.{ComesBefore, IsSource, IsStation}
 use Rattle.aprs_book.specs.Examples.{status_at, position_at, two_stations, two_stations_rows, station_of}
 use Rattle.aprs_book.proofs.examples.stations.sources_are_stations.Goals as goal
 
@@ -44,68 +44,29 @@ is_eighth = record {
   status = known (reports_status (n0call 8)) (Some (status_at 8 0)) refl;
 }
 
--- who sent them
-abbrev source_of : Received → Call
-source_of s = (key_of s.frame).source
-
-seven_sent : source_of (status_at 7 0) ≡ n0call 7
-unfolding key_of
-seven_sent = refl
-
-seven_placed : source_of (position_at 0) ≡ n0call 7
-unfolding key_of
-seven_placed = refl
-
-eight_sent : source_of (status_at 8 0) ≡ n0call 8
-unfolding key_of
-eight_sent = refl
+abbrev listed : List Station
+listed = seventh ∷ eighth ∷ []
 
 pub returns-clause-stations : goal.returns-clause-stations
+unfolding key_of
 returns-clause-stations c = record {
-  ascending = (
-    λ y h. elim h [
-      | inl e ↦ subst (λ (x : Station). IsBelow call_cmp (n0call 7) x.call) e refl
-      | inr j ↦ absurd j
-    ],
-    (λ y h. absurd h, tt),
-  );
+  ascending = (each_of (ComesBefore seventh) (eighth ∷ []) (refl, tt), (λ y h. absurd h, tt));
   sources = λ call. (
-    λ t. elim t.1 [
-      | inl e ↦ (
-        status_at 7 0,
-        inl refl,
-        seven_sent ∙ (ap (λ (x : Station). x.call) e ∙ t.2),
-      )
-      | inr k ↦ elim k [
-        | inl e ↦ (
-          status_at 8 0,
-          inr (inr (inr (inl refl))),
-          eight_sent ∙ (ap (λ (x : Station). x.call) e ∙ t.2),
-        )
-        | inr j ↦ absurd j
-      ]
-    ],
-    λ t. elim t.1 [
-      | inl e ↦ (seventh, inl refl, sym seven_sent ∙ (ap source_of e ∙ t.2))
-      | inr k ↦ elim k [
-        | inl e ↦ (seventh, inl refl, sym seven_sent ∙ (ap source_of e ∙ t.2))
-        | inr j ↦ elim j [
-          | inl e ↦ (seventh, inl refl, sym seven_placed ∙ (ap source_of e ∙ t.2))
-          | inr i ↦ elim i [
-            | inl e ↦ (eighth, inr (inl refl), sym eight_sent ∙ (ap source_of e ∙ t.2))
-            | inr n ↦ absurd n
-          ]
-        ]
-      ]
-    ],
+    λ t. each_of (λ (x : Station). x.call ≡ call → IsSource two_stations call) listed
+        (λ e. (status_at 7 0, inl refl, e), (λ e. (status_at 8 0, inr (inr (inr (inl refl))), e), tt))
+        t.0 t.1 t.2,
+    λ t. each_of (λ (s : Received). (key_of s.frame).source ≡ call
+        → (x : Station) × (x ∈ listed) × (x.call ≡ call)) two_stations (
+          λ e. (seventh, inl refl, e),
+          (
+            λ e. (seventh, inl refl, e),
+            (λ e. (seventh, inl refl, e), (λ e. (eighth, inr (inl refl), e), tt)),
+          ),
+        ) t.0 t.1 t.2,
   );
-  each = λ x h. elim h [
-    | inl e ↦ subst (λ (y : Station). IsStation two_stations two_stations_rows y) e is_seventh
-    | inr k ↦ elim k [
-      | inl e ↦ subst (λ (y : Station). IsStation two_stations two_stations_rows y) e is_eighth
-      | inr j ↦ absurd j
-    ]
-  ];
+  each =
+      each_of (λ (y : Station). IsStation two_stations two_stations_rows y) listed
+      (is_seventh, (is_eighth, tt));
 }
 
 pub returns-clause-misses_receptions : goal.returns-clause-misses_receptions
@@ -138,10 +99,8 @@ pub returns-clause-misses_order : goal.returns-clause-misses_order
 returns-clause-misses_order c = λ a. let h = a.ascending.0 seventh (inl refl) in cc h
 
 pub returns-clause-misses_station : goal.returns-clause-misses_station
+unfolding key_of
 returns-clause-misses_station c = λ a. let t =
-    (a.sources (n0call 8)).1 (status_at 8 0, inr (inr (inr (inl refl))), eight_sent) in
-    elim t.1 [
-      | inl e ↦ let n : 7 ≡ 8 = ap (λ (x : Station). x.call.ssid) e ∙ ap (λ (x : Call). x.ssid) t.2
-          in omega (arith, n)
-      | inr j ↦ j
-    ]
+    (a.sources (n0call 8)).1 (status_at 8 0, inr (inr (inr (inl refl))), refl) in
+    each_of (λ (x : Station). x.call ≡ n0call 8 → ⊥) (seventh ∷ [])
+    (λ e. let n : 7 ≡ 8 = ap (λ (x : Call). x.ssid) e in omega (arith, n), tt) t.0 t.1 t.2
