@@ -1,6 +1,7 @@
 -- Rows in order of which the first is known, and the rows of all. No public clause cites this
 -- module.
-use Rattle.std.specs.Prelude.{◌≡◌, ℕ, ◌⊎◌, Bool, false, List, [], ◌∷◌}
+use Rattle.std.specs.Prelude.{◌≡◌, ℕ, ◌⊎◌, Bool, false, List, [], ◌∷◌, Option, None, Some, slice_index_or}
+use Rattle.std.specs.BinaryHeap.{IsHeap, IsUpperBound, lt_by_cmp}
 use Rattle.std.specs.List.{flat_map, AllByRecursion}
 use Rattle.std.specs.List.Sorted.{IsPermutation}
 use Rattle.std.specs.Ordering.{is_eq, on, flip_args}
@@ -50,8 +51,32 @@ pub record IsTakenOut (rows : List Row) (x : Row) (rest : List Row) : Type 0 whe
 -- The rows after a first one are put back, if there are any.
 abbrev pub PutsBack : List Row → List Ahead → List Ahead → Type 0
 PutsBack rows old new =
-    ((rows ≡ []) × (new ≡ old))
+    ((rows ≡ []) × IsPermutation old new)
     ⊎ ((a : Ahead) × (rows ≡ rows_ahead a) × IsPermutation (a ∷ old) new)
+
+-- The one that stands beside the others, if there is one, and those.
+abbrev pub fronts : Option Ahead → List Ahead → List Ahead
+fronts None others = others
+fronts (Some a) others = a ∷ others
+
+-- It comes first of all; where there is none, there are no others.
+abbrev pub IsFirst : Option Ahead → List Ahead → Type 0
+IsFirst None others = others ≡ []
+IsFirst (Some a) others = IsUpperBound ahead_cmp a others
+
+-- If the others were a heap, they are one, and the one beside them comes first.
+abbrev pub SettlesFirst : List Ahead → Option Ahead → List Ahead → Type 0
+SettlesFirst old front new = IsHeap ahead_cmp old → IsHeap ahead_cmp new × IsFirst front new
+
+-- The first of a heap doesn't come after a.
+abbrev pub IsAfterTop : Ahead → List Ahead → Type 0
+IsAfterTop a others =
+    (top : Ahead) → top ≡ slice_index_or others 0 top → lt_by_cmp ahead_cmp top a ≡ false
+
+-- x is the first row of the one beside the others, and those after it are put back.
+abbrev pub TakesFirst : Option Ahead → List Ahead → Row → List Ahead → Type 0
+TakesFirst front others x new =
+    (a : Ahead) × (front ≡ Some a) × (x ≡ a.first) × PutsBack a.rest others new
 
 -- The row of these names, and of the first moment and the greatest reception of others.
 abbrev pub with_names : ℕ → Row → List (List ℕ) → Row

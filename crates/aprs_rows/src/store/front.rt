@@ -10,6 +10,7 @@ use crate::row::row_view::RowView;
 use crate::store::packed::Unpacked;
 use std::cmp::Ordering;
 use std::marker::Model;
+use std::mem::replace;
 
 /// The first of rows in order, and those after it. The greatest is the one whose first row comes
 /// first.
@@ -35,6 +36,16 @@ impl<'a> Front<'a> {
     {
         let first = rows.next()?;
         Some(Front { first, rest: rows })
+    }
+
+    /// Takes out the first row where others come after it. Where none do, the front stays as it is.
+    pub(crate) fn advance(&mut self) -> Option<RowView<'a>>
+        ensures first { IfSome result (λ x. x ≡ self.old.first) }
+        ensures rest { IfSome result (λ x. self.old.rest ≡ rows_ahead self.new) }
+        ensures none { IfNone result ((self.old.rest ≡ []) × (self.new ≡ self.old)) }
+    {
+        let next = self.rest.next()?;
+        Some(replace(&mut self.first, next))
     }
 }
 

@@ -1,10 +1,11 @@
 //! Rows of several lists in order, taken out in the order of all.
-ghost use Rattle.std.specs.Prelude.{◌≡◌, ◌≢◌, ◌<◌, ◌++◌, ◌+◌, true, [], All, IfSome, IfNone, OnOk, OnErr};
-ghost use Rattle.std.specs.BinaryHeap.{heap_len, heap_capacity, heap_items, KeepsHeap};
+ghost use Rattle.std.specs.Prelude.{◌≡◌, ◌≢◌, ◌++◌, ◌+◌, true, false, [], None, All, IfSome, IfNone, OnSome, OnOk, OnErr};
+ghost use Rattle.std.specs.BinaryHeap.{heap_items, IsHeap, IsUpperBound};
+ghost use Rattle.std.specs.List.Sorted.{IsPermutation};
 ghost use Rattle.aprs_laws.specs.Gap.{millis_of};
 ghost use Rattle.aprs_laws.specs.Lists.{SameMembers};
 ghost use Rattle.aprs_laws.specs.Sound.{AreSoundRows};
-ghost use Rattle.aprs_rows.specs.Fronts.{ahead_cmp, IsByTest, IsRun, IsTakenOut, NoneIsNear, PutsBack};
+ghost use Rattle.aprs_rows.specs.Fronts.{ahead_cmp, fronts, IsAfterTop, IsByTest, IsRun, IsTakenOut, NoneIsNear, SettlesFirst, TakesFirst};
 ghost use Rattle.aprs_rows.specs.Packed.{room_of};
 ghost use Rattle.aprs_rows.specs.Told.{IsTold};
 
@@ -18,24 +19,28 @@ use aprs_log::Moment;
 use std::alloc::Allocator;
 use std::collections::BinaryHeap;
 use std::marker::Model;
+use std::mem::replace;
 
-/// The rows of some lists in order that are still to come.
+/// The rows of some lists in order that are still to come. The front that comes first stands beside
+/// the heap of the others, so that nothing moves where the next row is of the same list.
 #[derive(Drop)]
 pub(crate) struct Merger<'a, A: Allocator> {
-    heap: BinaryHeap<Front<'a>, A>,
+    front: Option<Front<'a>>,
+    others: BinaryHeap<Front<'a>, A>,
 }
 
 impl<'a, A: Allocator> Model for Merger<'a, A> {
     ghost use Rattle.std.specs.Prelude.{List};
     ghost use Rattle.std.specs.BinaryHeap.{heap_items, IsHeap};
     ghost use Rattle.aprs_laws.specs.Row.{Row};
-    ghost use Rattle.aprs_rows.specs.Fronts.{ahead_cmp, all_ahead, AreRuns};
+    ghost use Rattle.aprs_rows.specs.Fronts.{ahead_cmp, all_ahead, AreRuns, fronts, IsFirst};
 
     ghost Value = { List Row };
 
-    ghost view = { λ m. all_ahead (heap_items m.heap) };
+    ghost view = { λ m. all_ahead (fronts m.front (heap_items m.others)) };
 
-    ghost invariant = { λ m. IsHeap ahead_cmp (heap_items m.heap) × AreRuns (heap_items m.heap) };
+    ghost invariant = { λ m. IsHeap ahead_cmp (heap_items m.others)
+        × AreRuns (fronts m.front (heap_items m.others)) × IsFirst m.front (heap_items m.others) };
 }
 
 impl<'a, A: Allocator + Copy> Merger<'a, A> {
@@ -44,7 +49,8 @@ impl<'a, A: Allocator + Copy> Merger<'a, A> {
         ensures { result ≡ [] }
     {
         Merger {
-            heap: BinaryHeap::new(alloc),
+            front: None,
+            others: BinaryHeap::new(alloc),
         }
     }
 
@@ -60,9 +66,10 @@ impl<'a, A: Allocator + Copy> Merger<'a, A> {
         let Some(front) = Front::of(rows) else {
             return Ok(());
         };
-        if self.heap.push(front).is_err() {
+        if self.others.push(front).is_err() {
             return Err(Memory);
         }
+        settle(&mut self.front, &mut self.others);
         Ok(())
     }
 
@@ -70,7 +77,7 @@ impl<'a, A: Allocator + Copy> Merger<'a, A> {
     pub(crate) fn told(&self)
         ensures { All IsTold self.now }
     {
-        let _heap = &self.heap;
+        let _others = &self.others;
     }
 
     /// Takes out the next row in order, or `None` after the last. Takes no memory.
@@ -79,8 +86,7 @@ impl<'a, A: Allocator + Copy> Merger<'a, A> {
         ensures none { IfNone result ((self.old ≡ []) × (self.new ≡ [])) }
         ensures sound { AreSoundRows self.old }
     {
-        let front = self.heap.pop()?;
-        Some(put_back(&mut self.heap, front))
+        take_first(&mut self.front, &mut self.others)
     }
 
     /// Takes out the next row in order if it is near to a row of this first moment and the greatest
@@ -96,27 +102,70 @@ impl<'a, A: Allocator + Copy> Merger<'a, A> {
         ensures none { IfNone result ((self.new ≡ self.old)
             × NoneIsNear (millis_of gap) first latest.now self.old) }
     {
-        let front = self.heap.peek()?;
+        let Some(front) = &self.front else {
+            return None;
+        };
         if !are_near(gap, first, latest, &front.first) {
             return None;
         }
-        let front = self.heap.pop()?;
-        Some(put_back(&mut self.heap, front))
+        take_first(&mut self.front, &mut self.others)
     }
 }
 
-/// The first row of a front. Puts the rows after it back into the heap, which has room for them.
-fn put_back<'a, A: Allocator>(heap: &mut BinaryHeap<Front<'a>, A>, front: Front<'a>) -> RowView<'a>
-    requires { heap_len heap.old < heap_capacity heap.old }
-    ensures first { result ≡ front.entry.first }
-    ensures rest { PutsBack front.entry.rest (heap_items heap.old) (heap_items heap.new) }
-    ensures heap_order { KeepsHeap ahead_cmp (heap_items heap.old) (heap_items heap.new) }
+/// Takes the first row out of the front. Then the front that comes first stands there.
+fn take_first<'a, A: Allocator>(
+    front: &mut Option<Front<'a>>,
+    others: &mut BinaryHeap<Front<'a>, A>,
+) -> Option<RowView<'a>>
+    ensures some { IfSome result (λ x. TakesFirst front.old (heap_items others.old) x
+        (fronts front.new (heap_items others.new))) }
+    ensures none { IfNone result ((front.old ≡ None) × (front.new ≡ None)
+        × (heap_items others.new ≡ heap_items others.old)) }
+    ensures first { OnSome result
+        (SettlesFirst (heap_items others.old) front.new (heap_items others.new)) }
 {
-    let Front { first, rest } = front;
-    if let Some(next) = Front::of(rest) {
-        if heap.push(next).is_err() {
+    let Some(own) = front else {
+        return None;
+    };
+    if let Some(row) = own.advance() {
+        settle(front, others);
+        return Some(row);
+    }
+    let Some(Front { first, rest: _ }) = front.take() else {
+        return None;
+    };
+    settle(front, others);
+    Some(first)
+}
+
+/// Lets the front that comes first of all stand beside the heap of the others.
+fn settle<'a, A: Allocator>(front: &mut Option<Front<'a>>, others: &mut BinaryHeap<Front<'a>, A>)
+    ensures same { IsPermutation (fronts front.old (heap_items others.old))
+        (fronts front.new (heap_items others.new)) }
+    ensures first { SettlesFirst (heap_items others.old) front.new (heap_items others.new) }
+{
+    let Some(own) = front else {
+        *front = others.pop();
+        return;
+    };
+    if is_first(own, others) {
+        return;
+    }
+    if let Some(other) = others.pop() {
+        if others.push(replace(own, other)).is_err() {
             unreachable!()
         }
     }
-    first
+}
+
+/// Whether a front comes before the others, or as early as their first.
+fn is_first<'a, A: Allocator>(own: &Front<'a>, others: &BinaryHeap<Front<'a>, A>) -> bool
+    ensures first { result ≡ true → IsHeap ahead_cmp (heap_items others.now)
+        → IsUpperBound ahead_cmp own.now (heap_items others.now) }
+    ensures later { result ≡ false → IsAfterTop own.now (heap_items others.now) }
+{
+    match others.peek() {
+        Some(other) => !own.cmp(other).is_lt(),
+        None => true,
+    }
 }

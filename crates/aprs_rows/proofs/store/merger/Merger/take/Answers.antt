@@ -2,26 +2,24 @@ use Rattle.std.proofs.Common.{List, subst}
 use Rattle.std.specs.BinaryHeap.{heap_items}
 use Rattle.aprs_laws.specs.Row.{Row}
 use Rattle.aprs_laws.specs.Sound.{AreSoundRows}
-use Rattle.aprs_rows.proofs.Fronts.{runs_back, sound_ahead, taken_out}
+use Rattle.aprs_rows.specs.Fronts.{fronts}
+use Rattle.aprs_rows.proofs.Fronts.{keeps, sound_ahead, taken_alone}
 use Rattle.aprs_rows.proofs.store.merger.Merger.take.Goals as goal
 
-pub invariant_of-self-2 : goal.invariant_of-self-2
-invariant_of-self-2 g c = (
-  c.put_back.ensures.heap_order (c.in_ok-front.ensures.heap_order c.self.invariant.0).0,
-  runs_back (heap_items c.self.inside.heap) c.in_ok-front.front (heap_items c.pop.new.self)
-      (heap_items c.put_back.new.heap) c.in_ok-front.ensures.permutation c.self.invariant.1
-      c.put_back.ensures.rest,
-)
+pub invariant_of-self : goal.invariant_of-self
+invariant_of-self g c =
+    keeps c.self.inside.front (heap_items c.self.inside.others) c.take_first.new.front
+    (heap_items c.take_first.new.others) c.take_first.result c.take_first.ensures.some
+    c.take_first.ensures.none c.take_first.ensures.first c.self.invariant.0 c.self.invariant.1
+    c.self.invariant.2
 
 pub returns-clause-some : goal.returns-clause-some
 returns-clause-some g c =
-    taken_out (heap_items c.self.inside.heap) c.in_ok-front.front (heap_items c.pop.new.self)
-    (heap_items c.put_back.new.heap) c.args.self.now c.put_back.result
-    c.in_ok-front.ensures.permutation c.self.invariant.1
-    (c.in_ok-front.ensures.below_top c.self.invariant.0) c.put_back.ensures.rest c.self.view_is
-    c.put_back.ensures.first
+    taken_alone c.self.inside.front (heap_items c.self.inside.others) c.take_first.new.front
+    (heap_items c.take_first.new.others) c.take_first.result c.args.self.now
+    c.take_first.ensures.some c.self.invariant.1 c.self.invariant.2 c.self.view_is
 
 pub returns-clause-sound : goal.returns-clause-sound
 returns-clause-sound g c =
     subst (λ (rows : List Row). AreSoundRows rows) c.self.view_is
-    (sound_ahead (heap_items c.self.inside.heap) c.self.invariant.1)
+    (sound_ahead (fronts c.self.inside.front (heap_items c.self.inside.others)) c.self.invariant.1)
