@@ -8,7 +8,7 @@ use aprs_book::{Book, Gap, Join, Receivers, Step, Summary, from_rows, replay, st
 use aprs_booktext::read_book;
 use aprs_kiss::Counted;
 use aprs_log::MAX_INPUT;
-use aprs_rows::BookRows;
+use aprs_rows::{BookStore, WalkRoom};
 use aprs_tool::{Desk, merge_run, read_input, show_run};
 use linked_list_allocator::LocalHeap;
 use std::alloc::Global;
@@ -28,8 +28,6 @@ enum Made {
     BookRows,
     BookOfRows,
     Summary,
-    ListedStations,
-    ListedObjects,
     ListedMessages,
     Replayed,
     Receivers,
@@ -52,8 +50,6 @@ const MADE: &[Made] = &[
     Made::BookRows,
     Made::BookOfRows,
     Made::Summary,
-    Made::ListedStations,
-    Made::ListedObjects,
     Made::ListedMessages,
     Made::Replayed,
     Made::Receivers,
@@ -108,29 +104,30 @@ fn used_of_entries<'a>(
 
 /// How much is in use with a store, and with what is made of it.
 fn used_of_store(heap: &LocalHeap, made: Made) -> Result<usize, Fail> {
-    let mut store = store_of_sent(heap)?;
+    let store = store_of_sent(heap)?;
     if let Made::BookStore = made {
         return Ok(heap.used());
     }
-    let mut room = Vec::new(heap);
+    if let Made::Summary | Made::ListedMessages = made {
+        return used_of_summary(heap, &store, made);
+    }
+    let mut room = WalkRoom::new(heap);
     let rows = store.rows(&mut room).ok().ok_or("memory")?;
     match made {
         Made::BookRows => Ok(heap.used()),
-        Made::BookOfRows => used_with(heap, Book::of_rows(heap, rows)),
-        _ => used_of_summary(heap, rows, made),
+        _ => used_with(heap, Book::of_rows(heap, rows)),
     }
 }
 
-/// How much is in use with what these rows say, and with what is made of it.
+/// How much is in use with a summary of this store, and with what is made of it.
 fn used_of_summary<'a>(
     heap: &'a LocalHeap,
-    rows: BookRows<'_, &'a LocalHeap>,
+    store: &BookStore<&'a LocalHeap>,
     made: Made,
 ) -> Result<usize, Fail> {
-    let summary = Summary::of(heap, rows).ok().ok_or("memory")?;
+    let mut room = WalkRoom::new(heap);
+    let summary = Summary::of(heap, store, &mut room).ok().ok_or("memory")?;
     match made {
-        Made::ListedStations => used_with(heap, summary.stations()),
-        Made::ListedObjects => used_with(heap, summary.objects()),
         Made::ListedMessages => used_with(heap, summary.messages()),
         _ => Ok(heap.used()),
     }

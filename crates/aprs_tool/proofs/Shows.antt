@@ -1,9 +1,9 @@
 -- Lemmas on the text of a listing.
-use Rattle.aprs_tool.proofs.Common.{◌≡◌, ◌≢◌, ℕ, List, [], ◌∷◌, ◌++◌, Option, inl, inr, refl, ap, ap₂, sym, ◌∙◌, append_assoc, subst, codes, flat_map, flat_map-append, decimal, Call, call_cmp, call_text, known_once, BookOf, BookValue, millis_of, LastKnown, Passes, ◌∈◌, Ordered, Received, reports_position, known_line, line_with, message_line, named_line, show_text, station_lines}
+use Rattle.aprs_tool.proofs.Common.{◌≡◌, ◌≢◌, ℕ, List, [], map, ◌∷◌, ◌++◌, Option, inl, inr, refl, ap, ap₂, sym, ◌∙◌, append_assoc, subst, codes, flat_map, flat_map-append, decimal, Call, call_cmp, call_text, known_once, BookOf, BookValue, millis_of, LastKnown, Passes, ◌∈◌, Ordered, Received, reports_position, known_line, line_with, message_line, named_line, show_text, station_lines}
 use Rattle.std.specs.declared.cmp.Ordering.TheVariants.{Less}
 use Rattle.aprs_laws.proofs.Orders.{call_total, not_both}
 use Rattle.aprs_book.specs.Messages.{ReportsMessages}
-use Rattle.aprs_book.specs.Names.{ReportsNamed}
+use Rattle.aprs_book.specs.Names.{ReportsNamed, Thing, shown_report}
 use Rattle.aprs_book.specs.Stations.{ComesBefore, IsSource, ReportsStations}
 use Rattle.aprs_book.specs.declared.lists.message.MessageRow.{MessageRow}
 use Rattle.aprs_book.specs.declared.lists.named.Named.{Named}
@@ -92,6 +92,20 @@ tells_position_of gap S text call known l source best =
     }
 
 -- ---- what is written
+
+-- a list that shows these reports
+abbrev listed : Thing × Received → Named
+listed r = record {
+  is_item = r.0.is_item;
+  name = record { ref_ptr = (0, 0); now = r.0.name };
+  heard = r.1;
+}
+
+pub all_listed : (reports : List (Thing × Received))
+    → (xs : List Named) × (map shown_report xs ≡ reports)
+all_listed [] = ([], refl)
+all_listed (r ∷ reports) =
+    let rest = all_listed reports in (listed r ∷ rest.0, ap (λ l. r ∷ l) rest.1)
 
 pub shown_text : (b : BookValue) (stations : List Station) (named : List Named)
     (messages : List MessageRow) → ReportsStations (millis_of b.gap) b.rows stations

@@ -132,8 +132,7 @@ impl<A: Allocator + Copy> Gathered<A> {
         let alloc = self.alloc;
         let mut room = WalkRoom::new(alloc);
         let store = self.into_store()?;
-        let rows = store.rows(&mut room)?;
-        let summary = Summary::of(alloc, rows)?;
+        let summary = Summary::of(alloc, &store, &mut room)?;
         let listing = Listing::of(&summary)?;
         Ok(listing.write(w)?)
     }

@@ -1,20 +1,13 @@
-use Rattle.aprs_tool.proofs.Common.{Ok, Err, refl, subst, ◌∙◌, err_from_is_err_and, Sends-err, Sends-ok, millis_of}
+use Rattle.aprs_tool.proofs.Common.{Ok, Err, refl, subst, ◌∙◌, err_from_is_err_and, Sends-err, Sends-ok}
 use Rattle.aprs_tool.specs.ToldBook.{IsShown, WritesTold}
 use Rattle.aprs_tool.specs.declared.gathered.OutputFault.TheVariants.{Write}
-use Rattle.aprs_tool.proofs.Shows.{shown_text}
+use Rattle.aprs_tool.proofs.Shows.{all_listed, shown_text}
 use Rattle.aprs_tool.proofs.gathered.Gathered.show.Goals as goal
 
 pub returns-in_err-store : goal.returns-in_err-store
 unfolding WritesTold
 returns-in_err-store g c =
     let p = err_from_is_err_and c.from_residual.result c.from_residual.ensures.1 in
-    rw (p.1, p.2) refl
-
-pub returns-in_err-rows : goal.returns-in_err-rows
-unfolding WritesTold
-returns-in_err-rows g c =
-    let p = err_from_is_err_and c.from_residual-in_err-rows.result
-    c.from_residual-in_err-rows.ensures.1 in
     rw (p.1, p.2) refl
 
 pub returns-in_err-summary : goal.returns-in_err-summary
@@ -37,28 +30,24 @@ returns-in_err-write g c =
     let p = err_from_is_err_and c.from_residual-in_err-write.result
     c.from_residual-in_err-write.ensures.1 in
     let listing = c.in_ok-listing.ensures in
-    let rows = c.in_ok-rows.rows in
-    let summary = c.in_ok-summary.ensures in
+    let named = all_listed c.in_ok-listing.listing.named in
     rw (p.1, p.2) (subst (λ b. WritesTold IsShown g.W.Write.contents (Err Write) b c.args.w.now
-    c.write.new.w) (c.in_ok-rows.ensures.book ∙ c.in_ok-store.ensures.book) (
+    c.write.new.w) (c.in_ok-summary.ensures ∙ c.in_ok-store.ensures.book) (
       _,
-      shown_text rows _ _ _ (listing.stations (millis_of rows.gap) rows.rows summary)
-          (listing.named (millis_of rows.gap) rows.rows summary)
-          (listing.messages (millis_of rows.gap) rows.rows summary),
-      Sends-err (Err Write) refl c.in_err-write.ensures,
+      shown_text c.in_ok-summary.summary _ _ _ listing.stations (listing.named named.0 named.1)
+          listing.messages,
+      Sends-err (Err Write) refl (c.in_err-write.ensures named.0 named.1),
     ))
 
 pub returns : goal.returns
 unfolding WritesTold
 returns g c =
     let listing = c.in_ok-listing.ensures in
-    let rows = c.in_ok-rows.rows in
-    let summary = c.in_ok-summary.ensures in
+    let named = all_listed c.in_ok-listing.listing.named in
     subst (λ b. WritesTold IsShown g.W.Write.contents (Ok tt) b c.args.w.now c.write.new.w)
-    (c.in_ok-rows.ensures.book ∙ c.in_ok-store.ensures.book) (
+    (c.in_ok-summary.ensures ∙ c.in_ok-store.ensures.book) (
       _,
-      shown_text rows _ _ _ (listing.stations (millis_of rows.gap) rows.rows summary)
-          (listing.named (millis_of rows.gap) rows.rows summary)
-          (listing.messages (millis_of rows.gap) rows.rows summary),
-      Sends-ok c.in_ok-write.ensures,
+      shown_text c.in_ok-summary.summary _ _ _ listing.stations (listing.named named.0 named.1)
+          listing.messages,
+      Sends-ok (c.in_ok-write.ensures named.0 named.1),
     )
