@@ -8,7 +8,7 @@ use aprs_book::{Book, Gap, Join, Receivers, Step, Summary, from_rows, replay, st
 use aprs_booktext::read_book;
 use aprs_kiss::Counted;
 use aprs_log::MAX_INPUT;
-use aprs_rows::{BookStore, WalkRoom};
+use aprs_rows::WalkRoom;
 use aprs_tool::{Desk, merge_run, read_input, show_run};
 use linked_list_allocator::LocalHeap;
 use std::alloc::Global;
@@ -28,7 +28,6 @@ enum Made {
     BookRows,
     BookOfRows,
     Summary,
-    ListedMessages,
     Replayed,
     Receivers,
     RowParts,
@@ -50,7 +49,6 @@ const MADE: &[Made] = &[
     Made::BookRows,
     Made::BookOfRows,
     Made::Summary,
-    Made::ListedMessages,
     Made::Replayed,
     Made::Receivers,
     Made::RowParts,
@@ -108,28 +106,14 @@ fn used_of_store(heap: &LocalHeap, made: Made) -> Result<usize, Fail> {
     if let Made::BookStore = made {
         return Ok(heap.used());
     }
-    if let Made::Summary | Made::ListedMessages = made {
-        return used_of_summary(heap, &store, made);
-    }
     let mut room = WalkRoom::new(heap);
+    if let Made::Summary = made {
+        return used_with(heap, Summary::of(heap, &store, &mut room));
+    }
     let rows = store.rows(&mut room).ok().ok_or("memory")?;
     match made {
         Made::BookRows => Ok(heap.used()),
         _ => used_with(heap, Book::of_rows(heap, rows)),
-    }
-}
-
-/// How much is in use with a summary of this store, and with what is made of it.
-fn used_of_summary<'a>(
-    heap: &'a LocalHeap,
-    store: &BookStore<&'a LocalHeap>,
-    made: Made,
-) -> Result<usize, Fail> {
-    let mut room = WalkRoom::new(heap);
-    let summary = Summary::of(heap, store, &mut room).ok().ok_or("memory")?;
-    match made {
-        Made::ListedMessages => used_with(heap, summary.messages()),
-        _ => Ok(heap.used()),
     }
 }
 

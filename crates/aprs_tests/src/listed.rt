@@ -137,8 +137,7 @@ fn many_rows_of_a_store_are_listed(rt: HostRuntime) -> Result<(), Fail> {
     let store = fifty_stored(alloc)?;
     let mut room = WalkRoom::new(alloc);
     let summary = Summary::of(alloc, &store, &mut room).ok().ok_or("memory")?;
-    let messages = summary.messages().ok().ok_or("memory")?;
-    assert!(rt; are_fifty(messages.as_slice()));
+    assert!(rt; are_fifty(summary.messages()));
     assert!(rt; summary_has_items(&summary));
     assert!(rt; summary_has_two(&summary));
     Ok(())

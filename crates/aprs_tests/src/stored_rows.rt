@@ -133,7 +133,7 @@ fn counts<A: Allocator + Copy>(
 ) -> Result<(usize, usize, usize), Memory> {
     let mut room = WalkRoom::new(alloc);
     let summary = Summary::of(alloc, store, &mut room)?;
-    let messages = summary.messages()?;
+    let messages = summary.messages();
     Ok((
         station_count(&summary),
         named_count(&summary),

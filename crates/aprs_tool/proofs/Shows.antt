@@ -9,7 +9,7 @@ use Rattle.aprs_book.specs.declared.lists.message.MessageRow.{MessageRow}
 use Rattle.aprs_book.specs.declared.lists.named.Named.{Named}
 use Rattle.aprs_book.specs.declared.lists.station.Station.{Station}
 use Rattle.aprs_tool.specs.Show.{IsListingOf, TellsPosition}
-use Rattle.aprs_tool.specs.ToldBook.{IsShown}
+use Rattle.aprs_listing.specs.Listing.{IsShown}
 
 below_itself : (c : Call) → call_cmp c c ≡ Less → ⊥
 below_itself c h = not_both call_total c c h h
@@ -90,36 +90,6 @@ tells_position_of gap S text call known l source best =
           (call_text c ∷ decimal x.transmissions ∷ [])
           ++ (known_line p ++ known_line x.status)) cut.is same);
     }
-
--- ---- what is written
-
--- a list that shows these reports
-abbrev listed : Thing × Received → Named
-listed r = record {
-  is_item = r.0.is_item;
-  name = record { ref_ptr = (0, 0); now = r.0.name };
-  heard = r.1;
-}
-
-pub all_listed : (reports : List (Thing × Received))
-    → (xs : List Named) × (map shown_report xs ≡ reports)
-all_listed [] = ([], refl)
-all_listed (r ∷ reports) =
-    let rest = all_listed reports in (listed r ∷ rest.0, ap (λ l. r ∷ l) rest.1)
-
-pub shown_text : (b : BookValue) (stations : List Station) (named : List Named)
-    (messages : List MessageRow) → ReportsStations (millis_of b.gap) b.rows stations
-    → ReportsNamed (millis_of b.gap) b.rows named → ReportsMessages (millis_of b.gap) b.rows messages
-    → IsShown b (show_text stations named messages)
-shown_text b stations named messages s n m = record {
-  stations = stations;
-  named = named;
-  messages = messages;
-  are_stations = s;
-  are_named = n;
-  are_messages = m;
-  text_is = refl;
-}
 
 -- the listing of whatever set the rows are the book of
 pub listing_of_shown : (gap : ℕ) (b : BookValue) (text : List ℕ) → b.gap ≡ gap → IsShown b text
