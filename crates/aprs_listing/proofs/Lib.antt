@@ -2,5 +2,6 @@
 mod Lines
 mod Histories
 mod OneLines
+pub mod Listings
 pub mod SoFar
 pub mod Common

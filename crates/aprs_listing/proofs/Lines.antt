@@ -1,8 +1,5 @@
 -- Lemmas on the fields of a line.
 use Rattle.aprs_listing.proofs.Common.{◌≡◌, ℕ, Bool, List, [], ◌∷◌, ◌++◌, map, refl, sym, ap, ap₂, ◌∙◌, append_assoc, flat_map, flat_map-append, Call, call_text, moment_text, Received, shown_text}
-use Rattle.aprs_book.specs.Names.{shown_report}
-use Rattle.aprs_book.specs.declared.lists.named.Named.{Named}
-use Rattle.aprs_listing.specs.Listing.{named_line, thing_line}
 use Rattle.aprs_laws.specs.Key.{key_of}
 use Rattle.aprs_listing.specs.Lines.{field_text, spaced_field}
 use Rattle.aprs_listing.specs.Listing.{after_space, heard_fields, live_text, name_fields, line_with_text, word}
@@ -37,9 +34,3 @@ pub name_fields_of : (name live_word who : List ℕ) (live : Bool) (heard shown_
     → word name ∷ live_word ∷ moment_text heard.moment ∷ who ∷ call_text from ∷ []
     ≡ name_fields name live shown_as
 name_fields_of name live_word who live heard shown_as from e l w f = rw (l, w, f, e) refl
-
--- the lines of objects and items say their last reports alone
-pub named_lines : (xs : List Named)
-    → flat_map thing_line (map shown_report xs) ≡ flat_map named_line xs
-named_lines [] = refl
-named_lines (x ∷ xs) = ap (λ l. named_line x ++ l) (named_lines xs)

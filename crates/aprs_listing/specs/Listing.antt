@@ -1,6 +1,6 @@
 -- The text of the listing, as a function of what is listed of a book: its stations, its objects and
 -- items, and its messages.
-use Rattle.std.specs.Prelude.{ℕ, ◌==◌, Bool, true, false, if◌then◌else◌, List, [], ◌∷◌, ◌++◌, Option, None, Some, codes}
+use Rattle.std.specs.Prelude.{◌≡◌, ℕ, ◌==◌, Bool, true, false, if◌then◌else◌, List, [], ◌∷◌, ◌++◌, Option, None, Some, codes}
 use Rattle.std.specs.List.{flat_map}
 use Rattle.std.specs.Fmt.{decimal, signed_decimal}
 use denote.Ref.{Bor}
@@ -20,7 +20,11 @@ use Rattle.aprs_book.specs.Reports.{report_of}
 use Rattle.aprs_book.specs.declared.lists.message.MessageRow.{MessageRow}
 use Rattle.aprs_book.specs.declared.lists.message.MessageState.{MessageState}
 use Rattle.aprs_book.specs.declared.lists.message.MessageState.TheVariants.{Unnumbered, Unanswered, Acknowledged, Rejected}
-use Rattle.aprs_book.specs.Names.{Thing}
+use Rattle.aprs_laws.specs.BookValue.{BookValue}
+use Rattle.aprs_laws.specs.Gap.{millis_of}
+use Rattle.aprs_book.specs.Messages.{ReportsMessages}
+use Rattle.aprs_book.specs.Names.{ReportsNamed, Thing}
+use Rattle.aprs_book.specs.Stations.{ReportsStations}
 use Rattle.aprs_book.specs.declared.lists.named.Named.{Named}
 use Rattle.aprs_book.specs.declared.lists.station.Station.{Station}
 use Rattle.aprs_io.specs.Shown.{shown_byte, shown_text}
@@ -161,3 +165,13 @@ abbrev pub show_text : List Station → List Named → List MessageRow → List 
 show_text stations named messages =
     flat_map station_lines stations
     ++ (flat_map named_line named ++ flat_map message_line messages)
+
+-- The text is that of what the book's rows report, whatever set they are the book of.
+pub record IsShown (book : BookValue) (text : List ℕ) : Type 0 where
+  pub stations : List Station
+  pub named : List Named
+  pub messages : List MessageRow
+  pub are_stations : ReportsStations (millis_of book.gap) book.rows stations
+  pub are_named : ReportsNamed (millis_of book.gap) book.rows named
+  pub are_messages : ReportsMessages (millis_of book.gap) book.rows messages
+  pub text_is : text ≡ show_text stations named messages

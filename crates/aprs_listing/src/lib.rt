@@ -14,4 +14,4 @@ mod via;
 pub use examples::{histories_tell_mic_e, histories_tell_reports, histories_tell_rows};
 pub use history::write_history;
 pub use laws::histories_have_one_line_each;
-pub use listing::Listing;
+pub use listing::write_listing;

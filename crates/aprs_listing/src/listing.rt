@@ -1,13 +1,8 @@
 //! The listing of a book: its stations, objects, items and messages.
-ghost use Rattle.std.specs.Prelude.{◌≡◌, List, IfOk, map};
+ghost use Rattle.std.specs.Prelude.{◌≡◌, ℕ, List};
 ghost use Rattle.std.specs.List.{flat_map};
 ghost use Rattle.aprs_io.specs.Device.{Sends};
 ghost use Rattle.aprs_io.specs.Outlet.{Puts};
-ghost use Rattle.aprs_laws.specs.Gap.{millis_of};
-ghost use Rattle.aprs_book.specs.declared.lists.named.Named.{Named};
-ghost use Rattle.aprs_book.specs.Stations.{ReportsStations};
-ghost use Rattle.aprs_book.specs.Names.{ReportsNamed, shown_report};
-ghost use Rattle.aprs_book.specs.Messages.{ReportsMessages};
 ghost use Rattle.aprs_listing.specs.Listing as Spec;
 
 use crate::field::Field;
@@ -17,70 +12,39 @@ use aprs_book::{
     Heard, HeardRoom, Memory, MessageRow, MessageState, NamedWalk, Station, StationWalk, Summary,
 };
 use aprs_io::{Counted, Outlet, WriteFault};
-use std::alloc::{Allocator, Global};
+use std::alloc::Allocator;
 use std::io::Write;
 
-/// What is listed of a book. Stations, objects and items are read as they are written.
-#[derive(Drop)]
-pub struct Listing<'s, 't, A: Allocator = Global> {
-    /// The stations, ascending by callsign.
-    pub stations: StationWalk<'s, 't, A>,
-    /// The objects by name, and then the items by name.
-    pub named: NamedWalk<'s, 't, A>,
-    /// The messages, ascending by source, addressee, text and id.
-    pub messages: Vec<MessageRow<'s>, A>,
-}
-
-impl<'s, 't, A: Allocator + Copy> Listing<'s, 't, A> {
-    /// What is listed of a book, from its summary: its stations, its objects and items, and its
-    /// messages. Takes memory for the messages alone.
-    pub fn of(summary: &'s Summary<'t, A>) -> Result<Listing<'s, 't, A>, Memory>
-        ensures stations { IfOk result (λ v.
-            ReportsStations (millis_of summary.now.gap) summary.now.rows v.stations) }
-        ensures named { IfOk result (λ v. (xs : List Named) → map shown_report xs ≡ v.named
-            → ReportsNamed (millis_of summary.now.gap) summary.now.rows xs) }
-        ensures messages { IfOk result (λ v.
-            ReportsMessages (millis_of summary.now.gap) summary.now.rows v.messages.items) }
-    {
-        Ok(Listing {
-            stations: summary.stations(),
-            named: summary.objects(),
-            messages: summary.messages()?,
-        })
-    }
-
-    /// Writes the listing: for each station its line and those of its last known position and
-    /// status; then a line for each object, item and message. At a fault a prefix of this went out.
-    /// Takes no memory.
-    pub fn write<W: Write>(self, w: &mut Counted<W>) -> Result<(), WriteFault>
-        ensures { (named : List Named) → map shown_report named ≡ self.entry.named
-            → Sends W.contents result w.old w.new
-            (Spec.show_text self.entry.stations named self.entry.messages.items) }
-    {
-        let mut out = Outlet::new(w);
-        put_listing(&mut out, self)?;
-        out.flush()
-    }
+/// Writes the listing of a book, from its summary: for each station its line and those of its last
+/// known position and status; then a line for each object, item and message. At a fault a prefix
+/// of this went out. Takes no memory.
+pub fn write_listing<W: Write, A: Allocator + Copy>(
+    w: &mut Counted<W>,
+    summary: &Summary<'_, A>,
+) -> Result<(), WriteFault>
+    ensures { (text : List ℕ) × Spec.IsShown summary.now text
+        × Sends W.contents result w.old w.new text }
+{
+    let mut out = Outlet::new(w);
+    put_listing(&mut out, summary)?;
+    out.flush()
 }
 
 /// Puts the listing: the lines of all stations, then of all objects and items, then of all
 /// messages. Fails where the output is refused.
 fn put_listing<W: Write, A: Allocator + Copy>(
     out: &mut Outlet<'_, W>,
-    listing: Listing<'_, '_, A>,
+    summary: &Summary<'_, A>,
 ) -> Result<(), WriteFault>
-    ensures { (named : List Named) → map shown_report named ≡ listing.entry.named
-        → Puts W.contents result out.old out.new
-        (Spec.show_text listing.entry.stations named listing.entry.messages.items) }
+    ensures { (text : List ℕ) × Spec.IsShown summary.now text
+        × Puts W.contents result out.old out.new text }
 {
-    let Listing {
-        stations,
-        named,
-        messages,
-    } = listing;
+    let stations = summary.stations();
+    let named = summary.objects();
+    let messages = summary.messages();
     put_stations(out, stations)?;
     put_all_named(out, named)?;
-    put_messages(out, &messages)
+    put_messages(out, messages)
 }
 
 /// Puts the lines of the stations, in their order. Fails where the output is refused.

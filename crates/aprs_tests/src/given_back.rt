@@ -7,7 +7,7 @@ use aprs_booktext::read_book;
 use aprs_fixtures::{LOG, MERGED_TEXT, NOON, receiver, sent};
 use aprs_kiss::Counted;
 use aprs_log::MAX_INPUT;
-use aprs_rows::BookRows;
+use aprs_rows::WalkRoom;
 use aprs_tool::{Desk, merge_run, read_input, show_run};
 use linked_list_allocator::LocalHeap;
 use std::alloc::Global;
@@ -27,9 +27,6 @@ enum Made {
     BookRows,
     BookOfRows,
     Summary,
-    ListedStations,
-    ListedObjects,
-    ListedMessages,
     Replayed,
     Receivers,
     RowParts,
@@ -51,9 +48,6 @@ const MADE: &[Made] = &[
     Made::BookRows,
     Made::BookOfRows,
     Made::Summary,
-    Made::ListedStations,
-    Made::ListedObjects,
-    Made::ListedMessages,
     Made::Replayed,
     Made::Receivers,
     Made::RowParts,
@@ -107,31 +101,18 @@ fn used_of_entries<'a>(
 
 /// How much is in use with a store, and with what is made of it.
 fn used_of_store(heap: &LocalHeap, made: Made) -> Result<usize, Fail> {
-    let mut store = store_of_sent(heap)?;
+    let store = store_of_sent(heap)?;
     if let Made::BookStore = made {
         return Ok(heap.used());
     }
-    let mut room = Vec::new(heap);
+    let mut room = WalkRoom::new(heap);
+    if let Made::Summary = made {
+        return used_with(heap, Summary::of(heap, &store, &mut room));
+    }
     let rows = store.rows(&mut room).ok().ok_or("memory")?;
     match made {
         Made::BookRows => Ok(heap.used()),
-        Made::BookOfRows => used_with(heap, Book::of_rows(heap, rows)),
-        _ => used_of_summary(heap, rows, made),
-    }
-}
-
-/// How much is in use with what these rows say, and with what is made of it.
-fn used_of_summary<'a>(
-    heap: &'a LocalHeap,
-    rows: BookRows<'_, &'a LocalHeap>,
-    made: Made,
-) -> Result<usize, Fail> {
-    let summary = Summary::of(heap, rows).ok().ok_or("memory")?;
-    match made {
-        Made::ListedStations => used_with(heap, summary.stations()),
-        Made::ListedObjects => used_with(heap, summary.objects()),
-        Made::ListedMessages => used_with(heap, summary.messages()),
-        _ => Ok(heap.used()),
+        _ => used_with(heap, Book::of_rows(heap, rows)),
     }
 }
 

@@ -1,34 +1,41 @@
 //! Objects and messages of a larger book, as values.
 
-use aprs_book::{Book, Gap, MessageRow, MessageState, Named, Summary};
+use aprs_book::{Book, Gap, HeardRoom, MessageRow, MessageState, Named, Summary};
 use aprs_fixtures::sent;
 use aprs_log::Reception;
-use aprs_rows::BookStore;
+use aprs_rows::{BookStore, WalkRoom};
 use std::alloc::{Allocator, Global};
 use std::test::Fail;
 
-/// Whether these are fifty messages with an id of their own, and fifty items with a name of their
-/// own, in order.
-fn are_fifty(messages: &[MessageRow<'_>], named: &[Named<'_>]) -> bool {
-    if messages.len() != 50 || named.len() != 50 {
+/// The two digits of this number, below fifty.
+fn digits(number: usize) -> [u8; 2] {
+    let i = number % 50;
+    [b'0' + (i / 10) as u8, b'0' + (i % 10) as u8]
+}
+
+/// Whether these are fifty messages with an id of their own, in order.
+fn are_fifty(messages: &[MessageRow<'_>]) -> bool {
+    if messages.len() != 50 {
         return false;
     }
     for i in 0..50usize {
-        let digits = [b'0' + (i / 10) as u8, b'0' + (i % 10) as u8];
         let message = &messages[i];
-        let name = [b'N', b'R', digits[0], digits[1]];
-        if message.id != Some(digits.as_slice())
+        if message.id != Some(digits(i).as_slice())
             || message.text != b"Hi".as_slice()
             || message.addressee != b"WU2Z".as_slice()
             || message.state != MessageState::Unanswered
             || message.first != message.last
-            || !named[i].is_item
-            || named[i].name != name.as_slice()
         {
             return false;
         }
     }
     true
+}
+
+/// Whether this is the item of this number.
+fn is_item(named: &Named<'_>, number: usize) -> bool {
+    let [tens, ones] = digits(number);
+    named.is_item && named.name == [b'N', b'R', tens, ones].as_slice()
 }
 
 /// The message and the item of this number, below fifty; later ones have earlier moments.
@@ -77,20 +84,41 @@ fn fifty_stored<A: Allocator + Copy>(alloc: A) -> Result<BookStore<A>, Fail> {
 fn book_has_fifty<A: Allocator + Copy>(book: &Book<A>) -> Result<bool, Fail> {
     let messages = book.messages().ok().ok_or("memory")?;
     let named = book.objects().ok().ok_or("memory")?;
-    Ok(are_fifty(messages.as_slice(), named.as_slice()))
+    if named.len() != 50 {
+        return Ok(false);
+    }
+    for i in 0..50usize {
+        if !is_item(&named[i], i) {
+            return Ok(false);
+        }
+    }
+    Ok(are_fifty(messages.as_slice()))
 }
 
-/// Whether these rows tell of the fifty messages and the fifty items.
-fn summary_has_fifty<A: Allocator + Copy>(summary: &Summary<'_, A>) -> Result<bool, Fail> {
-    let messages = summary.messages().ok().ok_or("memory")?;
-    let named = summary.objects().ok().ok_or("memory")?;
-    Ok(are_fifty(messages.as_slice(), named.as_slice()))
+/// Whether the summary tells of the fifty items.
+fn summary_has_items<A: Allocator + Copy>(summary: &Summary<'_, A>) -> bool {
+    let mut named = summary.objects();
+    let mut room = HeardRoom::new();
+    for i in 0..50usize {
+        match named.next(&mut room) {
+            Some(item) if is_item(&item, i) => {}
+            _ => return false,
+        }
+    }
+    named.next(&mut room).is_none()
 }
 
-/// Whether these rows are of two stations of fifty transmissions each.
-fn summary_has_two<A: Allocator + Copy>(summary: &Summary<'_, A>) -> Result<bool, Fail> {
-    let stations = summary.stations().ok().ok_or("memory")?;
-    Ok(stations.len() == 2 && stations.iter().all(|station| station.transmissions == 50))
+/// Whether the summary is of two stations of fifty transmissions each.
+fn summary_has_two<A: Allocator + Copy>(summary: &Summary<'_, A>) -> bool {
+    let mut stations = summary.stations();
+    let mut room = HeardRoom::new();
+    for _ in 0..2usize {
+        match stations.next(&mut room) {
+            Some(station) if station.transmissions == 50 => {}
+            _ => return false,
+        }
+    }
+    stations.next(&mut room).is_none()
 }
 
 // With ample memory no list is refused. Each of 50 messages has an id of its own, and each of 50
@@ -106,11 +134,11 @@ fn many_rows_of_a_book_are_listed(rt: HostRuntime) -> Result<(), Fail> {
 #[test]
 fn many_rows_of_a_store_are_listed(rt: HostRuntime) -> Result<(), Fail> {
     let alloc = rt.alloc();
-    let mut store = fifty_stored(alloc)?;
-    let mut room = Vec::new(alloc);
-    let rows = store.rows(&mut room).ok().ok_or("memory")?;
-    let summary = Summary::of(alloc, rows).ok().ok_or("memory")?;
-    assert!(rt; summary_has_fifty(&summary)?);
-    assert!(rt; summary_has_two(&summary)?);
+    let store = fifty_stored(alloc)?;
+    let mut room = WalkRoom::new(alloc);
+    let summary = Summary::of(alloc, &store, &mut room).ok().ok_or("memory")?;
+    assert!(rt; are_fifty(summary.messages()));
+    assert!(rt; summary_has_items(&summary));
+    assert!(rt; summary_has_two(&summary));
     Ok(())
 }

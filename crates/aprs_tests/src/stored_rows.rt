@@ -3,7 +3,7 @@
 use crate::ample_memory::hundred;
 use crate::refused_calls::{ROWS, SENT};
 use aprs_ax25::Frame;
-use aprs_book::{Book, Gap, Memory, RowCause, Summary};
+use aprs_book::{Book, Gap, HeardRoom, Memory, RowCause, Summary};
 use aprs_fixtures::{DIRECT, NOON, heard, is_shown, sent, squeeze};
 use aprs_rows::{BookStore, PackedRows, RowView, WalkRoom};
 use bumpalo::Bump;
@@ -100,18 +100,43 @@ fn refused_stores_are_as_before(rt: HostRuntime) -> Result<(), Fail> {
     Ok(())
 }
 
+/// How many stations the summary tells of, up to a hundred.
+fn station_count<A: Allocator + Copy>(summary: &Summary<'_, A>) -> usize {
+    let mut stations = summary.stations();
+    let mut room = HeardRoom::new();
+    for count in 0..100usize {
+        if stations.next(&mut room).is_none() {
+            return count;
+        }
+    }
+    100
+}
+
+/// How many objects and items the summary tells of, up to a hundred.
+fn named_count<A: Allocator + Copy>(summary: &Summary<'_, A>) -> usize {
+    let mut named = summary.objects();
+    let mut room = HeardRoom::new();
+    for count in 0..100usize {
+        if named.next(&mut room).is_none() {
+            return count;
+        }
+    }
+    100
+}
+
 /// How many stations, objects and items, and messages the rows of a store tell of.
 fn counts<A: Allocator + Copy>(
     alloc: A,
-    store: &mut BookStore<A>,
+    store: &BookStore<A>,
 ) -> Result<(usize, usize, usize), Memory> {
-    let mut room = Vec::new(alloc);
-    let rows = store.rows(&mut room)?;
-    let summary = Summary::of(alloc, rows)?;
-    let stations = summary.stations()?;
-    let named = summary.objects()?;
-    let messages = summary.messages()?;
-    Ok((stations.len(), named.len(), messages.len()))
+    let mut room = WalkRoom::new(alloc);
+    let summary = Summary::of(alloc, store, &mut room)?;
+    let messages = summary.messages();
+    Ok((
+        station_count(&summary),
+        named_count(&summary),
+        messages.len(),
+    ))
 }
 
 /// Whether what is listed of what was sent is refused with so many units of room.
@@ -120,9 +145,9 @@ fn is_list_refused(alloc: Global, units: usize) -> Result<bool, Fail> {
     let mut store = BookStore::new(&bump, Gap::STANDARD);
     store_sent(&bump, &mut store)?;
     let _fill = squeeze(&bump, units)?;
-    let is_refused = counts(&bump, &mut store).is_err();
+    let is_refused = counts(&bump, &store).is_err();
     bump.set_allocation_limit(None);
-    if counts(&bump, &mut store).ok() == Some((3, 2, 1)) {
+    if counts(&bump, &store).ok() == Some((3, 2, 1)) {
         Ok(is_refused)
     } else {
         Err("another list".into())

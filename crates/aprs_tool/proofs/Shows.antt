@@ -1,15 +1,15 @@
 -- Lemmas on the text of a listing.
-use Rattle.aprs_tool.proofs.Common.{◌≡◌, ◌≢◌, ℕ, List, [], ◌∷◌, ◌++◌, Option, inl, inr, refl, ap, ap₂, sym, ◌∙◌, append_assoc, subst, codes, flat_map, flat_map-append, decimal, Call, call_cmp, call_text, known_once, BookOf, BookValue, millis_of, LastKnown, Passes, ◌∈◌, Ordered, Received, reports_position, known_line, line_with, message_line, named_line, show_text, station_lines}
+use Rattle.aprs_tool.proofs.Common.{◌≡◌, ◌≢◌, ℕ, List, [], map, ◌∷◌, ◌++◌, Option, inl, inr, refl, ap, ap₂, sym, ◌∙◌, append_assoc, subst, codes, flat_map, flat_map-append, decimal, Call, call_cmp, call_text, known_once, BookOf, BookValue, millis_of, LastKnown, Passes, ◌∈◌, Ordered, Received, reports_position, known_line, line_with, message_line, named_line, show_text, station_lines}
 use Rattle.std.specs.declared.cmp.Ordering.TheVariants.{Less}
 use Rattle.aprs_laws.proofs.Orders.{call_total, not_both}
 use Rattle.aprs_book.specs.Messages.{ReportsMessages}
-use Rattle.aprs_book.specs.Names.{ReportsNamed}
+use Rattle.aprs_book.specs.Names.{ReportsNamed, Thing, shown_report}
 use Rattle.aprs_book.specs.Stations.{ComesBefore, IsSource, ReportsStations}
 use Rattle.aprs_book.specs.declared.lists.message.MessageRow.{MessageRow}
 use Rattle.aprs_book.specs.declared.lists.named.Named.{Named}
 use Rattle.aprs_book.specs.declared.lists.station.Station.{Station}
 use Rattle.aprs_tool.specs.Show.{IsListingOf, TellsPosition}
-use Rattle.aprs_tool.specs.ToldBook.{IsShown}
+use Rattle.aprs_listing.specs.Listing.{IsShown}
 
 below_itself : (c : Call) → call_cmp c c ≡ Less → ⊥
 below_itself c h = not_both call_total c c h h
@@ -90,22 +90,6 @@ tells_position_of gap S text call known l source best =
           (call_text c ∷ decimal x.transmissions ∷ [])
           ++ (known_line p ++ known_line x.status)) cut.is same);
     }
-
--- ---- what is written
-
-pub shown_text : (b : BookValue) (stations : List Station) (named : List Named)
-    (messages : List MessageRow) → ReportsStations (millis_of b.gap) b.rows stations
-    → ReportsNamed (millis_of b.gap) b.rows named → ReportsMessages (millis_of b.gap) b.rows messages
-    → IsShown b (show_text stations named messages)
-shown_text b stations named messages s n m = record {
-  stations = stations;
-  named = named;
-  messages = messages;
-  are_stations = s;
-  are_named = n;
-  are_messages = m;
-  text_is = refl;
-}
 
 -- the listing of whatever set the rows are the book of
 pub listing_of_shown : (gap : ℕ) (b : BookValue) (text : List ℕ) → b.gap ≡ gap → IsShown b text

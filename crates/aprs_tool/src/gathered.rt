@@ -2,14 +2,15 @@
 ghost use Rattle.std.specs.Prelude.{◌≡◌, ◌≢◌, [], IfOk, OnOk, OnErr};
 ghost use Rattle.aprs_laws.specs.BookValue.{BookValue};
 ghost use Rattle.aprs_laws.specs.Coalescing.{AreInOrder};
+ghost use Rattle.aprs_listing.specs.Listing.{IsShown};
 ghost use Rattle.aprs_tool.specs.Gathered.{with_rows, WritesText};
-ghost use Rattle.aprs_tool.specs.ToldBook.{IsHistory, IsShown, WritesTold, answer_of_output};
+ghost use Rattle.aprs_tool.specs.ToldBook.{IsHistory, WritesTold, answer_of_output};
 
 use crate::fault::RunFault;
 use aprs_book::{Gap, Memory, Summary};
 use aprs_booktext::write_rows;
 use aprs_io::{Counted, WriteFault};
-use aprs_listing::{Listing, write_history};
+use aprs_listing::{write_history, write_listing};
 use aprs_rows::{BookStore, PackedRows, WalkRoom};
 use std::alloc::{Allocator, Global};
 use std::io::Write;
@@ -132,10 +133,8 @@ impl<A: Allocator + Copy> Gathered<A> {
         let alloc = self.alloc;
         let mut room = WalkRoom::new(alloc);
         let store = self.into_store()?;
-        let rows = store.rows(&mut room)?;
-        let summary = Summary::of(alloc, rows)?;
-        let listing = Listing::of(&summary)?;
-        Ok(listing.write(w)?)
+        let summary = Summary::of(alloc, &store, &mut room)?;
+        Ok(write_listing(w, &summary)?)
     }
 
     /// Writes the history of the book. At `Memory` an allocation failed, and nothing was written;

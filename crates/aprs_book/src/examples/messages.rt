@@ -51,8 +51,8 @@ pub fn addressees_answer()
 pub fn greatest_answers_count()
     ensures unnumbered { Spec.IsStateOf (asked_at 0 ∷ []) (hi_message one) 0 None Unnumbered }
     ensures unanswered { Spec.IsStateOf (asked_at 0 ∷ []) (hi_message one) 0 one Unanswered }
-    ensures at_first_moment { Spec.IsStateOf (asked_at 7 ∷ acknowledged_at 7 ∷ []) (hi_message one) 7
-        one Acknowledged }
+    ensures at_first_moment { Spec.IsStateOf (asked_at 7 ∷ acknowledged_at 7 ∷ [])
+        (hi_message one) 7 one Acknowledged }
     ensures rejected { Spec.IsStateOf (asked_at 0 ∷ acknowledged_at 10 ∷ rejected_at 20 ∷ [])
         (hi_message one) 0 one Rejected }
 

@@ -8,7 +8,6 @@ ghost use Rattle.aprs_book.specs.Stations.{ReportsStations};
 
 use crate::known::indexes::Indexes;
 use crate::known::reception_view::ReceptionView;
-use crate::lists::exchange::Exchange;
 use crate::lists::message::messages_of;
 use crate::lists::named_walk::NamedWalk;
 use crate::lists::station_walk::StationWalk;
@@ -25,8 +24,7 @@ pub struct Summary<'t, A: Allocator = Global> {
     store: &'t BookStore<A>,
     indexes: Indexes<ReceptionView<'t>, A>,
     tallies: BTreeMap<Callsign, u64, A>,
-    exchange: Exchange<'t, A>,
-    alloc: A,
+    messages: Vec<MessageRow<'t>, A>,
 }
 
 impl<'t, A: Allocator> Drop for Summary<'t, A> {
@@ -35,19 +33,19 @@ impl<'t, A: Allocator> Drop for Summary<'t, A> {
             store: _,
             indexes,
             tallies,
-            exchange,
-            alloc: _,
+            messages,
         } = self;
         drop(indexes);
         drop(tallies);
-        drop(exchange);
+        drop(messages);
     }
 }
 
 impl<'t, A: Allocator> Model for Summary<'t, A> {
     ghost use Rattle.aprs_laws.specs.BookValue.{BookValue};
-    ghost use Rattle.aprs_book.specs.Exchange.{IsExchangeOf};
+    ghost use Rattle.aprs_laws.specs.Gap.{millis_of};
     ghost use Rattle.aprs_book.specs.Known.{AreIndexesOf};
+    ghost use Rattle.aprs_book.specs.Messages.{ReportsMessages};
     ghost use Rattle.aprs_book.specs.StationRows.{AreTallies};
 
     ghost Value = { BookValue };
@@ -56,7 +54,7 @@ impl<'t, A: Allocator> Model for Summary<'t, A> {
 
     ghost invariant = { λ s. AreIndexesOf s.store.now.rows s.indexes
         × AreTallies s.store.now.rows s.tallies.entries
-        × IsExchangeOf s.store.now.rows s.exchange };
+        × ReportsMessages (millis_of s.store.now.gap) s.store.now.rows s.messages.items };
 }
 
 impl<'t, A: Allocator + Copy> Summary<'t, A> {
@@ -78,12 +76,12 @@ impl<'t, A: Allocator + Copy> Summary<'t, A> {
         } = summarize(alloc, rows, most)?;
         let indexes = notes.into_indexes()?;
         let tallies = tallies.into_map()?;
+        let messages = messages_of(alloc, &exchange)?;
         Ok(Summary {
             store,
             indexes,
             tallies,
-            exchange,
-            alloc,
+            messages,
         })
     }
 
@@ -105,11 +103,10 @@ impl<'t, A: Allocator + Copy> Summary<'t, A> {
     }
 
     /// The messages that were heard, ascending by source, addressee, text and id; one without an id
-    /// comes before those with one.
-    pub fn messages(&self) -> Result<Vec<MessageRow<'_>, A>, Memory>
-        ensures { IfOk result (λ messages.
-            ReportsMessages (millis_of self.now.gap) self.now.rows messages.items) }
+    /// comes before those with one. Takes no memory.
+    pub fn messages(&self) -> &[MessageRow<'t>]
+        ensures { ReportsMessages (millis_of self.now.gap) self.now.rows result.now }
     {
-        messages_of(self.alloc, &self.exchange)
+        &self.messages
     }
 }

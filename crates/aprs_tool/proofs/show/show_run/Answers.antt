@@ -1,5 +1,5 @@
 use Rattle.aprs_tool.specs.Show.{IsListingOf}
-use Rattle.aprs_tool.specs.ToldBook.{IsShown}
+use Rattle.aprs_listing.specs.Listing.{IsShown}
 use Rattle.aprs_tool.proofs.Shows.{listing_of_shown}
 use Rattle.aprs_tool.proofs.Told.{told_asks, told_calls, told_refuses, told_writes}
 use Rattle.aprs_tool.proofs.show.show_run.Goals as goal

@@ -9,7 +9,7 @@ pub loop-message-init : goal.loop-message-init
 loop-message-init g c =
     lists_first (IsRowOfMessage c.args.exchange.now.answers.entries) c.args.exchange.now.spans.entries _ _
     (c.into_iter-message-iterator.ensures.into_iter_gives ∙ c.iter-message-items.ensures.rest)
-    c.new-list.ensures.items
+    (c.reserve_exact.ensures.items ∙ c.new-list.ensures.items)
 
 pub loop-message-preserved : goal.loop-message-preserved
 loop-message-preserved g c =
@@ -18,7 +18,7 @@ loop-message-preserved g c =
     c.row_of.result
     (rest_more deref_pair c.loop-message.message-iterator c.next.new.self c.next.result
     (c.in-Some.message, c.in-Some.span) c.in-Some.is c.next.ensures.steps)
-    (push_done _ _ _ _ (c.is_err.ensures.negation ∙ ap not c.if-is_err.false) c.push.ensures.items)
+    (push_done _ _ _ _ (c.is_err-in-loop-message.ensures.negation ∙ ap not c.if-is_err-2.false) c.push.ensures.items)
     c.row_of.ensures c.loop-message.invariant
 
 pub returns : goal.returns

@@ -1,20 +1,13 @@
-use Rattle.aprs_tool.proofs.Common.{Ok, Err, refl, subst, ◌∙◌, err_from_is_err_and, Sends-err, Sends-ok, millis_of}
-use Rattle.aprs_tool.specs.ToldBook.{IsShown, WritesTold}
+use Rattle.aprs_tool.proofs.Common.{Ok, Err, refl, subst, ◌∙◌, err_from_is_err_and, Sends-err, Sends-ok}
+use Rattle.aprs_listing.specs.Listing.{IsShown}
+use Rattle.aprs_tool.specs.ToldBook.{WritesTold}
 use Rattle.aprs_tool.specs.declared.gathered.OutputFault.TheVariants.{Write}
-use Rattle.aprs_tool.proofs.Shows.{shown_text}
 use Rattle.aprs_tool.proofs.gathered.Gathered.show.Goals as goal
 
 pub returns-in_err-store : goal.returns-in_err-store
 unfolding WritesTold
 returns-in_err-store g c =
     let p = err_from_is_err_and c.from_residual.result c.from_residual.ensures.1 in
-    rw (p.1, p.2) refl
-
-pub returns-in_err-rows : goal.returns-in_err-rows
-unfolding WritesTold
-returns-in_err-rows g c =
-    let p = err_from_is_err_and c.from_residual-in_err-rows.result
-    c.from_residual-in_err-rows.ensures.1 in
     rw (p.1, p.2) refl
 
 pub returns-in_err-summary : goal.returns-in_err-summary
@@ -24,41 +17,20 @@ returns-in_err-summary g c =
     c.from_residual-in_err-summary.ensures.1 in
     rw (p.1, p.2) refl
 
-pub returns-in_err-listing : goal.returns-in_err-listing
+pub returns-in_err-write_listing : goal.returns-in_err-write_listing
 unfolding WritesTold
-returns-in_err-listing g c =
-    let p = err_from_is_err_and c.from_residual-in_err-listing.result
-    c.from_residual-in_err-listing.ensures.1 in
-    rw (p.1, p.2) refl
-
-pub returns-in_err-write : goal.returns-in_err-write
-unfolding WritesTold
-returns-in_err-write g c =
-    let p = err_from_is_err_and c.from_residual-in_err-write.result
-    c.from_residual-in_err-write.ensures.1 in
-    let listing = c.in_ok-listing.ensures in
-    let rows = c.in_ok-rows.rows in
-    let summary = c.in_ok-summary.ensures in
+returns-in_err-write_listing g c =
+    let p = err_from_is_err_and c.from_residual-in_err-write_listing.result
+    c.from_residual-in_err-write_listing.ensures.1 in
+    let shown = c.in_err-write_listing.ensures in
     rw (p.1, p.2) (subst (λ b. WritesTold IsShown g.W.Write.contents (Err Write) b c.args.w.now
-    c.write.new.w) (c.in_ok-rows.ensures.book ∙ c.in_ok-store.ensures.book) (
-      _,
-      shown_text rows _ _ _ (listing.stations (millis_of rows.gap) rows.rows summary)
-          (listing.named (millis_of rows.gap) rows.rows summary)
-          (listing.messages (millis_of rows.gap) rows.rows summary),
-      Sends-err (Err Write) refl c.in_err-write.ensures,
-    ))
+    c.write_listing.new.w) (c.in_ok-summary.ensures ∙ c.in_ok-store.ensures.book)
+    (shown.0, shown.1, Sends-err (Err Write) refl shown.2))
 
 pub returns : goal.returns
 unfolding WritesTold
 returns g c =
-    let listing = c.in_ok-listing.ensures in
-    let rows = c.in_ok-rows.rows in
-    let summary = c.in_ok-summary.ensures in
-    subst (λ b. WritesTold IsShown g.W.Write.contents (Ok tt) b c.args.w.now c.write.new.w)
-    (c.in_ok-rows.ensures.book ∙ c.in_ok-store.ensures.book) (
-      _,
-      shown_text rows _ _ _ (listing.stations (millis_of rows.gap) rows.rows summary)
-          (listing.named (millis_of rows.gap) rows.rows summary)
-          (listing.messages (millis_of rows.gap) rows.rows summary),
-      Sends-ok c.in_ok-write.ensures,
-    )
+    let shown = c.in_ok-write_listing.ensures in
+    subst (λ b. WritesTold IsShown g.W.Write.contents (Ok tt) b c.args.w.now c.write_listing.new.w)
+    (c.in_ok-summary.ensures ∙ c.in_ok-store.ensures.book)
+    (shown.0, shown.1, Sends-ok shown.2)
