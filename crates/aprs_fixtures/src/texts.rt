@@ -16,8 +16,7 @@ fn name_text(text: &mut String, name: &Receiver) -> Option<()> {
     text.push(' ').ok()
 }
 
-/// Puts a row's first and last second in its hour, its receivers, the greatest reception's receiver
-/// and the last octet of its frame's source.
+/// Puts a row.
 fn row_text(text: &mut String, row: &Row<'_>) -> Option<()> {
     let first = row.first.seconds() % 3600;
     let last = row.last.seconds() % 3600;
@@ -31,7 +30,8 @@ fn row_text(text: &mut String, row: &Row<'_>) -> Option<()> {
     write!(text, "{octet:02x}; ").ok()
 }
 
-/// All rows so, or nothing where memory is refused.
+/// A book's rows, each by its first and last second in its hour, its receivers, the greatest
+/// reception's receiver and the last octet of its frame's source. Nothing where memory is refused.
 pub fn shown<A: Allocator + Copy>(alloc: Global, book: &Book<A>) -> Option<String> {
     let mut text = String::new(alloc);
     for row in book.rows() {
@@ -40,18 +40,18 @@ pub fn shown<A: Allocator + Copy>(alloc: Global, book: &Book<A>) -> Option<Strin
     Some(text)
 }
 
-/// Whether these are a book's rows.
+/// Whether these are a book's rows. Takes memory for them.
 pub fn is_shown<A: Allocator + Copy>(alloc: Global, book: &Book<A>, rows: &str) -> bool {
     matches!(&shown(alloc, book), Some(text) if text.as_str() == rows)
 }
 
-/// Whether a book is written as this text.
+/// Whether a book is written as this text. Takes memory for it.
 pub fn is_written_as<A: Allocator + Copy>(alloc: Global, book: &Book<A>, text: &[u8]) -> bool {
     let mut out = Counted::new(Vec::new(alloc));
     write_book(&mut out, book).is_ok() && out.into_inner().as_slice() == text
 }
 
-/// The text of a book.
+/// The text of a book. It fails where memory is refused.
 pub fn text_of<A: Allocator + Copy>(alloc: A, book: &Book<A>) -> Result<Vec<u8, A>, Fail> {
     let mut out = Counted::new(Vec::new(alloc));
     write_book(&mut out, book).ok().ok_or("memory")?;

@@ -22,10 +22,11 @@ pub const ANSWERED: [u8; 26] = [
 pub const DIRECT_LINE: &[u8] =
     b"2024-05-01T12:00:00Z RX1 c00082a0a4a64040e09c60868298986f03f03e4869c0";
 
-/// The same on the first day, and as another receiver heard it in the last second.
+/// The same on the first day.
 pub const FIRST_LINE: &[u8] =
     b"1970-01-01T00:00:00Z RX1 c00082a0a4a64040e09c60868298986f03f03e4869c0";
 
+/// The same as another receiver heard it in the last second.
 pub const LAST_LINE: &[u8] =
     b"2099-12-31T23:59:59Z RX2 c00082a0a4a64040e09c60868298986f03f03e4869c0";
 
@@ -59,14 +60,16 @@ pub const THREE_LINES: &[u8] =
 1970-01-01T00:00:30Z RX2 c00082a0a4a64040e09c60868298986eae92888a6240e303f03e4869c0
 ";
 
-/// Texts of books, as they are written.
+/// The text of the empty book, as it is written.
 pub const EMPTY_TEXT: &[u8] = b"APRSBOOK 3 30\nEND 0\n";
 
+/// That of the book of `ONE_LINE`.
 pub const DIRECT_TEXT: &[u8] = b"APRSBOOK 3 30
 T 2024-05-01T12:00:00.000Z 2024-05-01T12:00:00.000Z RX1 RX1 82a0a4a64040e09c60868298986f03f03e4869
 END 1
 ";
 
+/// That of the book of `THREE_LINES`.
 pub const MERGED_TEXT: &[u8] = b"APRSBOOK 3 30
 T 1970-01-01T00:00:00.000Z 1970-01-01T00:00:30.000Z RX1,RX2 RX2 \
     82a0a4a64040e09c60868298986eae92888a6240e303f03e4869
@@ -74,14 +77,16 @@ T 2099-12-31T23:59:59.000Z 2099-12-31T23:59:59.000Z RX2 RX2 82a0a4a64040e09c6086
 END 2
 ";
 
-/// The same books in version 1.
+/// The empty book in version 1.
 pub const OLD_EMPTY_TEXT: &[u8] = b"APRSBOOK 1\nEND 0\n";
 
+/// The book of `DIRECT_TEXT` in version 1.
 pub const OLD_DIRECT_TEXT: &[u8] = b"APRSBOOK 1
 T 2024-05-01T12:00:00Z 2024-05-01T12:00:00Z RX1 RX1 82a0a4a64040e09c60868298986f03f03e4869
 END 1
 ";
 
+/// The book of `MERGED_TEXT` in version 1.
 pub const OLD_MERGED_TEXT: &[u8] = b"APRSBOOK 1
 T 1970-01-01T00:00:00Z 1970-01-01T00:00:30Z RX1,RX2 RX2 \
     82a0a4a64040e09c60868298986eae92888a6240e303f03e4869
@@ -89,7 +94,7 @@ T 2099-12-31T23:59:59Z 2099-12-31T23:59:59Z RX2 RX2 82a0a4a64040e09c60868298986f
 END 2
 ";
 
-/// The line in which a text ends after so many bytes.
+/// The line, from 1, in which a text ends after so many bytes. Takes no memory.
 pub fn line_after(text: &[u8], good: usize) -> u64 {
     let mut line = 1u64;
     for byte in text.iter().take(good) {
