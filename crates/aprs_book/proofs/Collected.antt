@@ -1,5 +1,5 @@
 -- Entries of a map that are collected from rows: one for each thing that some row reports on.
-use Rattle.aprs_book.proofs.Common.{◌≡◌, ◌∙◌, List, [], ◌∷◌, ◌++◌, append_assoc, append-nil, ◌⊎◌, Some, None, Result, Ok, Err, OnOk, cond, sym, ap, refl, subst, inl, inr, AllByRecursion, lookup, keys_of, is_at, insert_entry, IsTotalOrder, is_eq, match_ordering, Ordering, Less, Equal, Greater, tied_itself, CmpEqualImpliesEq, sorted_head, sorted_tail, ◌∈◌, Ordered, in_left, in_right, in_either, Key, Row, row_key}
+use Rattle.aprs_book.proofs.Common.{by_order, ◌≡◌, ◌∙◌, List, [], ◌∷◌, ◌++◌, append_assoc, append-nil, ◌⊎◌, Some, None, Result, Ok, Err, OnOk, sym, ap, refl, subst, inl, inr, AllByRecursion, lookup, keys_of, is_at, insert_entry, IsTotalOrder, Ordering, Less, Equal, Greater, tied_itself, CmpEqualImpliesEq, sorted_head, sorted_tail, ◌∈◌, Ordered, in_left, in_right, in_either, Key, Row, row_key}
 use Rattle.std.specs.List.Sorted.{IsStrictlySortedBy}
 use Rattle.aprs_book.specs.MessageRows.{IsCollected}
 
@@ -55,33 +55,25 @@ module _ {K M : Type 0} (shown : K → M) (C : M → M → Ordering) where
     pub found : (q : K) (v : V) (es : List (K × V)) → lookup (is_at (cmp_of q)) es ≡ Some v
         → IsFound q v es
     found q v [] h = absurd (cc)
-    found q v (e ∷ es) h = reported (C (shown q) (shown e.0)) refl h (λ g. found q v es g) where
-      reported : (o : Ordering) → C (shown q) (shown e.0) ≡ o
-          → cond (is_eq o) (Some e.1) (lookup (is_at (cmp_of q)) es) ≡ Some v
-          → (lookup (is_at (cmp_of q)) es ≡ Some v → IsFound q v es) → IsFound q v (e ∷ es)
-      reported Less d g r = let f = r g in (f.0, inr f.1, f.2, f.3)
-      reported Equal d g r = (e, inl refl, exact (shown q) (shown e.0) d, cc)
-      reported Greater d g r = let f = r g in (f.0, inr f.1, f.2, f.3)
+    found q v (e ∷ es) h =
+        by_order (C (shown q) (shown e.0))
+        (λ o. let f = found q v es (rw o at h) in (f.0, inr f.1, f.2, f.3))
+        (λ o. let s : Some e.1 ≡ Some v = rw o at h in
+        (e, inl refl, exact (shown q) (shown e.0) o, cc))
+        (λ o. let f = found q v es (rw o at h) in (f.0, inr f.1, f.2, f.3))
 
     pub absent : (q : K) (es : List (K × V)) → lookup (is_at (cmp_of q)) es ≡ None → (e : K × V)
         → e ∈ es → shown q ≡ shown e.0 → ⊥
     absent q [] h e m d = m
-    absent q (f ∷ es) h e (inl s) d = reported (C (shown q) (shown f.0)) tie h where
-      tie : C (shown q) (shown f.0) ≡ Equal
-      tie =
-          ap (C (shown q)) (ap (λ (t : K × V). shown t.0) s ∙ sym d) ∙ tied_itself total (shown q)
-
-      reported : (o : Ordering) → o ≡ Equal
-          → cond (is_eq o) (Some f.1) (lookup (is_at (cmp_of q)) es) ≡ None → ⊥
-      reported Less t g = absurd (cc)
-      reported Equal t g = absurd (cc)
-      reported Greater t g = absurd (cc)
-    absent q (f ∷ es) h e (inr j) d = absent q es (reported (C (shown q) (shown f.0)) h) e j d where
-      reported : (o : Ordering) → cond (is_eq o) (Some f.1) (lookup (is_at (cmp_of q)) es) ≡ None
-          → lookup (is_at (cmp_of q)) es ≡ None
-      reported Less g = g
-      reported Equal g = absurd (cc)
-      reported Greater g = g
+    absent q (f ∷ es) h e (inl s) d =
+        let tie : C (shown q) (shown f.0) ≡ Equal =
+        ap (C (shown q)) (ap (λ (t : K × V). shown t.0) s ∙ sym d) ∙ tied_itself total (shown q) in
+        let g : Some f.1 ≡ None = rw tie at h in absurd (cc)
+    absent q (f ∷ es) h e (inr j) d =
+        by_order (C (shown q) (shown f.0))
+        (λ o. absent q es (rw o at h) e j d)
+        (λ o. absurd (let g : Some f.1 ≡ None = rw o at h in cc))
+        (λ o. absent q es (rw o at h) e j d)
 
     -- ---- one entry put
 
@@ -90,20 +82,18 @@ module _ {K M : Type 0} (shown : K → M) (C : M → M → Ordering) where
     from_insert k v [] e (inl s) = inl (ap (λ (t : K × V). shown t.0) (sym s))
     from_insert k v [] e (inr j) = absurd j
     from_insert k v (f ∷ es) e h =
-        reported (C (shown k) (shown f.0)) refl h (λ j. from_insert k v es e j) where
-          reported : (o : Ordering) → C (shown k) (shown f.0) ≡ o
-              → e ∈ match_ordering o ((k, v) ∷ f ∷ es) ((f.0, v) ∷ es)
-              (f ∷ insert_entry cmp_of es k v)
-              → (e ∈ insert_entry cmp_of es k v → (shown e.0 ≡ shown k) ⊎ (e ∈ es))
-              → (shown e.0 ≡ shown k) ⊎ (e ∈ (f ∷ es))
-          reported Less d (inl s) r = inl (ap (λ (t : K × V). shown t.0) (sym s))
-          reported Less d (inr j) r = inr j
-          reported Equal d (inl s) r =
-              inl
-              (ap (λ (t : K × V). shown t.0) (sym s) ∙ sym (exact (shown k) (shown f.0) d))
-          reported Equal d (inr j) r = inr (inr j)
-          reported Greater d (inl s) r = inr (inl s)
-          reported Greater d (inr j) r = elim (r j) [ inl s ↦ inl s | inr m ↦ inr (inr m) ]
+        by_order (C (shown k) (shown f.0))
+        (λ o. let i = rw o at h in
+        elim i [ inl s ↦ inl (ap (λ (t : K × V). shown t.0) (sym s)) | inr j ↦ inr j ])
+        (λ o. let i = rw o at h in elim i [
+          | inl s ↦
+              inl (ap (λ (t : K × V). shown t.0) (sym s) ∙ sym (exact (shown k) (shown f.0) o))
+          | inr j ↦ inr (inr j)
+        ])
+        (λ o. let i = rw o at h in elim i [
+          | inl s ↦ inr (inl s)
+          | inr j ↦ elim (from_insert k v es e j) [ inl s ↦ inl s | inr m ↦ inr (inr m) ]
+        ])
 
     abbrev pub IsThere : K → V → List (K × V) → Type 0
     IsThere k v es = (e : K × V) × (e ∈ es) × (shown e.0 ≡ shown k) × (e.1 ≡ v)
@@ -112,14 +102,10 @@ module _ {K M : Type 0} (shown : K → M) (C : M → M → Ordering) where
         → IsThere k v (insert_entry cmp_of es k v)
     inserted_there k v [] = ((k, v), inl refl, refl, refl)
     inserted_there k v (f ∷ es) =
-        reported (C (shown k) (shown f.0)) refl (inserted_there k v es) where
-          reported : (o : Ordering) → C (shown k) (shown f.0) ≡ o
-              → IsThere k v (insert_entry cmp_of es k v)
-              → IsThere k v
-              (match_ordering o ((k, v) ∷ f ∷ es) ((f.0, v) ∷ es) (f ∷ insert_entry cmp_of es k v))
-          reported Less d t = ((k, v), inl refl, refl, refl)
-          reported Equal d t = ((f.0, v), inl refl, sym (exact (shown k) (shown f.0) d), refl)
-          reported Greater d t = (t.0, inr t.1, t.2, t.3)
+        by_order (C (shown k) (shown f.0))
+        (λ o. rw o ((k, v), inl refl, refl, refl))
+        (λ o. rw o ((f.0, v), inl refl, sym (exact (shown k) (shown f.0) o), refl))
+        (λ o. let t = inserted_there k v es in rw o (t.0, inr t.1, t.2, t.3))
 
     abbrev pub Stays : K × V → List (K × V) → Type 0
     Stays e es = (f : K × V) × (f ∈ es) × (shown f.0 ≡ shown e.0)
@@ -128,16 +114,16 @@ module _ {K M : Type 0} (shown : K → M) (C : M → M → Ordering) where
         → Stays e (insert_entry cmp_of es k v)
     stays_there k v [] e h = absurd h
     stays_there k v (f ∷ es) e h =
-        reported (C (shown k) (shown f.0)) h (λ j. stays_there k v es e j) where
-          reported : (o : Ordering) → e ∈ (f ∷ es)
-              → (e ∈ es → Stays e (insert_entry cmp_of es k v))
-              → Stays e
-              (match_ordering o ((k, v) ∷ f ∷ es) ((f.0, v) ∷ es) (f ∷ insert_entry cmp_of es k v))
-          reported Less m r = (e, inr m, refl)
-          reported Equal (inl s) r = ((f.0, v), inl refl, ap (λ (t : K × V). shown t.0) s)
-          reported Equal (inr j) r = (e, inr j, refl)
-          reported Greater (inl s) r = (f, inl refl, ap (λ (t : K × V). shown t.0) s)
-          reported Greater (inr j) r = let t = r j in (t.0, inr t.1, t.2)
+        by_order (C (shown k) (shown f.0))
+        (λ o. rw o (e, inr h, refl))
+        (λ o. elim h [
+          | inl s ↦ rw o ((f.0, v), inl refl, ap (λ (t : K × V). shown t.0) s)
+          | inr j ↦ rw o (e, inr j, refl)
+        ])
+        (λ o. elim h [
+          | inl s ↦ rw o (f, inl refl, ap (λ (t : K × V). shown t.0) s)
+          | inr j ↦ let t = stays_there k v es e j in rw o (t.0, inr t.1, t.2)
+        ])
 
 -- ---- one row more
 

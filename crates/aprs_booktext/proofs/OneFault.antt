@@ -41,48 +41,42 @@ record GoesOn (a b : List (List ℕ)) (rest : List ℕ) : Type 0 where
   one : Lacks 10 line
   text_is : rest ≡ line ++ 10 ∷ tail
 
+goes_first : (line : List ℕ) (more : List (List ℕ)) (s rest : List ℕ) → Lacks 10 line
+    → rest ≡ text_of_lines (line ∷ more) ++ s → GoesOn [] (line ∷ more) rest
+goes_first line more s rest one e = record {
+  line = line;
+  more = more;
+  tail = text_of_lines more ++ s;
+  is = refl;
+  one = one;
+  text_is = e ∙ line_first line more s;
+}
+
+goes_later : (x y : List ℕ) (a b : List (List ℕ)) (rest : List ℕ) → x ≡ y → GoesOn a b rest
+    → GoesOn (x ∷ a) (y ∷ b) rest
+goes_later x y a b rest e f = record {
+  line = f.line;
+  more = f.more;
+  tail = f.tail;
+  is = ap (λ l. y ∷ l) f.is ∙ ap (λ z. z ∷ (a ++ f.line ∷ f.more)) (sym e);
+  one = f.one;
+  text_is = f.text_is;
+}
+
 two_prefixes : (a b : List (List ℕ)) (r s : List ℕ) → AllByRecursion (Lacks 10) a
     → AllByRecursion (Lacks 10) b → text_of_lines a ++ r ≡ text_of_lines b ++ s
     → ((a ≡ b) × (r ≡ s)) ⊎ (GoesOn a b r ⊎ GoesOn b a s)
 two_prefixes [] [] r s h k e = inl (refl, e)
-two_prefixes [] (y ∷ b) r s h k e = inr (inl (record {
-  line = y;
-  more = b;
-  tail = text_of_lines b ++ s;
-  is = refl;
-  one = k.0;
-  text_is = e ∙ line_first y b s;
-}))
-two_prefixes (x ∷ a) [] r s h k e = inr (inr (record {
-  line = x;
-  more = a;
-  tail = text_of_lines a ++ r;
-  is = refl;
-  one = h.0;
-  text_is = sym e ∙ line_first x a r;
-}))
+two_prefixes [] (y ∷ b) r s h k e = inr (inl (goes_first y b s r k.0 e))
+two_prefixes (x ∷ a) [] r s h k e = inr (inr (goes_first x a r s h.0 (sym e)))
 two_prefixes (x ∷ a) (y ∷ b) r s h k e =
     let t = same_line 10 x (text_of_lines a ++ r) y (text_of_lines b ++ s) h.0 k.0
     (sym (line_first x a r) ∙ e ∙ line_first y b s) in
     elim (two_prefixes a b r s h.1 k.1 t.1) [
       | inl same ↦ inl (ap (λ z. z ∷ a) t.0 ∙ ap (λ l. y ∷ l) same.0, same.1)
       | inr on ↦ elim on [
-        | inl f ↦ inr (inl (record {
-          line = f.line;
-          more = f.more;
-          tail = f.tail;
-          is = ap (λ l. y ∷ l) f.is ∙ ap (λ z. z ∷ (a ++ f.line ∷ f.more)) (sym t.0);
-          one = f.one;
-          text_is = f.text_is;
-        }))
-        | inr g ↦ inr (inr (record {
-          line = g.line;
-          more = g.more;
-          tail = g.tail;
-          is = ap (λ l. x ∷ l) g.is ∙ ap (λ z. z ∷ (b ++ g.line ∷ g.more)) t.0;
-          one = g.one;
-          text_is = g.text_is;
-        }))
+        | inl f ↦ inr (inl (goes_later x y a b r t.0 f))
+        | inr g ↦ inr (inr (goes_later y x b a s (sym t.0) g))
       ]
     ]
 

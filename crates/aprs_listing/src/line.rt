@@ -18,9 +18,7 @@ pub fn put_line<W: Write>(
     ensures { Puts W.contents result out.old out.new
         (kind.now ++ (flat_map spaced_field fields.now ++ 10 ∷ [])) }
 {
-    out.put(kind)?;
-    put_fields(out, fields)?;
-    out.put(b"\n")
+    put_lists_line(out, kind, fields, &[])
 }
 
 /// Puts a line: its kind, each of `fields` and then of `others` after a space, a colon, the text

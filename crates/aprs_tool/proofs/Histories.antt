@@ -1,13 +1,10 @@
 -- Lemmas on the text of a history.
-use Rattle.aprs_tool.proofs.Common.{codes, ◌≡◌, ◌∙◌, ℕ, Bool, true, List, [], ◌∷◌, ◌++◌, map, Option, Some, None, inl, inr, refl, ap, sym, flat_map-append, Call, LastKnown, Passes, BookOf, BookValue, millis_of, SameMembers, ◌∈◌, Row, unique, rows_know, has_source, is_item_named, is_object_named, is_position_report, report_of, reports_item, reports_object, reports_position, without_spaces, Received, report_line}
+use Rattle.aprs_tool.proofs.Common.{codes, ◌≡◌, ◌∙◌, ℕ, Bool, true, List, [], ◌∷◌, ◌++◌, map, Some, None, inl, inr, refl, ap, sym, flat_map-append, Call, LastKnown, Passes, BookOf, BookValue, millis_of, SameMembers, ◌∈◌, Row, unique, rows_know, has_source, is_item_named, is_object_named, is_position_report, report_of, reports_item, reports_object, reports_position, without_spaces, Received, report_line}
 use Rattle.std.proofs.lemmas.Bool.{and_parts}
 use Rattle.aprs_ax25.specs.FrameFault.{parts_of}
 use Rattle.aprs_report.specs.Reader.{reading_of}
 use Rattle.aprs_report.specs.Reading.{Value, position, object, item, message, ack, rej, status, raw}
-use Rattle.aprs_report.specs.declared.place.Place.{Place}
-use Rattle.aprs_report.specs.declared.stamp.Stamp.{Stamp}
-use Rattle.aprs_report.specs.declared.symbol.Symbol.{Symbol}
-use Rattle.aprs_laws.specs.Key.{key_of}
+use Rattle.aprs_laws.specs.Key.{Key, key_of}
 use Rattle.aprs_listing.specs.History.{history_line, history_text, row_fields, told_line}
 use Rattle.aprs_tool.specs.HistoryOf.{IsHistoryOf, TellsNamed, TellsPlace}
 use Rattle.aprs_tool.specs.ToldBook.{IsHistory}
@@ -47,50 +44,27 @@ cut_at (y ∷ ys) x (inr m) =
       whole = ap (λ l. y ∷ l) rest.whole;
     }
 
--- a report of a position
-record Position (v : Value) : Type 0 where
-  messaging : Bool
-  stamp : Option Stamp
-  place : Place
-  symbol : Symbol
-  comment : List ℕ
-  is : v ≡ position messaging stamp place symbol comment
-
-position_of : (v : Value) → is_position_report v ≡ true → Position v
-position_of (position messaging stamp place symbol comment) e = record {
-  messaging = messaging;
-  stamp = stamp;
-  place = place;
-  symbol = symbol;
-  comment = comment;
-  is = refl;
-}
-position_of (object name live stamp place symbol comment) e = absurd cc
-position_of (item name live place symbol comment) e = absurd cc
-position_of (message addressee text id) e = absurd cc
-position_of (ack addressee id) e = absurd cc
-position_of (rej addressee id) e = absurd cc
-position_of (status stamp text) e = absurd cc
-position_of raw e = absurd cc
-
 -- what a frame is read as
 info_of : (frame : List ℕ) → (key_of frame).info ≡ (parts_of frame).info
 unfolding key_of
 info_of frame = refl
 
-pub tells_place_of : (gap : ℕ) (S : List Received) (text : List ℕ) (call : Call) (x : Received)
-    → IsHistoryOf gap S text → LastKnown S (Passes (reports_position call)) (Some x)
-    → TellsPlace text x
-tells_place_of gap S text call x h best =
-    let its =
-    rows_know (millis_of gap) S h.rows (Passes (reports_position call)) (Some x) h.book best in
+-- the text has the line of a row whose greatest reception is x, and x reports v
+record LineOf (text : List ℕ) (x : Received) (v : Value) : Type 0 where
+  before : List Row
+  row : Row
+  after : List Row
+  is : row.greatest ≡ x
+  text_is : text ≡ history_text before ++ (history_line row ++ history_text after)
+  listed : report_line x (report_of (key_of x.frame)) ≡ report_line x v
+  told : history_line row ≡ told_line (row_fields row) (parts_of row.greatest.frame) v
+
+line_of : (gap : ℕ) (S : List Received) (text : List ℕ) (test : Key → Bool) (x : Received)
+    → IsHistoryOf gap S text → LastKnown S (Passes test) (Some x)
+    → LineOf text x (report_of (key_of x.frame))
+line_of gap S text test x h best =
+    let its = rows_know (millis_of gap) S h.rows (Passes test) (Some x) h.book best in
     let cut = cut_at h.rows x its.member in
-    let key = key_of x.frame in
-    let it = position_of (report_of key)
-    ((and_parts (has_source call key) (is_position_report (report_of key)) its.property).1) in
-    let read : reading_of (parts_of x.frame).info
-    ≡ position it.messaging it.stamp it.place it.symbol it.comment =
-    ap reading_of (sym (info_of x.frame)) ∙ it.is in
     record {
       before = cut.before;
       row = cut.row;
@@ -98,123 +72,103 @@ tells_place_of gap S text call x h best =
       is = cut.is;
       text_is = h.text_is ∙ ap history_text cut.whole
           ∙ flat_map-append history_line cut.before (cut.row ∷ cut.after);
-      stamp = it.stamp;
-      place = it.place;
-      symbol = it.symbol;
-      comment = it.comment;
-      listed = ap (report_line x) it.is;
+      listed = refl;
       told = ap (told_line (row_fields cut.row) (parts_of cut.row.greatest.frame))
-          (ap (λ (y : Received). reading_of (parts_of y.frame).info) cut.is ∙ read);
+          (ap (λ (y : Received). reading_of (parts_of y.frame).info) cut.is
+          ∙ ap reading_of (sym (info_of x.frame)));
     }
 
--- a report of an object
-record Object (v : Value) : Type 0 where
-  name : List ℕ
-  live : Bool
-  stamp : Stamp
-  place : Place
-  symbol : Symbol
-  comment : List ℕ
-  is : v ≡ object name live stamp place symbol comment
-
-object_of : (wanted : List ℕ) (v : Value) → is_object_named wanted v ≡ true → Object v
-object_of wanted (object name live stamp place symbol comment) e = record {
-  name = name;
-  live = live;
+place_of : {text : List ℕ} {x : Received} (v : Value) → is_position_report v ≡ true
+    → LineOf text x v → TellsPlace text x
+place_of (position messaging stamp place symbol comment) e l = record {
+  before = l.before;
+  row = l.row;
+  after = l.after;
+  is = l.is;
+  text_is = l.text_is;
   stamp = stamp;
   place = place;
   symbol = symbol;
   comment = comment;
-  is = refl;
+  listed = l.listed;
+  told = l.told;
 }
-object_of wanted (position messaging stamp place symbol comment) e = absurd cc
-object_of wanted (item name live place symbol comment) e = absurd cc
-object_of wanted (message addressee text id) e = absurd cc
-object_of wanted (ack addressee id) e = absurd cc
-object_of wanted (rej addressee id) e = absurd cc
-object_of wanted (status stamp text) e = absurd cc
-object_of wanted raw e = absurd cc
+place_of (object name live stamp place symbol comment) e l = absurd cc
+place_of (item name live place symbol comment) e l = absurd cc
+place_of (message addressee said id) e l = absurd cc
+place_of (ack addressee id) e l = absurd cc
+place_of (rej addressee id) e l = absurd cc
+place_of (status stamp said) e l = absurd cc
+place_of raw e l = absurd cc
 
--- a report of an item
-record Item (v : Value) : Type 0 where
-  name : List ℕ
-  live : Bool
-  place : Place
-  symbol : Symbol
-  comment : List ℕ
-  is : v ≡ item name live place symbol comment
-
-item_of : (wanted : List ℕ) (v : Value) → is_item_named wanted v ≡ true → Item v
-item_of wanted (item name live place symbol comment) e = record {
+object_of : {text : List ℕ} {x : Received} (wanted : List ℕ) (v : Value)
+    → is_object_named wanted v ≡ true → LineOf text x v → TellsNamed (codes "object") text x
+object_of wanted (object name live stamp place symbol comment) e l = record {
+  before = l.before;
+  row = l.row;
+  after = l.after;
+  is = l.is;
+  text_is = l.text_is;
   name = name;
   live = live;
+  stamp = Some stamp;
   place = place;
   symbol = symbol;
   comment = comment;
-  is = refl;
+  listed = l.listed;
+  told = l.told;
 }
-item_of wanted (position messaging stamp place symbol comment) e = absurd cc
-item_of wanted (object name live stamp place symbol comment) e = absurd cc
-item_of wanted (message addressee text id) e = absurd cc
-item_of wanted (ack addressee id) e = absurd cc
-item_of wanted (rej addressee id) e = absurd cc
-item_of wanted (status stamp text) e = absurd cc
-item_of wanted raw e = absurd cc
+object_of wanted (position messaging stamp place symbol comment) e l = absurd cc
+object_of wanted (item name live place symbol comment) e l = absurd cc
+object_of wanted (message addressee said id) e l = absurd cc
+object_of wanted (ack addressee id) e l = absurd cc
+object_of wanted (rej addressee id) e l = absurd cc
+object_of wanted (status stamp said) e l = absurd cc
+object_of wanted raw e l = absurd cc
+
+item_of : {text : List ℕ} {x : Received} (wanted : List ℕ) (v : Value)
+    → is_item_named wanted v ≡ true → LineOf text x v → TellsNamed (codes "item") text x
+item_of wanted (item name live place symbol comment) e l = record {
+  before = l.before;
+  row = l.row;
+  after = l.after;
+  is = l.is;
+  text_is = l.text_is;
+  name = name;
+  live = live;
+  stamp = None;
+  place = place;
+  symbol = symbol;
+  comment = comment;
+  listed = l.listed;
+  told = l.told;
+}
+item_of wanted (position messaging stamp place symbol comment) e l = absurd cc
+item_of wanted (object name live stamp place symbol comment) e l = absurd cc
+item_of wanted (message addressee said id) e l = absurd cc
+item_of wanted (ack addressee id) e l = absurd cc
+item_of wanted (rej addressee id) e l = absurd cc
+item_of wanted (status stamp said) e l = absurd cc
+item_of wanted raw e l = absurd cc
+
+pub tells_place_of : (gap : ℕ) (S : List Received) (text : List ℕ) (call : Call) (x : Received)
+    → IsHistoryOf gap S text → LastKnown S (Passes (reports_position call)) (Some x)
+    → TellsPlace text x
+tells_place_of gap S text call x h best =
+    let key = key_of x.frame in
+    let is = and_parts (has_source call key) (is_position_report (report_of key)) best.property in
+    place_of (report_of key) is.1 (line_of gap S text (reports_position call) x h best)
 
 pub tells_object_of : (gap : ℕ) (S : List Received) (text name : List ℕ) (x : Received)
     → IsHistoryOf gap S text → LastKnown S (Passes (reports_object name)) (Some x)
     → TellsNamed (codes "object") text x
 tells_object_of gap S text name x h best =
-    let its =
-    rows_know (millis_of gap) S h.rows (Passes (reports_object name)) (Some x) h.book best in
-    let cut = cut_at h.rows x its.member in
-    let it = object_of (without_spaces name) (report_of (key_of x.frame)) its.property in
-    let read : reading_of (parts_of x.frame).info
-    ≡ object it.name it.live it.stamp it.place it.symbol it.comment =
-    ap reading_of (sym (info_of x.frame)) ∙ it.is in
-    record {
-      before = cut.before;
-      row = cut.row;
-      after = cut.after;
-      is = cut.is;
-      text_is = h.text_is ∙ ap history_text cut.whole
-          ∙ flat_map-append history_line cut.before (cut.row ∷ cut.after);
-      name = it.name;
-      live = it.live;
-      stamp = Some it.stamp;
-      place = it.place;
-      symbol = it.symbol;
-      comment = it.comment;
-      listed = ap (report_line x) it.is;
-      told = ap (told_line (row_fields cut.row) (parts_of cut.row.greatest.frame))
-          (ap (λ (y : Received). reading_of (parts_of y.frame).info) cut.is ∙ read);
-    }
+    object_of (without_spaces name) (report_of (key_of x.frame)) best.property
+    (line_of gap S text (reports_object name) x h best)
 
 pub tells_item_of : (gap : ℕ) (S : List Received) (text name : List ℕ) (x : Received)
     → IsHistoryOf gap S text → LastKnown S (Passes (reports_item name)) (Some x)
     → TellsNamed (codes "item") text x
 tells_item_of gap S text name x h best =
-    let its =
-    rows_know (millis_of gap) S h.rows (Passes (reports_item name)) (Some x) h.book best in
-    let cut = cut_at h.rows x its.member in
-    let it = item_of (without_spaces name) (report_of (key_of x.frame)) its.property in
-    let read : reading_of (parts_of x.frame).info
-    ≡ item it.name it.live it.place it.symbol it.comment =
-    ap reading_of (sym (info_of x.frame)) ∙ it.is in
-    record {
-      before = cut.before;
-      row = cut.row;
-      after = cut.after;
-      is = cut.is;
-      text_is = h.text_is ∙ ap history_text cut.whole
-          ∙ flat_map-append history_line cut.before (cut.row ∷ cut.after);
-      name = it.name;
-      live = it.live;
-      stamp = None;
-      place = it.place;
-      symbol = it.symbol;
-      comment = it.comment;
-      listed = ap (report_line x) it.is;
-      told = ap (told_line (row_fields cut.row) (parts_of cut.row.greatest.frame))
-          (ap (λ (y : Received). reading_of (parts_of y.frame).info) cut.is ∙ read);
-    }
+    item_of (without_spaces name) (report_of (key_of x.frame)) best.property
+    (line_of gap S text (reports_item name) x h best)

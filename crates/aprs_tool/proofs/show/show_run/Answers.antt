@@ -4,21 +4,17 @@ use Rattle.aprs_tool.proofs.Shows.{listing_of_shown}
 use Rattle.aprs_tool.proofs.Told.{told_asks, told_calls, told_refuses, told_writes}
 use Rattle.aprs_tool.proofs.show.show_run.Goals as goal
 
-pub returns-clause-writes : goal.returns-clause-writes
-returns-clause-writes g c = rw c.answer_of.ensures (λ inputs e.
-    told_writes c.args.limit c.args.gap inputs _ IsShown (IsListingOf c.args.gap) g.W.Write.contents _ _ _
-    (λ text. listing_of_shown _ _ text c.in-Ok.ensures.gap) (c.in-Ok.ensures.reads inputs e) _
-    c.show.ensures)
-
-pub returns-clause-refuses : goal.returns-clause-refuses
-returns-clause-refuses g c = rw c.answer_of.ensures (λ inputs e.
-    told_refuses c.args.limit c.args.gap inputs _ IsShown (IsListingOf c.args.gap) g.W.Write.contents _ _ _
-    (λ text. listing_of_shown _ _ text c.in-Ok.ensures.gap) (c.in-Ok.ensures.reads inputs e) _
-    c.show.ensures)
-
-pub returns-clause-asks : goal.returns-clause-asks
-returns-clause-asks g c = rw c.answer_of.ensures (told_asks _ _ _ c.in-Ok.ensures.calls)
-
-pub returns-clause-calls : goal.returns-clause-calls
-returns-clause-calls g c = rw c.answer_of.ensures
-    (told_calls IsShown g.W.Write.contents _ _ _ _ c.show.ensures)
+pub returns : goal.returns
+returns g c = record {
+  writes = rw c.answer_of.ensures (λ inputs e.
+      told_writes c.args.limit c.args.gap inputs _ IsShown (IsListingOf c.args.gap) g.W.Write.contents _ _ _
+      (λ text. listing_of_shown _ _ text c.in-Ok.ensures.gap) (c.in-Ok.ensures.reads inputs e) _
+      c.show.ensures);
+  refuses = rw c.answer_of.ensures (λ inputs e.
+      told_refuses c.args.limit c.args.gap inputs _ IsShown (IsListingOf c.args.gap) g.W.Write.contents _ _ _
+      (λ text. listing_of_shown _ _ text c.in-Ok.ensures.gap) (c.in-Ok.ensures.reads inputs e) _
+      c.show.ensures);
+  asks = rw c.answer_of.ensures (told_asks _ _ _ c.in-Ok.ensures.calls);
+  calls = rw c.answer_of.ensures
+      (told_calls IsShown g.W.Write.contents _ _ _ _ c.show.ensures);
+}

@@ -25,40 +25,31 @@ abbrev first : List ℕ → ℕ
 first [] = 0
 first (b ∷ more) = b
 
-pub returns-clause-acknowledged : goal.returns-clause-acknowledged
+pub returns : goal.returns
 unfolding report_by_form message_with addressee_and_part_of answer_at text_and_id_of cut_end
-returns-clause-acknowledged c = record {
-  addressee = codes "N0CALL-7";
-  sender = eight_text;
-  to = seven_text;
-  answer = inl refl;
+returns c = record {
+  acknowledged = record {
+    addressee = codes "N0CALL-7";
+    sender = eight_text;
+    to = seven_text;
+    answer = inl refl;
+  };
+  rejected = record {
+    addressee = codes "N0CALL-7";
+    sender = eight_text;
+    to = seven_text;
+    answer = inr refl;
+  };
+  misses_id = λ a. elim a.answer [
+    | inl e ↦ let n : 50 ≡ 49 = ap (λ v. first (id_of v)) e in omega (arith, n)
+    | inr e ↦ let n : 50 ≡ 49 = ap (λ v. first (id_of v)) e in omega (arith, n)
+  ];
+  misses_sender = λ a.
+      let n : 56 ≡ 55 = ap eighth (a.sender.spelled ∙ sym seven_text.spelled) in
+      omega (arith, n);
+  misses_addressee = λ a. let to = a.to.spelled ∙ sym seven_text.spelled in
+      elim a.answer [
+        | inl e ↦ let n : 56 ≡ 55 = ap (λ v. eighth (to_of v)) e ∙ ap eighth to in omega (arith, n)
+        | inr e ↦ let n : 56 ≡ 55 = ap (λ v. eighth (to_of v)) e ∙ ap eighth to in omega (arith, n)
+      ];
 }
-
-pub returns-clause-rejected : goal.returns-clause-rejected
-unfolding report_by_form message_with addressee_and_part_of answer_at text_and_id_of cut_end
-returns-clause-rejected c = record {
-  addressee = codes "N0CALL-7";
-  sender = eight_text;
-  to = seven_text;
-  answer = inr refl;
-}
-
-pub returns-clause-misses_id : goal.returns-clause-misses_id
-unfolding report_by_form message_with addressee_and_part_of answer_at text_and_id_of cut_end
-returns-clause-misses_id c = λ a. elim a.answer [
-  | inl e ↦ let n : 50 ≡ 49 = ap (λ v. first (id_of v)) e in omega (arith, n)
-  | inr e ↦ let n : 50 ≡ 49 = ap (λ v. first (id_of v)) e in omega (arith, n)
-]
-
-pub returns-clause-misses_sender : goal.returns-clause-misses_sender
-returns-clause-misses_sender c = λ a.
-    let n : 56 ≡ 55 = ap eighth (a.sender.spelled ∙ sym seven_text.spelled) in
-    omega (arith, n)
-
-pub returns-clause-misses_addressee : goal.returns-clause-misses_addressee
-unfolding report_by_form message_with addressee_and_part_of answer_at text_and_id_of cut_end
-returns-clause-misses_addressee c = λ a. let to = a.to.spelled ∙ sym seven_text.spelled in
-    elim a.answer [
-      | inl e ↦ let n : 56 ≡ 55 = ap (λ v. eighth (to_of v)) e ∙ ap eighth to in omega (arith, n)
-      | inr e ↦ let n : 56 ≡ 55 = ap (λ v. eighth (to_of v)) e ∙ ap eighth to in omega (arith, n)
-    ]

@@ -33,40 +33,34 @@ is_row = record {
   state = state;
 }
 
-pub returns-clause-again : goal.returns-clause-again
-returns-clause-again c = record {
-  ascending = (λ y h. absurd h, tt);
-  messages = λ m. (
-    λ t. each_of (λ (x : MessageRow). shown_message x ≡ m
-        → (s : Received) × (s ∈ asked_again) × ReportsIt m (key_of s.frame)) (row ∷ [])
-        (λ e. (asked_at 0, inl refl, asked_is ∙ ap Some e), tt) t.0 t.1 t.2,
-    λ t. (
-      row,
-      inl refl,
-      each_of (λ (s : Received). ReportsIt m (key_of s.frame)
-          → hi_message one ≡ m) asked_again (
-            one_message _ _ asked_is,
-            (λ r. absurd (let d = sym acknowledged_is ∙ r in cc d), (one_message _ _ asked_is, tt)),
-          ) t.0 t.1 t.2,
-    ),
-  );
-  each = each_of (λ (y : MessageRow). IsMessageRow asked_again y) (row ∷ []) (is_row, tt);
+pub returns : goal.returns
+returns c = record {
+  again = record {
+    ascending = (λ y h. absurd h, tt);
+    messages = λ m. (
+      λ t. each_of (λ (x : MessageRow). shown_message x ≡ m
+          → (s : Received) × (s ∈ asked_again) × ReportsIt m (key_of s.frame)) (row ∷ [])
+          (λ e. (asked_at 0, inl refl, asked_is ∙ ap Some e), tt) t.0 t.1 t.2,
+      λ t. (
+        row,
+        inl refl,
+        each_of (λ (s : Received). ReportsIt m (key_of s.frame)
+            → hi_message one ≡ m) asked_again (
+              one_message _ _ asked_is,
+              (λ r. absurd (let d = sym acknowledged_is ∙ r in cc d), (one_message _ _ asked_is, tt)),
+            ) t.0 t.1 t.2,
+      ),
+    );
+    each = each_of (λ (y : MessageRow). IsMessageRow asked_again y) (row ∷ []) (is_row, tt);
+  };
+  misses_unanswered = λ a. let e =
+      one_state asked_again 0 Unanswered Acknowledged
+      (a.each (hi_listed 0 20 Unanswered) (inl refl)).state state in cc e;
+  misses_last = λ a. let n =
+      (a.each (hi_listed 0 0 Acknowledged) (inl refl)).last.greatest (asked_at 20)
+      (inr (inr (inl refl))) asked_is in omega (arith, n);
+  misses_twice = λ a. let h =
+      a.ascending.0 row (inl refl) in cc h;
+  misses_none = λ a.
+      ((a.messages (hi_message one)).1 (asked_at 0, inl refl, asked_is)).1;
 }
-
-pub returns-clause-misses_unanswered : goal.returns-clause-misses_unanswered
-returns-clause-misses_unanswered c = λ a. let e =
-    one_state asked_again 0 Unanswered Acknowledged
-    (a.each (hi_listed 0 20 Unanswered) (inl refl)).state state in cc e
-
-pub returns-clause-misses_last : goal.returns-clause-misses_last
-returns-clause-misses_last c = λ a. let n =
-    (a.each (hi_listed 0 0 Acknowledged) (inl refl)).last.greatest (asked_at 20)
-    (inr (inr (inl refl))) asked_is in omega (arith, n)
-
-pub returns-clause-misses_twice : goal.returns-clause-misses_twice
-returns-clause-misses_twice c = λ a. let h =
-    a.ascending.0 row (inl refl) in cc h
-
-pub returns-clause-misses_none : goal.returns-clause-misses_none
-returns-clause-misses_none c = λ a.
-    ((a.messages (hi_message one)).1 (asked_at 0, inl refl, asked_is)).1

@@ -47,39 +47,35 @@ item_row = leader_listed true (item_at 20)
 abbrev listed : List Named
 listed = object_row ∷ item_row ∷ []
 
-pub returns-clause-named : goal.returns-clause-named
-returns-clause-named c = record {
-  ascending = (each_of (IsNamedBefore object_row) (item_row ∷ []) (refl, tt), (λ y h. absurd h, tt));
-  things = λ t. (
-    λ x. each_of (λ (y : Named). shown_thing y ≡ t
-        → (s : Received) × (s ∈ two_leaders) × ReportsOf t (key_of s.frame)) listed (
-          λ e. (killed_at 10, inr (inr (inl refl)), killed_is ∙ ap Some e),
-          (λ e. (item_at 20, inl refl, item_is ∙ ap Some e), tt),
-        ) x.0 x.1 x.2,
-    λ x. each_of (λ (s : Received). ReportsOf t (key_of s.frame)
-        → (y : Named) × (y ∈ listed) × (shown_thing y ≡ t)) two_leaders (
-          λ r. (item_row, inr (inl refl), one_thing _ _ item_is r),
-          (
-            λ r. (object_row, inl refl, one_thing _ _ object_is r),
-            (λ r. (object_row, inl refl, one_thing _ _ killed_is r), tt),
-          ),
-        ) x.0 x.1 x.2,
-  );
-  each =
-      each_of (λ (y : Named). IsBest two_leaders (ReportsOf (shown_thing y)) y.heard) listed
-      (best_object, (best_item, tt));
+pub returns : goal.returns
+returns c = record {
+  named = record {
+    ascending = (each_of (IsNamedBefore object_row) (item_row ∷ []) (refl, tt), (λ y h. absurd h, tt));
+    things = λ t. (
+      λ x. each_of (λ (y : Named). shown_thing y ≡ t
+          → (s : Received) × (s ∈ two_leaders) × ReportsOf t (key_of s.frame)) listed (
+            λ e. (killed_at 10, inr (inr (inl refl)), killed_is ∙ ap Some e),
+            (λ e. (item_at 20, inl refl, item_is ∙ ap Some e), tt),
+          ) x.0 x.1 x.2,
+      λ x. each_of (λ (s : Received). ReportsOf t (key_of s.frame)
+          → (y : Named) × (y ∈ listed) × (shown_thing y ≡ t)) two_leaders (
+            λ r. (item_row, inr (inl refl), one_thing _ _ item_is r),
+            (
+              λ r. (object_row, inl refl, one_thing _ _ object_is r),
+              (λ r. (object_row, inl refl, one_thing _ _ killed_is r), tt),
+            ),
+          ) x.0 x.1 x.2,
+    );
+    each =
+        each_of (λ (y : Named). IsBest two_leaders (ReportsOf (shown_thing y)) y.heard) listed
+        (best_object, (best_item, tt));
+  };
+  misses_killed = λ a. let h =
+      (a.each (leader_listed false (object_at 0)) (inl refl)).greatest (killed_at 10)
+      (inr (inr (inl refl))) killed_is in cc h;
+  misses_order = λ a. let h = a.ascending.0 object_row (inl refl) in cc h;
+  misses_item = λ a. let t =
+      (a.things (leader_thing true)).1 (item_at 20, inl refl, item_is) in
+      each_of (λ (y : Named). shown_thing y ≡ leader_thing true → ⊥) (object_row ∷ [])
+      (not_item, tt) t.0 t.1 t.2;
 }
-
-pub returns-clause-misses_killed : goal.returns-clause-misses_killed
-returns-clause-misses_killed c = λ a. let h =
-    (a.each (leader_listed false (object_at 0)) (inl refl)).greatest (killed_at 10)
-    (inr (inr (inl refl))) killed_is in cc h
-
-pub returns-clause-misses_order : goal.returns-clause-misses_order
-returns-clause-misses_order c = λ a. let h = a.ascending.0 object_row (inl refl) in cc h
-
-pub returns-clause-misses_item : goal.returns-clause-misses_item
-returns-clause-misses_item c = λ a. let t =
-    (a.things (leader_thing true)).1 (item_at 20, inl refl, item_is) in
-    each_of (λ (y : Named). shown_thing y ≡ leader_thing true → ⊥) (object_row ∷ [])
-    (not_item, tt) t.0 t.1 t.2

@@ -47,60 +47,50 @@ is_eighth = record {
 abbrev listed : List Station
 listed = seventh ∷ eighth ∷ []
 
-pub returns-clause-stations : goal.returns-clause-stations
-unfolding key_of
-returns-clause-stations c = record {
-  ascending = (each_of (ComesBefore seventh) (eighth ∷ []) (refl, tt), (λ y h. absurd h, tt));
-  sources = λ call. (
-    λ t. each_of (λ (x : Station). x.call ≡ call → IsSource two_stations call) listed
-        (λ e. (status_at 7 0, inl refl, e), (λ e. (status_at 8 0, inr (inr (inr (inl refl))), e), tt))
-        t.0 t.1 t.2,
-    λ t. each_of (λ (s : Received). (key_of s.frame).source ≡ call
-        → (x : Station) × (x ∈ listed) × (x.call ≡ call)) two_stations (
-          λ e. (seventh, inl refl, e),
-          (
-            λ e. (seventh, inl refl, e),
-            (λ e. (seventh, inl refl, e), (λ e. (eighth, inr (inl refl), e), tt)),
-          ),
-        ) t.0 t.1 t.2,
-  );
-  each =
-      each_of (λ (y : Station). IsStation two_stations two_stations_rows y) listed
-      (is_seventh, (is_eighth, tt));
-}
-
-pub returns-clause-misses_receptions : goal.returns-clause-misses_receptions
-unfolding key_of
-returns-clause-misses_receptions c = λ a. let n : 3 ≡ 2 =
-    (a.each (station_of 7 3 (Some (position_at 0)) (Some (status_at 7 30000))) (inl refl)).transmissions
-    in omega (arith, n)
-
 -- the moment of what is known
 abbrev moment_of : Option Received → ℕ
 moment_of known = option_map_or (λ s. s.moment) known 1
 
-pub returns-clause-misses_status : goal.returns-clause-misses_status
-returns-clause-misses_status c = λ a. let n : 0 ≡ 30000 =
-    ap moment_of
-    (known_once two_stations two_stations (Passes (reports_status (n0call 7)))
-    (Some (status_at 7 0)) (Some (status_at 7 30000)) (λ x. (λ h. h, λ h. h))
-    (a.each (station_of 7 2 (Some (position_at 0)) (Some (status_at 7 0))) (inl refl)).status
-    known_status) in omega (arith, n)
-
-pub returns-clause-misses_position : goal.returns-clause-misses_position
-returns-clause-misses_position c = λ a. let n : 1 ≡ 0 =
-    ap moment_of
-    (known_once two_stations two_stations (Passes (reports_position (n0call 7)))
-    None (Some (position_at 0)) (λ x. (λ h. h, λ h. h))
-    (a.each (station_of 7 2 None (Some (status_at 7 30000))) (inl refl)).position
-    known_position) in omega (arith, n)
-
-pub returns-clause-misses_order : goal.returns-clause-misses_order
-returns-clause-misses_order c = λ a. let h = a.ascending.0 seventh (inl refl) in cc h
-
-pub returns-clause-misses_station : goal.returns-clause-misses_station
+pub returns : goal.returns
 unfolding key_of
-returns-clause-misses_station c = λ a. let t =
-    (a.sources (n0call 8)).1 (status_at 8 0, inr (inr (inr (inl refl))), refl) in
-    each_of (λ (x : Station). x.call ≡ n0call 8 → ⊥) (seventh ∷ [])
-    (λ e. let n : 7 ≡ 8 = ap (λ (x : Call). x.ssid) e in omega (arith, n), tt) t.0 t.1 t.2
+returns c = record {
+  stations = record {
+    ascending = (each_of (ComesBefore seventh) (eighth ∷ []) (refl, tt), (λ y h. absurd h, tt));
+    sources = λ call. (
+      λ t. each_of (λ (x : Station). x.call ≡ call → IsSource two_stations call) listed
+          (λ e. (status_at 7 0, inl refl, e), (λ e. (status_at 8 0, inr (inr (inr (inl refl))), e), tt))
+          t.0 t.1 t.2,
+      λ t. each_of (λ (s : Received). (key_of s.frame).source ≡ call
+          → (x : Station) × (x ∈ listed) × (x.call ≡ call)) two_stations (
+            λ e. (seventh, inl refl, e),
+            (
+              λ e. (seventh, inl refl, e),
+              (λ e. (seventh, inl refl, e), (λ e. (eighth, inr (inl refl), e), tt)),
+            ),
+          ) t.0 t.1 t.2,
+    );
+    each =
+        each_of (λ (y : Station). IsStation two_stations two_stations_rows y) listed
+        (is_seventh, (is_eighth, tt));
+  };
+  misses_receptions = λ a. let n : 3 ≡ 2 =
+      (a.each (station_of 7 3 (Some (position_at 0)) (Some (status_at 7 30000))) (inl refl)).transmissions
+      in omega (arith, n);
+  misses_status = λ a. let n : 0 ≡ 30000 =
+      ap moment_of
+      (known_once two_stations two_stations (Passes (reports_status (n0call 7)))
+      (Some (status_at 7 0)) (Some (status_at 7 30000)) (λ x. (λ h. h, λ h. h))
+      (a.each (station_of 7 2 (Some (position_at 0)) (Some (status_at 7 0))) (inl refl)).status
+      known_status) in omega (arith, n);
+  misses_position = λ a. let n : 1 ≡ 0 =
+      ap moment_of
+      (known_once two_stations two_stations (Passes (reports_position (n0call 7)))
+      None (Some (position_at 0)) (λ x. (λ h. h, λ h. h))
+      (a.each (station_of 7 2 None (Some (status_at 7 30000))) (inl refl)).position
+      known_position) in omega (arith, n);
+  misses_order = λ a. let h = a.ascending.0 seventh (inl refl) in cc h;
+  misses_station = λ a. let t =
+      (a.sources (n0call 8)).1 (status_at 8 0, inr (inr (inr (inl refl))), refl) in
+      each_of (λ (x : Station). x.call ≡ n0call 8 → ⊥) (seventh ∷ [])
+      (λ e. let n : 7 ≡ 8 = ap (λ (x : Call). x.ssid) e in omega (arith, n), tt) t.0 t.1 t.2;
+}

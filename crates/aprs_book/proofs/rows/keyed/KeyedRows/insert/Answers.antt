@@ -42,38 +42,22 @@ invariant_of-self g c =
           c.put-taken.ensures.counted,
     )
 
-pub returns-in-Some-clause-inserted : goal.returns-in-Some-clause-inserted
-returns-in-Some-clause-inserted g c =
+pub returns-in-Some : goal.returns-in-Some
+returns-in-Some g c =
     let x = c.args.x.now in
     let es = c.self.inside.map.entries in
     let w = writes (λ v. v.items) x c.frame.result.now c.of_frame-head.result es
     (c.get_mut.follows.lender c.put-taken.new.rows).entries c.in-Some.rows.now c.put-taken.new.rows
     c.of_frame-head.ensures c.frame.ensures c.in-Some.ensures.ordered c.self.invariant.0.0
-    c.in-Some.ensures.value (c.get_mut.follows.holds c.put-taken.new.rows).0 in
-    rw (← c.self.view_is) (written_ok (λ v. v.items) c.args.gap x _ es _ _ _ c.put-taken.result w
-    c.put-taken.ensures.inserted)
-
-pub returns-in-Some-clause-unchanged : goal.returns-in-Some-clause-unchanged
-returns-in-Some-clause-unchanged g c =
-    let x = c.args.x.now in
-    let es = c.self.inside.map.entries in
-    let w = writes (λ v. v.items) x c.frame.result.now c.of_frame-head.result es
-    (c.get_mut.follows.lender c.put-taken.new.rows).entries c.in-Some.rows.now c.put-taken.new.rows
-    c.of_frame-head.ensures c.frame.ensures c.in-Some.ensures.ordered c.self.invariant.0.0
-    c.in-Some.ensures.value (c.get_mut.follows.holds c.put-taken.new.rows).0 in
-    rw (← c.self.view_is) (written_err (λ v. v.items) x _ es _ _ _ c.put-taken.result w
-    c.put-taken.ensures.unchanged)
-
-pub returns-in-Some-clause-in_place : goal.returns-in-Some-clause-in_place
-returns-in-Some-clause-in_place g c = λ p.
-    let x = c.args.x.now in
-    let es = c.self.inside.map.entries in
-    let w = writes (λ v. v.items) x c.frame.result.now c.of_frame-head.result es
-    (c.get_mut.follows.lender c.put-taken.new.rows).entries c.in-Some.rows.now c.put-taken.new.rows
-    c.of_frame-head.ensures c.frame.ensures c.in-Some.ensures.ordered c.self.invariant.0.0
-    c.in-Some.ensures.value (c.get_mut.follows.holds c.put-taken.new.rows).0 in
-    c.put-taken.ensures.in_place (sym (written_in_place (λ v. v.items) c.args.gap x _ es _ _ _ w)
-    ∙ ap (λ t. has_place_for c.args.gap x t) c.self.view_is ∙ p)
+    c.in-Some.ensures.value (c.get_mut.follows.holds c.put-taken.new.rows).0 in record {
+      inserted = rw (← c.self.view_is) (written_ok (λ v. v.items) c.args.gap x _ es _ _ _
+          c.put-taken.result w c.put-taken.ensures.inserted);
+      unchanged = rw (← c.self.view_is) (written_err (λ v. v.items) x _ es _ _ _
+          c.put-taken.result w c.put-taken.ensures.unchanged);
+      in_place = λ p. c.put-taken.ensures.in_place
+          (sym (written_in_place (λ v. v.items) c.args.gap x _ es _ _ _ w)
+          ∙ ap (λ t. has_place_for c.args.gap x t) c.self.view_is ∙ p);
+    }
 
 pub returns-in_err-put-clause-in_place : goal.returns-in_err-put-clause-in_place
 returns-in_err-put-clause-in_place g c = λ p.
