@@ -74,8 +74,7 @@ state_by first (Some a) =
 abbrev pub IsStateOf : List Received → Message → ℕ → Option (List ℕ) → MessageState → Type 0
 IsStateOf S m first None state = state ≡ Unnumbered
 IsStateOf S m first (Some id) state =
-    (answer : Option Received) × LastKnown S (AnswersIt m id) answer
-    × (state ≡ state_by first answer)
+    (reply : Option Received) × LastKnown S (AnswersIt m id) reply × (state ≡ state_by first reply)
 
 -- ---- all messages
 
