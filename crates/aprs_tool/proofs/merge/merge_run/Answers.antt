@@ -13,7 +13,8 @@ pub returns-in-Ok-write : goal.returns-in-Ok-write
 returns-in-Ok-write g c = record {
   writes = λ inputs e.
       all_written c.args.limit c.args.gap inputs _ (IsTextOfBook c.args.gap)
-      g.W.Write.contents _ _ _ _ (text_of_book _ _ c.in-Ok.ensures.gap) (c.in-Ok.ensures.reads inputs e)
+      g.W.Write.contents _ _ _ _
+      (text_of_book _ _ c.in-Ok.ensures.gap) (c.in-Ok.ensures.reads inputs e)
       (text_sent _ _ _ _ c.in-Ok-write.ensures);
   refuses = λ inputs e.
       unsaid c.args.limit inputs _ _ (c.in-Ok.ensures.reads inputs e);
@@ -28,7 +29,8 @@ pub returns-in-Err-Write : goal.returns-in-Err-Write
 returns-in-Err-Write g c = record {
   writes = λ inputs e.
       all_cut c.args.limit c.args.gap inputs _ (IsTextOfBook c.args.gap)
-      g.W.Write.contents _ _ _ _ (text_of_book _ _ c.in-Ok.ensures.gap) (c.in-Ok.ensures.reads inputs e)
+      g.W.Write.contents _ _ _ _
+      (text_of_book _ _ c.in-Ok.ensures.gap) (c.in-Ok.ensures.reads inputs e)
       (text_cut _ _ _ _ _ c.in-Err-Write.field-0-is c.in-Err-Write.ensures);
   refuses = λ inputs e.
       unsaid c.args.limit inputs _ _ (c.in-Ok.ensures.reads inputs e);
