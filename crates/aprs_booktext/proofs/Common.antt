@@ -33,7 +33,7 @@ pub use Rattle.aprs_rows.specs.Refusal.{is_refused}
 pub use Rattle.hex.proofs.HexLemmas.{decode_of-encode_lower, decode_of-ok, length-encode_with}
 pub use Rattle.hex.specs.Hex.{IsBytes, decode_of, encode_lower, lower_digits}
 pub use Rattle.std.proofs.Common.{Bool, Err, IfErr, IfOk, IfSome, IsErr, List, None, Ok, Option, Result, Some, [], ap, append-nil, append_assoc, arith, codes, cond, drop, eqb, false, get_or, inl, inr, length, length-append, length-take, map, refl, rules, subst, suc, sym, take, true, zero, ℕ, ◌%◌, ◌*◌, ◌++◌, ◌+◌, ◌-◌, ◌/◌, ◌<◌, ◌^◌, ◌∙◌, ◌∷◌, ◌≡◌, ◌≤◌, ◌⊎◌}
-pub use Rattle.std.proofs.Math.Seq.{drop-append-add, drop-append_seam, take-append-add, take-append_seam}
+pub use Rattle.std.proofs.Math.Seq.{drop-append-add, take-append-add, take-append_seam}
 pub use Rattle.std.proofs.lemmas.Bool.{and_parts, cases_lt, false_from_ne_true, false≢true}
 pub use Rattle.std.proofs.lemmas.Bool.Decides.{nat_tests}
 pub use Rattle.std.proofs.lemmas.Fmt.{IsAscii-decimal, decimal_by_steps, decimal_digit, decimal_injective, length-decimal-le, parse-decimal}
@@ -43,6 +43,6 @@ pub use Rattle.std.proofs.lemmas.List.Elements.{All-cons, All-from_recursion, Al
 pub use Rattle.std.proofs.lemmas.Result.{IfErr-weaker, IfOk-weaker, err_from_is_err_and, on_ok_weaker}
 pub use Rattle.std.proofs.lemmas.Slice.Eq.{bytes_eq-Decides}
 pub use Rattle.std.specs.Fmt.{decimal}
-pub use Rattle.std.specs.List.{AllByRecursion, flat_map, join_with_byte, last_or, list_all, onto_first}
+pub use Rattle.std.specs.List.{AllByRecursion, flat_map, join_with_byte, list_all, onto_first}
 pub use Rattle.std.specs.Prelude.{All, IfNone, IsTrue, nat_lt, ◌↔◌, ◌≢◌}
 pub use Rattle.std.specs.Str.{IsUtf8, bytes_eq}

@@ -257,7 +257,8 @@ judge_header rows line = elim (one_or_other line (header_of One)) [
   | inr first ↦ elim (one_or_other line (header_of Two)) [
     | inl same ↦ judged_as (Ok (Rows Two)) rows (standard_range, same, refl) (λ e. absurd cc)
     | inr second ↦ elim (gap_or_none line greatest_gap (omega arith)) [
-      | inl third ↦ judged_as (Ok (Rows (Three third.0))) rows (third.1, third.2, refl) (λ e. absurd cc)
+      | inl third ↦
+          judged_as (Ok (Rows (Three third.0))) rows (third.1, third.2, refl) (λ e. absurd cc)
       | inr none ↦ judged_as (Err cause.Header) rows
           ((no_header line first second (λ g is. none g is.0 is.1), refl), refl) (λ e. absurd cc)
     ]
@@ -282,13 +283,15 @@ module _ (v : Version) (rows : List Row) (line : List ℕ) (s : SpelledRow (form
   judge_why row.Receivers e is =
       judged_as (Err cause.Receivers) rows (inr (refused row.Receivers e is), refl) (λ f. absurd cc)
   judge_why row.NotGreatest e is =
-      judged_as (Err cause.NotGreatest) rows (inr (refused row.NotGreatest e is), refl) (λ f. absurd cc)
+      judged_as (Err cause.NotGreatest) rows (inr (refused row.NotGreatest e is), refl)
+      (λ f. absurd cc)
   judge_why row.Memory e is = absurd (never_memory (millis_of (gap_of v)) rows s.row e)
 
   judge_row : (o : Option RowCause) → refusal (millis_of (gap_of v)) rows s.row ≡ o
       → IsBookRow (form_of v) s.row → Judged (Rows v) rows line
   judge_row None e is =
-      judged_as (Ok (Rows v)) (rows ++ s.row ∷ []) (refl, s.row, is, s.line_is, refl, e) (λ f. absurd cc)
+      judged_as (Ok (Rows v)) (rows ++ s.row ∷ []) (refl, s.row, is, s.line_is, refl, e)
+      (λ f. absurd cc)
   judge_row (Some why) e is = judge_why why e is
 
   judge_frame : (r : Result (List ℕ) FrameFault)

@@ -196,14 +196,16 @@ found_with addressee part info None None (Some x) a e1 e2 e3 =
       part = part;
       addressed = a;
       no_answer = no_answers part e1 e2;
-      at_text = numbered_found part x e3;
+      at_text =
+          numbered_found part x e3;
     }
 found_with addressee part info None None None a e1 e2 e3 =
     record {
       part = part;
       addressed = a;
       no_answer = no_answers part e1 e2;
-      at_text = (refl, λ t id h. none-some (t, id) (sym e3 ∙ numbered_takes part t id h));
+      at_text =
+          (refl, λ t id h. none-some (t, id) (sym e3 ∙ numbered_takes part t id h));
     }
 
 part_found : (addressee part info : List ℕ) → IsAddressed addressee part info →

@@ -18,8 +18,8 @@ pub use Rattle.aprs_io.specs.declared.device.Counted.{Counted}
 pub use Rattle.aprs_laws.proofs.Books.{book_carries, one_book, turn, unique}
 pub use Rattle.aprs_laws.proofs.Known.{known_once, rows_know}
 pub use Rattle.aprs_laws.proofs.Lists.{in_either, in_left, in_right}
-pub use Rattle.aprs_laws.proofs.RunRows.{book_of_nothing, empty_book}
-pub use Rattle.aprs_laws.proofs.Soundness.{exists, has_witness_by, witnessed}
+pub use Rattle.aprs_laws.proofs.RunRows.{book_of_nothing}
+pub use Rattle.aprs_laws.proofs.Soundness.{exists, witnessed}
 pub use Rattle.aprs_laws.proofs.Together.{joined_rows, merge_append, together}
 pub use Rattle.aprs_laws.proofs.Unions.{around, merged}
 pub use Rattle.aprs_laws.specs.Best.{LastKnown}
@@ -30,8 +30,8 @@ pub use Rattle.aprs_laws.specs.Gap.{IsGap, millis_of}
 pub use Rattle.aprs_laws.specs.JoinRow.{join_row, merge, single}
 pub use Rattle.aprs_laws.specs.Lists.{Ordered, SameMembers, ◌∈◌}
 pub use Rattle.aprs_laws.specs.Row.{Row}
-pub use Rattle.aprs_laws.specs.Sound.{IsSoundRow, Sound}
-pub use Rattle.aprs_laws.specs.Witnesses.{witness_by, witnesses, witnesses_of_row}
+pub use Rattle.aprs_laws.specs.Sound.{Sound}
+pub use Rattle.aprs_laws.specs.Witnesses.{witnesses}
 pub use Rattle.aprs_laws.specs.declared.merge_fault.MergeFault.{MergeFault}
 pub use Rattle.aprs_listing.specs.Listing.{known_line, line_with, message_line, named_line, report_line, show_text, station_lines}
 pub use Rattle.aprs_log.proofs.LogTexts.{answers-log_fault, answers-log_text, log_fault-answers, log_text-answers}

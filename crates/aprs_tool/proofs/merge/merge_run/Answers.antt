@@ -9,73 +9,66 @@ use Rattle.aprs_tool.proofs.merge.merge_run.Goals as goal
 
 -- ---- the text was written
 
-pub returns-in-Ok-write-clause-writes : goal.returns-in-Ok-write-clause-writes
-returns-in-Ok-write-clause-writes g c = λ inputs e.
-    all_written c.args.limit c.args.gap inputs _ (IsTextOfBook c.args.gap) g.W.Write.contents _ _ _ _
-    (text_of_book _ _ c.in-Ok.ensures.gap) (c.in-Ok.ensures.reads inputs e)
-    (text_sent _ _ _ _ c.in-Ok-write.ensures)
-
-pub returns-in-Ok-write-clause-refuses : goal.returns-in-Ok-write-clause-refuses
-returns-in-Ok-write-clause-refuses g c = λ inputs e.
-    unsaid c.args.limit inputs _ _ (c.in-Ok.ensures.reads inputs e)
-
-pub returns-in-Ok-write-clause-calls : goal.returns-in-Ok-write-clause-calls
-returns-in-Ok-write-clause-calls g c = (text_sent _ _ _ _ c.in-Ok-write.ensures).calls
-
-pub returns-in-Ok-write-clause-asks : goal.returns-in-Ok-write-clause-asks
-returns-in-Ok-write-clause-asks g c = inl c.in-Ok.ensures.calls
+pub returns-in-Ok-write : goal.returns-in-Ok-write
+returns-in-Ok-write g c = record {
+  writes = λ inputs e.
+      all_written c.args.limit c.args.gap inputs _ (IsTextOfBook c.args.gap)
+      g.W.Write.contents _ _ _ _
+      (text_of_book _ _ c.in-Ok.ensures.gap) (c.in-Ok.ensures.reads inputs e)
+      (text_sent _ _ _ _ c.in-Ok-write.ensures);
+  refuses = λ inputs e.
+      unsaid c.args.limit inputs _ _ (c.in-Ok.ensures.reads inputs e);
+  memory = λ e. cc e;
+  asks = inl c.in-Ok.ensures.calls;
+  calls = (text_sent _ _ _ _ c.in-Ok-write.ensures).calls;
+}
 
 -- ---- the output was refused
 
-pub returns-in-Err-Write-clause-writes : goal.returns-in-Err-Write-clause-writes
-returns-in-Err-Write-clause-writes g c = λ inputs e.
-    all_cut c.args.limit c.args.gap inputs _ (IsTextOfBook c.args.gap) g.W.Write.contents _ _ _ _
-    (text_of_book _ _ c.in-Ok.ensures.gap) (c.in-Ok.ensures.reads inputs e)
-    (text_cut _ _ _ _ _ c.in-Err-Write.field-0-is c.in-Err-Write.ensures)
-
-pub returns-in-Err-Write-clause-refuses : goal.returns-in-Err-Write-clause-refuses
-returns-in-Err-Write-clause-refuses g c = λ inputs e.
-    unsaid c.args.limit inputs _ _ (c.in-Ok.ensures.reads inputs e)
-
-pub returns-in-Err-Write-clause-calls : goal.returns-in-Err-Write-clause-calls
-returns-in-Err-Write-clause-calls g c =
-    (text_cut _ _ _ _ _ c.in-Err-Write.field-0-is c.in-Err-Write.ensures).calls
-
-pub returns-in-Err-Write-clause-asks : goal.returns-in-Err-Write-clause-asks
-returns-in-Err-Write-clause-asks g c = inl c.in-Ok.ensures.calls
+pub returns-in-Err-Write : goal.returns-in-Err-Write
+returns-in-Err-Write g c = record {
+  writes = λ inputs e.
+      all_cut c.args.limit c.args.gap inputs _ (IsTextOfBook c.args.gap)
+      g.W.Write.contents _ _ _ _
+      (text_of_book _ _ c.in-Ok.ensures.gap) (c.in-Ok.ensures.reads inputs e)
+      (text_cut _ _ _ _ _ c.in-Err-Write.field-0-is c.in-Err-Write.ensures);
+  refuses = λ inputs e.
+      unsaid c.args.limit inputs _ _ (c.in-Ok.ensures.reads inputs e);
+  memory = λ e. cc e;
+  asks = inl c.in-Ok.ensures.calls;
+  calls =
+      (text_cut _ _ _ _ _ c.in-Err-Write.field-0-is c.in-Err-Write.ensures).calls;
+}
 
 -- ---- an allocation failed
 
-pub returns-in-Err-Memory-clause-writes : goal.returns-in-Err-Memory-clause-writes
-returns-in-Err-Memory-clause-writes g c =
-    rw c.fault_of_last.ensures (λ inputs e.
-    unsaid c.args.limit inputs _ _ (c.in-Ok.ensures.reads inputs e))
-
-pub returns-in-Err-Memory-clause-refuses : goal.returns-in-Err-Memory-clause-refuses
-returns-in-Err-Memory-clause-refuses g c =
-    let len = length_all_zip (Calls End) c.args.inputs.now c.read_all.new.inputs
-    c.in-Ok.ensures.calls in
-    let none = text_none _ _ _ _ _ c.in-Err-Memory.field-0-is c.in-Err-Memory.ensures in
-    rw c.fault_of_last.ensures (λ inputs e.
-    each_so c.args.limit inputs _ _ _ (λ gots first. (first, none.0))
-    (refused_at_last _ _ _ inputs _ _ (c.in-Ok.ensures.reads inputs e)
-    (same_len (λ r. g.R.Read.remaining (device_of r)) c.args.inputs.now inputs e
-    ∙ len) none.1))
-
-pub returns-in-Err-Memory-clause-asks : goal.returns-in-Err-Memory-clause-asks
-returns-in-Err-Memory-clause-asks g c =
-    let none = text_none _ _ _ _ _ c.in-Err-Memory.field-0-is c.in-Err-Memory.ensures in
-    let some = c.in-Ok.ensures.some none.1 in
-    let old = c.args.inputs.now in
-    let new = c.read_all.new.inputs in
-    let len = length_all_zip (Calls End) old new c.in-Ok.ensures.calls in
-    rw c.fault_of_last.ensures
-    (inr (length new - 1, omega (arith, some, len), refl, c.in-Ok.ensures.calls))
-
-pub returns-in-Err-Memory-clause-calls : goal.returns-in-Err-Memory-clause-calls
-returns-in-Err-Memory-clause-calls g c =
-    rw c.fault_of_last.ensures
-    (text_none _ _ _ _ _ c.in-Err-Memory.field-0-is c.in-Err-Memory.ensures).0
+pub returns-in-Err-Memory : goal.returns-in-Err-Memory
+returns-in-Err-Memory g c = record {
+  writes =
+      rw c.fault_of_last.ensures (λ inputs e.
+      unsaid c.args.limit inputs _ _ (c.in-Ok.ensures.reads inputs e));
+  refuses =
+      let len = length_all_zip (Calls End) c.args.inputs.now c.read_all.new.inputs
+      c.in-Ok.ensures.calls in
+      let none = text_none _ _ _ _ _ c.in-Err-Memory.field-0-is c.in-Err-Memory.ensures in
+      rw c.fault_of_last.ensures (λ inputs e.
+      each_so c.args.limit inputs _ _ _ (λ gots first. (first, none.0))
+      (refused_at_last _ _ _ inputs _ _ (c.in-Ok.ensures.reads inputs e)
+      (same_len (λ r. g.R.Read.remaining (device_of r)) c.args.inputs.now inputs e
+      ∙ len) none.1));
+  memory = rw c.fault_of_last.ensures (λ e. cc e);
+  asks =
+      let none = text_none _ _ _ _ _ c.in-Err-Memory.field-0-is c.in-Err-Memory.ensures in
+      let some = c.in-Ok.ensures.some none.1 in
+      let old = c.args.inputs.now in
+      let new = c.read_all.new.inputs in
+      let len = length_all_zip (Calls End) old new c.in-Ok.ensures.calls in
+      rw c.fault_of_last.ensures
+      (inr (length new - 1, omega (arith, some, len), refl, c.in-Ok.ensures.calls));
+  calls =
+      rw c.fault_of_last.ensures
+      (text_none _ _ _ _ _ c.in-Err-Memory.field-0-is c.in-Err-Memory.ensures).0;
+}
 
 -- ---- an input is refused
 

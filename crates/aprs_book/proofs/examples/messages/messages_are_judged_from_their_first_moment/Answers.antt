@@ -47,7 +47,10 @@ returns c = record {
         each_of (λ (s : Received). ReportsIt m (key_of s.frame)
             → hi_message one ≡ m) asked_again (
               one_message _ _ asked_is,
-              (λ r. absurd (let d = sym acknowledged_is ∙ r in cc d), (one_message _ _ asked_is, tt)),
+              (
+                λ r. absurd (let d = sym acknowledged_is ∙ r in cc d),
+                (one_message _ _ asked_is, tt),
+              ),
             ) t.0 t.1 t.2,
       ),
     );

@@ -50,7 +50,8 @@ listed = object_row ∷ item_row ∷ []
 pub returns : goal.returns
 returns c = record {
   named = record {
-    ascending = (each_of (IsNamedBefore object_row) (item_row ∷ []) (refl, tt), (λ y h. absurd h, tt));
+    ascending =
+        (each_of (IsNamedBefore object_row) (item_row ∷ []) (refl, tt), (λ y h. absurd h, tt));
     things = λ t. (
       λ x. each_of (λ (y : Named). shown_thing y ≡ t
           → (s : Received) × (s ∈ two_leaders) × ReportsOf t (key_of s.frame)) listed (

@@ -57,9 +57,10 @@ returns c = record {
   stations = record {
     ascending = (each_of (ComesBefore seventh) (eighth ∷ []) (refl, tt), (λ y h. absurd h, tt));
     sources = λ call. (
-      λ t. each_of (λ (x : Station). x.call ≡ call → IsSource two_stations call) listed
-          (λ e. (status_at 7 0, inl refl, e), (λ e. (status_at 8 0, inr (inr (inr (inl refl))), e), tt))
-          t.0 t.1 t.2,
+      λ t. each_of (λ (x : Station). x.call ≡ call → IsSource two_stations call) listed (
+        λ e. (status_at 7 0, inl refl, e),
+        (λ e. (status_at 8 0, inr (inr (inr (inl refl))), e), tt),
+      ) t.0 t.1 t.2,
       λ t. each_of (λ (s : Received). (key_of s.frame).source ≡ call
           → (x : Station) × (x ∈ listed) × (x.call ≡ call)) two_stations (
             λ e. (seventh, inl refl, e),
@@ -74,8 +75,8 @@ returns c = record {
         (is_seventh, (is_eighth, tt));
   };
   misses_receptions = λ a. let n : 3 ≡ 2 =
-      (a.each (station_of 7 3 (Some (position_at 0)) (Some (status_at 7 30000))) (inl refl)).transmissions
-      in omega (arith, n);
+      (a.each (station_of 7 3 (Some (position_at 0)) (Some (status_at 7 30000)))
+      (inl refl)).transmissions in omega (arith, n);
   misses_status = λ a. let n : 0 ≡ 30000 =
       ap moment_of
       (known_once two_stations two_stations (Passes (reports_status (n0call 7)))
