@@ -1,12 +1,8 @@
 -- Lemmas on the text of a listing.
-use Rattle.aprs_tool.proofs.Common.{◌≡◌, ◌≢◌, ℕ, List, [], map, ◌∷◌, ◌++◌, Option, inl, inr, refl, ap, ap₂, sym, ◌∙◌, append_assoc, subst, codes, flat_map, flat_map-append, decimal, Call, call_cmp, call_text, known_once, BookOf, BookValue, millis_of, LastKnown, Passes, ◌∈◌, Ordered, Received, reports_position, known_line, line_with, message_line, named_line, show_text, station_lines}
+use Rattle.aprs_tool.proofs.Common.{◌≡◌, ◌≢◌, ℕ, List, [], ◌∷◌, ◌++◌, Option, inl, inr, refl, ap, ap₂, sym, ◌∙◌, append_assoc, subst, codes, flat_map, flat_map-append, decimal, Call, call_cmp, call_text, known_once, BookOf, BookValue, millis_of, LastKnown, Passes, ◌∈◌, Ordered, Received, reports_position, known_line, line_with, message_line, named_line, station_lines}
 use Rattle.std.specs.declared.cmp.Ordering.TheVariants.{Less}
 use Rattle.aprs_laws.proofs.Orders.{call_total, not_both}
-use Rattle.aprs_book.specs.Messages.{ReportsMessages}
-use Rattle.aprs_book.specs.Names.{ReportsNamed, Thing, shown_report}
-use Rattle.aprs_book.specs.Stations.{ComesBefore, IsSource, ReportsStations}
-use Rattle.aprs_book.specs.declared.lists.message.MessageRow.{MessageRow}
-use Rattle.aprs_book.specs.declared.lists.named.Named.{Named}
+use Rattle.aprs_book.specs.Stations.{ComesBefore, IsSource}
 use Rattle.aprs_book.specs.declared.lists.station.Station.{Station}
 use Rattle.aprs_tool.specs.Show.{IsListingOf, TellsPosition}
 use Rattle.aprs_listing.specs.Listing.{IsShown}
