@@ -44,7 +44,7 @@ fn two_hundred_receptions_are_put_in_order(rt: HostRuntime) -> Result<(), Fail> 
     let alloc = rt.alloc();
     const CASES: &[(u64, usize)] = &[(0, 100), (30, 1), (6031, 200)];
     for &(first, rows) in CASES {
-        let mut store = two_hundred(alloc, first)?;
+        let store = two_hundred(alloc, first)?;
         let book = book_of(alloc, &store).ok().ok_or("memory")?;
         assert!(rt; book.len() == rows);
         assert!(rt; book.same(&taken(alloc, first)?));
