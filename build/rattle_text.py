@@ -239,6 +239,13 @@ def names_of_specs(path):
     return found
 
 
+def names_of_examples(path):
+    """What can be named of worked examples in proofs/: a lemma `x`, and `x.y` of its module x."""
+    file, module = names_of_file(path)
+    lemmas = re.findall(r"^pub ([a-z]\S*) :", read(path), re.M)
+    return {file, module}.union(lemmas, (f"{module}.{name}" for name in lemmas))
+
+
 def all_names():
     """What can be named of all crates, and the crates themselves."""
     found = set(re.findall(r"^[a-z]\w*|(?<= )\w+", re.sub("#.*", "", read("crates.txt")), re.M))
@@ -246,6 +253,8 @@ def all_names():
         found |= names_of_code(path)
     for path in glob.glob("crates/*/specs/*.antt"):
         found |= names_of_specs(path)
+    for path in glob.glob("crates/*/proofs/Examples.antt"):
+        found |= names_of_examples(path)
     return sorted(found)
 
 

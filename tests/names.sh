@@ -24,6 +24,7 @@ std: Box BufWriter Copy Drop Ok Option PartialEq Result u64::MAX
 standards: DDMM.hh DDDMM.hh atest f0 rust loop use
 commands of make: arm64 deb install release static tarball try
 processors and users of Debian: amd64 aprs
+names of Mic-E messages: committed emergency priority returning
 states of messages and objects: acknowledged rejected unanswered unnumbered tracks
 of examples: in/ logs/DAY/HILL.log logs/DAY/RECEIVER.log millis.log numerator/denominator own.book page
 slow.log time

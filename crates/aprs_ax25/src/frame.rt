@@ -120,11 +120,11 @@ impl Frame {
         Frame { bytes }
     }
 
-    /// The frame whose bytes these are, which have no fault as a frame.
-    fn from_bytes(bytes: &[u8]) -> Frame
-        requires { frame_fault bytes.now ≡ None }
-        ensures value { result ≡ bytes.now }
-        ensures frame { FrameOf (parts_of bytes.now) bytes.now }
+    /// The frame whose bytes these are. Requires that they are those of a frame, as `bytes` gives
+    /// them; of any others `read` tells. Takes no memory.
+    pub fn from_bytes(bytes: &[u8]) -> Frame
+        requires { FrameOf (parts_of bytes.now) bytes.now }
+        ensures { result ≡ bytes.now }
     {
         let mut held = ArrayVec::new();
         push_all(&mut held, bytes);

@@ -8,11 +8,14 @@ pub mod Digits
 pub mod Spellings
 pub mod Standing
 pub mod Inputs
+pub mod KeptRows
 pub mod LastLines
+pub mod LastRows
 pub mod OneCause
 pub mod OneFault
 pub mod OneText
 pub mod RowReading
+pub mod RowStreams
 pub mod SameFaults
 pub mod TextParts
 pub mod Written

@@ -176,7 +176,7 @@ ended_fault (Done v) old new line t more c j s =
     })
 
 -- an allocation fails in the line that is read
-held_fault : (stage : Stage) (rows : List Row) (line t bytes more : List ℕ)
+pub held_fault : (stage : Stage) (rows : List Row) (line t bytes more : List ℕ)
     → is_done stage ≡ false → HasReadLines stage rows line t
     → IsFault (length bytes + length more) (record {
       line = line_number stage (length rows);

@@ -14,3 +14,6 @@ pub mod Seconds
 pub mod Text
 pub mod TextFault
 pub mod Version
+pub mod Piece
+pub mod RowReader
+pub mod RowStream

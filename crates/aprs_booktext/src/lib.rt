@@ -7,10 +7,13 @@ mod example;
 mod fault;
 mod hexadecimal;
 mod laws;
+mod piece;
 mod read;
 mod reader;
 mod row_buffers;
 mod row_line;
+mod row_reader;
+mod row_stream;
 mod version;
 mod write;
 mod write_book_rows;
@@ -25,6 +28,8 @@ pub use laws::{
     old_moments_are_told_to_the_second, read_books_are_written_back, written_books_are_read,
 };
 pub use read::{read_book, read_rows};
+pub use row_stream::RowStream;
 pub use version::Version;
-pub use write::write_book;
+pub use write::{end_line_and_lf, header_line, put_row, write_book};
 pub use write_book_rows::write_rows;
+pub use written_row::WrittenRow;

@@ -291,7 +291,7 @@ pub fn memory_fault_at_last(count: usize) -> BookFault
 }
 
 /// Whether the last line was read.
-fn is_done(stage: Stage) -> bool
+pub fn is_done(stage: Stage) -> bool
     ensures { result ≡ Spec.is_done stage }
 {
     match stage {
@@ -302,7 +302,7 @@ fn is_done(stage: Stage) -> bool
 
 /// Whether a book's text may end at this stage and in this way: only after its last line, and where
 /// the input has no further byte.
-fn may_end(stage: Stage, ending: InputEnd) -> bool
+pub fn may_end(stage: Stage, ending: InputEnd) -> bool
     ensures { result ≡ Spec.may_end stage ending }
 {
     is_done(stage) && ending == InputEnd::End
@@ -331,7 +331,7 @@ fn judge_line<A: Allocator + Copy>(
 
 /// The stage after the first line: rows of a text of the version that it names. Fails with
 /// `Header` where it is the header of no version.
-fn judge_header(line: &[u8]) -> Result<Stage, BookCause>
+pub fn judge_header(line: &[u8]) -> Result<Stage, BookCause>
     ensures judged { (rows : List Row) → Spec.JudgesHeader result rows line.now rows }
     ensures cause { IfErr result Spec.IsOfText }
 {
@@ -372,7 +372,7 @@ fn judge_row_line<A: Allocator + Copy>(
 
 /// The stage `Done` of this version, where `line` is the last line after so many rows. Fails with
 /// `Ending` where it isn't.
-fn judge_end(line: &[u8], version: Version, count: usize) -> Result<Stage, BookCause>
+pub fn judge_end(line: &[u8], version: Version, count: usize) -> Result<Stage, BookCause>
     ensures { MatchResult result
         (λ stage. (stage ≡ Stage.Done version) × (line.now ≡ end_line count))
         (λ cause. (cause ≡ BookCause.Ending) × (line.now ≢ end_line count)) }
@@ -385,7 +385,7 @@ fn judge_end(line: &[u8], version: Version, count: usize) -> Result<Stage, BookC
 }
 
 /// The cause of the fault where a text may not end in the way in which its input ended.
-fn ending_cause(ending: InputEnd) -> BookCause
+pub fn ending_cause(ending: InputEnd) -> BookCause
     ensures { result ≡ ending_cause ending }
 {
     match ending {

@@ -100,7 +100,7 @@ fn put_book_row<W: Write>(
 
 /// Puts the line of a row that is packed in bytes, with its LF, into `out`. At a fault a prefix of
 /// what `out` held and of this line went out. The room is written over; it is kept from row to row.
-pub(crate) fn put_row<W: Write>(
+pub fn put_row<W: Write>(
     out: &mut Outlet<'_, W>,
     room: &mut WrittenRow,
     row: &RowView<'_>,
@@ -184,7 +184,7 @@ fn comma_and_name(name: &Receiver) -> ArrayVec<u8, MAX_FURTHER>
 }
 
 /// The first line of the text of version 3 of a book with this gap, with its LF.
-pub(crate) fn header_line(gap: Gap) -> ArrayVec<u8, MAX_HEADER>
+pub fn header_line(gap: Gap) -> ArrayVec<u8, MAX_HEADER>
     ensures { result.items ≡ ended_by_lf (header_of (Three gap)) }
 {
     let mut text = Version::Three(gap).header();
@@ -193,7 +193,7 @@ pub(crate) fn header_line(gap: Gap) -> ArrayVec<u8, MAX_HEADER>
 }
 
 /// The last line of the text of a book of this many rows, `END` and their number, with its LF.
-pub(crate) fn end_line_and_lf(rows: usize) -> ArrayVec<u8, END_LINE>
+pub fn end_line_and_lf(rows: usize) -> ArrayVec<u8, END_LINE>
     ensures { result.items ≡ ended_by_lf (Spec.end_line rows) }
 {
     let mut text = end_line(rows);

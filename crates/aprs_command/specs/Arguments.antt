@@ -17,6 +17,7 @@ use Rattle.aprs_log.specs.Receiver.{is_receiver}
 use Rattle.aprs_convert.specs.declared.form.Form.{Form}
 use Rattle.aprs_convert.specs.declared.form.Form.TheVariants as form
 use Rattle.aprs_command.specs.declared.jobs.HistoryJob.{HistoryJob}
+use Rattle.aprs_command.specs.declared.jobs.TableJob.{TableJob}
 use Rattle.aprs_command.specs.declared.jobs.Job.{Job}
 use Rattle.aprs_command.specs.declared.jobs.Job.TheVariants as job
 use Rattle.aprs_command.specs.declared.jobs.JobFault.{JobFault}
@@ -127,6 +128,10 @@ program_app p = with_subcommand (with_subcommand (with_subcommand (with_subcomma
 -- The program of histories, which has a version: `aprsbook-history [--gap SECONDS] [INPUT]...`.
 abbrev pub history_app : App
 history_app = with_gathered (versioned_app (codes "aprsbook-history"))
+
+-- The program of tables, which has a version: `aprsbook-table [--gap SECONDS] [INPUT]...`.
+abbrev pub table_app : App
+table_app = with_gathered (versioned_app (codes "aprsbook-table"))
 
 -- ---- what is read of the matches
 
@@ -273,3 +278,22 @@ FailsHistory arguments (fault.Clap error) = takes history_app arguments ≡ true
 abbrev pub AnswersHistory : List Text → Result HistoryJob JobFault → Type 0
 AnswersHistory arguments answer = MatchResult answer
     (IsHistoryJobOf (matches_of history_app arguments)) (FailsHistory arguments)
+
+-- ---- the program of tables
+
+-- The job has the gap and the inputs that these matches ask for.
+pub record IsTableJobOf (rows : List Row) (j : TableJob) : Type 0 where
+  pub gap : chosen_gap rows ≡ Some j.gap
+  pub inputs : paths_of j.inputs.items ≡ given_inputs rows
+
+-- The arguments are refused only where the command doesn't take them, and for `Options` only where
+-- the gap can't be read.
+abbrev pub FailsTable : List Text → JobFault → Type 0
+FailsTable arguments fault.Memory = Unit {0}
+FailsTable arguments fault.Options = chosen_gap (matches_of table_app arguments) ≡ None
+FailsTable arguments (fault.Clap error) = takes table_app arguments ≡ true → ⊥
+
+-- The answer is the job that the matches ask for, or the arguments are refused so.
+abbrev pub AnswersTable : List Text → Result TableJob JobFault → Type 0
+AnswersTable arguments answer = MatchResult answer
+    (IsTableJobOf (matches_of table_app arguments)) (FailsTable arguments)

@@ -84,3 +84,20 @@ Exit status:
   2  the words aren't those of the command
   3  the output was refused
   4  memory was refused";
+
+/// What `aprsbook-table` is for.
+pub const TABLE: &str =
+    "Writes a table of logs and book files: the names of columns, and a line for each transmission";
+
+/// Examples of `aprsbook-table`, and its exit statuses.
+pub const TABLE_EXAMPLES: &str = "Examples:
+  aprsbook-table net.book
+  aprsbook-table rx1.log rx2.log > evening.tsv
+  aprsbook-table --gap 60 slow.book
+
+Exit status:
+  0  done, or help or the version was asked for
+  1  an input can't be opened or read, is faulty or has another gap
+  2  the words aren't those of the command
+  3  the output was refused
+  4  memory was refused";

@@ -28,6 +28,16 @@ pub struct HistoryJob {
     pub inputs: Vec<String>,
 }
 
+/// What the arguments of `aprsbook-table` ask for: the table of logs and book files, with the
+/// paths of these; without any, standard input is read.
+#[derive(Drop)]
+pub struct TableJob {
+    /// The gap of the book whose table is written.
+    pub gap: Gap,
+    /// The paths, in the order of the arguments.
+    pub inputs: Vec<String>,
+}
+
 /// Why a program's arguments ask for no job.
 #[derive(Drop)]
 pub enum JobFault {
@@ -35,7 +45,7 @@ pub enum JobFault {
     /// which.
     Clap(clap::Error),
     /// The options of `capture` are missing, unreadable or given to another form; or the gap of a
-    /// history can't be read.
+    /// history or a table can't be read.
     Options,
     /// An allocation failed.
     Memory,

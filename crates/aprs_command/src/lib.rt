@@ -5,7 +5,9 @@ mod arguments;
 mod help;
 mod history;
 mod jobs;
+mod table;
 
 pub use arguments::{command_is_simple, job};
 pub use history::{history_command_is_simple, history_job};
-pub use jobs::{HistoryJob, Job, JobFault};
+pub use jobs::{HistoryJob, Job, JobFault, TableJob};
+pub use table::{table_command_is_simple, table_job};

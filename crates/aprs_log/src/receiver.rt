@@ -47,8 +47,9 @@ impl Receiver {
         }
     }
 
-    /// The receiver of this name. Requires that the bytes are a name.
-    pub(crate) fn with_name(bytes: &[u8]) -> Receiver
+    /// The receiver of this name. Requires that the bytes are a name; of any others `parse` tells.
+    /// Takes no memory.
+    pub fn with_name(bytes: &[u8]) -> Receiver
         requires { IsName bytes.now }
         ensures { result ≡ bytes.now }
     {

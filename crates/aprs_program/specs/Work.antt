@@ -15,6 +15,7 @@ use Rattle.aprs_tool.specs.Merge.{IsTextOfBook}
 use Rattle.aprs_tool.specs.Outcome.{IsToldOf, RefusesFor, WritesFor}
 use Rattle.aprs_tool.specs.Run.{AnswersAs}
 use Rattle.aprs_tool.specs.Show.{IsListingOf}
+use Rattle.aprs_tool.specs.TableOf.{IsTableOf}
 use Rattle.aprs_tool.specs.Widen.{GivesSetWithin, IsNotWidened}
 use Rattle.aprs_tool.specs.declared.fault.RunFault.{RunFault}
 use Rattle.aprs_program.specs.declared.work.Gathering.{Gathering}
@@ -32,11 +33,13 @@ work_of (job.Widen gap inputs) = work.Of (single.Widen gap)
 work_of (job.Merge gap inputs) = work.OfAll gathering.Merge gap
 work_of (job.Show gap inputs) = work.OfAll gathering.Show gap
 
--- The text is what is written of a set: its book, its listing or its history under this gap.
+-- The text is what is written of a set: its book, its listing, its history or its
+-- table under this gap.
 abbrev pub IsOutputOf : Gathering → ℕ → List Received → List ℕ → Type 0
 IsOutputOf gathering.Merge gap = IsTextOfBook gap
 IsOutputOf gathering.Show gap = IsListingOf gap
 IsOutputOf gathering.History gap = IsHistoryOf gap
+IsOutputOf gathering.Table gap = IsTableOf gap
 
 -- What the readers were asked: a merge may be refused memory after their ends as well.
 abbrev pub AsksAll : {R : Type 0} → Gathering → Result (Unit {0}) RunFault → List (Counted R)

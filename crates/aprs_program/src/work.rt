@@ -11,7 +11,8 @@ use aprs_io::Counted;
 use aprs_laws::Gap;
 use aprs_log::MAX_INPUT;
 use aprs_tool::{
-    Form, Job, RunFault, check_run, convert_run, history_run, merge_run, show_run, widen_run,
+    Form, Job, RunFault, check_run, convert_run, history_run, merge_run, show_run, table_run,
+    widen_run,
 };
 use std::alloc::Allocator;
 use std::io::{Read, Write};
@@ -36,6 +37,8 @@ pub enum Gathering {
     Show,
     /// Writes the history of the inputs' book.
     History,
+    /// Writes the table of the inputs' book.
+    Table,
 }
 
 /// What a program is to do.
@@ -81,7 +84,7 @@ pub fn run_single<R: Read, W: Write, A: Allocator + Copy>(
 
 /// Does the work over several inputs, of each of which at most `MAX_INPUT` bytes (1,073,741,824)
 /// are read. What it writes, when it ends with which fault and what memory it takes is as
-/// `merge_run`, `show_run` and `history_run` of `aprs_tool` say.
+/// `merge_run`, `show_run`, `history_run` and `table_run` of `aprs_tool` say.
 pub fn run_gathering<R: Read, W: Write, A: Allocator + Copy>(
     alloc: A,
     gathering: Gathering,
@@ -101,5 +104,6 @@ pub fn run_gathering<R: Read, W: Write, A: Allocator + Copy>(
         Gathering::Merge => merge_run(alloc, MAX_INPUT, gap, inputs, w),
         Gathering::Show => show_run(alloc, MAX_INPUT, gap, inputs, w),
         Gathering::History => history_run(alloc, MAX_INPUT, gap, inputs, w),
+        Gathering::Table => table_run(alloc, MAX_INPUT, gap, inputs, w),
     }
 }

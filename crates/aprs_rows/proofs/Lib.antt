@@ -12,6 +12,7 @@ pub mod Judgements
 pub mod NameRooms
 pub mod NameTexts
 pub mod Opens
+pub mod OpenRows
 pub mod Orders
 pub mod Packed
 mod Places

@@ -9,6 +9,7 @@ pub mod Judging
 pub mod KeptNames
 pub mod NameRoom
 pub mod Names
+pub mod OpenRow
 pub mod Packed
 pub mod Refusal
 pub mod Sorted

@@ -5,5 +5,6 @@ pub(crate) mod book_store;
 pub(crate) mod front;
 pub(crate) mod mark;
 pub(crate) mod merger;
+pub(crate) mod open_row;
 pub(crate) mod packed;
 pub(crate) mod walk_room;

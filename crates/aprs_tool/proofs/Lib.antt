@@ -9,6 +9,7 @@ pub mod Logs
 pub mod Shows
 pub mod Told
 pub mod Histories
+pub mod Tables
 pub mod Merges
 pub mod OneMerge
 pub mod OneInput

@@ -15,6 +15,7 @@ pub mod Gathered
 pub mod Show
 pub mod ToldBook
 pub mod HistoryOf
+pub mod TableOf
 pub mod Widen
 pub mod Examples
 -- What public clauses cite of lower crates.

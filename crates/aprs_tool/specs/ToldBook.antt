@@ -1,10 +1,11 @@
--- What is written of a book: its listing, or its history. No public clause cites this module.
+-- What is written of a book: its listing, its history, or its table. No public clause cites this module.
 use Rattle.std.specs.Prelude.{◌≡◌, ℕ, List, Option, Result, Ok, Err}
 use Rattle.aprs_io.specs.Device.{Sends}
 use Rattle.aprs_io.specs.declared.device.Counted.{Counted}
 use Rattle.aprs_laws.specs.BookValue.{BookValue}
 use Rattle.aprs_listing.specs.History.{history_text}
 use Rattle.aprs_listing.specs.OneLine.{HasOneLineEach}
+use Rattle.aprs_table.specs.Table.{table_text}
 use Rattle.aprs_tool.specs.declared.fault.RunFault.{RunFault}
 use Rattle.aprs_tool.specs.declared.fault.RunFault.TheVariants as run
 use Rattle.aprs_tool.specs.declared.gathered.OutputFault.{OutputFault}
@@ -13,6 +14,10 @@ use Rattle.aprs_tool.specs.declared.gathered.OutputFault.TheVariants.{Memory, Wr
 -- The text is the history of the book's rows, with one line for each.
 abbrev pub IsHistory : BookValue → List ℕ → Type 0
 IsHistory book text = HasOneLineEach book.rows × (text ≡ history_text book.rows)
+
+-- The text is the table of the book's rows.
+abbrev pub IsTable : BookValue → List ℕ → Type 0
+IsTable book text = text ≡ table_text book.rows
 
 -- A text that is told of the book is written, or a prefix of it where the output was refused. Where
 -- an allocation failed, nothing is.

@@ -4,13 +4,14 @@ ghost use Rattle.aprs_laws.specs.BookValue.{BookValue};
 ghost use Rattle.aprs_laws.specs.Coalescing.{AreInOrder};
 ghost use Rattle.aprs_listing.specs.Listing.{IsShown};
 ghost use Rattle.aprs_tool.specs.Gathered.{with_rows, WritesText};
-ghost use Rattle.aprs_tool.specs.ToldBook.{IsHistory, WritesTold, answer_of_output};
+ghost use Rattle.aprs_tool.specs.ToldBook.{IsHistory, IsTable, WritesTold, answer_of_output};
 
 use crate::fault::RunFault;
 use aprs_book::{Gap, Memory, Summary};
 use aprs_booktext::write_rows;
 use aprs_io::{Counted, WriteFault};
 use aprs_listing::{write_history, write_listing};
+use aprs_table::write_table;
 use aprs_rows::{BookStore, PackedRows, WalkRoom};
 use std::alloc::{Allocator, Global};
 use std::io::Write;
@@ -146,6 +147,17 @@ impl<A: Allocator + Copy> Gathered<A> {
         let store = self.into_store()?;
         let rows = store.rows(&mut room)?;
         Ok(write_history(w, rows)?)
+    }
+
+    /// Writes the table of the book. At `Memory` an allocation failed, and nothing was written; at
+    /// `Write` a prefix of the table was written.
+    pub(crate) fn table<W: Write>(self, w: &mut Counted<W>) -> Result<(), OutputFault>
+        ensures { WritesTold IsTable W.contents result self w.old w.new }
+    {
+        let mut room = WalkRoom::new(self.alloc);
+        let store = self.into_store()?;
+        let rows = store.rows(&mut room)?;
+        Ok(write_table(w, rows)?)
     }
 }
 

@@ -2,6 +2,7 @@
 //! positions in a listing. What stands for a set has no fault. The functions do nothing: what they
 //! ensure are the laws.
 ghost use Rattle.std.specs.Prelude.{ℕ};
+ghost use Rattle.aprs_tool.specs.TableOf.{HaveOneTable};
 ghost use Rattle.aprs_tool.specs.HistoryOf.{HaveOneHistory, HistoriesTellItems, HistoriesTellObjects, HistoriesTellPlaces};
 ghost use Rattle.aprs_tool.specs.Merge.{AreBooksOfUnions, HaveOneMerge};
 ghost use Rattle.aprs_tool.specs.Refused.{HaveNoFault};
@@ -32,6 +33,11 @@ pub fn listings_tell_positions()
 /// with repeats, and some of them through books that were written before.
 pub fn same_receptions_same_history()
     ensures { (gap : ℕ) → HaveOneHistory gap }
+{}
+
+/// Under one gap, inputs that stand for sets with the same members have one table.
+pub fn same_receptions_same_table()
+    ensures { (gap : ℕ) → HaveOneTable gap }
 {}
 
 /// The history of any set of receptions under any gap has, for each station with a position report

@@ -13,10 +13,12 @@ mod laws;
 mod merge;
 mod run;
 mod show;
+mod table;
 mod widen;
 
 pub use aprs_command::{
-    HistoryJob, Job, JobFault, command_is_simple, history_command_is_simple, history_job, job,
+    HistoryJob, Job, JobFault, TableJob, command_is_simple, history_command_is_simple, history_job,
+    job, table_command_is_simple, table_job,
 };
 pub use aprs_convert::Form;
 pub use aprs_io::{Counted, DeviceFault, WriteFault, send};
@@ -26,9 +28,10 @@ pub use fault::{InputFault, RunFault, status_of};
 pub use history::history_run;
 pub use laws::{
     faultless_inputs_have_no_fault, histories_tell_places, listings_tell_positions,
-    same_receptions_same_bytes, same_receptions_same_history,
+    same_receptions_same_bytes, same_receptions_same_history, same_receptions_same_table,
 };
 pub use merge::merge_run;
 pub use run::{check_run, convert_run};
 pub use show::show_run;
+pub use table::table_run;
 pub use widen::widen_run;

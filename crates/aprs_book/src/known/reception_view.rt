@@ -94,7 +94,7 @@ impl<'a> ReceptionView<'a> {
     pub(crate) fn source(&self) -> Callsign
         ensures { result ≡ (key_of self.now.frame).source }
     {
-        read_frame(self.frame).source()
+        Frame::from_bytes(self.frame).source()
     }
 
     /// The seven octets of the source's address, which follow the seven of the destination's.
@@ -156,20 +156,10 @@ impl<'a> ReceptionView<'a> {
     pub(crate) fn read(&self) -> Reception
         ensures { result ≡ self.now }
     {
-        match Receiver::parse(self.receiver) {
-            Some(receiver) => Reception::new(self.moment, receiver, read_frame(self.frame)),
-            None => unreachable!(),
-        }
-    }
-}
-
-/// The frame of these bytes, which have to be those of a frame.
-fn read_frame(bytes: &[u8]) -> Frame
-    requires { FrameOf (parts_of bytes.now) bytes.now }
-    ensures { result ≡ bytes.now }
-{
-    match Frame::read(bytes) {
-        Ok(frame) => frame,
-        Err(_) => unreachable!(),
+        Reception::new(
+            self.moment,
+            Receiver::with_name(self.receiver),
+            Frame::from_bytes(self.frame),
+        )
     }
 }

@@ -11,7 +11,7 @@ ghost use Rattle.aprs_laws.proofs.Orders.{bytes_total, bytes_exact};
 ghost use Rattle.aprs_laws.proofs.Joins.{receivers_laws};
 
 use crate::joining::kept_names::KeptNames;
-use crate::row::names::{cut_name, read_name};
+use crate::row::names::cut_name;
 use crate::row::row_view::RowView;
 use crate::{Join, Memory};
 use aprs_log::Receiver;
@@ -120,7 +120,7 @@ impl<A: Allocator + Copy> Receivers<A> {
         let text = row.receivers();
         if cut_name(text).is_none() {
             return Ok(Receivers {
-                names: KeptNames::One(alloc, read_name(text)),
+                names: KeptNames::One(alloc, Receiver::with_name(text)),
             });
         }
         Ok(Receivers {

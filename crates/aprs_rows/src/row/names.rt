@@ -22,17 +22,6 @@ pub(crate) fn cut_name(text: &[u8]) -> Option<(&[u8], &[u8])>
     }
 }
 
-/// The receiver of this name. Requires that the bytes are a name, and so can't fail.
-pub(crate) fn read_name(bytes: &[u8]) -> Receiver
-    requires { IsName bytes.now }
-    ensures { result ≡ bytes.now }
-{
-    match Receiver::parse(bytes) {
-        Some(receiver) => receiver,
-        None => unreachable!(),
-    }
-}
-
 /// Writes names over the text, with commas between. After `Memory` a part of them may stand there.
 /// For the crates of this repository.
 pub fn put_names<A: Allocator>(text: &mut Vec<u8, A>, names: &[Receiver]) -> Result<(), Memory>

@@ -15,7 +15,7 @@ ghost use Rattle.aprs_rows.specs.Packed.{IsMarked, IsShort, Notes, mark_row};
 use crate::Memory;
 use crate::growth::reserve_one;
 use crate::row::key_prefix::{KeyPrefix, key_order};
-use crate::row::names::{cut_name, read_name};
+use crate::row::names::cut_name;
 use crate::store::mark::Mark;
 use aprs_ax25::Frame;
 use aprs_log::{Moment, Receiver, Reception};
@@ -138,6 +138,21 @@ impl<'a> RowView<'a> {
         }
     }
 
+    /// The same row, which lies at the same place.
+    pub(crate) fn copy(&self) -> RowView<'a>
+        ensures { result ≡ self.now }
+    {
+        RowView {
+            first: self.first,
+            last: self.last,
+            names: self.names,
+            receiver: self.receiver,
+            frame: self.frame,
+            info_at: self.info_at,
+            head: self.head,
+        }
+    }
+
     /// The first moment at which the transmission was heard. Takes no memory.
     pub fn first(&self) -> Moment
         ensures { result ≡ self.now.first }
@@ -212,7 +227,7 @@ impl<'a> RowView<'a> {
     pub fn read_receiver(&self) -> Receiver
         ensures { result ≡ self.now.greatest.receiver }
     {
-        read_name(self.receiver())
+        Receiver::with_name(self.receiver())
     }
 
     /// The frame of the greatest reception, in a place of its own. Can't fail, since a row's bytes
@@ -220,14 +235,11 @@ impl<'a> RowView<'a> {
     pub fn read_frame(&self) -> Frame
         ensures { result ≡ self.now.greatest.frame }
     {
-        match Frame::read(self.frame()) {
-            Ok(frame) => frame,
-            Err(_) => unreachable!(),
-        }
+        Frame::from_bytes(self.frame())
     }
 
-    /// The order of rows, by key, then first moment.
-    pub(crate) fn order(&self, other: &RowView<'_>) -> Ordering
+    /// The order of rows, by key, then first moment. Takes no memory.
+    pub fn order(&self, other: &RowView<'_>) -> Ordering
         ensures { result ≡ row_cmp self.now other.now }
     {
         match self.key_order(other) {
@@ -270,7 +282,7 @@ fn push_receiver<A: Allocator>(names: &mut Vec<Receiver, A>, name: &[u8]) -> Res
     ensures { OnOk result (names.new.items ≡ names.old.items ++ name.now ∷ []) }
 {
     reserve_one(names)?;
-    if names.push(read_name(name)).is_err() {
+    if names.push(Receiver::with_name(name)).is_err() {
         return Err(Memory);
     }
     Ok(())

@@ -113,7 +113,11 @@ impl<'a, A: Allocator + Copy> Iterator for BookRows<'a, A> {
 
 /// The earlier of the first moments of two rows, and the row that has the greater of their greatest
 /// receptions.
-fn grown<'a>(first: Moment, greatest: RowView<'a>, row: RowView<'a>) -> (Moment, RowView<'a>)
+pub(crate) fn grown<'a>(
+    first: Moment,
+    greatest: RowView<'a>,
+    row: RowView<'a>,
+) -> (Moment, RowView<'a>)
     ensures first { result.0 ≡ min first row.entry.first }
     ensures greatest { result.1.greatest ≡ greater greatest.entry.greatest row.entry.greatest }
 {

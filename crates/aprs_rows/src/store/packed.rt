@@ -90,6 +90,15 @@ impl<A: Allocator + Copy> PackedRows<A> {
         Some(RowView::of_mark(mark, own))
     }
 
+    /// Each row is sound by itself, and its receivers' names with commas between have fewer than
+    /// 4,294,967,296 bytes. Does nothing.
+    pub fn sound(&self)
+        ensures sound { AreSoundRows self.now }
+        ensures short { AreShort self.now }
+    {
+        let _rows = self.rows();
+    }
+
     /// Puts a reception after the rows, as a row of its own. After `Memory` the rows are as before.
     pub fn push_reception(&mut self, x: &Reception) -> Result<(), Memory>
         ensures pushed { OnOk result (self.new ≡ self.old ++ single x.now ∷ []) }
@@ -118,6 +127,18 @@ impl<A: Allocator + Copy> PackedRows<A> {
         put(&mut self.bytes, receiver);
         put(&mut self.bytes, frame);
         Ok(())
+    }
+
+    /// Puts a row in the place of all rows. Requires what `push` does. After `Memory` there are no
+    /// rows. Takes memory only where the row is longer than any that was here before.
+    pub fn set(&mut self, row: &RowView<'_>) -> Result<(), Memory>
+        requires sound { IsSoundRow row.now }
+        requires short { length (join_with_byte 44 row.now.receivers) < 4294967296 }
+        ensures set { OnOk result (self.new ≡ row.now ∷ []) }
+        ensures none { OnErr result (self.new ≡ []) }
+    {
+        self.clear();
+        self.push(row)
     }
 
     /// The rows, which lend the bytes here. Takes no memory, nor does the walk.
@@ -178,7 +199,7 @@ impl<A: Allocator + Copy> PackedRows<A> {
     }
 
     /// Takes all rows out. The memory stays for others.
-    pub(crate) fn clear(&mut self)
+    pub fn clear(&mut self)
         ensures { self.new ≡ [] }
     {
         self.marks.clear();

@@ -41,3 +41,15 @@ pub returns-in-History-clause-asks : goal.returns-in-History-clause-asks
 returns-in-History-clause-asks g c =
     subst (λ (of : Gathering). AsksAll of c.history_run.result c.args.inputs.now c.history_run.new.inputs)
     (sym c.in-History.is) c.history_run.ensures.asks
+
+pub returns-in-Table-clause-writes : goal.returns-in-Table-clause-writes
+returns-in-Table-clause-writes g c =
+    subst (λ (of : Gathering). OfEach most_input g.R.Read.remaining c.args.inputs.now
+    c.table_run.new.inputs (λ gots. WritesFor (IsToldOf (GiveUnion c.args.gap gots)
+    (IsOutputOf of c.args.gap)) g.W.Write.contents c.table_run.result c.args.w.now
+    c.table_run.new.w)) (sym c.in-Table.is) c.table_run.ensures.writes
+
+pub returns-in-Table-clause-asks : goal.returns-in-Table-clause-asks
+returns-in-Table-clause-asks g c =
+    subst (λ (of : Gathering). AsksAll of c.table_run.result c.args.inputs.now c.table_run.new.inputs)
+    (sym c.in-Table.is) c.table_run.ensures.asks

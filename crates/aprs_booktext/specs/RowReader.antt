@@ -1,0 +1,79 @@
+-- What a reader holds that keeps the last row alone. No public clause cites this module.
+use Rattle.std.specs.Prelude.{◌≡◌, ℕ, ◌+◌, Bool, true, false, List, [], ◌∷◌, ◌++◌, length, Option, None, Some, Result, Ok, Err}
+use Rattle.std.specs.List.{last_or}
+use Rattle.aprs_laws.specs.BookValue.{BookValue}
+use Rattle.aprs_laws.specs.Row.{Row}
+use Rattle.aprs_booktext.specs.Reader.{HasReadLines, is_done, JudgesLine}
+use Rattle.aprs_booktext.specs.declared.fault.BookCause.{BookCause}
+use Rattle.aprs_booktext.specs.declared.fault.BookFault.{BookFault}
+use Rattle.aprs_booktext.specs.declared.reader.Stage.{Stage}
+use Rattle.aprs_booktext.specs.declared.reader.Stage.TheVariants.{Header, Rows, Done}
+use Rattle.aprs_booktext.specs.declared.row_reader.RowReader.{RowReader}
+
+-- The list of a row, or the empty list where there is none.
+abbrev pub list_of_row : Option Row → List Row
+list_of_row None = []
+list_of_row (Some x) = x ∷ []
+
+-- The last of these rows, until the last line was read.
+abbrev pub row_kept : Stage → List Row → List Row
+row_kept Header rows = []
+row_kept (Rows v) rows = list_of_row (last_or None rows)
+row_kept (Done v) rows = []
+
+-- Whether a line between these stages is a row's.
+abbrev pub is_row_between : Stage → Stage → Bool
+is_row_between (Rows v) (Rows w) = true
+is_row_between before after = false
+
+-- Before the header there are no rows.
+abbrev pub IsNoneAtHeader : Stage → List Row → Type 0
+IsNoneAtHeader Header rows = rows ≡ []
+IsNoneAtHeader stage rows = Unit {0}
+
+-- How many rows there are after a line, by whether it is a row's.
+abbrev pub count_after : Bool → ℕ → ℕ
+count_after true count = count + 1
+count_after false count = count
+
+-- The answer for a whole text as that of reading its book: this gap and these rows.
+abbrev pub answer_read : Result (Unit {0}) BookFault → ℕ → List Row → Result BookValue BookFault
+answer_read (Ok u) gap rows = Ok (record { gap = gap; rows = rows })
+answer_read (Err fault) gap rows = Err fault
+
+-- After a line that was judged so, the last of the rows is kept, and after a fault anything may be.
+abbrev pub KeepsLast : Result Stage BookCause → List Row → List Row → Type 0
+KeepsLast (Ok stage) rows kept = kept ≡ row_kept stage rows
+KeepsLast (Err cause) rows kept = Unit {0}
+
+-- A line after those of the rows `old` is judged so; there are `new` rows after it, and the last of
+-- them is kept.
+pub record JudgesKept (stage : Stage) (answer : Result Stage BookCause) (old : List Row)
+    (line : List ℕ) (kept : List Row) : Type 0 where
+  pub new : List Row
+  pub judged : JudgesLine stage answer old line new
+  pub keeps : KeepsLast answer new kept
+
+-- ---- a reader
+
+-- The most bytes that a text may have whose rows are read one after another.
+abbrev pub most_stream : ℕ
+most_stream = 9223372036854775807
+
+-- How many rows there were, and how many bytes of a line the reader keeps, together.
+abbrev pub size_read : {A : Type 0} → RowReader A → ℕ
+size_read reader = reader.count + length reader.line.items
+
+-- The reader has read this text, which has these rows.
+pub record HasReadTo {A : Type 0} (reader : RowReader A) (rows : List Row) (text : List ℕ)
+    : Type 0 where
+  pub lines : HasReadLines reader.stage rows reader.line.items text
+  pub count : reader.count ≡ length rows
+  pub last : reader.last ≡ row_kept reader.stage rows
+
+-- With one line more the reader has read this text: one row more, which it keeps, or the same rows.
+abbrev pub ReadsOne : {A : Type 0} → Bool → RowReader A → List Row → List ℕ → Type 0
+ReadsOne true reader rows text =
+    (x : Row) × (reader.last ≡ x ∷ []) × (is_done reader.stage ≡ false)
+    × HasReadTo reader (rows ++ x ∷ []) text
+ReadsOne false reader rows text = HasReadTo reader rows text

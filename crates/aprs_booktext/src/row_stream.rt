@@ -1,0 +1,140 @@
+//! The rows of a book's text, read one after another.
+ghost use Rattle.std.specs.Prelude.{◌≡◌, ◌≤◌, ◌<◌, ◌+◌, ◌*◌, ℕ, [], ◌∷◌, None, Some, List, false, true, length, IfErr, IfOk, IfSome, IfNone, OnOk};
+ghost use Rattle.std.specs.List.{last_or};
+ghost use Rattle.aprs_io.specs.declared.device.Counted.{Counted as CountedValue};
+ghost use Rattle.aprs_laws.specs.Row.{Row};
+ghost use Rattle.aprs_booktext.specs.Reading.{IsAnswered};
+ghost use Rattle.aprs_booktext.specs.Piece.{bytes_left};
+ghost use Rattle.aprs_booktext.specs.RowReader.{most_stream};
+ghost use Rattle.aprs_booktext.specs.RowStream as Spec;
+
+use crate::cut::cut;
+use crate::fault::{BookCause, BookFault};
+use crate::piece::Piece;
+use crate::row_reader::RowReader;
+use aprs_book::Gap;
+use aprs_io::Counted;
+use aprs_rows::{Memory, RowView};
+use std::alloc::Allocator;
+use std::io::Read;
+
+/// The rows of a book's text that is read of a source, of which one is kept at a time.
+#[derive(Drop)]
+pub struct RowStream<A: Allocator> {
+    reader: RowReader<A>,
+    piece: Piece<A>,
+    /// How many bytes may still be read.
+    left: u64,
+}
+
+impl<A: Allocator + Copy> RowStream<A> {
+    /// The rows of a text of at most `limit` bytes, of which nothing was read.
+    pub fn new(alloc: A, limit: u64) -> Result<RowStream<A>, Memory>
+        ensures holds { IfOk result (λ stream. Spec.HoldsTo stream [] []) }
+        ensures left { IfOk result (λ stream. stream.left ≡ limit) }
+        ensures size { IfOk result (λ stream. Spec.stream_size stream ≡ limit) }
+        ensures going { IfOk result (λ stream. Spec.is_ended stream ≡ false) }
+    {
+        let piece = Piece::new(alloc)?;
+        Ok(RowStream {
+            reader: RowReader::new(alloc),
+            piece,
+            left: limit,
+        })
+    }
+
+    /// The gap of the text's book, as the header says; before that is read, the standard gap.
+    pub fn gap(&self) -> Gap
+        ensures { result ≡ Spec.gap_of_stream self.now }
+    {
+        self.reader.gap()
+    }
+
+    /// The row that was read last, or `None` before the first and after the last.
+    pub fn row(&self) -> Option<RowView<'_>>
+        ensures some { IfSome result (λ x. last_or None (Spec.front_of self.now) ≡ Some x) }
+        ensures none { IfNone result (Spec.front_of self.now ≡ []) }
+    {
+        self.reader.row()
+    }
+
+    /// Reads on to the next row, or to the end of the book and of the source, and then there is no
+    /// row. Fails with the text's first fault, or with `Memory` where an allocation failed. Requires
+    /// that the end wasn't reached before, and that no fault came.
+    pub fn advance<R: Read>(&mut self, source: &mut Counted<R>) -> Result<(), BookFault>
+        requires few { Spec.stream_size self.old ≤ most_stream }
+        requires going { Spec.is_ended self.old ≡ false }
+        ensures one { OnOk result ((limit : ℕ) (first : CountedValue R) (rows : List Row)
+            → Spec.HasGot R.remaining limit first source.old self.old rows
+            → Spec.GetsOne R.remaining limit first source.new self.new rows) }
+        ensures size { OnOk result (Spec.stream_size self.new ≤ Spec.stream_size self.old) }
+        ensures less { OnOk result (Spec.is_ended self.new ≡ false
+            → Spec.stream_ahead self.new < Spec.stream_ahead self.old) }
+        ensures fault { IfErr result (λ fault.
+            Spec.IsFaultyAfter R.remaining fault source.old source.new self.old) }
+    {
+        while !self.reader.is_done() {
+            if self.step(source)? {
+                return Ok(());
+            }
+        }
+        self.end(source)
+    }
+
+    /// Judges the next line where its end is among the bytes that are here, and returns whether it
+    /// is a row's. Otherwise keeps these bytes and reads some more.
+    fn step<R: Read>(&mut self, source: &mut Counted<R>) -> Result<bool, BookFault>
+        requires few { Spec.stream_size self.old ≤ most_stream }
+        requires going { Spec.is_ended self.old ≡ false }
+        ensures steps { IfOk result (λ is_row. (limit : ℕ) (first : CountedValue R) (rows : List Row)
+            → Spec.HasGot R.remaining limit first source.old self.old rows
+            → Spec.StepsTo R.remaining is_row limit first source.new self.new rows) }
+        ensures size { OnOk result (Spec.stream_size self.new ≤ Spec.stream_size self.old) }
+        ensures less { OnOk result (Spec.stream_ahead self.new < Spec.stream_ahead self.old) }
+        ensures fault { IfErr result (λ fault.
+            Spec.IsFaultyAfter R.remaining fault source.old source.new self.old) }
+    {
+        let bytes = self.piece.as_slice();
+        match cut(bytes, b'\n') {
+            Some((part, after)) => {
+                let size = bytes.len() - after.len();
+                let is_row = self.reader.end_line(part)?;
+                self.piece.consume(size);
+                Ok(is_row)
+            }
+            None => {
+                self.reader.append(bytes)?;
+                match self.piece.refill(source, self.left) {
+                    Ok(count) => {
+                        self.left -= count;
+                        Ok(false)
+                    }
+                    Err(ending) => Err(self.reader.fault_of_ending(ending)),
+                }
+            }
+        }
+    }
+
+    /// Asks for one byte more after the last line. Fails where one is there, or where the read
+    /// fails.
+    fn end<R: Read>(&mut self, source: &mut Counted<R>) -> Result<(), BookFault>
+        requires few { Spec.stream_size self.old ≤ most_stream }
+        requires done { Spec.is_ended self.old ≡ true }
+        ensures ends { OnOk result ((limit : ℕ) (first : CountedValue R) (rows : List Row)
+            → Spec.HasGot R.remaining limit first source.old self.old rows
+            → IsAnswered R.remaining limit [] (Ok (record { gap = Spec.gap_of_stream self.old; rows = rows }))
+            first source.new) }
+        ensures reader { self.new.reader ≡ self.old.reader }
+        ensures size { OnOk result (Spec.stream_size self.new ≤ Spec.stream_size self.old) }
+        ensures fault { IfErr result (λ fault.
+            Spec.IsFaultyAfter R.remaining fault source.old source.new self.old) }
+    {
+        if !self.piece.as_slice().is_empty() {
+            return Err(self.reader.fault(BookCause::After));
+        }
+        match self.piece.refill(source, self.left) {
+            Ok(_) => Err(self.reader.fault(BookCause::After)),
+            Err(ending) => self.reader.finish(ending),
+        }
+    }
+}

@@ -1,0 +1,14 @@
+-- A row that later ones may still join. No public clause cites this module.
+use Rattle.std.specs.Prelude.{◌≡◌, ◌⊎◌, ℕ, Bool, true, false, List, [], ◌∷◌}
+use Rattle.std.specs.Ordering.{is_eq}
+use Rattle.aprs_laws.specs.JoinRow.{combine, compare_near}
+use Rattle.aprs_laws.specs.Row.{Row}
+
+-- The next row is near to the open one, and joins it; or it isn't near, and nothing changes.
+abbrev pub JoinsOrNot : Bool → ℕ → List Row → Row → List Row → Type 0
+JoinsOrNot true gap old next new =
+    (own : Row) × (old ≡ own ∷ []) × (is_eq (compare_near gap own next) ≡ true)
+    × (new ≡ combine own next ∷ [])
+JoinsOrNot false gap old next new = (new ≡ old)
+    × ((old ≡ []) ⊎ ((own : Row) × (old ≡ own ∷ [])
+    × (is_eq (compare_near gap own next) ≡ false)))

@@ -1,0 +1,54 @@
+//! The table of several inputs.
+ghost use Rattle.std.specs.Prelude.{◌≤◌};
+ghost use Rattle.aprs_io.specs.Input.{most_input};
+ghost use Rattle.aprs_tool.specs.Devices.{AsksEach, CallsOutput};
+ghost use Rattle.aprs_tool.specs.Outcome.{IsToldOf, RefusesFor, WritesFor};
+ghost use Rattle.aprs_tool.specs.Several.{GiveUnion, IsFirstRefused, OfEach};
+ghost use Rattle.aprs_tool.specs.TableOf.{IsTableOf};
+
+use crate::fault::RunFault;
+use crate::gathered::answer_of;
+use crate::merge::read_all;
+use aprs_book::Gap;
+use aprs_io::Counted;
+use std::alloc::Allocator;
+use std::io::{Read, Write};
+
+/// Writes the table of the book of this gap of all inputs' receptions: the names of the columns, and
+/// a line for each row of the book, in the book's order, which says what its frame tells. An input that begins with
+/// `APRSBOOK` is a book file, any other a log. Requires that `limit` is at most `MAX_INPUT`
+/// (1,073,741,824). All inputs are read, in order, before the first byte is written: where one is
+/// refused, its number and fault are reported, no further one is read, and nothing is written. At
+/// `Memory` an allocation failed for the book, and nothing was written. At `Write` a prefix of the
+/// table was written.
+pub fn table_run<R: Read, W: Write, A: Allocator + Copy>(
+    alloc: A,
+    limit: u64,
+    gap: Gap,
+    inputs: &mut [Counted<R>],
+    w: &mut Counted<W>,
+) -> Result<(), RunFault>
+    requires { limit ≤ most_input }
+
+    // At `Ok` and `Write` the inputs stand for sets; of any union of these, what was written is the
+    // table, whole at `Ok`, a prefix of it at `Write`.
+    ensures writes { OfEach limit R.remaining inputs.old inputs.new (λ gots.
+        WritesFor (IsToldOf (GiveUnion gap gots) (IsTableOf gap)) W.contents result w.old w.new) }
+
+    // At `Input` that input is the first that isn't taken, for this fault; at `Memory` all inputs
+    // stand for sets. At both nothing was written.
+    ensures refuses { OfEach limit R.remaining inputs.old inputs.new (λ gots.
+        RefusesFor (GiveUnion gap gots) (IsFirstRefused gap gots) result w.old w.new) }
+
+    // No input is asked after its end or a fault, and none after the refused one, which wasn't at
+    // its end where its fault is `Memory`. The output isn't asked after a fault, nor at all where
+    // an input is refused or at `Memory`.
+    ensures asks { AsksEach result inputs.old inputs.new }
+    ensures calls { CallsOutput result w.old w.new }
+{
+    let gathered = match read_all(alloc, limit, gap, inputs) {
+        Ok(gathered) => gathered,
+        Err((index, fault)) => return Err(RunFault::Input { index, fault }),
+    };
+    answer_of(gathered.table(w))
+}
