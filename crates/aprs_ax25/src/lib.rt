@@ -11,11 +11,6 @@ mod plain;
 mod scan;
 
 pub use callsign::Callsign;
-pub use examples::callsigns::callsigns_have_texts;
-pub use examples::frames::{
-    first_faults_count, frames_are_as_the_standard_shows_them, frames_are_made_as_commands,
-    frames_have_limits,
-};
 pub use fault::{CallFault, FrameFault, MakeFault};
 pub use frame::Frame;
 pub use hop::Hop;
