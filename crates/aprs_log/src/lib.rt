@@ -13,9 +13,6 @@ mod reception;
 mod write;
 
 pub use aprs_io::{InputEnd, MAX_INPUT};
-pub use examples::{
-    lines_are_wrong_from_the_left, lines_report_frames, logs_have_first_faults, moments_have_texts,
-};
 pub use fault::{LineFault, LogCause, LogFault, Reason};
 pub use laws::{equal_lines_are_the_same, lines_are_read_as_they_say, logs_are_read_as_they_say};
 pub use line::{Line, MAX_LINE, read_line};
