@@ -3,7 +3,7 @@
 
 mod examples;
 mod fault;
-mod laws;
+pub mod laws;
 mod line;
 mod moment;
 mod moment_form;
@@ -14,7 +14,6 @@ mod write;
 
 pub use aprs_io::{InputEnd, MAX_INPUT};
 pub use fault::{LineFault, LogCause, LogFault, Reason};
-pub use laws::{equal_lines_are_the_same, lines_are_read_as_they_say, logs_are_read_as_they_say};
 pub use line::{Line, MAX_LINE, read_line};
 pub use moment::Moment;
 pub use moment::clock::Clock;
