@@ -10,8 +10,8 @@ usage: build/pairs.py CRATE [WORD..]          changes the definitions, of these 
 
 A change is one more in a number, `||` for `&&`, `<` for `<=` and the reverse, `false` for `true` and
 the reverse, or the answers of two cases exchanged. For each is told what refuses it: an example or a
-law by its name, or a lemma between (then the examples show nothing), or that it STANDS. One check a
-change, with one job. Needs rt, and the crate proved (`rt check`).
+law by its name, or a lemma between (then the examples show nothing), or that it STANDS. Changes by
+hand are tried on the whole crate. One check a change, with one job. Needs rt, and the crate proved.
 """
 import os
 import re
@@ -128,10 +128,9 @@ def verdict(folder: str, whole: bool) -> str:
     return ", ".join(sorted(set(names))[:6]) or said.strip().split("\n")[-1]
 
 
-def tried(crate: str, changes: List[Change]) -> int:
+def tried(crate: str, changes: List[Change], whole: bool) -> int:
     """Tries the changes on a copy of the crate; how many stand."""
     stand = 0
-    whole = not os.path.exists(f"crates/{crate}/src/examples.rt")
     with tempfile.TemporaryDirectory() as place:
         shutil.copy("crates.txt", place)
         shutil.copy("HANDLES", place)
@@ -162,7 +161,7 @@ def main(words: List[str]) -> int:
     way = words.pop(0) if words[0].startswith("--") else ""
     crate, rest = words[0], words[1:]
     if way == "--edits":
-        return tried(crate, [edits_in(path, crate) for path in rest])
+        return 1 if tried(crate, [edits_in(path, crate) for path in rest], True) else 0
     changes = [
         change
         for name in sorted(os.listdir(f"crates/{crate}/specs"))
@@ -173,7 +172,9 @@ def main(words: List[str]) -> int:
     if way == "--list":
         print("\n".join(change.said for change in changes))
         return 0
-    return 1 if tried(crate, changes) else 0
+    # lemmas that are examples are checked with the whole crate alone
+    whole = os.path.exists(f"crates/{crate}/proofs/Examples.antt")
+    return 1 if tried(crate, changes, whole) else 0
 
 
 if __name__ == "__main__":
