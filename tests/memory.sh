@@ -2,8 +2,8 @@
 # Checks that no source makes up a want of memory. `Memory` of aprs_rows has a private part, so the
 # compiler refuses one that is made outside its file; there it is made of an `AllocError`, or by
 # `past_all_sizes`, which is called only where the list below says. Of the faults with a value
-# `Memory`, and of `AllocError`, the list has each source that makes or names one, how often, and
-# why. Needs a POSIX system and Python 3.
+# `Memory`, and of what an allocation answers, `AllocError` and `AllocFailed`, the list has each
+# source that makes or names one, how often, and why. Needs a POSIX system and Python 3.
 set -eu
 export LC_ALL=C
 cd "$(dirname "$0")/.."
@@ -17,7 +17,7 @@ from rattle_text import masked, read
 # how often each source makes a fault of memory
 MAKERS = {
     # of an allocation that failed, and where no memory would serve
-    "aprs_rows/src/memory.rt": 2,
+    "aprs_rows/src/memory.rt": 3,
     # where the number of rows passes the last number, or a row's names of receivers take 4 GiB
     "aprs_book/src/rows/keyed.rt": 1,
     "aprs_book/src/rows/slot.rt": 1,
@@ -77,7 +77,7 @@ for path in sorted(glob.glob("crates/*/src/**/*.rt", recursive=True)):
     code, short = code_of(path), path[len("crates/"):]
     for what, found, known in (
         ("makes a fault of memory", made(code), MAKERS),
-        ("names `AllocError`", len(re.findall(r"\bAllocError\b(?!>)", code)), NAMERS),
+        ("names an allocation's answer", len(re.findall(r"\bAlloc(?:Error|Failed)\b(?![<>])", code)), NAMERS),
     ):
         if found != known.get(short, 0):
             print(f"tests/memory.sh: {path} {what} {found} times, not {known.get(short, 0)}")
