@@ -1,0 +1,421 @@
+-- Worked examples of the definitions, and near misses, each with its name behind it.
+use Rattle.aprs_details.proofs.Common.{◌≡◌, ℕ, ℤ, List, [], ◌∷◌, Option, None, Some, refl}
+use Rattle.std.specs.Prelude.{pos, neg_ℤ, codes, map}
+use Rattle.std.specs.Fmt.{digits}
+use Rattle.aprs_io.specs.Cut.{cut_at}
+use Rattle.aprs_report.specs.Reader.{numeral_of}
+use Rattle.aprs_report.specs.declared.place.Place.{Place}
+use Rattle.aprs_report.specs.declared.place.Place.TheVariants.{Plain, Base91}
+use Rattle.aprs_report.specs.declared.place.Fraction.{Fraction}
+use Rattle.aprs_report.specs.declared.symbol.Symbol.{Symbol}
+use Rattle.aprs_details.specs.declared.details.Details.{Details}
+use Rattle.aprs_details.specs.declared.weather.Weather.{Weather}
+use Rattle.aprs_details.specs.Altitude.{feet_of, feet_at}
+use Rattle.aprs_details.specs.Compressed.{knots_of}
+use Rattle.aprs_details.specs.Decimal.{degrees_text, metres_text, nearest}
+use Rattle.aprs_details.specs.Details.{details_of, motion_of, weather_at, altitude_of, mic_e_altitude_of, base91_at}
+use Rattle.aprs_details.specs.Extension.{pair_of}
+use Rattle.aprs_details.specs.Telemetry.{Measured, telemetry_of, after_mic}
+use Rattle.aprs_details.specs.ThirdParty.{Passed, passed_of}
+use Rattle.aprs_details.specs.Weather.{places_after, field_at, number_of, temperature_of, humidity_of, luminosity_of}
+use Rattle.aprs_details.specs.Weather.{weather_of_comment, weather_of_cst, weather_with, weather_of_fields, weather_of_info, fields_of_info}
+
+-- Of the first of each two the reading is the second.
+abbrev pub Gives : {X Y : Type 0} → (X → Y) → List (X × Y) → Type 0
+Gives reading rows = map (λ r. reading r.0) rows ≡ map (λ r. r.1) rows
+
+-- Each of the texts reads as nothing.
+abbrev pub Misses : {X Y : Type 0} → (X → Option Y) → List X → Type 0
+Misses reading texts = map reading texts ≡ map (λ x. None) texts
+
+-- ---- positions
+
+-- A car, and a weather station.
+abbrev pub car : Symbol
+car = record { table = 47; code = 62 }
+
+abbrev pub station : Symbol
+station = record { table = 47; code = 95 }
+
+-- A plain place, and a compressed one with these bytes c, s and T.
+abbrev pub plain_place : Place
+plain_place = Plain (pos 294350) (pos 0) 0
+
+abbrev pub compressed_place : List ℕ → Place
+compressed_place cst = Base91 15427503 20427156 cst
+
+-- What the steps of reading details compute with: of a car with a comment, of one with bytes c, s and T, and of a
+-- weather station.
+abbrev pub of_car : List ℕ → Details
+unfolding details_of motion_of weather_at altitude_of pair_of numeral_of feet_of feet_at
+of_car comment = details_of plain_place car comment
+
+abbrev pub of_compressed_car : List ℕ × List ℕ → Details
+unfolding details_of motion_of weather_at altitude_of pair_of numeral_of feet_of feet_at knots_of
+of_compressed_car x = details_of (compressed_place x.0) car x.1
+
+-- Course, speed and altitude alone.
+abbrev pub moves : Option ℕ → Option ℕ → Option ℤ → Details
+moves course speed altitude = record {
+  motion = record { course = course; speed = speed };
+  altitude = altitude;
+  weather = None;
+}
+
+-- The comment of a plain position may begin with a course and a speed: as the standard shows them,
+-- unknown, north and past it.
+pub comments_begin_with_course_and_speed : Gives of_car (
+    (codes "088/036", moves (Some 88) (Some 36) None) ∷  -- shown
+    (codes "088/036Hi", moves (Some 88) (Some 36) None) ∷  -- more
+    (codes "360/036", moves (Some 360) (Some 36) None) ∷  -- north
+    (codes "000/000", moves None (Some 0) None) ∷  -- unknown
+    (codes "361/036", moves None (Some 36) None) ∷  -- past north
+    (codes ".../...", moves None None None) ∷  -- dots
+    (codes "   /036", moves None (Some 36) None) ∷ [])  -- spaces
+unfolding of_car
+comments_begin_with_course_and_speed = refl
+
+-- Near misses.
+pub comments_begin_with_course_and_speed-misses : Gives of_car (
+    (codes "08./036", moves None None None) ∷  -- mixed
+    (codes "88/036", moves None None None) ∷  -- two digits
+    (codes " 088/036", moves None None None) ∷  -- late
+    (codes "088/03", moves None None None) ∷  -- short
+    (codes "RNG0050", moves None None None) ∷ [])  -- range
+unfolding of_car
+comments_begin_with_course_and_speed-misses = refl
+
+-- A compressed position may have them in its bytes c, s and T, unless these have no more, a range
+-- or an altitude. Its comment has none.
+pub compressed_positions_have_course_and_speed : Gives of_compressed_car (
+    ((codes "7P[", []), moves (Some 88) (Some 36) None) ∷  -- shown
+    ((codes "!!!", []), moves (Some 360) (Some 0) None) ∷  -- north
+    ((codes "z{!", []), moves (Some 356) (Some 1018) None) ∷ [])  -- greatest
+unfolding of_compressed_car
+compressed_positions_have_course_and_speed = refl
+
+-- Near misses.
+pub compressed_positions_have_course_and_speed-misses : Gives of_compressed_car (
+    ((codes " sT", []), moves None None None) ∷  -- none
+    ((codes "{?!", []), moves None None None) ∷  -- range
+    ((codes "S]Q", []), moves None None None) ∷  -- altitude
+    ((codes " sT", codes "088/036"), moves None None None) ∷ [])  -- comment
+unfolding of_compressed_car
+compressed_positions_have_course_and_speed-misses = refl
+
+-- A speed is rounded to the nearest.
+pub speeds_are_rounded : Gives knots_of (
+    (6, 1) ∷  -- up
+    (5, 0) ∷ [])  -- down
+unfolding knots_of
+speeds_are_rounded = refl
+
+-- ---- altitudes
+
+abbrev pub feet_in : List ℕ → Option ℕ
+unfolding feet_of feet_at numeral_of
+feet_in comment = feet_of comment
+
+-- Six digits after /A= are feet, wherever they stand.
+pub comments_have_altitudes : Gives of_car (
+    (codes "/A=001234", moves None None (Some (pos 3761232))) ∷  -- shown
+    -- after
+    (codes "088/036/A=001234 Hi", moves (Some 88) (Some 36) (Some (pos 3761232))) ∷ [])
+unfolding of_car
+comments_have_altitudes = refl
+
+-- The first count.
+pub first_altitudes_count : Gives feet_in (
+    (codes "/A=00001/A=000002/A=000003", Some 2) ∷ [])
+unfolding feet_in
+first_altitudes_count = refl
+
+-- Near misses.
+pub comments_have_altitudes-misses : Misses feet_in (
+    codes "/A=00123" ∷  -- five digits
+    codes "/a=001234" ∷  -- lower case
+    codes "/A=-00123" ∷ [])  -- below
+unfolding feet_in
+comments_have_altitudes-misses = refl
+
+abbrev pub mic_e_altitude : List ℕ → Option ℤ
+unfolding mic_e_altitude_of base91_at altitude_of feet_of feet_at numeral_of
+mic_e_altitude comment = mic_e_altitude_of comment
+
+-- Three digits of base 91 and a brace at the start of a Mic-E comment are metres above 10000 below
+-- the sea; a radio's mark may stand before them.
+pub mic_e_comments_have_altitudes : Gives mic_e_altitude (
+    (codes "\"4T}", Some (pos 610000)) ∷  -- shown
+    (codes "]\"4T}Hi", Some (pos 610000)) ∷  -- marked
+    (codes "!!!}", Some (neg_ℤ (pos 100000000))) ∷  -- lowest
+    (codes "/A=001234", Some (pos 3761232)) ∷ [])  -- feet
+unfolding mic_e_altitude
+mic_e_comments_have_altitudes = refl
+
+-- Near misses.
+pub mic_e_comments_have_altitudes-misses : Misses mic_e_altitude (
+    codes "a\"4T}" ∷  -- late
+    codes "\"4T{" ∷ [])  -- no brace
+unfolding mic_e_altitude
+mic_e_comments_have_altitudes-misses = refl
+
+-- ---- weather
+
+-- The weather of the standard's example, with this wind.
+abbrev pub shown_weather : Option ℕ → Option ℕ → Weather
+shown_weather wind_from wind = record {
+  wind_from = wind_from;
+  wind = wind;
+  gust = Some 5;
+  temperature = Some (pos 77);
+  rain_hour = Some 0;
+  rain_day = Some 0;
+  rain_midnight = Some 0;
+  humidity = Some 50;
+  pressure = Some 9900;
+  luminosity = None;
+}
+
+-- This weather, and nothing else.
+abbrev pub weather_alone : Weather → Details
+weather_alone weather = record {
+  motion = record { course = None; speed = None };
+  altitude = None;
+  weather = Some weather;
+}
+
+abbrev pub of_station : Place × List ℕ → Details
+unfolding details_of weather_at altitude_of pair_of numeral_of feet_of feet_at weather_of_comment weather_of_cst weather_with weather_of_fields places_after field_at
+of_station x = details_of x.0 station x.1
+
+abbrev pub without_position : List ℕ → Option Weather
+unfolding weather_of_info fields_of_info weather_of_fields weather_with places_after field_at numeral_of
+without_position info = weather_of_info info
+
+-- Weather with a plain position and a compressed one, as the standard shows it.
+pub weather_is_as_the_standard_shows_it : Gives of_station (
+    -- plain
+    (
+      (plain_place, codes "220/004g005t077r000p000P000h50b09900wRSW"),
+      weather_alone (shown_weather (Some 220) (Some 4)),
+    ) ∷
+    -- compressed
+    (
+      (compressed_place (codes "7P["), codes "g005t077r000p000P000h50b09900wRSW"),
+      weather_alone (shown_weather (Some 88) None),
+    ) ∷ [])
+unfolding of_station
+weather_is_as_the_standard_shows_it = refl
+
+-- Weather without a position, as the standard shows it.
+pub weather_has_no_position : Gives without_position ((
+  codes "_10090556c220s004g005t077r000p000P000h50b09900wRSW",
+  Some (shown_weather (Some 220) (Some 4)),
+) ∷ [])
+unfolding without_position
+weather_has_no_position = refl
+
+-- Near misses.
+pub weather_has_no_position-misses : Misses without_position (
+    codes "_1009055c220s004g005t077" ∷  -- seven digits
+    codes "!10090556c220s004g005t077" ∷ [])  -- another mark
+unfolding without_position
+weather_has_no_position-misses = refl
+
+abbrev pub number_in : ℕ × List ℕ → Option ℕ
+unfolding places_after field_at numeral_of
+number_in x = number_of x.0 x.1
+
+-- The number of a letter's field: fields may be open and stand in any order.
+pub fields_follow_one_another : Gives number_in (
+    ((103, codes "g...t077"), None) ∷  -- dots
+    ((116, codes "g...t077"), Some 77) ∷  -- after dots
+    ((103, codes "g   t077"), None) ∷  -- spaces
+    ((98, codes "h50b09900g005"), Some 9900) ∷  -- another order
+    ((103, codes "g005g006"), Some 5) ∷ [])  -- first
+unfolding number_in
+fields_follow_one_another = refl
+
+-- Near misses.
+pub fields_follow_one_another-misses : Misses number_in (
+    (116, codes "g005 t077") ∷  -- after text
+    (103, codes "g-05") ∷  -- gust below nought
+    (98, codes "b0990") ∷ [])  -- cut off
+unfolding number_in
+fields_follow_one_another-misses = refl
+
+-- A temperature may be below nought.
+pub temperatures_have_a_minus : Gives temperature_of (
+    (codes "t-07", Some (neg_ℤ (pos 7))) ∷  -- below
+    (codes "t007", Some (pos 7)) ∷ [])  -- above
+unfolding number_in
+temperatures_have_a_minus = refl
+
+-- A humidity of 00 is 100 percent.
+pub humidities_are_percent : Gives humidity_of (
+    (codes "h00", Some 100) ∷  -- hundred
+    (codes "h01", Some 1) ∷ [])  -- one
+unfolding number_in
+humidities_are_percent = refl
+
+-- A luminosity l is a thousand more than its places say.
+pub luminosities_have_two_letters : Gives luminosity_of (
+    (codes "L012", Some 12) ∷  -- dark
+    (codes "l012", Some 1012) ∷ [])  -- bright
+unfolding number_in
+luminosities_have_two_letters = refl
+
+-- ---- telemetry
+
+-- A report with this number, these values and these bits.
+abbrev pub report : List ℕ → (a1 a2 a3 a4 a5 : List ℕ) → List ℕ → Option Measured
+report sequence a1 a2 a3 a4 a5 bits = Some (record {
+  sequence = sequence;
+  a1 = a1;
+  a2 = a2;
+  a3 = a3;
+  a4 = a4;
+  a5 = a5;
+  bits = bits;
+})
+
+-- The report that the standard shows, with this number and these bits.
+abbrev pub shown_report : List ℕ → List ℕ → Option Measured
+shown_report sequence bits =
+    report sequence (codes "199") (codes "000") (codes "255") (codes "073") (codes "123") bits
+
+abbrev pub telemetry_in : List ℕ → Option Measured
+unfolding telemetry_of after_mic cut_at
+telemetry_in info = telemetry_of info
+
+-- Telemetry as the standard shows it, with a comment, and without a number.
+pub telemetry_is_as_the_standard_shows_it : Gives telemetry_in (
+    -- shown
+    (codes "T#005,199,000,255,073,123,01101001", shown_report (codes "005") (codes "01101001")) ∷
+    -- comment
+    (codes "T#005,199,000,255,073,123,01101001Hi, all", shown_report (codes "005") (codes "01101001")) ∷
+    (codes "T#MIC199,000,255,073,123,01101001", shown_report [] (codes "01101001")) ∷  -- unnumbered
+    (codes "T#MIC,199,000,255,073,123,01101001", shown_report [] (codes "01101001")) ∷ [])  -- comma
+unfolding telemetry_in
+telemetry_is_as_the_standard_shows_it = refl
+
+-- Telemetry as stations send it: another number of digits, a point, a minus, fewer values, and no
+-- eight bits.
+pub telemetry_is_as_stations_send_it : Gives telemetry_in (
+    -- short and long numbers
+    (codes "T#5,199,000,255,073,123,01101001", shown_report (codes "5") (codes "01101001")) ∷
+    (codes "T#12345,199,000,255,073,123,01101001", shown_report (codes "12345") (codes "01101001")) ∷
+    -- a point and a minus
+    (
+      codes "T#005,12.5,-3,-0.25,.5,1000,00000000",
+      report (codes "005") (codes "12.5") (codes "-3") (codes "-0.25") (codes ".5") (codes "1000")
+          (codes "00000000"),
+    ) ∷
+    (codes "T#005,1", report (codes "005") (codes "1") [] [] [] [] []) ∷  -- one value
+    -- four values
+    (
+      codes "T#005,1,2,3,01101001",
+      report (codes "005") (codes "1") (codes "2") (codes "3") (codes "01101001") [] [],
+    ) ∷
+    (codes "T#005,199,000,255,073,123", shown_report (codes "005") []) ∷  -- no bits
+    (codes "T#005,199,000,255,073,123,0110100", shown_report (codes "005") []) ∷  -- seven bits
+    (codes "T#005,199,000,255,073,123,01101021", shown_report (codes "005") []) ∷ [])  -- a two
+unfolding telemetry_in
+telemetry_is_as_stations_send_it = refl
+
+-- Near misses.
+pub telemetry_is_as_stations_send_it-misses : Misses telemetry_in (
+    codes "T#005" ∷  -- no value
+    codes "T#005," ∷  -- an empty value
+    codes "T#005,1,,3" ∷  -- an empty value between
+    codes "T#,1" ∷  -- no number
+    codes "T#-05,1" ∷  -- a number below nought
+    codes "T#MIC" ∷  -- no value after MIC
+    codes "T#mic,1" ∷  -- lower case
+    codes "T#005,1.2.3" ∷  -- two points
+    codes "T#005,5." ∷  -- nothing after the point
+    codes "T#005,-" ∷  -- a minus alone
+    codes "T#005,1-2" ∷  -- a minus between
+    codes "T#005,+1" ∷  -- a plus
+    codes "T#005,1 Hi" ∷  -- a comment after the first value
+    codes "T#005,199,000,255,073,123 Hi" ∷  -- a comment after the fifth
+    codes "T:005,1" ∷  -- another mark
+    codes "t#005,1" ∷ [])  -- lower case mark
+unfolding telemetry_in
+telemetry_is_as_stations_send_it-misses = refl
+
+-- ---- frames that are passed on
+
+-- A frame that is passed on.
+abbrev pub passed_on : List ℕ → List ℕ → List ℕ → List ℕ → Option Passed
+passed_on source destination via info = Some (record {
+  source = source;
+  destination = destination;
+  via = via;
+  info = info;
+})
+
+abbrev pub passed_in : List ℕ → Option Passed
+unfolding passed_of cut_at
+passed_in info = passed_of info
+
+-- A frame that is passed on, with and without digipeaters.
+pub frames_are_passed_on : Gives passed_in (
+    -- by digipeaters
+    (
+      codes "}N0CALL-7>APRS,TCPIP,RX1*:>Hi",
+      passed_on (codes "N0CALL-7") (codes "APRS") (codes "TCPIP,RX1*") (codes ">Hi"),
+    ) ∷
+    -- without
+    (
+      codes "}N0CALL>APRS::WU2Z     :a>b",
+      passed_on (codes "N0CALL") (codes "APRS") [] (codes ":WU2Z     :a>b"),
+    ) ∷ [])
+unfolding passed_in
+frames_are_passed_on = refl
+
+-- Near misses.
+pub frames_are_passed_on-misses : Misses passed_in (
+    codes "}N0CALL>APRS" ∷  -- no colon
+    codes "}N0CALL:>Hi" ∷  -- no end of the source
+    codes "N0CALL>APRS:>Hi" ∷ [])  -- no brace
+unfolding passed_in
+frames_are_passed_on-misses = refl
+
+-- ---- decimals
+
+-- A fraction.
+abbrev pub parts : ℤ → ℤ → Fraction
+parts n d = record { numerator = n; denominator = d }
+
+abbrev pub text_of_degrees : Fraction → List ℕ
+unfolding digits
+text_of_degrees f = degrees_text f
+
+abbrev pub text_of_metres : ℤ → List ℕ
+unfolding digits
+text_of_metres z = metres_text z
+
+-- Angles have seven decimals, to the nearest.
+pub degrees_have_seven_decimals : Gives text_of_degrees (
+    (parts (pos 294350) (pos 6000), codes "49.0583333") ∷  -- plain
+    (parts (neg_ℤ (pos 432175)) (pos 6000), codes "-72.0291667") ∷  -- west
+    (parts (pos 18855837) (pos 380926), codes "49.5000000") ∷  -- compressed
+    (parts (pos 0) (pos 6000), codes "0.0000000") ∷  -- nought
+    (parts (neg_ℤ (pos 1)) (pos 6000), codes "-0.0001667") ∷  -- small
+    (parts (neg_ℤ (pos 1)) (pos 20000001), codes "0.0000000") ∷ [])  -- no minus
+unfolding text_of_degrees
+degrees_have_seven_decimals = refl
+
+-- Metres have four.
+pub metres_have_four_decimals : Gives text_of_metres (
+    (pos 3761232, codes "376.1232") ∷  -- above
+    (neg_ℤ (pos 5), codes "-0.0005") ∷ [])  -- below
+unfolding text_of_metres
+metres_have_four_decimals = refl
+
+-- Of two that are equally near the greater one counts.
+pub halves_are_rounded_up : Gives (λ (x : ℕ × ℕ). nearest x.0 x.1) (
+    ((1, 2), 1) ∷  -- half
+    ((4, 9), 0) ∷ [])  -- under half
+halves_are_rounded_up = refl
