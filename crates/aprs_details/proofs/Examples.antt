@@ -1,5 +1,5 @@
 -- Worked examples of the definitions, and near misses, each with its name behind it.
-use Rattle.aprs_details.proofs.Common.{◌≡◌, ℕ, ℤ, List, [], ◌∷◌, Option, None, Some, refl}
+use Rattle.aprs_details.proofs.Common.{Bool, true, false, ◌≡◌, ℕ, ℤ, List, [], ◌∷◌, Option, None, Some, refl}
 use Rattle.std.specs.Prelude.{pos, neg_ℤ, codes, map}
 use Rattle.std.specs.Fmt.{digits}
 use Rattle.aprs_io.specs.Cut.{cut_at}
@@ -11,10 +11,10 @@ use Rattle.aprs_report.specs.declared.symbol.Symbol.{Symbol}
 use Rattle.aprs_details.specs.declared.details.Details.{Details}
 use Rattle.aprs_details.specs.declared.weather.Weather.{Weather}
 use Rattle.aprs_details.specs.Altitude.{feet_of, feet_at}
-use Rattle.aprs_details.specs.Compressed.{knots_of}
-use Rattle.aprs_details.specs.Decimal.{degrees_text, metres_text, nearest}
-use Rattle.aprs_details.specs.Details.{details_of, motion_of, weather_at, altitude_of, mic_e_altitude_of, base91_at}
-use Rattle.aprs_details.specs.Extension.{pair_of}
+use Rattle.aprs_details.specs.Compressed.{knots_of, range_of, range_of_cst, is_current_of_cst}
+use Rattle.aprs_details.specs.Decimal.{degrees_text, metres_text, hundredths_text, nearest}
+use Rattle.aprs_details.specs.Details.{details_of, motion_of, weather_at, altitude_of, range_of_place, mic_e_altitude_of, base91_at}
+use Rattle.aprs_details.specs.Extension.{pair_of, range_at}
 use Rattle.aprs_details.specs.Telemetry.{Measured, telemetry_of, after_mic}
 use Rattle.aprs_details.specs.ThirdParty.{Passed, passed_of}
 use Rattle.aprs_details.specs.Weather.{places_after, field_at, number_of, temperature_of, humidity_of, luminosity_of}
@@ -47,20 +47,26 @@ compressed_place cst = Base91 15427503 20427156 cst
 -- What the steps of reading details compute with: of a car with a comment, of one with bytes c, s and T, and of a
 -- weather station.
 abbrev pub of_car : List ℕ → Details
-unfolding details_of motion_of weather_at altitude_of pair_of numeral_of feet_of feet_at
+unfolding details_of motion_of weather_at altitude_of range_of_place pair_of range_at numeral_of feet_of feet_at
 of_car comment = details_of plain_place car comment
 
 abbrev pub of_compressed_car : List ℕ × List ℕ → Details
-unfolding details_of motion_of weather_at altitude_of pair_of numeral_of feet_of feet_at knots_of
+unfolding details_of motion_of weather_at altitude_of range_of_place pair_of range_at numeral_of feet_of feet_at knots_of range_of
 of_compressed_car x = details_of (compressed_place x.0) car x.1
+
+-- Course, speed, altitude, range and how old the fix is.
+abbrev pub says : Option ℕ → Option ℕ → Option ℤ → Option ℕ → Option Bool → Details
+says course speed altitude range is_current = record {
+  motion = record { course = course; speed = speed };
+  altitude = altitude;
+  range = range;
+  is_current = is_current;
+  weather = None;
+}
 
 -- Course, speed and altitude alone.
 abbrev pub moves : Option ℕ → Option ℕ → Option ℤ → Details
-moves course speed altitude = record {
-  motion = record { course = course; speed = speed };
-  altitude = altitude;
-  weather = None;
-}
+moves course speed altitude = says course speed altitude None None
 
 -- The comment of a plain position may begin with a course and a speed: as the standard shows them,
 -- unknown, north and past it.
@@ -80,26 +86,25 @@ pub comments_begin_with_course_and_speed-misses : Gives of_car (
     (codes "08./036", moves None None None) ∷  -- mixed
     (codes "88/036", moves None None None) ∷  -- two digits
     (codes " 088/036", moves None None None) ∷  -- late
-    (codes "088/03", moves None None None) ∷  -- short
-    (codes "RNG0050", moves None None None) ∷ [])  -- range
+    (codes "088/03", moves None None None) ∷ [])  -- short
 unfolding of_car
 comments_begin_with_course_and_speed-misses = refl
 
 -- A compressed position may have them in its bytes c, s and T, unless these have no more, a range
--- or an altitude. Its comment has none.
+-- or an altitude. Its comment has none. Bit 5 of T says whether the fix is current.
 pub compressed_positions_have_course_and_speed : Gives of_compressed_car (
-    ((codes "7P[", []), moves (Some 88) (Some 36) None) ∷  -- shown
-    ((codes "!!!", []), moves (Some 360) (Some 0) None) ∷  -- north
-    ((codes "z{!", []), moves (Some 356) (Some 1018) None) ∷ [])  -- greatest
+    ((codes "7P[", []), says (Some 88) (Some 36) None None (Some true)) ∷  -- shown
+    ((codes "!!!", []), says (Some 360) (Some 0) None None (Some false)) ∷  -- north
+    ((codes "z{!", []), says (Some 356) (Some 1018) None None (Some false)) ∷ [])  -- greatest
 unfolding of_compressed_car
 compressed_positions_have_course_and_speed = refl
 
 -- Near misses.
 pub compressed_positions_have_course_and_speed-misses : Gives of_compressed_car (
-    ((codes " sT", []), moves None None None) ∷  -- none
-    ((codes "{?!", []), moves None None None) ∷  -- range
-    ((codes "S]Q", []), moves None None None) ∷  -- altitude
-    ((codes " sT", codes "088/036"), moves None None None) ∷ [])  -- comment
+    ((codes " sT", []), says None None None None None) ∷  -- none
+    ((codes "{?!", []), says None None None (Some 2013) (Some false)) ∷  -- range
+    ((codes "S]Q", []), says None None None None (Some true)) ∷  -- altitude
+    ((codes " sT", codes "088/036RNG0050"), says None None None None None) ∷ [])  -- comment
 unfolding of_compressed_car
 compressed_positions_have_course_and_speed-misses = refl
 
@@ -109,6 +114,68 @@ pub speeds_are_rounded : Gives knots_of (
     (5, 0) ∷ [])  -- down
 unfolding knots_of
 speeds_are_rounded = refl
+
+-- ---- ranges and fixes
+
+abbrev pub range_in : List ℕ → Option ℕ
+unfolding range_at numeral_of
+range_in comment = range_at comment
+
+-- The comment of a plain position may begin with a range in miles, as the standard shows it.
+pub comments_begin_with_a_range : Gives range_in (
+    (codes "RNG0050", Some 5000) ∷  -- shown
+    (codes "RNG9999Hi", Some 999900) ∷  -- greatest
+    (codes "RNG0000", Some 0) ∷ [])  -- nought
+unfolding range_in
+comments_begin_with_a_range = refl
+
+-- Near misses.
+pub comments_begin_with_a_range-misses : Misses range_in (
+    codes "RNG005" ∷  -- three digits
+    codes "RNG00.5" ∷  -- a point
+    codes "rng0050" ∷  -- lower case
+    codes " RNG0050" ∷ [])  -- late
+unfolding range_in
+comments_begin_with_a_range-misses = refl
+
+abbrev pub range_of_bytes : List ℕ → Option ℕ
+unfolding range_of
+range_of_bytes cst = range_of_cst cst
+
+-- A compressed position may have a range, as the standard shows it, in hundredths of a mile.
+pub compressed_positions_have_a_range : Gives range_of_bytes (
+    (codes "{?!", Some 2013) ∷  -- shown
+    (codes "{!!", Some 200) ∷  -- least
+    (codes "{{!", Some 203783) ∷ [])  -- greatest
+unfolding range_of_bytes
+compressed_positions_have_a_range = refl
+
+-- Near misses.
+pub compressed_positions_have_a_range-misses : Misses range_of_bytes (
+    codes "z?!" ∷  -- a course
+    codes "|?!" ∷  -- past base 91
+    codes "{ !" ∷  -- s before base 91
+    codes "{|!" ∷  -- s past base 91
+    codes "{?1" ∷ [])  -- GGA
+unfolding range_of_bytes
+compressed_positions_have_a_range-misses = refl
+
+-- Bit 5 of T - 33 is the fix.
+pub fixes_are_in_bit_5 : Gives is_current_of_cst (
+    (codes "7P[", Some true) ∷  -- shown
+    (codes "7P@", Some false) ∷  -- 31
+    (codes "7PA", Some true) ∷  -- 32
+    (codes "7P`", Some true) ∷  -- 63
+    (codes "7Pa", Some false) ∷  -- 64
+    (codes "{?!", Some false) ∷ [])  -- with a range
+fixes_are_in_bit_5 = refl
+
+-- Near misses.
+pub fixes_are_in_bit_5-misses : Misses is_current_of_cst (
+    codes " P[" ∷  -- c is a space
+    codes "7P " ∷  -- T before base 91
+    codes "7P|" ∷ [])  -- T past base 91
+fixes_are_in_bit_5-misses = refl
 
 -- ---- altitudes
 
@@ -176,16 +243,18 @@ shown_weather wind_from wind = record {
   luminosity = None;
 }
 
--- This weather, and nothing else.
-abbrev pub weather_alone : Weather → Details
-weather_alone weather = record {
+-- This weather, with a fix that is current, or none, and nothing else.
+abbrev pub weather_alone : Option Bool → Weather → Details
+weather_alone is_current weather = record {
   motion = record { course = None; speed = None };
   altitude = None;
+  range = None;
+  is_current = is_current;
   weather = Some weather;
 }
 
 abbrev pub of_station : Place × List ℕ → Details
-unfolding details_of weather_at altitude_of pair_of numeral_of feet_of feet_at weather_of_comment weather_of_cst weather_with weather_of_fields places_after field_at
+unfolding details_of weather_at altitude_of range_of_place pair_of range_at numeral_of feet_of feet_at weather_of_comment weather_of_cst weather_with weather_of_fields places_after field_at
 of_station x = details_of x.0 station x.1
 
 abbrev pub without_position : List ℕ → Option Weather
@@ -197,12 +266,12 @@ pub weather_is_as_the_standard_shows_it : Gives of_station (
     -- plain
     (
       (plain_place, codes "220/004g005t077r000p000P000h50b09900wRSW"),
-      weather_alone (shown_weather (Some 220) (Some 4)),
+      weather_alone None (shown_weather (Some 220) (Some 4)),
     ) ∷
     -- compressed
     (
       (compressed_place (codes "7P["), codes "g005t077r000p000P000h50b09900wRSW"),
-      weather_alone (shown_weather (Some 88) None),
+      weather_alone (Some true) (shown_weather (Some 88) None),
     ) ∷ [])
 unfolding of_station
 weather_is_as_the_standard_shows_it = refl
@@ -392,6 +461,10 @@ abbrev pub text_of_degrees : Fraction → List ℕ
 unfolding digits
 text_of_degrees f = degrees_text f
 
+abbrev pub text_of_hundredths : ℕ → List ℕ
+unfolding digits
+text_of_hundredths n = hundredths_text n
+
 abbrev pub text_of_metres : ℤ → List ℕ
 unfolding digits
 text_of_metres z = metres_text z
@@ -406,6 +479,14 @@ pub degrees_have_seven_decimals : Gives text_of_degrees (
     (parts (neg_ℤ (pos 1)) (pos 20000001), codes "0.0000000") ∷ [])  -- no minus
 unfolding text_of_degrees
 degrees_have_seven_decimals = refl
+
+-- Hundredths have two.
+pub hundredths_have_two_decimals : Gives text_of_hundredths (
+    (2013, codes "20.13") ∷  -- shown
+    (5000, codes "50.00") ∷  -- whole
+    (5, codes "0.05") ∷ [])  -- small
+unfolding text_of_hundredths
+hundredths_have_two_decimals = refl
 
 -- Metres have four.
 pub metres_have_four_decimals : Gives text_of_metres (
