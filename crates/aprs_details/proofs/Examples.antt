@@ -9,12 +9,13 @@ use Rattle.aprs_report.specs.declared.place.Place.TheVariants.{Plain, Base91}
 use Rattle.aprs_report.specs.declared.place.Fraction.{Fraction}
 use Rattle.aprs_report.specs.declared.symbol.Symbol.{Symbol}
 use Rattle.aprs_details.specs.declared.details.Details.{Details}
+use Rattle.aprs_details.specs.declared.extension.Transmitter.{Transmitter}
 use Rattle.aprs_details.specs.declared.weather.Weather.{Weather}
 use Rattle.aprs_details.specs.Altitude.{feet_of, feet_at}
 use Rattle.aprs_details.specs.Compressed.{knots_of, range_of, range_of_cst, is_current_of_cst}
 use Rattle.aprs_details.specs.Decimal.{degrees_text, metres_text, hundredths_text, nearest}
 use Rattle.aprs_details.specs.Details.{details_of, motion_of, weather_at, altitude_of, range_of_place, mic_e_altitude_of, base91_at}
-use Rattle.aprs_details.specs.Extension.{pair_of, range_at}
+use Rattle.aprs_details.specs.Extension.{pair_of, range_at, phg_at}
 use Rattle.aprs_details.specs.Telemetry.{Measured, telemetry_of, after_mic}
 use Rattle.aprs_details.specs.ThirdParty.{Passed, passed_of}
 use Rattle.aprs_details.specs.Weather.{places_after, field_at, number_of, temperature_of, humidity_of, luminosity_of}
@@ -44,14 +45,14 @@ plain_place = Plain (pos 294350) (pos 0) 0
 abbrev pub compressed_place : List ℕ → Place
 compressed_place cst = Base91 15427503 20427156 cst
 
--- What the steps of reading details compute with: of a car with a comment, of one with bytes c, s and T, and of a
--- weather station.
+-- what the steps of reading details compute with: of a car with a comment, and of one with bytes c,
+-- s and T
 abbrev pub of_car : List ℕ → Details
-unfolding details_of motion_of weather_at altitude_of range_of_place pair_of range_at numeral_of feet_of feet_at
+unfolding details_of motion_of weather_at altitude_of range_of_place pair_of range_at phg_at numeral_of feet_of feet_at
 of_car comment = details_of plain_place car comment
 
 abbrev pub of_compressed_car : List ℕ × List ℕ → Details
-unfolding details_of motion_of weather_at altitude_of range_of_place pair_of range_at numeral_of feet_of feet_at knots_of range_of
+unfolding details_of motion_of weather_at altitude_of range_of_place pair_of range_at phg_at numeral_of feet_of feet_at knots_of range_of
 of_compressed_car x = details_of (compressed_place x.0) car x.1
 
 -- Course, speed, altitude, range and how old the fix is.
@@ -60,6 +61,7 @@ says course speed altitude range is_current = record {
   motion = record { course = course; speed = speed };
   altitude = altitude;
   range = range;
+  phg = None;
   is_current = is_current;
   weather = None;
 }
@@ -137,6 +139,40 @@ pub comments_begin_with_a_range-misses : Misses range_in (
     codes " RNG0050" ∷ [])  -- late
 unfolding range_in
 comments_begin_with_a_range-misses = refl
+
+-- A transmitter of this power, height, gain and direction.
+abbrev pub sent_with : (watts height gain direction : ℕ) → Option Transmitter
+sent_with watts height gain direction = Some (record {
+  watts = watts;
+  height = height;
+  gain = gain;
+  direction = direction;
+})
+
+abbrev pub phg_in : List ℕ → Option Transmitter
+unfolding phg_at
+phg_in comment = phg_at comment
+
+-- The comment of a plain position may begin with power, height, gain and direction, as the standard
+-- shows them: 25 watts, 20 feet, 3 decibels, east.
+pub comments_begin_with_a_transmitter : Gives phg_in (
+    (codes "PHG5132", sent_with 25 20 3 90) ∷  -- shown
+    (codes "PHG0000Hi", sent_with 0 10 0 0) ∷  -- least, without direction
+    (codes "PHG9998", sent_with 81 5120 9 360) ∷ [])  -- greatest, north
+unfolding phg_in
+comments_begin_with_a_transmitter = refl
+
+-- Near misses.
+pub comments_begin_with_a_transmitter-misses : Misses phg_in (
+    codes "PHG5139" ∷  -- direction 9
+    codes "PHG/132" ∷  -- before the digits
+    codes "PHG51:2" ∷  -- after the digits
+    codes "PHG5:32" ∷  -- a height past the digits
+    codes "PHG513" ∷  -- three digits
+    codes "phg5132" ∷  -- lower case
+    codes " PHG5132" ∷ [])  -- late
+unfolding phg_in
+comments_begin_with_a_transmitter-misses = refl
 
 abbrev pub range_of_bytes : List ℕ → Option ℕ
 unfolding range_of
@@ -249,12 +285,13 @@ weather_alone is_current weather = record {
   motion = record { course = None; speed = None };
   altitude = None;
   range = None;
+  phg = None;
   is_current = is_current;
   weather = Some weather;
 }
 
 abbrev pub of_station : Place × List ℕ → Details
-unfolding details_of weather_at altitude_of range_of_place pair_of range_at numeral_of feet_of feet_at weather_of_comment weather_of_cst weather_with weather_of_fields places_after field_at
+unfolding details_of weather_at altitude_of range_of_place pair_of range_at phg_at numeral_of feet_of feet_at weather_of_comment weather_of_cst weather_with weather_of_fields places_after field_at
 of_station x = details_of x.0 station x.1
 
 abbrev pub without_position : List ℕ → Option Weather

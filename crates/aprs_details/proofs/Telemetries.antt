@@ -1,11 +1,16 @@
--- A telemetry report that is read is spelled so.
-use Rattle.aprs_details.proofs.Common.{◌≡◌, ◌&&◌, ℕ, true, List, [], ◌∷◌, ◌++◌, length, Option, Some, None, refl, sym, subst, eqb, eqb-true, and_parts, after_some, guarded_some, some_is, chunk_found, arith}
+-- A telemetry report that is read is spelled so, and what is spelled so is read.
+use Rattle.aprs_details.proofs.Common.{◌≡◌, ◌&&◌, ◌∙◌, ap, Bool, ℕ, true, List, [], ◌∷◌, ◌++◌, length, Option, Some, None, refl, sym, subst, eqb, eqb-true, and_parts, after_some, guarded_some, some_is, chunk_found, arith, false, not, cond, list_all, chunk_takes}
 use Rattle.std.proofs.Common.{append-nil}
-use Rattle.aprs_io.specs.Cut.{Cut, cut_at}
-use Rattle.aprs_io.proofs.Cuts.{cut_at-parts}
+use Rattle.aprs_io.specs.Cut.{Cut, cut_at, is_byte}
+use Rattle.std.proofs.lemmas.Bool.Decides.{nat_tests}
+use Rattle.aprs_io.proofs.Cuts.{cut_at-parts, cut_at-append}
+use Rattle.aprs_report.specs.Bytes.{is_digit}
+use Rattle.aprs_report.proofs.Steps.{StartsWith, guarded_takes}
+use Rattle.aprs_details.specs.ThirdParty.{Lacks}
+use Rattle.aprs_details.proofs.Lacking.{cut_at-lacks, lacks_append, then_some}
 use Rattle.aprs_report.specs.Reader.{◌>>=◌, value_when, chunk_of}
-use Rattle.aprs_details.specs.Value.{is_number, is_whole}
-use Rattle.aprs_details.specs.Telemetry.{Measured, IsTelemetry, BeginsWithNumber, numbered, unnumbered, IsNext, without_comma, bits_in, is_mic, is_telemetry_mark, after_mic, sequence_with, sequence_at, numbered_in, value_in, value_at, telemetry_of}
+use Rattle.aprs_details.specs.Value.{is_number, is_whole, is_unsigned_in}
+use Rattle.aprs_details.specs.Telemetry.{Measured, IsTelemetry, BeginsWithNumber, numbered, unnumbered, IsNext, comma_before, without_comma, bits_in, is_mic, is_telemetry_mark, after_mic, sequence_with, sequence_at, numbered_in, value_in, value_at, telemetry_of}
 
 -- ---- the number
 
@@ -153,3 +158,132 @@ telemetry_found info t e =
       fifth = value_found a4.1 a5 e7;
       bits = refl;
     }))))))))
+
+-- ---- and the other way
+
+none_by : (b : ℕ) (bs : List ℕ) (o : Option (List ℕ × List ℕ)) → eqb b 77 ≡ false →
+    chunk_of 3 (b ∷ bs) ≡ o → (o >>= λ (w : List ℕ × List ℕ). value_when (is_mic w.0) w.1) ≡ None
+none_by b bs None n e = refl
+none_by b bs (Some w) n e = first_of w.0 w.1 f.parts f.len
+  where
+    f : StartsWith 3 (b ∷ bs) w.0 w.1
+    f = chunk_found 3 (b ∷ bs) w e
+
+    first_of : (word more : List ℕ) → b ∷ bs ≡ word ++ more → length word ≡ 3 →
+        value_when (is_mic word) more ≡ None
+    first_of [] more p l = absurd cc
+    first_of (x ∷ word) more p l =
+        let same : x ≡ b = cc in
+        let other : eqb x 77 ≡ false = ap (λ (k : ℕ). eqb k 77) same ∙ n in
+        rw other refl
+
+other_letter : (b : ℕ) → is_digit b ≡ true → eqb b 77 ≡ false
+other_letter b h = grind (arith, nat_tests)
+
+no_mic : (sequence rest : List ℕ) → is_whole sequence ≡ true → after_mic (sequence ++ 44 ∷ rest) ≡ None
+unfolding after_mic
+no_mic [] rest h = absurd cc
+no_mic (d ∷ digits) rest h =
+    let all = (and_parts (not (eqb (length (d ∷ digits)) 0)) (list_all is_digit (d ∷ digits)) h).1 in
+    let one = (and_parts (is_digit d) (list_all is_digit digits) all).0 in
+    none_by d (digits ++ 44 ∷ rest) (chunk_of 3 (d ∷ (digits ++ 44 ∷ rest))) (other_letter d one) refl
+
+mic_takes : (more : List ℕ) → after_mic (77 ∷ 73 ∷ 67 ∷ more) ≡ Some more
+unfolding after_mic
+mic_takes more =
+    then_some (chunk_of 3 (77 ∷ 73 ∷ 67 ∷ more)) (77 ∷ 73 ∷ 67 ∷ [], more)
+    (λ (w : List ℕ × List ℕ). value_when (is_mic w.0) w.1) (Some more)
+    (chunk_takes 3 (77 ∷ 73 ∷ 67 ∷ []) more refl) refl
+
+-- numbers have no comma
+other_than_comma : (b : ℕ) → is_digit b ≡ true → is_byte 44 b ≡ false
+other_than_comma b h = grind (arith, nat_tests)
+
+digits_lack : (text : List ℕ) → list_all is_digit text ≡ true → Lacks 44 text
+digits_lack [] h = tt
+digits_lack (b ∷ text) h =
+    let p = and_parts (is_digit b) (list_all is_digit text) h in
+    (other_than_comma b p.0, digits_lack text p.1)
+
+whole_lacks : (text : List ℕ) → is_whole text ≡ true → Lacks 44 text
+whole_lacks text h = digits_lack text (and_parts _ _ h).1
+
+unsigned_in_lacks : (text : List ℕ) (o : Option Cut) → cut_at 46 text ≡ o →
+    is_unsigned_in text o ≡ true → Lacks 44 text
+unsigned_in_lacks text None c h = whole_lacks text h
+unsigned_in_lacks text (Some x) c h =
+    let p = and_parts (list_all is_digit x.before) (is_whole x.after) h in
+    subst (Lacks 44) (sym (cut_at-parts 46 text x c))
+    (lacks_append 44 x.before (46 ∷ x.after) (digits_lack x.before p.0) (refl, whole_lacks x.after p.1))
+
+unsigned_lacks : (text : List ℕ) → is_unsigned_in text (cut_at 46 text) ≡ true → Lacks 44 text
+unsigned_lacks text h = unsigned_in_lacks text (cut_at 46 text) refl h
+
+number_lacks : (text : List ℕ) → is_number text ≡ true → Lacks 44 text
+number_lacks [] h = tt
+number_lacks (b ∷ rest) h = go (eqb b 45) refl h
+  where
+    go : (t : Bool) → eqb b 45 ≡ t →
+        is_unsigned_in (cond t rest (b ∷ rest)) (cut_at 46 (cond t rest (b ∷ rest))) ≡ true →
+        Lacks 44 (b ∷ rest)
+    go true e k = (ap (is_byte 44) (eqb-true b 45 e), unsigned_lacks rest k)
+    go false e k = unsigned_lacks (b ∷ rest) k
+
+number_takes : (sequence rest text : List ℕ) → BeginsWithNumber sequence rest text →
+    sequence_at text ≡ Some (sequence, rest)
+number_takes sequence rest text (numbered w e) =
+    let all : List ℕ = sequence ++ 44 ∷ rest in
+    ap sequence_at e
+    ∙ ap (λ (o : Option (List ℕ)). sequence_with o (cut_at 44 all)) (no_mic sequence rest w)
+    ∙ ap numbered_in (cut_at-append 44 sequence rest (whole_lacks sequence w))
+    ∙ guarded_takes (is_whole sequence) (sequence, rest) w
+number_takes sequence rest text (unnumbered more n r e) =
+    ap sequence_at e
+    ∙ ap (λ (o : Option (List ℕ)). sequence_with o (cut_at 44 (77 ∷ 73 ∷ 67 ∷ more))) (mic_takes more)
+    ∙ rw (n, r) refl
+
+value_in_takes : (value text : List ℕ) (later : Option (List ℕ)) → is_number value ≡ true →
+    text ≡ value ++ comma_before later → value_in text (cut_at 44 text) ≡ Some (value, later)
+value_in_takes value text None h e =
+    ap (λ (t : List ℕ). value_in t (cut_at 44 t)) (e ∙ append-nil value)
+    ∙ ap (value_in value) (cut_at-lacks 44 value (number_lacks value h))
+    ∙ guarded_takes (is_number value) (value, None) h
+value_in_takes value text (Some rest) h e =
+    ap (λ (t : List ℕ). value_in t (cut_at 44 t)) e
+    ∙ ap (value_in (value ++ 44 ∷ rest)) (cut_at-append 44 value rest (number_lacks value h))
+    ∙ guarded_takes (is_number value) (value, Some rest) h
+
+value_takes : (value : List ℕ) (left later : Option (List ℕ)) → IsNext value left later →
+    value_at left ≡ Some (value, later)
+value_takes value None later h = rw (h.0, h.1) refl
+value_takes value (Some text) later h = value_in_takes value text later h.0 h.1
+
+-- a report that stands in the field is read
+pub telemetry_takes : (info : List ℕ) (t : Measured) → IsTelemetry t info →
+    telemetry_of info ≡ Some t
+unfolding telemetry_of
+telemetry_takes info t h =
+    let mark : List ℕ = 84 ∷ 35 ∷ [] in
+    then_some (chunk_of 2 info) (mark, h.text) after_mark (Some t)
+    (ap (chunk_of 2) h.whole ∙ chunk_takes 2 mark h.text refl)
+    (then_some (sequence_at h.text) (t.sequence, h.values) (after_sequence mark) (Some t)
+    (number_takes t.sequence h.values h.text h.number)
+    (then_some (value_at (Some h.values)) (t.a1, h.after_a1) (after1 mark t.sequence) (Some t)
+    (value_takes t.a1 (Some h.values) h.after_a1 h.first)
+    (then_some (value_at h.after_a1) (t.a2, h.after_a2) (after2 mark t.sequence t.a1) (Some t)
+    (value_takes t.a2 h.after_a1 h.after_a2 h.second)
+    (then_some (value_at h.after_a2) (t.a3, h.after_a3) (after3 mark t.sequence t.a1 t.a2) (Some t)
+    (value_takes t.a3 h.after_a2 h.after_a3 h.third)
+    (then_some (value_at h.after_a3) (t.a4, h.after_a4) (after4 mark t.sequence t.a1 t.a2 t.a3) (Some t)
+    (value_takes t.a4 h.after_a3 h.after_a4 h.fourth)
+    (then_some (value_at h.after_a4) (t.a5, h.after_a5) (after5 mark t.sequence t.a1 t.a2 t.a3 t.a4) (Some t)
+    (value_takes t.a5 h.after_a4 h.after_a5 h.fifth)
+    (ap (λ (bits : List ℕ). Some (record {
+      sequence = t.sequence;
+      a1 = t.a1;
+      a2 = t.a2;
+      a3 = t.a3;
+      a4 = t.a4;
+      a5 = t.a5;
+      bits = bits;
+    })) (sym h.bits))))))))
