@@ -1,5 +1,5 @@
 -- No field of a telemetry report has a tab or an LF.
-use Rattle.aprs_table.proofs.Common.{◌≡◌, ◌∙◌, ◌==◌, ℕ, Bool, true, false, cond, List, [], ◌∷◌, ◌++◌, Option, Some, None, refl, sym, subst, arith, list_all}
+use Rattle.aprs_table.proofs.Common.{◌≡◌, ◌==◌, ℕ, Bool, true, false, cond, List, [], ◌∷◌, Option, Some, None, refl, sym, subst, arith, list_all}
 use Rattle.std.proofs.Common.{eqb-true}
 use Rattle.std.proofs.lemmas.Bool.{and_parts}
 use Rattle.aprs_io.specs.Cut.{Cut, cut_at}
