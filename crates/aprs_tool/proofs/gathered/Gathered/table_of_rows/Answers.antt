@@ -1,7 +1,8 @@
-use Rattle.aprs_tool.proofs.Common.{Ok, Err, refl, subst, ◌∙◌, err_from_is_err_and, Sends-err, Sends-ok}
-use Rattle.aprs_tool.specs.ToldBook.{IsTable, WritesTold}
+use Rattle.aprs_tool.proofs.Common.{◌≡◌, Ok, Err, refl, subst, ◌∙◌, err_from_is_err_and, Sends-err, Sends-ok}
+use Rattle.aprs_table.specs.Table.{table_text}
+use Rattle.aprs_tool.specs.ToldBook.{WritesTold}
 use Rattle.aprs_tool.specs.declared.gathered.OutputFault.TheVariants.{Write}
-use Rattle.aprs_tool.proofs.gathered.Gathered.table.Goals as goal
+use Rattle.aprs_tool.proofs.gathered.Gathered.table_of_rows.Goals as goal
 
 pub returns-in_err-store : goal.returns-in_err-store
 unfolding WritesTold
@@ -21,7 +22,7 @@ unfolding WritesTold
 returns-in_err-write_table g c =
     let p = err_from_is_err_and c.from_residual-in_err-write_table.result
     c.from_residual-in_err-write_table.ensures.1 in
-    rw (p.1, p.2) (subst (λ b. WritesTold IsTable g.W.Write.contents (Err Write) b c.args.w.now
+    rw (p.1, p.2) (subst (λ b. WritesTold (λ book text. text ≡ table_text book.rows) g.W.Write.contents (Err Write) b c.args.w.now
     c.write_table.new.w) (c.in_ok-rows.ensures.book ∙ c.in_ok-store.ensures.book) (
       _,
       refl,
@@ -31,7 +32,7 @@ returns-in_err-write_table g c =
 pub returns : goal.returns
 unfolding WritesTold
 returns g c =
-    subst (λ b. WritesTold IsTable g.W.Write.contents (Ok tt) b c.args.w.now
+    subst (λ b. WritesTold (λ book text. text ≡ table_text book.rows) g.W.Write.contents (Ok tt) b c.args.w.now
     c.write_table.new.w) (c.in_ok-rows.ensures.book ∙ c.in_ok-store.ensures.book) (
       _,
       refl,
