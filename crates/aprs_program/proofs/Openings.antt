@@ -14,6 +14,17 @@ asks_then (Some before) (Some mid) None xs ys h k = absurd k
 asks_then (Some before) (Some mid) (Some after) xs ys h k =
     k ∙ ap (λ l. l ++ ys) h ∙ append_assoc before xs ys
 
+-- one more input at one more path
+pub at_then : {I Z : Type 0} (path_of : I → Option (List ℕ)) (inputs : List (Counted I))
+    (paths : List (String Z)) (input : Counted I) (path : String Z) → AreAt path_of inputs paths
+    → IsKnownAs (path_of (device_of input)) (string_bytes path)
+    → AreAt path_of (inputs ++ input ∷ []) (paths ++ path ∷ [])
+at_then path_of [] [] input path h k = (k, tt)
+at_then path_of [] (p ∷ paths) input path h k = absurd h
+at_then path_of (i ∷ inputs) [] input path h k = absurd h
+at_then path_of (i ∷ inputs) (p ∷ paths) input path h k =
+    (h.0, at_then path_of inputs paths input path h.1 k)
+
 module _ {Z : Type 0} (paths : List (String Z)) (i : ℕ) (path : String Z)
     (lt : i < length paths) (is : path ≡ get_or paths i path) where
   -- the input of this number is the last that was asked for

@@ -64,6 +64,22 @@ pub fn work_of(job: Job) -> (Work, Vec<String>)
     }
 }
 
+/// Does the work over inputs, the first alone where it is a run over one, as `run_single` and
+/// `run_gathering` say.
+pub fn run_work<R: Read, W: Write, A: Allocator + Copy>(
+    alloc: A,
+    work: Work,
+    inputs: &mut [Counted<R>],
+    w: &mut Counted<W>,
+) -> Result<(), RunFault>
+    requires { IsTrue (1 ≤ length inputs.now) }
+{
+    match work {
+        Work::Of(single) => run_single(alloc, single, &mut inputs[0], w),
+        Work::OfAll(gathering, gap) => run_gathering(alloc, gathering, gap, inputs, w),
+    }
+}
+
 /// Does the work over one input, of which at most `MAX_INPUT` bytes (1,073,741,824) are read. What
 /// it writes, when it ends with which fault and what memory it takes is as `check_run`,
 /// `convert_run` and `widen_run` of `aprs_tool` say.
