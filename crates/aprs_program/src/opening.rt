@@ -1,5 +1,5 @@
 //! Opening the inputs of a run.
-ghost use Rattle.std.specs.Prelude.{◌≡◌, ◌∷◌, [], IfErr, IfOk, OnOk, ℕ, List, Option, None};
+ghost use Rattle.std.specs.Prelude.{◌≡◌, ◌∷◌, ◌≤◌, [], ℕ, ⊥, IfErr, IfOk, OnOk, List, Option, None, length};
 ghost use Rattle.std.specs.Result.{result_err};
 ghost use Rattle.aprs_program.specs.Opening.{AreAt, Asked, AsksFor, IsKnownAs, StopsAtPath, complaint_at, opened};
 
@@ -76,7 +76,7 @@ pub fn open_inputs<'t, O: Opener, A: Allocator>(
     alloc: A,
     paths: &'t [String],
 ) -> Result<Vec<Counted<O::Input>, A>, Complaint<'t>>
-    ensures some { IfOk result (λ inputs. IsTrue (1 ≤ length inputs.items)) }
+    ensures some { IfOk result (λ inputs. 1 ≤ length inputs.items) }
     ensures at_paths { IfOk result (λ inputs. (paths.entry.now ≡ [] → ⊥)
         → AreAt O.path_of inputs.items paths.entry.now) }
     ensures in_order { OnOk result (AsksFor (O.asked opener.old) (O.asked opener.new)

@@ -1,5 +1,5 @@
 //! What a program is to do, and which run does it.
-ghost use Rattle.std.specs.Prelude.{◌≡◌};
+ghost use Rattle.std.specs.Prelude.{◌≡◌, ◌≤◌, length};
 ghost use Rattle.aprs_command.specs.Arguments.{inputs_of, paths_of};
 ghost use Rattle.aprs_io.specs.Input.{most_input};
 ghost use Rattle.aprs_tool.specs.Devices.{CallsOutput};
@@ -72,7 +72,9 @@ pub fn run_work<R: Read, W: Write, A: Allocator + Copy>(
     inputs: &mut [Counted<R>],
     w: &mut Counted<W>,
 ) -> Result<(), RunFault>
-    requires { IsTrue (1 ≤ length inputs.now) }
+    requires { 1 ≤ length inputs.now }
+    ensures { Spec.DoesWork work most_input R.remaining W.contents result inputs.old inputs.new
+        w.old w.new }
 {
     match work {
         Work::Of(single) => run_single(alloc, single, &mut inputs[0], w),
