@@ -1,5 +1,5 @@
 -- What a program is to do, and what the run for it does.
-use Rattle.std.specs.Prelude.{ℕ, ⊥, List, [], ◌∷◌, Option, Result}
+use Rattle.std.specs.Prelude.{ℕ, List, [], ◌∷◌, Option, Result}
 use Rattle.aprs_io.specs.Device.{device_of}
 use Rattle.aprs_io.specs.declared.device.Counted.{Counted}
 use Rattle.aprs_log.specs.Reception.{Received}

@@ -29,7 +29,7 @@ pub fn complaint_after<'t>(
 /// The name of the input at fault: its path, or `standard input` where there is none. Takes no
 /// memory.
 fn place_of<'t>(paths: &'t [String], fault: &RunFault) -> &'t str
-    ensures { result.entry.now ≡ Spec.place_of (map (λ path. string_bytes path) paths.entry.now)
+    ensures { result.now ≡ Spec.place_of (map (λ path. string_bytes path) paths.entry.now)
         (Err fault.now) }
 {
     match fault {

@@ -14,8 +14,10 @@ use std::process::ExitCode;
 
 /// An input of a program: a file of the host, or its standard input.
 #[derive(Drop)]
-enum HostInput {
+pub enum HostInput {
+    /// A file that is open.
     File(File),
+    /// Standard input.
     Standard(Stdin),
 }
 

@@ -1,5 +1,5 @@
 //! Opening the inputs of a run.
-ghost use Rattle.std.specs.Prelude.{◌≡◌, ◌∷◌, ◌≤◌, [], ℕ, ⊥, IfErr, IfOk, OnOk, List, Option, None, length};
+ghost use Rattle.std.specs.Prelude.{◌≡◌, ◌∷◌, ◌≤◌, [], ℕ, IfErr, IfOk, OnOk, List, Option, None, length};
 ghost use Rattle.std.specs.Result.{result_err};
 ghost use Rattle.aprs_program.specs.Opening.{AreAt, Asked, AsksFor, IsKnownAs, StopsAtPath, complaint_at, opened};
 

@@ -1,4 +1,5 @@
-use Rattle.aprs_program.proofs.Common.{◌≡◌, take, map, string_bytes}
+use Rattle.std.specs.Prelude.{map}
+use Rattle.aprs_program.proofs.Common.{◌≡◌, take, string_bytes}
 use Rattle.aprs_program.proofs.texts.texts_of.Given as goal
 
 abbrev pub invariant-loop-argument : goal.invariant-loop-argument
