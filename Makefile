@@ -5,7 +5,7 @@ HISTORY = crates/aprsbook_history/out/aprsbook_history
 
 # the programs that are installed and packed: each has a crate (with _ for -), a manual page and
 # completions of its name
-PROGRAMS = aprsbook aprsbook-history aprsbook-table
+PROGRAMS = aprsbook aprsbook-history aprsbook-table aprsbook-fold
 crate = $(subst -,_,$(1))
 # as `make build` made them
 BUILT = $(foreach it,$(PROGRAMS),crates/$(call crate,$(it))/out/$(call crate,$(it)))

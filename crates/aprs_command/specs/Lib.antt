@@ -1,2 +1,3 @@
 -- Definitions that contracts of the command line cite.
 pub mod Arguments
+pub mod Fold

@@ -122,3 +122,24 @@ Exit status:
   2  the words aren't those of the command
   3  the output was refused
   4  memory was refused";
+
+pub const FOLDED: &str = "Book files of this gap; without any, standard input";
+
+/// What `aprsbook-fold` is for.
+pub const FOLD: &str =
+    "Writes the book of book files, in memory that doesn't grow with their size";
+
+/// Examples of `aprsbook-fold`, and its exit statuses.
+pub const FOLD_EXAMPLES: &str = "Examples:
+  aprsbook-fold year.book day.book > new.book
+  aprsbook-fold rx1.book rx2.book rx3.book > net.book
+  aprsbook-fold --gap 60 slow.book more.book > slower.book
+
+Exit status:
+  0  done, or help or the version was asked for
+  1  an input can't be opened or read, is no book file, is faulty or has another gap
+  2  the words aren't those of the command
+  3  the output was refused
+  4  memory was refused
+
+After 1, 3 or 4 what was written is no whole book.";

@@ -5,7 +5,8 @@ use crate::opening::{OpenFault, Opener, open_inputs};
 use crate::retried::Retried;
 use crate::work::{Work, run_work};
 use aprs_io::Counted;
-use aprs_tool::JobFault;
+use aprs_laws::Gap;
+use aprs_tool::{JobFault, MAX_BOOK, fold_run};
 use std::alloc::Global;
 use std::env;
 use std::fs::File;
@@ -87,6 +88,25 @@ impl<'a> Program<'a> {
         };
         let mut w = Counted::new(output);
         let outcome = run_work(alloc, work, inputs.as_mut_slice(), &mut w);
+        let flushed = w.into_inner().flush().is_ok();
+        match complaint_after(paths, &outcome, flushed) {
+            Some(complaint) => self.report(complaint),
+            None => ExitCode::SUCCESS,
+        }
+    }
+
+    /// Folds the book files of these paths, or standard input where there are none, and reports a
+    /// fault to standard error. Where a file can't be opened, none is read and nothing is written.
+    /// The output has no buffer of its own, so that its header is there as soon as the fold sends
+    /// it. Returns the exit status.
+    pub fn do_fold(&mut self, gap: Gap, paths: &[String]) -> ExitCode {
+        let alloc = self.rt.alloc();
+        let mut inputs = match open_inputs(self, alloc, paths) {
+            Ok(inputs) => inputs,
+            Err(complaint) => return self.report(complaint),
+        };
+        let mut w = Counted::new(Retried::new(self.rt.stdout()));
+        let outcome = fold_run(alloc, MAX_BOOK, gap, inputs.as_mut_slice(), &mut w);
         let flushed = w.into_inner().flush().is_ok();
         match complaint_after(paths, &outcome, flushed) {
             Some(complaint) => self.report(complaint),

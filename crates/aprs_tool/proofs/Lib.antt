@@ -17,6 +17,7 @@ pub mod OneInput
 pub mod Outcomes
 pub mod RunsOver
 pub mod ShortLogs
+pub mod Folds
 pub mod Readers
 pub mod Widens
 pub mod LastRefused

@@ -11,6 +11,7 @@ pub mod Desk
 pub mod Several
 pub mod Outcome
 pub mod Merge
+pub mod Fold
 pub mod Gathered
 pub mod Show
 pub mod ToldBook
@@ -29,3 +30,4 @@ pub use Rattle.aprs_convert.specs.Check
 pub use Rattle.aprs_convert.specs.Got
 pub use Rattle.aprs_convert.specs.Ends
 pub use Rattle.aprs_command.specs.Arguments
+pub use Rattle.aprs_fold.specs.Fold

@@ -1,0 +1,69 @@
+//! The fold of several book files.
+ghost use Rattle.std.specs.Prelude.{◌≡◌, ◌≤◌, IfErr, OnOk};
+ghost use Rattle.aprs_booktext.specs.RowReader.{most_stream};
+ghost use Rattle.aprs_fold.specs.Inputs.{AreAsked};
+ghost use Rattle.aprs_tool.specs.Fold as Spec;
+ghost use Rattle.aprs_tool.specs.Merge.{IsTextOfBook};
+ghost use Rattle.aprs_tool.specs.Outcome.{IsToldOf, WritesFor};
+ghost use Rattle.aprs_tool.specs.Several.{GiveUnion, OfEach};
+
+use crate::fault::{InputFault, RunFault};
+use aprs_book::Gap;
+use aprs_fold::{FoldFault, fold_books};
+use aprs_io::Counted;
+use std::alloc::Allocator;
+use std::io::{Read, Write};
+
+/// Writes the text of the book of this gap of all inputs' receptions, as `merge_run` does, where
+/// each input is a book file of this gap. The inputs are read side by side, and the text is written
+/// as they are read: memory is taken for each input (16 KiB, its longest line and its longest row)
+/// and for one row more, whatever the number of rows. Requires that `limit` is at most
+/// 9,223,372,036,854,775,807. The header is sent before an input is read. Where an input is refused
+/// or an allocation fails, the header and a part of the rows' lines were written, which is no
+/// book's text. At `Write` a prefix of a book's text was written.
+pub fn fold_run<R: Read, W: Write, A: Allocator + Copy>(
+    alloc: A,
+    limit: u64,
+    gap: Gap,
+    inputs: &mut [Counted<R>],
+    w: &mut Counted<W>,
+) -> Result<(), RunFault>
+    requires { limit ≤ most_stream }
+
+    // At `Ok` each input is a book file; of any union of the sets that they stand for, what was
+    // written is the book's text.
+    ensures writes { OnOk result (OfEach limit R.remaining inputs.old inputs.new (λ gots.
+        Spec.AreBookFiles gap gots
+        × WritesFor (IsToldOf (GiveUnion gap gots) (IsTextOfBook gap)) W.contents result
+        w.old w.new)) }
+
+    // At a fault that input is refused for it, and what was written is a part of a book's text.
+    ensures refuses { IfErr result (λ fault.
+        Spec.EndsEarly R.remaining W.contents limit gap fault inputs.old inputs.new w.old w.new) }
+
+    // No input is asked after its end or a fault.
+    ensures asks { AreAsked inputs.old inputs.new }
+{
+    match fold_books(alloc, limit, gap, inputs, w) {
+        Ok(()) => Ok(()),
+        Err(fault) => Err(run_fault_of(fault)),
+    }
+}
+
+/// The fault of a run whose fold ended early so.
+fn run_fault_of(fault: FoldFault) -> RunFault
+    ensures { result ≡ Spec.run_fault_of fault }
+{
+    match fault {
+        FoldFault::Input { index, fault } => RunFault::Input {
+            index,
+            fault: InputFault::Book(fault),
+        },
+        FoldFault::OtherGap { index } => RunFault::Input {
+            index,
+            fault: InputFault::OtherGap,
+        },
+        FoldFault::Memory => RunFault::Memory,
+        FoldFault::Write => RunFault::Write,
+    }
+}

@@ -1,0 +1,111 @@
+#!/bin/sh
+# Tries the fold of book files: the bytes of the merge of the same files, in any order, however grouped
+# and however often; the refusals of a merge, and what is left after one, which no program takes for a
+# book; and memory that doesn't grow with the rows. Needs a POSIX system.
+# usage: tests/fold.sh PROGRAM HISTORY FOLD
+fold=${3-}
+. "$(dirname "$0")/program.sh"
+for it in "$fold" "${program%/*}/aprsbook-fold" "${program%/aprsbook/out/*}"/aprsbook_fold/out/aprsbook_fold; do
+    if [ -x "$it" ]; then ln -sf "$it" "$scratch/bin/aprsbook-fold" && break; fi
+done
+[ -x "$scratch/bin/aprsbook-fold" ] || fail 'there is no program of folds'
+cd "$scratch"
+for log in "$repository"/examples/evening/*.log; do
+    aprsbook merge "$log" > "${log##*/}.book"
+done
+aprsbook merge "$repository"/examples/evening/*.log > evening.book
+
+# alike WHAT BOOK..: the fold of these is the book of the evening
+alike() {
+    what=$1
+    shift
+    aprsbook-fold "$@" | cmp -s - evening.book || fail "the fold differs: $what"
+}
+backwards=
+for book in *.log.book; do backwards="$book $backwards"; done
+alike 'all books' ./*.log.book
+# shellcheck disable=SC2086 # one name a word
+alike 'the other way round' $backwards
+alike 'books that are given twice' ./*.log.book evening.book ./*.log.book
+alike 'one book' evening.book
+aprsbook-fold < evening.book | cmp -s - evening.book || fail 'the fold of standard input differs'
+sed '1s/.*/APRSBOOK 2/' evening.book > two
+alike 'a book of version 2' two
+: > no.log
+aprsbook merge no.log > none.book
+alike 'a book of nothing' none.book evening.book
+aprsbook-fold none.book | cmp -s - none.book || fail 'the fold of nothing differs'
+for gap in 1 600; do
+    for log in "$repository"/examples/evening/*.log; do
+        aprsbook merge --gap $gap "$log" > "${log##*/}.$gap"
+    done
+    aprsbook merge --gap $gap "$repository"/examples/evening/*.log > all.$gap
+    aprsbook-fold --gap $gap ./*.log.$gap | cmp -s - all.$gap || fail "the fold differs: gap $gap"
+done
+
+# ---- refusals ----
+
+# refuses COMPLAINT BOOK..: status 1, this complaint, and what is left is taken for no book
+refuses() {
+    wanted=$1
+    shift
+    status=0
+    aprsbook-fold "$@" > left 2> said || status=$?
+    [ $status = 1 ] || fail "status $status: $wanted"
+    [ "$(cat said)" = "aprsbook-fold: $wanted" ] || fail "it says: $(cat said)"
+    [ ! -s left ] || [ "$(head -n 1 left)" = 'APRSBOOK 3 30' ] || fail "it begins: $(head -n 1 left)"
+    status=0
+    aprsbook merge left > /dev/null 2> said || status=$?
+    [ ! -s left ] || [ $status = 1 ] || fail "a merge takes what is left: $wanted"
+}
+rows=$(grep -c '^T' evening.book)
+head -n 3 evening.book > cut
+refuses 'cut: line 4: Ending' evening.book cut
+[ -s left ] || fail 'nothing is left after a fault, which is an empty log'
+refuses 'no.log: line 1: Ending' evening.book no.log
+refuses "$repository/examples/evening/hill.log: line 1: Header" \
+    "$repository/examples/evening/hill.log" evening.book
+refuses 'all.600: other gap' evening.book all.600
+sed '$d' evening.book | { cat; echo "END $((rows + 1))"; } > count
+refuses "count: line $((rows + 2)): Ending" count
+{ cat evening.book; echo; } > more
+refuses "more: line $((rows + 3)): After" more evening.book
+sed '3s/^T/U/' evening.book > syntax
+refuses 'syntax: line 3: RowSyntax' evening.book syntax
+refuses 'no such.book: cannot open' evening.book 'no such.book'
+[ ! -s left ] || fail 'it writes where a file cannot be opened'
+status=0
+aprsbook-fold --gap 0 evening.book > left 2> said || status=$?
+[ $status = 2 ] || fail "status $status where the gap is 0"
+if [ -w /dev/full ]; then
+    status=0
+    aprsbook-fold evening.book > /dev/full 2> said || status=$?
+    [ $status = 3 ] && [ "$(cat said)" = 'aprsbook-fold: cannot write' ] ||
+        fail "a full disk: $status, $(cat said)"
+fi
+
+# ---- memory ----
+
+# 64 MiB of addresses serve any number of rows
+awk 'BEGIN {
+    print "APRSBOOK 3 30"
+    for (i = 0; i < 100000; i++)
+        printf "T 2024-05-01T12:00:00.000Z 2024-05-01T12:00:00.000Z RX RX " \
+            "82a0a4a64040e09c60868298986f03f03e%02x%02x%02x%02x\n",
+            48 + int(i / 10000), 48 + int(i / 1000) % 10, 48 + int(i / 100) % 10, 32 + i % 100
+    print "END 100000" }' > large
+if (ulimit -v 65536) 2> /dev/null; then
+    (ulimit -v 65536; aprsbook-fold large large large) | cmp -s - large ||
+        fail 'the fold of 100,000 rows differs, or takes more than 64 MiB'
+fi
+
+# ---- words ----
+
+for it in gap help version; do
+    for where in man/aprsbook-fold.1 completions/aprsbook-fold.bash completions/aprsbook-fold.fish \
+        completions/_aprsbook-fold; do
+        tr -d '\\' < "$repository/$where" | grep -qe "-l $it\|--$it" || fail "$where lacks --$it"
+    done
+done
+aprsbook-fold --version | grep -q '^aprsbook-fold [0-9]' || fail 'the version'
+echo 'folds are as merges are'
