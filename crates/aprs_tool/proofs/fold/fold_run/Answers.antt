@@ -5,7 +5,7 @@ use Rattle.aprs_tool.proofs.fold.fold_run.Goals as goal
 pub returns-in-Ok-clause-writes : goal.returns-in-Ok-clause-writes
 returns-in-Ok-clause-writes g c =
     let h = c.in-Ok.ensures.folds in
-    fold_writes g.R.Read.remaining c.args.limit c.args.gap g.W.Write.contents ? c.args.inputs.now _ h.0
+    fold_writes g.R.Read.remaining c.args.limit c.args.gap g.W.Write.contents h.3.version c.args.inputs.now _ h.0
     _ _ h.1 (Sends-ok h.2)
 
 pub returns-in-Err-clause-refuses : goal.returns-in-Err-clause-refuses
