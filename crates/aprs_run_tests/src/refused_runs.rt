@@ -245,7 +245,7 @@ fn runs_write_nothing_where_memory_is_refused(rt: HostRuntime) -> Result<(), Fai
 fn tables_are_whole_or_nothing_where_memory_is_refused(rt: HostRuntime) -> Result<(), Fail> {
     let alloc = rt.alloc();
     let wanted = [Stage::Log, Stage::Book, Stage::Lists, Stage::End];
-    for table in TABLES {
+    for &table in TABLES {
         let whole = table_of(alloc, table, &[THREE_LINES, MERGED_TEXT])?;
         let seen = stages(alloc, Gathering::Table(table), whole.as_slice())?;
         assert!(rt; seen.as_slice() == wanted.as_slice());

@@ -244,9 +244,30 @@ fn asks_for_rows(rt: &HostRuntime, words: &[&str], seconds: u64, paths: &[&str])
 fn words_that_ask_for_a_table(rt: HostRuntime) {
     assert!(rt; asks_for_rows(&rt, &["aprsbook-table"], 30, &[]));
     assert!(rt; asks_for_rows(&rt, &["aprsbook-table", "rows"], 30, &[]));
-    assert!(rt; asks_for_rows(&rt, &["aprsbook-table", "a.log", "rows"], 30, &["a.log", "rows"]));
+    assert!(rt;
+        asks_for_rows(
+            &rt,
+            &["aprsbook-table", "a.log", "rows"],
+            30,
+            &["a.log", "rows"]
+        )
+    );
     assert!(rt; asks_for_rows(&rt, &["aprsbook-table", "./rows"], 30, &["./rows"]));
-    assert!(rt; asks_for_rows(&rt, &["aprsbook-table", "--gap", "60", "rows", "a"], 60, &["a"]));
-    assert!(rt; asks_for_rows(&rt, &["aprsbook-table", "rows", "a", "--gap", "1"], 1, &["a"]));
+    assert!(rt;
+        asks_for_rows(
+            &rt,
+            &["aprsbook-table", "--gap", "60", "rows", "a"],
+            60,
+            &["a"]
+        )
+    );
+    assert!(rt;
+        asks_for_rows(
+            &rt,
+            &["aprsbook-table", "rows", "a", "--gap", "1"],
+            1,
+            &["a"]
+        )
+    );
     assert!(rt; table_job(rt.alloc(), &["aprsbook-table", "--gap", "0"]).is_err());
 }
