@@ -1,3 +1,4 @@
+// @ts-check
 // What a comment says of course, height and weather, in words (APRS Protocol Reference, chapters 7
 // and 12). The comment itself is shown too, as it came.
 
@@ -32,7 +33,7 @@ function weatherWords(text) {
 }
 
 /** Course and knots of a place, where it says them. */
-function motionOf(place) {
+export function motionOf(place) {
   if (place.knots !== undefined)
     return place.knots > 0 ? { course: place.course, knots: place.knots } : null;
   if (place.code === "_") return null;
@@ -41,7 +42,7 @@ function motionOf(place) {
 }
 
 /** A place's motion, height, weather and Mic-E message, in words. */
-function wordsOf(place) {
+export function wordsOf(place) {
   const words = [], motion = motionOf(place);
   if (motion) {
     const course = motion.course ? `${motion.course % 360}\u00b0, ` : "";

@@ -1,8 +1,11 @@
+// @ts-check
 // Small helpers for what stands in the page. All text goes in as text, never as HTML.
 
-const byId = id => document.getElementById(id);
+import { fullText, isoText, said, timeText } from "./words.js";
 
-function make(tag, of = {}, ...inside) {
+export const byId = id => document.getElementById(id);
+
+export function make(tag, of = {}, ...inside) {
   const { data, aria, ...rest } = of, node = Object.assign(document.createElement(tag), rest);
   for (const key in data) node.dataset[key] = data[key];
   for (const key in aria) node.setAttribute(key, aria[key]);
@@ -10,28 +13,28 @@ function make(tag, of = {}, ...inside) {
   return node;
 }
 /** A text off the air: which way it runs, and where it ends, stays its own affair. */
-function air(shown) {
+export function air(shown) {
   return shown ? make("bdi", { textContent: said(shown) }) : "";
 }
-function momentOf(seconds) {
+export function momentOf(seconds) {
   return make("time", {
     dateTime: isoText(seconds), title: fullText(seconds), textContent: timeText(seconds),
   });
 }
-function svg(tag, attributes, ...inside) {
+export function svg(tag, attributes, ...inside) {
   const node = document.createElementNS("http://www.w3.org/2000/svg", tag);
   for (const key in attributes) node.setAttribute(key, attributes[key]);
   node.append(...inside);
   return node;
 }
 /** Hands a file to the reader. */
-function save(name, what, type) {
+export function save(name, what, type) {
   const url = URL.createObjectURL(new Blob([what], { type }));
   make("a", { href: url, download: name }).click();
   setTimeout(() => URL.revokeObjectURL(url), 60000);
 }
 /** Calls `run` once before the next picture, however often it is asked. */
-function oncePerFrame(run) {
+export function oncePerFrame(run) {
   let asked = false;
   return () => {
     if (asked) return;
@@ -44,8 +47,8 @@ function oncePerFrame(run) {
 }
 
 /** What the reader chose stands in the address after #, where it outlives loading again. */
-const chosen = new URLSearchParams(location.hash.slice(1));
-function choose(key, value) {
+export const chosen = new URLSearchParams(location.hash.slice(1));
+export function choose(key, value) {
   if ((chosen.get(key) ?? "") === String(value)) return;
   if (value === "") chosen.delete(key);
   else chosen.set(key, value);

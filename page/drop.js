@@ -1,8 +1,10 @@
+// @ts-check
 // The page that reads logs: what is dropped on it goes through the module, and nothing leaves it.
 
-const { page, show, bring, make, byId, save, count, readListing } = globalThis.aprsbook;
+import { bring, byId, count, make, page, readListing, save, show } from "./drawn.js";
+
 const parts = JSON.parse(byId("parts").textContent);
-const files = [];
+export const files = [];
 let made = null, turn = 0, last = 0, began = 0;
 
 // ---- workers, each with the module: a run is given to one that is free
@@ -50,7 +52,7 @@ async function copiesOf(inputs) {
   return copies;
 }
 /** A run of the module over inputs; with `read`, of a history, as a text and its columns. */
-async function run(command, options, inputs, read = false) {
+export async function run(command, options, inputs, read = false) {
   let free;
   while (!(free = workers.find(it => !it.busy))) await new Promise(done => queue.push(done));
   free.busy++;
@@ -69,7 +71,7 @@ const place = got =>
   (/^[A-Z]/.test(got.fault) ? `line ${got.line}: ` : "") + (got.fault || "out of memory");
 
 /** What a file is, by its name and by how it begins, after a mark of UTF-8, as Windows has it. */
-function kindOf(bytes, name) {
+export function kindOf(bytes, name) {
   const begin = asText(bytes.subarray(0, 2000)).replace(/^\xef\xbb\xbf/, "");
   if (begin.startsWith("APRSBOOK") || !begin && /\.book$/i.test(name)) return "book";
   if (bytes[0] === 0xc0 || /\.kiss$/i.test(name)) return "KISS stream";
@@ -91,7 +93,7 @@ async function bytesOf(file) {
 /** What stands in the field for a gap or for silence; where it is no such number, 30. */
 const numberIn = id => byId(id).validity.valid ? +byId(id).value : 30;
 /** Reads a file as what it is, and keeps what the program says of it. */
-async function look(file) {
+export async function look(file) {
   Object.assign(file, { fault: file.unread || "", said: "", passed: [], taken: null });
   try {
     if (!file.unread) await lookInto(file);
@@ -196,6 +198,9 @@ function list() {
 
 // ---- the book, and what is drawn of it
 
+/** The texts of the files as they stand, once they are made. */
+export const madeNow = () => made;
+
 const optionsOf = () => ({ title: byId("name").value || "APRS net", gap: numberIn("gap"),
   live: 0, silent: numberIn("silent"), maps: [], roster: "",
   notes: files.filter(it => it.fault && !it.taken)
@@ -247,7 +252,7 @@ async function textsOf(good, gap, tellShare) {
 /** Draws these texts, with the options as they stand. */
 const draw = ({ history, listing, read, told }) =>
   show({ ...optionsOf(), history, listing }, read, told);
-async function work() {
+export async function work() {
   list();
   const good = files.filter(it => it.taken), mine = ++turn, begin = began || performance.now();
   began = 0;
@@ -281,7 +286,7 @@ async function work() {
   }
 }
 /** A row of the table of files, with what else a kind of file has. */
-const fileOf = (name, kind, bytes, of = {}) =>
+export const fileOf = (name, kind, bytes, of = {}) =>
   ({ name, kind, bytes, receiver: "RX1", moment: "", passed: [], said: "", fault: "", ...of });
 /** Reads a dropped file; a map or a roster goes to the page at once. */
 async function take(it, isFolder) {
@@ -298,7 +303,7 @@ async function take(it, isFolder) {
   }
 }
 /** Takes files: each is checked while the runs over all of them go on. */
-async function add(dropped, areFolders = []) {
+export async function add(dropped, areFolders = []) {
   began = performance.now();
   tellProgress(0, "reading");
   const taken = await Promise.all([...dropped].map((it, k) => take(it, areFolders[k])));
@@ -323,7 +328,7 @@ const asHtml = text => text.replace(/[&<>"']/g, it =>
   ({ "&": "&amp;", "<": "&lt;", ">": "&gt;", '"': "&quot;", "'": "&#x27;" })[it]);
 
 /** The page of the event, the same that event-page makes of these files. */
-function eventPage() {
+export function eventPage() {
   const { digests } = parts, { waits, ...data } = page.data;
   for (const it of page.brought.filter(one => !one.fault)) {
     if (it.base) data.maps = [...data.maps, it.text];
@@ -366,7 +371,8 @@ function listen() {
         .filter(it => it.kind === "file").map(it => it.webkitGetAsEntry()?.isDirectory));
     });
 }
-async function beginReading() {
+/** Makes workers, and says whether this browser can. */
+export async function beginReading() {
   drawOwnSaves();
   show({ ...optionsOf(), title: "aprsbook", history: "", listing: "", waits: true });
   try {
@@ -376,11 +382,12 @@ async function beginReading() {
     const many = Math.max(2, Math.min(3, navigator.hardwareConcurrency || 2));
     await Promise.all(Array.from({ length: many }, () => ask(addWorker(), "load", module)));
   } catch (fault) {
-    return say(`This browser can't run the page (${fault.message}): it takes Chromium or Edge ` +
+    say(`This browser can't run the page (${fault.message}): it takes Chromium or Edge ` +
       "133, Firefox 134, or newer.", true);
+    return false;
   }
   listen();
   byId("choose").disabled = false;
   say("");
-  beginFollowing();
+  return true;
 }

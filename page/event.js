@@ -1,6 +1,25 @@
+// @ts-check
 // The page: what it has of the net, what the reader chose, and what is drawn of both.
 
-const page = { data: null, all: null, net: null, map: null, lists: {}, bases: [], roster: [],
+import { wordsOf } from "./comment.js";
+import { air, byId, choose, chosen, make, momentOf, save } from "./dom.js";
+import { messagesCsv, SAVES } from "./exports.js";
+import { bearing, distance, locatorOf, minutesText } from "./globe.js";
+import { cell, List, timeCell } from "./lists.js";
+import { NetMap } from "./map.js";
+import { bulletinList, fillForm, inOrder, messageList } from "./messages.js";
+import { hearings, judge, netOf } from "./net.js";
+import { readBase, readRoster, rosterList, rosterOf } from "./overlays.js";
+import { columnsOf, readListing, Rows } from "./reading.js";
+import { atOnce, inSlices, later, once, runAllWaiting } from "./steps.js";
+import { markOf, symbolOf } from "./symbols.js";
+import {
+  clockWords, haystack, pairList, receiverList, shareText, thingList, whereOf,
+} from "./tables.js";
+import { timelineList } from "./timeline.js";
+import { clocks, count, dateText, far, secondText, timeText, zoneText } from "./words.js";
+
+export const page = { data: null, all: null, net: null, map: null, lists: {}, bases: [], roster: [],
   found: [], brought: [], until: Infinity, playing: null, typing: 0, finder: new Map(),
   next: null, turn: null, drawn: null };
 /** Of a history of so many letters at most, some 10,000 rows, all is drawn in one step. */
@@ -9,7 +28,7 @@ const SMALL = 2 ** 20;
 /** The moment to which ages count: now where the page goes on, or else the last of the inputs. */
 const presentOf = ({ data, all } = page) =>
   data.live || page.follows ? Date.now() / 1000 : all.end;
-const view = {
+export const view = {
   get now() { return presentOf(); },
   get silent() { return page.data.silent * 60; },
   get gap() { return page.data.gap; },
@@ -22,12 +41,12 @@ const view = {
  * the reader chose stays. `read` are the columns of the history, and `listing` what was read of the
  * listing, where they are made already.
  */
-function show(data, read = null, listing = readListing(data.listing)) {
+export function show(data, read = null, listing = readListing(data.listing)) {
   page.next = { data, read, listing, all: null };
   return refresh();
 }
 /** Draws all anew, for the part of the time that is shown. What is given up ends with the next. */
-function refresh() {
+export function refresh() {
   return page.drawn = draw(page.turn = {});
 }
 async function draw(turn) {
@@ -125,7 +144,7 @@ function newsOf(net, data) {
   }
   return news;
 }
-function drawNews() {
+export function drawNews() {
   const news = page.net.rows.length ? newsOf(page.net, page.data) : [];
   const nodes = news.map(([href, className, textContent]) =>
     make("a", { href, className, textContent }));
@@ -280,7 +299,7 @@ function play() {
 // ---- what the reader brings and takes away
 
 /** Takes a base map or a roster, in place of one of its name; says so where it is none. */
-function bring(name, text) {
+export function bring(name, text) {
   const it = { name, text, base: null, roster: [], fault: "" };
   try {
     if (/^\s*[<{[]/.test(text)) it.base = readBase(text);
@@ -365,7 +384,7 @@ function openForm(open) {
   byId(open ? "ics-incident" : "ics-open").focus();
 }
 /** Makes what is drawn into, with what was chosen before. */
-function begin() {
+export function begin() {
   page.map = new NetMap(byId("map"), pick, text => choose("view", text));
   page.picked = chosen.get("pick");
   page.map.look(chosen.get("view") || "");
@@ -383,7 +402,7 @@ function begin() {
   listenToControls();
 }
 /** Puts the clock where it was left. */
-function beginClock() {
+export function beginClock() {
   const { net } = page, at = chosen.get("clock"), clock = byId("clock");
   const share = (at - net.begin) / Math.max(1, net.end - net.begin);
   if (!at || !net.rows.length) return;

@@ -1,4 +1,9 @@
+// @ts-check
 // What the reader can save: CSV, GPX, GeoJSON, KML of what is shown.
+
+import { logOf } from "./messages.js";
+import { isBulletin } from "./net.js";
+import { isoText, said } from "./words.js";
 
 /** A text off the air for a spreadsheet, which must not take it as a formula. */
 function csvText(text) {
@@ -22,7 +27,7 @@ function placesCsv(things) {
         at.ambiguity, at.table + at.code, said(at.comment)]);
   return csvOf(rows);
 }
-function messagesCsv(net) {
+export function messagesCsv(net) {
   return csvOf([["time", "from", "number", "to", "message", "state"], ...logOf(net).map(it =>
     [isoText(it.first), it.source, it.id === "-" ? "" : it.id, said(it.addressee), said(it.text),
       isBulletin(it) ? "bulletin" : it.state])]);
@@ -102,7 +107,7 @@ function kmlOf(things, title) {
 }
 
 /** What can be saved, by the name in the menu: a file's name, its type and what it holds. */
-const SAVES = {
+export const SAVES = {
   "places (CSV)": net => ["places.csv", "text/csv", placesCsv(net.placed)],
   "messages (CSV)": net => ["messages.csv", "text/csv", messagesCsv(net)],
   "places and tracks (GPX)": (net, data) =>

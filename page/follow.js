@@ -1,11 +1,14 @@
+// @ts-check
 // A page that is served beside logs: it reads a list of their names, and asks again for what has
 // grown.
 
-const { alive, tick, choose, chosen } = globalThis.aprsbook;
+import { alive, byId, choose, chosen, page, tick } from "./drawn.js";
+import { fileOf, files, kindOf, look, work } from "./drop.js";
+
 const EACH = 15; // seconds
 const OVERLAP = 64; // bytes that are asked for again, to see that it is the same file
 
-function beginFollowing() {
+export function beginFollowing() {
   if (!location.protocol.startsWith("http")) return;
   byId("follow-label").hidden = false;
   const box = byId("follow");
@@ -98,7 +101,3 @@ async function grownOf(had, url, length) {
   }
   return new Uint8Array(await (await fetchOwn(url)).arrayBuffer());
 }
-
-beginReading();
-// for tests
-globalThis.aprsfiles = Object.freeze({ files, made: () => made, run, eventPage, add });

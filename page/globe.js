@@ -1,19 +1,20 @@
+// @ts-check
 // The earth as a ball: places are unit vectors, so that the date line and the poles are nothing
 // special. The map is Lambert's azimuthal projection, with areas kept, around the middle of the
 // view.
 
-const RADIUS = 6371008.8; // metres
-const RADIAN = Math.PI / 180;
+export const RADIUS = 6371008.8; // metres
+export const RADIAN = Math.PI / 180;
 
-function vectorOf(north, east) {
+export function vectorOf(north, east) {
   const level = Math.cos(north * RADIAN);
   return [level * Math.cos(east * RADIAN), level * Math.sin(east * RADIAN),
     Math.sin(north * RADIAN)];
 }
-function degreesOf([x, y, z]) {
+export function degreesOf([x, y, z]) {
   return [Math.atan2(z, Math.hypot(x, y)) / RADIAN, Math.atan2(y, x) / RADIAN];
 }
-function distance(a, b) {
+export function distance(a, b) {
   const half = Math.hypot(a[0] - b[0], a[1] - b[1], a[2] - b[2]) / 2;
   return 2 * RADIUS * Math.asin(Math.min(1, half));
 }
@@ -26,12 +27,12 @@ function frameAt(north, east) {
   return { east: [-sinE, cosE, 0], north: [-sinN * cosE, -sinN * sinE, cosN] };
 }
 /** The course from one place to another as it begins, in degrees from north by east. */
-function bearing(from, to) {
+export function bearing(from, to) {
   const frame = frameAt(...degreesOf(from));
   return (Math.atan2(dot(frame.east, to), dot(frame.north, to)) / RADIAN + 360) % 360;
 }
 /** The Maidenhead locator of a place, with six letters. */
-function locatorOf(north, east) {
+export function locatorOf(north, east) {
   const a = Math.min(359.9999, Math.max(0, east + 180)), b = Math.min(179.9999, north + 90);
   const letter = (n, first) => String.fromCharCode(first.charCodeAt(0) + n);
   return letter(Math.floor(a / 20), "A") + letter(Math.floor(b / 10), "A") +
@@ -39,7 +40,7 @@ function locatorOf(north, east) {
     letter(Math.floor(a % 2 * 12), "a") + letter(Math.floor(b % 1 * 24), "a");
 }
 /** A place in degrees and minutes, as radio amateurs say it. */
-function minutesText(north, east) {
+export function minutesText(north, east) {
   const one = (value, digits, marks) => {
     const all = Math.round(Math.abs(value) * 6000);
     return `${String(Math.floor(all / 6000)).padStart(digits, "0")}\u00b0` +
@@ -49,7 +50,7 @@ function minutesText(north, east) {
 }
 
 /** Between the earth and the pixels of a map. `scale` is pixels for a radian. */
-class Projection {
+export class Projection {
   constructor() {
     Object.assign(this, { width: 1, height: 1, scale: 1, x: 0, y: 0 });
     this.look(0, 0);

@@ -1,7 +1,10 @@
+// @ts-check
 // Parallels and meridians, and their names at the edge of the map.
 
+import { degreesOf, RADIAN, vectorOf } from "./globe.js";
+
 /** 1, 2 or 5 times a power of ten. */
-function roundUp(atLeast) {
+export function roundUp(atLeast) {
   const ten = 10 ** Math.floor(Math.log10(atLeast));
   return [1, 2, 5, 10].map(k => k * ten).find(size => size >= atLeast * 0.999);
 }
@@ -24,7 +27,7 @@ function rangeOf(view) {
   return { low, high, west: mid + west, east: mid + east, wide };
 }
 /** Draws parallels and meridians, and returns their names for the edge of the map. */
-function paintGrid(pen, view, colours) {
+export function paintGrid(pen, view, colours) {
   const { width, height, scale } = view, { low, high, west, east, wide } = rangeOf(view);
   const labels = [];
   Object.assign(pen, { strokeStyle: colours.line, lineWidth: 1 });

@@ -1,4 +1,10 @@
+// @ts-check
 // The mouse, fingers and keys on the map.
+
+import { wordsOf } from "./comment.js";
+import { make } from "./dom.js";
+import { symbolOf } from "./symbols.js";
+import { timeText } from "./words.js";
 
 const KEYS = {
   ArrowLeft: map => map.move(60, 0), ArrowRight: map => map.move(-60, 0),
@@ -14,7 +20,7 @@ function listenToKeys(map) {
     map.turn();
   });
 }
-function listenToMap(map) {
+export function listenToMap(map) {
   listenToKeys(map);
   const { node } = map, fingers = new Map();
   let moved = 0;

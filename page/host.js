@@ -1,4 +1,4 @@
-"use strict";
+// @ts-check
 // The host of the module: it makes an instance for each run, as a shell starts the program anew. It
 // has to keep to what the functions of the module ask for: all that it hands over lies from
 // __heap_base on, no two of it in one place, and the region begins at a multiple of 16.
@@ -102,4 +102,4 @@ function run(module, command, options, inputs, most = 2 ** 33) {
   }
 }
 
-if (typeof module !== "undefined") module.exports = { FUNCTIONS, OutOfMemory, attempt, run };
+export { FUNCTIONS, OutOfMemory, attempt, run };

@@ -1,5 +1,10 @@
+// @ts-check
 // Tables that build their rows as they come into view, sort by their heads, and take one stop of
 // the tab key: arrow keys go from row to row.
+
+import { choose, chosen, make, momentOf } from "./dom.js";
+import { later, once } from "./steps.js";
+import { age } from "./words.js";
 
 /**
  * So many rows are more than a box shows. Of a long list the first few come at once, and the rest
@@ -7,7 +12,7 @@
  */
 const PART = 26, FIRST = 10;
 
-class List {
+export class List {
   /**
    * `columns` are { title, number, value } with the value to sort by; `row` makes a row of an item.
    * It stands in `box`, which scrolls.
@@ -110,8 +115,8 @@ class List {
 }
 const collator = new Intl.Collator("en", { numeric: true });
 
-const cell = (className, ...inside) => make("td", { className }, ...inside);
-const number = n => cell("num", n === undefined || n === 0 ? "" : n.toLocaleString("en"));
-const timeCell = seconds => cell("num time", momentOf(seconds));
-const ageCell = (seconds, view) => make("td", { className: "num age", data: { v: seconds },
+export const cell = (className, ...inside) => make("td", { className }, ...inside);
+export const number = n => cell("num", n === undefined || n === 0 ? "" : n.toLocaleString("en"));
+export const timeCell = seconds => cell("num time", momentOf(seconds));
+export const ageCell = (seconds, view) => make("td", { className: "num age", data: { v: seconds },
   textContent: age(view.now - seconds) });

@@ -1,7 +1,16 @@
+// @ts-check
 // The map: a canvas on which all in view is drawn, once for each picture.
 
+import { motionOf } from "./comment.js";
+import { oncePerFrame } from "./dom.js";
+import { degreesOf, Projection, RADIAN, RADIUS } from "./globe.js";
+import { paintGrid, roundUp } from "./grid.js";
+import { listenToMap } from "./hands.js";
+import { later, once } from "./steps.js";
+import { pathOf, symbolOf, TRACKS } from "./symbols.js";
+
 /** Digits of the minutes that were left out leave so many metres open to each side. */
-const OPEN = { 1: 93, 2: 926, 3: 9260, 4: 55560 };
+export const OPEN = { 1: 93, 2: 926, 3: 9260, 4: 55560 };
 const RANK = { item: 1, object: 2, station: 3 };
 /**
  * Where a name may stand: its left edge is so many reaches of the mark, widths of the name and
@@ -36,7 +45,7 @@ class Room {
   }
 }
 
-class NetMap {
+export class NetMap {
   /** `node` holds a canvas; `onPick` is told of the thing that was picked, `onView` of a move. */
   constructor(node, onPick, onView) {
     Object.assign(this, { node, onPick, onView, canvas: node.querySelector("canvas"),

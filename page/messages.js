@@ -1,4 +1,10 @@
+// @ts-check
 // Messages, bulletins, and the communications log ICS-309 of them.
+
+import { air, byId, make } from "./dom.js";
+import { cell, List, timeCell } from "./lists.js";
+import { isBulletin } from "./net.js";
+import { fullText, zoneText } from "./words.js";
 
 const NOT_JUDGED = "it ends in a reply-ack such as {01}, of which nobody can say whether it came";
 
@@ -9,7 +15,7 @@ function messageRow(it) {
     cell("call", air(it.addressee)), cell("text", air(it.text)),
     cell("id", it.id === "-" ? "" : it.id), timeCell(it.first), timeCell(it.last));
 }
-function messageList(box) {
+export function messageList(box) {
   return new List(box, { id: "messages", caption: "messages", row: messageRow, columns: [
     { title: "state", value: it => it.order }, { title: "from", value: it => it.source },
     { title: "to", value: it => it.addressee }, { title: "text", value: it => it.text },
@@ -17,9 +23,9 @@ function messageList(box) {
     { title: "last", number: true, value: it => it.last },
   ] });
 }
-const inOrder = (a, b) => a.order - b.order || b.last - a.last;
+export const inOrder = (a, b) => a.order - b.order || b.last - a.last;
 
-function bulletinList(box) {
+export function bulletinList(box) {
   const row = it => make("tr", {}, cell("call", air(it.addressee)), cell("call", it.source),
     cell("text", air(it.text)), timeCell(it.first), timeCell(it.last));
   return new List(box, { id: "bulletins", caption: "bulletins", row, columns: [
@@ -31,7 +37,7 @@ function bulletinList(box) {
 }
 
 /** The rows of ICS-309, all messages and bulletins by their first moment. */
-function logOf(net) {
+export function logOf(net) {
   return [...net.messages, ...net.bulletins].sort((a, b) => a.first - b.first);
 }
 function ics309Row(it) {
@@ -41,7 +47,7 @@ function ics309Row(it) {
       : make("small", { textContent: ` (${it.state})` })));
 }
 /** Fills the form ICS-309 with the messages that are shown. */
-function fillForm(net) {
+export function fillForm(net) {
   byId("ics-period").textContent = net.rows.length
     ? `${fullText(net.begin)} to ${fullText(net.end)}` : "";
   byId("ics-zone").textContent = net.rows.length ? zoneText(net.end) : "";

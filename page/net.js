@@ -1,13 +1,20 @@
+// @ts-check
 // The net that the texts tell of: things, messages, receivers and digipeaters.
+
+import { vectorOf } from "./globe.js";
+import { kindIn, nameIn } from "./reading.js";
+import { each } from "./steps.js";
+import { colourOf } from "./symbols.js";
+import { said } from "./words.js";
 
 /** A message whose state says nothing: it ends in a reply-ack such as {01}. */
 const replyAck = /\{[A-Za-z0-9]{1,2}\}(?:[A-Za-z0-9]{1,2})?$/;
 /** The states of messages, in the order in which they stand. */
 const STATES = ["unanswered", "rejected", "not judged", "unnumbered", "acknowledged"];
-const isBulletin = message => /^(BLN|NWS-)/.test(message.addressee);
+export const isBulletin = message => /^(BLN|NWS-)/.test(message.addressee);
 
 /** Gives a message of the listing the state that is shown, and its place among them. */
-function judge(message) {
+export function judge(message) {
   if (message.state === "unnumbered" && replyAck.test(message.text)) message.state = "not judged";
   message.order = STATES.indexOf(message.state);
 }
@@ -121,7 +128,7 @@ function* countLists(rows, picks, column) {
     [nameIn(rows.things[Math.floor(key / many)]), rows.lists[key % many], n]);
 }
 /** Who heard whom, who alone, and who repeated whom; `all` is the sum over the stations. */
-function* hearings(rows, picks) {
+export function* hearings(rows, picks) {
   const heard = new Pairs(), alone = new Pairs(), repeated = new Pairs(), sent = new Map();
   for (const [name, list, n] of yield* countLists(rows, picks, rows.heard))
     for (const source of [name, "all"]) {
@@ -198,7 +205,7 @@ function* receiversOf(rows, picks) {
 }
 
 /** All of the net that was heard since a moment, but who heard whom. */
-function* netOf(all, since) {
+export function* netOf(all, since) {
   const { rows } = all, picks = rows.since(since), some = picks.length > 0;
   // they stand by their first moment, and the last of all is one of them
   const begin = some ? rows.first[picks[0]] : Infinity, end = some ? rows.until : -Infinity;

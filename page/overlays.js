@@ -1,7 +1,12 @@
+// @ts-check
 // What the reader brings: base maps of GPX or GeoJSON, and a roster of the stations expected.
 
+import { make } from "./dom.js";
+import { vectorOf } from "./globe.js";
+import { ageCell, cell, List, timeCell } from "./lists.js";
+
 /** The lines and named points of a GPX or GeoJSON text; throws where it is none. */
-function readBase(text) {
+export function readBase(text) {
   const { lines, points } = /^\s*</.test(text) ? readGpx(text) : readGeoJson(text);
   return { lines: lines.map(it => Float64Array.from(it.flat())), points };
 }
@@ -47,7 +52,7 @@ function readGeoJson(text) {
 
 /** The calls of a roster: the first word of each line, and what stands after it. */
 const expected = /^\s*([A-Za-z0-9]{1,6}(?:-[0-9]{1,2})?)(?:[\s,;]+(.*))?$/;
-function readRoster(text) {
+export function readRoster(text) {
   const list = [];
   for (const line of text.split(/\r?\n/)) {
     const [, call, note] = expected.exec(line) || [];
@@ -56,7 +61,7 @@ function readRoster(text) {
   return list;
 }
 /** When each expected station was last heard. A call without SSID stands for each of its SSIDs. */
-function rosterOf(list, net) {
+export function rosterOf(list, net) {
   const last = new Map();
   for (const it of net.things) {
     if (it.kind !== "station") continue;
@@ -65,7 +70,7 @@ function rosterOf(list, net) {
   }
   return list.map(it => ({ ...it, last: last.get(it.call) ?? -Infinity }));
 }
-function rosterList(box, view) {
+export function rosterList(box, view) {
   const row = it => {
     const heard = it.last > -Infinity, silent = !heard || view.now - it.last > view.silent;
     return make("tr", { className: silent ? "silent" : "" },

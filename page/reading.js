@@ -1,6 +1,11 @@
+// @ts-check
 // The two texts: the history of a book (aprsbook-history) and its listing (aprsbook show). Of a
 // history, columns of numbers are made in one pass; what else stands in a row is cut out of the
 // text when it is asked for.
+
+import { vectorOf } from "./globe.js";
+import { STEP } from "./steps.js";
+import { said } from "./words.js";
 
 /** What a row is, by its first word, and how many words stand between its head and its place. */
 const BEFORE_PLACE = { position: 0, object: 2, item: 2, "mic-e": 3 };
@@ -173,7 +178,7 @@ class HistoryReader {
   }
 }
 /** The columns of a history, which a worker can hand over. */
-function* columnsOf(text) {
+export function* columnsOf(text) {
   const reader = new HistoryReader(text), { columns } = reader;
   for (let at = 0, end; (end = text.indexOf("\n", at)) >= 0; at = end + 1) {
     reader.line(at, end);
@@ -205,7 +210,7 @@ function placeOf(where) {
 }
 
 /** The transmissions of a history: numbers of rows, in `order` by their first moments. */
-class Rows {
+export class Rows {
   constructor(text, { columns, things, lists, until }) {
     Object.assign(this, columns, { text, things, until,
       lists: lists.map(it => it === "-" ? [] : it.split(",")) });
@@ -240,8 +245,8 @@ class Rows {
     return Object.assign(place, { course: +course, knots: +knots, says });
   }
 }
-const kindIn = thing => thing.slice(0, thing.indexOf(" "));
-const nameIn = thing => thing.slice(thing.indexOf(" ") + 1);
+export const kindIn = thing => thing.slice(0, thing.indexOf(" "));
+export const nameIn = thing => thing.slice(thing.indexOf(" ") + 1);
 
 /** MESSAGE of the listing: SOURCE ADDRESSEE ID STATE FIRST LAST:TEXT */
 function messageOf(text, at, end) {
@@ -251,7 +256,7 @@ function messageOf(text, at, end) {
     last: secondsAt(text, last), text: text.slice(last + 25, end) };
 }
 /** The messages of a listing, and the last place of each thing, as text, by kind and name. */
-function readListing(text) {
+export function readListing(text) {
   const messages = [], places = new Map();
   let call = "";
   for (let at = 0, end; (end = text.indexOf("\n", at)) >= 0; at = end + 1) {

@@ -1,4 +1,12 @@
+// @ts-check
 // Stations, objects and items; receivers; who heard whom, and who repeated whom.
+
+import { wordsOf } from "./comment.js";
+import { air, make } from "./dom.js";
+import { ageCell, cell, List, number, timeCell } from "./lists.js";
+import { OPEN } from "./map.js";
+import { markOf, symbolOf } from "./symbols.js";
+import { said } from "./words.js";
 
 function thingRow(it, view) {
   const { now } = it, names = ["pick", it.kind].join(" "), marks = [it.kind];
@@ -21,13 +29,13 @@ function thingRow(it, view) {
     ageCell(it.last, view), cell("by", it.by.join(", ")), cell("num sent", String(it.sent)),
     cell("where", ...whereOf(now)), cell("about", ...about));
 }
-function whereOf(place) {
+export function whereOf(place) {
   if (!place) return [];
   const text = `${place.north.toFixed(4)}, ${place.east.toFixed(4)}`;
   return [make("a", { href: `geo:${place.north.toFixed(6)},${place.east.toFixed(6)}`, tabIndex: -1,
     textContent: text }), OPEN[place.ambiguity] ? " (about)" : ""];
 }
-function thingList(box, view) {
+export function thingList(box, view) {
   return new List(box, { id: "things", caption: "stations, objects and items",
     row: it => thingRow(it, view), columns: [
       { title: "name", value: it => it.label }, { title: "kind", value: it => it.kind },
@@ -40,14 +48,14 @@ function thingList(box, view) {
     ] });
 }
 /** What `find` looks in. */
-function haystack(it) {
+export function haystack(it) {
   const words = [it.label, it.kind, it.by.join(" "), said(it.status)], { now } = it;
   if (now) words.push(said(now.comment), symbolOf(now).word, wordsOf(now).join(" "), now.source);
   return words.join("\n").toLowerCase();
 }
 
 /** A table of stations by receivers or digipeaters; `tell` says what a pair stands for. */
-function pairList(box, id, caption, pairs, sent, tell) {
+export function pairList(box, id, caption, pairs, sent, tell) {
   const columns = [...pairs.columns].sort();
   const row = source => {
     const of = sent.get(source), cells = columns.map(name => {
@@ -66,17 +74,17 @@ function pairList(box, id, caption, pairs, sent, tell) {
   list.show(sources.length ? ["all", ...sources] : []);
   return list;
 }
-const shareText = (n, of) => `${n} of ${of} (${Math.round(n / of * 100)} %)`;
+export const shareText = (n, of) => `${n} of ${of} (${Math.round(n / of * 100)} %)`;
 
 /** A receiver's clock beside the others', in words. */
-function clockWords(it, gap) {
+export function clockWords(it, gap) {
   if (!it.clock || it.clock.of < 2)
     return { text: "", title: "too few transmissions that others heard too" };
   const { by, of } = it.clock, title = `the median of ${of} transmissions that others heard too`;
   if (Math.abs(by) <= gap) return { text: `within ${gap} s`, title };
   return { text: `${by < 0 ? "\u2212" : "+"}${age(Math.abs(by))}`, title, wrong: true };
 }
-function receiverList(box, view) {
+export function receiverList(box, view) {
   const row = it => {
     const clock = clockWords(it, view.gap);
     return make("tr", { className: view.now - it.last > view.silent ? "silent" : "" },

@@ -15,11 +15,12 @@ import re
 import sys
 
 HERE = pathlib.Path(__file__).resolve().parent
-# what draws, in each page; what reads logs; and what runs the module, beside the page
-DRAWS = ("words dom steps reading net globe symbols comment grid map hands lists messages tables "
-         "timeline overlays exports event alive begin").split()
-READS = "drop follow".split()
-RUNS = "host steps reading worker".split()
+# what draws, in each page; what reads logs; and what runs the module, beside the page: each a module
+# that imports others
+DRAWS, READS, RUNS = "begin", "reads", "worker"
+IMPORT = re.compile(r'^import \{[^}]*\} from "\./(\w+)\.js";\n', re.M)
+EXPORT = re.compile(r"^export (?:\{[^}]*\};\n|(?=async |const |let |function|class ))", re.M)
+NAMED = re.compile(r"^(?:async )?(?:const|let|function\*?|class) +(\w+)", re.M)
 FOOTER = "Made by {} from a book of aprsbook."
 
 
@@ -27,9 +28,27 @@ def read(name):
     return (HERE / name).read_text(encoding="utf-8")
 
 
-def script(names):
-    """These files as one script, which leaves no name behind but those that it gives away."""
-    parts = "".join(read(name + ".js") for name in names)
+def modules_of(name, found):
+    """This module after those that it imports, each once."""
+    if name not in found:
+        found[name] = ""
+        text = read(name + ".js")
+        for it in IMPORT.findall(text):
+            modules_of(it, found)
+        found[name] = found.pop(name) or EXPORT.sub("", IMPORT.sub("", text))
+    return found
+
+
+def script(name):
+    """A module and those that it imports as one script, which leaves no name behind but those that
+    it gives away."""
+    parts = "".join(modules_of(name, {}).values())
+    names = NAMED.findall(parts)
+    twice = sorted({it for it in names if names.count(it) > 1})
+    if twice:
+        raise ValueError(f"names that stand in two modules: {twice}")
+    if re.search("^(?:import|export)", parts, re.M):
+        raise ValueError("an import or export of another form")
     if "</script" in parts:
         raise ValueError("a script that would end its own element")
     return f'"use strict";\n(() => {{\n{parts}}})();\n'

@@ -1,3 +1,4 @@
+// @ts-check
 // Texts off the air, moments, ages and counts, in words.
 
 const strictUtf8 = new TextDecoder("utf-8", { fatal: true, ignoreBOM: true });
@@ -21,7 +22,7 @@ const hexOf = octets => Array.from(octets, it => "\\x" + it.toString(16).padStar
  * A text off the air, of the form in which aprsbook shows it: in UTF-8, or else in Latin-1. What
  * can't be printed stays as it is shown.
  */
-function said(shown) {
+export function said(shown) {
   if (!shown.includes("\\")) return shown;
   const octets = octetsOf(shown);
   let text, encode = letter => new TextEncoder().encode(letter);
@@ -37,7 +38,7 @@ function said(shown) {
 }
 
 /** How moments are written: in local time or UTC, and with the date where that matters. */
-const clocks = { local: false, dated: false };
+export const clocks = { local: false, dated: false };
 const MONTHS = "Jan Feb Mar Apr May Jun Jul Aug Sep Oct Nov Dec".split(" ");
 const two = n => String(n).padStart(2, "0");
 
@@ -50,41 +51,41 @@ function civil(seconds) {
     : [it.getUTCFullYear(), it.getUTCMonth(), it.getUTCDate(), it.getUTCHours(),
       it.getUTCMinutes(), it.getUTCSeconds()];
 }
-function dateText(seconds) {
+export function dateText(seconds) {
   const [year, month, day] = civil(seconds);
   return `${year}-${two(month + 1)}-${two(day)}`;
 }
-function hourText(seconds) {
+export function hourText(seconds) {
   return secondText(seconds).slice(0, 5);
 }
-function secondText(seconds) {
+export function secondText(seconds) {
   const [, , , hour, minute, second] = civil(seconds);
   return `${two(hour)}:${two(minute)}:${two(second)}`;
 }
 /** A moment, with the date where more than one day is shown. */
-function timeText(seconds) {
+export function timeText(seconds) {
   const [, month, day] = civil(seconds);
   return (clocks.dated ? `${day} ${MONTHS[month]} ` : "") + secondText(seconds);
 }
-function zoneText(seconds) {
+export function zoneText(seconds) {
   if (!clocks.local) return "UTC";
   const ahead = -new Date(seconds * 1000).getTimezoneOffset(), far = Math.abs(ahead);
   return `UTC${ahead < 0 ? "\u2212" : "+"}${two(Math.floor(far / 60))}:${two(far % 60)}`;
 }
-const fullText = seconds =>
+export const fullText = seconds =>
   `${dateText(seconds)} ${secondText(seconds)} ${zoneText(seconds)}`;
-const isoText = seconds => new Date(seconds * 1000).toISOString();
+export const isoText = seconds => new Date(seconds * 1000).toISOString();
 
 /** How long ago something was. */
-function age(passed) {
+export function age(passed) {
   const [, size, unit] = [[60, 1, "s"], [5400, 60, "min"], [172800, 3600, "h"]]
     .find(([below]) => passed < below) || [0, 86400, "d"];
   return `${Math.floor(passed / size)} ${unit}`;
 }
-const count = (n, word) => `${n.toLocaleString("en")} ${word}${n === 1 ? "" : "s"}`;
+export const count = (n, word) => `${n.toLocaleString("en")} ${word}${n === 1 ? "" : "s"}`;
 
 /** Metres, or kilometres where that says enough. */
-function far(metres) {
+export function far(metres) {
   if (metres < 1000) return `${Math.round(metres)} m`;
   return `${(metres / 1000).toFixed(metres < 1e5 ? 1 : 0)} km`;
 }

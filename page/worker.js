@@ -1,5 +1,10 @@
+// @ts-check
 // What a worker of the page does: it runs the module and reads a history into columns, so that the
 // page doesn't stand still.
+
+import { run } from "./host.js";
+import { columnsOf } from "./reading.js";
+import { atOnce } from "./steps.js";
 
 let core = null;
 

@@ -1,0 +1,7 @@
+// @ts-check
+// What the script that reads logs takes of the one that draws, which stands before it in the page.
+
+/** @type {typeof import("./begin.js").shared} */
+const shared = globalThis.aprsbook;
+export const { alive, bring, byId, choose, chosen, count, make, page, readListing, save, show, tick } =
+  shared;

@@ -1,0 +1,9 @@
+// @ts-check
+// The page that reads logs begins with its workers.
+
+import { add, beginReading, eventPage, files, madeNow, run } from "./drop.js";
+import { beginFollowing } from "./follow.js";
+
+beginReading().then(can => can && beginFollowing());
+// for tests
+globalThis.aprsfiles = Object.freeze({ files, made: madeNow, run, eventPage, add });
