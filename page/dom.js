@@ -3,6 +3,10 @@
 
 import { fullText, isoText, said, timeText } from "./words.js";
 
+/**
+ * An element, of whichever kind the page has by this name.
+ * @type {(id: string) => any}
+ */
 export const byId = id => document.getElementById(id);
 
 export function make(tag, of = {}, ...inside) {
@@ -16,6 +20,11 @@ export function make(tag, of = {}, ...inside) {
 export function air(shown) {
   return shown ? make("bdi", { textContent: said(shown) }) : "";
 }
+/**
+ * A text that stands in the page as it is, whichever way it runs.
+ * @param {string} text
+ */
+export const letters = text => make("bdi", { textContent: text });
 export function momentOf(seconds) {
   return make("time", {
     dateTime: isoText(seconds), title: fullText(seconds), textContent: timeText(seconds),

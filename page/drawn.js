@@ -3,5 +3,6 @@
 
 /** @type {typeof import("./begin.js").shared} */
 const shared = globalThis.aprsbook;
-export const { alive, bring, byId, choose, chosen, count, make, page, readListing, save, show, tick } =
-  shared;
+export const {
+  alive, bring, byId, choose, chosen, count, make, page, printable, save, show, tick,
+} = shared;

@@ -7,7 +7,8 @@ import { isoText, said } from "./words.js";
 
 /** A text off the air for a spreadsheet, which must not take it as a formula. */
 function csvText(text) {
-  const safe = /^[=+\-@\t\r]/.test(text) ? "'" + text : text;
+  const isFormula = /^'* *[=+\-@\t\r]/.test(text) && !/^-?[0-9]+(\.[0-9]+)?$/.test(text);
+  const safe = isFormula ? "'" + text : text;
   return /[",\n\r]/.test(safe) ? `"${safe.replaceAll('"', '""')}"` : safe;
 }
 const csvOf = rows => rows.map(row =>
@@ -16,21 +17,22 @@ const markup = text => text.replace(/[&<>"']/g, it => `&#${it.charCodeAt(0)};`)
   .replace(/[^\t\n\r -\ud7ff\ue000-\ufffd\u{10000}-\u{10ffff}]/gu, "");
 const decimal = value => value.toFixed(7);
 
-/** Each place of each thing, as rows: kind, name, state, .. */
-function placesCsv(things) {
-  const rows = ["kind name state first last receivers source lat lon ambiguity symbol comment"
-    .split(" ")];
+const COLUMNS = ("kind name state first last receivers source lat lon ambiguity symbol course " +
+  "speed_knots altitude_m comment").split(" ");
+/** Each place of each thing, as rows. */
+export function placesCsv(things) {
+  const rows = [COLUMNS], value = it => it === undefined ? "" : it;
   for (const it of things)
     for (const at of it.places)
-      rows.push([it.kind, it.label, at.state, isoText(at.first), isoText(at.last),
+      rows.push([it.kind, said(it.name), at.state, isoText(at.first), isoText(at.last),
         at.receivers.join(" "), at.source, Number(decimal(at.north)), Number(decimal(at.east)),
-        at.ambiguity, at.table + at.code, said(at.comment)]);
+        at.compressed ? "c" : at.ambiguity, at.table + at.code, value(at.course), value(at.knots),
+        value(at.metres), said(at.comment)]);
   return csvOf(rows);
 }
 export function messagesCsv(net) {
   return csvOf([["time", "from", "number", "to", "message", "state"], ...logOf(net).map(it =>
-    [isoText(it.first), it.source, it.id === "-" ? "" : it.id, said(it.addressee), said(it.text),
-      isBulletin(it) ? "bulletin" : it.state])]);
+    [isoText(it.first), it.source, it.id, said(it.addressee), said(it.text), it.state])]);
 }
 /** The runs of a thing's places, each but the last ended by a kill. */
 function segmentsOf(thing) {
@@ -116,6 +118,5 @@ export const SAVES = {
     ["net.geojson", "application/geo+json", geoJsonOf(net.placed)],
   "places and tracks (KML)": (net, data) =>
     ["net.kml", "application/vnd.google-earth.kml+xml", kmlOf(net.placed, data.title)],
-  "listing (text)": (net, data) => ["net.txt", "text/plain", data.listing],
-  "history (text)": (net, data) => ["history.txt", "text/plain", data.history],
+  "table (TSV)": (net, data) => ["table.tsv", "text/tab-separated-values", data.rows],
 };

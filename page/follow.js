@@ -3,7 +3,9 @@
 // grown.
 
 import { alive, byId, choose, chosen, page, tick } from "./drawn.js";
-import { fileOf, files, kindOf, look, work } from "./drop.js";
+import { files, numberIn, work } from "./drop.js";
+import { fileOf, look } from "./intake.js";
+import { kindOf, spelled } from "./kinds.js";
 
 const EACH = 15; // seconds
 const OVERLAP = 64; // bytes that are asked for again, to see that it is the same file
@@ -82,7 +84,7 @@ async function growOne(file, url) {
   // of a log only whole lines: the last one may still be on its way
   file.bytes = file.kind === "log"
     ? file.whole.subarray(0, file.whole.lastIndexOf(10) + 1) : file.whole;
-  await look(file);
+  await look(file, numberIn("gap"));
   return true;
 }
 /** The bytes of a file of which `had` are known: the rest alone, where the server can do so. */

@@ -1,7 +1,7 @@
 // @ts-check
 // The mouse, fingers and keys on the map.
 
-import { wordsOf } from "./comment.js";
+import { wordsOf } from "./details.js";
 import { make } from "./dom.js";
 import { symbolOf } from "./symbols.js";
 import { timeText } from "./words.js";

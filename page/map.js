@@ -1,7 +1,7 @@
 // @ts-check
 // The map: a canvas on which all in view is drawn, once for each picture.
 
-import { motionOf } from "./comment.js";
+import { motionOf } from "./details.js";
 import { oncePerFrame } from "./dom.js";
 import { degreesOf, Projection, RADIAN, RADIUS } from "./globe.js";
 import { paintGrid, roundUp } from "./grid.js";

@@ -1,8 +1,9 @@
 // @ts-check
 // The page that reads logs begins with its workers.
 
-import { add, beginReading, eventPage, files, madeNow, run } from "./drop.js";
+import { add, beginReading, eventPage, files, madeNow } from "./drop.js";
 import { beginFollowing } from "./follow.js";
+import { run } from "./workers.js";
 
 beginReading().then(can => can && beginFollowing());
 // for tests

@@ -1,28 +1,37 @@
 // @ts-check
 // Stations, objects and items; receivers; who heard whom, and who repeated whom.
 
-import { wordsOf } from "./comment.js";
-import { air, make } from "./dom.js";
+import { clockWords } from "./clockwords.js";
+import { wordsOf } from "./details.js";
+import { air, letters, make } from "./dom.js";
 import { ageCell, cell, List, number, timeCell } from "./lists.js";
 import { OPEN } from "./map.js";
+import { who } from "./roster.js";
 import { markOf, symbolOf } from "./symbols.js";
-import { said } from "./words.js";
+import { printable, said } from "./words.js";
+
+/** What is said of a station that sends 0, 0. */
+export const NO_FIX = "its place is 0, 0: no fix";
 
 function thingRow(it, view) {
   const { now } = it, names = ["pick", it.kind].join(" "), marks = [it.kind];
   if (it.killed) marks.push("killed");
   if (view.isSilent(it)) marks.push("silent");
+  if (it.urgent) marks.push(it.urgent);
+  if (it.key === view.picked) marks.push("picked");
   const pick = make("button", { type: "button", className: names, title: "show on the map",
-    onclick: () => view.onPick(it.key) }, air(it.name));
+    onclick: () => view.onPick(it.key) }, letters(it.label));
   const about = [];
+  if (it.urgent) about.push(make("b", { className: "bad", textContent: it.urgent }), " ");
   if (now) {
     const words = wordsOf(now).join(", ");
     if (words) about.push(make("span", { className: "words", textContent: words }), " ");
     about.push(air(now.comment), " ");
-  }
+  } else if (it.unfixed) about.push(make("span", { className: "warn", textContent: NO_FIX }), " ");
   if (it.status) about.push(make("i", { title: "status" }, air(it.status)));
   const kind = [it.kind + (it.killed ? " killed" : "")];
-  if (it.kind !== "station") kind.push(make("small", { textContent: ` of ${now.source}` }));
+  if (it.kind !== "station" && now)
+    kind.push(make("small", { textContent: ` of ${who(now.source)}` }));
   return make("tr", { className: marks.join(" "), data: { key: it.key } },
     make("th", { scope: "row" }, now ? markOf(it) : make("span", { className: "mark" }), pick),
     cell("kind", ...kind), timeCell(it.last),
@@ -50,7 +59,8 @@ export function thingList(box, view) {
 /** What `find` looks in. */
 export function haystack(it) {
   const words = [it.label, it.kind, it.by.join(" "), said(it.status)], { now } = it;
-  if (now) words.push(said(now.comment), symbolOf(now).word, wordsOf(now).join(" "), now.source);
+  if (now)
+    words.push(said(now.comment), symbolOf(now).word, wordsOf(now).join(" "), who(now.source));
   return words.join("\n").toLowerCase();
 }
 
@@ -76,14 +86,6 @@ export function pairList(box, id, caption, pairs, sent, tell) {
 }
 export const shareText = (n, of) => `${n} of ${of} (${Math.round(n / of * 100)} %)`;
 
-/** A receiver's clock beside the others', in words. */
-export function clockWords(it, gap) {
-  if (!it.clock || it.clock.of < 2)
-    return { text: "", title: "too few transmissions that others heard too" };
-  const { by, of } = it.clock, title = `the median of ${of} transmissions that others heard too`;
-  if (Math.abs(by) <= gap) return { text: `within ${gap} s`, title };
-  return { text: `${by < 0 ? "\u2212" : "+"}${age(Math.abs(by))}`, title, wrong: true };
-}
 export function receiverList(box, view) {
   const row = it => {
     const clock = clockWords(it, view.gap);
@@ -101,4 +103,20 @@ export function receiverList(box, view) {
     { title: "alone", number: true, value: it => it.alone },
     { title: "clock", number: true, value: it => it.clock?.by || 0 },
   ] });
+}
+/** Whom one waits for. */
+export function rosterList(box, view) {
+  const row = it => {
+    const heard = it.last > -Infinity, silent = !heard || view.now - it.last > view.silent;
+    return make("tr", { className: silent ? "silent" : "" },
+      make("th", { scope: "row", textContent: it.call }), cell("text", letters(printable(it.name))),
+      cell("group", letters(printable([it.group, it.bib].filter(Boolean).join(" ")))),
+      heard ? timeCell(it.last) : cell("num time", "not heard"),
+      heard ? ageCell(it.last, view) : cell("num age"));
+  };
+  return new List(box, { id: "expected", caption: "expected stations", row, columns: [
+    { title: "call", value: it => it.call }, { title: "who", value: it => it.name },
+    { title: "group, no.", value: it => it.group + it.bib },
+    { title: "last heard", number: true, value: it => it.last },
+    { title: "age", number: true, value: it => -it.last }] });
 }

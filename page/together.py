@@ -18,9 +18,11 @@ HERE = pathlib.Path(__file__).resolve().parent
 # what draws, in each page; what reads logs; and what runs the module, beside the page: each a module
 # that imports others
 DRAWS, READS, RUNS = "begin", "reads", "worker"
-IMPORT = re.compile(r'^import \{[^}]*\} from "\./(\w+)\.js";\n', re.M)
-EXPORT = re.compile(r"^export (?:\{[^}]*\};\n|(?=async |const |let |function|class ))", re.M)
-NAMED = re.compile(r"^(?:async )?(?:const|let|function\*?|class) +(\w+)", re.M)
+IMPORT = re.compile(r'^import (\{[^}]*\}) from "\./(\w+)\.js";\n', re.M)
+EXPORT = re.compile(r"^export (?=(?:async )?(?:const|let|function\*?|class) +(\w+|\{[^}]*\}))", re.M)
+LIST = re.compile(r"^export (\{[^}]*\});\n", re.M)
+# whether a page of an event is made of tables
+TABLES = True
 FOOTER = "Made by {} from a book of aprsbook."
 
 
@@ -28,14 +30,32 @@ def read(name):
     return (HERE / name).read_text(encoding="utf-8")
 
 
+def words_in(text):
+    return re.findall(r"\w+", text)
+
+
+def scope(name, text):
+    """A module as a scope of its own, which gives away what it exports."""
+    inside = IMPORT.sub(lambda it: f"const {it[1]} = in_{it[2]};\n", text)
+    exported = [word for it in EXPORT.findall(inside) + LIST.findall(inside) for word in words_in(it)]
+    inside = LIST.sub("", EXPORT.sub("", inside))
+    if re.search("^(?:import|export)", inside, re.M):
+        raise ValueError(f"{name}.js: an import or export of another form")
+    return f"const in_{name} = (() => {{\n{inside}return {{ {', '.join(exported)} }};\n}})();\n"
+
+
 def modules_of(name, found):
-    """This module after those that it imports, each once."""
-    if name not in found:
-        found[name] = ""
-        text = read(name + ".js")
-        for it in IMPORT.findall(text):
-            modules_of(it, found)
-        found[name] = found.pop(name) or EXPORT.sub("", IMPORT.sub("", text))
+    """This module after those that it imports, each once and as a scope."""
+    if name in found:
+        if not found[name]:
+            raise ValueError(f"{name}.js imports itself by others")
+        return found
+    found[name] = ""
+    text = read(name + ".js")
+    for _, it in IMPORT.findall(text):
+        modules_of(it, found)
+    del found[name]
+    found[name] = scope(name, text)
     return found
 
 
@@ -43,12 +63,6 @@ def script(name):
     """A module and those that it imports as one script, which leaves no name behind but those that
     it gives away."""
     parts = "".join(modules_of(name, {}).values())
-    names = NAMED.findall(parts)
-    twice = sorted({it for it in names if names.count(it) > 1})
-    if twice:
-        raise ValueError(f"names that stand in two modules: {twice}")
-    if re.search("^(?:import|export)", parts, re.M):
-        raise ValueError("an import or export of another form")
     if "</script" in parts:
         raise ValueError("a script that would end its own element")
     return f'"use strict";\n(() => {{\n{parts}}})();\n'
@@ -76,7 +90,8 @@ def policy(scripts, style, more=""):
 
 
 def event(data):
-    """The page of an event: title, live, silent, gap, maps, roster, notes, history, listing."""
+    """The page of an event: title, live, silent, gap, maps, roster, notes; and of its book the tables
+    rows and messages, or where there are none its history and its listing."""
     draws, style = script(DRAWS), read("page.css")
     asks = "; connect-src 'self'" if data["live"] else ""
     return filled({

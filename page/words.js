@@ -4,11 +4,33 @@
 const strictUtf8 = new TextDecoder("utf-8", { fatal: true, ignoreBOM: true });
 const unprintable = /^[\p{C}\p{Z}]$/u;
 
+/**
+ * The first letter of a text as aprsbook shows it.
+ * @param {string} shown
+ */
+export const letterOf = shown => /^\\(?:x..|\\)|^./s.exec(shown)?.[0] ?? "";
+/**
+ * The first `n` words of a text, and what stands after them.
+ * @param {string} text @param {number} n
+ */
+export function cut(text, n) {
+  const words = [];
+  for (let at = 0; n > 0; n--) {
+    const end = text.indexOf(" ", at);
+    words.push(text.slice(at, end < 0 ? text.length : end));
+    at = end < 0 ? text.length : end + 1;
+    if (n === 1) words.push(text.slice(at));
+  }
+  return words;
+}
 /** The octets of a text as aprsbook shows it, with `\x..` for each that is no plain letter. */
 function octetsOf(shown) {
   const octets = [];
   for (let at = 0; at < shown.length; at++) {
-    if (shown[at] === "\\") {
+    if (shown[at] === "\\" && shown[at + 1] === "\\") {
+      octets.push(92);
+      at++;
+    } else if (shown[at] === "\\") {
       octets.push(parseInt(shown.slice(at + 2, at + 4), 16));
       at += 3;
     } else octets.push(shown.charCodeAt(at));
@@ -32,10 +54,16 @@ export function said(shown) {
     text = Array.from(octets, it => String.fromCharCode(it)).join("");
     encode = letter => [letter.charCodeAt(0)];
   }
+  return withoutUnprintable(text, encode);
+}
+/** A text with each letter in hexadecimal that can't be printed. */
+function withoutUnprintable(text, encode) {
   const show = letter =>
     letter !== " " && unprintable.test(letter) ? hexOf(encode(letter)) : letter;
   return Array.from(text, show).join("");
 }
+/** A text that didn't come off the air, such as the name of a file, so that it can't turn others. */
+export const printable = text => withoutUnprintable(text, letter => new TextEncoder().encode(letter));
 
 /** How moments are written: in local time or UTC, and with the date where that matters. */
 export const clocks = { local: false, dated: false };
