@@ -5,6 +5,7 @@ import { bring, byId, count, make, page, printable, save, show } from "./drawn.j
 import { filesOf } from "./folders.js";
 import { asText, fileOf, leaveOut, lineText, look, placeOf, take } from "./intake.js";
 import { REASONS } from "./kinds.js";
+import { squareOf } from "./tiles.js";
 import { aMoment, beginWorkers, run } from "./workers.js";
 
 /** @typedef {import("./intake.js").Given} Given */
@@ -204,11 +205,21 @@ export async function work() {
     say((good[fault.at] ? printable(good[fault.at].name) + ": " : "") + fault.message, true);
   }
 }
+/** Takes a picture of a square of the reader's own map; says whether it is one. */
+function takeSquare(file) {
+  const square = squareOf(file.way || file.webkitRelativePath || ""), { map } = page;
+  if (!square) return false;
+  map.tiles.take(square, file);
+  byId("own-map").textContent = `Own map: ${count(map.tiles.size, "square")}.`;
+  map.paintSoon();
+  return true;
+}
 /** Takes files: each is checked while the runs over all of them go on. */
 export async function add(dropped) {
   began = performance.now();
   tellProgress(0, "reading");
-  const taken = await Promise.all([...dropped].map(it => take(it, bring)));
+  const others = [...dropped].filter(it => !takeSquare(it));
+  const taken = await Promise.all(others.map(it => take(it, bring)));
   const read = taken.filter(Boolean);
   const whole = [...files.filter(it => it.taken), ...read.filter(it => !it.unread)];
   if (read.length && whole.every(it => it.kind !== "KISS stream")) beginEarly(whole);
@@ -239,7 +250,7 @@ export function eventPage() {
   const values = { TITLE: asHtml(data.title), STYLE: document.querySelector("style").textContent,
     POLICY: `default-src 'none'; script-src ${digests.draws}; style-src ${digests.style}; ` +
       "base-uri 'none'; form-action 'none'",
-    FILES: "", FOOTER: "Made by event-page from a book of aprsbook.", DATA: asData(data),
+    FILES: "", COAST: byId("coast").textContent, FOOTER: "Made by event-page from a book of aprsbook.", DATA: asData(data),
     SCRIPTS: `<script>${byId("draws").textContent}<\/script>` };
   return parts.shell.replace(/@([A-Z]+)@/g, (_, name) => values[name]);
 }

@@ -115,6 +115,7 @@ function turnTo({ data, all }, net) {
   if (fresh) readBrought();
   for (const it of net.things) if (it.kind === "station" && it.name) it.label = who(it.name);
   page.map.take(net.placed);
+  tellFar();
   page.map.picked = net.things.some(it => it.key === page.picked) ? page.picked : null;
   page.finder.clear();
   byId("net").hidden = !all.rows.length;
@@ -280,6 +281,7 @@ function turnClock() {
   const moment = net.begin + (net.end - net.begin) * clock.value / clock.max;
   page.map.until = all ? Infinity : moment;
   byId("then").textContent = net.rows.length ? timeText(moment) : "";
+  clock.setAttribute("aria-valuetext", byId("then").textContent);
   page.map.paintSoon();
   return all || !net.rows.length ? "" : Math.round(moment);
 }
@@ -347,7 +349,17 @@ function listenToControls() {
   const { map } = page, on = (id, kind, run) => byId(id).addEventListener(kind, run);
   on("in", "click", () => { map.zoom(1.5); map.turn(); });
   on("out", "click", () => { map.zoom(1 / 1.5); map.turn(); });
-  on("fit", "click", () => { map.fit(); map.turn(); });
+  on("fit", "click", () => { map.fit(map.fitted && map.far > 0); map.turn(); });
+  on("fill", "click", () => map.fill(!map.isFull));
+  on("sound", "change", () => {
+    choose("sound", byId("sound").checked ? "on" : "");
+    page.alarm.turn(byId("sound").checked);
+  });
+  on("news", "click", ({ target }) => {
+    const { key } = target.dataset;
+    if (key && key !== page.picked) pick(key);
+  });
+  listenToEscape();
   on("clock", "input", keepClock);
   on("play", "click", play);
   on("find", "input", sift);
@@ -365,7 +377,13 @@ function listenToControls() {
     bringAll([...target.files]);
     target.value = ""; // so that the same file can be brought again
   });
-  on("away", "click", () => { page.brought = []; tell(""); readBrought(); refresh(); });
+  on("away", "click", () => { page.brought = [];
+    map.tiles.clear();
+    byId("own-map").textContent = "";
+    tell("");
+    readBrought();
+    refresh();
+  });
   on("ics-open", "click", () => openForm(true));
   on("ics-close", "click", () => openForm(false));
   on("ics-print", "click", () => print());
@@ -380,6 +398,34 @@ function listenToControls() {
     // in Firefox all is as wide as on paper until the next picture
     requestAnimationFrame(() => page.map.measure());
   });
+}
+/** Escape leaves what is open: a menu, the map that fills the window, or what is picked. */
+function listenToEscape() {
+  addEventListener("keydown", event => {
+    if (event.key !== "Escape") return;
+    const open = [...document.querySelectorAll("#controls details[open]")];
+    for (const it of open) {
+      it.open = false;
+      if (it.contains(document.activeElement)) it.querySelector("summary").focus();
+    }
+    if (!open.length && page.map.isFull) page.map.fill(false);
+  });
+  // a menu closes where one goes on beside it
+  addEventListener("pointerdown", ({ target }) => {
+    for (const it of document.querySelectorAll("#controls details[open]"))
+      if (!it.contains(/** @type {Node} */ (target))) /** @type {any} */ (it).open = false;
+  });
+}
+function fillWindow(full) {
+  document.body.classList.toggle("full", full);
+  byId("fill").setAttribute("aria-pressed", String(full));
+  byId("fill").textContent = full ? "leave the window" : "fill the window";
+}
+/** Says how many places are far from all others, and not in view. */
+function tellFar() {
+  const { far, fitted } = page.map;
+  byId("far").textContent = fitted && far
+    ? `${count(far, "place")} far from the others not in view; “all” shows all.` : "";
 }
 /** Puts on the colours of paper, or takes them off. */
 function dressFor(paper) {
@@ -396,11 +442,18 @@ function openForm(open) {
 }
 /** Makes what is drawn into, with what was chosen before. */
 export function begin() {
-  page.map = new NetMap(byId("map"), key => pick(key, true), text => choose("view", text));
+  page.map = new NetMap(byId("map"), { onPick: key => pick(key, true), onFill: fillWindow,
+    onView(text) {
+      choose("view", text);
+      tellFar();
+    } });
   page.picked = chosen.get("pick");
   page.map.look(chosen.get("view") || "");
   byId("since").value = chosen.get("since") || "0";
   byId("local").checked = chosen.get("time") === "local";
+  byId("sound").checked = chosen.get("sound") === "on";
+  page.alarm.turn(byId("sound").checked, false);
+  page.map.land.read(byId("coast").textContent).then(page.map.paintSoon);
   byId("find").value = chosen.get("find") || "";
   byId("kind").value = chosen.get("kind") || "";
   page.lists = {
@@ -415,7 +468,7 @@ export function begin() {
 /** Puts the clock where it was left. */
 export function beginClock() {
   const { net } = page, at = chosen.get("clock"), clock = byId("clock");
-  const share = (at - net.begin) / Math.max(1, net.end - net.begin);
+  const share = (Number(at) - net.begin) / Math.max(1, net.end - net.begin);
   if (!at || !net.rows.length) return;
   clock.value = share * clock.max;
   turnClock();

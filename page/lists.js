@@ -18,7 +18,15 @@ export class List {
    * It stands in `box`, which scrolls.
    */
   constructor(box, { id, caption, columns, row, none = "none" }) {
-    Object.assign(this, { box, id, columns, row, none, items: [], built: 0 });
+    this.box = box;
+    this.id = id;
+    this.columns = columns;
+    this.row = row;
+    this.none = none;
+    this.items = [];
+    this.given = [];
+    this.built = 0;
+    this.scrolled = false;
     const button = (textContent, n) =>
       make("button", { type: "button", textContent, onclick: () => this.turn(n) });
     this.heads = columns.map((it, n) =>
@@ -92,6 +100,23 @@ export class List {
   fill() {
     while (this.built < this.items.length &&
       this.box.scrollTop + this.box.clientHeight > this.box.scrollHeight - 600) this.build(PART);
+  }
+  /**
+   * Marks the row of a key, and no other; it is brought into view in its box where `isSought`.
+   * @param {string | null} key
+   */
+  mark(key, isSought = false) {
+    if (isSought && key) this.seek(key);
+    for (const row of this.body.children) {
+      const isIt = row.dataset.key === key && key !== null;
+      row.classList.toggle("picked", isIt);
+      if (isIt && isSought) this.box.scrollTop = row.offsetTop - this.box.clientHeight / 3;
+    }
+  }
+  /** Builds on until the row of a key is there. */
+  seek(key) {
+    const at = this.items.findIndex(it => it.key === key);
+    if (at >= this.built && at < 5000) this.build(at + 1 - this.built);
   }
   /** Builds all, for paper. */
   whole(most = 5000) {

@@ -83,6 +83,11 @@ def filled(values):
     return re.sub("@([A-Z]+)@", lambda it: values[it[1]], read("shell.html"))
 
 
+def coast():
+    """The coasts of the world, as build/coast.py packs them."""
+    return read("coast.txt").strip()
+
+
 def policy(scripts, style, more=""):
     """No script runs but these, nothing is styled by others, and nothing is loaded."""
     return (f"default-src 'none'; script-src {' '.join(map(digest, scripts))}{more}; "
@@ -97,7 +102,7 @@ def event(data):
     return filled({
         "TITLE": html.escape(data["title"]), "STYLE": style, "FILES": "",
         "POLICY": policy([draws], style) + asks, "FOOTER": FOOTER.format("event-page"),
-        "DATA": as_data(data), "SCRIPTS": f"<script>{draws}</script>",
+        "COAST": coast(), "DATA": as_data(data), "SCRIPTS": f"<script>{draws}</script>",
     })
 
 
@@ -112,7 +117,7 @@ def whole(module):
     return filled({
         "TITLE": "aprsbook", "STYLE": style, "FILES": read("files.html"),
         "POLICY": policy([draws, reads], style, more), "FOOTER": FOOTER.format("this page"),
-        "DATA": "", "SCRIPTS": f'<script id="draws">{draws}</script>\n'
+        "COAST": coast(), "DATA": "", "SCRIPTS": f'<script id="draws">{draws}</script>\n'
         f'<script type="application/json" id="parts">{parts}</script>\n<script>{reads}</script>',
     })
 
