@@ -49,7 +49,7 @@ export function tick() {
   if (!page.all) return;
   const now = Date.now() / 1000, quiet = now - page.all.end, words = [];
   for (const it of /** @type {NodeListOf<HTMLElement>} */ (document.querySelectorAll(".age[data-v]")))
-    it.textContent = age(now - it.dataset.v);
+    it.textContent = age(now - Number(it.dataset.v));
   for (const row of byId("things-box").querySelectorAll("tr.station"))
     row.classList.toggle("silent", now - row.querySelector(".age").dataset.v > view.silent);
   drawNews();

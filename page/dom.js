@@ -56,7 +56,7 @@ export function oncePerFrame(run) {
 }
 
 /** What the reader chose stands in the address after #, where it outlives loading again. */
-export const chosen = new URLSearchParams(location.hash.slice(1));
+export const chosen = new URLSearchParams(globalThis.location?.hash.slice(1) || "");
 export function choose(key, value) {
   if ((chosen.get(key) ?? "") === String(value)) return;
   if (value === "") chosen.delete(key);

@@ -4,5 +4,5 @@
 /** @type {typeof import("./begin.js").shared} */
 const shared = globalThis.aprsbook;
 export const {
-  alive, bring, byId, choose, chosen, count, make, page, printable, save, show, tick,
+  alive, bring, byId, choose, chosen, count, fullText, make, page, printable, save, show, tick,
 } = shared;

@@ -286,7 +286,7 @@ function listen() {
   byId("name").onchange = byId("silent").onchange = () => made && draw(made);
   for (const kind of ["dragover", "dragleave", "drop"])
     addEventListener(kind, event => {
-      const { dataTransfer, target } = event;
+      const { dataTransfer, target } = /** @type {any} */ (event);
       const hasFiles = Boolean(dataTransfer?.types.includes("Files"));
       if (!hasFiles && target.matches?.("input")) return; // a text may be dropped into a field
       event.preventDefault();

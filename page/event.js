@@ -377,7 +377,8 @@ function listenToControls() {
     bringAll([...target.files]);
     target.value = ""; // so that the same file can be brought again
   });
-  on("away", "click", () => { page.brought = [];
+  on("away", "click", () => {
+    page.brought = [];
     map.tiles.clear();
     byId("own-map").textContent = "";
     tell("");
@@ -399,21 +400,22 @@ function listenToControls() {
     requestAnimationFrame(() => page.map.measure());
   });
 }
+const openMenus = () => [.../** @type {NodeListOf<HTMLDetailsElement>} */ (
+  document.querySelectorAll("#controls details[open]"))];
 /** Escape leaves what is open: a menu, the map that fills the window, or what is picked. */
 function listenToEscape() {
   addEventListener("keydown", event => {
     if (event.key !== "Escape") return;
-    const open = [...document.querySelectorAll("#controls details[open]")];
+    const open = openMenus();
     for (const it of open) {
       it.open = false;
-      if (it.contains(document.activeElement)) it.querySelector("summary").focus();
+      if (it.contains(document.activeElement)) it.querySelector("summary")?.focus();
     }
     if (!open.length && page.map.isFull) page.map.fill(false);
   });
   // a menu closes where one goes on beside it
   addEventListener("pointerdown", ({ target }) => {
-    for (const it of document.querySelectorAll("#controls details[open]"))
-      if (!it.contains(/** @type {Node} */ (target))) /** @type {any} */ (it).open = false;
+    for (const it of openMenus()) if (!it.contains(/** @type {Node} */ (target))) it.open = false;
   });
 }
 function fillWindow(full) {

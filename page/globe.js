@@ -11,7 +11,11 @@ export function vectorOf(north, east) {
   return [level * Math.cos(east * RADIAN), level * Math.sin(east * RADIAN),
     Math.sin(north * RADIAN)];
 }
-export function degreesOf([x, y, z]) {
+/**
+ * @param {ArrayLike<number>} vector
+ * @returns {[number, number]} north and east
+ */
+export function degreesOf({ 0: x, 1: y, 2: z }) {
   return [Math.atan2(z, Math.hypot(x, y)) / RADIAN, Math.atan2(y, x) / RADIAN];
 }
 export function distance(a, b) {

@@ -52,7 +52,7 @@ class Layout {
 // moment, texts. Returns the answer, the name of an input's fault, and what was written, or null
 // where that had no room.
 function attempt(module, command, options, inputs, outputRoom, regionRoom) {
-  const it = new WebAssembly.Instance(module).exports, { memory } = it;
+  const it = /** @type {any} */ (new WebAssembly.Instance(module).exports), { memory } = it;
   const layout = new Layout(Number(it.__heap_base.value));
   const words = command === "convert capture"
     ? options.map(word => new TextEncoder().encode(word)) : [];

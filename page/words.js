@@ -47,7 +47,9 @@ const hexOf = octets => Array.from(octets, it => "\\x" + it.toString(16).padStar
 export function said(shown) {
   if (!shown.includes("\\")) return shown;
   const octets = octetsOf(shown);
-  let text, encode = letter => new TextEncoder().encode(letter);
+  /** @type {(letter: string) => ArrayLike<number>} */
+  let encode = letter => new TextEncoder().encode(letter);
+  let text;
   try {
     text = strictUtf8.decode(octets);
   } catch {
@@ -106,8 +108,9 @@ export const isoText = seconds => new Date(seconds * 1000).toISOString();
 
 /** How long ago something was. */
 export function age(passed) {
-  const [, size, unit] = [[60, 1, "s"], [5400, 60, "min"], [172800, 3600, "h"]]
-    .find(([below]) => passed < below) || [0, 86400, "d"];
+  /** @type {[number, number, string][]} */
+  const units = [[60, 1, "s"], [5400, 60, "min"], [172800, 3600, "h"]];
+  const [, size, unit] = units.find(([below]) => passed < below) || [0, 86400, "d"];
   return `${Math.floor(passed / size)} ${unit}`;
 }
 export const count = (n, word) => `${n.toLocaleString("en")} ${word}${n === 1 ? "" : "s"}`;

@@ -25,15 +25,16 @@ function answer({ command, options, inputs }) {
   got.read = atOnce(columnsOf(got.text));
   return [got, Object.values(got.read.columns).map(it => it.buffer)];
 }
-onmessage = ({ data: [id, what, given] }) => {
+const worker = /** @type {any} */ (globalThis);
+worker.onmessage = ({ data: [id, what, given] }) => {
   try {
     if (what === "load") {
       core = given;
-      return postMessage([id, true, ""]);
+      return worker.postMessage([id, true, ""]);
     }
     const [got, buffers] = answer(given);
-    postMessage([id, got, ""], buffers);
+    worker.postMessage([id, got, ""], buffers);
   } catch (fault) {
-    postMessage([id, null, String(fault.message || fault)]);
+    worker.postMessage([id, null, String(fault.message || fault)]);
   }
 };
