@@ -214,11 +214,15 @@ function takeSquare(file) {
   map.paintSoon();
   return true;
 }
+const UNREAD = "drop the files in it, or choose it as a folder";
 /** Takes files: each is checked while the runs over all of them go on. */
 export async function add(dropped) {
   began = performance.now();
   tellProgress(0, "reading");
-  const others = [...dropped].filter(it => !takeSquare(it));
+  const others = [...dropped].filter(it => !it.isFolder && !takeSquare(it));
+  const folders = [...dropped].filter(it => it.isFolder && !files.some(one => one.name === it.name));
+  files.push(...folders.map(it => fileOf(it.name, "folder", new Uint8Array(),
+    { unread: UNREAD, fault: UNREAD })));
   const taken = await Promise.all(others.map(it => take(it, bring)));
   const read = taken.filter(Boolean);
   const whole = [...files.filter(it => it.taken), ...read.filter(it => !it.unread)];
@@ -275,8 +279,8 @@ function drawOwnSaves() {
 // ---- begin
 
 function listen() {
-  byId("choose").onchange = ({ target }) => {
-    add(target.files);
+  byId("choose").onchange = byId("choose-folder").onchange = ({ target }) => {
+    add([...target.files].filter(it => !it.name.startsWith(".")));
     target.value = ""; // so that the same file can be chosen again
   };
   byId("gap").onchange = async () => {

@@ -24,6 +24,18 @@ async function filesIn(entry, way) {
   return files;
 }
 /**
+ * The files of a folder, or the folder alone where the browser lets no page read it, as from a disk.
+ * @param {FileSystemEntry} entry
+ * @returns {Promise<(File | { name: string, isFolder: true })[]>}
+ */
+async function readFolder(entry) {
+  try {
+    return await filesIn(entry, entry.name);
+  } catch {
+    return [{ name: entry.name, isFolder: true }];
+  }
+}
+/**
  * All files that are dropped, those of folders too. What begins with a dot stays where it is.
  * @param {DataTransfer} dropped
  */
@@ -31,7 +43,7 @@ export async function filesOf(dropped) {
   const items = [...dropped.items].filter(it => it.kind === "file");
   // they are gone after the first pause
   const entries = items.map(it => it.webkitGetAsEntry()), plain = [...dropped.files];
-  const lists = entries.map((entry, k) => entry?.isDirectory ? filesIn(entry, entry.name)
+  const lists = entries.map((entry, k) => entry?.isDirectory ? readFolder(entry)
     : [plain[k]]);
   return (await Promise.all(lists)).flat().filter(it => it && !it.name.startsWith("."));
 }

@@ -8,7 +8,7 @@ import { isMap } from "./overlays.js";
  * @param {Uint8Array} bytes
  */
 const lettersOf = (bytes, most = 2000) =>
-  new TextDecoder("latin1").decode(bytes.subarray(0, most)).replace(/^\xef\xbb\xbf/, "");
+  String.fromCharCode(...bytes.subarray(0, most)).replace(/^\xef\xbb\xbf/, "");
 
 /**
  * How files begin that are nothing of a net, and what they are.

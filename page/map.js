@@ -327,7 +327,10 @@ export class NetMap {
   room() {
     const { width, height } = this.view, anchor = this.placed[0]?.now;
     if (anchor) this.view.put(anchor.vector);
-    return new Room(width, height, anchor ? { x: this.view.x, y: this.view.y } : undefined);
+    const room = new Room(width, height, anchor ? { x: this.view.x, y: this.view.y } : undefined);
+    // the scale stands there
+    room.take(width - 130, height - 52, width, height);
+    return room;
   }
   colourAt(thing, place) {
     return place.state === "killed" ? this.colours.soft : this.tracks[thing.colour];

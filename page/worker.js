@@ -3,7 +3,7 @@
 // doesn't stand still.
 
 import { messagesOf, rowsOf } from "./history.js";
-import { run } from "./host.js";
+import { FUNCTIONS, run } from "./host.js";
 import { columnsOf } from "./reading.js";
 import { atOnce } from "./steps.js";
 
@@ -14,16 +14,22 @@ let core = null;
  * @type {Record<string, [string, (text: string) => string]>}
  */
 const TABLES = { rows: ["history", rowsOf], messages: ["show", messagesOf] };
-
+/** The module's command for a table, and what makes the table of what that writes. */
+function tableOf(command) {
+  const own = `table ${command}`, isOwn = Object.hasOwn(FUNCTIONS, own);
+  return isOwn ? { command: own, make: text => text }
+    : { command: TABLES[command][0], make: TABLES[command][1] };
+}
 /** What a run gives, and the buffers in it that need not be copied. */
 function answer({ command, options, inputs }) {
-  const [own, tableOf] = TABLES[command] || [command, null], got = run(core, own, options, inputs);
-  if (!tableOf || got.status) return [got, [got.bytes.buffer]];
-  got.text = tableOf(new TextDecoder("latin1").decode(got.bytes));
-  got.bytes = null;
-  if (command !== "rows") return [got, []];
-  got.read = atOnce(columnsOf(got.text));
-  return [got, Object.values(got.read.columns).map(it => it.buffer)];
+  const isTable = Object.hasOwn(TABLES, command), table = isTable ? tableOf(command) : null;
+  const got = run(core, table?.command || command, options, inputs);
+  if (!table || got.status) return [got, [got.bytes.buffer]];
+  const text = table.make(new TextDecoder("latin1").decode(got.bytes));
+  const told = { ...got, bytes: null, text, read: null };
+  if (command !== "rows") return [told, []];
+  told.read = atOnce(columnsOf(text));
+  return [told, Object.values(told.read.columns).map(it => it.buffer)];
 }
 const worker = /** @type {any} */ (globalThis);
 worker.onmessage = ({ data: [id, what, given] }) => {
