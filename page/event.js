@@ -115,7 +115,6 @@ function turnTo({ data, all }, net) {
   if (fresh) readBrought();
   for (const it of net.things) if (it.kind === "station" && it.name) it.label = who(it.name);
   page.map.take(net.placed);
-  tellFar();
   page.map.picked = net.things.some(it => it.key === page.picked) ? page.picked : null;
   page.finder.clear();
   byId("net").hidden = !all.rows.length;
@@ -445,6 +444,7 @@ function openForm(open) {
 /** Makes what is drawn into, with what was chosen before. */
 export function begin() {
   page.map = new NetMap(byId("map"), { onPick: key => pick(key, true), onFill: fillWindow,
+    onFit: () => page.map && tellFar(),
     onView(text) {
       choose("view", text);
       tellFar();

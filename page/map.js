@@ -27,16 +27,17 @@ const FONT = (size, bold) => `${bold ? "600 " : ""}${size}px system-ui, sans-ser
 export class NetMap {
   /**
    * `onPick` is told of the thing that was picked, `onView` of a move, `onFill` whether the map fills
-   * the window.
+   * the window, `onFit` that it shows all that is near.
    * @param {HTMLElement} node holds a canvas
    * @param {{ onPick: (key: string) => void, onView: (text: string) => void,
-   *   onFill: (full: boolean) => void }} hears
+   *   onFill: (full: boolean) => void, onFit: () => void }} hears
    */
-  constructor(node, { onPick, onView, onFill }) {
+  constructor(node, { onPick, onView, onFill, onFit }) {
     this.node = node;
     this.onPick = onPick;
     this.onView = onView;
     this.onFill = onFill;
+    this.onFit = onFit;
     this.canvas = /** @type {HTMLCanvasElement} */ (node.querySelector("canvas"));
     this.pen = /** @type {CanvasRenderingContext2D} */ (this.canvas.getContext("2d"));
     this.view = new Projection();
@@ -137,6 +138,7 @@ export class NetMap {
       for (let k = 0; 3 * k < it.length; k++) if (!isIn(it, k)) sum++;
       return sum;
     }, 0);
+    this.onFit();
   }
   move(right, down) {
     this.fitted = false;
