@@ -4,5 +4,6 @@
 /** @type {typeof import("./begin.js").shared} */
 const shared = globalThis.aprsbook;
 export const {
-  alive, bring, byId, choose, chosen, count, fullText, make, page, printable, save, show, tick,
+  age, alive, bring, byId, choose, chosen, count, fullText, make, page, printable, save, show,
+  tick,
 } = shared;

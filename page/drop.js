@@ -1,10 +1,13 @@
 // @ts-check
 // The page that reads logs: what is dropped on it goes through the module, and nothing leaves it.
 
-import { bring, byId, count, make, page, printable, save, show } from "./drawn.js";
+import { age, bring, byId, count, make, page, printable, save, show } from "./drawn.js";
 import { filesOf } from "./folders.js";
-import { asText, fileOf, leaveOut, lineText, look, placeOf, take } from "./intake.js";
+import {
+  asText, fileOf, leaveOut, lineText, look, placeOf, shifts, take,
+} from "./intake.js";
 import { REASONS } from "./kinds.js";
+import { movedIn } from "./shift.js";
 import { squareOf } from "./tiles.js";
 import { aMoment, beginWorkers, run } from "./workers.js";
 
@@ -90,6 +93,12 @@ function moreOf(file) {
       onclick: () => leaveOutOf(file) }));
   }
   if (leftOut.length) more.push(linesOf(`${count(leftOut.length, "line")} left out`, leftOut));
+  const moved = file.taken && file.kind !== "book" ? movedIn(file.taken, shifts) : [];
+  if (moved.length) more.push(make("p", {
+    textContent: moved.map(it => shiftText(it, shifts.get(it))).join("; ") }),
+  make("button", { type: "button", className: "moved", textContent: "save it so", onclick() {
+    save(file.name.replace(/(\.[a-z]+)?$/i, ".put-right$&"), file.taken, "text/plain");
+  } }));
   if (passed.length) more.push(linesOf(`${count(passed.length, "line")} passed over`, passed));
   return more;
 }
@@ -102,7 +111,7 @@ function rowOf(file) {
   verdict.className = `verdict ${file.fault ? "bad" : "good"}`;
   verdict.textContent = file.fault || file.said;
   const state = [file.away, file.reason, file.damage.length, file.leftOut.length, file.passed.length,
-    file.spelling].join();
+    file.spelling, [...shifts].join()].join();
   if (more.dataset.state === state) return row;
   more.dataset.state = state;
   more.replaceChildren(...moreOf(file));
@@ -122,7 +131,10 @@ function list() {
 
 const optionsOf = () => ({ title: byId("name").value || "APRS net", gap: numberIn("gap"),
   live: 0, silent: numberIn("silent"), maps: [], roster: "",
-  notes: files.flatMap(notesOf) });
+  notes: [...files.flatMap(notesOf), ...[...shifts].map(([name, by]) => shiftText(name, by))] });
+/** What is said of a clock that is put right. */
+const shiftText = (name, by) =>
+  `the clock of ${name} was put ${age(Math.abs(by))} ${by < 0 ? "back" : "forward"} here`;
 /** What a page has to say of a file: that it isn't in it, or not all of it. */
 function notesOf({ name, fault, taken, leftOut }) {
   const own = printable(name);
@@ -237,6 +249,21 @@ export async function add(dropped) {
   await work();
 }
 
+/** Puts the clock of a receiver right, or as it was; all logs are read anew. */
+async function shiftClock(name, by) {
+  if (by) shifts.set(name, (shifts.get(name) || 0) + by);
+  else shifts.delete(name);
+  for (const it of files) if (!it.unread && it.kind !== "book") await look(it, numberIn("gap"));
+  work();
+}
+/** The clocks that can be put right: of receivers that a log has. */
+const clockOf = {
+  shifted: name => shifts.get(name) || 0,
+  can: name => files.some(it => it.taken && it.kind !== "book" &&
+    movedIn(it.taken, new Map([[name, 0]])).length),
+  put: shiftClock,
+};
+
 // ---- saves
 
 const asData = value => JSON.stringify(value).replaceAll("&", "\\u0026")
@@ -301,6 +328,7 @@ function listen() {
 /** Makes workers, and says whether this browser can. */
 export async function beginReading() {
   drawOwnSaves();
+  page.clockOf = clockOf;
   show({ ...optionsOf(), title: "aprsbook", rows: "", messages: "", waits: true });
   try {
     const bytes = Uint8Array.from(atob(parts.module), it => it.charCodeAt(0));

@@ -28,7 +28,8 @@ import {
 
 export const page = { data: null, all: null, net: null, map: null, lists: {}, bases: [],
   roster: { list: [], faults: [] }, found: [], brought: [], until: Infinity, playing: null,
-  typing: 0, finder: new Map(), next: null, turn: null, drawn: null, alarm: new Alarm() };
+  typing: 0, finder: new Map(), next: null, turn: null, drawn: null, alarm: new Alarm(),
+  clockOf: null };
 /** Of rows of so many letters at most, some 10,000, all is drawn in one step. */
 const SMALL = 2 ** 20;
 
@@ -40,6 +41,7 @@ export const view = {
   get silent() { return page.data.silent * 60; },
   get gap() { return page.data.gap; },
   get picked() { return page.picked; },
+  get clockOf() { return page.clockOf; },
   isSilent: it => it.kind === "station" && presentOf() - it.last > page.data.silent * 60,
   onPick: key => pick(key),
 };

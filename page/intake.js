@@ -3,6 +3,7 @@
 
 import { count } from "./drawn.js";
 import { damagedLines, kindOf, READ, spelled, without } from "./kinds.js";
+import { shifted } from "./shift.js";
 import { run } from "./workers.js";
 
 /** @typedef {import("./kinds.js").Damage} Damage */
@@ -15,6 +16,11 @@ import { run } from "./workers.js";
  *   row?: HTMLTableRowElement, whole?: Uint8Array, mark?: string, away?: string }} Given
  */
 
+/**
+ * By how many seconds the clock of a receiver is put forward, or back.
+ * @type {Map<string, number>}
+ */
+export const shifts = new Map();
 /** So many bytes at the beginning of a file say what it is. */
 const HEAD = 65536;
 export const asText = (/** @type {Uint8Array} */ bytes) => new TextDecoder("latin1").decode(bytes);
@@ -137,7 +143,8 @@ async function lookInto(file, gap) {
       return refuse(got);
     }
   }
-  file.taken = bytes;
+  // a book's moments stay: it no longer has what each receiver wrote
+  file.taken = file.kind === "book" ? bytes : shifted(bytes, shifts);
 }
 /**
  * The text of a line that is refused.

@@ -86,14 +86,26 @@ export function pairList(box, id, caption, pairs, sent, tell) {
 }
 export const shareText = (n, of) => `${n} of ${of} (${Math.round(n / of * 100)} %)`;
 
+/** What puts a receiver's clock right, where the page has its log. */
+function clockButtons(it, clock, { clockOf }) {
+  if (!clockOf) return [];
+  const button = (textContent, by) => make("button", { type: "button", className: "clock", textContent,
+    aria: { "aria-label": `${textContent} the clock of ${it.name}` },
+    onclick: () => clockOf.put(it.name, by) });
+  const buttons = [];
+  if (clock.wrong && !Number.isNaN(it.clock.by) && clockOf.can(it.name))
+    buttons.push(button("put right", -Math.round(it.clock.by)));
+  if (clockOf.shifted(it.name)) buttons.push(button("leave as it was", 0));
+  return buttons;
+}
 export function receiverList(box, view) {
   const row = it => {
     const clock = clockWords(it, view.gap);
     return make("tr", { className: view.now - it.last > view.silent ? "silent" : "" },
       make("th", { scope: "row", textContent: it.name }), timeCell(it.last),
       ageCell(it.last, view), number(it.heard), number(it.alone),
-      make("td", { className: clock.wrong ? "num wrong" : "num", title: clock.title,
-        textContent: clock.text }));
+      make("td", { className: clock.wrong ? "num wrong" : "num", title: clock.title }, clock.text,
+        ...clockButtons(it, clock, view)));
   };
   return new List(box, { id: "receivers", caption: "receivers", row, columns: [
     { title: "receiver", value: it => it.name },

@@ -216,6 +216,33 @@ def test_brought(page, folder):
               "it.textContent === 'The; leader (Q1A-2)')")
 
 
+def test_clock(page, folder):
+    """A clock that is off is put right, which is said and saved, and left as it was."""
+    fresh(page, folder)
+    late = "".join(place(100 * k + 3600, f"Q1A-{k % 15 + 1}", 30 + k % 20, "COAST", f"no. {k}")
+                   for k in range(9))
+    give(page, folder, {"a.log": log(9, "RX1"), "b.log": log(9, "RX2"), "coast.log": late})
+    page.wait(f"{MADE} && document.querySelectorAll('#receivers tr').length === 4")
+    is_(page.js(ROWS), 18)
+    page.js("document.querySelector('#receivers button.clock').click()")
+    page.wait(f"{MADE} && {ROWS} === 9")
+    is_(page.js("aprsbook.page.data.notes"), ["the clock of COAST was put 60 min back here"])
+    page.wait("document.querySelector('#receivers .clock')?.textContent === 'leave as it was'")
+    assert "put 60 min back here" in page.js(MORE)["coast.log"]
+    page.saves_in(folder)
+    page.js("document.querySelector('#files .moved').click()")
+    path = folder / "coast.put-right.log"
+    for _ in range(100):
+        if path.exists() and path.read_text().startswith("2024-06-21T18:00:00.000Z COAST"):
+            break
+        time.sleep(0.05)
+    else:
+        raise AssertionError("the log that is put right isn't saved")
+    page.js("document.querySelector('#receivers .clock').click()")
+    page.wait(f"{MADE} && {ROWS} === 18")
+    is_(page.js("aprsbook.page.data.notes"), [])
+
+
 FOLLOW = "(document.getElementById('follow').dispatchEvent(new Event('change')), 1)"
 
 
@@ -235,7 +262,7 @@ def serve(folder, hang, fail):
         def send_head(self):
             name = self.path.rpartition("/")[2]
             if name in hang:
-                time.sleep(30)
+                time.sleep(8)
             if name in fail:
                 self.send_error(fail[name])
                 return None
@@ -244,6 +271,17 @@ def serve(folder, hang, fail):
     server = Hanging(("127.0.0.1", 0), Handler)
     threading.Thread(target=server.serve_forever, daemon=True).start()
     return server
+
+
+def follow_until(page, condition):
+    """Asks for all logs, again and again, until something holds."""
+    for _ in range(30):
+        page.js(FOLLOW)
+        try:
+            return page.wait(condition, 3)
+        except AssertionError:
+            pass
+    raise AssertionError("never came true: " + condition)
 
 
 def test_followed(page, folder):
@@ -256,30 +294,27 @@ def test_followed(page, folder):
         (folder / name).write_text(log(5 + k, f"RX{k}"))
     (folder / "logs.txt").write_text("\n".join(names))
     fresh(page, folder, f"http://127.0.0.1:{server.server_port}/page.html")
-    page.js("(aprsfiles.pace.limit = 700, 1)")
+    page.js("(aprsfiles.pace.limit = 2000, 1)")
     page.js("(() => { const it = document.getElementById('follow'); it.value = 'logs.txt'; "
             "it.dispatchEvent(new Event('change')) })()")
-    page.wait(f"{MADE} && {ROWS} === 8")
+    follow_until(page, f"{MADE} && {ROWS} === 8")
     hang.add("a.log")
     fail["b.log"] = 500
     # a bad line amid good ones, of a log that grows
     (folder / "c.log").write_text(log(7, "RX2") + "torn\n" + place(5000, "Q1NEW", receiver="RX2"))
     (folder / "logs.txt").write_text("\n".join(names[:3]))
-    page.js(FOLLOW)
-    page.wait(f"{MADE} && {ROWS} === 9")
-    page.wait(f"{MORE}['a.log'].startsWith('no answer within 0.7 s, since 20')")
+    follow_until(page, f"{MADE} && {ROWS} === 9")
+    follow_until(page, f"{MORE}['a.log'].startsWith('no answer within 2 s, since 20')")
     more = page.js(MORE)
     assert more["b.log"].startswith("the server answers 500, since 20"), more
     assert "1 line left out" in more["c.log"], more
     is_(more["d.log"], "no longer on the list; what was read of it stays")
     is_(sorted(page.js("aprsbook.page.net.receivers.map(it => it.name)")), ["RX0", "RX1", "RX2", "RX3"])
     fail["logs.txt"] = 503
-    page.js(FOLLOW)
-    page.wait("stale.textContent.startsWith('logs.txt: the server answers 503, since 20')")
+    follow_until(page, "stale.textContent.startsWith('logs.txt: the server answers 503, since 20')")
     hang.clear()
     fail.clear()
-    page.js(FOLLOW)
-    page.wait(f"{MORE}['a.log'] === '' && stale.textContent.indexOf('503') < 0")
+    follow_until(page, f"{MORE}['a.log'] === '' && stale.textContent.indexOf('503') < 0")
     server.shutdown()
     server.server_close()
 
@@ -305,7 +340,7 @@ def square():
 
 SQUARE = square()
 TESTS = (test_damaged, test_strangers, test_windows, test_names, test_folders, test_turns,
-         test_brought, test_followed)
+         test_brought, test_clock, test_followed)
 
 if __name__ == "__main__":
     page = browser.Browser()

@@ -1,6 +1,7 @@
 import assert from "node:assert/strict";
 import { test } from "node:test";
 import { damagedLines, kindOf, READ, spelled, without } from "../../page/kinds.js";
+import { movedIn, shifted } from "../../page/shift.js";
 
 const bytesOf = text => Uint8Array.from(text, it => it.charCodeAt(0));
 const textOf = bytes => String.fromCharCode(...bytes);
@@ -50,4 +51,16 @@ test("all lines that are refused are found, and the rest is left", async () => {
   assert.equal(textOf(without(bytes, [])), "a\nx1\nb\nx2\nx3\nc\n");
   assert.equal(await damagedLines(bytesOf("x\n".repeat(200)), check), null);
   assert.equal(await damagedLines(bytes, async () => ({ line: 1, why: "Memory" })), null);
+});
+
+test("the moments of one receiver are moved, in each spelling and over midnight", () => {
+  const log = "2024-06-21T23:59:50Z RX1 c0\n2024-06-21T23:59:50.250Z RX1 c0\n" +
+    "2024-06-21T23:59:50Z RX2 c0\n";
+  const moved = textOf(shifted(bytesOf(log), new Map([["RX1", 20]])));
+  assert.equal(moved, "2024-06-22T00:00:10.000Z RX1 c0\n2024-06-22T00:00:10.250Z RX1 c0\n" +
+    "2024-06-21T23:59:50Z RX2 c0\n");
+  assert.deepEqual(movedIn(bytesOf(log), new Map([["RX1", 1], ["RX", 1]])), ["RX1"]);
+  // what would be before 1970 stays
+  const early = "1970-01-01T00:00:05Z RX1 c0\n";
+  assert.equal(textOf(shifted(bytesOf(early), new Map([["RX1", -6]]))), early);
 });
