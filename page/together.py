@@ -21,8 +21,8 @@ DRAWS, READS, RUNS = "begin", "reads", "worker"
 IMPORT = re.compile(r'^import (\{[^}]*\}) from "\./(\w+)\.js";\n', re.M)
 EXPORT = re.compile(r"^export (?=(?:async )?(?:const|let|function\*?|class) +(\w+|\{[^}]*\}))", re.M)
 LIST = re.compile(r"^export (\{[^}]*\});\n", re.M)
-# whether a page of an event is made of tables
-TABLES = True
+# whether a caller has to give tables: once aprsbook-table has rows and messages
+TABLES = False
 FOOTER = "Made by {} from a book of aprsbook."
 
 
