@@ -4,7 +4,7 @@
 import { alive, beginAlive, tick } from "./alive.js";
 import { byId, choose, chosen, make, save } from "./dom.js";
 import { begin, beginClock, bring, page, refresh, show } from "./event.js";
-import { SAVES } from "./exports.js";
+import { SAVES, savedText } from "./exports.js";
 import { age, count, fullText, printable } from "./words.js";
 
 begin();
@@ -15,5 +15,5 @@ if (byId("data").textContent.trim())
   });
 /** For the script that reads logs, and for tests. */
 export const shared = Object.freeze({ page, show, refresh, bring, make, byId, save, count, choose,
-  chosen, tick, SAVES, alive, printable, fullText, age });
+  chosen, tick, SAVES, savedText, alive, printable, fullText, age });
 globalThis.aprsbook = shared;

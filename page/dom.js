@@ -36,9 +36,9 @@ export function svg(tag, attributes, ...inside) {
   node.append(...inside);
   return node;
 }
-/** Hands a file to the reader. */
+/** Hands a file to the reader, a text or bytes, or several in a list. */
 export function save(name, what, type) {
-  const url = URL.createObjectURL(new Blob([what], { type }));
+  const url = URL.createObjectURL(new Blob(Array.isArray(what) ? what : [what], { type }));
   make("a", { href: url, download: name }).click();
   setTimeout(() => URL.revokeObjectURL(url), 60000);
 }

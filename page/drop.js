@@ -87,9 +87,10 @@ function moreOf(file) {
     more.push(make("p", { textContent: REASONS[file.reason] }));
   if (damage.length) {
     const words = `leave out ${damage.length === 1 ? "this line" : `these ${damage.length} lines`}`;
-    more.push(linesOf(`${count(damage.length, "damaged line")}`,
-      damage.map(it => `line ${it.line}: ${it.why}: ${lineText(file, it)}`)),
-    make("button", { type: "button", className: "leave", textContent: words,
+    const lines = linesOf(count(damage.length, "damaged line"),
+      damage.map(it => `line ${it.line}: ${it.why}: ${lineText(file, it)}`));
+    lines.open = damage.length <= 10;
+    more.push(lines, make("button", { type: "button", className: "leave", textContent: words,
       onclick: () => leaveOutOf(file) }));
   }
   if (leftOut.length) more.push(linesOf(`${count(leftOut.length, "line")} left out`, leftOut));

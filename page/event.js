@@ -3,7 +3,7 @@
 
 import { wordsOf } from "./details.js";
 import { air, byId, choose, chosen, make, momentOf, save } from "./dom.js";
-import { messagesCsv, SAVES } from "./exports.js";
+import { gathered, SAVES } from "./exports.js";
 import { detailLines } from "./facts.js";
 import { bearing, distance, locatorOf, minutesText } from "./globe.js";
 import { tablesOf } from "./history.js";
@@ -338,10 +338,16 @@ async function bringAll(files) {
 }
 function drawSaves() {
   byId("saves").lastElementChild.replaceChildren(...Object.keys(SAVES).map(name =>
-    make("button", { type: "button", textContent: name, onclick() {
-      const [file, type, text] = SAVES[name](page.net, page.data);
-      save(file, text, type);
-    } })));
+    make("button", { type: "button", textContent: name, onclick: () => saveNow(name) })));
+}
+/** Saves in slices what the page has, and says so while it takes long. */
+async function saveNow(name, as = SAVES[name][0]) {
+  const [, type, piecesOf] = SAVES[name], { net, data } = page;
+  const slow = setTimeout(() => tell(`making ${as}`), 300);
+  const pieces = await inSlices(gathered(piecesOf(net, data)), () => true);
+  clearTimeout(slow);
+  if (byId("told").textContent === `making ${as}`) tell("");
+  save(as, pieces, type);
 }
 
 // ---- begin
@@ -389,7 +395,7 @@ function listenToControls() {
   on("ics-open", "click", () => openForm(true));
   on("ics-close", "click", () => openForm(false));
   on("ics-print", "click", () => print());
-  on("ics-save", "click", () => save("ics-309.csv", messagesCsv(page.net), "text/csv"));
+  on("ics-save", "click", () => saveNow("messages (CSV)", "ics-309.csv"));
   addEventListener("beforeprint", () => {
     runAllWaiting();
     for (const list of Object.values(page.lists)) list.whole();

@@ -112,18 +112,21 @@ export class Land {
     const pixel = RADIUS / view.scale;
     if (!this.rings.length || pixel < NONE) return "";
     const rings = this.inView(view), { middle } = view;
+    Object.assign(pen, { fillStyle: colours.land, strokeStyle: colours.shore, lineWidth: 0.8 });
     pen.beginPath();
+    if (pixel < ROUGH) {
+      pen.setLineDash([6, 4]);
+      for (const { line } of rings) traceInView(pen, view, line);
+      pen.stroke();
+      pen.setLineDash([]);
+      return "rough coast";
+    }
     let odd = 0;
     for (const ring of rings) {
       trace(pen, view, ring.line);
       odd += crossings(ring, -middle[0], middle[1] + 180);
     }
-    Object.assign(pen, { fillStyle: colours.land, strokeStyle: colours.shore, lineWidth: 0.8 });
-    const isRough = pixel < ROUGH;
-    pen.setLineDash(isRough ? [6, 4] : []);
     pen.stroke();
-    pen.setLineDash([]);
-    if (isRough) return "rough coast";
     // where the other side of the earth is land, its rings enclose all but the land
     if (odd % 2) pen.arc(view.width / 2, view.height / 2, 2 * view.scale, 0, 2 * Math.PI);
     pen.fill("evenodd");
@@ -146,4 +149,25 @@ function trace(pen, view, line) {
     else pen.moveTo(lastX, lastY);
   }
   pen.closePath();
+}
+/**
+ * The parts of a ring that are in view as a path, since a pen gives up dashes on a long one.
+ * @param {CanvasRenderingContext2D} pen
+ * @param {Projection} view
+ * @param {Float32Array} line
+ */
+function traceInView(pen, view, line) {
+  const { width, height } = view, last = line.length / 3 - 1;
+  view.put(line, last);
+  let lastX = view.x, lastY = view.y;
+  for (let k = 0; k <= last; k++) {
+    view.put(line, k);
+    const { x, y } = view;
+    if (Math.max(x, lastX) >= 0 && Math.min(x, lastX) <= width && Math.max(y, lastY) >= 0 &&
+      Math.min(y, lastY) <= height) {
+      pen.moveTo(lastX, lastY);
+      pen.lineTo(x, y);
+    }
+    [lastX, lastY] = [x, y];
+  }
 }

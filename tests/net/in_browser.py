@@ -301,7 +301,7 @@ def test_messages(page, folder):
     if PICTURES:
         (pathlib.Path(PICTURES) / "ics-309.pdf").write_bytes(pdf)
     rows = list(csv.reader(io.StringIO(page.js(
-        "aprsbook.SAVES['messages (CSV)'](aprsbook.page.net, aprsbook.page.data)[2]"))))
+        "aprsbook.savedText('messages (CSV)', aprsbook.page.net, aprsbook.page.data)"))))
     is_(rows[1], [moment(1), "Q1A", "", "Q1B", "help needed{01}", "unanswered"])
     is_(len(rows), 7)
     is_(page.problems(), [])
@@ -317,7 +317,7 @@ def test_world(page, folder):
     scale, width = page.js("[aprsbook.page.map.view.scale, aprsbook.page.map.view.width]")
     assert 10000 < 6371008.8 / scale * width < 30000
     lines = json.loads(page.js(
-        "aprsbook.SAVES['places and tracks (GeoJSON)'](aprsbook.page.net, aprsbook.page.data)[2]"))
+        "aprsbook.savedText('places and tracks (GeoJSON)', aprsbook.page.net, aprsbook.page.data)"))
     track = lines["features"][-1]["geometry"]["coordinates"]
     is_([it[0][0] for it in track], [179.95, -180])
     is_(track[0][-1][0], 180)
@@ -525,7 +525,7 @@ def test_saves(page, folder):
     """GPX, KML, GeoJSON and CSV have the places of tracks; no cell is a formula."""
     (folder / "all.log").write_text("".join(hostile.log()))
     page.open(event_page(folder / "saves.html", folder / "all.log"))
-    saved = {name: page.js(f"aprsbook.SAVES[{name!r}](aprsbook.page.net, aprsbook.page.data)[2]")
+    saved = {name: page.js(f"aprsbook.savedText({name!r}, aprsbook.page.net, aprsbook.page.data)")
              for name in page.js("Object.keys(aprsbook.SAVES)")}
     rows = list(csv.DictReader(io.StringIO(saved["places (CSV)"])))
     command = ["aprsbook-history", folder / "all.log"]
