@@ -25,6 +25,14 @@ export function air(shown) {
  * @param {string} text
  */
 export const letters = text => make("bdi", { textContent: text });
+/**
+ * A call, perhaps after a name, as `who` gives it; a line ends between the two alone.
+ * @param {string} text
+ */
+export function callIn(text) {
+  const [, name, call] = /^(.* )(\(\S+\))$/s.exec(text) || ["", "", text];
+  return make("bdi", {}, name, make("span", { className: "whole", textContent: call }));
+}
 export function momentOf(seconds) {
   return make("time", {
     dateTime: isoText(seconds), title: fullText(seconds), textContent: timeText(seconds),

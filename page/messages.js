@@ -1,7 +1,7 @@
 // @ts-check
 // Messages, bulletins, and the communications log ICS-309 of them.
 
-import { air, byId, letters, make } from "./dom.js";
+import { air, byId, callIn, make } from "./dom.js";
 import { cell, List, timeCell } from "./lists.js";
 import { isBulletin } from "./net.js";
 import { who } from "./roster.js";
@@ -18,7 +18,7 @@ function answerOf(it) {
 function messageRow(it) {
   return make("tr", { className: it.state.replace(" ", "-") },
     make("td", { className: "state", textContent: it.state, title: answerOf(it) }),
-    cell("call from", letters(who(it.source))), cell("call to", letters(who(it.addressee))),
+    cell("call from", callIn(who(it.source))), cell("call to", callIn(who(it.addressee))),
     cell("text", air(it.text)), cell("id", it.id), timeCell(it.first), timeCell(it.last));
 }
 export function messageList(box) {
@@ -32,7 +32,7 @@ export function messageList(box) {
 export const inOrder = (a, b) => a.order - b.order || b.last - a.last;
 
 export function bulletinList(box) {
-  const row = it => make("tr", {}, cell("call", air(it.addressee)), cell("call", letters(who(it.source))),
+  const row = it => make("tr", {}, cell("call", air(it.addressee)), cell("call", callIn(who(it.source))),
     cell("text", air(it.text)), timeCell(it.first), timeCell(it.last));
   return new List(box, { id: "bulletins", caption: "bulletins", row, columns: [
     { title: "bulletin", value: it => it.addressee }, { title: "from", value: it => it.source },
@@ -47,8 +47,8 @@ export function logOf(net) {
   return [...net.messages, ...net.bulletins].sort((a, b) => a.first - b.first);
 }
 function ics309Row(it) {
-  return make("tr", {}, timeCell(it.first), cell("call", letters(who(it.source))),
-    cell("id", it.id), cell("call", letters(who(it.addressee))),
+  return make("tr", {}, timeCell(it.first), cell("call", callIn(who(it.source))),
+    cell("id", it.id), cell("call", callIn(who(it.addressee))),
     cell("text", air(it.text), isBulletin(it) || it.state === "unnumbered" ? ""
       : make("small", { textContent: ` (${it.state})` })));
 }

@@ -3,7 +3,7 @@
 
 import { clockWords } from "./clockwords.js";
 import { wordsOf } from "./details.js";
-import { air, letters, make } from "./dom.js";
+import { air, callIn, letters, make } from "./dom.js";
 import { ageCell, cell, List, number, timeCell } from "./lists.js";
 import { OPEN } from "./map.js";
 import { who } from "./roster.js";
@@ -20,7 +20,7 @@ function thingRow(it, view) {
   if (it.urgent) marks.push(it.urgent);
   if (it.key === view.picked) marks.push("picked");
   const pick = make("button", { type: "button", className: names, title: "show on the map",
-    onclick: () => view.onPick(it.key) }, letters(it.label));
+    onclick: () => view.onPick(it.key) }, callIn(it.label));
   const about = [];
   if (it.urgent) about.push(make("b", { className: "bad", textContent: it.urgent }), " ");
   if (now) {
