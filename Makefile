@@ -11,7 +11,7 @@ crate = $(subst -,_,$(1))
 # as `make build` made them
 BUILT = $(foreach it,$(PROGRAMS),crates/$(call crate,$(it))/out/$(call crate,$(it)))
 
-.PHONY: build libraries run try test words map reading recipes cookbook bench hostile
+.PHONY: build libraries run try test words map reading recipes cookbook bench hostile page-tests
 .PHONY: arm64 static elsewhere install uninstall deb tarball release wasm clib
 
 # how many checks run side by side: as many as there are processors, each with 3 GB of free memory
@@ -73,6 +73,20 @@ words:
 	tests/completions.sh
 	tests/scripts.sh
 	tests/system_c.sh
+	@$(MAKE) --no-print-directory page-tests
+
+# the parts of the page that need no browser, their types, and that a bundler reads them too, each
+# where its tool is there
+page-tests:
+	@mkdir -p out
+	@if command -v node > /dev/null; then node --test tests/page/*.test.js > out/page-tests.txt || \
+	    { cat out/page-tests.txt; exit 1; }; echo "page: $$(grep -c '^ok' out/page-tests.txt) tests"; \
+	else echo 'left out: the tests of the page (no node is there)'; fi
+	@if command -v tsc > /dev/null; then tsc -p page/jsconfig.json; \
+	else echo 'left out: the types of the page (no tsc is there)'; fi
+	@if command -v esbuild > /dev/null; then for it in begin reads worker; do \
+	    esbuild --bundle --log-level=error page/$$it.js > /dev/null || exit 1; done; \
+	else echo 'left out: the page by a bundler (no esbuild is there)'; fi
 
 # the map in docs/architecture.md, drawn anew
 map:

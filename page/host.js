@@ -1,4 +1,4 @@
-"use strict";
+// @ts-check
 // The host of the module: it makes an instance for each run, as a shell starts the program anew. It
 // has to keep to what the functions of the module ask for: all that it hands over lies from
 // __heap_base on, no two of it in one place, and the region begins at a multiple of 16.
@@ -62,7 +62,7 @@ function wordsOf(command, options) {
 // and a moment, texts. Returns the answer, the name of an input's fault, and what was written, or null
 // where that had no room.
 function attempt(module, command, options, inputs, outputRoom, regionRoom) {
-  const it = new WebAssembly.Instance(module).exports, { memory } = it;
+  const it = /** @type {any} */ (new WebAssembly.Instance(module).exports), { memory } = it;
   const layout = new Layout(Number(it.__heap_base.value));
   const words = wordsOf(command, options).map(word => new TextEncoder().encode(word));
   const total = inputs.reduce((sum, input) => sum + input.length, 0);
@@ -111,4 +111,4 @@ function run(module, command, options, inputs, most = 2 ** 33) {
   }
 }
 
-if (typeof module !== "undefined") module.exports = { FUNCTIONS, OutOfMemory, attempt, run };
+export { FUNCTIONS, OutOfMemory, attempt, run };

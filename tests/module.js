@@ -1,9 +1,11 @@
-"use strict";
 // Runs the commands by the module and by the program, over the given files, books made of them,
 // damaged texts and none, and compares bytes, statuses and what is said of a fault.
 // usage: node [--experimental-wasm-memory64] tests/module.js MODULE PROGRAM COUNT SEED FILE..
-const fs = require("fs"), path = require("path"), { spawnSync } = require("child_process");
-const { FUNCTIONS, attempt, run } = require("../page/host.js");
+import { spawnSync } from "node:child_process";
+import fs from "node:fs";
+import path from "node:path";
+import { attempt, FUNCTIONS, run } from "../page/host.js";
+
 const [file, program, count, seed, ...files] = process.argv.slice(2);
 const code = new WebAssembly.Module(fs.readFileSync(file));
 const COMMANDS = Object.keys(FUNCTIONS);

@@ -20,6 +20,7 @@ for test in every_place tracks asked event_page; do
 done
 with 'python3 aprsbook-history chromium' in_browser.py "$examples"
 with 'python3 aprsbook-history firefox-esr' in_firefox.py "$examples"
+with 'python3 chromium' page_alone.py
 if [ -f "$page" ]; then
     with 'python3 aprsbook-history' page_reads.py "$page" "$examples"
 else
