@@ -11,4 +11,5 @@ else:
 # the command's name; its module has _ for -
 NAMES: List[str] = [
     "log",
+    "book",
 ]
