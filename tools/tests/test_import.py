@@ -220,8 +220,8 @@ def test_yaac_has_milliseconds_or_times() -> None:
         "2024-06-21T18:00:00.123Z TEXT", "2024-06-21T18:00:01.500Z TEXT"]
 
 
-CSV = b"""chan,utime,isotime,source,heard,level,error,dti,name,symbol,latitude,longitude,speed,course,\
-altitude,frequency,offset,tone,system,status,telemetry,comment
+CSV = b"""chan,utime,isotime,source,heard,level,error,dti,name,symbol,latitude,longitude,\
+speed,course,altitude,frequency,offset,tone,system,status,telemetry,comment
 0,1718992800,2024-06-21T18:00:00Z,Q1RUN-7,Q1DIG,50(12/12),0,!,Q1RUN-7,/>,49.058333,-72.029167,\
 36.0,88,376.1,,,,,,,"Hi, all"
 0,1718992801,2024-06-21T18:00:01Z,Q1NET,Q1NET,50(12/12),0,>,Q1NET,,,,,,,,,,,,,net control

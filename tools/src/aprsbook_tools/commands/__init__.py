@@ -13,4 +13,8 @@ NAMES: List[str] = [
     "log",
     "import",
     "book",
+    "clocks",
+    "shift",
+    "mend",
+    "pcap",
 ]
