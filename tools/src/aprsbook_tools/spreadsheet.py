@@ -1,0 +1,48 @@
+"""CSV for a spreadsheet, in which no text off the air is a formula.
+
+A text that begins like a formula, with =, +, - or @ after blanks and apostrophes, or with a tab or
+a carriage return, gets an apostrophe before it, unless it is a number. Reading takes it away again.
+"""
+import csv
+import io
+import re
+from typing import Iterable, List, Sequence, Union
+
+Cell = Union[str, int, float, None]
+FORMULA = re.compile(r"'* *[=+\-@\t\r]")
+NUMBER = re.compile(r"-?[0-9]+(\.[0-9]+)?")
+
+
+def looks_like_formula(text: str) -> bool:
+    return FORMULA.match(text) is not None and NUMBER.fullmatch(text) is None
+
+
+def guarded(text: str) -> str:
+    """A text that no spreadsheet takes for a formula."""
+    return "'" + text if looks_like_formula(text) else text
+
+
+def unguarded(text: str) -> str:
+    """The text that was guarded so."""
+    rest = text[1:]
+    return rest if text.startswith("'") and looks_like_formula(rest) else text
+
+
+def cell_text(cell: Cell) -> str:
+    if cell is None:
+        return ""
+    return guarded(cell) if isinstance(cell, str) else str(cell)
+
+
+def csv_text(rows: Iterable[Sequence[Cell]]) -> str:
+    """Rows as CSV (RFC 4180, with LF as the end of a line); what is no text stands as it is."""
+    out = io.StringIO()
+    writer = csv.writer(out, lineterminator="\n")
+    for row in rows:
+        writer.writerow([cell_text(cell) for cell in row])
+    return out.getvalue()
+
+
+def read_csv(text: str) -> List[List[str]]:
+    """The rows of such a CSV, as they were before they were guarded."""
+    return [[unguarded(cell) for cell in row] for row in csv.reader(io.StringIO(text, newline=""))]
