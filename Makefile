@@ -69,7 +69,13 @@ words:
 	tests/library.sh
 	tests/completions.sh
 	tests/scripts.sh
+	tests/tools.sh
 	tests/system_c.sh
+
+# the tests of the command aprs-net, in tools, with the programs where they are built
+.PHONY: tools
+tools:
+	tests/tools.sh --all $(PROGRAM)
 
 # the map in docs/architecture.md, drawn anew
 map:

@@ -1,0 +1,11 @@
+"""The subcommands: each is a module of this package with `add_parser(subparsers)`, which sets no
+default but its own options, and `run(args) -> int`. What stands in NAMES is found."""
+import argparse
+from typing import TYPE_CHECKING, List
+
+if TYPE_CHECKING:
+    Subparsers = argparse._SubParsersAction[argparse.ArgumentParser]
+
+# the command's name; its module has _ for -
+NAMES: List[str] = [
+]
