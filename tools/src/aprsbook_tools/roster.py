@@ -9,7 +9,10 @@ Empty lines and lines that begin with # say nothing, and a byte order mark is pa
 import csv
 import re
 from dataclasses import dataclass
-from typing import Dict, Iterable, List, Optional, Sequence, Tuple
+from typing import Dict, Iterable, List, Optional, Sequence, Union
+
+from aprsbook_tools import text_file
+from aprsbook_tools.errors import ARGUMENTS, Fault
 
 CALL = re.compile(r"([A-Za-z0-9]{1,6})(?:-([0-9]|1[0-5]|\*))?")
 BEGIN = re.compile(r'\s*(?:"[^"]*"|[^\s,;"]+) *([,;\t])')
@@ -43,7 +46,7 @@ class Expected:
 
 
 @dataclass(frozen=True)
-class Fault:
+class LineFault:
     """A line that isn't understood."""
 
     line: int
@@ -70,7 +73,7 @@ def call_of(text: str) -> Optional[str]:
 class Roster:
     """Who is expected, in the order of the lines, and the lines that aren't understood."""
 
-    def __init__(self, expected: Iterable[Expected] = (), faults: Iterable[Fault] = ()) -> None:
+    def __init__(self, expected: Iterable[Expected] = (), faults: Iterable[LineFault] = ()) -> None:
         self.expected = list(expected)
         self.faults = list(faults)
         self._by_call: Dict[str, Expected] = {it.call: it for it in self.expected}
@@ -98,7 +101,7 @@ def read_roster(text: str) -> Roster:
     """The roster of a text; a fault for each line that isn't understood, or has a call again."""
     order: Sequence[str] = ORDER
     expected: List[Expected] = []
-    faults: List[Fault] = []
+    faults: List[LineFault] = []
     seen: Dict[str, int] = {}
     first = True
     for number, line in enumerate(LINE_END.split(text.lstrip("\ufeff")), 1):
@@ -110,14 +113,14 @@ def read_roster(text: str) -> Roster:
         if head:
             order = head
             continue
-        entry, reason = entry_of(fields, order)
-        if entry and entry.call in seen:
-            entry, reason = None, f"{entry.call} is on line {seen[entry.call]} already"
-        if entry:
+        entry = entry_of(fields, order)
+        if isinstance(entry, str):
+            faults.append(LineFault(number, entry))
+        elif entry.call in seen:
+            faults.append(LineFault(number, f"{entry.call} is on line {seen[entry.call]} already"))
+        else:
             seen[entry.call] = number
             expected.append(entry)
-        else:
-            faults.append(Fault(number, reason))
     return Roster(expected, faults)
 
 
@@ -137,10 +140,20 @@ def head_of(fields: Sequence[str]) -> Optional[List[str]]:
     return names if "call" in names else None
 
 
-def entry_of(fields: Sequence[str], order: Sequence[str]) -> Tuple[Optional[Expected], str]:
+def entry_of(fields: Sequence[str], order: Sequence[str]) -> Union[Expected, str]:
     """The entry of a line, or why it is none."""
     said = {name: field for name, field in zip(order, fields) if name}
     call = call_of(said.get("call", ""))
     if call is None:
-        return None, f"{said.get('call', '')!r} is no call"
-    return Expected(call, said.get("name", ""), said.get("group", ""), said.get("bib", "")), ""
+        return f"{said.get('call', '')!r} is no call"
+    return Expected(call, said.get("name", ""), said.get("group", ""), said.get("bib", ""))
+
+
+def roster_of(path: Optional[str]) -> Roster:
+    """The roster of a file, which has no fault; an empty one where there is no file."""
+    if path is None:
+        return Roster()
+    roster = read_roster(text_file.read(path))
+    if roster.faults:
+        raise Fault(f"{path}: " + "; ".join(map(str, roster.faults)), ARGUMENTS)
+    return roster
