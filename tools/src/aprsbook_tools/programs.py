@@ -1,5 +1,5 @@
-"""Runs aprsbook, aprsbook-table and aprsbook-fold. Where one fails, its complaint and its status are
-those of the Fault."""
+"""Runs aprsbook, aprsbook-table and aprsbook-fold. Where one fails, its complaint and its status
+are those of the Fault."""
 import os
 import shutil
 import subprocess
@@ -81,8 +81,8 @@ def run(*command: str, given: Given = b"", into: Optional[IO[bytes]] = None) -> 
 
 
 def lines(*command: str, given: Given = None) -> Iterator[str]:
-    """The lines that a program writes, as they come, each without its end. The Fault comes after the
-    last: write nothing before all have been read."""
+    """The lines that a program writes, as they come, each without its end. The Fault comes after
+    the last: write nothing before all have been read."""
     open_many_files()
     path = find(command[0])
     with tempfile.TemporaryFile() as complaint, tempfile.TemporaryFile() as held:

@@ -1,5 +1,5 @@
-"""The table of a book, by column names: a dataclass for each kind. Columns that this doesn't know are
-passed over, and those that an older aprsbook-table lacks are empty."""
+"""The table of a book, by column names: a dataclass for each kind. Columns that this doesn't know
+are passed over, and those that an older aprsbook-table lacks are empty."""
 import csv
 import dataclasses
 import re

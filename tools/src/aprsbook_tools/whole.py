@@ -1,8 +1,8 @@
 """Writes a file whole or not at all.
 
-What is written lies beside the file under a name that begins with a dot and is no input of anything,
-and is renamed once it is on the disk. The file keeps its mode and its owner, and a link stays a link.
-Where the bytes are those that the file has, it isn't touched.
+What is written lies beside the file under a name that begins with a dot and is no input of
+anything, and is renamed once it is on the disk. The file keeps its mode and its owner, and a link
+stays a link. Where the bytes are those that the file has, it isn't touched.
 """
 import contextlib
 import errno
@@ -80,7 +80,7 @@ def remove_leftovers(real: str) -> None:
 
 
 def take_over(file: int, real: str) -> None:
-    """Gives a new file the owner and the mode of the one that it replaces, or those of a new file."""
+    """Gives a file the owner and the mode of the one that it replaces, or those of a new file."""
     try:
         old = os.stat(real)
     except FileNotFoundError:
@@ -154,7 +154,7 @@ def write_out(octets: bytes) -> None:
 
 
 def put(path: Optional[str], output: Union[str, bytes], inputs: Sequence[str] = ()) -> None:
-    """Writes a text, in UTF-8, or bytes into a file, or to standard output without one or for `-`."""
+    """Writes a text, in UTF-8, or bytes into a file; to standard output without one or for `-`."""
     octets = output.encode("utf-8", "surrogateescape") if isinstance(output, str) else output
     if path is None or path == "-":
         write_out(octets)

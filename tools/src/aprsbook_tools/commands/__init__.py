@@ -5,7 +5,10 @@ from typing import TYPE_CHECKING, List
 
 if TYPE_CHECKING:
     Subparsers = argparse._SubParsersAction[argparse.ArgumentParser]
+else:
+    Subparsers = object
 
 # the command's name; its module has _ for -
 NAMES: List[str] = [
+    "log",
 ]
