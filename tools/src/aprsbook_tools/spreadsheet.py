@@ -10,6 +10,7 @@ from typing import Iterable, List, Sequence, Union
 
 Cell = Union[str, int, float, None]
 FORMULA = re.compile(r"'* *[=+\-@\t\r]")
+QUOTED = re.compile(r'[",\r\n]')
 NUMBER = re.compile(r"-?[0-9]+(\.[0-9]+)?")
 
 
@@ -34,13 +35,16 @@ def cell_text(cell: Cell) -> str:
     return guarded(cell) if isinstance(cell, str) else str(cell)
 
 
+def quoted(text: str) -> str:
+    """A field in quotes, where it has to be."""
+    return '"' + text.replace('"', '""') + '"' if QUOTED.search(text) else text
+
+
 def csv_text(rows: Iterable[Sequence[Cell]]) -> str:
     """Rows as CSV (RFC 4180, with LF as the end of a line); what is no text stands as it is."""
-    out = io.StringIO()
-    writer = csv.writer(out, lineterminator="\n")
-    for row in rows:
-        writer.writerow([cell_text(cell) for cell in row])
-    return out.getvalue()
+    lines = [",".join(quoted(cell_text(cell)) for cell in row) for row in rows]
+    # an empty line is no row
+    return "".join((line or '""') + "\n" for line in lines)
 
 
 def read_csv(text: str) -> List[List[str]]:

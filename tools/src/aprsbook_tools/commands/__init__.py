@@ -11,4 +11,16 @@ else:
 # the command's name; its module has _ for -
 NAMES: List[str] = [
     "log",
+    "page",
+    "follow",
+    "tracks",
+    "places",
+    "last-heard",
+    "ics-309",
+    "roster",
+    "passed",
+    "sqlite",
+    "csv",
+    "watch",
+    "keeper",
 ]

@@ -2,19 +2,17 @@
 import argparse
 import dataclasses
 import sys
-from typing import TYPE_CHECKING, Any, List
+from typing import Any, List
 
 from aprsbook_tools import report, table
+from aprsbook_tools.commands import Subparsers
 from aprsbook_tools.spreadsheet import Cell, csv_text
-
-if TYPE_CHECKING:
-    from aprsbook_tools.commands import Subparsers
 
 KINDS = {word: kind for kind, word in table.WORDS.items()}
 FIELDS = "fields"
 
 
-def add_parser(subparsers: "Subparsers") -> None:
+def add_parser(subparsers: Subparsers) -> None:
     parser = subparsers.add_parser(
         "csv", help="transmissions, messages, stations or things as CSV",
         description="The table of logs and books as CSV, in which no text off the air is a formula to "

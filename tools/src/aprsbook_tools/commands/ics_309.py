@@ -1,15 +1,13 @@
 """The communications log of a net, as the form ICS 309 has it."""
 import argparse
 import re
-from typing import TYPE_CHECKING, List, Sequence
+from typing import List, Sequence
 
 from aprsbook_tools import moments, report, table
+from aprsbook_tools.commands import Subparsers
 from aprsbook_tools.roster import Expected, Roster, call_of, roster_of
 from aprsbook_tools.spreadsheet import csv_text
 from aprsbook_tools.table import Message
-
-if TYPE_CHECKING:
-    from aprsbook_tools.commands import Subparsers
 
 HEAD = ["time", "from", "number", "to", "message", "state"]
 NAMES = ["from_name", "to_name"]
@@ -36,15 +34,15 @@ def station_of(text: str) -> Expected:
     return Expected(call_of(text) or text.upper())
 
 
-def add_parser(subparsers: "Subparsers") -> None:
+def add_parser(subparsers: Subparsers) -> None:
     parser = subparsers.add_parser(
         "ics-309", help="the communications log of a net",
         description="A line for each message at the moment when it was first heard (UTC): from whom, "
         "its number, to whom, whether it was acknowledged (ack), rejected (rej) or not answered (no "
         "ack), and its text. A message that was sent again under its number is one line.")
-    parser.add_argument("--from", dest="since", type=moment_of, default="", metavar="MOMENT",
+    parser.add_argument("--from", dest="since", type=moment_of, metavar="MOMENT",
                         help="those from this moment on, such as 2024-06-21T18:00")
-    parser.add_argument("--to", dest="until", type=moment_of, default="~", metavar="MOMENT",
+    parser.add_argument("--to", dest="until", type=moment_of, metavar="MOMENT",
                         help="those before this moment")
     parser.add_argument("--station", type=station_of, metavar="CALL",
                         help="those that this station sent or got")
@@ -57,7 +55,7 @@ def chosen(messages: Sequence[Message], args: argparse.Namespace) -> List[Messag
     """The messages of a time and a station, by their first moment."""
     def is_asked(it: Message) -> bool:
         station = args.station
-        return args.since <= it.first < args.until and (
+        return (args.since or "") <= it.first < (args.until or "~") and (
             station is None or station.is_of(it.source) or station.is_of(it.addressee))
 
     return sorted(filter(is_asked, messages), key=lambda it: it.first)

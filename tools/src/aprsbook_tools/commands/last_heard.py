@@ -1,17 +1,14 @@
 """Each station with the moment and the receiver that heard it last."""
 import argparse
-from typing import TYPE_CHECKING
 
 from aprsbook_tools import report, table
+from aprsbook_tools.commands import Subparsers
 from aprsbook_tools.roster import roster_of
-
-if TYPE_CHECKING:
-    from aprsbook_tools.commands import Subparsers
 
 HEAD = ["last", "receiver", "call", "transmissions", "name"]
 
 
-def add_parser(subparsers: "Subparsers") -> None:
+def add_parser(subparsers: Subparsers) -> None:
     parser = subparsers.add_parser(
         "last-heard", help="who was heard last, and when, the most silent first",
         description="Each station of logs and books: when and by whom it was heard last, how many "

@@ -1,22 +1,20 @@
 """Who came by each checkpoint, and when."""
 import argparse
 import re
-from typing import TYPE_CHECKING, Dict, List, Sequence, Tuple
+from typing import Dict, List, Sequence, Tuple
 
 from aprsbook_tools import arguments, moments, report, table, text_file
 from aprsbook_tools.checkpoints import Checkpoint, Visit, all_visits, read_checkpoints
+from aprsbook_tools.commands import Subparsers
 from aprsbook_tools.places import Thing, things_of
 from aprsbook_tools.roster import Roster, roster_of
 from aprsbook_tools.spreadsheet import Cell
-
-if TYPE_CHECKING:
-    from aprsbook_tools.commands import Subparsers
 
 HEAD = ["checkpoint", "turn", "came", "went", "kind", "name", "lap", "metres", "by", "bib",
         "tactical"]  # fmt: skip
 
 
-def add_parser(subparsers: "Subparsers") -> None:
+def add_parser(subparsers: Subparsers) -> None:
     parser = subparsers.add_parser(
         "passed", help="who came by each checkpoint, and when",
         description="A line for each time that a station, an object or an item was within a "

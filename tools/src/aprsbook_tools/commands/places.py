@@ -1,17 +1,14 @@
 """Every place, or the last one of each station, object and item."""
 import argparse
-from typing import TYPE_CHECKING
 
 from aprsbook_tools import report, table
+from aprsbook_tools.commands import Subparsers
 from aprsbook_tools.places import things_of
 from aprsbook_tools.roster import roster_of
 from aprsbook_tools.track_files import HEAD, last_places_of, line_of, lines_of
 
-if TYPE_CHECKING:
-    from aprsbook_tools.commands import Subparsers
 
-
-def add_parser(subparsers: "Subparsers") -> None:
+def add_parser(subparsers: Subparsers) -> None:
     parser = subparsers.add_parser(
         "places", help="every place, or the last one of each",
         description="A line for each place of a station, an object or an item, by kind, name and the "

@@ -1,18 +1,16 @@
 """Who of those expected wasn't heard, and since when."""
 import argparse
-from typing import TYPE_CHECKING, Iterable, List
+from typing import Iterable, List
 
 from aprsbook_tools import arguments, report, table
+from aprsbook_tools.commands import Subparsers
 from aprsbook_tools.roster import Expected, roster_of
 from aprsbook_tools.spreadsheet import Cell
-
-if TYPE_CHECKING:
-    from aprsbook_tools.commands import Subparsers
 
 HEAD = ["last", "receiver", "call", "transmissions", "heard_as", "name", "group"]
 
 
-def add_parser(subparsers: "Subparsers") -> None:
+def add_parser(subparsers: Subparsers) -> None:
     parser = subparsers.add_parser(
         "roster", help="who of those expected wasn't heard, and since when",
         description="A line for each entry of ROSTER: when and by whom it was heard last, its call, "

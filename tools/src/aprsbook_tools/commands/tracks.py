@@ -1,17 +1,14 @@
 """Places and tracks as CSV, GPX, GeoJSON or KML."""
 import argparse
-from typing import TYPE_CHECKING
 
 from aprsbook_tools import report, table
+from aprsbook_tools.commands import Subparsers
 from aprsbook_tools.places import things_of
 from aprsbook_tools.roster import roster_of
 from aprsbook_tools.track_files import FORMS
 
-if TYPE_CHECKING:
-    from aprsbook_tools.commands import Subparsers
 
-
-def add_parser(subparsers: "Subparsers") -> None:
+def add_parser(subparsers: Subparsers) -> None:
     parser = subparsers.add_parser(
         "tracks", help="places and tracks as CSV, GPX, GeoJSON or KML",
         description="Where each station, object and item was over time. A place counts from the "
