@@ -33,7 +33,7 @@ def add_parser(subparsers: Subparsers) -> None:
                         help="tell of messages that nobody answered for so long")
     parser.add_argument("--emergency", action="store_true", help="tell of emergencies in Mic-E")
     parser.add_argument("--roster", metavar="FILE", help="who is expected, with their names")
-    parser.add_argument("--run", metavar="COMMAND", help="a command and its first arguments")
+    parser.add_argument("--run", dest="command", metavar="COMMAND", help="a command and its first arguments")
     parser.add_argument("--every", type=arguments.whole_number(1, 86_400), metavar="SECONDS",
                         help="again and again, with so many seconds between; otherwise once")
     parser.add_argument("--state", metavar="FILE", help="keeps what was told, from run to run")
@@ -105,7 +105,7 @@ def turn(args: argparse.Namespace, told: Set[str]) -> Tuple[Set[str], bool]:
     told again."""
     now, went_well = set(), True
     for alert in alerts_of(args):
-        if alert.key in told or tell(alert, args.run):
+        if alert.key in told or tell(alert, args.command):
             now.add(alert.key)
         else:
             went_well = False
@@ -118,11 +118,11 @@ def check(args: argparse.Namespace) -> None:
     """Refuses options that would never tell anything."""
     if not (args.silent or args.unanswered or args.emergency):
         raise Fault("nothing to tell: --silent, --unanswered or --emergency", ARGUMENTS)
-    if args.run is not None:
+    if args.command is not None:
         try:
-            words = shlex.split(args.run)
+            words = shlex.split(args.command)
         except ValueError as fault:
-            raise Fault(f"--run {args.run}: {fault}", ARGUMENTS) from fault
+            raise Fault(f"--run {args.command}: {fault}", ARGUMENTS) from fault
         if not words:
             raise Fault("--run: no command", ARGUMENTS)
 
