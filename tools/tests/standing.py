@@ -40,15 +40,30 @@ def at(clock: str) -> str:
 
 def row(kind: str, clock: str, source: str, **more: Any) -> Row:
     """A row that one receiver heard once."""
-    plain = Row(kind=kind, first=at(clock), last=at(clock), receivers=("RX1",), receiver="RX1",
-                source=source, destination="APRS")
+    plain = Row(
+        kind=kind,
+        first=at(clock),
+        last=at(clock),
+        receivers=("RX1",),
+        receiver="RX1",
+        source=source,
+        destination="APRS",
+    )
     return dataclasses.replace(plain, **more)
 
 
 def place(clock: str, source: str, north: float, east: float, **more: Any) -> Row:
     """A row with the place of a station."""
-    plain = row("position", clock, source, latitude=north, longitude=east, ambiguity=0,
-                compressed=False, symbol="/>")
+    plain = row(
+        "position",
+        clock,
+        source,
+        latitude=north,
+        longitude=east,
+        ambiguity=0,
+        compressed=False,
+        symbol="/>",
+    )
     return dataclasses.replace(plain, **more)
 
 
@@ -60,8 +75,14 @@ def put(clock: str, source: str, name: str, north: float, east: float, **more: A
 
 def message(clock: str, source: str, addressee: str, text: str, **more: Any) -> Message:
     """A message that was heard once."""
-    plain = Message(source=source, addressee=addressee, text=text, state="unanswered",
-                    first=at(clock), last=at(clock))
+    plain = Message(
+        source=source,
+        addressee=addressee,
+        text=text,
+        state="unanswered",
+        first=at(clock),
+        last=at(clock),
+    )
     return dataclasses.replace(plain, **more)
 
 
@@ -80,8 +101,10 @@ def shown(value: Any) -> str:
     if isinstance(value, float):
         return f"{value:.7f}"
     text = str(value).replace("\\", "\\\\")
-    return "".join(it if " " <= it <= "~" else "".join(f"\\x{octet:02x}" for octet in it.encode())
-                   for it in text)
+    return "".join(
+        it if " " <= it <= "~" else "".join(f"\\x{octet:02x}" for octet in it.encode())
+        for it in text
+    )
 
 
 def table_text(kind: Any, items: Sequence[Any]) -> str:
@@ -94,8 +117,9 @@ def table_text(kind: Any, items: Sequence[Any]) -> str:
 class Programs:
     """Stand-ins in the PATH, with the tables that they print."""
 
-    def __init__(self, folder: pathlib.Path, patch: pytest.MonkeyPatch,
-                 capture: pytest.CaptureFixture[str]) -> None:
+    def __init__(
+        self, folder: pathlib.Path, patch: pytest.MonkeyPatch, capture: pytest.CaptureFixture[str]
+    ) -> None:
         self.folder, self.capture = folder, capture
         bin_folder = folder / "bin"
         bin_folder.mkdir()

@@ -33,25 +33,33 @@ def north(metres: float) -> float:
 
 def test_who_crosses_the_circle_between_two_beacons_is_seen() -> None:
     """The recipe saw nobody who was heard before and behind the circle alone."""
-    [visit] = visits(place("18:00", "Q1A", north(-600), -3.5), place("18:10", "Q1A", north(600), -3.5))
+    [visit] = visits(
+        place("18:00", "Q1A", north(-600), -3.5), place("18:10", "Q1A", north(600), -3.5)
+    )
     # 600 seconds for 1,200 metres: it comes in after 540 metres, and goes after 660
     assert (visit.came, visit.went) == (
-        milliseconds("2024-06-21T18:04:30Z"), milliseconds("2024-06-21T18:05:30Z"))
+        milliseconds("2024-06-21T18:04:30Z"),
+        milliseconds("2024-06-21T18:05:30Z"),
+    )
     assert not visit.was_heard and visit.metres < 0.01 and visit.lap == 1
 
 
 def test_later_laps_are_seen() -> None:
     """The recipe took the first time alone."""
-    rows = [place(f"18:{minute:02}", "Q1A", north(metres), -3.5)
-            for minute, metres in [(0, 0), (5, 600), (10, 0), (15, 600), (20, 0)]]
+    rows = [
+        place(f"18:{minute:02}", "Q1A", north(metres), -3.5)
+        for minute, metres in [(0, 0), (5, 600), (10, 0), (15, 600), (20, 0)]
+    ]
     found = visits(*rows)
     assert [it.lap for it in found] == [1, 2, 3] and clocks(found)[0] == "18:00:00"
 
 
 def test_who_stays_near_is_there_once() -> None:
     """A place a little outside of the circle is no lap: a receiver of GPS wanders."""
-    rows = [place(f"18:{minute:02}", "Q1A", north(metres), -3.5)
-            for minute, metres in [(0, 50), (1, 70), (2, 55), (3, 100), (4, 30)]]
+    rows = [
+        place(f"18:{minute:02}", "Q1A", north(metres), -3.5)
+        for minute, metres in [(0, 50), (1, 70), (2, 55), (3, 100), (4, 30)]
+    ]
     [visit] = visits(*rows)
     assert text_of(visit.went)[11:16] == "18:04" and visit.metres == pytest.approx(30, abs=0.1)
 
@@ -86,8 +94,10 @@ TIMES = st.dictionaries(st.integers(0, 59), st.tuples(METRES, METRES), min_size=
 
 @given(TIMES, st.randoms(use_true_random=False))
 def test_rows_in_any_order_give_the_same(places: Any, some: Any) -> None:
-    rows = [place(f"18:{minute:02}", "Q1A", north(y), -3.5 + x / DEGREE_METRES)
-            for minute, (y, x) in places.items()]
+    rows = [
+        place(f"18:{minute:02}", "Q1A", north(y), -3.5 + x / DEGREE_METRES)
+        for minute, (y, x) in places.items()
+    ]
     other = list(rows)
     some.shuffle(other)
     found = visits(*rows)
@@ -97,8 +107,18 @@ def test_rows_in_any_order_give_the_same(places: Any, some: Any) -> None:
     assert all(one.went <= other.came for one, other in zip(found, found[1:]))
 
 
-@pytest.mark.parametrize("line", ["Tarn 54.5 west 60", "Tarn 54.5 -3.5", "54.5 -3.5 60", "Tarn 91 0 60",
-                                  "Tarn 0 181 60", "Tarn 0 0 0", "Tarn 54,5 3.5 60"])
+@pytest.mark.parametrize(
+    "line",
+    [
+        "Tarn 54.5 west 60",
+        "Tarn 54.5 -3.5",
+        "54.5 -3.5 60",
+        "Tarn 91 0 60",
+        "Tarn 0 181 60",
+        "Tarn 0 0 0",
+        "Tarn 54,5 3.5 60",
+    ],
+)
 def test_no_checkpoint_is_said_with_its_line(line: str) -> None:
     with pytest.raises(Fault, match="points: line 3"):
         read_checkpoints("points", f"# some\nEnd 54.5 -3.5 60\n{line}\n")
@@ -107,20 +127,55 @@ def test_no_checkpoint_is_said_with_its_line(line: str) -> None:
 def test_a_file_of_checkpoints() -> None:
     text = "\ufeffHalf way 54.501 -3.5 60\r\n\r\n# none\r\nEnd +1 2. 3\r\n"
     assert read_checkpoints("points", text) == [
-        Checkpoint("Half way", Spot(54.501, -3.5), 60), Checkpoint("End", Spot(1, 2), 3)]
+        Checkpoint("Half way", Spot(54.501, -3.5), 60),
+        Checkpoint("End", Spot(1, 2), 3),
+    ]
 
 
-LAPS = [place(f"18:{minute:02}", call, north(metres), -3.5) for call, minute, metres in [
-    ("Q1A", 0, 0), ("Q1A", 5, 600), ("Q1A", 10, 0), ("Q1B", 3, 0), ("Q1C", 4, 600)]]
+LAPS = [
+    place(f"18:{minute:02}", call, north(metres), -3.5)
+    for call, minute, metres in [
+        ("Q1A", 0, 0),
+        ("Q1A", 5, 600),
+        ("Q1A", 10, 0),
+        ("Q1B", 3, 0),
+        ("Q1C", 4, 600),
+    ]
+]
 
 
 def test_the_command(programs: Programs, tmp_path: pathlib.Path) -> None:
     (tmp_path / "points").write_text("Tarn 54.5 -3.5 60\nFar away 10 10 60\n")
     programs.say(*LAPS)
     assert [it[:7] for it in programs.lines("passed", "points", "net.log")[1:]] == [
-        ["Tarn", "1", "2024-06-21T18:00:00.000Z", "2024-06-21T18:00:30.000Z", "station", "Q1A", "1"],
-        ["Tarn", "2", "2024-06-21T18:03:00.000Z", "2024-06-21T18:03:00.000Z", "station", "Q1B", "1"],
-        ["Tarn", "3", "2024-06-21T18:09:30.000Z", "2024-06-21T18:10:00.000Z", "station", "Q1A", "2"]]
+        [
+            "Tarn",
+            "1",
+            "2024-06-21T18:00:00.000Z",
+            "2024-06-21T18:00:30.000Z",
+            "station",
+            "Q1A",
+            "1",
+        ],
+        [
+            "Tarn",
+            "2",
+            "2024-06-21T18:03:00.000Z",
+            "2024-06-21T18:03:00.000Z",
+            "station",
+            "Q1B",
+            "1",
+        ],
+        [
+            "Tarn",
+            "3",
+            "2024-06-21T18:09:30.000Z",
+            "2024-06-21T18:10:00.000Z",
+            "station",
+            "Q1A",
+            "2",
+        ],
+    ]
     programs.run("passed", "-o", "points", "points", "net.log", status=2)
 
 
@@ -132,4 +187,5 @@ def test_a_matrix_by_bib(programs: Programs, tmp_path: pathlib.Path) -> None:
         ["bib", "name", "tactical", "Tarn 1", "End 1", "Tarn 2"],
         ["9", "Q1B", "Ben", "18:03:00", "", ""],
         ["118", "Q1A", "Anna", "18:00:00", "18:04:30", "18:09:30"],
-        ["", "Q1C", "", "", "18:04:00", ""]]
+        ["", "Q1C", "", "", "18:04:00", ""],
+    ]

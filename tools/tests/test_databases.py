@@ -21,9 +21,12 @@ def asked(path: pathlib.Path, what: str) -> List[Any]:
 def fill(programs: Programs) -> pathlib.Path:
     programs.say(
         place("18:00", "Q1A", 9.5, -3.5, altitude_m=304.8, course=7, text="=1+1"),
-        place("18:01", "Q1A", 54.5, -3.5), put("18:02", "Q1NET", "CP 1", 54.6, -3.4, state="killed"),
+        place("18:01", "Q1A", 54.5, -3.5),
+        put("18:02", "Q1NET", "CP 1", 54.6, -3.4, state="killed"),
         row("status", "18:03", "Q1NET", text="Käppeli", receivers=("RX1", "RX2")),
-        message("18:04", "Q1A", "Q1NET", "hi", id="1"), station("18:01", "Q1A", 12))
+        message("18:04", "Q1A", "Q1NET", "hi", id="1"),
+        station("18:01", "Q1A", 12),
+    )
     programs.run("sqlite", "net.log", "net.db")
     return programs.folder / "net.db"
 
@@ -31,23 +34,32 @@ def fill(programs: Programs) -> pathlib.Path:
 def test_numbers_are_numbers(programs: Programs) -> None:
     """Latitude and longitude were text, so that 9.5 was north of 54.5."""
     path = fill(programs)
-    assert asked(path, "select max(latitude), typeof(latitude), typeof(course) from transmissions") == [
-        (54.5 + 0.1, "real", "null")]
+    assert asked(
+        path, "select max(latitude), typeof(latitude), typeof(course) from transmissions"
+    ) == [(54.5 + 0.1, "real", "null")]
     assert asked(path, "select latitude from places where latitude > 10 order by latitude") == [
-        (54.5,), (54.6,)]
-    assert asked(path, "select typeof(transmissions), transmissions from stations") == [("integer", 12)]
+        (54.5,),
+        (54.6,),
+    ]
+    assert asked(path, "select typeof(transmissions), transmissions from stations") == [
+        ("integer", 12)
+    ]
 
 
 def test_what_isn_t_known_is_null(programs: Programs) -> None:
     path = fill(programs)
-    assert asked(path, "select kind, text, receivers from transmissions where latitude is null") == [
-        ("status", "Käppeli", "RX1,RX2")]
-    assert asked(path, "select altitude_m, compressed from transmissions order by first limit 1") == [
-        (304.8, "no")]
+    assert asked(
+        path, "select kind, text, receivers from transmissions where latitude is null"
+    ) == [("status", "Käppeli", "RX1,RX2")]
+    assert asked(
+        path, "select altitude_m, compressed from transmissions order by first limit 1"
+    ) == [(304.8, "no")]
     assert asked(path, "select kind, name, state from places where name = 'CP 1'") == [
-        ("object", "CP 1", "killed")]
+        ("object", "CP 1", "killed")
+    ]
     assert asked(path, "select state, id, text, first from messages") == [
-        ("unanswered", "1", "hi", at("18:04"))]
+        ("unanswered", "1", "hi", at("18:04"))
+    ]
 
 
 def test_other_tables_stay(programs: Programs) -> None:
@@ -62,8 +74,11 @@ def test_other_tables_stay(programs: Programs) -> None:
     programs.say(place("18:00", "Q1A", 1, 2))
     programs.run("sqlite", "net.log", "net.db")
     assert asked(path, "select * from mine") == [(1,)]
-    assert asked(path, "select count(*) from transmissions") == [(1,)] == asked(
-        path, "select count(*) from places")
+    assert (
+        asked(path, "select count(*) from transmissions")
+        == [(1,)]
+        == asked(path, "select count(*) from places")
+    )
 
 
 def test_a_fault_takes_nothing_away(programs: Programs) -> None:
@@ -91,8 +106,10 @@ def test_what_is_no_database_is_kept(programs: Programs, name: str) -> None:
 
 def test_a_database_that_is_written_is_waited_for(programs: Programs) -> None:
     path = fill(programs)
-    hold = ("import sqlite3, sys, time\nb = sqlite3.connect(sys.argv[1], isolation_level=None)\n"
-            "b.execute('begin immediate')\nprint('held', flush=True)\ntime.sleep(1)\n")
+    hold = (
+        "import sqlite3, sys, time\nb = sqlite3.connect(sys.argv[1], isolation_level=None)\n"
+        "b.execute('begin immediate')\nprint('held', flush=True)\ntime.sleep(1)\n"
+    )
     with subprocess.Popen(["python3", "-c", hold, str(path)], stdout=subprocess.PIPE) as other:
         assert other.stdout and other.stdout.readline() == b"held\n"
         programs.run("sqlite", "net.log", "net.db")
@@ -109,4 +126,4 @@ def test_csv_of_a_table(programs: Programs) -> None:
 
 def test_csv_of_fields(programs: Programs) -> None:
     (programs.folder / "fields").write_text("call\tsaid\nQ1A\t=1+1\nQ1B\ta, b\n")
-    assert programs.run("csv", "fields", "fields") == "call,said\nQ1A,'=1+1\nQ1B,\"a, b\"\n"
+    assert programs.run("csv", "fields", "fields") == 'call,said\nQ1A,\'=1+1\nQ1B,"a, b"\n'

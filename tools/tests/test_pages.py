@@ -27,8 +27,24 @@ def test_a_page_has_what_it_is_told(programs: Programs, tmp_path: pathlib.Path) 
     (tmp_path / "names").write_text("Q1RUN-* Runners\n")
     (tmp_path / "course").write_text('{"type": "Point", "coordinates": [1, 2]}')
     programs.say(place("18:00", "Q1A", 1, 2, text="</script>"))
-    data = data_of(programs.run("page", "--title", "Fell <race>", "--live", "60", "--silent", "15",
-                                "--roster", "names", "--course", "course", "--note", "one", "net.log"))
+    data = data_of(
+        programs.run(
+            "page",
+            "--title",
+            "Fell <race>",
+            "--live",
+            "60",
+            "--silent",
+            "15",
+            "--roster",
+            "names",
+            "--course",
+            "course",
+            "--note",
+            "one",
+            "net.log",
+        )
+    )
     assert (data["title"], data["live"], data["silent"], data["gap"]) == ("Fell <race>", 60, 15, 30)
     assert data["roster"] == "Q1RUN-* Runners\n" and data["notes"] == ["one"]
     assert data["maps"] == ['{"type": "Point", "coordinates": [1, 2]}']
@@ -41,11 +57,22 @@ def test_a_roster_s_fault_stands_on_the_page(programs: Programs, tmp_path: pathl
 
 
 BAD_MAPS = [
-    "2024", "<gpx>", "<svg/>", '<gpx><wpt lat="x" lon="1"/></gpx>',
-    '<gpx><wpt lat="91" lon="1"/></gpx>', "<gpx><wpt/></gpx>", "[1]", "[]", '{"type": 1',
-    '{"type": "Topology"}', '{"type": "Point"}', '{"type": "Point", "coordinates": [0, 95]}',
-    '{"type": "Point", "coordinates": ["0", "x"]}', '{"type": "Point", "coordinates": "ab"}',
-    '{"type": "LineString", "coordinates": []}', "[" * 100_000,
+    "2024",
+    "<gpx>",
+    "<svg/>",
+    '<gpx><wpt lat="x" lon="1"/></gpx>',
+    '<gpx><wpt lat="91" lon="1"/></gpx>',
+    "<gpx><wpt/></gpx>",
+    "[1]",
+    "[]",
+    '{"type": 1',
+    '{"type": "Topology"}',
+    '{"type": "Point"}',
+    '{"type": "Point", "coordinates": [0, 95]}',
+    '{"type": "Point", "coordinates": ["0", "x"]}',
+    '{"type": "Point", "coordinates": "ab"}',
+    '{"type": "LineString", "coordinates": []}',
+    "[" * 100_000,
 ]
 
 
@@ -59,8 +86,9 @@ def test_what_is_no_map_is_refused(programs: Programs, tmp_path: pathlib.Path, t
 
 
 @pytest.mark.parametrize("output", ["net.log", "other.log", "old", "net.book", "names", "course"])
-def test_an_input_or_a_log_is_never_replaced(programs: Programs, tmp_path: pathlib.Path,
-                                             output: str) -> None:
+def test_an_input_or_a_log_is_never_replaced(
+    programs: Programs, tmp_path: pathlib.Path, output: str
+) -> None:
     """`event-page -o *.log` replaced the first log by a page."""
     (tmp_path / "net.log").write_text(LINE)
     (tmp_path / "other.log").write_text("")
@@ -69,8 +97,18 @@ def test_an_input_or_a_log_is_never_replaced(programs: Programs, tmp_path: pathl
     (tmp_path / "names").write_text("Q1A\n")
     (tmp_path / "course").write_text('{"type": "Point", "coordinates": [1, 2]}')
     before = (tmp_path / output).read_bytes()
-    programs.run("page", "--roster", "names", "--course", "course", "-o", output, "net.log", "net.book",
-                 status=2)
+    programs.run(
+        "page",
+        "--roster",
+        "names",
+        "--course",
+        "course",
+        "-o",
+        output,
+        "net.log",
+        "net.book",
+        status=2,
+    )
     assert (tmp_path / output).read_bytes() == before
 
 
@@ -102,7 +140,9 @@ def made(net: Programs, name: str) -> str:
 
 def test_a_book_and_a_page_are_made(net: Programs) -> None:
     net.run(*NOW)
-    assert made(net, "net.book") == "APRSBOOK 3 30\n" + LINE and "</html>" in made(net, "index.html")
+    assert made(net, "net.book") == "APRSBOOK 3 30\n" + LINE and "</html>" in made(
+        net, "index.html"
+    )
     assert sorted(os.listdir("out")) == ["index.html", "net.book"] and net.said == ""
 
 
@@ -122,10 +162,14 @@ def test_an_output_is_no_option_of_it(net: Programs) -> None:
 
 def test_torn_lines_are_named(net: Programs) -> None:
     (net.folder / "logs/2024-06-21/RX1.log").write_text(LINE[:20] + "\n" + LINE + LINE[:9])
-    (net.folder / "logs/2024-06-21/RX2.log").write_text(LINE.replace("\n", "\r\n").replace("RX1", "RX2"))
+    (net.folder / "logs/2024-06-21/RX2.log").write_text(
+        LINE.replace("\n", "\r\n").replace("RX1", "RX2")
+    )
     net.run(*NOW)
     assert net.said == "aprs-net: logs/2024-06-21/RX1.log: lines left out: 2\n"
-    assert data_of(made(net, "index.html"))["notes"] == ["logs/2024-06-21/RX1.log: lines left out: 2"]
+    assert data_of(made(net, "index.html"))["notes"] == [
+        "logs/2024-06-21/RX1.log: lines left out: 2"
+    ]
     assert made(net, "net.book") == "APRSBOOK 3 30\n" + LINE + LINE.replace("RX1", "RX2")
 
 
@@ -140,20 +184,25 @@ def test_compressed_logs(net: Programs) -> None:
     net.run(*NOW, status=1)
     notes = data_of(made(net, "index.html"))["notes"]
     assert [re.sub(r".*/([a-zA-Z0-9]*)\..*(can't be read).*", r"\1 \2", it) for it in notes] == [
-        "RX2 can't be read", "gone can't be read"]
+        "RX2 can't be read",
+        "gone can't be read",
+    ]
     assert LINE in made(net, "net.book")
 
 
 @pytest.mark.parametrize("folder", ["none", "empty", "logs"])
 def test_no_log_of_these_days_leaves_both(net: Programs, folder: str) -> None:
     net.run(*NOW)
-    before = {name: (made(net, name), os.stat(f"out/{name}").st_mtime_ns) for name in os.listdir("out")}
+    before = {
+        name: (made(net, name), os.stat(f"out/{name}").st_mtime_ns) for name in os.listdir("out")
+    }
     (net.folder / "empty").mkdir()
     (net.folder / "logs/2024-06-22").mkdir()
     net.run("follow", "--day", "2024-06-22", folder, "out", status=1)
     assert net.said == f"aprs-net: in {folder} is no log of 2024-06-22\n"
-    assert before == {name: (made(net, name), os.stat(f"out/{name}").st_mtime_ns)
-                      for name in os.listdir("out")}
+    assert before == {
+        name: (made(net, name), os.stat(f"out/{name}").st_mtime_ns) for name in os.listdir("out")
+    }
 
 
 def test_today_and_yesterday(net: Programs) -> None:
@@ -167,7 +216,8 @@ def test_today_and_yesterday(net: Programs) -> None:
         if days == net_logs.last_days():
             break
     assert made(net, "net.book") == "APRSBOOK 3 30\n" + "".join(
-        LINE.replace("2024-06-21", day) for day in days)
+        LINE.replace("2024-06-21", day) for day in days
+    )
     # a last line of today is being written
     assert net.said == f"aprs-net: logs/{days[0]}/RX1.log: lines left out: 1\n"
 
@@ -177,7 +227,9 @@ def test_days_and_gap_of_the_environment(net: Programs, monkeypatch: pytest.Monk
     monkeypatch.setenv("DAYS", "2024-06-21 2024-06-22")
     monkeypatch.setenv("GAP", "60")
     net.run("follow", "logs", "out")
-    assert [it for it in net.calls if it.startswith("aprsbook merge")] == ["aprsbook merge --gap 60"]
+    assert [it for it in net.calls if it.startswith("aprsbook merge")] == [
+        "aprsbook merge --gap 60"
+    ]
     assert data_of(made(net, "index.html"))["gap"] == 60
     for name, value in ("GAP", "x"), ("DAYS", "today"):
         monkeypatch.setenv(name, value)
@@ -186,8 +238,19 @@ def test_days_and_gap_of_the_environment(net: Programs, monkeypatch: pytest.Monk
         monkeypatch.delenv(name)
 
 
-LINES = st.lists(st.sampled_from([LINE.encode(), b"x\n", b"2024-06-21T18:00:00Z RX1 C0C0\r\n", b"\0\n",
-                                  b"2024-06-21T18:00:00.000Z RX1 c0c\n", b"\n"]), max_size=6)
+LINES = st.lists(
+    st.sampled_from(
+        [
+            LINE.encode(),
+            b"x\n",
+            b"2024-06-21T18:00:00Z RX1 C0C0\r\n",
+            b"\0\n",
+            b"2024-06-21T18:00:00.000Z RX1 c0c\n",
+            b"\n",
+        ]
+    ),
+    max_size=6,
+)
 
 
 @given(LINES, st.binary(max_size=5).filter(lambda it: b"\n" not in it))

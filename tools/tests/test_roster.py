@@ -9,26 +9,42 @@ CALLS = st.from_regex(r"[A-Z0-9]{1,6}(-([1-9]|1[0-5]|\*))?", fullmatch=True)
 NAMES = st.text(st.characters(blacklist_categories=("C", "Z")), min_size=1, max_size=12)
 
 
-@pytest.mark.parametrize("line, wanted", [
-    ("Q1RUN-7", Expected("Q1RUN-7")),
-    ("Q1RUN-7 Leader", Expected("Q1RUN-7", "Leader")),
-    ("  q1run-7\tLeader\t Front ", Expected("Q1RUN-7", "Leader", "Front")),
-    ("Q1RUN-0 Base camp", Expected("Q1RUN", "Base camp")),
-    ("q1run-* sweepers, 2", Expected("Q1RUN-*", "sweepers, 2")),
-    ("Q1RUN-7,Leader,Front,118", Expected("Q1RUN-7", "Leader", "Front", "118")),
-    ("Q1RUN-7;Leader;Front", Expected("Q1RUN-7", "Leader", "Front")),
-    ('"Q1RUN-7","Leader, the",Front', Expected("Q1RUN-7", "Leader, the", "Front")),
-    ("Q1RUN-7 , Leader", Expected("Q1RUN-7", "Leader")),
-    ("\ufeffQ1RUN-7 Leader", Expected("Q1RUN-7", "Leader")),
-    ("Q1RUN-15", Expected("Q1RUN-15")),
-])  # fmt: skip
+@pytest.mark.parametrize(
+    "line, wanted",
+    [
+        ("Q1RUN-7", Expected("Q1RUN-7")),
+        ("Q1RUN-7 Leader", Expected("Q1RUN-7", "Leader")),
+        ("  q1run-7\tLeader\t Front ", Expected("Q1RUN-7", "Leader", "Front")),
+        ("Q1RUN-0 Base camp", Expected("Q1RUN", "Base camp")),
+        ("q1run-* sweepers, 2", Expected("Q1RUN-*", "sweepers, 2")),
+        ("Q1RUN-7,Leader,Front,118", Expected("Q1RUN-7", "Leader", "Front", "118")),
+        ("Q1RUN-7;Leader;Front", Expected("Q1RUN-7", "Leader", "Front")),
+        ('"Q1RUN-7","Leader, the",Front', Expected("Q1RUN-7", "Leader, the", "Front")),
+        ("Q1RUN-7 , Leader", Expected("Q1RUN-7", "Leader")),
+        ("\ufeffQ1RUN-7 Leader", Expected("Q1RUN-7", "Leader")),
+        ("Q1RUN-15", Expected("Q1RUN-15")),
+    ],
+)
 def test_a_line(line: str, wanted: Expected) -> None:
     roster = read_roster(line + "\r\n")
     assert roster.faults == [] and roster.expected == [wanted]
 
 
-@pytest.mark.parametrize("line", [
-    "Q1RUN-16", "Q1RUN-07", "Q1RUNNER", "Q1RUN-", "-7", "Q1*", "Q1RUN-**", "Q1RÜN", ",Leader", "()"])
+@pytest.mark.parametrize(
+    "line",
+    [
+        "Q1RUN-16",
+        "Q1RUN-07",
+        "Q1RUNNER",
+        "Q1RUN-",
+        "-7",
+        "Q1*",
+        "Q1RUN-**",
+        "Q1RÜN",
+        ",Leader",
+        "()",
+    ],
+)
 def test_a_line_that_is_no_call_is_said_with_its_number(line: str) -> None:
     roster = read_roster(f"Q1NET control\n\n# more\n{line}\nQ1MED")
     assert [it.call for it in roster.expected] == ["Q1NET", "Q1MED"]
@@ -81,9 +97,15 @@ def test_each_call_is_itself(call: str) -> None:
     assert call_of(call.lower()) == (call if call else None)
 
 
-@given(st.dictionaries(CALLS, NAMES, min_size=1, max_size=5), st.sampled_from([" ", ",", ";", "\t"]),
-       st.sampled_from(["\n", "\r\n", "\r"]), st.booleans())
-def test_what_is_written_is_read(names: "dict[str, str]", between: str, end: str, mark: bool) -> None:
+@given(
+    st.dictionaries(CALLS, NAMES, min_size=1, max_size=5),
+    st.sampled_from([" ", ",", ";", "\t"]),
+    st.sampled_from(["\n", "\r\n", "\r"]),
+    st.booleans(),
+)
+def test_what_is_written_is_read(
+    names: "dict[str, str]", between: str, end: str, mark: bool
+) -> None:
     def quoted(name: str) -> str:
         return name if between == " " else '"' + name.replace('"', '""') + '"'
 

@@ -20,7 +20,8 @@ from aprsbook_tools.track_files import FORMS, HEAD, markup
 GPX = "{http://www.topografix.com/GPX/1/1}"
 KML = "{http://www.opengis.net/kml/2.2}"
 EVENING = [
-    put("18:00", "Q1NET", "LEADER", 54.5, -3.5), put("18:10", "Q1NET", "LEADER", 54.6, -3.5),
+    put("18:00", "Q1NET", "LEADER", 54.5, -3.5),
+    put("18:10", "Q1NET", "LEADER", 54.6, -3.5),
     put("18:20", "Q1NET", "LEADER", 54.7, -3.5, state="killed"),
     put("18:30", "Q1NET", "LEADER", 54.8, -3.5),
     place("18:05", "Q1FLY", 54.5, -3.5, altitude_m=304.8, course=90, speed_knots=12, text="up"),
@@ -39,17 +40,25 @@ def test_csv_has_each_place(programs: Programs) -> None:
     rows = [dict(zip(HEAD, it)) for it in read_csv(programs.run("tracks", "csv", "net.log"))]
     assert [*rows[0]] == HEAD
     assert [(it["kind"], it["name"], it["first"][11:16], it["state"]) for it in rows[1:]] == [
-        ("station", "Q1FLY", "18:05", "live"), ("station", "Q1FLY", "18:15", "live"),
-        ("station", "Q1HUT", "18:01", "live"), ("object", "LEADER", "18:00", "live"),
-        ("object", "LEADER", "18:10", "live"), ("object", "LEADER", "18:20", "killed"),
-        ("object", "LEADER", "18:30", "live")]
+        ("station", "Q1FLY", "18:05", "live"),
+        ("station", "Q1FLY", "18:15", "live"),
+        ("station", "Q1HUT", "18:01", "live"),
+        ("object", "LEADER", "18:00", "live"),
+        ("object", "LEADER", "18:10", "live"),
+        ("object", "LEADER", "18:20", "killed"),
+        ("object", "LEADER", "18:30", "live"),
+    ]
     assert [rows[1][it] for it in ("course", "speed_knots", "altitude_m")] == ["90", "12", "304.8"]
     assert [it["ambiguity"] for it in rows[1:4]] == ["0", "2", "c"]
 
 
 def test_no_text_is_a_formula(programs: Programs) -> None:
-    programs.say(*(place(f"18:0{n}", "Q1F", -4.5, -3.5, text=text)
-                   for n, text in enumerate(["=1+1", "+1", "-1+1", "@SUM(1)"])))
+    programs.say(
+        *(
+            place(f"18:0{n}", "Q1F", -4.5, -3.5, text=text)
+            for n, text in enumerate(["=1+1", "+1", "-1+1", "@SUM(1)"])
+        )
+    )
     rows = [*csv.DictReader(io.StringIO(programs.run("tracks", "csv", "net.log")))]
     assert [it["comment"][:2] for it in rows] == ["'=", "'+", "'-", "'@"]
     assert {it["lat"] + it["lon"] for it in rows} == {"-4.5-3.5"}
@@ -71,7 +80,9 @@ def test_gpx(programs: Programs) -> None:
 
 def test_geojson(programs: Programs) -> None:
     programs.say(*EVENING)
-    features: List[Dict[str, Any]] = json.loads(programs.run("tracks", "geojson", "net.log"))["features"]
+    features: List[Dict[str, Any]] = json.loads(programs.run("tracks", "geojson", "net.log"))[
+        "features"
+    ]
     shapes = [it["geometry"]["type"] for it in features]
     assert shapes == ["Point"] * 7 + ["MultiLineString"] * 2
     assert features[0]["geometry"]["coordinates"] == [-3.5, 54.5]
@@ -86,15 +97,23 @@ def test_kml(programs: Programs) -> None:
     root = xml.etree.ElementTree.fromstring(programs.run("tracks", "kml", "net.log"))
     marks = root.findall(f"{KML}Document/{KML}Placemark")
     assert [it.findtext(KML + "name") for it in marks] == [
-        "Q1FLY", "Q1HUT", "LEADER", "Q1FLY track", "LEADER track"]
+        "Q1FLY",
+        "Q1HUT",
+        "LEADER",
+        "Q1FLY track",
+        "LEADER track",
+    ]
     assert [str(it.text).split()[0] for it in marks[-1].iter(KML + "coordinates")] == [
-        "-3.5000000,54.5000000", "-3.5000000,54.8000000"]
+        "-3.5000000,54.5000000",
+        "-3.5000000,54.8000000",
+    ]
 
 
 def test_a_track_over_the_date_line_is_cut_there() -> None:
     """The recipe drew it once around the earth."""
-    features = json.loads(made("geojson", [place("18:00", "Q1SHIP", 0, 179), place(
-        "18:10", "Q1SHIP", 2, -179)]))["features"]
+    features = json.loads(
+        made("geojson", [place("18:00", "Q1SHIP", 0, 179), place("18:10", "Q1SHIP", 2, -179)])
+    )["features"]
     assert features[-1]["geometry"]["coordinates"] == [[[179, 0], [180, 1]], [[-180, 1], [-179, 2]]]
 
 
@@ -116,8 +135,14 @@ def first_of(it: Row) -> str:
 
 
 TIMES = st.integers(0, 1439).map(lambda it: f"{it // 60:02}:{it % 60:02}")
-SOME = st.builds(place, TIMES, st.sampled_from(["Q1A", "Q1B-7"]), st.floats(-80, 80), st.floats(
-    -180, 180), text=st.text(max_size=5))
+SOME = st.builds(
+    place,
+    TIMES,
+    st.sampled_from(["Q1A", "Q1B-7"]),
+    st.floats(-80, 80),
+    st.floats(-180, 180),
+    text=st.text(max_size=5),
+)
 
 
 @given(st.lists(SOME, max_size=8, unique_by=first_of), st.randoms(use_true_random=False))
@@ -147,8 +172,9 @@ def test_places_and_the_last_of_each(programs: Programs) -> None:
 
 def test_the_last_place_is_that_which_was_heard_last() -> None:
     """A digipeater held the first place until the second had been heard."""
-    [thing] = things_of([
-        place("18:00", "Q1A", 1, 1, last="2024-06-21T18:20:00.000Z"), place("18:10", "Q1A", 2, 2)])
+    [thing] = things_of(
+        [place("18:00", "Q1A", 1, 1, last="2024-06-21T18:20:00.000Z"), place("18:10", "Q1A", 2, 2)]
+    )
     assert [it.spot.north for it in thing.places] == [1, 2] and thing.now.spot.north == 1
 
 
@@ -157,9 +183,14 @@ def test_tactical_names(programs: Programs, tmp_path: pathlib.Path) -> None:
     programs.say(*EVENING)
     for form in "gpx", "kml":
         assert "<name>Balloon (Q1FLY)</name>" in programs.run(
-            "tracks", "--roster", "names", form, "net.log")
-    assert read_csv(programs.run("tracks", "--roster", "names", "csv", "net.log"))[1][-1] == "Balloon"
-    assert '"tactical":"Balloon"' in programs.run("tracks", "--roster", "names", "geojson", "net.log")
+            "tracks", "--roster", "names", form, "net.log"
+        )
+    assert (
+        read_csv(programs.run("tracks", "--roster", "names", "csv", "net.log"))[1][-1] == "Balloon"
+    )
+    assert '"tactical":"Balloon"' in programs.run(
+        "tracks", "--roster", "names", "geojson", "net.log"
+    )
 
 
 def test_an_output_that_is_an_input_is_refused(programs: Programs, tmp_path: pathlib.Path) -> None:
@@ -167,11 +198,15 @@ def test_an_output_that_is_an_input_is_refused(programs: Programs, tmp_path: pat
     (tmp_path / "names").write_text("Q1A Start\n")
     for path in "net.log", "net.book", "names":
         before = (tmp_path / path).read_bytes()
-        programs.run("tracks", "--roster", "names", "-o", path, "gpx", "net.log", "net.book", status=2)
+        programs.run(
+            "tracks", "--roster", "names", "-o", path, "gpx", "net.log", "net.book", status=2
+        )
         assert (tmp_path / path).read_bytes() == before
 
 
-def test_what_a_program_refuses_is_said_in_its_words(programs: Programs, tmp_path: pathlib.Path) -> None:
+def test_what_a_program_refuses_is_said_in_its_words(
+    programs: Programs, tmp_path: pathlib.Path
+) -> None:
     (tmp_path / "bad.log").write_text("faulty\n")
     (tmp_path / "out.gpx").write_text("before")
     programs.run("tracks", "-o", "out.gpx", "gpx", "bad.log", status=1)

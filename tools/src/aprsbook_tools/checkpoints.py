@@ -1,8 +1,8 @@
 """Who came by a checkpoint, and when: by the way between two places, and lap by lap.
 
-A thing goes straight from each place to the next, unless more time lies between them than is allowed,
-or it was killed. A visit begins where that way comes into a checkpoint's circle, and the next one,
-another lap, needs that the thing was twice the circle's radius away in between.
+A thing goes straight from each place to the next, unless more time lies between them than is
+allowed, or it was killed. A visit begins where that way comes into a checkpoint's circle. For the
+next one, another lap, it has to be twice the circle's radius away in between.
 """
 import re
 from dataclasses import dataclass
@@ -73,8 +73,8 @@ class _Open:
 
 
 def visits_of(thing: Thing, number: int, at: Checkpoint, most: int) -> List[Visit]:
-    """The visits of a thing to a checkpoint, lap by lap. Places with digits left out don't count, and
-    no way leads between places that are more than `most` milliseconds apart."""
+    """The visits of a thing to a checkpoint, lap by lap. Places with digits left out don't count.
+    No way leads between places that are more than `most` milliseconds apart."""
     done: List[_Open] = []
     now: Optional[_Open] = None
     for run in thing.segments:
@@ -87,12 +87,15 @@ def visits_of(thing: Thing, number: int, at: Checkpoint, most: int) -> List[Visi
             if now and metres_between(at.spot, place.spot) > AWAY * at.metres:
                 now = None
             last = place
-    return [Visit(number, thing, lap, it.came, it.went, it.metres, it.was_heard)
-            for lap, it in enumerate(done, 1)]
+    return [
+        Visit(number, thing, lap, it.came, it.went, it.metres, it.was_heard)
+        for lap, it in enumerate(done, 1)
+    ]
 
 
-def through(now: Optional[_Open], found: Chord, start: Place, end: Place, at: Checkpoint,
-            done: List[_Open]) -> _Open:
+def through(
+    now: Optional[_Open], found: Chord, start: Place, end: Place, at: Checkpoint, done: List[_Open]
+) -> _Open:
     """The visit after a way that leads through the circle; a new one is put among those done."""
     begin, time = when(start), when(end) - when(start)
     went = begin + round(found.leaves * time)
@@ -104,8 +107,14 @@ def through(now: Optional[_Open], found: Chord, start: Place, end: Place, at: Ch
     return done[-1]
 
 
-def all_visits(things: Sequence[Thing], checkpoints: Sequence[Checkpoint], most: int) -> List[Visit]:
+def all_visits(
+    things: Sequence[Thing], checkpoints: Sequence[Checkpoint], most: int
+) -> List[Visit]:
     """The visits of all things, by checkpoint and moment."""
-    found = [visit for number, at in enumerate(checkpoints) for thing in things
-             for visit in visits_of(thing, number, at, most)]
+    found = [
+        visit
+        for number, at in enumerate(checkpoints)
+        for thing in things
+        for visit in visits_of(thing, number, at, most)
+    ]
     return sorted(found, key=lambda it: (it.checkpoint, it.came, it.thing.kind, it.thing.name))

@@ -4,7 +4,17 @@ import dataclasses
 import os
 import sqlite3
 from typing import (
-    Any, Dict, Iterable, Iterator, Mapping, Optional, Sequence, Type, Union, get_type_hints)
+    Any,
+    Dict,
+    Iterable,
+    Iterator,
+    Mapping,
+    Optional,
+    Sequence,
+    Type,
+    Union,
+    get_type_hints,
+)
 
 from aprsbook_tools import whole
 from aprsbook_tools.errors import ARGUMENTS, OUTPUT, Fault
@@ -12,7 +22,11 @@ from aprsbook_tools.table import Message, Row, Station, Thing
 
 # the table's name for each kind of the book's table
 TABLES: Dict[str, Type[Any]] = {
-    "transmissions": Row, "messages": Message, "stations": Station, "things": Thing}
+    "transmissions": Row,
+    "messages": Message,
+    "stations": Station,
+    "things": Thing,
+}
 MAGIC = b"SQLite format 3\0"
 WAIT = 10.0  # seconds for another program's writing
 # as older databases have it: where things were
@@ -22,8 +36,10 @@ PLACES = """create view places as select
     case when state = '' then 'live' else state end as state,
     first, last, receivers, source, latitude, longitude, ambiguity, compressed, symbol, course,
     speed_knots, altitude_m, text from transmissions where latitude is not null"""
-INDICES = ["create index transmissions_source on transmissions (source, first)",
-           "create index transmissions_first on transmissions (first)"]  # fmt: skip
+INDICES = [
+    "create index transmissions_source on transmissions (source, first)",
+    "create index transmissions_first on transmissions (first)",
+]
 
 
 def sql_type(hint: Any) -> str:
@@ -92,8 +108,10 @@ def fill(base: sqlite3.Connection, name: str, items: Iterable[Any]) -> None:
     drop(base, name)
     base.execute(f"create table {name} ({', '.join(f'{it} {of}' for it, of in columns.items())})")
     places = ", ".join("?" * len(columns))
-    base.executemany(f"insert into {name} values ({places})",
-                     ([value_of(getattr(it, of)) for of in columns] for it in items))
+    base.executemany(
+        f"insert into {name} values ({places})",
+        ([value_of(getattr(it, of)) for of in columns] for it in items),
+    )
 
 
 def write(path: str, tables: Mapping[str, Iterable[Any]], inputs: Sequence[str]) -> None:

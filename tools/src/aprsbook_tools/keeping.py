@@ -1,4 +1,4 @@
-"""What the keeper of a digipeater asks: who is heard direct, over how many hops, who repeats whom."""
+"""What the keeper of a digipeater asks: who is heard direct, hops, hours, who repeats whom."""
 import re
 from collections import Counter, defaultdict
 from dataclasses import dataclass
@@ -26,7 +26,7 @@ class Heard:
 
 
 def digipeaters_of(reception: Reception) -> List[str]:
-    """Who repeated a frame, in order: without what names no digipeater, unless there is nothing else."""
+    """Who repeated a frame, in order; what names no digipeater only where nothing else is there."""
     used = [it[:-1] for it in reception.row.via if it.endswith("*")]
     named = [it for it in used if not ALIAS.fullmatch(it)]
     return named or used[-1:]
@@ -59,8 +59,8 @@ def hours_of(receptions: Sequence[Reception]) -> List[Tuple[str, int, int, int]]
 
 
 def repeats_of(receptions: Sequence[Reception]) -> List[Tuple[str, str, int]]:
-    """Digipeater, whom it repeated (a station, or the digipeater before it), frames. A frame that more
-    receivers heard over the same digipeaters counts at that receiver which heard most."""
+    """Digipeater, whom it repeated (a station, or the digipeater before it), frames: those that one
+    receiver heard, of the receiver that heard most."""
     counts: Dict[Tuple[str, str], "Counter[str]"] = defaultdict(Counter)
     for it in filter(is_own, receptions):
         path = [it.row.source, *digipeaters_of(it)]
@@ -85,8 +85,10 @@ def direct_of(receptions: Sequence[Reception]) -> List[Heard]:
     groups: Dict[Tuple[str, str], List[Reception]] = defaultdict(list)
     for it in filter(is_direct, receptions):
         groups[it.row.receiver, it.row.source].append(it)
-    return [Heard(*key, len(own), frames[key], own[-1].moment, last_spots(own).get(key[1]))
-            for key, own in sorted(groups.items())]
+    return [
+        Heard(*key, len(own), frames[key], own[-1].moment, last_spots(own).get(key[1]))
+        for key, own in sorted(groups.items())
+    ]
 
 
 @dataclass(frozen=True)

@@ -7,8 +7,9 @@ from typing import IO, Iterator, Optional, Sequence
 from aprsbook_tools import programs
 
 
-def write_book(into: IO[bytes], inputs: Sequence[str], gap: Optional[int],
-               given: programs.Given = None) -> None:
+def write_book(
+    into: IO[bytes], inputs: Sequence[str], gap: Optional[int], given: programs.Given = None
+) -> None:
     """Writes the book of logs and books, or of what is given where there are none."""
     command = programs.with_gap(["aprsbook", "merge"], gap, inputs)
     programs.run(*command, given=given, into=into)
@@ -16,8 +17,7 @@ def write_book(into: IO[bytes], inputs: Sequence[str], gap: Optional[int],
 
 
 @contextlib.contextmanager
-def book(inputs: Sequence[str], gap: Optional[int],
-         given: programs.Given = None) -> Iterator[str]:
+def book(inputs: Sequence[str], gap: Optional[int], given: programs.Given = None) -> Iterator[str]:
     """The path of the book of inputs, or of standard input, in a folder that goes away."""
     with tempfile.TemporaryDirectory(prefix="aprs-net-") as folder:
         path = os.path.join(folder, "net.book")

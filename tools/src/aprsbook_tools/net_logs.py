@@ -40,8 +40,11 @@ def logs_of(folder: str, days: Iterable[str]) -> List[Tuple[str, str]]:
             names = sorted(os.listdir(os.path.join(folder, day)))
         except (FileNotFoundError, NotADirectoryError):
             continue
-        found += [(day, os.path.join(folder, day, name)) for name in names
-                  if name.endswith((".log", ".log.gz")) and not name.startswith(".")]
+        found += [
+            (day, os.path.join(folder, day, name))
+            for name in names
+            if name.endswith((".log", ".log.gz")) and not name.startswith(".")
+        ]
     return found
 
 
@@ -79,8 +82,8 @@ def whole_lines(octets: bytes) -> Tuple[bytes, int, bool]:
 
 
 def gather(folder: str, days: List[str]) -> Gathered:
-    """The whole lines of the logs of these days. A last line without an end is being written today, and
-    was torn on another day."""
+    """The whole lines of the logs of these days. A last line without an end is being written today,
+    and was torn on another day."""
     found = logs_of(folder, days)
     result, parts, now = Gathered(), [], today()
     for day, path in found:
@@ -97,9 +100,9 @@ def gather(folder: str, days: List[str]) -> Gathered:
             result.paths.append(path)
         parts.append(lines)
     if not result.paths:
-        raise Fault(f"in {folder} is no log of {' '.join(days)}"
-                    + "".join(f"; {note}" for note in result.notes))
+        raise Fault(
+            f"in {folder} is no log of {' '.join(days)}"
+            + "".join(f"; {note}" for note in result.notes)
+        )
     result.log = b"".join(parts)
     return result
-
-

@@ -13,8 +13,12 @@ from aprsbook_tools.errors import ARGUMENTS, Fault
 HERE = pathlib.Path(__file__).resolve().parent
 VARIABLE = "APRSBOOK_PAGE"
 # within the package, in the repository, and where it is installed
-FOLDERS = [HERE / "page", HERE.parent.parent.parent / "page",
-           pathlib.Path("/usr/local/share/aprsbook/page"), pathlib.Path("/usr/share/aprsbook/page")]
+FOLDERS = [
+    HERE / "page",
+    HERE.parent.parent.parent / "page",
+    pathlib.Path("/usr/local/share/aprsbook/page"),
+    pathlib.Path("/usr/share/aprsbook/page"),
+]
 GEOMETRIES = "Point MultiPoint LineString MultiLineString Polygon MultiPolygon".split()
 TYPES = [*GEOMETRIES, "GeometryCollection", "Feature", "FeatureCollection"]
 
@@ -92,8 +96,10 @@ def texts_of(book: str, gap: Optional[int]) -> Dict[str, str]:
     commands = {"rows": ["aprsbook-table", "rows"], "messages": ["aprsbook-table", "messages"]}
     if not getattr(together(), "TABLES", False):
         commands = {"history": ["aprsbook-history"], "listing": ["aprsbook", "show"]}
-    return {name: programs.run(*programs.with_gap(command, gap, [book])).decode("ascii")
-            for name, command in commands.items()}
+    return {
+        name: programs.run(*programs.with_gap(command, gap, [book])).decode("ascii")
+        for name, command in commands.items()
+    }
 
 
 def page_of(data: Dict[str, Any]) -> str:

@@ -45,6 +45,8 @@ def lines_of(path: str) -> List[Line]:
 def receptions_of(paths: Sequence[str]) -> List[Reception]:
     """The receptions of logs, by moment."""
     lines = sorted(line for path in paths for line in lines_of(path))
-    log = b"".join(line._replace(moment=APART * number).write() for number, line in enumerate(lines))
+    log = b"".join(
+        line._replace(moment=APART * number).write() for number, line in enumerate(lines)
+    )
     rows = {moments.milliseconds(row.first) // APART: row for row in table.of(Row, [], 1, log)}
     return [Reception(lines[number].moment, rows[number]) for number in sorted(rows)]

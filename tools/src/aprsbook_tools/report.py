@@ -19,14 +19,18 @@ def add_arguments(parser: argparse.ArgumentParser) -> None:
 
 def add_roster(parser: argparse.ArgumentParser) -> None:
     """--roster FILE, in `roster`."""
-    parser.add_argument("--roster", metavar="FILE",
-                        help="calls and tactical names, which the report says then")
+    parser.add_argument(
+        "--roster", metavar="FILE", help="calls and tactical names, which the report says then"
+    )
 
 
 def add_csv(parser: argparse.ArgumentParser) -> None:
     """--csv, in `csv`."""
-    parser.add_argument("--csv", action="store_true",
-                        help="write CSV for a spreadsheet, in which no text is a formula")
+    parser.add_argument(
+        "--csv",
+        action="store_true",
+        help="write CSV for a spreadsheet, in which no text is a formula",
+    )
 
 
 def plain(cell: Cell) -> str:
@@ -53,7 +57,7 @@ def is_for_reader(args: argparse.Namespace) -> bool:
 
 
 def put_table(args: argparse.Namespace, head: Sequence[str], rows: Rows, *more: str) -> None:
-    """Writes a table as the options say. `more` are files that are read, beside roster and inputs."""
+    """Writes a table as the options say. `more` are files that were read, beside the inputs."""
     if getattr(args, "csv", False):
         text = csv_text([head, *rows])
     else:

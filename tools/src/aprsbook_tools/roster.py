@@ -19,11 +19,19 @@ BEGIN = re.compile(r'\s*(?:"[^"]*"|[^\s,;"]+) *([,;\t])')
 LINE_END = re.compile(r"\r\n|\n|\r")
 # the names of columns in a head line
 HEADS = {
-    "call": "call", "callsign": "call", "station": "call",
-    "name": "name", "tactical": "name", "who": "name",
-    "group": "group", "team": "group", "class": "group",
-    "bib": "bib", "number": "bib", "no": "bib",
-}  # fmt: skip
+    "call": "call",
+    "callsign": "call",
+    "station": "call",
+    "name": "name",
+    "tactical": "name",
+    "who": "name",
+    "group": "group",
+    "team": "group",
+    "class": "group",
+    "bib": "bib",
+    "number": "bib",
+    "no": "bib",
+}
 ORDER = ("call", "name", "group", "bib")
 
 

@@ -3,8 +3,11 @@ import codecs
 
 from aprsbook_tools.errors import Fault, said
 
-MARKS = [(codecs.BOM_UTF8, "utf-8-sig"), (codecs.BOM_UTF16_LE, "utf-16"),
-         (codecs.BOM_UTF16_BE, "utf-16")]  # fmt: skip
+MARKS = [
+    (codecs.BOM_UTF8, "utf-8-sig"),
+    (codecs.BOM_UTF16_LE, "utf-16"),
+    (codecs.BOM_UTF16_BE, "utf-16"),
+]
 
 
 def read(path: str) -> str:
@@ -18,5 +21,5 @@ def read(path: str) -> str:
     try:
         return octets.decode(coding)
     except UnicodeDecodeError as fault:
-        line = octets[:fault.start].count(b"\n") + 1
+        line = octets[: fault.start].count(b"\n") + 1
         raise Fault(f"{path}: line {line} isn't in UTF-8") from fault

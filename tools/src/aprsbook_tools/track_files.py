@@ -8,8 +8,10 @@ from aprsbook_tools.places import Place, Thing
 from aprsbook_tools.roster import Roster
 from aprsbook_tools.spreadsheet import Cell, csv_text
 
-HEAD = ("kind name state first last receivers source lat lon ambiguity symbol course speed_knots "
-        "altitude_m comment tactical").split()
+HEAD = (
+    "kind name state first last receivers source lat lon ambiguity symbol course speed_knots "
+    "altitude_m comment tactical"
+).split()
 XML = '<?xml version="1.0" encoding="UTF-8"?>\n'
 
 
@@ -21,9 +23,23 @@ def degrees(value: float) -> str:
 def line_of(place: Place, roster: Roster) -> List[Cell]:
     """A place as the fields of HEAD."""
     row = place.row
-    return [place.kind, place.name, place.state, row.first, row.last, " ".join(row.receivers),
-            row.source, *place.spot, place.ambiguity, row.symbol, row.course, row.speed_knots,
-            row.altitude_m, row.text, tactical_of(place.kind, place.name, roster)]  # fmt: skip
+    return [
+        place.kind,
+        place.name,
+        place.state,
+        row.first,
+        row.last,
+        " ".join(row.receivers),
+        row.source,
+        *place.spot,
+        place.ambiguity,
+        row.symbol,
+        row.course,
+        row.speed_knots,
+        row.altitude_m,
+        row.text,
+        tactical_of(place.kind, place.name, roster),
+    ]
 
 
 def lines_of(things: Iterable[Thing], roster: Roster) -> List[List[Cell]]:
@@ -47,9 +63,15 @@ def label_of(thing: Thing, roster: Roster) -> str:
 
 def markup(text: str) -> str:
     """A text in XML; what no XML may have is shown as \\xNN."""
+
     def put(letter: str) -> str:
         code = ord(letter)
-        if letter in "\t\n\r" or 0x20 <= code <= 0xD7FF or 0xE000 <= code <= 0xFFFD or code > 0xFFFF:
+        if (
+            letter in "\t\n\r"
+            or 0x20 <= code <= 0xD7FF
+            or 0xE000 <= code <= 0xFFFD
+            or code > 0xFFFF
+        ):
             return letter
         return "".join(f"\\x{it:02x}" for it in letter.encode("utf-8", "surrogatepass"))
 
@@ -74,17 +96,21 @@ def point_of(tag: str, place: Place, name: str = "", more: str = "") -> str:
     """A point of GPX: a waypoint, or one of a track."""
     north, east = map(degrees, place.spot)
     height = place.row.altitude_m
-    return (f'<{tag} lat="{north}" lon="{east}">'
-            + (f"<ele>{height:.1f}</ele>" if height is not None else "")
-            + f"<time>{place.row.first}</time>{name}<desc>{markup(description_of(place))}</desc>"
-            + f"{more}</{tag}>\n")
+    return (
+        f'<{tag} lat="{north}" lon="{east}">'
+        + (f"<ele>{height:.1f}</ele>" if height is not None else "")
+        + f"<time>{place.row.first}</time>{name}<desc>{markup(description_of(place))}</desc>"
+        + f"{more}</{tag}>\n"
+    )
 
 
 def gpx_of(things: Sequence[Thing], roster: Roster, title: str = "APRS net") -> str:
     """The last place of each is a waypoint, and what moved has a track; a kill ends a segment."""
-    parts = [XML, '<gpx version="1.1" creator="aprsbook" '
-             'xmlns="http://www.topografix.com/GPX/1/1">\n',
-             f"<metadata><name>{markup(title)}</name></metadata>\n"]  # fmt: skip
+    parts = [
+        XML,
+        '<gpx version="1.1" creator="aprsbook" ' 'xmlns="http://www.topografix.com/GPX/1/1">\n',
+        f"<metadata><name>{markup(title)}</name></metadata>\n",
+    ]
     for it in things:
         killed = "<sym>killed</sym>" if it.now.is_killed else ""
         name = f"<name>{markup(label_of(it, roster))}</name>"
@@ -109,25 +135,37 @@ def properties_of(place: Place, roster: Roster) -> Dict[str, Any]:
     """What is said of a place, by the names of HEAD; what isn't known isn't there."""
     said = dict(zip(HEAD, line_of(place, roster)))
     said["receivers"] = ",".join(place.row.receivers)
-    return {name: value for name, value in said.items()
-            if name not in ("lat", "lon") and value not in (None, "")}  # fmt: skip
+    return {
+        name: value
+        for name, value in said.items()
+        if name not in ("lat", "lon") and value not in (None, "")
+    }
 
 
 def feature(shape: str, coordinates: Any, properties: Dict[str, Any]) -> Dict[str, Any]:
-    return {"type": "Feature", "geometry": {"type": shape, "coordinates": coordinates},
-            "properties": properties}  # fmt: skip
+    return {
+        "type": "Feature",
+        "geometry": {"type": shape, "coordinates": coordinates},
+        "properties": properties,
+    }
 
 
 def lines_cut(thing: Thing) -> List[List[List[float]]]:
     """The segments of a track, cut where they cross the date line."""
-    return [[position_of(spot) for spot in line]
-            for run in thing.segments for line in cut_at_date_line([it.spot for it in run])]
+    return [
+        [position_of(spot) for spot in line]
+        for run in thing.segments
+        for line in cut_at_date_line([it.spot for it in run])
+    ]
 
 
 def geojson_of(things: Sequence[Thing], roster: Roster, title: str = "") -> str:
     """A point for each place, and lines for what moved."""
-    features = [feature("Point", position_of(place.spot), properties_of(place, roster))
-                for it in things for place in it.places]
+    features = [
+        feature("Point", position_of(place.spot), properties_of(place, roster))
+        for it in things
+        for place in it.places
+    ]
     for it in things:
         lines = lines_cut(it) if it.has_moved else []
         if lines:
@@ -140,8 +178,9 @@ def geojson_of(things: Sequence[Thing], roster: Roster, title: str = "") -> str:
 
 def last_places_of(things: Sequence[Thing], roster: Roster) -> str:
     """A point for the last place of each thing, as GeoJSON."""
-    return collection_of([feature("Point", position_of(it.now.spot), properties_of(it.now, roster))
-                          for it in things])
+    return collection_of(
+        [feature("Point", position_of(it.now.spot), properties_of(it.now, roster)) for it in things]
+    )
 
 
 def collection_of(features: Sequence[Dict[str, Any]]) -> str:
@@ -159,21 +198,28 @@ def coordinates_of(spot: Spot) -> str:
 
 def kml_of(things: Sequence[Thing], roster: Roster, title: str = "APRS net") -> str:
     """A placemark for the last place of each, and one with lines for what moved."""
-    parts = [XML, '<kml xmlns="http://www.opengis.net/kml/2.2">'
-             f"<Document><name>{markup(title)}</name>\n"]  # fmt: skip
+    parts = [
+        XML,
+        '<kml xmlns="http://www.opengis.net/kml/2.2">' f"<Document><name>{markup(title)}</name>\n",
+    ]
     for it in things:
         parts.append(
             f"<Placemark><name>{markup(label_of(it, roster))}</name>"
             f"<description>{markup(description_of(it.now))}</description>"
             f"<TimeStamp><when>{it.now.row.first}</when></TimeStamp>"
-            f"<Point><coordinates>{coordinates_of(it.now.spot)}</coordinates></Point></Placemark>\n")
+            f"<Point><coordinates>{coordinates_of(it.now.spot)}</coordinates></Point></Placemark>\n"
+        )
     for it in (it for it in things if it.has_moved):
         lines = "".join(
             "<LineString><tessellate>1</tessellate><coordinates>"
-            + " ".join(coordinates_of(place.spot) for place in run) + "</coordinates></LineString>"
-            for run in it.segments)
-        parts.append(f"<Placemark><name>{markup(label_of(it, roster))} track</name>"
-                     f"<MultiGeometry>{lines}</MultiGeometry></Placemark>\n")
+            + " ".join(coordinates_of(place.spot) for place in run)
+            + "</coordinates></LineString>"
+            for run in it.segments
+        )
+        parts.append(
+            f"<Placemark><name>{markup(label_of(it, roster))} track</name>"
+            f"<MultiGeometry>{lines}</MultiGeometry></Placemark>\n"
+        )
     return "".join([*parts, "</Document></kml>\n"])
 
 

@@ -12,8 +12,8 @@ EMERGENCY = "emergency"
 
 @dataclass(frozen=True)
 class Alert:
-    """Something to tell: its kind, whom it is about, since when, and in words. Two alerts of one `key`
-    are the same."""
+    """Something to tell: its kind, whom it is about, since when, and in words. Two alerts of one
+    `key` are the same."""
 
     kind: str
     call: str
@@ -37,8 +37,10 @@ def clock(moment: str) -> str:
 def silent(stations: Sequence[Station], roster: Roster, now: int, minutes: int) -> List[Alert]:
     """Who wasn't heard for so long: those expected, or all that were heard where nobody is."""
     if roster.expected:
-        asked = [(it.call, [of.last for of in stations if it.is_of(of.source)], it.name)
-                 for it in roster.expected]
+        asked = [
+            (it.call, [of.last for of in stations if it.is_of(of.source)], it.name)
+            for it in roster.expected
+        ]
     else:
         asked = [(it.source, [it.last], "") for it in stations]
     alerts = []
@@ -54,10 +56,17 @@ def silent(stations: Sequence[Station], roster: Roster, now: int, minutes: int) 
 
 def unanswered(messages: Iterable[Message], roster: Roster, now: int, minutes: int) -> List[Alert]:
     """Messages that nobody has answered for so long."""
-    return [Alert("unanswered", f"{it.source} {it.addressee} {it.id}", it.first,
-                  f"{roster.said(it.addressee)} hasn't acknowledged message {it.id} of "
-                  f"{roster.said(it.source)}, {clock(it.first)}: {it.text}")
-            for it in messages if it.state == "unanswered" and is_before(it.first, now, minutes)]
+    return [
+        Alert(
+            "unanswered",
+            f"{it.source} {it.addressee} {it.id}",
+            it.first,
+            f"{roster.said(it.addressee)} hasn't acknowledged message {it.id} of "
+            f"{roster.said(it.source)}, {clock(it.first)}: {it.text}",
+        )
+        for it in messages
+        if it.state == "unanswered" and is_before(it.first, now, minutes)
+    ]
 
 
 def emergencies(rows: Iterable[Row], roster: Roster) -> List[Alert]:
@@ -69,9 +78,16 @@ def emergencies(rows: Iterable[Row], roster: Roster) -> List[Alert]:
             since[row.source] = None
         elif since.get(row.source) is None:
             since[row.source] = row
-    return [Alert(EMERGENCY, call, row.first,
-                  f"{roster.said(call)} reports an emergency, {clock(row.first)}{where(row)}")
-            for call, row in sorted(since.items()) if row]
+    return [
+        Alert(
+            EMERGENCY,
+            call,
+            row.first,
+            f"{roster.said(call)} reports an emergency, {clock(row.first)}{where(row)}",
+        )
+        for call, row in sorted(since.items())
+        if row
+    ]
 
 
 def where(row: Row) -> str:

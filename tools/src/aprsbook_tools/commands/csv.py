@@ -14,9 +14,11 @@ FIELDS = "fields"
 
 def add_parser(subparsers: Subparsers) -> None:
     parser = subparsers.add_parser(
-        "csv", help="transmissions, messages, stations or things as CSV",
-        description="The table of logs and books as CSV, in which no text off the air is a formula to "
-        "a spreadsheet. `fields` takes lines of fields with tabs between them, as of awk.")
+        "csv",
+        help="transmissions, messages, stations or things as CSV",
+        description="The table of logs and books as CSV, in which no text off the air is a formula "
+        "to a spreadsheet. `fields` takes lines of fields with tabs between them, as of awk.",
+    )
     parser.add_argument("table", choices=[*KINDS, FIELDS], help="which table")
     report.add_arguments(parser)
 
@@ -45,8 +47,10 @@ def run(args: argparse.Namespace) -> int:
     else:
         kind = KINDS[args.table]
         names = [it.name for it in dataclasses.fields(kind)]
-        rows = [[cell_of(getattr(it, name)) for name in names]
-                for it in table.of(kind, args.inputs, args.gap)]
+        rows = [
+            [cell_of(getattr(it, name)) for name in names]
+            for it in table.of(kind, args.inputs, args.gap)
+        ]
         rows.insert(0, [*names])
     report.put(args, csv_text(rows))
     return 0

@@ -10,10 +10,10 @@ from aprsbook_tools import arguments, merged, net_logs, whole
 from aprsbook_tools.commands import Subparsers, page
 from aprsbook_tools.errors import FAULTY, Fault
 
-DESCRIPTION = """Makes OUT/net.book and OUT/index.html of the logs of today and yesterday (UTC), which are
-LOGS/DAY/NAME.log such as `aprs-net log` writes, also compressed (.log.gz). Both stay as they are where
-nothing has changed, and where none of these logs is there. Only whole lines are read: standard error
-says how many others stand in a log, and the page names a log that can't be read."""
+DESCRIPTION = """Makes OUT/net.book and OUT/index.html of the logs of today and yesterday (UTC). These
+are LOGS/DAY/NAME.log such as `aprs-net log` writes, also compressed (.log.gz). Both stay as they
+are where nothing has changed, and where none of these logs is there. Only whole lines are read:
+standard error says how many others stand in a log, and the page names a log that can't be read."""
 
 
 def day_of(text: str) -> str:
@@ -24,9 +24,15 @@ def day_of(text: str) -> str:
 
 def add_days(parser: argparse.ArgumentParser) -> None:
     """--day DAY.., in `days`."""
-    parser.add_argument("--day", dest="days", action="append", type=day_of, metavar="DAY",
-                        help="the logs of this day, such as 2024-06-21, in place of today's and "
-                        "yesterday's; also as the variable DAYS")
+    parser.add_argument(
+        "--day",
+        dest="days",
+        action="append",
+        type=day_of,
+        metavar="DAY",
+        help="the logs of this day, such as 2024-06-21, in place of today's and "
+        "yesterday's; also as the variable DAYS",
+    )
 
 
 def days_of(args: argparse.Namespace) -> List[str]:
@@ -39,10 +45,15 @@ def days_of(args: argparse.Namespace) -> List[str]:
 
 
 def add_parser(subparsers: Subparsers) -> None:
-    parser = subparsers.add_parser("follow", help="the book and the page of a net that runs",
-                                   description=DESCRIPTION)
-    parser.add_argument("--every", type=arguments.whole_number(1, 86_400), metavar="SECONDS",
-                        help="again and again, with so many seconds between; otherwise once")
+    parser = subparsers.add_parser(
+        "follow", help="the book and the page of a net that runs", description=DESCRIPTION
+    )
+    parser.add_argument(
+        "--every",
+        type=arguments.whole_number(1, 86_400),
+        metavar="SECONDS",
+        help="again and again, with so many seconds between; otherwise once",
+    )
     add_days(parser)
     page.add_options(parser)
     arguments.add_gap(parser)

@@ -24,8 +24,17 @@ class Asked(NamedTuple):
 
 
 def direct(it: Asked) -> List[List[Cell]]:
-    return [[of.receiver, of.call, of.direct, of.frames, moments.text_of(of.last),
-             it.roster.name_of(of.call)] for of in keeping.direct_of(it.receptions)]
+    return [
+        [
+            of.receiver,
+            of.call,
+            of.direct,
+            of.frames,
+            moments.text_of(of.last),
+            it.roster.name_of(of.call),
+        ]
+        for of in keeping.direct_of(it.receptions)
+    ]
 
 
 def hops(it: Asked) -> List[List[Cell]]:
@@ -33,8 +42,10 @@ def hops(it: Asked) -> List[List[Cell]]:
 
 
 def hours(it: Asked) -> List[List[Cell]]:
-    return [[receiver, moments.text_of(hour)[:13], n, own]
-            for receiver, hour, n, own in keeping.hours_of(it.receptions)]
+    return [
+        [receiver, moments.text_of(hour)[:13], n, own]
+        for receiver, hour, n, own in keeping.hours_of(it.receptions)
+    ]
 
 
 def repeats(it: Asked) -> List[List[Cell]]:
@@ -42,9 +53,17 @@ def repeats(it: Asked) -> List[List[Cell]]:
 
 
 def farthest(it: Asked) -> List[List[Cell]]:
-    return [[of.receiver, of.call, round(of.metres / 1000, 1), round(of.degrees) % 360,
-             moments.text_of(of.moment), it.roster.name_of(of.call)]
-            for of in keeping.farthest_of(it.receptions, it.at)]
+    return [
+        [
+            of.receiver,
+            of.call,
+            round(of.metres / 1000, 1),
+            round(of.degrees) % 360,
+            moments.text_of(of.moment),
+            it.roster.name_of(of.call),
+        ]
+        for of in keeping.farthest_of(it.receptions, it.at)
+    ]
 
 
 Part = Tuple[List[str], Callable[[Asked], List[List[Cell]]]]
@@ -59,20 +78,29 @@ PARTS: Dict[str, Part] = {
 
 def add_parser(subparsers: Subparsers) -> None:
     parser = subparsers.add_parser(
-        "keeper", help="who is heard direct, over how many hops, and who repeats whom",
+        "keeper",
+        help="who is heard direct, over how many hops, and who repeats whom",
         description="For the keeper of a digipeater, of logs: `direct` has the stations that each "
         "receiver heard itself; `hops` how many frames came over so many digipeaters; `hours` the "
         "frames of each hour (UTC); `repeats` who repeated whom, each frame once; `farthest` the "
-        "farthest place of each that was heard direct. What a station passed on of others counts in "
-        "`hours` alone.")
+        "farthest place of each that was heard direct. What a station passed on of others counts "
+        "in `hours` alone.",
+    )
     parser.add_argument("--part", choices=list(PARTS), help="this part alone")
-    parser.add_argument("--at", action="append", default=[], metavar="[RECEIVER=]PLACE",
-                        help="where a receiver is, or all are: degrees north and east, such as "
-                        "54.5,-3.5, or a call whose last place that is")
+    parser.add_argument(
+        "--at",
+        action="append",
+        default=[],
+        metavar="[RECEIVER=]PLACE",
+        help="where a receiver is, or all are: degrees north and east, such as "
+        "54.5,-3.5, or a call whose last place that is",
+    )
     report.add_csv(parser)
     report.add_roster(parser)
     arguments.add_output(parser)
-    parser.add_argument("inputs", nargs="+", metavar="LOG", help="a log, also a compressed one (.gz)")
+    parser.add_argument(
+        "inputs", nargs="+", metavar="LOG", help="a log, also a compressed one (.gz)"
+    )
 
 
 def spots_of(said: Sequence[str], receptions: Sequence[Reception]) -> Dict[str, Spot]:

@@ -10,12 +10,15 @@ from aprsbook_tools.track_files import HEAD, last_places_of, line_of, lines_of
 
 def add_parser(subparsers: Subparsers) -> None:
     parser = subparsers.add_parser(
-        "places", help="every place, or the last one of each",
-        description="A line for each place of a station, an object or an item, by kind, name and the "
-        "moment when it was first heard, after a line that names the fields.")
+        "places",
+        help="every place, or the last one of each",
+        description="A line for each place of a station, an object or an item, by kind, name and "
+        "the moment when it was first heard, after a line that names the fields.",
+    )
     parser.add_argument("--last", action="store_true", help="the last place of each alone")
-    parser.add_argument("--geojson", action="store_true",
-                        help="the last place of each as a point of GeoJSON")
+    parser.add_argument(
+        "--geojson", action="store_true", help="the last place of each as a point of GeoJSON"
+    )
     report.add_csv(parser)
     report.add_arguments(parser)
 

@@ -17,28 +17,47 @@ from aprsbook_tools.watching import Alert
 
 PATIENCE = 60  # seconds that the user's command may take
 
-DESCRIPTION = """Tells, once each, who of those expected (or of all that were heard) is silent, which
-message isn't answered, and who reports an emergency in Mic-E, of the logs LOGS/DAY/NAME.log. It is
-told on standard output, or to COMMAND: the last of its arguments is what happened in words, and
-APRS_KIND (silent, unanswered, emergency), APRS_CALL, APRS_SINCE and APRS_WORDS have it too. No shell
-reads these words. Where COMMAND fails, it is told again in the next turn."""
+DESCRIPTION = """Tells, once each, of the logs LOGS/DAY/NAME.log: who of those expected (or of all that
+were heard) is silent, which message isn't answered, and who reports an emergency in Mic-E. It is
+told on standard output, or to COMMAND: the last of its arguments is what happened in words.
+APRS_KIND (silent, unanswered, emergency), APRS_CALL, APRS_SINCE and APRS_WORDS have it too. No
+shell reads these words. Where COMMAND fails, it is told again in the next turn."""
 
 
 def add_parser(subparsers: Subparsers) -> None:
-    parser = subparsers.add_parser("watch", description=DESCRIPTION,
-                                   help="tell of silence, unanswered messages and emergencies")
+    parser = subparsers.add_parser(
+        "watch",
+        description=DESCRIPTION,
+        help="tell of silence, unanswered messages and emergencies",
+    )
     minutes = arguments.whole_number(1, 100_000)
-    parser.add_argument("--silent", type=minutes, metavar="MINUTES", help="tell who is silent so long")
-    parser.add_argument("--unanswered", type=minutes, metavar="MINUTES",
-                        help="tell of messages that nobody answered for so long")
+    parser.add_argument(
+        "--silent", type=minutes, metavar="MINUTES", help="tell who is silent so long"
+    )
+    parser.add_argument(
+        "--unanswered",
+        type=minutes,
+        metavar="MINUTES",
+        help="tell of messages that nobody answered for so long",
+    )
     parser.add_argument("--emergency", action="store_true", help="tell of emergencies in Mic-E")
     parser.add_argument("--roster", metavar="FILE", help="who is expected, with their names")
-    parser.add_argument("--run", dest="command", metavar="COMMAND", help="a command and its first arguments")
-    parser.add_argument("--every", type=arguments.whole_number(1, 86_400), metavar="SECONDS",
-                        help="again and again, with so many seconds between; otherwise once")
+    parser.add_argument(
+        "--run", dest="command", metavar="COMMAND", help="a command and its first arguments"
+    )
+    parser.add_argument(
+        "--every",
+        type=arguments.whole_number(1, 86_400),
+        metavar="SECONDS",
+        help="again and again, with so many seconds between; otherwise once",
+    )
     parser.add_argument("--state", metavar="FILE", help="keeps what was told, from run to run")
-    parser.add_argument("--now", type=arguments.moment, metavar="MOMENT",
-                        help="ages count to this moment, and not to the clock's")
+    parser.add_argument(
+        "--now",
+        type=arguments.moment,
+        metavar="MOMENT",
+        help="ages count to this moment, and not to the clock's",
+    )
     follow.add_days(parser)
     arguments.add_gap(parser)
     parser.add_argument("logs", metavar="LOGS", help="the folder of the logs")
@@ -71,11 +90,19 @@ def tell(alert: Alert, command: Optional[str]) -> bool:
     if command is None:
         print(f"{alert.kind}: {alert.words}", flush=True)
         return True
-    said = {"APRS_KIND": alert.kind, "APRS_CALL": alert.call, "APRS_SINCE": alert.since,
-            "APRS_WORDS": alert.words}  # fmt: skip
+    said = {
+        "APRS_KIND": alert.kind,
+        "APRS_CALL": alert.call,
+        "APRS_SINCE": alert.since,
+        "APRS_WORDS": alert.words,
+    }
     try:
-        done = subprocess.run([*shlex.split(command), f"{alert.kind}: {alert.words}"],
-                              env={**os.environ, **said}, stdin=subprocess.DEVNULL, timeout=PATIENCE)
+        done = subprocess.run(
+            [*shlex.split(command), f"{alert.kind}: {alert.words}"],
+            env={**os.environ, **said},
+            stdin=subprocess.DEVNULL,
+            timeout=PATIENCE,
+        )
         fault = f"ended with status {done.returncode}" if done.returncode else ""
     except subprocess.TimeoutExpired:
         fault = f"took longer than {PATIENCE} seconds"
@@ -101,8 +128,8 @@ def read_state(path: Optional[str]) -> Set[str]:
 
 
 def turn(args: argparse.Namespace, told: Set[str]) -> Tuple[Set[str], bool]:
-    """Tells what is new: what is told now, and whether all could be. What is over and comes again is
-    told again."""
+    """Tells what is new: what is told now, and whether all could be. What is over and comes again
+    is told again."""
     now, went_well = set(), True
     for alert in alerts_of(args):
         if alert.key in told or tell(alert, args.command):
