@@ -159,3 +159,15 @@ class Programs:
     def lines(self, *words: str) -> List[List[str]]:
         """The fields of the lines that a command prints."""
         return [line.split("\t") for line in self.run(*words).splitlines()]
+
+
+@pytest.fixture
+def programs(
+    tmp_path: pathlib.Path, monkeypatch: pytest.MonkeyPatch, capfd: pytest.CaptureFixture[str]
+) -> Programs:
+    """Stand-ins for the programs, and a log for them, `net.log`, in the present folder."""
+    monkeypatch.chdir(tmp_path)
+    monkeypatch.delenv("DAYS", raising=False)
+    monkeypatch.delenv("GAP", raising=False)
+    (tmp_path / "net.log").write_text("")
+    return Programs(tmp_path, monkeypatch, capfd)

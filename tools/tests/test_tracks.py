@@ -38,7 +38,7 @@ def made(form: str, rows: "list[Row]") -> str:
 def test_csv_has_each_place(programs: Programs) -> None:
     programs.say(*EVENING)
     rows = [dict(zip(HEAD, it)) for it in read_csv(programs.run("tracks", "csv", "net.log"))]
-    assert [*rows[0]] == HEAD
+    assert [*rows[0]] == HEAD[:-1]
     assert [(it["kind"], it["name"], it["first"][11:16], it["state"]) for it in rows[1:]] == [
         ("station", "Q1FLY", "18:05", "live"),
         ("station", "Q1FLY", "18:15", "live"),

@@ -48,7 +48,9 @@ def lines_of(things: Iterable[Thing], roster: Roster) -> List[List[Cell]]:
 
 
 def csv_of(things: Sequence[Thing], roster: Roster, title: str = "") -> str:
-    return csv_text([HEAD, *lines_of(things, roster)])
+    """Each place; with the column of tactical names where there are some."""
+    count = len(HEAD) if roster.has_names else len(HEAD) - 1
+    return csv_text(line[:count] for line in [HEAD, *lines_of(things, roster)])
 
 
 def tactical_of(kind: str, name: str, roster: Roster) -> str:

@@ -16,8 +16,8 @@ def add_parser(subparsers: Subparsers) -> None:
         help="who of those expected wasn't heard, and since when",
         description="A line for each entry of ROSTER: when and by whom it was heard last, its "
         "call, how many transmissions it sent, and the call that was heard last. Who was never "
-        "heard stands first, then the longest silent. A line of ROSTER is a call, or a call with -* for "
-        "any SSID, and a name; or CSV of call, name, group and bib.",
+        "heard stands first, then the longest silent. A line of ROSTER is a call, or a call with "
+        "-* for any SSID, and a name; or CSV of call, name, group and bib.",
     )
     report.add_csv(parser)
     arguments.add_gap(parser)
