@@ -50,7 +50,8 @@ def lines_of(things: Iterable[Thing], roster: Roster) -> List[List[Cell]]:
 def csv_of(things: Sequence[Thing], roster: Roster, title: str = "") -> str:
     """Each place; with the column of tactical names where there are some."""
     count = len(HEAD) if roster.has_names else len(HEAD) - 1
-    return csv_text(line[:count] for line in [HEAD, *lines_of(things, roster)])
+    rows: List[List[Cell]] = [[*HEAD], *lines_of(things, roster)]
+    return csv_text([row[:count] for row in rows])
 
 
 def tactical_of(kind: str, name: str, roster: Roster) -> str:
