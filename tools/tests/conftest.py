@@ -1,4 +1,4 @@
-"""What the tests share: the command, the examples, and what is left out where a program is missing."""
+"""What the tests share: the command, the examples, and what is left out without a program."""
 import os
 import pathlib
 import shutil

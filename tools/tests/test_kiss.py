@@ -10,7 +10,8 @@ FRAMES = st.lists(st.binary(min_size=1, max_size=400), max_size=8)
 
 def cut(stream: bytes, size: int) -> List[bytes]:
     framer = kiss.Framer()
-    return [frame for at in range(0, len(stream), size) for frame in framer.feed(stream[at:at + size])]
+    pieces = [stream[at:at + size] for at in range(0, len(stream), size)]
+    return [frame for piece in pieces for frame in framer.feed(piece)]
 
 
 @given(FRAMES, st.integers(1, 50))

@@ -9,7 +9,7 @@ from dataclasses import dataclass
 from typing import List, Optional, Sequence
 
 from aprsbook_tools import moments
-from aprsbook_tools.errors import ARGUMENTS, Fault
+from aprsbook_tools.errors import Fault
 from aprsbook_tools.geo import Chord, Spot, chord, metres_between
 from aprsbook_tools.places import Place, Thing
 
@@ -47,10 +47,10 @@ def read_checkpoints(path: str, text: str) -> List[Checkpoint]:
         if not words or words[0].startswith("#"):
             continue
         if len(words) < 4 or not all(NUMBER.fullmatch(it) for it in words[-3:]):
-            raise Fault(f"{path}: line {number} is no checkpoint: {line.strip()}", ARGUMENTS)
+            raise Fault(f"{path}: line {number} is no checkpoint: {line.strip()}")
         north, east, metres = map(float, words[-3:])
         if not (abs(north) <= 90 and abs(east) <= 180 and metres > 0):
-            raise Fault(f"{path}: line {number}: no place on the earth, or no circle", ARGUMENTS)
+            raise Fault(f"{path}: line {number}: no place on the earth, or no circle")
         found.append(Checkpoint(" ".join(words[:-3]), Spot(north, east), metres))
     return found
 

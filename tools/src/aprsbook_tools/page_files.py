@@ -8,7 +8,7 @@ from types import ModuleType
 from typing import Any, Dict, List, Optional
 
 from aprsbook_tools import programs, text_file
-from aprsbook_tools.errors import ARGUMENTS, Fault
+from aprsbook_tools.errors import Fault
 
 HERE = pathlib.Path(__file__).resolve().parent
 VARIABLE = "APRSBOOK_PAGE"
@@ -85,9 +85,9 @@ def read_map(path: str) -> str:
         else:
             check_shape(json.loads(text))
     except (xml.etree.ElementTree.ParseError, ValueError) as fault:
-        raise Fault(f"{path}: {fault}", ARGUMENTS) from fault
+        raise Fault(f"{path}: {fault}") from fault
     except (AttributeError, IndexError, KeyError, TypeError, RecursionError) as fault:
-        raise Fault(f"{path}: no GeoJSON", ARGUMENTS) from fault
+        raise Fault(f"{path}: no GeoJSON") from fault
     return text
 
 

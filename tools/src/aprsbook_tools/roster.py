@@ -12,7 +12,7 @@ from dataclasses import dataclass
 from typing import Dict, Iterable, List, Optional, Sequence, Union
 
 from aprsbook_tools import text_file
-from aprsbook_tools.errors import ARGUMENTS, Fault
+from aprsbook_tools.errors import Fault
 
 CALL = re.compile(r"([A-Za-z0-9]{1,6})(?:-([0-9]|1[0-5]|\*))?")
 BEGIN = re.compile(r'\s*(?:"[^"]*"|[^\s,;"]+) *([,;\t])')
@@ -163,5 +163,5 @@ def roster_of(path: Optional[str]) -> Roster:
         return Roster()
     roster = read_roster(text_file.read(path))
     if roster.faults:
-        raise Fault(f"{path}: " + "; ".join(map(str, roster.faults)), ARGUMENTS)
+        raise Fault(f"{path}: " + "; ".join(map(str, roster.faults)))
     return roster

@@ -11,6 +11,7 @@ else:
 # the command's name; its module has _ for -
 NAMES: List[str] = [
     "log",
+    "book",
     "page",
     "follow",
     "tracks",
