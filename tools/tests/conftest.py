@@ -10,6 +10,8 @@ from typing import Any, Callable, Dict, List, Optional
 import pytest
 from hypothesis import settings
 
+pytest_plugins = ["standing"]  # its fixture `programs`
+
 HERE = pathlib.Path(__file__).resolve().parent
 SOURCES = HERE.parent / "src"
 EXAMPLES = HERE.parent.parent / "examples"

@@ -7,7 +7,7 @@ import signal
 import sys
 from typing import NoReturn, Optional, Sequence
 
-from aprsbook_tools import VERSION, commands, errors
+from aprsbook_tools import VERSION, commands, errors, typed
 from aprsbook_tools.errors import Fault, said
 
 
@@ -50,7 +50,8 @@ def say(text: str) -> None:
 
 def run(arguments: Optional[Sequence[str]] = None) -> int:
     """Runs a subcommand; its status."""
-    args = make_parser().parse_args(arguments)
+    words = typed.words_of(sys.argv) if arguments is None else arguments
+    args = typed.parse(make_parser(), words)
     try:
         status = int(args.run(args))
         if sys.stdout is not None:

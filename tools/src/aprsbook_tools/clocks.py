@@ -16,9 +16,12 @@ RECEPTION = frozenset(["first", "last", "receivers", "receiver", "via"])
 
 @dataclasses.dataclass(frozen=True, order=True)
 class Both:
-    """A frame that two receivers heard once each: the moment of each, in milliseconds."""
+    """A frame that two receivers heard once each: the moment of each, in milliseconds, and its
+    place in the log of each, which grows whatever a clock says."""
     one: int
     other: int
+    place: int
+    other_place: int
 
     @property
     def ahead(self) -> int:
@@ -54,8 +57,10 @@ def transmission(row: Row) -> Tuple[object, ...]:
                  if it.name not in RECEPTION)
 
 
-def pairs(heard: Mapping[str, Iterable[Row]]) -> Dict[Tuple[str, str], List[Both]]:
-    """For each two receivers, what each of them heard once."""
+def pairs(heard: Mapping[str, Iterable[Row]],
+          places: Mapping[str, Mapping[int, int]]) -> Dict[Tuple[str, str], List[Both]]:
+    """For each two receivers, what each of them heard once. `places` has the place of a moment in
+    the log of a receiver."""
     by: DefaultDict[Tuple[object, ...], DefaultDict[str, List[int]]] = collections.defaultdict(
         lambda: collections.defaultdict(list))
     for receiver, rows in heard.items():
@@ -65,7 +70,9 @@ def pairs(heard: Mapping[str, Iterable[Row]]) -> Dict[Tuple[str, str], List[Both
     for receivers in by.values():
         once = sorted(it for it, times in receivers.items() if len(times) == 1)
         for one, other in itertools.combinations(once, 2):
-            result[one, other].append(Both(receivers[one][0], receivers[other][0]))
+            at, other_at = receivers[one][0], receivers[other][0]
+            result[one, other].append(
+                Both(at, other_at, places[one].get(at, 0), places[other].get(other_at, 0)))
     return dict(sorted(result.items()))
 
 
@@ -129,11 +136,15 @@ def joined(parts: Sequence[Sequence[Both]], step: int) -> List[Sequence[Both]]:
 
 
 def spans(one: str, other: str, frames: Sequence[Both], step: int) -> List[Span]:
-    """The spans between the steps of two receivers' difference. Of the two clocks that one orders
-    the frames which leaves fewer spans: the other one may go back."""
-    orders: List[Callable[[Both], int]] = [lambda it: it.other, lambda it: it.one]
+    """The spans between the steps of two receivers' difference. The frames are ordered as they
+    stand in a log, or, where a log was sorted, by the clock by which spans are few and steady."""
+    orders: List[Callable[[Both], int]] = [
+        lambda it: it.place, lambda it: it.other_place, lambda it: it.other, lambda it: it.one]
     found = [cut(sorted(frames, key=order), step) for order in orders]
-    return [Span(one, other, tuple(part)) for part in min(found, key=len)]
+
+    def unsteady(parts: List[Sequence[Both]]) -> float:
+        return sum(step + costs([it.ahead for it in part])[-1][0] for part in parts)
+    return [Span(one, other, tuple(part)) for part in min(found, key=unsteady)]
 
 
 def wrong(found: Sequence[Span], gap: float) -> List[str]:
