@@ -1,6 +1,7 @@
 """The command aprs-net: finds the subcommand, runs it, and says what went wrong."""
 import argparse
 import importlib
+import keyword
 import os
 import signal
 import sys
@@ -29,7 +30,9 @@ def make_parser() -> argparse.ArgumentParser:
     parser.add_argument("--version", action="version", version=f"aprs-net {VERSION}")
     subparsers = parser.add_subparsers(metavar="COMMAND", required=True)
     for name in commands.NAMES:
-        module = importlib.import_module(f"aprsbook_tools.commands.{name.replace('-', '_')}")
+        end = "_" if keyword.iskeyword(name) else ""
+        module = importlib.import_module(
+            f"aprsbook_tools.commands.{name.replace('-', '_')}{end}")
         before = set(subparsers.choices)
         module.add_parser(subparsers)
         for new in set(subparsers.choices) - before:

@@ -8,10 +8,15 @@ if TYPE_CHECKING:
 else:
     Subparsers = object
 
-# the command's name; its module has _ for -
+# the command's name; its module has _ for -, and one behind a word of Python
 NAMES: List[str] = [
     "log",
+    "import",
     "book",
+    "clocks",
+    "shift",
+    "mend",
+    "pcap",
     "page",
     "follow",
     "tracks",
