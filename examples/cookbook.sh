@@ -38,7 +38,12 @@ ln -s "$program" "$scratch/bin/aprsbook"
 for it in "${program%/*}/aprsbook-history" "${program%/*/out/*}/aprsbook_history/out/aprsbook_history"; do
     if [ -x "$it" ]; then ln -sf "$(realpath "$it")" "$scratch/bin/aprsbook-history"; fi
 done
-export PATH="$scratch/bin:$here/recipes:$PATH"
+# and that for tables
+for it in "${program%/*}/aprsbook-table" "${program%/*/out/*}/aprsbook_table/out/aprsbook_table"; do
+    if [ -x "$it" ]; then ln -sf "$(realpath "$it")" "$scratch/bin/aprsbook-table"; fi
+done
+tools=$(dirname "$here")/tools/bin
+export PATH="$scratch/bin:$tools:$here/recipes:$PATH"
 export RECIPES="$here/recipes" EXAMPLES="$here"
 cp "$here"/evening/*.log "$work"
 cp "$here"/evening/*.log "$work/logs/2024-06-21"

@@ -287,21 +287,17 @@ fi
 
 # ---- book-to-sqlite ----
 
-if has book-to-sqlite sqlite3; then
-    # counts: the rows of the three tables
+if has book-to-sqlite python3 sqlite3 aprsbook-table; then
+    # counts: the rows of the tables
     counts() {
-        for it in transmissions places messages; do
+        for it in transmissions messages; do
             sqlite3 net.db "select count(*) from $it"
         done | tr '\n' ' '
     }
     aprsbook show all.30 > listing
     # heads WORDS FILE: so many lines begin so
     heads() { grep -Ec "^($1) " "$2"; }
-    # stations whose places are in Mic-E alone are in no listing
-    more=$(aprsbook-history all.30 | awk '$1 == "mic-e" { some[$5] } $1 == "position" { listed[$5] }
-        END { for (it in some) if (!(it in listed)) n++; print n + 0 }')
-    places=$(($(heads 'position|object|item' listing) + more))
-    expected="$(heads T all.30) $places $(heads message listing) "
+    expected="$(heads T all.30) $(heads message listing) "
     for book in all.30 all.30 all.60; do
         book-to-sqlite $book net.db
         [ "$(counts)" = "$expected" ] || [ $book = all.60 ] || fail "rows: $(counts), not $expected"
@@ -309,24 +305,13 @@ if has book-to-sqlite sqlite3; then
     # one is faulty: what was there stays
     before=$(counts)
     refused 'line [0-9]*: Ending' book-to-sqlite cut.30 net.db
-    refused 'empty is empty' book-to-sqlite empty net.db
+    cp empty empty.book
+    refused 'empty.book is empty' book-to-sqlite empty.book net.db
     [ "$(counts)" = "$before" ] || fail 'a faulty book changed the database'
     printf 'APRSBOOK 3 30\nEND 0\n' > nothing
     book-to-sqlite nothing net.db
-    [ "$(counts)" = '0 0 0 ' ] || fail "rows of nothing: $(counts)"
+    [ "$(counts)" = '0 0 ' ] || fail "rows of nothing: $(counts)"
 fi
-
-# ---- places: which objects were killed ----
-
-killed=$(aprsbook show all.30 | grep -Ec '^(object|item) [^ ]* killed ')
-[ "$killed" -gt 0 ] || fail 'no object of the evening was killed'
-history-rows all.30 | awk -f "$recipes/places.awk" | to-csv > places.csv
-for form in csv gpx kml; do
-    [ $form = csv ] || has "$form" gpsbabel || continue
-    [ $form = csv ] || gpsbabel -i unicsv -f places.csv -o $form -F places.$form
-    told=$(grep -Eci '<desc[a-z]*>killed|,killed,.*,"?killed' places.$form)
-    [ "$told" = "$killed" ] || fail "$form has $told that were killed"
-done
 
 # ---- merge-tree ----
 
@@ -375,17 +360,9 @@ fi
 # ---- a book by its name that is empty ----
 
 cp empty empty.book
-for recipe in gap-of every-place history-rows last-heard ics-309 'tracks csv' 'roster hill.log' \
-    'passed /dev/null' event-page 'put-whole empty.book aprsbook merge'; do
-    case $recipe in event-page) has event-page python3 || continue ;; esac
+for recipe in gap-of 'put-whole empty.book aprsbook merge'; do
     # shellcheck disable=SC2086 # words
     refused 'empty.book is empty, which no book is' $recipe empty.book hill.log
 done
 [ ! -s empty.book ] || fail 'an empty book was made anew of logs'
-# an input that could be an option isn't one, and --help is
-cp hill.log ./-h.log
-refused 'write ./-h.log' every-place -h.log
-[ "$(tracks csv -- -h.log)" = "$(tracks csv hill.log)" ] || fail "a name after -- is another input"
-roster --help > said
-says '^roster FILE \[--gap SECONDS\] INPUT..$'
 echo 'books survive what happens to them'

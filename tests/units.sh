@@ -50,12 +50,12 @@ done
 
 # ---- net-page ----
 
-if has 'what net-page.service runs' python3; then
+if has 'what net-page.service runs' python3 aprsbook-table; then
     mkdir -p logs/2024-06-21
     cp hill.log logs/2024-06-21/HILL.log
-    DAYS=2024-06-21 sh -c "$(command_of net-page.service)" net-now --title 'Tuesday net' --live 60 ||
+    GAP=60 DAYS=2024-06-21 sh -c "$(command_of net-page.service)" aprs-net --title 'Tuesday net' --live 60 ||
         fail 'net-page.service makes no page'
-    aprsbook merge hill.log | cmp - page/net.book || fail 'the book of the page is another'
+    aprsbook merge --gap 60 hill.log | cmp - page/net.book || fail 'the book of the page is another'
     grep -q '<title>Tuesday net' page/index.html || fail 'the page has another title'
 fi
 echo 'the units run what they should'

@@ -37,7 +37,7 @@ def test_numbers_are_numbers(programs: Programs) -> None:
     assert asked(
         path, "select max(latitude), typeof(latitude), typeof(course) from transmissions"
     ) == [(54.5 + 0.1, "real", "null")]
-    assert asked(path, "select latitude from places where latitude > 10 order by latitude") == [
+    assert asked(path, "select latitude from tracks where latitude > 10 order by latitude") == [
         (54.5,),
         (54.6,),
     ]
@@ -59,6 +59,14 @@ def test_what_isn_t_known_is_null(programs: Programs) -> None:
     ]
     assert asked(path, "select state, id, text, first from messages") == [
         ("unanswered", "1", "hi", at("18:04"))
+    ]
+
+
+def test_the_last_place_of_each(programs: Programs) -> None:
+    path = fill(programs)
+    assert asked(path, "select kind, name, latitude, first from places order by name") == [
+        ("object", "CP 1", 54.6, at("18:02")),
+        ("station", "Q1A", 54.5, at("18:01")),
     ]
 
 

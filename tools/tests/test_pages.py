@@ -80,7 +80,7 @@ BAD_MAPS = [
 def test_what_is_no_map_is_refused(programs: Programs, tmp_path: pathlib.Path, text: str) -> None:
     (tmp_path / "course").write_text(text)
     (tmp_path / "page.html").write_text("before")
-    programs.run("page", "-o", "page.html", "--course", "course", "net.log", status=2)
+    programs.run("page", "-o", "page.html", "--course", "course", "net.log", status=1)
     assert programs.said.startswith("aprs-net: course: ") and programs.said.count("\n") == 1
     assert (tmp_path / "page.html").read_text() == "before"
 

@@ -36,4 +36,4 @@ def test_a_csv_is_read_back(rows: "list[list[str]]") -> None:
 
 def test_numbers_are_numbers() -> None:
     assert csv_text([["north", "n"], [-4.5, -3]]) == "north,n\n-4.5,-3\n"
-    assert csv_text([[None, "x"]]) == ",x\n"
+    assert csv_text([[None, "x", 54.0]]) == ",x,54\n"

@@ -34,7 +34,7 @@ def test_who_wasn_t_heard(programs: Programs, tmp_path: pathlib.Path) -> None:
 
 def test_a_line_that_isn_t_understood_ends_it(programs: Programs, tmp_path: pathlib.Path) -> None:
     (tmp_path / "names").write_text("Q1RUN-77 x\nQ1A\nQ1-A\n")
-    assert programs.run("roster", "names", "net.log", status=2) == ""
+    assert programs.run("roster", "names", "net.log", status=1) == ""
     assert programs.said == (
         "aprs-net: names: line 1: 'Q1RUN-77' is no call; line 3: 'Q1-A' is no call\n"
     )

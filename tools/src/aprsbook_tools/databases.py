@@ -29,13 +29,20 @@ TABLES: Dict[str, Type[Any]] = {
 }
 MAGIC = b"SQLite format 3\0"
 WAIT = 10.0  # seconds for another program's writing
-# as older databases have it: where things were
-PLACES = """create view places as select
-    case when kind in ('object', 'item') then kind else 'station' end as kind,
-    case when kind in ('object', 'item') then name else source end as name,
-    case when state = '' then 'live' else state end as state,
-    first, last, receivers, source, latitude, longitude, ambiguity, compressed, symbol, course,
-    speed_knots, altitude_m, text from transmissions where latitude is not null"""
+# each place, and the last one of each thing
+VIEWS = {
+    "tracks": """create view tracks as select
+        case when kind in ('object', 'item') then kind else 'station' end as kind,
+        case when kind in ('object', 'item') then name else source end as name,
+        case when state = '' then 'live' else state end as state,
+        first, last, receivers, receiver, source, latitude, longitude, ambiguity, compressed,
+        symbol, course, speed_knots, altitude_m, text
+        from transmissions where latitude is not null""",
+    # of a group a column stands for the row that has the greatest
+    "places": """create view places as select kind, name, state, first, last, receivers, receiver,
+        source, latitude, longitude, ambiguity, compressed, symbol, course, speed_knots, altitude_m,
+        text, max(last || ' ' || receiver) as heard from tracks group by kind, name""",
+}
 INDICES = [
     "create index transmissions_source on transmissions (source, first)",
     "create index transmissions_first on transmissions (first)",
@@ -117,9 +124,11 @@ def fill(base: sqlite3.Connection, name: str, items: Iterable[Any]) -> None:
 def write(path: str, tables: Mapping[str, Iterable[Any]], inputs: Sequence[str]) -> None:
     """Puts the tables in place of those that are there; all else of the database stays."""
     with writing(path, inputs) as base:
-        drop(base, "places")
+        for name in VIEWS:
+            drop(base, name)
         for name, items in tables.items():
             fill(base, name, items)
-        base.execute(PLACES)
+        for view in VIEWS.values():
+            base.execute(view)
         for index in INDICES:
             base.execute(index)

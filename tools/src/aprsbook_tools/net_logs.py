@@ -1,12 +1,13 @@
 """The logs of a net that runs: whole lines alone, and what was left out in words."""
 import datetime
 import gzip
+import lzma
 import os
 import zlib
 from dataclasses import dataclass, field
-from typing import IO, Iterable, List, Tuple, cast
+from typing import Iterable, List, Tuple
 
-from aprsbook_tools import log_file
+from aprsbook_tools import inputs, log_file
 from aprsbook_tools.errors import Fault
 
 DAY = datetime.timedelta(days=1)
@@ -33,18 +34,17 @@ def last_days() -> List[str]:
 
 
 def logs_of(folder: str, days: Iterable[str]) -> List[Tuple[str, str]]:
-    """The day and the path of each log, FOLDER/DAY/NAME.log or .log.gz."""
+    """The day and the path of each log, FOLDER/DAY/NAME.log, also a compressed one."""
     found = []
     for day in days:
         try:
             names = sorted(os.listdir(os.path.join(folder, day)))
         except (FileNotFoundError, NotADirectoryError):
             continue
-        found += [
-            (day, os.path.join(folder, day, name))
-            for name in names
-            if name.endswith((".log", ".log.gz")) and not name.startswith(".")
-        ]
+        for name in names:
+            path = os.path.join(folder, day, name)
+            if inputs.is_input(path) and not inputs.look_at(path).is_book:
+                found.append((day, path))
     return found
 
 
@@ -52,15 +52,13 @@ def octets_of(path: str) -> Tuple[bytes, str]:
     """What a log has, unpacked, and why that isn't all of it."""
     octets = b""
     try:
-        with open(path, "rb") as packed:
-            unpacked = cast(IO[bytes], gzip.GzipFile(fileobj=packed))
-            file = unpacked if path.endswith(".gz") else packed
+        with inputs.opened(path) as file:
             while True:
                 part = file.read(log_file.BLOCK)
                 if not part:
                     return octets, ""
                 octets += part
-    except (EOFError, zlib.error, gzip.BadGzipFile):
+    except (EOFError, lzma.LZMAError, zlib.error, gzip.BadGzipFile):
         return octets, "can't be read to its end"
     except OSError as fault:
         return octets, f"can't be read to its end ({fault.strerror or fault})"
@@ -69,16 +67,9 @@ def octets_of(path: str) -> Tuple[bytes, str]:
 def whole_lines(octets: bytes) -> Tuple[bytes, int, bool]:
     """The lines of a log that are whole, how many others end in a line feed, and whether one is
     left without an end."""
-    lines = octets.split(b"\n")
-    unended = lines.pop()
-    kept, torn = [], 0
-    for line in lines:
-        line = line[:-1] if line.endswith(b"\r") else line
-        if log_file.read_line(line):
-            kept.append(line + b"\n")
-        else:
-            torn += 1
-    return b"".join(kept), torn, bool(unended)
+    kept = inputs.whole_lines(octets)
+    is_unended = bool(octets) and not octets.endswith(b"\n")
+    return b"".join(kept), octets.count(b"\n") - len(kept), is_unended
 
 
 def gather(folder: str, days: List[str]) -> Gathered:

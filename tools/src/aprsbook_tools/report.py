@@ -1,9 +1,10 @@
 """What reports have in common: their arguments, and tables of fields with names."""
 import argparse
+import os
 import sys
-from typing import List, Sequence
+from typing import List, Optional, Sequence
 
-from aprsbook_tools import arguments, whole
+from aprsbook_tools import arguments, inputs, whole
 from aprsbook_tools.spreadsheet import Cell, csv_text
 
 Rows = Sequence[Sequence[Cell]]
@@ -31,6 +32,15 @@ def add_csv(parser: argparse.ArgumentParser) -> None:
         action="store_true",
         help="write CSV for a spreadsheet, in which no text is a formula",
     )
+
+
+def gap_of(args: argparse.Namespace) -> Optional[int]:
+    """The gap that is asked for, or else that of the books among the inputs, where they have one."""
+    gap: Optional[int] = args.gap
+    if gap is not None:
+        return gap
+    gaps = {inputs.gap_of(it) for it in args.inputs if os.path.isfile(it)} - {None}
+    return gaps.pop() if len(gaps) == 1 else None
 
 
 def plain(cell: Cell) -> str:

@@ -32,6 +32,8 @@ def unguarded(text: str) -> str:
 def cell_text(cell: Cell) -> str:
     if cell is None:
         return ""
+    if isinstance(cell, float) and cell.is_integer():
+        return str(int(cell))
     return guarded(cell) if isinstance(cell, str) else str(cell)
 
 

@@ -117,7 +117,7 @@ def form_of(messages: Sequence[Message], roster: Roster, net: str) -> str:
 
 def run(args: argparse.Namespace) -> int:
     roster = roster_of(args.roster)
-    messages = chosen(list(table.messages(args.inputs, args.gap)), args)
+    messages = chosen(list(table.messages(args.inputs, report.gap_of(args))), args)
     if args.csv:
         report.put(args, csv_of(messages, roster))
     else:

@@ -3,7 +3,7 @@ import argparse
 import sys
 from typing import Any, Dict, List, Optional, Sequence
 
-from aprsbook_tools import arguments, merged, page_files, text_file, whole
+from aprsbook_tools import arguments, merged, page_files, report, text_file, whole
 from aprsbook_tools.commands import Subparsers
 from aprsbook_tools.roster import read_roster
 
@@ -92,8 +92,8 @@ def files_of(args: argparse.Namespace) -> List[str]:
 def run(args: argparse.Namespace) -> int:
     if args.output and args.output != "-":
         whole.check(args.output, [*args.inputs, *files_of(args)])
-    said = brought(args)
-    with merged.book(args.inputs, args.gap) as book:
-        text = page_of(book, args.gap, said)
+    said, gap = brought(args), report.gap_of(args)
+    with merged.book(args.inputs, gap) as book:
+        text = page_of(book, gap, said)
     whole.put(args.output, text, [*args.inputs, *files_of(args)])
     return 0

@@ -127,7 +127,7 @@ def matrix_of(
 def run(args: argparse.Namespace) -> int:
     roster = roster_of(args.roster)
     points = read_checkpoints(args.points, text_file.read(args.points))
-    things = things_of(table.rows(args.inputs, args.gap))
+    things = things_of(table.rows(args.inputs, report.gap_of(args)))
     visits = all_visits(things, points, args.apart * 60_000)
     if args.matrix:
         head, lines = matrix_of(visits, points, roster)

@@ -25,7 +25,7 @@ def add_parser(subparsers: Subparsers) -> None:
 
 def run(args: argparse.Namespace) -> int:
     roster = roster_of(args.roster)
-    things = things_of(table.rows(args.inputs, args.gap))
+    things = things_of(table.rows(args.inputs, report.gap_of(args)))
     if args.geojson:
         report.put(args, last_places_of(things, roster))
         return 0

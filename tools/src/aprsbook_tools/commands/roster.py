@@ -38,7 +38,7 @@ def line_of(entry: Expected, stations: Iterable[table.Station]) -> List[Cell]:
 
 def run(args: argparse.Namespace) -> int:
     expected = roster_of(args.roster).expected
-    stations = list(table.stations(args.inputs, args.gap))
+    stations = list(table.stations(args.inputs, report.gap_of(args)))
     rows = [line_of(it, stations) for it in expected]
     rows.sort(key=lambda it: "" if it[0] == "never" else str(it[0]))
     report.put_table(args, HEAD, rows)

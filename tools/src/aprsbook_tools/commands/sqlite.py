@@ -1,7 +1,7 @@
 """The tables of a book in a database of SQLite."""
 import argparse
 
-from aprsbook_tools import arguments, databases, merged, table
+from aprsbook_tools import arguments, databases, merged, report, table
 from aprsbook_tools.commands import Subparsers
 
 
@@ -10,7 +10,8 @@ def add_parser(subparsers: Subparsers) -> None:
         "sqlite",
         help="a database of SQLite with the tables of a book",
         description="Makes the tables transmissions, messages, stations and things of logs and "
-        "books, and the view places, in place of those that are there; other tables of the "
+        "books, and the views tracks (each place) and places (the last of each), in place of "
+        "those that are there; other tables of the "
         "database stay. Numbers are numbers, and what isn't known is null.",
     )
     arguments.add_gap(parser)
@@ -20,10 +21,11 @@ def add_parser(subparsers: Subparsers) -> None:
 
 def run(args: argparse.Namespace) -> int:
     databases.check(args.database, args.inputs)
-    with merged.book(args.inputs, args.gap) as book:
+    gap = report.gap_of(args)
+    with merged.book(args.inputs, gap) as book:
         databases.write(
             args.database,
-            {name: table.of(kind, [book], args.gap) for name, kind in databases.TABLES.items()},
+            {name: table.of(kind, [book], gap) for name, kind in databases.TABLES.items()},
             args.inputs,
         )
     return 0

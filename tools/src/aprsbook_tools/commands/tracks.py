@@ -24,6 +24,6 @@ def add_parser(subparsers: Subparsers) -> None:
 
 def run(args: argparse.Namespace) -> int:
     roster = roster_of(args.roster)
-    things = things_of(table.rows(args.inputs, args.gap))
+    things = things_of(table.rows(args.inputs, report.gap_of(args)))
     report.put(args, FORMS[args.form](things, roster, args.title))
     return 0
