@@ -87,9 +87,9 @@ reading:
 	build/reading.py
 
 # what is tried with the program: the README's example, the old club's book, gaps, outputs that take
-# nothing, what happens to logs and books, the units, and each awk; and with both programs: what they
+# nothing, what happens to books, the units, and each awk; and with both programs: what they
 # complain of, the history, the version, the packages, and the same programs on other machines
-TRIED = readme old_book gaps full_output logs books units awks
+TRIED = readme old_book gaps full_output books units awks
 TRIED_BOTH = complaints history version packages everywhere
 tried = $(foreach it,$(TRIED),tests/$(it).sh $(PROGRAM) &&) \
     $(foreach it,$(TRIED_BOTH),tests/$(it).sh $(PROGRAM) $(HISTORY) &&)
@@ -107,6 +107,7 @@ recipes:
 cookbook: build
 	@$(MAKE) --no-print-directory elsewhere
 	$(tried) examples/cookbook.sh $(PROGRAM)
+	tests/tools.sh --all $(PROGRAM)
 	$(MAKE) --no-print-directory clib wasm
 	tests/clib.sh $(PROGRAM)
 	tests/module.sh $(PROGRAM)
