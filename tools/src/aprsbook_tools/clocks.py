@@ -9,7 +9,8 @@ from typing import Callable, DefaultDict, Dict, Iterable, List, Mapping, Sequenc
 from aprsbook_tools import moments
 from aprsbook_tools.table import Row
 
-LEAST = 2  # frames on each side of a step
+LEAST = 3  # frames on each side of a step: one of them may be another transmission
+COPIES = 20_000  # milliseconds: digipeaters repeat a transmission within so many
 # the columns that tell of a reception, and not of the transmission
 RECEPTION = frozenset(["first", "last", "receivers", "receiver", "via"])
 
@@ -59,8 +60,8 @@ def transmission(row: Row) -> Tuple[object, ...]:
 
 def pairs(heard: Mapping[str, Iterable[Row]],
           places: Mapping[str, Mapping[int, int]]) -> Dict[Tuple[str, str], List[Both]]:
-    """For each two receivers, what each of them heard once. `places` has the place of a moment in
-    the log of a receiver."""
+    """For each two receivers, the transmissions that both heard; those that were sent again, as any
+    receiver tells, are left out. `places` has the place of a moment in the log of a receiver."""
     by: DefaultDict[Tuple[object, ...], DefaultDict[str, List[int]]] = collections.defaultdict(
         lambda: collections.defaultdict(list))
     for receiver, rows in heard.items():
@@ -68,9 +69,10 @@ def pairs(heard: Mapping[str, Iterable[Row]],
             by[transmission(row)][receiver].append(moments.milliseconds(row.first))
     result: DefaultDict[Tuple[str, str], List[Both]] = collections.defaultdict(list)
     for receivers in by.values():
-        once = sorted(it for it, times in receivers.items() if len(times) == 1)
-        for one, other in itertools.combinations(once, 2):
-            at, other_at = receivers[one][0], receivers[other][0]
+        if any(max(times) - min(times) > COPIES for times in receivers.values()):
+            continue
+        for one, other in itertools.combinations(sorted(receivers), 2):
+            at, other_at = min(receivers[one]), min(receivers[other])
             result[one, other].append(
                 Both(at, other_at, places[one].get(at, 0), places[other].get(other_at, 0)))
     return dict(sorted(result.items()))

@@ -11,9 +11,9 @@ from aprsbook_tools.commands import Subparsers
 from aprsbook_tools.errors import FAULTY, OUTPUT, Fault
 
 TEXT = """\
-For each two receivers that heard the same transmissions, each of them once: by how many seconds the
-first is ahead of the other, in the median, how many transmissions that are, and from when to when
-by each clock. Where the difference changes, as when a clock is set or drifts, there is a line for
+For each two receivers that heard the same transmissions: by how many seconds the first is ahead of
+the other, in the median, how many transmissions that are, and from when to when by each clock. What
+was sent again with the same text is left out. Where the difference changes, as when a clock is set or drifts, there is a line for
 each span, and the change lies between two of them.
 
 The status is 1 where the difference is more than the gap in any span, since a book then has rows
