@@ -66,13 +66,20 @@ awk -v to="$scratch/blocks/" '
     open { print > file }
 ' "$here/../docs/cookbook.md"
 
+# is_there TOOL: a program, or a module of Python by the name of Debian's package
+is_there() {
+    case $1 in
+    python3-*) python3 -c "import ${1#python3-}" 2> /dev/null ;;
+    *) command -v "$1" > /dev/null ;;
+    esac
+}
 ran=0 left=0
 for block in "$scratch"/blocks/???; do
     heading=$(sed -n 1p "$block")
     read -ra tools <<< "$(sed -n 2p "$block")"
     if [ -n "$posix" ] && [ "${#tools[@]}" -gt 0 ]; then continue; fi
     missing=
-    for tool in "${tools[@]}"; do command -v "$tool" > /dev/null || missing="$missing $tool"; done
+    for tool in "${tools[@]}"; do is_there "$tool" || missing="$missing $tool"; done
     if [ -n "$missing" ]; then
         echo "left out: $heading (needs$missing)"
         left=$((left + 1))

@@ -100,10 +100,9 @@ def shown(value: Any) -> str:
         return ",".join(map(shown, value))
     if isinstance(value, float):
         return f"{value:.7f}"
-    text = str(value).replace("\\", "\\\\")
     return "".join(
-        it if " " <= it <= "~" else "".join(f"\\x{octet:02x}" for octet in it.encode())
-        for it in text
+        chr(it) if 0x20 <= it <= 0x7E and it != 0x5C else f"\\x{it:02x}"
+        for it in str(value).encode("utf-8", "surrogateescape")
     )
 
 

@@ -71,10 +71,12 @@ def heard(place: Place) -> Tuple[str, str]:
 
 
 def place_of(row: Row) -> "Place | None":
-    """The place that a row gives, if it gives one."""
+    """The place that a row gives, if it gives one: 0, 0 is what GPS without a fix says."""
     if row.latitude is None or row.longitude is None:
         return None
     spot = Spot(row.latitude, row.longitude)
+    if spot == (0, 0):
+        return None
     if row.kind in ("object", "item"):
         return Place(row.kind, row.name, spot, row)
     return Place("station", row.source, spot, row)

@@ -35,7 +35,7 @@ def add_csv(parser: argparse.ArgumentParser) -> None:
 
 
 def gap_of(args: argparse.Namespace) -> Optional[int]:
-    """The gap that is asked for, or else that of the books among the inputs, where they have one."""
+    """The gap that is asked for, or that of the books among the inputs, where they have one."""
     gap: Optional[int] = args.gap
     if gap is not None:
         return gap

@@ -136,8 +136,9 @@ def fields_of(line: str) -> List[str]:
     """The fields of a line: what a comma, semicolon or tab parts, or else a call and a name."""
     begin = BEGIN.match(line)
     if begin:
-        return [it.strip() for it in next(csv.reader([line.strip(" ")], delimiter=begin[1]))]
-    return line.split(None, 1)
+        fields = csv.reader([line.strip(" ")], delimiter=begin[1], skipinitialspace=True)
+        return [it.strip() for it in next(fields)]
+    return [it.strip('" ') for it in line.split(None, 1)]
 
 
 def head_of(fields: Sequence[str]) -> Optional[List[str]]:

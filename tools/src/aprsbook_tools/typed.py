@@ -38,7 +38,7 @@ def words_of(called: Sequence[str]) -> List[str]:
 
 
 def parse(parser: argparse.ArgumentParser, words: Sequence[str]) -> argparse.Namespace:
-    """Reads the arguments; options may stand before, among and behind the others of a subcommand."""
+    """Reads the arguments; options may stand among and behind the others of a subcommand."""
     for action in parser._subparsers._group_actions if parser._subparsers else []:
         choices = action.choices or {}
         if words and isinstance(choices, dict) and words[0] in choices:

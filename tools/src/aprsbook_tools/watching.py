@@ -54,6 +54,11 @@ def silent(stations: Sequence[Station], roster: Roster, now: int, minutes: int) 
     return alerts
 
 
+def state_of(message: Message) -> str:
+    """The state of a message, as the table decides it: by reply-acks where it has these."""
+    return message.reply_ack or message.state
+
+
 def unanswered(messages: Iterable[Message], roster: Roster, now: int, minutes: int) -> List[Alert]:
     """Messages that nobody has answered for so long."""
     return [
@@ -65,7 +70,7 @@ def unanswered(messages: Iterable[Message], roster: Roster, now: int, minutes: i
             f"{roster.said(it.source)}, {clock(it.first)}: {it.text}",
         )
         for it in messages
-        if it.state == "unanswered" and is_before(it.first, now, minutes)
+        if state_of(it) == "unanswered" and is_before(it.first, now, minutes)
     ]
 
 

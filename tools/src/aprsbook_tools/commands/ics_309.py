@@ -8,6 +8,7 @@ from aprsbook_tools.commands import Subparsers
 from aprsbook_tools.roster import Expected, Roster, call_of, roster_of
 from aprsbook_tools.spreadsheet import csv_text
 from aprsbook_tools.table import Message
+from aprsbook_tools.watching import state_of
 
 HEAD = ["time", "from", "number", "to", "message", "state"]
 NAMES = ["from_name", "to_name"]
@@ -75,7 +76,7 @@ def chosen(messages: Sequence[Message], args: argparse.Namespace) -> List[Messag
 
 def csv_of(messages: Sequence[Message], roster: Roster) -> str:
     """The log as CSV, with the state as the table has it, and with tactical names."""
-    rows = [[it.first, it.source, it.id, it.addressee, it.text, it.state] for it in messages]
+    rows = [[it.first, it.source, it.id, it.addressee, it.text, state_of(it)] for it in messages]
     if not roster.has_names:
         return csv_text([HEAD, *rows])
     names = [[roster.name_of(it.source), roster.name_of(it.addressee)] for it in messages]
@@ -93,7 +94,7 @@ def form_of(messages: Sequence[Message], roster: Roster, net: str) -> str:
                 roster.said(it.source),
                 it.id,
                 roster.said(it.addressee),
-                ANSWERS.get(it.state, ""),
+                ANSWERS.get(state_of(it), ""),
                 it.text,
             ]
         )

@@ -22,7 +22,8 @@ def add_parser(subparsers: Subparsers) -> None:
 def run(args: argparse.Namespace) -> int:
     roster = roster_of(args.roster)
     stations = sorted(
-        table.stations(args.inputs, report.gap_of(args)), key=lambda it: (it.last, it.receiver, it.source)
+        table.stations(args.inputs, report.gap_of(args)),
+        key=lambda it: (it.last, it.receiver, it.source),
     )
     report.put_table(
         args,
