@@ -11,9 +11,10 @@ from aprsbook_tools.commands import Subparsers, page
 from aprsbook_tools.errors import FAULTY, Fault
 
 DESCRIPTION = """Makes OUT/net.book and OUT/index.html of the logs of today and yesterday (UTC).
-These are LOGS/DAY/NAME.log such as `aprs-net log` writes, also compressed (.log.gz). Both stay as they
-are where nothing has changed, and where none of these logs is there. Only whole lines are read:
-standard error says how many others stand in a log, and the page names a log that can't be read."""
+These are LOGS/DAY/NAME.log such as `aprs-net log` writes, also compressed (.log.gz). Both stay as
+they are where nothing has changed, and where none of these logs is there. Only whole lines are
+read: standard error says how many others stand in a log, and the page names a log that can't be
+read."""
 
 
 def day_of(text: str) -> str:
