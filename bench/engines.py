@@ -1,9 +1,9 @@
 #!/usr/bin/env python3
-"""Merges of logs, and of the book files of their days, by one process and by merge-tree with one to
-four processors, and places of the logs: seconds, beside the one process, and the greatest memory
+"""Merges of logs, and of the book files of their days, by one process and by aprs-net book with one
+to four processors, and places of the logs: seconds, beside the one process, and the greatest memory
 of a process.
 
-usage: engines.py PROGRAM HISTORY FOLDER LINES..    needs taskset, and what merge-tree needs. The inputs
+usage: engines.py PROGRAM HISTORY FOLDER LINES..    needs taskset and aprsbook-table. The inputs
                                                     of so many lines stay in FOLDER, and aren't made
                                                     again
        engines.py --inputs PROGRAM FOLDER LINES..   makes the inputs alone
@@ -63,9 +63,10 @@ def measure(folder, lines):
         one, memory = run("aprsbook", "merge", *inputs, to=folder / "one")
         print(f"{lines} lines, {kind}: one process {one:.1f} s, {memory:.0f} MiB", flush=True)
         for n in 1, 2, 3, 4:
-            took, most = run("taskset", "-c", f"0-{n - 1}", "merge-tree", folder / kind, folder / "tree")
+            took, most = run("taskset", "-c", f"0-{n - 1}", "aprs-net", "book",
+                             "--anew", "--jobs", n, folder / "tree.book", folder / kind)
             # not read here: a process begins with the memory of the one that starts it
-            subprocess.run(["cmp", folder / "one", folder / "tree"], check=True)
+            subprocess.run(["cmp", folder / "one", folder / "tree.book"], check=True)
             print(f"    {n} processors: {took:.1f} s ({one / took:.2f} times as fast), {most:.0f} MiB",
                   flush=True)
         if kind == "logs":

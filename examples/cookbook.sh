@@ -38,9 +38,11 @@ ln -s "$program" "$scratch/bin/aprsbook"
 for it in "${program%/*}/aprsbook-history" "${program%/*/out/*}/aprsbook_history/out/aprsbook_history"; do
     if [ -x "$it" ]; then ln -sf "$(realpath "$it")" "$scratch/bin/aprsbook-history"; fi
 done
-# and that for tables
-for it in "${program%/*}/aprsbook-table" "${program%/*/out/*}/aprsbook_table/out/aprsbook_table"; do
-    if [ -x "$it" ]; then ln -sf "$(realpath "$it")" "$scratch/bin/aprsbook-table"; fi
+# and those for tables and folds
+for name in table fold; do
+    for it in "${program%/*}/aprsbook-$name" "${program%/*/out/*}/aprsbook_$name/out/aprsbook_$name"; do
+        if [ -x "$it" ]; then ln -sf "$(realpath "$it")" "$scratch/bin/aprsbook-$name"; fi
+    done
 done
 tools=$(dirname "$here")/tools/bin
 export PATH="$scratch/bin:$tools:$here/recipes:$PATH"

@@ -31,8 +31,10 @@ ln -s "$program" "$scratch/bin/aprsbook"
 for it in "$history" "${program%/*}/aprsbook-history" "${program%/aprsbook/out/*}"/*/out/aprsbook_history; do
     if [ -x "$it" ]; then ln -sf "$it" "$scratch/bin/aprsbook-history" && break; fi
 done
-for it in "${program%/*}/aprsbook-table" "${program%/aprsbook/out/*}"/*/out/aprsbook_table; do
-    if [ -x "$it" ]; then ln -sf "$it" "$scratch/bin/aprsbook-table" && break; fi
+for name in aprsbook-table aprsbook-fold; do
+    for it in "${program%/*}/$name" "${program%/aprsbook/out/*}"/*/out/"$(echo $name | tr - _)"; do
+        if [ -x "$it" ]; then ln -sf "$it" "$scratch/bin/$name" && break; fi
+    done
 done
 PATH=$scratch/bin:$repository/tools/bin:$repository/examples/recipes:$PATH
 export PATH PYTHONDONTWRITEBYTECODE=1

@@ -19,20 +19,42 @@ python_with() {
     done
 }
 if command -v mypy > /dev/null; then
-    mypy --strict --no-incremental --cache-dir=/dev/null src tests
+    mypy --strict --no-incremental --cache-dir=/dev/null src tests make_pages.py
 else
     echo 'left out: types of tools (Debian: apt install mypy)'
 fi
 if command -v pyflakes3 > /dev/null; then
-    pyflakes3 src tests
+    pyflakes3 src tests make_pages.py
 else
     echo 'left out: names of tools (Debian: apt install pyflakes3)'
+fi
+# what is made of the parsers, by their readers; no line of Python is longer than 100
+work=$(mktemp -d)
+trap 'rm -r "$work"' EXIT
+if command -v python3 > /dev/null; then
+    ./make_pages.py "$work" "$("$repository/packaging/version")" 2024-06-21
+    # read_by TOOL WORD..: the tool, where it is there, has nothing to say
+    read_by() {
+        command -v "$1" > /dev/null || return 0
+        "$@" > "$work/said" 2>&1 || { echo "$* ended with $?" && cat "$work/said"; exit 1; }
+        [ ! -s "$work/said" ] || { cat "$work/said"; exit 1; }
+    }
+    read_by mandoc -T lint "$work/aprs-net.1"
+    read_by bash -n "$work/aprs-net.bash"
+    read_by shellcheck -s bash "$work/aprs-net.bash"
+    read_by zsh -n "$work/_aprs-net"
+    read_by fish -n "$work/aprs-net.fish"
+fi
+long=$(find . -name '*.py' -exec awk 'length > 100 { print FILENAME ":" FNR ": " $0 }' {} +)
+if [ -n "$long" ]; then
+    printf 'longer than 100 columns:\n%s\n' "$long"
+    exit 1
 fi
 [ "$all" = --all ] || exit 0
 if [ -n "$program" ]; then
     crates=$repository/${program%/*/out/*}
-    names=$(mktemp -d)
-    trap 'rm -r "$names"' EXIT
+    names=$work/bin
+    mkdir "$names"
     for built in "$crates"/aprsbook*/out/aprsbook*; do
         if [ -x "$built" ] && [ -f "$built" ]; then
             ln -sf "$built" "$names/$(basename "$built" | tr _ -)"

@@ -23,4 +23,3 @@ if [ -f "$page" ]; then
 else
     echo 'left out: page_reads.py (no page is there: make page)'
 fi
-for test in aprs_log monitor_log; do with 'python3' $test.py "$examples"; done

@@ -23,13 +23,14 @@ def end(number: int, _: object) -> NoReturn:
     raise Ended(number)
 
 
-def make_parser() -> argparse.ArgumentParser:
-    """The parser of all subcommands, from which manual page and completions are made too."""
+def make_parser(names: Sequence[str] = commands.NAMES) -> argparse.ArgumentParser:
+    """The parser of all subcommands, from which manual page and completions are made too, or of
+    some, which is there sooner."""
     parser = argparse.ArgumentParser(
         prog="aprs-net", description="Logs, books and reports of APRS nets, around aprsbook.")
     parser.add_argument("--version", action="version", version=f"aprs-net {VERSION}")
     subparsers = parser.add_subparsers(metavar="COMMAND", required=True)
-    for name in commands.NAMES:
+    for name in names:
         end = "_" if keyword.iskeyword(name) else ""
         module = importlib.import_module(
             f"aprsbook_tools.commands.{name.replace('-', '_')}{end}")
@@ -51,7 +52,8 @@ def say(text: str) -> None:
 def run(arguments: Optional[Sequence[str]] = None) -> int:
     """Runs a subcommand; its status."""
     words = typed.words_of(sys.argv) if arguments is None else arguments
-    args = typed.parse(make_parser(), words)
+    named = [words[0]] if words and words[0] in commands.NAMES else commands.NAMES
+    args = typed.parse(make_parser(named), words)
     try:
         status = int(args.run(args))
         if sys.stdout is not None:

@@ -9,16 +9,20 @@ from typing import Callable, DefaultDict, Dict, Iterable, List, Mapping, Sequenc
 from aprsbook_tools import moments
 from aprsbook_tools.table import Row
 
-LEAST = 2  # frames on each side of a step
+LEAST = 3  # frames on each side of a step: one of them may be another transmission
+COPIES = 20_000  # milliseconds: digipeaters repeat a transmission within so many
 # the columns that tell of a reception, and not of the transmission
 RECEPTION = frozenset(["first", "last", "receivers", "receiver", "via"])
 
 
 @dataclasses.dataclass(frozen=True, order=True)
 class Both:
-    """A frame that two receivers heard once each: the moment of each, in milliseconds."""
+    """A frame that two receivers heard once each: the moment of each, in milliseconds, and its
+    place in the log of each, which grows whatever a clock says."""
     one: int
     other: int
+    place: int
+    other_place: int
 
     @property
     def ahead(self) -> int:
@@ -54,8 +58,10 @@ def transmission(row: Row) -> Tuple[object, ...]:
                  if it.name not in RECEPTION)
 
 
-def pairs(heard: Mapping[str, Iterable[Row]]) -> Dict[Tuple[str, str], List[Both]]:
-    """For each two receivers, what each of them heard once."""
+def pairs(heard: Mapping[str, Iterable[Row]],
+          places: Mapping[str, Mapping[int, int]]) -> Dict[Tuple[str, str], List[Both]]:
+    """For each two receivers, the transmissions that both heard; those that were sent again, as any
+    receiver tells, are left out. `places` has the place of a moment in the log of a receiver."""
     by: DefaultDict[Tuple[object, ...], DefaultDict[str, List[int]]] = collections.defaultdict(
         lambda: collections.defaultdict(list))
     for receiver, rows in heard.items():
@@ -63,9 +69,12 @@ def pairs(heard: Mapping[str, Iterable[Row]]) -> Dict[Tuple[str, str], List[Both
             by[transmission(row)][receiver].append(moments.milliseconds(row.first))
     result: DefaultDict[Tuple[str, str], List[Both]] = collections.defaultdict(list)
     for receivers in by.values():
-        once = sorted(it for it, times in receivers.items() if len(times) == 1)
-        for one, other in itertools.combinations(once, 2):
-            result[one, other].append(Both(receivers[one][0], receivers[other][0]))
+        if any(max(times) - min(times) > COPIES for times in receivers.values()):
+            continue
+        for one, other in itertools.combinations(sorted(receivers), 2):
+            at, other_at = min(receivers[one]), min(receivers[other])
+            result[one, other].append(
+                Both(at, other_at, places[one].get(at, 0), places[other].get(other_at, 0)))
     return dict(sorted(result.items()))
 
 
@@ -129,11 +138,15 @@ def joined(parts: Sequence[Sequence[Both]], step: int) -> List[Sequence[Both]]:
 
 
 def spans(one: str, other: str, frames: Sequence[Both], step: int) -> List[Span]:
-    """The spans between the steps of two receivers' difference. Of the two clocks that one orders
-    the frames which leaves fewer spans: the other one may go back."""
-    orders: List[Callable[[Both], int]] = [lambda it: it.other, lambda it: it.one]
+    """The spans between the steps of two receivers' difference. The frames are ordered as they
+    stand in a log, or, where a log was sorted, by the clock by which spans are few and steady."""
+    orders: List[Callable[[Both], int]] = [
+        lambda it: it.place, lambda it: it.other_place, lambda it: it.other, lambda it: it.one]
     found = [cut(sorted(frames, key=order), step) for order in orders]
-    return [Span(one, other, tuple(part)) for part in min(found, key=len)]
+
+    def unsteady(parts: List[Sequence[Both]]) -> float:
+        return sum(step + costs([it.ahead for it in part])[-1][0] for part in parts)
+    return [Span(one, other, tuple(part)) for part in min(found, key=unsteady)]
 
 
 def wrong(found: Sequence[Span], gap: float) -> List[str]:

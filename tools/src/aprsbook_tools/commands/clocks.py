@@ -4,16 +4,16 @@ import contextlib
 import os
 import sys
 import tempfile
-from typing import IO, Dict, List
+from typing import IO, Dict, List, Tuple
 
 from aprsbook_tools import arguments, book, clocks, inputs, log_file, table, whole
 from aprsbook_tools.commands import Subparsers
 from aprsbook_tools.errors import FAULTY, OUTPUT, Fault
 
 TEXT = """\
-For each two receivers that heard the same transmissions, each of them once: by how many seconds the
-first is ahead of the other, in the median, how many transmissions that are, and from when to when
-by each clock. Where the difference changes, as when a clock is set or drifts, there is a line for
+For each two receivers that heard the same transmissions: by how many seconds the first is ahead of
+the other, in the median, how many transmissions that are, and from when to when by each clock. What
+was sent again with the same text is left out. Where the difference changes, as when a clock is set or drifts, there is a line for
 each span, and the change lies between two of them.
 
 The status is 1 where the difference is more than the gap in any span, since a book then has rows
@@ -31,16 +31,20 @@ def add_parser(subparsers: Subparsers) -> None:
     parser.add_argument("inputs", nargs="+", metavar="LOG", help="a log, or a folder of logs")
 
 
-def split(items: List[inputs.Input], folder: str) -> Dict[str, str]:
-    """A log of each receiver, in a folder."""
+Places = Dict[str, Dict[int, int]]
+
+
+def split(items: List[inputs.Input], folder: str) -> Tuple[Dict[str, str], Places]:
+    """A log of each receiver, in a folder, and the place of each moment in it."""
     paths: Dict[str, str] = {}
+    places: Places = {}
     for it in items:
         if it.fault:
             raise Fault(f"{it.path}: {it.fault}")
         lines: Dict[str, List[bytes]] = {}
         try:
             with inputs.opened(it.path) as file:
-                add_lines(it.path, file, lines)
+                add_lines(it.path, file, lines, places)
         except EOFError as fault:
             raise Fault(f"{it.path}: {fault}") from fault
         for receiver, of_receiver in lines.items():
@@ -48,15 +52,17 @@ def split(items: List[inputs.Input], folder: str) -> Dict[str, str]:
             path = paths.setdefault(receiver, os.path.join(folder, f"{len(paths):06}.log"))
             with open(path, "ab") as log:
                 log.writelines(of_receiver)
-    return paths
+    return paths, places
 
 
-def add_lines(path: str, file: IO[bytes], lines: Dict[str, List[bytes]]) -> None:
+def add_lines(path: str, file: IO[bytes], lines: Dict[str, List[bytes]], places: Places) -> None:
     for number, line in enumerate(file, 1):
         read = log_file.read_line(line[:-1]) if line.endswith(b"\n") else None
         if read is None:
             raise Fault(f"{path}: line {number}: no line of a log (aprs-net mend takes it out)")
         lines.setdefault(read.receiver, []).append(line)
+        of_receiver = places.setdefault(read.receiver, {})
+        of_receiver.setdefault(read.moment, len(of_receiver))
 
 
 def run(args: argparse.Namespace) -> int:
@@ -68,12 +74,12 @@ def run(args: argparse.Namespace) -> int:
     with contextlib.ExitStack() as stack:
         try:
             folder = stack.enter_context(tempfile.TemporaryDirectory())
-            paths = split(items, folder)
+            paths, places = split(items, folder)
         except OSError as fault:
             raise Fault(f"{fault.filename}: {fault.strerror}", OUTPUT) from fault
         # a gap of a second: the copies of a transmission stay apart where they can
         heard = {receiver: table.rows([path], 1) for receiver, path in sorted(paths.items())}
-        pairs = clocks.pairs(heard)
+        pairs = clocks.pairs(heard, places)
     found = [span for (one, other), frames in pairs.items()
              for span in clocks.spans(one, other, frames, args.step * 1000)]
     lines = [clocks.COLUMNS, *(span.words() for span in found)]
