@@ -119,7 +119,7 @@ def case_of(seed: int) -> Case:
 def both() -> List[Any]:
     """Cases, each with what the page says of it."""
     folder = page_files.folder()
-    if shutil.which("node") is None or not getattr(page_files.together(), "TABLES", False):
+    if shutil.which("node") is None or not (folder / "roster.js").is_file():
         pytest.skip("needs node, and the page that reads tables")
     made_up = [case_of(seed) for seed in range(CASES)]
     given = [

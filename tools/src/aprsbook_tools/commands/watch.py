@@ -18,8 +18,8 @@ from aprsbook_tools.watching import Alert
 PATIENCE = 60  # seconds that the user's command may take
 
 DESCRIPTION = """Tells, once each, of the logs LOGS/DAY/NAME.log: who of those expected (or of all
-that were heard) is silent, which message isn't answered, and who reports an emergency in Mic-E. It
-is told on standard output, or to COMMAND: the last of its arguments is what happened in words.
+that were heard) is silent, which message isn't answered, and who reports an emergency in Mic-E.
+It is told on standard output, or to COMMAND: the last of its arguments is what happened in words.
 APRS_KIND (silent, unanswered, emergency), APRS_CALL, APRS_SINCE and APRS_WORDS have it too. No
 shell reads these words. Where COMMAND fails, it is told again in the next turn."""
 
