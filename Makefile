@@ -43,9 +43,11 @@ wasm:
 clib:
 	build/clib.sh
 
-# the sample log as a monitor prints it
+# the main job, on the sample log of two receivers: their book, and what is last known of whom
 run: build
-	$(PROGRAM) convert text examples/sample.log
+	@mkdir -p out
+	$(PROGRAM) merge examples/sample.log > out/sample.book
+	$(PROGRAM) show out/sample.book
 
 # the same without any proof
 try:
