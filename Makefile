@@ -64,6 +64,7 @@ test: words recipes
 words:
 	tests/version.sh
 	tests/words.sh
+	tests/sentences.py
 	tests/names.sh
 	tests/numbers.sh
 	tests/map.sh
@@ -72,6 +73,12 @@ words:
 	tests/completions.sh
 	tests/scripts.sh
 	tests/system_c.sh
+
+# the completions, and the synopsis and the options of the manual pages, written anew of
+# completions/programs.txt
+.PHONY: options
+options:
+	build/options.py
 
 # the map in docs/architecture.md, drawn anew
 map:
@@ -82,12 +89,13 @@ map:
 reading:
 	build/reading.py
 
-# what is tried with the program: the README's example, the old club's book, gaps, outputs that take
-# nothing, what happens to logs and books, the units, and each awk; and with both programs: what they
+# what is tried with the program: 0 to 100 inputs, the README from its top, the old club's book, gaps,
+# outputs that take nothing, what happens to logs and books, the units, and each awk; and with both
+# programs: what they
 # complain of, the history, the version, the packages, and the same programs on other machines
 TRIED = readme old_book gaps full_output logs books units awks
 TRIED_BOTH = complaints history version packages everywhere
-tried = $(foreach it,$(TRIED),tests/$(it).sh $(PROGRAM) &&) \
+tried = tests/arguments.py $(PROGRAM) && $(foreach it,$(TRIED),tests/$(it).sh $(PROGRAM) &&) \
     $(foreach it,$(TRIED_BOTH),tests/$(it).sh $(PROGRAM) $(HISTORY) &&)
 
 # these, and the recipes that need only a POSIX system, where a program is there that is newer than
