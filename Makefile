@@ -91,8 +91,8 @@ reading:
 
 # what is tried with the program: 0 to 100 inputs, the README from its top, the old club's book, gaps,
 # outputs that take nothing, what happens to logs and books, the units, and each awk; and with both
-# programs: what they
-# complain of, the history, the version, the packages, and the same programs on other machines
+# programs: what they complain of, the history, the version, the packages, and the same programs on
+# other machines
 TRIED = readme old_book gaps full_output logs books units awks
 TRIED_BOTH = complaints history version packages everywhere
 tried = tests/arguments.py $(PROGRAM) && $(foreach it,$(TRIED),tests/$(it).sh $(PROGRAM) &&) \

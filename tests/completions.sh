@@ -9,7 +9,8 @@ source completions/aprsbook.bash
 source completions/aprsbook-history.bash
 # shellcheck source=../completions/aprsbook-table.bash
 source completions/aprsbook-table.bash
-# bash knows this only while it completes
+# bash knows this only while it completes, and the completions call it
+# shellcheck disable=SC2317
 compopt() { :; }
 scratch=$(mktemp -d)
 trap 'rm -rf "$scratch"' EXIT
