@@ -22,7 +22,7 @@ MOST = 30
 # what refers back to a sentence or a clause that one has to look for
 BACK = re.compile(r"\b(of which|so was|so were|and that one|in which case)\b", re.I)
 # where a sentence ends: a stop, what closes, and then what can begin the next one
-END = re.compile(r"(?<![.])[.?!][)\"*_]*\s+(?=[\"(*_\[]*[A-Z0-9`])")
+END = re.compile(r"(?<![.])[.?!][)\"*_]*\s+(?=[\"(*_]*[A-Z0-9`\0])")
 ITEM = re.compile(r"^\s*(?:[-*]|\d+\.)\s+")
 
 
@@ -98,7 +98,8 @@ def texts_of_manual(path: str, lines: List[str]) -> Iterator[Text]:
 def sentences(text: Text) -> Iterator[Sentence]:
     """The sentences of a text; a code span is one word, and a link what it shows."""
     shown = re.sub(r"<!--.*?-->", "", text.words)
-    shown = re.sub(r"!?\[([^\]]*)\]\([^)]*\)", r"\1", shown)
+    # a sentence may begin with a link, in small letters
+    shown = re.sub(r"!?\[([^\]]*)\]\([^)]*\)", "\0\\1", shown)
     spans: List[str] = []
 
     def kept(span: "re.Match[str]") -> str:
@@ -108,7 +109,7 @@ def sentences(text: Text) -> Iterator[Sentence]:
     shown = re.sub(r"(`+).+?\1", kept, shown)
     begin = 0
     for end in [match.end() for match in END.finditer(shown)] + [len(shown)]:
-        said, begin = shown[begin:end].strip(), end
+        said, begin = shown[begin:end].replace("\0", "").strip(), end
         size = len(re.findall(r"`\d+`|[^\s`]*\w[^\s`]*", said))
         if said:
             whole = re.sub(r"`(\d+)`", lambda span: spans[int(span.group(1))], said)
