@@ -65,6 +65,7 @@ words:
 	tests/version.sh
 	tests/words.sh
 	tests/sentences.py
+	tests/outside.py
 	tests/names.sh
 	tests/numbers.sh
 	tests/map.sh
