@@ -22,7 +22,7 @@ MOST = 30
 # what refers back to a sentence or a clause that one has to look for
 BACK = re.compile(r"\b(of which|so was|so were|and that one|in which case)\b", re.I)
 # where a sentence ends: a stop, what closes, and then what can begin the next one
-END = re.compile(r"(?<![.])[.?!][)\"*_]*\s+(?=[\"(*_]*[A-Z0-9`\0])")
+END = re.compile(r"(?<![.])[.?!][)\"*_]*\s+(?=[(*_]*[A-Z0-9`\"\0])")
 ITEM = re.compile(r"^\s*(?:[-*]|\d+\.)\s+")
 
 
@@ -58,7 +58,8 @@ def texts_of_page(path: str, lines: List[str]) -> Iterator[Text]:
         elif inside or line.startswith("<!--") or not line.strip():
             continue
         elif line.startswith("|"):
-            for cell in re.split(r"(?<!\\)\|", line.strip().strip("|")):
+            # what stands in a cell with semicolons between is a list
+            for cell in re.split(r"(?<!\\)\||; ", line.strip().strip("|")):
                 if not re.fullmatch(r"[\s:-]*", cell):
                     yield Text(path, number, cell.strip())
         elif line.startswith("#"):
@@ -89,8 +90,9 @@ def texts_of_manual(path: str, lines: List[str]) -> Iterator[Text]:
             shown = re.sub(r"\\\((lq|rq|aq)", '"', re.sub(r"\\f[BIRP]|\\&", "", line))
             words = shown.split(maxsplit=1)[1:] if macro else [shown]
             if macro and words:
-                # a word of another face is a name
-                words = ["`" + re.sub(r"[\s\"]+", "_", words[0]).strip("_") + "`"]
+                # a word of another face is a name, and may end a sentence
+                name = re.sub(r"[\s\"]+", "_", words[0]).strip("_")
+                words = ["`" + name.rstrip("_).,;:") + "`" + ("." if name.endswith(".") else "")]
             kept += words
 
 
