@@ -114,7 +114,8 @@ def run(
             resource.setrlimit(what, (most, most))
 
     ended = subprocess.run(
-        command, input=given, capture_output=True, check=False, preexec_fn=limit if limits else None
+        command, input=given, capture_output=True, check=False, timeout=120,
+        preexec_fn=limit if limits else None,
     )
     return ended.returncode, ended.stdout.decode(), ended.stderr.decode()
 
@@ -150,7 +151,7 @@ def names_the_right_one(it: Program) -> None:
     """At each place an input that isn't there, or is faulty, is named, and the first one of two."""
     for count in EDGES:
         paths = [f"{n}.log" for n in range(1, count + 1)]
-        for place in range(count):
+        for place in [n for n in range(count) if n + 1 in EDGES or n + 1 == count]:
             words = paths[:place] + [f"no{place}.log"] + paths[place + 1 :]
             wanted = (1, "", f"{it.name}: no{place}.log: cannot open\n")
             expects(it.command + words, wanted)
