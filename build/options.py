@@ -430,6 +430,9 @@ def in_sources(program: Program) -> Tuple[Set[str], Set[str]]:
             words |= set(re.findall(r'[cC]ommand(?:::new)?\(\s*alloc,\s*"([\w-]+)"', text))
             words |= set(re.findall(r'PossibleValue::new\("([\w-]+)"\)', text))
             words |= {"help"} if ".subcommand(" in text else set()
+            if "Table::named(" in text:
+                tables = read("crates/aprs_command/src/jobs.rt")
+                words |= set(re.findall(r'if name == b"([a-z]+)"', tables))
             options |= {f"--{it}" for it in re.findall(r'option_arg\(\s*alloc,\s*"(\w+)"', text)}
             options |= {"--gap"} if "gap_arg(alloc)" in text else set()
     return words - {program.name}, options

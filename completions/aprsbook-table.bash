@@ -23,6 +23,8 @@ _aprsbook_table() {
     local words='' options='' files=1
     COMPREPLY=()
     case $path in
+    ' rows '*) options='--gap --help' ;;
+    ' ') words='rows' options='--gap --help --version' ;;
     ' '*) options='--gap --help --version' ;;
     esac
     case $before in

@@ -17,6 +17,8 @@ function _aprsbook_table_end
     and _aprsbook_table_at $argv
 end
 
+complete -c aprsbook-table -n '_aprsbook_table_end' -a rows -d 'A line for each transmission'
 complete -c aprsbook-table -l gap -x -d 'Seconds within which copies are one, 1 to 3600'
+complete -c aprsbook-table -n '_aprsbook_table_at rows' -l gap -x -d 'Seconds within which copies are one, 1 to 3600'
 complete -c aprsbook-table -s h -l help -d 'Write help'
 complete -c aprsbook-table -s V -l version -d 'Write the version'

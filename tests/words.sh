@@ -1,9 +1,9 @@
 #!/bin/sh
 # Checks that the cookbook's table "When it says" has each message and each cause of an error, and,
 # both ways, that the manual pages name the words that the programs have: their commands, forms,
-# kinds of reports, lines of a listing and of a history, states, exit statuses and messages, the
-# causes of errors, and the reasons for which a line is passed over. These words are read from the
-# sources. The options of pages and completions are made of one table, which is held to the sources
+# kinds of reports, lines of a listing and of a history, tables and their columns, states, exit
+# statuses and messages, the causes of errors, and the reasons for which a line is passed over. These
+# words are read from the sources. The options of pages and completions are made of one table, which is held to the sources
 # too. Needs a POSIX system and Python 3; where mandoc, bash, zsh or fish is there, it also looks at
 # its file.
 set -eu
@@ -56,6 +56,15 @@ awk '/^words_of / && !/UTF-8/ && match($0, /codes ".*"$/) {
 echo 'aprsbook: PLACE: line N: CAUSE' >> "$scratch/program/messages"
 # those of the program of histories, which has no capture and widens nothing
 calls aprs_listing/src/history.rt 'put_[a-z]*_line' > "$scratch/program/history_lines"
+# the tables, and the columns as their definition has them
+sed -n 's/.*if name == b"\([a-z]*\)".*/\1/p' crates/aprs_command/src/jobs.rt \
+    > "$scratch/program/tables"
+# columns FILE NAME: those of a definition
+columns() {
+    awk -v name="$2" '$1 == name && $2 == "=" { inside = 1 } $0 == "" { inside = 0 } inside' \
+        "crates/$1" | grep -o 'codes "[a-z0-9_]*"' | sed 's/codes "\(.*\)"/\1/'
+}
+columns aprs_table/specs/Table.antt columns > "$scratch/program/row_columns"
 for name in history table; do
     sed "/: narrower\$/d; /capture/d; s/^aprsbook/aprsbook-$name/" "$scratch/program/messages" \
         > "$scratch/program/${name}_messages"
@@ -82,7 +91,7 @@ tags() {
             gsub(/"/, "")
             print
         }
-        { tag = open && /^\.TP/ }
+        { tag = open && /^\.T[PQ]/ }
     ' $page
 }
 # first_words HEADING: of each tag
@@ -100,6 +109,9 @@ first_words 'EXIT STATUS' > "$scratch/page/statuses"
 tags DIAGNOSTICS > "$scratch/page/messages"
 page=man/aprsbook-history.1
 first_words 'Lines of a history' > "$scratch/page/history_lines"
+page=man/aprsbook-table.1
+first_words TABLES > "$scratch/page/tables"
+first_words 'Columns of rows' > "$scratch/page/row_columns"
 for name in history table; do
     page=man/aprsbook-$name.1
     first_words 'EXIT STATUS' > "$scratch/page/${name}_statuses"
@@ -121,7 +133,7 @@ same() {
 }
 for kind in commands forms kinds listed object_states message_states reasons log_causes \
     book_causes statuses messages history_lines history_statuses history_messages \
-    table_statuses table_messages; do
+    tables row_columns table_statuses table_messages; do
     same $kind page
 done
 build/options.py --check > "$scratch/said" || fail "options: $(cat "$scratch/said")"

@@ -1,4 +1,7 @@
 //! What a program is asked to do.
+ghost use Rattle.std.specs.Prelude.{◌≡◌};
+ghost use Rattle.aprs_command.specs.Arguments.{named_table};
+
 use aprs_convert::Form;
 use aprs_laws::Gap;
 
@@ -28,10 +31,32 @@ pub struct HistoryJob {
     pub inputs: Vec<String>,
 }
 
-/// What the arguments of `aprsbook-table` ask for: the table of logs and book files, with the
-/// paths of these; without any, standard input is read.
+/// Which table of a book is written.
+#[derive(Clone, Copy)]
+pub enum Table {
+    /// A line for each row of the book.
+    Rows,
+}
+
+impl Table {
+    /// The table of this name, which is `rows`, or `None` where no table has it.
+    pub fn named(name: &[u8]) -> Option<Table>
+        ensures { result ≡ named_table name.now }
+    {
+        if name == b"rows".as_slice() {
+            Some(Table::Rows)
+        } else {
+            None
+        }
+    }
+}
+
+/// What the arguments of `aprsbook-table` ask for: a table of logs and book files, with the paths
+/// of these; without any, standard input is read.
 #[derive(Drop)]
 pub struct TableJob {
+    /// Which table is written.
+    pub table: Table,
     /// The gap of the book whose table is written.
     pub gap: Gap,
     /// The paths, in the order of the arguments.

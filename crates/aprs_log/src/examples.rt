@@ -2,6 +2,7 @@
 ghost use Rattle.std.specs.Prelude.{◌++◌, ◌∷◌, [], ℕ, List, codes};
 ghost use Rattle.aprs_io.specs.declared.input.InputEnd.TheVariants.{End, Read};
 ghost use Rattle.aprs_log.specs.Examples.{heard_after, hi_digits, hi_line, leap_line, line_by, noon, unended_line};
+ghost use Rattle.aprs_log.specs.Receiver.{IsName};
 ghost use Rattle.aprs_log.specs.LineText.{IsPassed, IsWrongLine, Reports};
 ghost use Rattle.aprs_log.specs.Moment.{IsTextOf};
 ghost use Rattle.aprs_log.specs.LogText.{HasLogFault, IsLogText};
@@ -15,6 +16,26 @@ pub fn moments_have_texts()
     ensures millis { IsTextOf 1714564800500 (codes "2024-05-01T12:00:00.500Z") }
     ensures misses_half { IsTextOf 1714564800500 noon → ⊥ }
     ensures misses_leap { (m : ℕ) → IsTextOf m (codes "2024-05-01T12:00:60.000Z") → ⊥ }
+{}
+
+/// A receiver's name has 1 to 16 ASCII letters, digits, dashes and underlines. The bytes next to
+/// these in ASCII aren't in any name.
+pub fn receivers_have_names()
+    ensures shortest { IsName (codes "_") }
+    ensures longest { IsName (codes "AZaz09-_AZaz09-_") }
+    ensures misses_none { IsName [] → ⊥ }
+    ensures misses_seventeen { IsName (codes "AZaz09-_AZaz09-_A") → ⊥ }
+
+    ensures misses_comma { IsName (codes "RX,1") → ⊥ }
+    ensures misses_dot { IsName (codes "RX.1") → ⊥ }
+    ensures misses_solidus { IsName (codes "RX/1") → ⊥ }
+    ensures misses_colon { IsName (codes "RX:1") → ⊥ }
+    ensures misses_at { IsName (codes "RX@1") → ⊥ }
+    ensures misses_bracket { IsName (codes "RX[1") → ⊥ }
+    ensures misses_caret { IsName (codes "RX^1") → ⊥ }
+    ensures misses_grave { IsName (codes "RX`1") → ⊥ }
+    ensures misses_brace { IsName (codes "RX{1") → ⊥ }
+    ensures misses_last_byte { IsName (255 ∷ []) → ⊥ }
 {}
 
 /// A line reports the frame that its bytes carry, at the line's moment. A line whose bytes carry no
