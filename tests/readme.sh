@@ -6,8 +6,8 @@
 #
 # With --whole both commands build and prove everything, as for who does so for the first time, which
 # takes the time that the README says; otherwise the first one runs the given program, and the second
-# nothing. Needs a POSIX system, git and GNU make (with --whole what the README says), and says what it
-# leaves out because a tool isn't there.
+# nothing. Needs a POSIX system, git, tar and GNU make (with --whole what the README says), and says
+# what it leaves out because a tool isn't there.
 # usage: tests/readme.sh PROGRAM [--whole]
 whole=${2-}
 set -- "${1-}"
@@ -27,10 +27,10 @@ first=$(sed -n 1p commands) second=$(sed -n 2p commands)
 # the gate calls the second, in this folder and in no other
 [ "$(sed -n 's/^exec //p' "$repository/.ci/run" | sed 's/ --no-print-directory//')" = "$second" ] ||
     fail ".ci/run doesn't call '$second'"
-if has 'the two commands of the README' make git &&
+if has 'the two commands of the README' make git tar &&
     git -C "$repository" rev-parse HEAD > /dev/null 2>&1; then
-    git clone -q --no-hardlinks "$repository" checkout
-    [ "$whole" = --whole ] || git -C "$repository" diff HEAD | (cd checkout && git apply --allow-empty)
+    mkdir checkout
+    (cd "$repository" && git ls-files | tar -cf - -T -) | tar -xf - -C checkout
     cd checkout
     if [ "$whole" = --whole ]; then
         env -i HOME="$scratch" PATH="/usr/local/bin:/usr/bin:/bin" LC_ALL=C sh -c "$first" > ../printed
