@@ -198,6 +198,16 @@ def minus_is_a_path(it: Program) -> None:
     pathlib.Path("-").unlink()
 
 
+def tables_are_words(it: Program) -> None:
+    """The name of a table is one where it stands first, and elsewhere the path of an input."""
+    expects_seen(it, ["rows", "1.log", "2.log"], [1, 2])
+    expects_seen(it, ["--gap", "30", "rows"], [], log(4).encode(), [4])
+    wanted = (1, "", f"{it.name}: rows: cannot open\n")
+    expects(it.command + ["1.log", "rows"], wanted)
+    expects(it.command + ["rows", "rows"], wanted)
+    expects(it.command + ["./rows"], (1, "", f"{it.name}: ./rows: cannot open\n"))
+
+
 def memory_is_named(it: Program) -> None:
     """With whatever memory a run ends well, or says that memory was refused, or doesn't begin."""
     words = [f"{n}.log" for n in range(1, MOST + 1)]
@@ -331,6 +341,8 @@ def main() -> None:
             opens_twice(it)
             minus_is_a_path(it)
             memory_is_named(it)
+            if it.name == "aprsbook-table":
+                tables_are_words(it)
         one_input(str(path))
         help_ends_well(programs, str(path))
         faults_flush(str(path))
