@@ -212,7 +212,7 @@ def memory_is_named(it: Program) -> None:
     """With whatever memory a run ends well, or says that memory was refused, or doesn't begin."""
     words = [f"{n}.log" for n in range(1, MOST + 1)]
     statuses = set()
-    for pages in range(64, 4096, 61):
+    for pages in range(64, 4096, 127):
         limits = {resource.RLIMIT_AS: pages * 4096}
         status, written, said = run(it.command + words, limits=limits)
         if status == 4 and (written, said) != ("", f"{it.name}: out of memory\n"):
