@@ -6,8 +6,8 @@ usage: build/options.py            writes them
                                    crates/aprs_command/src has
 
 The table is completions/programs.txt. For a program NAME it writes completions/NAME.bash, _NAME and
-NAME.fish, and in man/NAME.1 what stands between a line `.\\" made: PART` and a line `.\\" end`: a
-page is written by hand but for that. Needs Python 3.9.
+NAME.fish, and in man/NAME.1 what stands between a line `.\\" made: PART` and a line `.\\" end`, or in
+a new page all of SYNOPSIS and OPTIONS. A page is written by hand but for that. Needs Python 3.9.
 """
 import glob
 import itertools
@@ -395,16 +395,25 @@ def manual_options(program: Program) -> List[str]:
     return lines
 
 
+def with_part(page: str, path: str, part: str, lines: List[str]) -> str:
+    """A page with a part made anew: what stands between two lines, or in a new page all of it."""
+    mark, end = f'.\\" made: {part}\n', '.\\" end\n'
+    before, found, rest = page.partition(mark)
+    after = rest.partition(end)[2]
+    if not found:
+        before, found, rest = page.partition(f".SH {part}\n")
+        before += found
+        after = rest[("\n" + rest).find("\n.SH ") :]
+    if not found or not after:
+        sys.exit(f"build/options.py: {path} has no {part}, or nothing behind it")
+    return before + mark + "\n".join(lines) + "\n" + end + after
+
+
 def manual(program: Program) -> str:
     """The manual page as it is, with its parts that are made."""
-    page = read(f"man/{program.name}.1")
-    for part, lines in (("SYNOPSIS", synopsis(program)), ("OPTIONS", manual_options(program))):
-        before, mark, rest = page.partition(f'.\\" made: {part}\n')
-        _, end, after = rest.partition('.\\" end\n')
-        if not mark or not end:
-            sys.exit(f"build/options.py: man/{program.name}.1 has no lines for its {part}")
-        page = before + mark + "\n".join(lines) + "\n" + end + after
-    return page
+    path = f"man/{program.name}.1"
+    page = with_part(read(path), path, "SYNOPSIS", synopsis(program))
+    return with_part(page, path, "OPTIONS", manual_options(program))
 
 
 # ---- all of it, and the sources

@@ -27,12 +27,9 @@ scratch=$(mktemp -d)
 trap 'rm -rf "$scratch"' EXIT
 mkdir "$scratch/bin"
 ln -s "$program" "$scratch/bin/aprsbook"
-# the other programs lie beside it, or where they are built
-for name in history table fold; do
-    beside=${program%/*}/aprsbook-$name built=${program%/aprsbook/out/*}/aprsbook_$name/out/aprsbook_$name
-    for it in "$([ $name != history ] || echo "$history")" "$beside" "$built"; do
-        if [ -x "$it" ]; then ln -sf "$it" "$scratch/bin/aprsbook-$name" && break; fi
-    done
+# the other program lies beside it, or where it is built
+for it in "$history" "${program%/*}/aprsbook-history" "${program%/aprsbook/out/*}"/*/out/aprsbook_history; do
+    if [ -x "$it" ]; then ln -sf "$it" "$scratch/bin/aprsbook-history" && break; fi
 done
 PATH=$scratch/bin:$repository/examples/recipes:$PATH
 export PATH PYTHONDONTWRITEBYTECODE=1

@@ -162,7 +162,7 @@ read_by() {
     "$@" > "$scratch/said" 2>&1 || fail "$* ended with $?"
     [ ! -s "$scratch/said" ] || fail "$* says: $(cat "$scratch/said")"
 }
-for name in aprsbook aprsbook-history aprsbook-table; do
+for name in $(awk '/^aprsbook/ && !seen[$1]++ { print $1 }' completions/programs.txt); do
     read_by mandoc -T lint man/$name.1
     read_by bash -n completions/$name.bash
     read_by zsh -n completions/_$name
