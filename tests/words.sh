@@ -162,11 +162,12 @@ read_by() {
     "$@" > "$scratch/said" 2>&1 || fail "$* ended with $?"
     [ ! -s "$scratch/said" ] || fail "$* says: $(cat "$scratch/said")"
 }
-for name in $(awk '/^aprsbook/ && !seen[$1]++ { print $1 }' completions/programs.txt); do
-    read_by mandoc -T lint man/$name.1
-    read_by bash -n completions/$name.bash
-    read_by zsh -n completions/_$name
-    read_by fish -n completions/$name.fish
+for page in man/*.1; do
+    name=$(basename "$page" .1)
+    read_by mandoc -T lint "$page"
+    read_by bash -n "completions/$name.bash"
+    read_by zsh -n "completions/_$name"
+    read_by fish -n "completions/$name.fish"
 done
 
 if [ $failed = 0 ]; then
