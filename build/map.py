@@ -23,7 +23,7 @@ def drawn():
     for crate, below in under.items():
         up[crate] = 1 + max((up[it] for it in below), default=-1)
     if len(floors) != max(up.values()) + 1:
-        sys.exit(f"build/map.py: crates.txt names {len(floors)} floors, and there are {max(up.values()) + 1}")
+        sys.exit(f"build/map.py: crates.txt names {len(floors)} floors, of {max(up.values()) + 1}")
     lines, rows = ["```text"], ["| crate | is | stands on |", "|---|---|---|"]
     for n, floor in reversed(list(enumerate(floors))):
         here = [crate for crate in under if up[crate] == n]

@@ -6,8 +6,8 @@ usage: build/options.py            writes them
                                    crates/aprs_command/src has
 
 The table is completions/programs.txt. For a program NAME it writes completions/NAME.bash, _NAME and
-NAME.fish, and in man/NAME.1 what stands between a line `.\\" made: PART` and a line `.\\" end`, or in
-a new page all of SYNOPSIS and OPTIONS. A page is written by hand but for that. Needs Python 3.9.
+NAME.fish, and in man/NAME.1 what stands between a line `.\\" made: PART` and a line `.\\" end`, or
+in a new page all of SYNOPSIS and OPTIONS. A page is written by hand but for that. Needs Python 3.9.
 """
 import glob
 import itertools
@@ -77,7 +77,8 @@ def read(path: str) -> str:
 def values_of(cell: str) -> List[Value]:
     """The values in a cell of the table."""
     found = []
-    for whole, free, plain, dots in re.findall(r"(\[([^\]]*)\]|([A-Z]+(?::\w+)?|--\w+))(\.\.)?", cell):
+    value = r"(\[([^\]]*)\]|([A-Z]+(?::\w+)?|--\w+))(\.\.)?"
+    for whole, free, plain, dots in re.findall(value, cell):
         name, _, file = (free or plain).partition(":")
         found.append(Value(name, file, whole.startswith("["), bool(dots)))
     return found
@@ -480,7 +481,7 @@ def main() -> int:
     for said in wrong:
         print(f"build/options.py: {said}", file=sys.stderr)
     if not wrong and sys.argv[1:]:
-        print("completions and manual pages have the options of the table, and the table the sources'")
+        print("completions and manual pages have the table's options, and the table the sources'")
     return 1 if wrong else 0
 
 

@@ -1,6 +1,6 @@
 #!/usr/bin/env python3
-"""What a reader has to believe, as pages: one for each call in docs/reading, listed in docs/proved.md,
-and what can be called: one for each crate that others call, in docs/calls.
+"""What a reader has to believe, as pages: one for each call in docs/reading, listed in
+docs/proved.md; and what can be called: one for each crate that others call, in docs/calls.
 
 usage: build/reading.py [--into FOLDER]    writes the pages anew, and the sums in docs/proved.md
        build/reading.py --calls CRATE      the public functions of a crate, with sentence and clauses
@@ -320,8 +320,8 @@ def crate_text(facts, crate, home):
     lines = [f"# `{crate}`", "", MADE]
     lines += [prose(line[3:].strip() for line in about.splitlines()), ""]
     lines += [f"A caller that the gate proves, of `{path}`:", ""] + fenced("rust", caller)
-    lines += ["Each function below has its comment, its head and its clauses. `make test` proves them,"]
-    lines += ["and `build/reading.py --page FUNCTION` prints the definitions that they cite.", ""]
+    lines += ["Each function below has its comment, its head and its clauses. `make test` proves"]
+    lines += ["them, and `build/reading.py --page FUNCTION` prints the definitions that they cite.", ""]
     lines += types_table(facts, crate)
     own = [call for call in facts.calls if call.crate == crate and call.text and call.clauses]
     for heading, law in (("Functions", False), ("Laws and examples, which do nothing", True)):

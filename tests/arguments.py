@@ -129,7 +129,7 @@ def expects(command: List[str], wanted: Tuple[int, str, str], given: bytes = b""
 
 
 def takes_all(it: Program) -> None:
-    """Each number of inputs, in rising and in falling order; the others of a hundred aren't taken."""
+    """Each number of inputs, in rising and in falling order, and none of the others."""
     expects_seen(it, [], [], log(7).encode(), [7])
     for count in range(1, MOST + 1):
         some = [1 + (count + 37 * i) % MOST for i in range(count)]
@@ -182,9 +182,11 @@ def opens_twice(it: Program) -> None:
         while run(it.command + [f"{n}.log" for n in range(1, most + 2)], limits=limits)[0] == 0:
             most += 1
         wanted = (1, "", f"{it.name}: 1.log: cannot open\n")
-        if not 0 < most < files or run(it.command + ["1.log"] * (most + 1), limits=limits) != wanted:
+        again = run(it.command + ["1.log"] * (most + 1), limits=limits)
+        if not 0 < most < files or again != wanted:
             fail(f"{it.name} with {files} files opens {most} inputs, and one path more often")
-        if run(it.command + ["1.log"] * most, limits=limits)[:2] != (0, run(it.command + ["1.log"])[1]):
+        once = run(it.command + ["1.log"])
+        if run(it.command + ["1.log"] * most, limits=limits) != once or once[0] != 0:
             fail(f"{it.name} doesn't open one path {most} times")
 
 
@@ -230,7 +232,7 @@ def memory_is_named(it: Program) -> None:
 
 
 def one_input(path: str) -> None:
-    """`check`, `convert` and `widen` take one input or none, and another command no more than it."""
+    """`check`, `convert` and `widen` take one input or none."""
     monitor = "Q005>APRS:>Hi 5\n"
     of_one = {
         ("check",): "heard 1 passed 0\n",

@@ -15,8 +15,10 @@ import sys
 from typing import Iterator, List, NamedTuple, Tuple
 
 # texts outside Rattle that say limits
-TEXTS = ("*.md", "docs/*.md", "man/*.1", "completions/*", "include/*.h", "page/*", "examples/recipes/*",
-         "tools/**/*.py", "tools/**/*.md")
+TEXTS = (
+    "*.md", "docs/*.md", "man/*.1", "completions/*", "include/*.h", "page/*", "examples/recipes/*",
+    "tools/**/*.py", "tools/**/*.md",
+)
 
 
 class Limit(NamedTuple):
@@ -34,14 +36,16 @@ LIMITS = (
           r"copies are one, 1 to ([\d,]+)"),
     Limit("the widest gap of an option", "crates/aprs_command/src/arguments.rt", "GREATEST_GAP",
           r"\b1 to ([\d,]+)(?: whole)? seconds"),
-    Limit("a receiver's name", "crates/aprs_log/src/receiver.rt", "MAX_NAME", r"\b1 to (\d+) letters"),
+    Limit("a receiver's name", "crates/aprs_log/src/receiver.rt", "MAX_NAME",
+          r"\b1 to (\d+) letters"),
     Limit("an input", "crates/aprs_io/src/input.rt", "MAX_INPUT",
           r"(?:input has (?:at most|more than)|`MAX_INPUT`,) (\d,\d{3},\d{3},\d{3})"),
     Limit("a line", "crates/aprs_log/src/line.rt", "MAX_LINE",
           r"LongLine\W[^.|]{0,30}?more than\s+([\d,]+)\s+bytes"),
     Limit("a frame of KISS", "crates/aprs_kiss/src/reader.rt", "MAX_FRAME",
           r"TooLong\W[^.|]{0,40}?more than\s+([\d,]{4,5}) bytes|([\d,]+) bytes without escapes"),
-    Limit("the last moment", "crates/aprs_log/src/moment.rt", "LAST_MILLI", r"(4,1\d\d,\d{3},\d{3},\d{3})"),
+    Limit("the last moment", "crates/aprs_log/src/moment.rt", "LAST_MILLI",
+          r"(4,1\d\d,\d{3},\d{3},\d{3})"),
 )
 
 
@@ -92,12 +96,15 @@ def wrong_kinds() -> Iterator[str]:
 
 def wrong_columns() -> Iterator[str]:
     """Each column of the table that docs/formats.md doesn't name in its order."""
-    columns = re.search(r"^columns = (.*?)\n\n", read("crates/aprs_table/specs/Table.antt"), re.M | re.S)
+    defined = read("crates/aprs_table/specs/Table.antt")
+    columns = re.search(r"^columns = (.*?)\n\n", defined, re.M | re.S)
     names = re.findall(r'codes "(\w+)"', columns.group(1)) if columns else []
     if not names:
         yield "found no columns in crates/aprs_table/specs/Table.antt"
-    section = re.search(r"\n## [^\n]*\bTable\b.*?(?=\n## |\Z)|\n\*\*Table\*\*.*?(?=\n\*\*[A-Z]|\n## |\Z)",
-                        read("docs/formats.md"), re.S)
+    section = re.search(
+        r"\n## [^\n]*\bTable\b.*?(?=\n## |\Z)|\n\*\*Table\*\*.*?(?=\n\*\*[A-Z]|\n## |\Z)",
+        read("docs/formats.md"), re.S,
+    )
     for name in names if section else []:
         if section and f"`{name}`" not in section.group():
             yield f"docs/formats.md doesn't name the column {name} of the table"

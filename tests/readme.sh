@@ -1,11 +1,11 @@
 #!/bin/sh
-# Does the README from its top, in a checkout of this repository without anything that was built: the
-# first command of its first block prints last what the README says, and the second is the command of
-# .ci/run. Then the commands of its example print what the README says, those of the table and that of
-# the page end well, and the files of a release have the names that it has.
+# Does the README from its top, in a checkout of this repository without anything that was built. The
+# first command of its first block prints last what the README says, and the second is the command
+# of .ci/run. Then the commands of its example print what the README says, those of the table and
+# that of the page end well, and the files of a release have the names that it has.
 #
-# With --whole both commands build and prove everything, as for who does so for the first time, which
-# takes the time that the README says; otherwise the first one runs the given program, and the second
+# With --whole both commands build and prove everything, as for somebody who begins here. That takes
+# the time that the README says. Otherwise the first one runs the given program, and the second
 # nothing. Needs a POSIX system, git, tar and GNU make (with --whole what the README says), and says
 # what it leaves out because a tool isn't there.
 # usage: tests/readme.sh PROGRAM [--whole]
@@ -18,10 +18,14 @@ cd "$scratch"
 # ---- the two commands of the first block ----
 
 # block NAME NUMBER: the block of this number in this language
-block() { awk -v name="$1" -v n="$2" '/^```/ { open = $0 == "```" name && ++at == n; next } open' "$page"; }
+block() {
+    awk -v name="$1" -v n="$2" '/^```/ { open = $0 == "```" name && ++at == n; next } open' "$page"
+}
 block sh 1 | sed 's/ *#.*//' > commands
 block text 1 > expected
-if [ "$(wc -l < commands)" != 2 ] || [ ! -s expected ]; then fail 'its first block has no two commands'; fi
+if [ "$(wc -l < commands)" != 2 ] || [ ! -s expected ]; then
+    fail 'the first block of the README has no two commands'
+fi
 first=$(sed -n 1p commands) second=$(sed -n 2p commands)
 [ "$(sed '/^## The page/,$d' "$page" | wc -l)" -le 40 ] || fail 'its two commands are too far below'
 # the gate calls the second, in this folder and in no other
@@ -33,9 +37,12 @@ if has 'the two commands of the README' make git tar &&
     (cd "$repository" && git ls-files | tar -cf - -T -) | tar -xf - -C checkout
     cd checkout
     if [ "$whole" = --whole ]; then
-        env -i HOME="$scratch" PATH="/usr/local/bin:/usr/bin:/bin" LC_ALL=C sh -c "$first" > ../printed
-        env -i HOME="$scratch" PATH="/usr/local/bin:/usr/bin:/bin" LC_ALL=C sh -c "$second" > ../tested
-        tail -n 1 ../tested | grep -qx '[1-9][0-9]* passed, 0 failed' || fail "$second: $(tail ../tested)"
+        # as somebody who has just logged in
+        anew() { env -i HOME="$scratch" PATH="/usr/local/bin:/usr/bin:/bin" LC_ALL=C sh -c "$1"; }
+        anew "$first" > ../printed
+        anew "$second" > ../tested
+        tail -n 1 ../tested | grep -qx '[1-9][0-9]* passed, 0 failed' ||
+            fail "$second: $(tail ../tested)"
     else
         sh -c "$first -s -o build PROGRAM='$program'" > ../printed
         make -n "${second#make }" > /dev/null || fail "there is no '$second'"

@@ -6,8 +6,8 @@ usage: tests/sentences.py [--most WORDS] [--draw NUMBER [--seed SEED]] [FILE..]
 Prints each sentence of more than 30 words, or more than --most, and each with words that need the
 sentence before it; then the status is 1. A code span or a link is one word or as many as it shows,
 and blocks of code are passed over. A cell of a table, an item of a list and a tag of a manual page
-are texts of their own. With --draw it prints so many sentences, drawn by lot, to be read by somebody.
-Without a FILE it reads README.md, CONTRIBUTING.md, CHANGELOG.md, docs/*.md and man/*.1. Needs
+are texts of their own. With --draw it prints so many sentences, drawn by lot, to be read by
+somebody. Without a FILE it reads README.md, CONTRIBUTING.md, CHANGELOG.md, docs/*.md and man/*.1. Needs
 Python 3.9.
 """
 import argparse

@@ -2,10 +2,10 @@
 # Checks that the cookbook's table "When it says" has each message and each cause of an error, and,
 # both ways, that the manual pages name the words that the programs have: their commands, forms,
 # kinds of reports, lines of a listing and of a history, tables and their columns, states, exit
-# statuses and messages, the causes of errors, and the reasons for which a line is passed over. These
-# words are read from the sources. The options of pages and completions are made of one table, which is held to the sources
-# too. Needs a POSIX system and Python 3; where mandoc, bash, zsh or fish is there, it also looks at
-# its file.
+# statuses and messages, the causes of errors, and the reasons for which a line is passed over. They
+# are read from the sources. The options of pages and completions are made of one table, which is
+# compared with the sources too. Needs a POSIX system and Python 3; where mandoc, bash, zsh or fish
+# is there, it also looks at its file.
 set -eu
 export LC_ALL=C
 cd "$(dirname "$0")/.."
