@@ -101,12 +101,13 @@ def wrong_columns() -> Iterator[str]:
     names = re.findall(r'codes "(\w+)"', columns.group(1)) if columns else []
     if not names:
         yield "found no columns in crates/aprs_table/specs/Table.antt"
-    section = re.search(
-        r"\n## [^\n]*\bTable\b.*?(?=\n## |\Z)|\n\*\*Table\*\*.*?(?=\n\*\*[A-Z]|\n## |\Z)",
-        read("docs/formats.md"), re.S,
-    )
-    for name in names if section else []:
-        if section and f"`{name}`" not in section.group():
+    section = re.search(r"\n## Table\b.*?(?=\n## |\Z)", read("docs/formats.md"), re.S)
+    told = set(re.findall(r"`(\w+)`", section.group())) if section else set(names)
+    ranges = r"`(\w+?)(\d)` to `\1(\d)`"
+    for name, first, last in re.findall(ranges, section.group() if section else ""):
+        told |= {f"{name}{number}" for number in range(int(first), int(last) + 1)}
+    for name in names:
+        if name not in told:
             yield f"docs/formats.md doesn't name the column {name} of the table"
 
 
