@@ -286,7 +286,10 @@ AnswersHistory arguments answer = MatchResult answer
 
 -- The table that a word names.
 abbrev pub named_table : Text → Option Table
-named_table word = if bytes_eq word (codes "rows") then Some table.Rows else None
+named_table word = if bytes_eq word (codes "rows") then Some table.Rows
+    else (if bytes_eq word (codes "messages") then Some table.Messages
+    else (if bytes_eq word (codes "stations") then Some table.Stations
+    else (if bytes_eq word (codes "things") then Some table.Things else None)))
 
 -- The table that the first value names and the paths after it; where it names none, the rows, and
 -- all values are paths.

@@ -95,18 +95,25 @@ pub const TABLE_USAGE: &str = "aprsbook-table [OPTIONS] [TABLE] [INPUT]...";
 /// The tables that the first word after the options may name.
 pub const TABLES: &str = "Tables:
   rows      a line for each transmission; without a TABLE too
+  messages  a line for each message, with what came of it
+  stations  a line for each station, with its last position and status
+  things    a line for each object and item, with its last report
 
 A file of such a name is given as ./rows.";
 
 /// The tables, examples of `aprsbook-table`, and its exit statuses.
 pub const TABLE_EXAMPLES: &str = "Tables:
   rows      a line for each transmission; without a TABLE too
+  messages  a line for each message, with what came of it
+  stations  a line for each station, with its last position and status
+  things    a line for each object and item, with its last report
 
 A file of such a name is given as ./rows.
 
 Examples:
   aprsbook-table net.book
   aprsbook-table rx1.log rx2.log > evening.tsv
+  aprsbook-table messages net.book
   aprsbook-table rows --gap 60 slow.book
 
 Exit status:

@@ -36,15 +36,28 @@ pub struct HistoryJob {
 pub enum Table {
     /// A line for each row of the book.
     Rows,
+    /// A line for each message, with what came of it.
+    Messages,
+    /// A line for each station, with its last known position and status.
+    Stations,
+    /// A line for each object and item, with its last report.
+    Things,
 }
 
 impl Table {
-    /// The table of this name, which is `rows`, or `None` where no table has it.
+    /// The table of this name, which is `rows`, `messages`, `stations` or `things`, or `None` where
+    /// no table has it.
     pub fn named(name: &[u8]) -> Option<Table>
         ensures { result ≡ named_table name.now }
     {
         if name == b"rows".as_slice() {
             Some(Table::Rows)
+        } else if name == b"messages".as_slice() {
+            Some(Table::Messages)
+        } else if name == b"stations".as_slice() {
+            Some(Table::Stations)
+        } else if name == b"things".as_slice() {
+            Some(Table::Things)
         } else {
             None
         }

@@ -18,6 +18,31 @@ pub fn moments_have_texts()
     ensures misses_leap { (m : ℕ) → IsTextOf m (codes "2024-05-01T12:00:60.000Z") → ⊥ }
 {}
 
+/// Moments are from 1970 to 2099, on days of the civil calendar, and at times from 00:00:00 to
+/// 23:59:59.999 in UTC. Their texts have two digits for each part, and capitals.
+pub fn moments_have_limits()
+    ensures first { IsTextOf 0 (codes "1970-01-01T00:00:00Z") }
+    ensures last { IsTextOf 4102444799999 (codes "2099-12-31T23:59:59.999Z") }
+    ensures leap_day { IsTextOf 1709164800000 (codes "2024-02-29T00:00:00Z") }
+    ensures last_of_day { IsTextOf 1714607999000 (codes "2024-05-01T23:59:59Z") }
+
+    ensures misses_before { (m : ℕ) → IsTextOf m (codes "1969-12-31T23:59:59Z") → ⊥ }
+    ensures misses_after { (m : ℕ) → IsTextOf m (codes "2100-01-01T00:00:00Z") → ⊥ }
+    ensures misses_no_month { (m : ℕ) → IsTextOf m (codes "2024-00-01T12:00:00Z") → ⊥ }
+    ensures misses_month { (m : ℕ) → IsTextOf m (codes "2024-13-01T12:00:00Z") → ⊥ }
+    ensures misses_no_day { (m : ℕ) → IsTextOf m (codes "2024-05-00T12:00:00Z") → ⊥ }
+    ensures misses_day { (m : ℕ) → IsTextOf m (codes "2024-04-31T12:00:00Z") → ⊥ }
+    ensures misses_leap_day { (m : ℕ) → IsTextOf m (codes "2023-02-29T12:00:00Z") → ⊥ }
+    ensures misses_hour { (m : ℕ) → IsTextOf m (codes "2024-05-01T24:00:00Z") → ⊥ }
+    ensures misses_minute { (m : ℕ) → IsTextOf m (codes "2024-05-01T12:60:00Z") → ⊥ }
+    ensures misses_small_t { (m : ℕ) → IsTextOf m (codes "2024-05-01t12:00:00Z") → ⊥ }
+    ensures misses_small_z { (m : ℕ) → IsTextOf m (codes "2024-05-01T12:00:00z") → ⊥ }
+    ensures misses_comma { (m : ℕ) → IsTextOf m (codes "2024-05-01T12:00:00,500Z") → ⊥ }
+    ensures misses_before_digits { (m : ℕ) → IsTextOf m (codes "2024-05-0/T12:00:00Z") → ⊥ }
+    ensures misses_after_digits { (m : ℕ) → IsTextOf m (codes "2024-05-0:T12:00:00Z") → ⊥ }
+    ensures misses_offset { (m : ℕ) → IsTextOf m (codes "2024-05-01T12:00:00+00:00") → ⊥ }
+{}
+
 /// A receiver's name has 1 to 16 ASCII letters, digits, dashes and underlines. The bytes next to
 /// these in ASCII aren't in any name.
 pub fn receivers_have_names()

@@ -74,13 +74,9 @@ pub(crate) fn messages_of<'a, A: Allocator + Copy>(
         → IfOk result (λ messages. ReportsMessages gap rows messages.items) }
 {
     let mut list = Vec::new(alloc);
-    if list.reserve_exact(exchange.spans.len()).is_err() {
-        return Err(Memory);
-    }
+    list.reserve_exact(exchange.spans.len())?;
     for (message, span) in exchange.spans.iter() {
-        if list.push(row_of(message, span, &exchange.answers)).is_err() {
-            return Err(Memory);
-        }
+        list.push(row_of(message, span, &exchange.answers))?;
     }
     Ok(list)
 }
