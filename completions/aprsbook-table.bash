@@ -24,7 +24,10 @@ _aprsbook_table() {
     COMPREPLY=()
     case $path in
     ' rows '*) options='--gap --help' ;;
-    ' ') words='rows' options='--gap --help --version' ;;
+    ' messages '*) options='--gap --help' ;;
+    ' stations '*) options='--gap --help' ;;
+    ' things '*) options='--gap --help' ;;
+    ' ') words='rows messages stations things' options='--gap --help --version' ;;
     ' '*) options='--gap --help --version' ;;
     esac
     case $before in

@@ -18,7 +18,13 @@ function _aprsbook_table_end
 end
 
 complete -c aprsbook-table -n '_aprsbook_table_end' -a rows -d 'A line for each transmission'
+complete -c aprsbook-table -n '_aprsbook_table_end' -a messages -d 'A line for each message, with its state'
+complete -c aprsbook-table -n '_aprsbook_table_end' -a stations -d 'A line for each station, with what is last known'
+complete -c aprsbook-table -n '_aprsbook_table_end' -a things -d 'A line for each object and item'
 complete -c aprsbook-table -l gap -x -d 'Seconds within which copies are one, 1 to 3600'
 complete -c aprsbook-table -n '_aprsbook_table_at rows' -l gap -x -d 'Seconds within which copies are one, 1 to 3600'
+complete -c aprsbook-table -n '_aprsbook_table_at messages' -l gap -x -d 'Seconds within which copies are one, 1 to 3600'
+complete -c aprsbook-table -n '_aprsbook_table_at stations' -l gap -x -d 'Seconds within which copies are one, 1 to 3600'
+complete -c aprsbook-table -n '_aprsbook_table_at things' -l gap -x -d 'Seconds within which copies are one, 1 to 3600'
 complete -c aprsbook-table -s h -l help -d 'Write help'
 complete -c aprsbook-table -s V -l version -d 'Write the version'

@@ -24,7 +24,8 @@ std: Box BufWriter Copy Drop Ok Option PartialEq Result u64::MAX
 standards: DDMM.hh DDDMM.hh atest f0 rust loop use
 commands of make: arm64 deb install release static tarball try
 processors and users of Debian: amd64 aprs
-names of Mic-E messages: committed emergency priority returning
+names of Mic-E messages: committed emergency priority returning unknown
+fields of weather: h00
 states of messages and objects: acknowledged rejected unanswered unnumbered tracks
 of examples: in/ logs/DAY/HILL.log logs/DAY/RECEIVER.log millis.log numerator/denominator own.book page
 slow.log time
@@ -37,6 +38,9 @@ end
 # ---- what is there: `x`, `x::y`, `x.y`, and `x.` where a function has a clause without a name ----
 
 build/rattle_text.py --names > "$scratch/there"
+# columns of tables, and words in them
+grep -oh 'codes "[a-z0-9_]*"' crates/aprs_table/specs/*.antt crates/aprs_lists/specs/*.antt |
+    sed 's/codes "\(.*\)"/\1/' >> "$scratch/there"
 # files and folders, each with as much of its path as is wanted, and definitions also without .antt
 find . -name .git -prune -o -name out -prune -o -print | awk '
     {
