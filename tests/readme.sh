@@ -77,10 +77,10 @@ while read -r command rest; do
 done < all
 runs table
 cmp new.book net.book || fail 'a receiver that heard nothing else changes the book'
-sed -n '/^event-page /p' "$page" > pages
-if has 'the page of the README' python3 aprsbook-history; then
+sed -n '/^aprs-net page /p' "$page" > pages
+if has 'the page of the README' python3 aprsbook-table; then
     runs pages
-    grep -q 'Fell race' race.html || fail 'event-page makes another page'
+    grep -q 'Fell race' race.html || fail 'aprs-net makes another page'
 fi
 version=$("$repository/packaging/version")
 for name in "/aprsbook_${version}_arm64.deb" " aprsbook-$version-linux-arm64.tar.gz"; do

@@ -65,6 +65,10 @@ columns() {
         "crates/$1" | grep -o 'codes "[a-z0-9_]*"' | sed 's/codes "\(.*\)"/\1/'
 }
 columns aprs_table/specs/Table.antt columns > "$scratch/program/row_columns"
+for file in Messages Stations Things; do
+    name=$(echo ${file%s} | tr MST mst)
+    columns aprs_lists/specs/$file.antt "${name}_columns" > "$scratch/program/${name}_columns"
+done
 for name in history table; do
     sed "/: narrower\$/d; /capture/d; s/^aprsbook/aprsbook-$name/" "$scratch/program/messages" \
         > "$scratch/program/${name}_messages"
@@ -111,7 +115,9 @@ page=man/aprsbook-history.1
 first_words 'Lines of a history' > "$scratch/page/history_lines"
 page=man/aprsbook-table.1
 first_words TABLES > "$scratch/page/tables"
-first_words 'Columns of rows' > "$scratch/page/row_columns"
+for name in row message station thing; do
+    first_words "Columns of ${name}s" > "$scratch/page/${name}_columns"
+done
 for name in history table; do
     page=man/aprsbook-$name.1
     first_words 'EXIT STATUS' > "$scratch/page/${name}_statuses"
@@ -133,7 +139,8 @@ same() {
 }
 for kind in commands forms kinds listed object_states message_states reasons log_causes \
     book_causes statuses messages history_lines history_statuses history_messages \
-    tables row_columns table_statuses table_messages; do
+    tables row_columns message_columns station_columns thing_columns \
+    table_statuses table_messages; do
     same $kind page
 done
 build/options.py --check > "$scratch/said" || fail "options: $(cat "$scratch/said")"
@@ -150,8 +157,8 @@ done > "$scratch/lacks"
 
 # ---- the documents: all of them can be read, and the first at once ----
 
-[ "$(cat README.md CONTRIBUTING.md CHANGELOG.md docs/*.md | wc -w)" -le 27000 ] ||
-    fail 'the documents have more than 27,000 words'
+[ "$(cat README.md CONTRIBUTING.md CHANGELOG.md docs/*.md | wc -w)" -le 29500 ] ||
+    fail 'the documents have more than 29,500 words'
 [ "$(wc -l < README.md)" -le 120 ] || fail 'README.md has more than 120 lines'
 
 # ---- each file by its own reader ----

@@ -116,7 +116,7 @@ def test_refused(folder):
     for text in BAD_MAPS:
         (folder / "course").write_text(text)
         said = refused(folder, "--course", folder / "course", EXAMPLES / "sample.log")
-        assert re.fullmatch("event-page: .*\n", said), (text, said)
+        assert re.fullmatch("aprs-net: .*\n", said), (text, said)
     assert "nowhere" in refused(folder, "--course", folder / "nowhere.gpx", LOGS[0])
     assert "nowhere" in refused(folder, "--roster", folder / "nowhere.txt", LOGS[0])
 
