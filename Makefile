@@ -57,13 +57,14 @@ test: words recipes
 	RT_JOBS=$(LANES) rt ci
 
 # the manual page and the completions name what the program has, the documents what the crates have and
-# by the same numbers, the reading list is that of the sources, the version is one, and the scripts and
-# packaging/system.c are in order
+# by the same numbers, no source makes up a want of memory, the reading list is that of the sources, the
+# version is one, and the scripts and packaging/system.c are in order
 words:
 	tests/version.sh
 	tests/words.sh
 	tests/names.sh
 	tests/numbers.sh
+	tests/memory.sh
 	tests/map.sh
 	tests/reading.sh
 	tests/library.sh

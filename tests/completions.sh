@@ -7,6 +7,8 @@ cd "$(dirname "$0")/.."
 source completions/aprsbook.bash
 # shellcheck source=../completions/aprsbook-history.bash
 source completions/aprsbook-history.bash
+# shellcheck source=../completions/aprsbook-table.bash
+source completions/aprsbook-table.bash
 # bash knows this only while it completes
 compopt() { :; }
 scratch=$(mktemp -d)
@@ -28,7 +30,11 @@ offers() {
     done
     if [[ -n $rest ]]; then COMP_WORDS+=(''); fi
     COMP_CWORD=$((${#COMP_WORDS[@]} - 1))
-    if [[ ${COMP_WORDS[0]} == aprsbook ]]; then _aprsbook; else _aprsbook_history; fi
+    case ${COMP_WORDS[0]} in
+    aprsbook) _aprsbook ;;
+    aprsbook-history) _aprsbook_history ;;
+    aprsbook-table) _aprsbook_table ;;
+    esac
     if [[ $(printf '%s\n' "$@" | sort) != $(printf '%s\n' "${COMPREPLY[@]}" | sort) ]]; then
         echo "tests/completions.sh: after '$COMP_LINE': ${COMPREPLY[*]@Q}, not ${*@Q}" >&2
         failed=1
@@ -63,5 +69,12 @@ offers 'aprsbook-history rx1.log ' 2024-05-01T12:00.log rx1.log 'a b.log' 'di:r'
 offers 'aprsbook-history 2024-05-01T12:' 00.log
 offers 'aprsbook-history 2024-05-01T12:0' 00.log
 offers 'aprsbook-history rx1.log di:r/' r/x.log
+offers 'aprsbook-table ' rows 2024-05-01T12:00.log rx1.log 'a b.log' 'di:r'
+offers 'aprsbook-table r' rows rx1.log
+offers 'aprsbook-table rows r' rx1.log
+offers 'aprsbook-table -' --gap --help --version
+offers 'aprsbook-table --gap '
+offers 'aprsbook-table rows --gap 60 r' rx1.log
+offers 'aprsbook-table 2024-05-01T12:' 00.log
 [ $failed = 0 ] && echo 'the completion of bash offers what it has to'
 exit $failed

@@ -45,11 +45,12 @@ if command -v python3 > /dev/null; then
     read_by zsh -n "$work/_aprs-net"
     read_by fish -n "$work/aprs-net.fish"
 fi
-long=$(find . -name '*.py' -exec awk 'length > 100 { print FILENAME ":" FNR ": " $0 }' {} +)
-if [ -n "$long" ]; then
-    printf 'longer than 100 columns:\n%s\n' "$long"
-    exit 1
-fi
+long='
+import sys
+long = [f"{it}: line {at} is longer than 100 columns" for it in sys.argv[1:]
+        for at, line in enumerate(open(it, encoding="utf-8"), 1) if len(line) > 101]
+sys.exit("\n".join(long) or 0)'
+if command -v python3 > /dev/null; then find . -name '*.py' -exec python3 -c "$long" {} +; fi
 [ "$all" = --all ] || exit 0
 if [ -n "$program" ]; then
     crates=$repository/${program%/*/out/*}

@@ -1,9 +1,9 @@
 #!/bin/sh
 # Checks that the cookbook's table "When it says" has each message and each cause of a fault, and,
 # both ways, that the manual pages and the completions name the words that the programs have: their
-# commands, forms, options, kinds of reports, lines of a listing and of a history, states, exit
-# statuses and messages, the causes of faults, and the reasons for which a line is passed over. These
-# words are read from the sources. Needs a POSIX system and Python 3; where mandoc, bash, zsh or fish
+# commands, forms, options, kinds of reports, lines of a listing and of a history, tables and their
+# columns, states, exit statuses and messages, the causes of faults, and the reasons for which a line
+# is passed over. These words are read from the sources. Needs a POSIX system and Python 3; where mandoc, bash, zsh or fish
 # is there, it also looks at its file.
 set -eu
 export LC_ALL=C
@@ -69,12 +69,29 @@ history=aprs_command/src/history.rt
     options $history
 } > "$scratch/program/history_options"
 calls aprs_listing/src/history.rt 'put_[a-z]*_line' > "$scratch/program/history_lines"
-for options in options history_options; do
+# those of the program of tables, and the columns as their definition has them
+table=aprs_command/src/table.rt
+{
+    grep -q 'gap_arg(alloc)' crates/$table && echo --gap
+    options $table
+} > "$scratch/program/table_options"
+sed -n 's/.*if name == b"\([a-z]*\)".*/\1/p' crates/aprs_command/src/jobs.rt \
+    > "$scratch/program/tables"
+# columns FILE NAME: those of a definition
+columns() {
+    awk -v name="$2" '$1 == name && $2 == "=" { inside = 1 } $0 == "" { inside = 0 } inside' \
+        "crates/$1" | grep -o 'codes "[a-z0-9_]*"' | sed 's/codes "\(.*\)"/\1/'
+}
+columns aprs_table/specs/Table.antt columns > "$scratch/program/row_columns"
+for options in options history_options table_options; do
     sed '/^-.$/d' "$scratch/program/$options" > "$scratch/program/${options%options}long_options"
 done
 sed '/: narrower$/d; /capture/d; s/^aprsbook/aprsbook-history/' "$scratch/program/messages" \
     > "$scratch/program/history_messages"
+sed 's/^aprsbook-history/aprsbook-table/' "$scratch/program/history_messages" \
+    > "$scratch/program/table_messages"
 cp "$scratch/program/statuses" "$scratch/program/history_statuses"
+cp "$scratch/program/statuses" "$scratch/program/table_statuses"
 
 # ---- the manual pages: the tags below each heading ----
 
@@ -96,7 +113,7 @@ tags() {
             gsub(/"/, "")
             print
         }
-        { tag = open && /^\.TP/ }
+        { tag = open && /^\.T[PQ]/ }
     ' $page
 }
 # first_words HEADING: of each tag
@@ -118,6 +135,12 @@ first_words OPTIONS > "$scratch/page/history_options"
 first_words 'Lines of a history' > "$scratch/page/history_lines"
 first_words 'EXIT STATUS' > "$scratch/page/history_statuses"
 tags DIAGNOSTICS > "$scratch/page/history_messages"
+page=man/aprsbook-table.1
+first_words OPTIONS > "$scratch/page/table_options"
+first_words TABLES > "$scratch/page/tables"
+first_words 'Columns of rows' > "$scratch/page/row_columns"
+first_words 'EXIT STATUS' > "$scratch/page/table_statuses"
+tags DIAGNOSTICS > "$scratch/page/table_messages"
 
 # ---- the completions ----
 
@@ -146,13 +169,21 @@ offered __aprsbook_wants_command > "$scratch/fish/commands"
 offered __aprsbook_wants_form > "$scratch/fish/forms"
 sed -n 's/^complete .* -l \([a-z]*\) .*/--\1/p' $file > "$scratch/fish/long_options"
 
-# those of the program of histories
-grep -o -e '--gap' -e '--help' -e '--version' completions/aprsbook-history.bash \
-    > "$scratch/bash/history_long_options"
-grep -o -e '--[a-z]*[[}]' completions/_aprsbook-history | tr -d '[}' \
-    > "$scratch/zsh/history_long_options"
-sed -n 's/^complete .* -l \([a-z]*\) .*/--\1/p' completions/aprsbook-history.fish \
-    > "$scratch/fish/history_long_options"
+# those of the programs of histories and of tables
+for name in history table; do
+    grep -o -e '--gap' -e '--help' -e '--version' completions/aprsbook-$name.bash \
+        > "$scratch/bash/${name}_long_options"
+    grep -o -e '--[a-z]*[[}]' completions/_aprsbook-$name | tr -d '[}' \
+        > "$scratch/zsh/${name}_long_options"
+    sed -n 's/^complete .* -l \([a-z]*\) .*/--\1/p' completions/aprsbook-$name.fish \
+        > "$scratch/fish/${name}_long_options"
+done
+file=completions/aprsbook-table.bash
+list tables > "$scratch/bash/tables"
+file=completions/_aprsbook-table
+array tables > "$scratch/zsh/tables"
+sed -n 's/^complete .* -a \([a-z]*\) .*/\1/p' completions/aprsbook-table.fish \
+    > "$scratch/fish/tables"
 
 # ---- both ways ----
 
@@ -169,11 +200,13 @@ same() {
 }
 for kind in commands forms options kinds listed object_states message_states reasons log_causes \
     book_causes statuses messages history_options history_lines history_statuses \
-    history_messages; do
+    history_messages table_options tables row_columns table_statuses table_messages; do
     same $kind page
 done
 for shell in bash zsh fish; do
-    for kind in commands forms long_options history_long_options; do same $kind $shell; done
+    for kind in commands forms long_options history_long_options table_long_options tables; do
+        same $kind $shell
+    done
 done
 
 # ---- the cookbook's table ----
@@ -200,7 +233,7 @@ read_by() {
     "$@" > "$scratch/said" 2>&1 || fail "$* ended with $?"
     [ ! -s "$scratch/said" ] || fail "$* says: $(cat "$scratch/said")"
 }
-for name in aprsbook aprsbook-history; do
+for name in aprsbook aprsbook-history aprsbook-table; do
     read_by mandoc -T lint man/$name.1
     read_by bash -n completions/$name.bash
     read_by zsh -n completions/_$name

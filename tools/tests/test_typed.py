@@ -28,8 +28,10 @@ def test_a_link_is_its_subcommand(programs: Programs) -> None:
 
 @pytest.mark.parametrize("words", [
     ["tracks", "gpx", "-o", "out", "net.log"], ["tracks", "-o", "out", "gpx", "net.log"],
-    ["tracks", "gpx", "net.log", "-o", "out"], ["tracks", "gpx", "net.log", "--gap", "60", "-o", "out"],
-    ["tracks", "-o", "out", "--", "gpx", "net.log"], ["tracks", "gpx", "-o", "out", "--", "net.log"],
+    ["tracks", "gpx", "net.log", "-o", "out"],
+    ["tracks", "gpx", "net.log", "--gap", "60", "-o", "out"],
+    ["tracks", "-o", "out", "--", "gpx", "net.log"],
+    ["tracks", "gpx", "-o", "out", "--", "net.log"],
     ["tracks", "gpx", "--", "net.log", "-x.log"], ["passed", "points", "--gap", "60", "net.log"]])
 def test_options_stand_anywhere(words: "list[str]") -> None:
     args = typed.parse(cli.make_parser(), words)

@@ -1,5 +1,5 @@
 //! What a program is to do, and which run does it.
-ghost use Rattle.std.specs.Prelude.{◌≡◌};
+ghost use Rattle.std.specs.Prelude.{◌≡◌, ◌≤◌, length};
 ghost use Rattle.aprs_command.specs.Arguments.{inputs_of, paths_of};
 ghost use Rattle.aprs_io.specs.Input.{most_input};
 ghost use Rattle.aprs_tool.specs.Devices.{CallsOutput};
@@ -61,6 +61,24 @@ pub fn work_of(job: Job) -> (Work, Vec<String>)
         Job::Widen(gap, inputs) => (Work::Of(Single::Widen(gap)), inputs),
         Job::Merge(gap, inputs) => (Work::OfAll(Gathering::Merge, gap), inputs),
         Job::Show(gap, inputs) => (Work::OfAll(Gathering::Show, gap), inputs),
+    }
+}
+
+/// Does the work over inputs, the first alone where it is a run over one, as `run_single` and
+/// `run_gathering` say.
+pub fn run_work<R: Read, W: Write, A: Allocator + Copy>(
+    alloc: A,
+    work: Work,
+    inputs: &mut [Counted<R>],
+    w: &mut Counted<W>,
+) -> Result<(), RunFault>
+    requires { 1 ≤ length inputs.now }
+    ensures { Spec.DoesWork work most_input R.remaining W.contents result inputs.old inputs.new
+        w.old w.new }
+{
+    match work {
+        Work::Of(single) => run_single(alloc, single, &mut inputs[0], w),
+        Work::OfAll(gathering, gap) => run_gathering(alloc, gathering, gap, inputs, w),
     }
 }
 

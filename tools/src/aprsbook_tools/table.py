@@ -194,7 +194,9 @@ def read(kind: Type[T], lines: Iterable[str]) -> Iterator[T]:
 def of(kind: Type[T], inputs: Sequence[str], gap: Optional[int] = None,
        given: programs.Given = None) -> Iterator[T]:
     """The table of logs and books, or of standard input where there are none, as a kind."""
-    command = programs.with_gap(["aprsbook-table", WORDS[kind]], gap, inputs)
+    # the first table, rows, needs no word, also of an older program
+    words = [] if kind is Row else [WORDS[kind]]
+    command = programs.with_gap(["aprsbook-table", *words], gap, inputs)
     return read(kind, programs.lines(*command, given=given))
 
 

@@ -13,8 +13,8 @@ from aprsbook_tools.errors import FAULTY, OUTPUT, Fault
 TEXT = """\
 For each two receivers that heard the same transmissions: by how many seconds the first is ahead of
 the other, in the median, how many transmissions that are, and from when to when by each clock. What
-was sent again with the same text is left out. Where the difference changes, as when a clock is set or drifts, there is a line for
-each span, and the change lies between two of them.
+was sent again with the same text is left out. Where the difference changes, as when a clock is set
+or drifts, there is a line for each span, and the change lies between two of them.
 
 The status is 1 where the difference is more than the gap in any span, since a book then has rows
 twice, or where no two receivers heard the same. What is wrong is mended by aprs-net shift."""

@@ -9,7 +9,7 @@ pub filling-preserved : goal.filling-preserved
 filling-preserved g c =
     let none = empty_book c.args.gap in
     let added =
-    push_done _ _ _ _ (c.is_err.ensures.negation ∙ ap not c.if-is_err.false) c.push.ensures.items in
+    c.in_ok-push.ensures.items in
     let more = ap length added ∙ length-append c.filling.books.items (c.with_gap.result ∷ []) in (
       λ i.
           ap (λ (t : List BookValue). get_or t i none)

@@ -10,6 +10,4 @@ returns g c = λ rows r held asked is.
     c.args.key c.greater_known-answer.result c.insert.new.self.entries asked
     (kept_greater c.greater_known-answer.result c.get.result _ c.copy.result r.greatest
     c.greater_known-answer.ensures c.get.ensures.value (c.copy.ensures ∙ is))
-    (where_ok c.insert.result (c.is_err.ensures.negation ∙ ap not c.if-is_err.false)
-    c.insert.ensures.entries)
-    c.insert.ensures.ordered
+    c.in_ok-insert.ensures.entries c.in_ok-insert.ensures.ordered

@@ -23,6 +23,4 @@ returns g c = λ rows r held message first last.
     ∙ ap (λ t. span_with t (span_of r))
     (sym c.in-Ok-Some.field-0-is ∙ c.in-Ok-Some.ensures.old))
     c.in-Ok-Some.ensures.entries
-    (where_ok c.insert-2.result (c.is_err.ensures.negation ∙ ap not c.if-is_err.false)
-    c.insert-2.ensures.entries)
-    c.insert-2.ensures.ordered
+    c.in_ok-insert-2.ensures.entries c.in_ok-insert-2.ensures.ordered

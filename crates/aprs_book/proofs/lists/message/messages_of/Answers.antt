@@ -18,7 +18,7 @@ loop-message-preserved g c =
     c.row_of.result
     (rest_more deref_pair c.loop-message.message-iterator c.next.new.self c.next.result
     (c.in-Some.message, c.in-Some.span) c.in-Some.is c.next.ensures.steps)
-    (push_done _ _ _ _ (c.is_err-in-loop-message.ensures.negation ∙ ap not c.if-is_err-2.false) c.push.ensures.items)
+    c.in_ok-push.ensures.items
     c.row_of.ensures c.loop-message.invariant
 
 pub returns : goal.returns

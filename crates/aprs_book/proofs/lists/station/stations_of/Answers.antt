@@ -18,8 +18,7 @@ loop-call-preserved g c =
     let ys = c.loop-call.list.items in
     let rest = rest_more deref_pair c.loop-call.call-iterator c.next.new.self c.next.result
     (c.in-Some.call, c.in-Some.transmissions) c.in-Some.is c.next.ensures.steps in
-    let pushed = push_done _ _ _ _ (c.is_err.ensures.negation ∙ ap not c.if-is_err.false)
-    c.push.ensures.items in
+    let pushed = c.in_ok-push.ensures.items in
     ap (λ l. l ++ map f c.next.new.self) pushed
     ∙ append_assoc ys (c.station_of.result ∷ []) (map f c.next.new.self)
     ∙ ap (λ y. ys ++ y ∷ map f c.next.new.self) c.station_of.ensures

@@ -1,0 +1,9 @@
+# fish completion of aprsbook-table, installed as
+# $(PREFIX)/share/fish/vendor_completions.d/aprsbook-table.fish
+function __aprsbook_table_wants_table
+    test (count (commandline -opc)) -eq 1
+end
+complete -c aprsbook-table -n __aprsbook_table_wants_table -a rows -d 'A line for each transmission'
+complete -c aprsbook-table -l gap -x -d 'Seconds within which copies are one, 1 to 3600'
+complete -c aprsbook-table -s h -l help -d 'Write help'
+complete -c aprsbook-table -s V -l version -d 'Write the version'
