@@ -1,7 +1,7 @@
 # bash completion of aprsbook-table, installed as
 # $(PREFIX)/share/bash-completion/completions/aprsbook-table
 _aprsbook_table() {
-    local tables='rows'
+    local tables='rows messages stations things'
     local gap_option='--gap'
     local word=${COMP_WORDS[COMP_CWORD]} before=${COMP_WORDS[COMP_CWORD - 1]}
     COMPREPLY=()

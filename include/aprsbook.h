@@ -85,6 +85,13 @@ struct aprs_answer aprs_history(struct aprs_region region, uint64_t seconds,
     const uint8_t *inputs, size_t inputs_length, const size_t *lengths, size_t count,
     uint8_t *output, size_t output_length, uint8_t *name, size_t name_length);
 
+/* Writes a table of several logs and books, which are given as to aprs_merge: the names of its
+ * columns, and its lines, with tabs. `table` is the text that names it, such as "rows"; status 2
+ * where no table has that name. */
+struct aprs_answer aprs_table(struct aprs_region region, uint64_t seconds, const uint8_t *table,
+    size_t table_length, const uint8_t *inputs, size_t inputs_length, const size_t *lengths,
+    size_t count, uint8_t *output, size_t output_length, uint8_t *name, size_t name_length);
+
 /* Writes the book of a log or a book under another gap in seconds, no narrower than its own;
  * status 2 where it isn't 1 to 3,600. */
 struct aprs_answer aprs_widen(struct aprs_region region, uint64_t seconds, const uint8_t *input,

@@ -69,7 +69,7 @@ offers 'aprsbook-history rx1.log ' 2024-05-01T12:00.log rx1.log 'a b.log' 'di:r'
 offers 'aprsbook-history 2024-05-01T12:' 00.log
 offers 'aprsbook-history 2024-05-01T12:0' 00.log
 offers 'aprsbook-history rx1.log di:r/' r/x.log
-offers 'aprsbook-table ' rows 2024-05-01T12:00.log rx1.log 'a b.log' 'di:r'
+offers 'aprsbook-table ' rows messages stations things 2024-05-01T12:00.log rx1.log 'a b.log' 'di:r'
 offers 'aprsbook-table r' rows rx1.log
 offers 'aprsbook-table rows r' rx1.log
 offers 'aprsbook-table -' --gap --help --version

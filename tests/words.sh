@@ -83,6 +83,10 @@ columns() {
         "crates/$1" | grep -o 'codes "[a-z0-9_]*"' | sed 's/codes "\(.*\)"/\1/'
 }
 columns aprs_table/specs/Table.antt columns > "$scratch/program/row_columns"
+for file in Messages Stations Things; do
+    name=$(echo ${file%s} | tr MST mst)
+    columns aprs_lists/specs/$file.antt "${name}_columns" > "$scratch/program/${name}_columns"
+done
 for options in options history_options table_options; do
     sed '/^-.$/d' "$scratch/program/$options" > "$scratch/program/${options%options}long_options"
 done
@@ -138,7 +142,9 @@ tags DIAGNOSTICS > "$scratch/page/history_messages"
 page=man/aprsbook-table.1
 first_words OPTIONS > "$scratch/page/table_options"
 first_words TABLES > "$scratch/page/tables"
-first_words 'Columns of rows' > "$scratch/page/row_columns"
+for name in row message station thing; do
+    first_words "Columns of ${name}s" > "$scratch/page/${name}_columns"
+done
 first_words 'EXIT STATUS' > "$scratch/page/table_statuses"
 tags DIAGNOSTICS > "$scratch/page/table_messages"
 
@@ -200,7 +206,8 @@ same() {
 }
 for kind in commands forms options kinds listed object_states message_states reasons log_causes \
     book_causes statuses messages history_options history_lines history_statuses \
-    history_messages table_options tables row_columns table_statuses table_messages; do
+    history_messages table_options tables row_columns message_columns \
+    station_columns thing_columns table_statuses table_messages; do
     same $kind page
 done
 for shell in bash zsh fish; do
@@ -221,8 +228,8 @@ done > "$scratch/lacks"
 
 # ---- the documents: all of them can be read, and the first at once ----
 
-[ "$(cat README.md CONTRIBUTING.md CHANGELOG.md docs/*.md | wc -w)" -le 26000 ] ||
-    fail 'the documents have more than 26,000 words'
+[ "$(cat README.md CONTRIBUTING.md CHANGELOG.md docs/*.md | wc -w)" -le 27000 ] ||
+    fail 'the documents have more than 27,000 words'
 [ "$(wc -l < README.md)" -le 120 ] || fail 'README.md has more than 120 lines'
 
 # ---- each file by its own reader ----
