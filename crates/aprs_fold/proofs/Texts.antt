@@ -1,17 +1,21 @@
 -- The text of a fold, from its header to its last line.
-use Rattle.aprs_fold.proofs.Common.{◌≡◌, ◌∙◌, ℕ, List, [], ◌++◌, append-nil, length, Option, Result, Ok, Err, refl, sym, ap, subst, Puts, Puts-fails, Puts-is, Puts-then, Sends-unput, Counted, Row, IsGap, millis_of}
+use Rattle.aprs_fold.proofs.Common.{◌≡◌, ◌∙◌, ℕ, List, [], ◌∷◌, ◌++◌, append-nil, length, map, Option, Result, Ok, Err, refl, sym, ap, subst, Puts, Puts-fails, Puts-is, Puts-then, Sends-unput, Counted, Row, IsGap, millis_of}
 use Rattle.std.specs.Io.KnownBytes.{Appends}
 use Rattle.aprs_io.proofs.Common.{Appends-trans}
 use Rattle.aprs_io.proofs.Sends.{left_of_both}
 use Rattle.aprs_io.specs.Device.{AppendsPrefix, Sends}
 use Rattle.aprs_io.specs.Outlet.{HasTaken, held_of, writer_of}
 use Rattle.aprs_io.specs.declared.outlet.Outlet.{Outlet}
+use Rattle.aprs_log.specs.LogText.{text_of_lines}
+use Rattle.aprs_log.specs.declared.moment_form.MomentForm.TheVariants.{Millis}
 use Rattle.aprs_laws.specs.BookValue.{BookValue}
-use Rattle.aprs_booktext.specs.RowLines.{ended_by_lf}
-use Rattle.aprs_booktext.specs.Text.{end_line, written_text}
+use Rattle.aprs_booktext.specs.RowLines.{ended_by_lf, line_and_lf}
+use Rattle.aprs_booktext.specs.Text.{end_line, row_line, written_text}
+use Rattle.aprs_booktext.specs.declared.version.Version.TheVariants.{Three}
+use Rattle.aprs_booktext.proofs.CutRows.{lack_an_end}
 use Rattle.aprs_booktext.proofs.TextParts.{text_parts}
 use Rattle.aprs_folding.proofs.Steps.{begins}
-use Rattle.aprs_fold.specs.Fold.{header_text, IsFoldedBook, IsLeft, IsPart, LeavesRows, LeavesText, PutsPart, PutsRows, PutsTextPart}
+use Rattle.aprs_fold.specs.Fold.{header_text, IsFoldedBook, IsLeft, IsPart, IsWhole, LacksEnd, LeavesRows, LeavesText, PutsPart, PutsRows, PutsTextPart}
 use Rattle.aprs_fold.specs.Taking.{lines_of_rows}
 use Rattle.aprs_fold.specs.declared.fault.FoldFault.{FoldFault}
 use Rattle.aprs_fold.specs.declared.fault.FoldFault.TheVariants.{Input, OtherGap, Memory, Write}
@@ -24,6 +28,10 @@ text_is : (gap : ℕ) (rows : List Row) (n : ℕ) → n ≡ length rows → writ
     ≡ header_text gap ++ (lines_of_rows rows ++ ended_by_lf (end_line n))
 text_is gap rows n e = text_parts (book_of gap rows) gap (header_text gap) refl refl n
     (ended_by_lf (end_line n)) e refl
+
+row_lines : (rows : List Row) → text_of_lines (map (row_line Millis) rows) ≡ lines_of_rows rows
+row_lines [] = refl
+row_lines (x ∷ rows) = ap (λ l. line_and_lf x ++ l) (row_lines rows)
 
 module _ {W : Type 0} (contents : W → Option (List ℕ)) (gap : ℕ) where
   -- the header was refused
@@ -96,32 +104,36 @@ module _ {W : Type 0} (contents : W → Option (List ℕ)) (gap : ℕ) where
   -- ---- what went out
 
   module _ (first : Counted W) (o p : Outlet W) (none : HasTaken contents first o []) where
-    sent_part : (rows : List Row) (mid : Outlet W)
+    sent_part : (rows : List Row) → IsWhole gap rows → (mid : Outlet W)
         → Puts {E = Unit {0}} contents (Ok tt) o mid (header_text gap) → held_of mid ≡ []
         → Puts {E = Unit {0}} contents (Ok tt) mid p (lines_of_rows rows)
         → (part : List ℕ) × (rest : List ℕ) × (lines_of_rows rows ≡ part ++ rest)
         × Appends (contents first.device) (contents (writer_of p).device) (header_text gap ++ part)
-    sent_part rows mid header empty lines =
+        × LacksEnd (header_text gap ++ part)
+    sent_part rows whole_rows mid header empty lines =
         let head = left_of_both none (header_text gap) header.took in
         let whole : header_text gap ≡ head.gone =
         head.whole ∙ ap (λ l. head.gone ++ l) empty ∙ append-nil head.gone in
-        let rest = lines.took in (
+        let rest = lines.took in
+        let cut : lines_of_rows rows ≡ rest.gone ++ held_of p =
+        ap (λ l. l ++ lines_of_rows rows) (sym empty) ∙ rest.whole in (
           rest.gone,
           held_of p,
-          ap (λ l. l ++ lines_of_rows rows) (sym empty) ∙ rest.whole,
+          cut,
           subst (λ l. Appends (contents first.device) (contents (writer_of p).device) (l ++ rest.gone))
               (sym whole)
               (Appends-trans (contents first.device) (contents (writer_of mid).device)
               (contents (writer_of p).device) head.gone rest.gone head.sends.sent rest.sends.sent),
+          lack_an_end (Three gap) rows whole_rows rest.gone (held_of p) (row_lines rows ∙ cut),
         )
 
-    parts : (fault : FoldFault) (rows last : List Row)
+    parts : (fault : FoldFault) (rows last : List Row) → IsWhole gap rows
         → PutsTextPart contents gap fault rows last o p
         → IsPart contents gap fault rows last first (writer_of p)
-    parts Write rows last put = (Sends-unput none (Err Write) refl put).prefix
-    parts (Input index fault) rows last put = sent_part rows put.0 put.1 put.2 put.3
-    parts (OtherGap index) rows last put = sent_part rows put.0 put.1 put.2 put.3
-    parts Memory rows last put = sent_part rows put.0 put.1 put.2 put.3
+    parts Write rows last whole put = (Sends-unput none (Err Write) refl put).prefix
+    parts (Input index fault) rows last whole put = sent_part rows whole put.0 put.1 put.2 put.3
+    parts (OtherGap index) rows last whole put = sent_part rows whole put.0 put.1 put.2 put.3
+    parts Memory rows last whole put = sent_part rows whole put.0 put.1 put.2 put.3
 
     pub leaves_text : (fault : FoldFault) → LeavesText contents gap fault o p
         → IsLeft contents gap fault first (writer_of p)
@@ -132,7 +144,7 @@ module _ {W : Type 0} (contents : W → Option (List ℕ)) (gap : ℕ) where
       last = h.last;
       folding = h.folding;
       rows_are = h.rows_are;
-      part = parts fault h.rows h.last h.put;
+      part = parts fault h.rows h.last h.rows_are h.put;
     }
 
   -- the whole text was put, but not sent

@@ -6,11 +6,14 @@ use Rattle.aprs_io.specs.Device.{AppendsPrefix}
 use Rattle.aprs_io.specs.Outlet.{held_of, Puts}
 use Rattle.aprs_io.specs.declared.device.Counted.{Counted}
 use Rattle.aprs_io.specs.declared.outlet.Outlet.{Outlet}
+use Rattle.aprs_io.specs.declared.input.InputEnd.TheVariants as how
 use Rattle.aprs_laws.specs.Gap.{millis_of}
 use Rattle.aprs_laws.specs.Row.{Row}
 use Rattle.aprs_booktext.specs.RowLines.{ended_by_lf, line_and_lf}
 use Rattle.aprs_booktext.specs.Text.{written_text, IsBookRows}
+use Rattle.aprs_booktext.specs.TextFault.{HasBookFault}
 use Rattle.aprs_booktext.specs.Version.{header_of}
+use Rattle.aprs_booktext.specs.declared.fault.BookCause.TheVariants as why
 use Rattle.aprs_booktext.specs.declared.version.Version.TheVariants.{Three}
 use Rattle.aprs_folding.specs.Folding.{IsFolding}
 use Rattle.aprs_fold.specs.Taking.{lines_of_rows}
@@ -25,8 +28,13 @@ IsWhole gap rows = IsBookRows (Three gap) rows
 abbrev pub header_text : ℕ → List ℕ
 header_text gap = ended_by_lf (header_of (Three gap))
 
--- A part of a book's text went out: the whole header and a part of the lines of these rows. At
--- `Write` it is a prefix of the text of these rows and the last.
+-- A text that no reader takes for a book's, since its last line isn't there.
+abbrev pub LacksEnd : List ℕ → Type 0
+LacksEnd text =
+    (line : ℕ) × HasBookFault text how.End (record { line = line; cause = why.Ending })
+
+-- A part of a book's text went out: the whole header and a part of the lines of these rows, which
+-- lacks its end. At `Write` it is a prefix of the text of these rows and the last.
 abbrev pub IsPart : {W : Type 0} → (W → Option (List ℕ)) → ℕ → FoldFault → List Row → List Row
     → Counted W → Counted W → Type 0
 IsPart contents gap Write rows last old new =
@@ -35,6 +43,7 @@ IsPart contents gap Write rows last old new =
 IsPart contents gap fault rows last old new = (part : List ℕ) × (rest : List ℕ)
     × (flat_map line_and_lf rows ≡ part ++ rest)
     × Appends (contents old.device) (contents new.device) (header_text gap ++ part)
+    × LacksEnd (header_text gap ++ part)
 
 -- What was written before the fold ended early: a part of such a text. Of the rows that were taken
 -- these are final (`BeginsBook`): whatever the inputs go on to be, they begin the book of all; with
