@@ -4,7 +4,7 @@ ghost use Rattle.std.specs.List.{last_or};
 ghost use Rattle.aprs_laws.specs.Row.{Row};
 ghost use Rattle.aprs_booktext.specs.BookAnswers.{IsAnswerFor};
 ghost use Rattle.aprs_booktext.specs.Fault.{ending_cause};
-ghost use Rattle.aprs_booktext.specs.Lines.{Lacks};
+ghost use Rattle.aprs_io.specs.Cut.{Lacks};
 ghost use Rattle.aprs_booktext.specs.Reader as Spec;
 ghost use Rattle.aprs_booktext.specs.RowReader.{answer_read, count_after, is_row_between, most_stream, row_kept, size_read, HasReadTo, IsNoneAtHeader, JudgesKept, ReadsOne};
 
