@@ -4,6 +4,7 @@ Reads crates/*/specs/*.antt, crates/*/src/*.rt and crates.txt by rattle_text.py.
 it all. Lines of a definition are counted without comments, imports and operators' precedences.
 """
 import glob
+import os
 import re
 from typing import NamedTuple
 
@@ -91,15 +92,19 @@ def named_in(text, scope):
 
 
 def given_on(path):
-    """What lib.rt gives on: its public modules, and what it uses of others, by module and name."""
+    """What lib.rt and its public modules give on: public modules, and uses, by module and name."""
     text = masked(read(path))
-    modules = set(re.findall(r"^pub mod (\w+);", text, re.M)) | {"lib"}
+    modules = set(re.findall(r"^pub mod (\w+);", text, re.M))
     used = set()
     for module, group in re.findall(r"^pub use ([\w:]+)(?:::\{([^}]*)\})?(?:::\*)?;", text, re.M):
         if not group:
             module, _, group = module.rpartition("::")
         names = [word.split(" as ")[0].strip() for word in group.split(",")]
         used |= {(module.split("::")[-1], name) for name in names if name}
+    for module in list(modules):
+        inner, inner_used = given_on(f"{os.path.dirname(path)}/{module}.rt")
+        modules |= inner
+        used |= inner_used
     return modules, used
 
 
@@ -189,6 +194,7 @@ class Statement:
         """Reads the files of src/ beside this lib.rt."""
         crate = lib.split("/")[1]
         modules, self.given[crate] = given_on(lib)
+        modules.add("lib")
         types = {name for _, name in self.given[crate]}
 
         def is_public(path, owner, function):

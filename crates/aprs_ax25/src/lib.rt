@@ -6,18 +6,12 @@ mod examples;
 mod fault;
 mod frame;
 mod hop;
-mod laws;
+pub mod laws;
 mod plain;
 mod scan;
 
 pub use callsign::Callsign;
-pub use examples::callsigns::callsigns_have_texts;
-pub use examples::frames::{
-    first_faults_count, frames_are_as_the_standard_shows_them, frames_are_made_as_commands,
-    frames_have_limits,
-};
 pub use fault::{CallFault, FrameFault, MakeFault};
 pub use frame::Frame;
 pub use hop::Hop;
-pub use laws::{each_is_a_frame_or_refused, equal_hops_are_the_same, ui_frames_are_read};
 pub use scan::MAX_UI_FRAME;

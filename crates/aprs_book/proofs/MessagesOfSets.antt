@@ -8,8 +8,8 @@ use Rattle.aprs_book.specs.declared.lists.message.MessageState.{MessageState}
 use Rattle.aprs_book.specs.declared.lists.message_key.MessageKey.{MessageKey}
 use Rattle.aprs_book.specs.declared.lists.message_key.Span.{Span}
 use Rattle.aprs_book.specs.declared.lists.message_key.AnswerKey.{AnswerKey}
-use Rattle.aprs_book.specs.Messages.{Message, message_cmp, ReportsIt, AnswersIt, IsStateOf, shown_message, IsMessageRow, AreMessages, IsListedBefore, ReportsMessages}
-use Rattle.aprs_book.specs.MessageRows.{message_of, Answer, answer_of, GivesAnswer, AreSpans, AreAnswers, IsFor, ReportsAnswer, StateFrom, IsRowOfMessage, Zipped, IsKeyBefore}
+use Rattle.aprs_book.specs.Messages.{Message, message_cmp, ReportsIt, AnswersIt, IsAnsweredAt, IsStateOf, shown_message, IsMessageRow, AreMessages, IsListedBefore, ReportsMessages}
+use Rattle.aprs_book.specs.MessageRows.{message_of, Answer, answer_of, GivesAnswer, AreSpans, AreAnswers, IsFor, ReportsAnswer, AnsweredFrom, StateFrom, IsRowOfMessage, Zipped, IsKeyBefore}
 use Rattle.aprs_book.proofs.Listings.{in_zip_right, in_zip_left}
 
 -- what a key answers
@@ -60,6 +60,12 @@ module _ (gap : ℕ) (S : List Received) (rows : List Row) (b : BookOf gap S row
   stands es c m first None state h = h
   stands es c m first (Some id) state h = (h.0, answer_known es c m id h.0 h.1, h.2)
 
+  answered_then : (es : List (AnswerKey × Received)) → AreAnswers rows es → (m : Message)
+      (first : ℕ) (id : Option (List ℕ)) (answered : Option ℕ)
+      → AnsweredFrom es m first id answered → IsAnsweredAt S m first id answered
+  answered_then es c m first None answered h = h
+  answered_then es c m first (Some id) answered h = (h.0, answer_known es c m id h.0 h.1, h.2)
+
   module _ (es : List (MessageKey × Span)) (rs : List (AnswerKey × Received)) (xs : List MessageRow)
       (cs : AreSpans rows es) (ca : AreAnswers rows rs) (o : Ordered IsKeyBefore es)
       (z : Zipped (IsRowOfMessage rs) es xs) where
@@ -82,6 +88,12 @@ module _ (gap : ℕ) (S : List Received) (rows : List Row) (b : BookOf gap S row
               (sym e.2.first)
               (stands rs ca (message_of e.0.0) e.0.1.first
               (message_of e.0.0).id x.state e.2.state));
+          answered =
+              subst (λ (m : Message). IsAnsweredAt S m x.first m.id x.answered) (sym e.2.message)
+              (subst (λ (n : ℕ). IsAnsweredAt S (message_of e.0.0) n (message_of e.0.0).id x.answered)
+              (sym e.2.first)
+              (answered_then rs ca (message_of e.0.0) e.0.1.first
+              (message_of e.0.0).id x.answered e.2.answered));
         }
 
     sent : (m : Message) → (x : MessageRow) × (x ∈ xs) × (shown_message x ≡ m)

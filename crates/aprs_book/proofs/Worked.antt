@@ -1,12 +1,12 @@
 -- Worked examples.
-use Rattle.aprs_book.proofs.Common.{◌≡◌, ℕ, ◌+◌, ◌<◌, true, false, None, List, [], ◌∷◌, ◌++◌, codes, inl, inr, refl, sym, ap, ◌∙◌, arith, SpellsCall, Received, heard_cmp, message, ack, rej, IsUpTo, Key, IsBest, LastKnown, n0call, known_once, heard_total, up_to_itself, each_of}
+use Rattle.aprs_book.proofs.Common.{◌≡◌, ℕ, ◌+◌, ◌<◌, true, false, Option, None, List, [], ◌∷◌, ◌++◌, codes, inl, inr, refl, sym, ap, ◌∙◌, arith, SpellsCall, Received, heard_cmp, message, ack, rej, IsUpTo, Key, IsBest, LastKnown, n0call, known_once, heard_total, up_to_itself, each_of}
 use Rattle.aprs_report.specs.Reader.{report_by_form, message_with, addressee_and_part_of, answer_at, text_and_id_of, object_of, item_of, item_field_of, stamp_at, place_of, plain_of, angle_of, minutes_of, numeral_of, cut_end}
 use Rattle.aprs_laws.specs.Key.{key_of}
 use Rattle.aprs_ax25.proofs.Calls.{ssid_text-one}
 use Rattle.aprs_book.specs.declared.lists.message.MessageState.{MessageState}
 use Rattle.aprs_book.specs.Reports.{report_of}
 use Rattle.aprs_book.specs.Names.{ReportsOf}
-use Rattle.aprs_book.specs.Messages.{AnswersIt, ReportsIt, IsStateOf, message_in, state_by}
+use Rattle.aprs_book.specs.Messages.{AnswersIt, IsAnsweredAt, ReportsIt, IsStateOf, answered_by, message_in, state_by}
 use Rattle.aprs_book.specs.Examples.{hi_message, one, asked_at, acknowledged_at, rejected_at, asked_again, object_at, killed_at, item_at}
 
 -- ---- texts of callsigns
@@ -121,6 +121,14 @@ pub one_state : (S : List Received) (first : ℕ) (a b : MessageState)
     → IsStateOf S (hi_message one) first one a → IsStateOf S (hi_message one) first one b → a ≡ b
 one_state S first a b s t = s.2
     ∙ (ap (state_by first) (known_once S S Answers s.0 t.0 (λ x. (λ h. h, λ h. h)) s.1 t.1)
+    ∙ sym t.2)
+
+-- and it is answered at one moment
+pub one_answer : (S : List Received) (first : ℕ) (a b : Option ℕ)
+    → IsAnsweredAt S (hi_message one) first one a → IsAnsweredAt S (hi_message one) first one b
+    → a ≡ b
+one_answer S first a b s t = s.2
+    ∙ (ap (answered_by first) (known_once S S Answers s.0 t.0 (λ x. (λ h. h, λ h. h)) s.1 t.1)
     ∙ sym t.2)
 
 -- ---- objects and items

@@ -51,9 +51,9 @@ acknowledged_at moment = heard_by 8 moment (codes ":N0CALL-7 :ack1")
 abbrev pub rejected_at : ℕ → Received
 rejected_at moment = heard_by 8 moment (codes ":N0CALL-7 :rej1")
 
--- Its row of the list, of these moments and this state.
-abbrev pub hi_listed : ℕ → ℕ → MessageState → MessageRow
-hi_listed first last state = record {
+-- Its row of the list, of these moments, this state and this moment of its answer.
+abbrev pub hi_listed : ℕ → ℕ → MessageState → Option ℕ → MessageRow
+hi_listed first last state answered = record {
   source = n0call 7;
   addressee = lent (codes "N0CALL-8");
   text = lent (codes "Hi");
@@ -61,6 +61,7 @@ hi_listed first last state = record {
   first = first;
   last = last;
   state = state;
+  answered = answered;
 }
 
 -- It is sent, acknowledged, and sent once more.

@@ -20,7 +20,7 @@ use Rattle.aprs_book.specs.Reports.{report_of}
 use Rattle.aprs_book.specs.declared.lists.message.MessageRow.{MessageRow}
 use Rattle.aprs_book.specs.declared.lists.message.MessageState.{MessageState}
 use Rattle.aprs_book.specs.declared.lists.message.MessageState.TheVariants.{Unnumbered}
-use Rattle.aprs_book.specs.Messages.{Message, ReportsIt, message_cmp, shown_message, state_by}
+use Rattle.aprs_book.specs.Messages.{Message, ReportsIt, answered_by, message_cmp, shown_message, state_by}
 
 -- Whether information begins with a colon, as that of messages and their answers does.
 abbrev pub begins_with_colon : List ℕ → Bool
@@ -130,6 +130,15 @@ StateFrom entries m first None state = state ≡ Unnumbered
 StateFrom entries m first (Some id) state =
     (answer : Option Received) × ReportsAnswer entries m id answer × (state ≡ state_by first answer)
 
+-- When a message of this first moment and id was answered, by the greatest answer among the
+-- entries.
+abbrev pub AnsweredFrom : List (AnswerKey × Received) → Message → ℕ → Option (List ℕ) → Option ℕ
+    → Type 0
+AnsweredFrom entries m first None answered = answered ≡ None
+AnsweredFrom entries m first (Some id) answered =
+    (answer : Option Received) × ReportsAnswer entries m id answer
+    × (answered ≡ answered_by first answer)
+
 -- The row of a message and its span.
 pub record IsRowOfMessage (entries : List (AnswerKey × Received)) (e : MessageKey × Span)
     (x : MessageRow) : Type 0 where
@@ -137,6 +146,7 @@ pub record IsRowOfMessage (entries : List (AnswerKey × Received)) (e : MessageK
   pub first : x.first ≡ e.1.first
   pub last : x.last ≡ e.1.last
   pub state : StateFrom entries (message_of e.0) e.1.first (message_of e.0).id x.state
+  pub answered : AnsweredFrom entries (message_of e.0) e.1.first (message_of e.0).id x.answered
 
 -- Both lists are of one length, and R holds of each two that stand at one place.
 abbrev pub Zipped : {X Y : Type 0} → (X → Y → Type 0) → List X → List Y → Type 0

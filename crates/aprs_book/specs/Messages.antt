@@ -76,6 +76,19 @@ IsStateOf S m first None state = state ≡ Unnumbered
 IsStateOf S m first (Some id) state =
     (reply : Option Received) × LastKnown S (AnswersIt m id) reply × (state ≡ state_by first reply)
 
+-- When the greatest answer was heard, where it counts.
+abbrev pub answered_by : ℕ → Option Received → Option ℕ
+answered_by first None = None
+answered_by first (Some a) = if nat_lt a.moment first then None else Some a.moment
+
+-- When a message of S with this first moment and id was answered: without an id never; otherwise
+-- when its greatest answer in S was heard, where that counts.
+abbrev pub IsAnsweredAt : List Received → Message → ℕ → Option (List ℕ) → Option ℕ → Type 0
+IsAnsweredAt S m first None answered = answered ≡ None
+IsAnsweredAt S m first (Some id) answered =
+    (reply : Option Received) × LastKnown S (AnswersIt m id) reply
+    × (answered ≡ answered_by first reply)
+
 -- ---- all messages
 
 -- The message of a row of the list.
@@ -95,11 +108,12 @@ IsSent S m = (s : Received) × (s ∈ S) × ReportsIt m (key_of s.frame)
 abbrev pub IsListedBefore : MessageRow → MessageRow → Type 0
 IsListedBefore x y = IsBelow message_cmp (shown_message x) (shown_message y)
 
--- A row of the list has the message's first and last moment in S, and what came of it in S.
+-- A row of the list has the message's first and last moment in S, what came of it in S, and when.
 pub record IsMessageRow (S : List Received) (x : MessageRow) : Type 0 where
   pub first : IsFirstMoment S (ReportsIt (shown_message x)) x.first
   pub last : IsLastMoment S (ReportsIt (shown_message x)) x.last
   pub state : IsStateOf S (shown_message x) x.first (shown_message x).id x.state
+  pub answered : IsAnsweredAt S (shown_message x) x.first (shown_message x).id x.answered
 
 -- One row for each message in S, in order.
 pub record AreMessages (S : List Received) (xs : List MessageRow) : Type 0 where

@@ -57,7 +57,7 @@ fn put_row<A: Allocator + Copy>(
 {
     put_names(text, row.names())?;
     if text.len() > u32::MAX as usize {
-        return Err(Memory);
+        return Err(Memory::past_all_sizes());
     }
     packed.push(&view_of(row, text.as_slice()))
 }

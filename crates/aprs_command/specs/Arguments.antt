@@ -17,6 +17,8 @@ use Rattle.aprs_log.specs.Receiver.{is_receiver}
 use Rattle.aprs_convert.specs.declared.form.Form.{Form}
 use Rattle.aprs_convert.specs.declared.form.Form.TheVariants as form
 use Rattle.aprs_command.specs.declared.jobs.HistoryJob.{HistoryJob}
+use Rattle.aprs_command.specs.declared.jobs.Table.{Table}
+use Rattle.aprs_command.specs.declared.jobs.Table.TheVariants as table
 use Rattle.aprs_command.specs.declared.jobs.TableJob.{TableJob}
 use Rattle.aprs_command.specs.declared.jobs.Job.{Job}
 use Rattle.aprs_command.specs.declared.jobs.Job.TheVariants as job
@@ -129,7 +131,8 @@ program_app p = with_subcommand (with_subcommand (with_subcommand (with_subcomma
 abbrev pub history_app : App
 history_app = with_gathered (versioned_app (codes "aprsbook-history"))
 
--- The program of tables, which has a version: `aprsbook-table [--gap SECONDS] [INPUT]...`.
+-- The program of tables, which has a version: `aprsbook-table [--gap SECONDS] [INPUT]...`, where
+-- the first INPUT may name a table.
 abbrev pub table_app : App
 table_app = with_gathered (versioned_app (codes "aprsbook-table"))
 
@@ -281,10 +284,28 @@ AnswersHistory arguments answer = MatchResult answer
 
 -- ---- the program of tables
 
--- The job has the gap and the inputs that these matches ask for.
+-- The table that a word names.
+abbrev pub named_table : Text → Option Table
+named_table word = if bytes_eq word (codes "rows") then Some table.Rows
+    else (if bytes_eq word (codes "messages") then Some table.Messages
+    else (if bytes_eq word (codes "stations") then Some table.Stations
+    else (if bytes_eq word (codes "things") then Some table.Things else None)))
+
+-- The table that the first value names and the paths after it; where it names none, the rows, and
+-- all values are paths.
+abbrev pub table_or_path : Option Table → Text → List Text → Table × List Text
+table_or_path (Some t) first others = (t, others)
+table_or_path None first others = (table.Rows, first ∷ others)
+
+-- The table and the paths of the inputs that these values of INPUT ask for.
+abbrev pub table_and_paths : List Text → Table × List Text
+table_and_paths [] = (table.Rows, [])
+table_and_paths (first ∷ others) = table_or_path (named_table first) first others
+
+-- The job has the table, the gap and the inputs that these matches ask for.
 pub record IsTableJobOf (rows : List Row) (j : TableJob) : Type 0 where
   pub gap : chosen_gap rows ≡ Some j.gap
-  pub inputs : paths_of j.inputs.items ≡ given_inputs rows
+  pub table_and_inputs : (j.table, paths_of j.inputs.items) ≡ table_and_paths (given_inputs rows)
 
 -- The arguments are refused only where the command doesn't take them, and for `Options` only where
 -- the gap can't be read.

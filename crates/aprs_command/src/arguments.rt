@@ -444,7 +444,7 @@ pub(crate) fn read_given_inputs(
 
 /// Copies of the texts, in their order and in memory of their own. `AllocError` where an
 /// allocation failed.
-fn copy_paths(alloc: Global, paths: &[&str]) -> Result<Vec<String>, AllocError>
+pub(crate) fn copy_paths(alloc: Global, paths: &[&str]) -> Result<Vec<String>, AllocError>
     ensures { IfOk result (λ v. Spec.paths_of v.items ≡ map (λ path. path.now) paths.now) }
 {
     let mut inputs = Vec::new(alloc);

@@ -87,13 +87,34 @@ Exit status:
 
 /// What `aprsbook-table` is for.
 pub const TABLE: &str =
-    "Writes a table of logs and book files: the names of columns, and a line for each transmission";
+    "Writes a table of logs and book files: the names of its columns, and its lines, with tabs";
 
-/// Examples of `aprsbook-table`, and its exit statuses.
-pub const TABLE_EXAMPLES: &str = "Examples:
+/// How `aprsbook-table` is used.
+pub const TABLE_USAGE: &str = "aprsbook-table [OPTIONS] [TABLE] [INPUT]...";
+
+/// The tables that the first word after the options may name.
+pub const TABLES: &str = "Tables:
+  rows      a line for each transmission; without a TABLE too
+  messages  a line for each message, with what came of it
+  stations  a line for each station, with its last position and status
+  things    a line for each object and item, with its last report
+
+A file of such a name is given as ./rows.";
+
+/// The tables, examples of `aprsbook-table`, and its exit statuses.
+pub const TABLE_EXAMPLES: &str = "Tables:
+  rows      a line for each transmission; without a TABLE too
+  messages  a line for each message, with what came of it
+  stations  a line for each station, with its last position and status
+  things    a line for each object and item, with its last report
+
+A file of such a name is given as ./rows.
+
+Examples:
   aprsbook-table net.book
   aprsbook-table rx1.log rx2.log > evening.tsv
-  aprsbook-table --gap 60 slow.book
+  aprsbook-table messages net.book
+  aprsbook-table rows --gap 60 slow.book
 
 Exit status:
   0  done, or help or the version was asked for

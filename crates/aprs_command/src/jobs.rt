@@ -1,4 +1,7 @@
 //! What a program is asked to do.
+ghost use Rattle.std.specs.Prelude.{◌≡◌};
+ghost use Rattle.aprs_command.specs.Arguments.{named_table};
+
 use aprs_convert::Form;
 use aprs_laws::Gap;
 
@@ -28,10 +31,45 @@ pub struct HistoryJob {
     pub inputs: Vec<String>,
 }
 
-/// What the arguments of `aprsbook-table` ask for: the table of logs and book files, with the
-/// paths of these; without any, standard input is read.
+/// Which table of a book is written.
+#[derive(Clone, Copy)]
+pub enum Table {
+    /// A line for each row of the book.
+    Rows,
+    /// A line for each message, with what came of it.
+    Messages,
+    /// A line for each station, with its last known position and status.
+    Stations,
+    /// A line for each object and item, with its last report.
+    Things,
+}
+
+impl Table {
+    /// The table of this name, which is `rows`, `messages`, `stations` or `things`, or `None` where
+    /// no table has it.
+    pub fn named(name: &[u8]) -> Option<Table>
+        ensures { result ≡ named_table name.now }
+    {
+        if name == b"rows".as_slice() {
+            Some(Table::Rows)
+        } else if name == b"messages".as_slice() {
+            Some(Table::Messages)
+        } else if name == b"stations".as_slice() {
+            Some(Table::Stations)
+        } else if name == b"things".as_slice() {
+            Some(Table::Things)
+        } else {
+            None
+        }
+    }
+}
+
+/// What the arguments of `aprsbook-table` ask for: a table of logs and book files, with the paths
+/// of these; without any, standard input is read.
 #[derive(Drop)]
 pub struct TableJob {
+    /// Which table is written.
+    pub table: Table,
     /// The gap of the book whose table is written.
     pub gap: Gap,
     /// The paths, in the order of the arguments.

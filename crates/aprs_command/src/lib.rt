@@ -9,5 +9,5 @@ mod table;
 
 pub use arguments::{command_is_simple, job};
 pub use history::{history_command_is_simple, history_job};
-pub use jobs::{HistoryJob, Job, JobFault, TableJob};
+pub use jobs::{HistoryJob, Job, JobFault, Table, TableJob};
 pub use table::{table_command_is_simple, table_job};

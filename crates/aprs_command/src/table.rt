@@ -1,21 +1,22 @@
 //! The arguments of `aprsbook-table`.
 ghost use Rattle.std.specs.Prelude.{◌≡◌, IfOk, map, true};
-ghost use Rattle.clap.specs.Words.{app_of, is_simple_and_free};
+ghost use Rattle.clap.specs.Words.{app_of, found_of, is_simple_and_free, rows_of};
 ghost use Rattle.aprs_command.specs.Arguments as Spec;
 
-use crate::arguments::{clap_fault, gap_arg, inputs_arg, read_chosen_gap, read_given_inputs};
+use crate::arguments::{clap_fault, copy_paths, gap_arg, inputs_arg, read_chosen_gap};
 use crate::help;
-use crate::jobs::{TableJob, JobFault};
-use clap::Command;
+use crate::jobs::{JobFault, Table, TableJob};
+use clap::{ArgMatches, Command};
 use std::alloc::{AllocError, Global};
 
-/// What the arguments of `aprsbook-table [--gap SECONDS] [INPUT]...` ask for, the program's name
-/// being the first: the gap, which is 30 seconds where it is not given, and the inputs' paths in
-/// the order of the arguments. SECONDS is 1 to 3,600, and else a fault of `JobFault::Clap`. Where
-/// the arguments ask for help or the version, its text is that of `JobFault::Clap`.
-/// `JobFault::Memory` where an allocation failed. By `asked` the job is the one that the definition
-/// of the command reads from the arguments; by `judged` clap's refusal is for a fault that this
-/// definition finds in them.
+/// What the arguments of `aprsbook-table [TABLE] [--gap SECONDS] [INPUT]...` ask for, the program's
+/// name being the first: the table, which is that of the rows where none is named, the gap, which
+/// is 30 seconds where it is not given, and the inputs' paths in the order of the arguments. The
+/// first word that is no option names a table where it is the name of one, and is a path else.
+/// SECONDS is 1 to 3,600, and else a fault of `JobFault::Clap`. Where the arguments ask for help or
+/// the version, its text is that of `JobFault::Clap`. `JobFault::Memory` where an allocation
+/// failed. By `asked` the job is the one that the definition of the command reads from the
+/// arguments; by `judged` clap's refusal is for a fault that this definition finds in them.
 pub fn table_job(alloc: Global, arguments: &[&str]) -> Result<TableJob, JobFault>
     ensures asked { Spec.AnswersTable (map (λ a. a.now) arguments.now) result }
     ensures judged { Spec.JudgesArguments Spec.table_app (map (λ a. a.now) arguments.now)
@@ -32,8 +33,8 @@ pub fn table_job(alloc: Global, arguments: &[&str]) -> Result<TableJob, JobFault
     let Some(gap) = read_chosen_gap(&matches) else {
         return Err(JobFault::Options);
     };
-    match read_given_inputs(alloc, &matches) {
-        Ok(inputs) => Ok(TableJob { gap, inputs }),
+    match read_table_and_inputs(alloc, &matches) {
+        Ok((table, inputs)) => Ok(TableJob { table, gap, inputs }),
         Err(_) => Err(JobFault::Memory),
     }
 }
@@ -53,8 +54,51 @@ fn table_command<'a>(alloc: Global) -> Result<Command<'a>, AllocError>
     let with_inputs = Command::new(alloc, "aprsbook-table")
         .version(help::VERSION)
         .about(help::TABLE)
+        .override_usage(help::TABLE_USAGE)
+        .after_help(help::TABLES)
         .after_long_help(help::TABLE_EXAMPLES)
         .arg(inputs)?;
     let gap = gap_arg(alloc);
     with_inputs.arg(gap)
+}
+
+/// The table that INPUT names first among these matches, and the paths that it gives else, in the
+/// order of the arguments and in memory of their own. `AllocError` where an allocation failed.
+fn read_table_and_inputs(
+    alloc: Global,
+    matches: &ArgMatches<'_>,
+) -> Result<(Table, Vec<String>), AllocError>
+    ensures { IfOk result (λ asked. (asked.0, Spec.paths_of asked.1.items)
+        ≡ Spec.table_and_paths (Spec.given_inputs (rows_of (found_of matches.now)))) }
+{
+    match matches.get_strs("input") {
+        Some(values) => copy_asked(alloc, values),
+        None => Ok((Table::Rows, Vec::new(alloc))),
+    }
+}
+
+/// The table that these values of INPUT name first, and copies of the paths among them.
+/// `AllocError` where an allocation failed.
+fn copy_asked(alloc: Global, values: &[&str]) -> Result<(Table, Vec<String>), AllocError>
+    ensures { IfOk result (λ asked. (asked.0, Spec.paths_of asked.1.items)
+        ≡ Spec.table_and_paths (map (λ value. value.now) values.now)) }
+{
+    let (table, paths) = split_table(values);
+    let inputs = copy_paths(alloc, paths)?;
+    Ok((table, inputs))
+}
+
+/// The table that the first value names, with the others, which are paths; where it names none, the
+/// table of the rows, with all values.
+fn split_table<'a, 'b>(values: &'a [&'b str]) -> (Table, &'a [&'b str])
+    ensures { (result.0, map (λ value. value.now) result.1.now)
+        ≡ Spec.table_and_paths (map (λ value. value.now) values.now) }
+{
+    let Some((first, others)) = values.split_first() else {
+        return (Table::Rows, values);
+    };
+    match Table::named(first.as_bytes()) {
+        Some(table) => (table, others),
+        None => (Table::Rows, values),
+    }
 }

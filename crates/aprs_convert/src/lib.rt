@@ -7,7 +7,7 @@ mod convert;
 mod example;
 mod fault;
 mod form;
-mod laws;
+pub mod laws;
 mod monitor;
 mod monitor_example;
 mod run;
@@ -15,8 +15,6 @@ mod text;
 mod write_line;
 
 pub use check::check_log;
-pub use example::{checks_count_lines, checks_name_lines};
 pub use fault::ConvertFault;
 pub use form::Form;
-pub use laws::{one_text_is_checked, one_text_is_converted};
 pub use run::convert_input;

@@ -7,7 +7,7 @@ mod cut;
 mod device;
 mod hexadecimal;
 mod input;
-mod laws;
+pub mod laws;
 mod outlet;
 mod shown;
 
@@ -16,6 +16,5 @@ pub use cut::cut_at;
 pub use device::{Counted, DeviceFault, WriteFault, send};
 pub use hexadecimal::{decode_into, decode_lower_into, put_hex};
 pub use input::{InputEnd, MAX_INPUT, read_some};
-pub use laws::inputs_have_at_most_one_gibibyte;
 pub use outlet::{MAX_HELD, Outlet};
 pub use shown::{are_shown, shown_byte};

@@ -1,5 +1,5 @@
 -- Receptions and rows that the worked examples are about.
-use Rattle.std.specs.Prelude.{◌≡◌, ℕ, Bool, true, List, [], ◌∷◌, codes}
+use Rattle.std.specs.Prelude.{◌≡◌, ℕ, ◌+◌, ◌*◌, Bool, true, List, [], ◌∷◌, codes}
 use Rattle.aprs_ax25.specs.Callsign.{Call}
 pub use Rattle.aprs_log.specs.Examples.{hi_frame}
 use Rattle.aprs_log.specs.Reception.{Received}
@@ -25,6 +25,12 @@ abbrev pub of_other : List ℕ
 of_other =
     130 ∷ 160 ∷ 164 ∷ 166 ∷ 64 ∷ 64 ∷ 224 ∷ 156 ∷ 96 ∷ 134 ∷ 130 ∷ 152 ∷ 152 ∷ 113
     ∷ 3 ∷ 240 ∷ 62 ∷ 72 ∷ 105 ∷ []
+
+-- N0CALL-7>APRS:>Hi, where the destination has this SSID
+abbrev pub hi_to : ℕ → List ℕ
+hi_to ssid =
+    130 ∷ 160 ∷ 164 ∷ 166 ∷ 64 ∷ 64 ∷ (224 + 2 * ssid) ∷ 156 ∷ 96 ∷ 134 ∷ 130 ∷ 152 ∷ 152
+    ∷ 111 ∷ 3 ∷ 240 ∷ 62 ∷ 72 ∷ 105 ∷ []
 
 -- The key of `hi_frame`, `hi_after_digipeater` and `hi_as_response`.
 abbrev pub hi_key : Key
@@ -122,6 +128,14 @@ row_to first last = example_row first (rx1 ∷ []) (by_rx1 last)
 -- A key with this source and information.
 abbrev pub key_by : ℕ → List ℕ → Key
 key_by ssid info = record { source = n0call ssid; destination = n0call 0; info = info }
+
+-- A key from N0CALL to N0CALL, with these SSIDs and this information.
+abbrev pub key_to : ℕ → ℕ → List ℕ → Key
+key_to from to info = record { source = n0call from; destination = n0call to; info = info }
+
+-- Heard by RX1 at moment 0, sent to APRS with this SSID.
+abbrev pub sent_to : ℕ → Received
+sent_to ssid = reception_at 0 rx1 (hi_to ssid)
 
 -- Place 0 takes a reception, place 1 takes what place 0 has, and then place 0 takes one more.
 abbrev pub take_merge_take : List Step

@@ -35,6 +35,8 @@ pub fn histories_tell_reports()
         (codes "AID\\x20#2 live - 294350/6000 -432175/6000 0 /A:") }
     ensures message { history_line (reported_once (codes ":WU2Z     :Testing{003"))
         ≡ line_once (codes "message") (codes "WU2Z 003:Testing") }
+    ensures unnumbered { history_line (reported_once (codes ":WU2Z     :Testing"))
+        ≡ line_once (codes "message") (codes "WU2Z -:Testing") }
     ensures ack { history_line (reported_once (codes ":WU2Z     :ack003"))
         ≡ line_once (codes "ack") (codes "WU2Z 003") }
     ensures rej { history_line (reported_once (codes ":WU2Z     :rej003"))
@@ -43,6 +45,16 @@ pub fn histories_tell_reports()
         ≡ line_once (codes "raw") (codes "APRS:T#005") }
     ensures numbers { history_line (reported_once (codes ">Hi" ++ 10 ∷ 92 ∷ 255 ∷ []))
         ≡ line_once (codes "status") (codes "-:Hi\\x0a\\x5c\\xff") }
+
+    ensures stamped { history_line (reported_once (codes "@092345z4903.50N/07201.75W>"))
+        ≡ line_once (codes "position") (codes "092345z 294350/6000 -432175/6000 0 />:") }
+    ensures status { history_line (reported_once (codes ">092345zHi"))
+        ≡ line_once (codes "status") (codes "092345z:Hi") }
+    ensures ambiguous { history_line (reported_once (codes "!4903.5 N/07201.7 W-"))
+        ≡ line_once (codes "position") (codes "- 294350/6000 -432170/6000 1 /-:") }
+    ensures dead_item { history_line (reported_once (codes ")AID #2_4903.50N/07201.75WA"))
+        ≡ line_once (codes "item")
+        (codes "AID\\x20#2 killed - 294350/6000 -432175/6000 0 /A:") }
 
     ensures misses_north { history_line (reported_once (codes "!4903.50N/07201.75W-Test"))
         ≡ line_once (codes "position") (codes "- -432175/6000 294350/6000 0 /-:Test") → ⊥ }
@@ -60,6 +72,12 @@ pub fn histories_tell_mic_e()
     ensures mic_e { history_line (heard_once (codes "S32UVT") jeep_info)
         ≡ line_once (codes "mic-e")
         (codes "251 20 returning - 200564/6000 -672774/6000 0 /j:") }
+    ensures comment { history_line (heard_once (codes "S32UVT") (jeep_info ++ codes "Hi"))
+        ≡ line_once (codes "mic-e")
+        (codes "251 20 returning - 200564/6000 -672774/6000 0 /j:Hi") }
+    ensures committed { history_line (heard_once (codes "3SRUVT") jeep_info)
+        ≡ line_once (codes "mic-e")
+        (codes "251 20 committed - 200564/6000 -672774/6000 0 /j:") }
     ensures raw { history_line (heard_once (codes "S32UVT") (codes "`(_fn\"Oj"))
         ≡ line_once (codes "raw") (codes "S32UVT:`(_fn\"Oj") }
 

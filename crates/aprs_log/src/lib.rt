@@ -3,7 +3,7 @@
 
 mod examples;
 mod fault;
-mod laws;
+pub mod laws;
 mod line;
 mod moment;
 mod moment_form;
@@ -13,11 +13,7 @@ mod reception;
 mod write;
 
 pub use aprs_io::{InputEnd, MAX_INPUT};
-pub use examples::{
-    lines_are_wrong_from_the_left, lines_report_frames, logs_have_first_faults, moments_have_texts,
-};
 pub use fault::{LineFault, LogCause, LogFault, Reason};
-pub use laws::{equal_lines_are_the_same, lines_are_read_as_they_say, logs_are_read_as_they_say};
 pub use line::{Line, MAX_LINE, read_line};
 pub use moment::Moment;
 pub use moment::clock::Clock;

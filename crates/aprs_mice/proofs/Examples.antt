@@ -6,7 +6,10 @@ use Rattle.std.proofs.lemmas.List.Elements.{All-nil, All-cons}
 use Rattle.aprs_report.specs.declared.place.Place.TheVariants.{Plain}
 use Rattle.aprs_mice.specs.declared.mic_e_message.MicEMessage.{MicEMessage}
 use Rattle.aprs_mice.specs.declared.mic_e_message.MicEMessage.TheVariants as say
+use Rattle.aprs_mice.specs.declared.mark.Bit.{Bit}
+use Rattle.aprs_mice.specs.declared.mark.Bit.TheVariants as bit
 use Rattle.aprs_mice.specs.MicE.{MicEValue, MicEOf}
+use Rattle.aprs_mice.specs.MicEMessage.{message_of_bits, message_name}
 use Rattle.aprs_mice.specs.Reader.{mic_e_or_none, destination_of, position_mark_of, ambiguity_of_spaces}
 use Rattle.aprs_mice.specs.Reader.{longitude_of_octets, motion_of}
 use Rattle.aprs_mice.proofs.Readings.{mic_e_found, mic_e_takes, none_some}
@@ -164,6 +167,45 @@ pub messages_are_by_three_bits : Reads (
     (codes "3DRUVT", jeep_field, jeep_says say.Unknown) ∷ [])  -- mixed last two
 unfolding reader
 messages_are_by_three_bits = all_read _ refl
+
+-- The bits A, B and C, with the name of their message.
+abbrev pub NameRow : Type 0
+NameRow = (Bit × Bit × Bit) × List ℕ
+
+abbrev pub IsNamed : NameRow → Type 0
+IsNamed r = message_name (message_of_bits r.0.0 r.0.1 r.0.2) ≡ r.1
+
+-- The messages have the names beside their bits.
+pub record Named (rows : List NameRow) : Type 0 where
+  pub each : All IsNamed rows
+
+all_named : (rows : List NameRow) →
+    map (λ (r : NameRow). message_name (message_of_bits r.0.0 r.0.1 r.0.2)) rows
+    ≡ map (λ (r : NameRow). r.1) rows → Named rows
+all_named [] e = record { each = All-nil IsNamed }
+all_named (r ∷ rows) e = record {
+  each = All-cons IsNamed r rows (cc) (all_named rows (cc)).each;
+}
+
+-- The names of both tables, M0 to M6, the emergency and C0 to C6, and that of a mixture.
+pub messages_have_names : Named (
+    ((bit.Standard, bit.Standard, bit.Standard), codes "off-duty") ∷
+    ((bit.Standard, bit.Standard, bit.Zero), codes "en-route") ∷
+    ((bit.Standard, bit.Zero, bit.Standard), codes "in-service") ∷
+    ((bit.Standard, bit.Zero, bit.Zero), codes "returning") ∷
+    ((bit.Zero, bit.Standard, bit.Standard), codes "committed") ∷
+    ((bit.Zero, bit.Standard, bit.Zero), codes "special") ∷
+    ((bit.Zero, bit.Zero, bit.Standard), codes "priority") ∷
+    ((bit.Zero, bit.Zero, bit.Zero), codes "emergency") ∷
+    ((bit.Custom, bit.Custom, bit.Custom), codes "custom-0") ∷
+    ((bit.Custom, bit.Custom, bit.Zero), codes "custom-1") ∷
+    ((bit.Custom, bit.Zero, bit.Custom), codes "custom-2") ∷
+    ((bit.Custom, bit.Zero, bit.Zero), codes "custom-3") ∷
+    ((bit.Zero, bit.Custom, bit.Custom), codes "custom-4") ∷
+    ((bit.Zero, bit.Custom, bit.Zero), codes "custom-5") ∷
+    ((bit.Zero, bit.Zero, bit.Custom), codes "custom-6") ∷
+    ((bit.Custom, bit.Standard, bit.Zero), codes "unknown") ∷ [])
+messages_have_names = all_named _ refl
 
 -- The destination's characters are those of the table, and six. The last three have no custom bit.
 pub destinations_have_six_characters : Reads (

@@ -2,6 +2,7 @@
 use Rattle.std.specs.Prelude.{◌≡◌, ℕ, Bool, true, false, List, Option, None, Some, Result, Ok, Err, slice_get, unwrap_or, codes}
 use Rattle.aprs_tool.specs.Status.{status_of_fault}
 use Rattle.aprs_tool.specs.declared.fault.RunFault.{RunFault}
+use Rattle.aprs_tool.specs.declared.fault.RunFault.TheVariants.{Input}
 use Rattle.aprs_program.specs.Complaint.{run_words, status, words_of}
 use Rattle.aprs_program.specs.declared.complaint.Complaint.{Complaint}
 use Rattle.aprs_program.specs.declared.complaint.Complaint.TheVariants as why
@@ -18,3 +19,8 @@ EndsWith place (Ok u) true complaint = complaint ≡ None
 -- The name of input number `index`, from 0: its path, or `standard input` where there is none.
 abbrev pub input_name : List (List ℕ) → ℕ → List ℕ
 input_name paths index = unwrap_or (slice_get paths index) (codes "standard input")
+
+-- The name of the input at fault after a run, where one is: a fault that is no input's names none.
+abbrev pub place_of : List (List ℕ) → Result (Unit {0}) RunFault → List ℕ
+place_of paths (Err (Input index fault)) = input_name paths index
+place_of paths other = codes "standard input"

@@ -2,6 +2,8 @@
 use Rattle.std.specs.Prelude.{◌≡◌, ℕ, ⊤, List, [], ◌∷◌, ◌++◌, map, take, slice_get, string_bytes, Option, None, Some}
 use Rattle.std.specs.declared.string.String.{String}
 use Rattle.std.specs.Borrow.{Bor}
+use Rattle.aprs_io.specs.Device.{device_of}
+use Rattle.aprs_io.specs.declared.device.Counted.{Counted}
 use Rattle.aprs_program.specs.declared.complaint.Complaint.{Complaint}
 use Rattle.aprs_program.specs.declared.complaint.Complaint.TheVariants as why
 use Rattle.aprs_program.specs.declared.opening.OpenFault.{OpenFault}
@@ -18,6 +20,19 @@ abbrev pub AsksFor : Option (List Asked) → Option (List Asked) → List Asked 
 AsksFor None new asked = ⊤
 AsksFor (Some before) None asked = ⊥
 AsksFor (Some before) (Some after) asked = after ≡ before ++ asked
+
+-- Where the path of an input is known, it is this one.
+abbrev pub IsKnownAs : Option (List ℕ) → List ℕ → Type 0
+IsKnownAs None path = ⊤
+IsKnownAs (Some known) path = known ≡ path
+
+-- There are as many inputs as paths, and each input is open at the path in its place.
+abbrev pub AreAt : {I Z : Type 0} → (I → Option (List ℕ)) → List (Counted I) → List (String Z)
+    → Type 0
+AreAt path_of [] [] = ⊤
+AreAt path_of (input ∷ inputs) (path ∷ paths) =
+    IsKnownAs (path_of (device_of input)) (string_bytes path) × AreAt path_of inputs paths
+AreAt path_of inputs paths = ⊥
 
 -- These paths, where each of their inputs is open.
 abbrev pub opened : {Z : Type 0} → List (String Z) → List Asked

@@ -14,6 +14,7 @@ use Rattle.aprs_tool.specs.HistoryOf.{IsHistoryOf}
 use Rattle.aprs_tool.specs.Merge.{IsTextOfBook}
 use Rattle.aprs_tool.specs.Outcome.{IsToldOf, RefusesFor, WritesFor}
 use Rattle.aprs_tool.specs.Run.{AnswersAs}
+use Rattle.aprs_tool.specs.Several.{GiveUnion, IsFirstRefused, OfEach}
 use Rattle.aprs_tool.specs.Show.{IsListingOf}
 use Rattle.aprs_tool.specs.TableOf.{IsTableOf}
 use Rattle.aprs_tool.specs.Widen.{GivesSetWithin, IsNotWidened}
@@ -33,13 +34,13 @@ work_of (job.Widen gap inputs) = work.Of (single.Widen gap)
 work_of (job.Merge gap inputs) = work.OfAll gathering.Merge gap
 work_of (job.Show gap inputs) = work.OfAll gathering.Show gap
 
--- The text is what is written of a set: its book, its listing, its history or its
--- table under this gap.
+-- The text is what is written of a set: its book, its listing, its history or a table of it, under
+-- this gap.
 abbrev pub IsOutputOf : Gathering → ℕ → List Received → List ℕ → Type 0
 IsOutputOf gathering.Merge gap = IsTextOfBook gap
 IsOutputOf gathering.Show gap = IsListingOf gap
 IsOutputOf gathering.History gap = IsHistoryOf gap
-IsOutputOf gathering.Table gap = IsTableOf gap
+IsOutputOf (gathering.Table t) gap = IsTableOf t gap
 
 -- What the readers were asked: a merge may be refused memory after their ends as well.
 abbrev pub AsksAll : {R : Type 0} → Gathering → Result (Unit {0}) RunFault → List (Counted R)
@@ -70,3 +71,29 @@ Does (single.Convert form) limit remaining contents result r s w x =
     AnswersAs result (λ answer. Runs (Converts form) limit remaining contents answer r s w x)
 Does (single.Widen gap) limit remaining contents result r s w x =
     WidensInput gap limit remaining contents result r s w x
+
+-- The run over several inputs did this work: what was written of their book, which input is refused
+-- for what, and what the devices were asked.
+pub record Gathers {R W : Type 0} (of : Gathering) (gap limit : ℕ) (remaining : R → Option (List ℕ))
+    (contents : W → Option (List ℕ)) (result : Result (Unit {0}) RunFault)
+    (old new : List (Counted R)) (w x : Counted W) : Type 0 where
+  pub writes : OfEach limit remaining old new
+      (λ gots. WritesFor (IsToldOf (GiveUnion gap gots) (IsOutputOf of gap)) contents result w x)
+  pub refuses : OfEach limit remaining old new
+      (λ gots. RefusesFor (GiveUnion gap gots) (IsFirstRefused gap gots) result w x)
+  pub asks : AsksAll of result old new
+  pub calls : CallsOutput result w x
+
+-- There is a first input, and this holds of it before and after.
+abbrev pub OfFirst : {I : Type 0} → (I → I → Type 0) → List I → List I → Type 0
+OfFirst P (r ∷ old) (s ∷ new) = P r s
+OfFirst P old new = ⊥
+
+-- The work was done: over the first input where it is a run over one, and else over all.
+abbrev pub DoesWork : {R W : Type 0} → Work → ℕ → (R → Option (List ℕ)) → (W → Option (List ℕ))
+    → Result (Unit {0}) RunFault → List (Counted R) → List (Counted R) → Counted W → Counted W
+    → Type 0
+DoesWork (work.Of single) limit remaining contents result old new w x =
+    OfFirst (λ r s. Does single limit remaining contents result r s w x) old new
+DoesWork (work.OfAll of gap) limit remaining contents result old new w x =
+    Gathers of gap limit remaining contents result old new w x

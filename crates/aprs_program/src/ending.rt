@@ -6,22 +6,35 @@ use crate::complaint::{Complaint, complaint_of};
 use aprs_tool::RunFault;
 
 /// What a complaint names where an input has no path.
-pub const STANDARD_INPUT: &str = "standard input";
+const STANDARD_INPUT: &str = "standard input";
 
-/// What is complained of after a run, where `place` is the name of the input at fault and `flushed`
-/// says that the output took all: the run's own fault, or else the output's, or nothing. Takes no
-/// memory.
+/// What is complained of after a run over inputs of these paths, none for standard input, where
+/// `flushed` says that the output took all: the run's own fault, with the name of the input at fault,
+/// or else the output's, or nothing. Takes no memory.
 pub fn complaint_after<'t>(
-    place: &'t [u8],
+    paths: &'t [String],
     outcome: &Result<(), RunFault>,
     flushed: bool,
 ) -> Option<Complaint<'t>>
-    ensures { Spec.EndsWith place.entry.now outcome.now flushed result }
+    ensures { Spec.EndsWith (Spec.place_of (map (λ path. string_bytes path) paths.entry.now)
+        outcome.now) outcome.now flushed result }
 {
     match outcome {
-        Err(fault) => Some(complaint_of(place, fault)),
+        Err(fault) => Some(complaint_of(place_of(paths, fault).as_bytes(), fault)),
         Ok(()) if flushed => None,
         Ok(()) => Some(Complaint::CannotWrite),
+    }
+}
+
+/// The name of the input at fault: its path, or `standard input` where there is none. Takes no
+/// memory.
+fn place_of<'t>(paths: &'t [String], fault: &RunFault) -> &'t str
+    ensures { result.now ≡ Spec.place_of (map (λ path. string_bytes path) paths.entry.now)
+        (Err fault.now) }
+{
+    match fault {
+        RunFault::Input { index, .. } => input_name(paths, *index),
+        _ => STANDARD_INPUT,
     }
 }
 

@@ -7,11 +7,13 @@ mod ending;
 mod host;
 mod opening;
 mod retried;
+mod texts;
 mod work;
 
 pub use complaint::{Complaint, complain, complaint_of, complaint_status};
 pub use ending::{complaint_after, input_name};
-pub use host::{do_work, read_arguments, report, report_usage, texts_of};
-pub use opening::{OpenFault, Opener, complaint_of_open, open_all};
+pub use host::Program;
+pub use opening::{OpenFault, Opener, open_inputs};
 pub use retried::{Retried, write_some};
-pub use work::{Gathering, Single, Work, run_gathering, run_single, work_of};
+pub use texts::texts_of;
+pub use work::{Gathering, Single, Work, run_work, work_of};

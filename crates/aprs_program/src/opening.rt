@@ -1,7 +1,7 @@
 //! Opening the inputs of a run.
-ghost use Rattle.std.specs.Prelude.{◌≡◌, ◌∷◌, [], IfErr, IfOk, OnOk, length, List, Option, None};
+ghost use Rattle.std.specs.Prelude.{◌≡◌, ◌∷◌, ◌≤◌, [], ℕ, IfErr, IfOk, OnOk, List, Option, None, length};
 ghost use Rattle.std.specs.Result.{result_err};
-ghost use Rattle.aprs_program.specs.Opening.{Asked, AsksFor, StopsAtPath, complaint_at, opened};
+ghost use Rattle.aprs_program.specs.Opening.{AreAt, Asked, AsksFor, IsKnownAs, StopsAtPath, complaint_at, opened};
 
 use crate::complaint::Complaint;
 use aprs_io::Counted;
@@ -25,10 +25,18 @@ pub trait Opener {
     /// The paths that it was asked for and its answers, in order, where they are known.
     ghost asked: { Self → Option (List Asked) } = { λ _. None };
 
+    /// The path at which an input is open, where it is known.
+    ghost path_of: { Self.Input → Option (List ℕ) } = { λ _. None };
+
     /// Opens the input of this path.
     fn open(&mut self, path: &str) -> Result<Self::Input, OpenFault>
         ensures asks { AsksFor (asked self.old) (asked self.new)
-            ((path.now, result_err result) ∷ []) };
+            ((path.now, result_err result) ∷ []) }
+        ensures at_path { IfOk result (λ input. IsKnownAs (path_of input) path.now) };
+
+    /// Standard input, where no path is given.
+    fn standard_input(&mut self) -> Self::Input
+        ensures asks { AsksFor (asked self.old) (asked self.new) [] };
 }
 
 /// Opens all inputs, in the order of their paths. Where one can't be opened, or an allocation
@@ -38,9 +46,10 @@ pub fn open_all<'t, O: Opener, A: Allocator>(
     alloc: A,
     paths: &'t [String],
 ) -> Result<Vec<Counted<O::Input>, A>, Complaint<'t>>
-    // All are opened, in order; or one can't be, or there is no memory for it, and none after it is
-    // asked for. What is complained of is what the opener answered last.
-    ensures each { IfOk result (λ inputs. length inputs.items ≡ length paths.entry.now) }
+    // All are opened, in order, and each stands where its path does; or one can't be, or there is no
+    // memory for it, and none after it is asked for. What is complained of is what the opener answered
+    // last.
+    ensures at_paths { IfOk result (λ inputs. AreAt O.path_of inputs.items paths.entry.now) }
     ensures in_order { OnOk result (AsksFor (O.asked opener.old) (O.asked opener.new)
         (opened paths.entry.now)) }
     ensures stops { IfErr result (StopsAtPath (O.asked opener.old) (O.asked opener.new)
@@ -60,8 +69,31 @@ pub fn open_all<'t, O: Opener, A: Allocator>(
     Ok(inputs)
 }
 
+/// Opens all inputs, in the order of their paths, or takes standard input where there is no path:
+/// so there is at least one input. What is complained of is as `open_all` says.
+pub fn open_inputs<'t, O: Opener, A: Allocator>(
+    opener: &mut O,
+    alloc: A,
+    paths: &'t [String],
+) -> Result<Vec<Counted<O::Input>, A>, Complaint<'t>>
+    ensures some { IfOk result (λ inputs. 1 ≤ length inputs.items) }
+    ensures at_paths { IfOk result (λ inputs. (paths.entry.now ≡ [] → ⊥)
+        → AreAt O.path_of inputs.items paths.entry.now) }
+    ensures in_order { OnOk result (AsksFor (O.asked opener.old) (O.asked opener.new)
+        (opened paths.entry.now)) }
+{
+    if !paths.is_empty() {
+        return open_all(opener, alloc, paths);
+    }
+    let mut inputs = Vec::new(alloc);
+    match inputs.push(Counted::new(opener.standard_input())) {
+        Ok(()) => Ok(inputs),
+        Err(_) => Err(Complaint::OutOfMemory),
+    }
+}
+
 /// What is complained of where the input of this path can't be opened.
-pub fn complaint_of_open<'t>(path: &'t [u8], fault: OpenFault) -> Complaint<'t>
+fn complaint_of_open<'t>(path: &'t [u8], fault: OpenFault) -> Complaint<'t>
     ensures { result ≡ complaint_at path.entry fault }
 {
     match fault {

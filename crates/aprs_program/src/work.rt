@@ -1,5 +1,5 @@
 //! What a program is to do, and which run does it.
-ghost use Rattle.std.specs.Prelude.{◌≡◌};
+ghost use Rattle.std.specs.Prelude.{◌≡◌, ◌≤◌, length};
 ghost use Rattle.aprs_command.specs.Arguments.{inputs_of, paths_of};
 ghost use Rattle.aprs_io.specs.Input.{most_input};
 ghost use Rattle.aprs_tool.specs.Devices.{CallsOutput};
@@ -11,7 +11,7 @@ use aprs_io::Counted;
 use aprs_laws::Gap;
 use aprs_log::MAX_INPUT;
 use aprs_tool::{
-    Form, Job, RunFault, check_run, convert_run, history_run, merge_run, show_run, table_run,
+    Form, Job, RunFault, Table, check_run, convert_run, history_run, merge_run, show_run, table_run,
     widen_run,
 };
 use std::alloc::Allocator;
@@ -37,8 +37,8 @@ pub enum Gathering {
     Show,
     /// Writes the history of the inputs' book.
     History,
-    /// Writes the table of the inputs' book.
-    Table,
+    /// Writes this table of the inputs' book.
+    Table(Table),
 }
 
 /// What a program is to do.
@@ -61,6 +61,24 @@ pub fn work_of(job: Job) -> (Work, Vec<String>)
         Job::Widen(gap, inputs) => (Work::Of(Single::Widen(gap)), inputs),
         Job::Merge(gap, inputs) => (Work::OfAll(Gathering::Merge, gap), inputs),
         Job::Show(gap, inputs) => (Work::OfAll(Gathering::Show, gap), inputs),
+    }
+}
+
+/// Does the work over inputs, the first alone where it is a run over one, as `run_single` and
+/// `run_gathering` say.
+pub fn run_work<R: Read, W: Write, A: Allocator + Copy>(
+    alloc: A,
+    work: Work,
+    inputs: &mut [Counted<R>],
+    w: &mut Counted<W>,
+) -> Result<(), RunFault>
+    requires { 1 ≤ length inputs.now }
+    ensures { Spec.DoesWork work most_input R.remaining W.contents result inputs.old inputs.new
+        w.old w.new }
+{
+    match work {
+        Work::Of(single) => run_single(alloc, single, &mut inputs[0], w),
+        Work::OfAll(gathering, gap) => run_gathering(alloc, gathering, gap, inputs, w),
     }
 }
 
@@ -104,6 +122,6 @@ pub fn run_gathering<R: Read, W: Write, A: Allocator + Copy>(
         Gathering::Merge => merge_run(alloc, MAX_INPUT, gap, inputs, w),
         Gathering::Show => show_run(alloc, MAX_INPUT, gap, inputs, w),
         Gathering::History => history_run(alloc, MAX_INPUT, gap, inputs, w),
-        Gathering::Table => table_run(alloc, MAX_INPUT, gap, inputs, w),
+        Gathering::Table(table) => table_run(alloc, MAX_INPUT, table, gap, inputs, w),
     }
 }

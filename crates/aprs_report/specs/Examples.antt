@@ -1,12 +1,14 @@
 -- Worked examples of the definitions.
 -- No public clause cites this module.
-use Rattle.std.specs.Prelude.{ℕ, ℤ, pos, neg_ℤ, Bool, true, false, List, [], ◌∷◌, None, codes}
+use Rattle.std.specs.Prelude.{ℕ, ℤ, pos, neg_ℤ, Bool, true, false, List, [], ◌∷◌, ◌++◌, None, Some}
+use Rattle.std.specs.Prelude.{codes}
 use Rattle.aprs_report.specs.declared.stamp.Stamp.{Stamp}
 use Rattle.aprs_report.specs.declared.symbol.Symbol.{Symbol}
 use Rattle.aprs_report.specs.declared.place.Fraction.{Fraction}
 use Rattle.aprs_report.specs.declared.place.Place.{Place}
 use Rattle.aprs_report.specs.declared.place.Place.TheVariants.{Plain, Base91}
-use Rattle.aprs_report.specs.Reading.{Value, position, object, item, Reads}
+use Rattle.aprs_report.specs.Reading.{Value, position, object, item, message}
+use Rattle.aprs_report.specs.Reading.{Reads}
 
 -- The field reads as this report.
 pub record Example (info : List ℕ) (v : Value) : Type 0 where
@@ -52,3 +54,45 @@ leader_by mark = object (codes "LEADER") true (stamp_with mark) here (example_sy
 -- The item LEADER, a car that is here.
 abbrev pub leader_item : Bool → Value
 leader_item live = item (codes "LEADER") live here (example_symbol 47 62) []
+
+-- The field of the live object LEADE, with this byte at the end of its name.
+abbrev pub object_field : ℕ → List ℕ
+object_field last = codes ";LEADE" ++ last ∷ codes "   *092345z4903.50N/07201.75W>"
+
+-- What it reads as.
+abbrev pub object_ending : ℕ → Value
+object_ending last =
+    object (codes "LEADE" ++ last ∷ []) true (stamp_with 122) here (example_symbol 47 62) []
+
+-- The field of the live item LEADE, with this byte at the end of its name.
+abbrev pub item_field : ℕ → List ℕ
+item_field last = codes ")LEADE" ++ last ∷ codes "!4903.50N/07201.75W>"
+
+-- What it reads as.
+abbrev pub item_ending : ℕ → Value
+item_ending last = item (codes "LEADE" ++ last ∷ []) true here (example_symbol 47 62) []
+
+-- The field of a message to WU2, with this byte at the end of the addressee.
+abbrev pub message_field : ℕ → List ℕ
+message_field last = codes ":WU2" ++ last ∷ codes "     :Hi"
+
+-- The field of a house's position, with this table and this code of its symbol.
+abbrev pub symbol_field : ℕ → ℕ → List ℕ
+symbol_field table code = codes "!4903.50N" ++ table ∷ codes "07201.75W" ++ code ∷ []
+
+-- The position there with this symbol.
+abbrev pub with_symbol : ℕ → ℕ → Value
+with_symbol table code = position false None here (example_symbol table code) []
+
+-- The field of a compressed position, with this byte for its table.
+abbrev pub compressed_field : ℕ → List ℕ
+compressed_field byte = 61 ∷ byte ∷ codes "5L!!<*e7> sT"
+
+-- The position of a car here, of a station that takes messages or takes none, with this stamp.
+abbrev pub stamped : Bool → ℕ → Value
+stamped messaging mark =
+    position messaging (Some (stamp_with mark)) here (example_symbol 47 62) []
+
+-- A message to WU2Z that says all of this text.
+abbrev pub unnumbered : List ℕ → Value
+unnumbered text = message (codes "WU2Z") text None

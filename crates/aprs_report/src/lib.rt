@@ -5,7 +5,7 @@ mod bytes;
 mod examples;
 mod form;
 mod kinds;
-mod laws;
+pub mod laws;
 mod name;
 mod numeral;
 mod place;
@@ -13,7 +13,6 @@ mod report;
 mod stamp;
 mod symbol;
 
-pub use laws::{each_field_has_one_reading, equal_reports_say_the_same};
 pub use place::{Fraction, Place};
 pub use report::Report;
 pub use stamp::Stamp;

@@ -1,5 +1,5 @@
 //! Room for more.
-ghost use Rattle.std.specs.Prelude.{◌≡◌, ◌<◌, ◌≤◌, ◌+◌, ◌/◌, ◌++◌, OnOk, OnErr, length, vec_len, vec_capacity};
+ghost use Rattle.std.specs.Prelude.{◌≡◌, ◌<◌, ◌≤◌, ◌+◌, ◌*◌, ◌/◌, ◌⊎◌, ◌++◌, OnOk, OnErr, length, vec_len, vec_capacity};
 
 use crate::Memory;
 use std::alloc::Allocator;
@@ -15,23 +15,25 @@ pub(crate) fn reserve_one<T, A: Allocator>(items: &mut Vec<T, A>) -> Result<(), 
         return Ok(());
     }
     let more = items.len() / 8 + 1;
-    if items.reserve_exact(more).is_err() {
-        return Err(Memory);
-    }
+    items.reserve_exact(more)?;
     Ok(())
 }
 
 /// Makes room for `more` items after those that are there, which stay as they are, also after
-/// `Memory`.
+/// `Memory`. Where there is none, takes room for as many again as there are, or for `more`: so
+/// items that come one by one are moved a few times each, however many come.
 pub(crate) fn reserve<T, A: Allocator>(items: &mut Vec<T, A>, more: usize) -> Result<(), Memory>
     ensures items { items.new.items ≡ items.old.items }
     ensures room { OnOk result (vec_len items.new + more ≤ vec_capacity items.new) }
+    ensures doubled { OnOk result ((vec_capacity items.new ≡ vec_capacity items.old)
+        ⊎ (2 * vec_len items.old ≤ vec_capacity items.new)) }
     ensures refused { OnErr result (vec_capacity items.old < vec_len items.old + more) }
 {
-    match items.reserve(more) {
-        Ok(()) => Ok(()),
-        Err(_) => Err(Memory),
+    if more <= items.capacity() - items.len() {
+        return Ok(());
     }
+    items.reserve_exact(more.max(items.len()))?;
+    Ok(())
 }
 
 /// Puts bytes after those that are there. Requires room for them, and so can't fail.

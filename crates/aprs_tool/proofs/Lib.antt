@@ -10,6 +10,7 @@ pub mod Shows
 pub mod Told
 pub mod Histories
 pub mod Tables
+pub mod Extracts
 pub mod Merges
 pub mod OneMerge
 pub mod OneInput

@@ -16,6 +16,7 @@ pub mod Show
 pub mod ToldBook
 pub mod HistoryOf
 pub mod TableOf
+pub mod Extract
 pub mod Widen
 pub mod Examples
 -- What public clauses cite of lower crates.

@@ -5,7 +5,12 @@ use Rattle.aprs_io.specs.declared.device.Counted.{Counted}
 use Rattle.aprs_laws.specs.BookValue.{BookValue}
 use Rattle.aprs_listing.specs.History.{history_text}
 use Rattle.aprs_listing.specs.OneLine.{HasOneLineEach}
+use Rattle.aprs_command.specs.declared.jobs.Table.{Table}
+use Rattle.aprs_command.specs.declared.jobs.Table.TheVariants as table
 use Rattle.aprs_table.specs.Table.{table_text}
+use Rattle.aprs_lists.specs.Messages.{IsMessagesTable}
+use Rattle.aprs_lists.specs.Stations.{IsStationsTable}
+use Rattle.aprs_lists.specs.Things.{IsThingsTable}
 use Rattle.aprs_tool.specs.declared.fault.RunFault.{RunFault}
 use Rattle.aprs_tool.specs.declared.fault.RunFault.TheVariants as run
 use Rattle.aprs_tool.specs.declared.gathered.OutputFault.{OutputFault}
@@ -15,9 +20,12 @@ use Rattle.aprs_tool.specs.declared.gathered.OutputFault.TheVariants.{Memory, Wr
 abbrev pub IsHistory : BookValue → List ℕ → Type 0
 IsHistory book text = HasOneLineEach book.rows × (text ≡ history_text book.rows)
 
--- The text is the table of the book's rows.
-abbrev pub IsTable : BookValue → List ℕ → Type 0
-IsTable book text = text ≡ table_text book.rows
+-- The text is this table of the book.
+abbrev pub IsTable : Table → BookValue → List ℕ → Type 0
+IsTable table.Rows book text = text ≡ table_text book.rows
+IsTable table.Messages book text = IsMessagesTable book text
+IsTable table.Stations book text = IsStationsTable book text
+IsTable table.Things book text = IsThingsTable book text
 
 -- A text that is told of the book is written, or a prefix of it where the output was refused. Where
 -- an allocation failed, nothing is.

@@ -2,17 +2,20 @@
 ghost use Rattle.std.specs.Prelude.{◌≡◌, ◌≢◌, [], IfOk, OnOk, OnErr};
 ghost use Rattle.aprs_laws.specs.BookValue.{BookValue};
 ghost use Rattle.aprs_laws.specs.Coalescing.{AreInOrder};
-ghost use Rattle.aprs_listing.specs.Listing.{IsShown};
+ghost use Rattle.aprs_tool.specs.Extract.{IsExtract, IsSummarized};
 ghost use Rattle.aprs_tool.specs.Gathered.{with_rows, WritesText};
-ghost use Rattle.aprs_tool.specs.ToldBook.{IsHistory, IsTable, WritesTold, answer_of_output};
+ghost use Rattle.aprs_tool.specs.ToldBook.{IsHistory, WritesTold, answer_of_output};
+ghost use Rattle.aprs_table.specs.Table.{table_text};
 
+use crate::extract::{Extract, Summarized, write_summarized};
 use crate::fault::RunFault;
 use aprs_book::{Gap, Memory, Summary};
 use aprs_booktext::write_rows;
+use aprs_command::Table;
 use aprs_io::{Counted, WriteFault};
-use aprs_listing::{write_history, write_listing};
-use aprs_table::write_table;
+use aprs_listing::write_history;
 use aprs_rows::{BookStore, PackedRows, WalkRoom};
+use aprs_table::write_table;
 use std::alloc::{Allocator, Global};
 use std::io::Write;
 use std::marker::Model;
@@ -126,21 +129,40 @@ impl<A: Allocator + Copy> Gathered<A> {
         Ok(write_rows(w, rows)?)
     }
 
-    /// Writes the listing of the book. At `Memory` an allocation failed, and nothing was written;
-    /// at `Write` a prefix of the listing was written.
-    pub(crate) fn show<W: Write>(self, w: &mut Counted<W>) -> Result<(), OutputFault>
-        ensures { WritesTold IsShown W.contents result self w.old w.new }
+    /// Writes this extract of the book. At `Memory` an allocation failed, and nothing was written;
+    /// at `Write` a prefix of the extract was written.
+    pub(crate) fn extract<W: Write>(
+        self,
+        extract: Extract,
+        w: &mut Counted<W>,
+    ) -> Result<(), OutputFault>
+        ensures { WritesTold (IsExtract extract) W.contents result self w.old w.new }
+    {
+        match extract {
+            Extract::Listing => self.summarize(Summarized::Listing, w),
+            Extract::History => self.history(w),
+            Extract::Table(Table::Rows) => self.table_of_rows(w),
+            Extract::Table(Table::Messages) => self.summarize(Summarized::Messages, w),
+            Extract::Table(Table::Stations) => self.summarize(Summarized::Stations, w),
+            Extract::Table(Table::Things) => self.summarize(Summarized::Things, w),
+        }
+    }
+
+    /// Writes this of the book, from its summary. At `Memory` an allocation failed, and nothing was
+    /// written; at `Write` a prefix of it was written.
+    fn summarize<W: Write>(self, what: Summarized, w: &mut Counted<W>) -> Result<(), OutputFault>
+        ensures { WritesTold (IsSummarized what) W.contents result self w.old w.new }
     {
         let alloc = self.alloc;
         let mut room = WalkRoom::new(alloc);
         let store = self.into_store()?;
         let summary = Summary::of(alloc, &store, &mut room)?;
-        Ok(write_listing(w, &summary)?)
+        Ok(write_summarized(w, what, &summary)?)
     }
 
     /// Writes the history of the book. At `Memory` an allocation failed, and nothing was written;
     /// at `Write` a prefix of the history was written.
-    pub(crate) fn history<W: Write>(self, w: &mut Counted<W>) -> Result<(), OutputFault>
+    fn history<W: Write>(self, w: &mut Counted<W>) -> Result<(), OutputFault>
         ensures { WritesTold IsHistory W.contents result self w.old w.new }
     {
         let mut room = WalkRoom::new(self.alloc);
@@ -149,10 +171,11 @@ impl<A: Allocator + Copy> Gathered<A> {
         Ok(write_history(w, rows)?)
     }
 
-    /// Writes the table of the book. At `Memory` an allocation failed, and nothing was written; at
-    /// `Write` a prefix of the table was written.
-    pub(crate) fn table<W: Write>(self, w: &mut Counted<W>) -> Result<(), OutputFault>
-        ensures { WritesTold IsTable W.contents result self w.old w.new }
+    /// Writes the table of the book's rows. At `Memory` an allocation failed, and nothing was
+    /// written; at `Write` a prefix of the table was written.
+    fn table_of_rows<W: Write>(self, w: &mut Counted<W>) -> Result<(), OutputFault>
+        ensures { WritesTold (λ book text. text ≡ table_text book.rows) W.contents result self w.old
+            w.new }
     {
         let mut room = WalkRoom::new(self.alloc);
         let store = self.into_store()?;

@@ -2,11 +2,12 @@
 //! positions in a listing. What stands for a set has no fault. The functions do nothing: what they
 //! ensure are the laws.
 ghost use Rattle.std.specs.Prelude.{ℕ};
-ghost use Rattle.aprs_tool.specs.TableOf.{HaveOneTable};
+ghost use Rattle.aprs_command.specs.declared.jobs.Table.{Table};
 ghost use Rattle.aprs_tool.specs.HistoryOf.{HaveOneHistory, HistoriesTellItems, HistoriesTellObjects, HistoriesTellPlaces};
 ghost use Rattle.aprs_tool.specs.Merge.{AreBooksOfUnions, HaveOneMerge};
 ghost use Rattle.aprs_tool.specs.Refused.{HaveNoFault};
 ghost use Rattle.aprs_tool.specs.Show.{ListingsTellPositions};
+ghost use Rattle.aprs_tool.specs.TableOf.{HaveOneTable};
 
 /// Under one gap, inputs that stand for sets with the same members have one book, and `merge_run`
 /// writes the same bytes of them: in any order, with repeats, and some of them through books that
@@ -35,9 +36,10 @@ pub fn same_receptions_same_history()
     ensures { (gap : ℕ) → HaveOneHistory gap }
 {}
 
-/// Under one gap, inputs that stand for sets with the same members have one table.
+/// Under one gap, inputs that stand for sets with the same members have one text of each table: in
+/// any order, with repeats, and some of them through books that were written before.
 pub fn same_receptions_same_table()
-    ensures { (gap : ℕ) → HaveOneTable gap }
+    ensures { (t : Table) (gap : ℕ) → HaveOneTable t gap }
 {}
 
 /// The history of any set of receptions under any gap has, for each station with a position report

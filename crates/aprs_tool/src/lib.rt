@@ -1,9 +1,10 @@
 //! What each command does, from its inputs to its output and its exit status: check, convert,
-//! merge, widen, show, history.
+//! merge, widen, show, history, table.
 #![tactic(auto)]
 
 mod desk;
 mod example;
+mod extract;
 mod fault;
 mod gathered;
 mod head;
@@ -17,8 +18,8 @@ mod table;
 mod widen;
 
 pub use aprs_command::{
-    HistoryJob, Job, JobFault, TableJob, command_is_simple, history_command_is_simple, history_job,
-    job, table_command_is_simple, table_job,
+    HistoryJob, Job, JobFault, Table, TableJob, command_is_simple, history_command_is_simple,
+    history_job, job, table_command_is_simple, table_job,
 };
 pub use aprs_convert::Form;
 pub use aprs_io::{Counted, DeviceFault, WriteFault, send};

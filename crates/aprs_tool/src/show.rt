@@ -6,9 +6,8 @@ ghost use Rattle.aprs_tool.specs.Outcome.{IsToldOf, RefusesFor, WritesFor};
 ghost use Rattle.aprs_tool.specs.Several.{GiveUnion, IsFirstRefused, OfEach};
 ghost use Rattle.aprs_tool.specs.Show.{IsListingOf};
 
+use crate::extract::{Extract, extract_run};
 use crate::fault::RunFault;
-use crate::gathered::answer_of;
-use crate::merge::read_all;
 use aprs_book::Gap;
 use aprs_io::Counted;
 use std::alloc::Allocator;
@@ -46,9 +45,5 @@ pub fn show_run<R: Read, W: Write, A: Allocator + Copy>(
     ensures asks { AsksEach result inputs.old inputs.new }
     ensures calls { CallsOutput result w.old w.new }
 {
-    let gathered = match read_all(alloc, limit, gap, inputs) {
-        Ok(gathered) => gathered,
-        Err((index, fault)) => return Err(RunFault::Input { index, fault }),
-    };
-    answer_of(gathered.show(w))
+    extract_run(alloc, limit, Extract::Listing, gap, inputs, w)
 }

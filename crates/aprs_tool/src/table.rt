@@ -1,4 +1,4 @@
-//! The table of several inputs.
+//! A table of several inputs.
 ghost use Rattle.std.specs.Prelude.{◌≤◌};
 ghost use Rattle.aprs_io.specs.Input.{most_input};
 ghost use Rattle.aprs_tool.specs.Devices.{AsksEach, CallsOutput};
@@ -6,24 +6,26 @@ ghost use Rattle.aprs_tool.specs.Outcome.{IsToldOf, RefusesFor, WritesFor};
 ghost use Rattle.aprs_tool.specs.Several.{GiveUnion, IsFirstRefused, OfEach};
 ghost use Rattle.aprs_tool.specs.TableOf.{IsTableOf};
 
+use crate::extract::{Extract, extract_run};
 use crate::fault::RunFault;
-use crate::gathered::answer_of;
-use crate::merge::read_all;
 use aprs_book::Gap;
+use aprs_command::Table;
 use aprs_io::Counted;
 use std::alloc::Allocator;
 use std::io::{Read, Write};
 
-/// Writes the table of the book of this gap of all inputs' receptions: the names of the columns, and
-/// a line for each row of the book, in the book's order, which says what its frame tells. An input that begins with
-/// `APRSBOOK` is a book file, any other a log. Requires that `limit` is at most `MAX_INPUT`
-/// (1,073,741,824). All inputs are read, in order, before the first byte is written: where one is
-/// refused, its number and fault are reported, no further one is read, and nothing is written. At
-/// `Memory` an allocation failed for the book, and nothing was written. At `Write` a prefix of the
-/// table was written.
+/// Writes this table of the book of this gap of all inputs' receptions: the names of its columns,
+/// and its lines. The table of the rows has a line for each row of the book, in the book's order,
+/// which says what its frame tells; the others have one for each message, station, object or item,
+/// in the order of the listing. An input that begins with `APRSBOOK` is a book file, any other
+/// a log. Requires that `limit` is at most `MAX_INPUT` (1,073,741,824). All inputs are read, in
+/// order, before the first byte is written: where one is refused, its number and fault are
+/// reported, no further one is read, and nothing is written. At `Memory` an allocation failed for
+/// the book, and nothing was written. At `Write` a prefix of the table was written.
 pub fn table_run<R: Read, W: Write, A: Allocator + Copy>(
     alloc: A,
     limit: u64,
+    table: Table,
     gap: Gap,
     inputs: &mut [Counted<R>],
     w: &mut Counted<W>,
@@ -33,7 +35,7 @@ pub fn table_run<R: Read, W: Write, A: Allocator + Copy>(
     // At `Ok` and `Write` the inputs stand for sets; of any union of these, what was written is the
     // table, whole at `Ok`, a prefix of it at `Write`.
     ensures writes { OfEach limit R.remaining inputs.old inputs.new (λ gots.
-        WritesFor (IsToldOf (GiveUnion gap gots) (IsTableOf gap)) W.contents result w.old w.new) }
+        WritesFor (IsToldOf (GiveUnion gap gots) (IsTableOf table gap)) W.contents result w.old w.new) }
 
     // At `Input` that input is the first that isn't taken, for this fault; at `Memory` all inputs
     // stand for sets. At both nothing was written.
@@ -46,9 +48,5 @@ pub fn table_run<R: Read, W: Write, A: Allocator + Copy>(
     ensures asks { AsksEach result inputs.old inputs.new }
     ensures calls { CallsOutput result w.old w.new }
 {
-    let gathered = match read_all(alloc, limit, gap, inputs) {
-        Ok(gathered) => gathered,
-        Err((index, fault)) => return Err(RunFault::Input { index, fault }),
-    };
-    answer_of(gathered.table(w))
+    extract_run(alloc, limit, Extract::Table(table), gap, inputs, w)
 }

@@ -2,29 +2,26 @@
 //! and exits with the status for how that went.
 #![tactic(auto)]
 
-use aprs_program::{Gathering, Work, do_work, read_arguments, report, report_usage, texts_of};
+use aprs_program::{Gathering, Program, Work, texts_of};
 use aprs_tool::history_job;
 use std::process::ExitCode;
 
-/// The program's name in what it reports.
-const NAME: &str = "aprsbook-history";
-
 /// Reads the program's arguments and does what they ask for. Returns the exit status.
 fn main(rt: HostRuntime) -> ExitCode {
-    let alloc = rt.alloc();
-    let arguments = match read_arguments(&rt, alloc) {
+    let mut program = Program::new(&rt, "aprsbook-history");
+    let arguments = match program.arguments() {
         Ok(arguments) => arguments,
-        Err(complaint) => return report(&rt, NAME, complaint),
+        Err(complaint) => return program.report(complaint),
     };
-    let texts = match texts_of(alloc, arguments.as_slice()) {
+    let texts = match texts_of(rt.alloc(), arguments.as_slice()) {
         Ok(texts) => texts,
-        Err(complaint) => return report(&rt, NAME, complaint),
+        Err(complaint) => return program.report(complaint),
     };
-    match history_job(alloc, texts.as_slice()) {
+    match history_job(rt.alloc(), texts.as_slice()) {
         Ok(asked) => {
             let work = Work::OfAll(Gathering::History, asked.gap);
-            do_work(&rt, alloc, NAME, work, asked.inputs.as_slice())
+            program.do_work(work, asked.inputs.as_slice())
         }
-        Err(fault) => report_usage(&rt, NAME, fault),
+        Err(fault) => program.report_usage(fault),
     }
 }

@@ -1,11 +1,12 @@
 //! Worked examples of frames, and near misses.
-ghost use Rattle.std.specs.Prelude.{◌≡◌, [], ◌∷◌, ◌++◌, None, Some, codes};
+ghost use Rattle.std.specs.Prelude.{◌≡◌, [], ◌∷◌, ◌++◌, None, Some, false, codes};
 ghost use Rattle.aprs_ax25.specs.declared.fault.FrameFault.TheVariants.{Address, Callsign, Control, Pid, NoInfo, LongInfo};
 ghost use Rattle.aprs_ax25.specs.declared.fault.MakeFault.TheVariants as make;
 ghost use Rattle.aprs_ax25.specs.Frame.{FrameOf, spelling};
-ghost use Rattle.aprs_ax25.specs.FrameFault.{frame_fault, parts_of};
+ghost use Rattle.aprs_ax25.specs.FrameFault.{frame_fault, parts_of, address_of};
+ghost use Rattle.aprs_ax25.specs.Hop.{hop_of};
 ghost use Rattle.aprs_ax25.specs.Making.{made_parts, hop_address, make_fault};
-ghost use Rattle.aprs_ax25.specs.Examples.{nj7p, n7lem, to_nj7p, from_n7lem, no_callsign, by_n7oo, hi_after, direct_field, direct_frame, repeated_frame, parts_through, through_n7oo, field_through, letters_a};
+ghost use Rattle.aprs_ax25.specs.Examples.{nj7p, n7lem, n7oo, to_nj7p, from_n7lem, no_callsign, by_n7oo, hi_after, direct_field, direct_frame, repeated_frame, parts_through, through_n7oo, field_through, letters_a};
 
 /// The frames that AX.25 2.2 shows in section 3.12, as UI frames. There they are I frames, control
 /// 3E, which APRS doesn't have.
@@ -65,4 +66,15 @@ pub fn frames_are_made_as_commands()
         ≡ to_nj7p ++ from_n7lem 0xE1 ++ hi_after 0x03 0xF0 → ⊥ }
     ensures misses_h_bit { spelling (made_parts nj7p n7lem (through_n7oo ∷ []) (codes ">Hi"))
         ≡ to_nj7p ++ from_n7lem 0x60 ++ by_n7oo 0x63 ++ hi_after 0x03 0xF0 → ⊥ }
+{}
+
+/// A digipeater has repeated the frame where its H bit is 1, the high bit of its last octet (AX.25
+/// 2.2, section 3.12.5), whatever the reserved bits and the extension bit are.
+pub fn the_h_bit_alone_tells_repeats()
+    ensures others_0 { hop_of (address_of (by_n7oo 0x82)) ≡ through_n7oo }
+    ensures others_1 { hop_of (address_of (by_n7oo 0xE3)) ≡ through_n7oo }
+    ensures misses_others_0 { hop_of (address_of (by_n7oo 0x02))
+        ≡ record { call = n7oo; repeated = false } }
+    ensures misses_others_1 { hop_of (address_of (by_n7oo 0x63))
+        ≡ record { call = n7oo; repeated = false } }
 {}

@@ -65,11 +65,14 @@ pub fn greatest_answers_count()
 /// A message that is sent once more after its acknowledgement stays acknowledged, since its first
 /// moment counts. It is one row, whose last moment is that of the second time.
 pub fn messages_are_judged_from_their_first_moment()
-    ensures again { Spec.AreMessages asked_again (hi_listed 0 20 Acknowledged ∷ []) }
+    ensures again { Spec.AreMessages asked_again (hi_listed 0 20 Acknowledged (Some 10) ∷ []) }
     ensures misses_unanswered { Spec.AreMessages asked_again
-        (hi_listed 0 20 Unanswered ∷ []) → ⊥ }
-    ensures misses_last { Spec.AreMessages asked_again (hi_listed 0 0 Acknowledged ∷ []) → ⊥ }
+        (hi_listed 0 20 Unanswered None ∷ []) → ⊥ }
+    ensures misses_last { Spec.AreMessages asked_again (hi_listed 0 0 Acknowledged (Some 10) ∷ []) → ⊥ }
     ensures misses_twice { Spec.AreMessages asked_again
-        (hi_listed 0 20 Acknowledged ∷ hi_listed 0 20 Acknowledged ∷ []) → ⊥ }
+        (hi_listed 0 20 Acknowledged (Some 10) ∷ hi_listed 0 20 Acknowledged (Some 10) ∷ [])
+        → ⊥ }
+    ensures misses_answered { Spec.AreMessages asked_again
+        (hi_listed 0 20 Acknowledged (Some 0) ∷ []) → ⊥ }
     ensures misses_none { Spec.AreMessages asked_again [] → ⊥ }
 {}

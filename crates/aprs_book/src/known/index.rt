@@ -58,12 +58,8 @@ impl<X: Kept, A: Allocator + Copy> Index<X, A> {
         if self.map.contains_key(bytes) {
             return Ok(());
         }
-        let Ok(key) = Vec::from_slice(self.alloc, bytes) else {
-            return Err(Memory);
-        };
-        if self.map.insert(key, None).is_err() {
-            return Err(Memory);
-        }
+        let key = Vec::from_slice(self.alloc, bytes)?;
+        self.map.insert(key, None)?;
         Ok(())
     }
 

@@ -91,11 +91,9 @@ fn put_span<'t, A: Allocator + Copy>(
     let known = match spans.insert(message, *more) {
         Ok(Some(known)) => known,
         Ok(None) => return Ok(()),
-        Err(_) => return Err(Memory),
+        Err(failed) => return Err(Memory::from(failed)),
     };
-    if spans.insert(again, span_with(&known, more)).is_err() {
-        return Err(Memory);
-    }
+    spans.insert(again, span_with(&known, more))?;
     Ok(())
 }
 
@@ -114,9 +112,7 @@ fn put_answer<'t, A: Allocator + Copy>(
         → Spec.AreAnswers (rows ++ r ∷ []) answers.new.entries) }
 {
     let answer = greater_known(answers.get(&key), heard.copy());
-    if answers.insert(key, answer).is_err() {
-        return Err(Memory);
-    }
+    answers.insert(key, answer)?;
     Ok(())
 }
 

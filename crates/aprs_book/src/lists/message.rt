@@ -4,7 +4,7 @@ ghost use Rattle.std.specs.Option.{option_copied};
 ghost use Rattle.aprs_report.specs.Reader.{reading_of};
 ghost use Rattle.aprs_laws.specs.Gap.{millis_of};
 ghost use Rattle.aprs_laws.specs.Row.{Row};
-ghost use Rattle.aprs_book.specs.Messages.{state_by, reported_state, ReportsMessages};
+ghost use Rattle.aprs_book.specs.Messages.{answered_by, state_by, reported_state, ReportsMessages};
 ghost use Rattle.aprs_book.specs.MessageRows as Spec;
 ghost use Rattle.aprs_book.specs.Exchange.{IsExchangeOf};
 
@@ -48,6 +48,8 @@ pub struct MessageRow<'a> {
     pub last: Moment,
     /// What came of it.
     pub state: MessageState,
+    /// When the answer was heard that says so, if there is one.
+    pub answered: Option<Moment>,
 }
 
 impl<A: Allocator + Copy> Book<A> {
@@ -72,19 +74,15 @@ pub(crate) fn messages_of<'a, A: Allocator + Copy>(
         → IfOk result (λ messages. ReportsMessages gap rows messages.items) }
 {
     let mut list = Vec::new(alloc);
-    if list.reserve_exact(exchange.spans.len()).is_err() {
-        return Err(Memory);
-    }
+    list.reserve_exact(exchange.spans.len())?;
     for (message, span) in exchange.spans.iter() {
-        if list.push(row_of(message, span, &exchange.answers)).is_err() {
-            return Err(Memory);
-        }
+        list.push(row_of(message, span, &exchange.answers))?;
     }
     Ok(list)
 }
 
-/// The row of a message: its moments, and its state by the greatest answer. A message without an
-/// id is `Unnumbered`.
+/// The row of a message: its moments, and what came of it by the greatest answer. A message without
+/// an id is `Unnumbered`.
 fn row_of<'a, A: Allocator + Copy>(
     message: &MessageKey<'a>,
     span: &Span,
@@ -92,9 +90,9 @@ fn row_of<'a, A: Allocator + Copy>(
 ) -> MessageRow<'a>
     ensures { Spec.IsRowOfMessage answers.now.entries (message.now, span.now) result }
 {
-    let state = match message.id {
-        Some(id) => state_by(span.first, greatest_answer(message, id, answers)),
-        None => MessageState::Unnumbered,
+    let (state, answered) = match message.id {
+        Some(id) => outcome_by(span.first, greatest_answer(message, id, answers)),
+        None => (MessageState::Unnumbered, None),
     };
     MessageRow {
         source: message.source.copy(),
@@ -104,6 +102,7 @@ fn row_of<'a, A: Allocator + Copy>(
         first: span.first,
         last: span.last,
         state,
+        answered,
     }
 }
 
@@ -130,14 +129,15 @@ fn greatest_answer<'a, 'b, A: Allocator + Copy>(
     }
 }
 
-/// What came of a message first heard at this moment, by its greatest answer: `Unanswered` where
-/// there is none, or only one from before that moment.
-fn state_by(first: Moment, answer: Option<&ReceptionView<'_>>) -> MessageState
-    ensures { result ≡ state_by first (option_copied answer.entry) }
+/// What came of a message first heard at this moment, by its greatest answer, and when that was
+/// heard: `Unanswered` where there is none, or only one from before that moment.
+fn outcome_by(first: Moment, answer: Option<&ReceptionView<'_>>) -> (MessageState, Option<Moment>)
+    ensures state { result.0 ≡ state_by first (option_copied answer.entry) }
+    ensures answered { result.1 ≡ answered_by first (option_copied answer.entry) }
 {
     match answer {
-        Some(x) if x.moment() >= first => reported_state(x.info()),
-        _ => MessageState::Unanswered,
+        Some(x) if x.moment() >= first => (reported_state(x.info()), Some(x.moment())),
+        _ => (MessageState::Unanswered, None),
     }
 }
 

@@ -69,9 +69,7 @@ fn push_reports<'a, A: Allocator + Copy>(
                 name: name.as_slice(),
                 heard: Heard::of(x),
             };
-            if list.push(named).is_err() {
-                return Err(Memory);
-            }
+            list.push(named)?;
         }
     }
     Ok(())

@@ -52,12 +52,7 @@ pub(crate) fn stations_of<'a, A: Allocator + Copy>(
 {
     let mut list = Vec::new(alloc);
     for (call, transmissions) in tallies.iter() {
-        if list
-            .push(station_of(call, *transmissions, indexes))
-            .is_err()
-        {
-            return Err(Memory);
-        }
+        list.push(station_of(call, *transmissions, indexes))?;
     }
     Ok(list)
 }

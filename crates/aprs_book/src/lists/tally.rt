@@ -99,9 +99,7 @@ fn put<A: Allocator + Copy>(
     ensures { OnOk result (map.new.entries ≡ Spec.with_last last map.old.entries) }
 {
     if let Some(Tally { station, rows }) = last {
-        if map.insert(station, rows).is_err() {
-            return Err(Memory);
-        }
+        map.insert(station, rows)?;
     }
     Ok(())
 }

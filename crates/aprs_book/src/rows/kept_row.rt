@@ -69,10 +69,8 @@ impl<A: Allocator + Copy> KeptRow<A> {
             receivers,
             greatest,
         };
-        match Box::new(alloc, sent) {
-            Ok(sent) => Ok(KeptRow { sent }),
-            Err(_) => Err(Memory),
-        }
+        let sent = Box::new(alloc, sent)?;
+        Ok(KeptRow { sent })
     }
 
     /// The row of one reception.

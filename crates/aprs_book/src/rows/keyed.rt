@@ -108,9 +108,7 @@ impl<A: Allocator + Copy> KeyedRows<A> {
         }
         let mut rows = VecDeque::new(self.alloc);
         push_one(&mut rows, &mut count, row)?;
-        if self.map.insert(head, rows).is_err() {
-            return Err(Memory);
-        }
+        self.map.insert(head, rows)?;
         self.count = count;
         Ok(())
     }
@@ -141,9 +139,7 @@ impl<A: Allocator + Copy> KeyedRows<A> {
         }
         let mut rows = VecDeque::new(self.alloc);
         put(gap, &mut rows, &mut count, x)?;
-        if self.map.insert(head, rows).is_err() {
-            return Err(Memory);
-        }
+        self.map.insert(head, rows)?;
         self.count = count;
         Ok(())
     }
@@ -172,12 +168,10 @@ fn push_one<A: Allocator + Copy>(
     ensures counted { count.new + length rows.old.items ≡ count.old + length rows.new.items }
 {
     let Some(more) = count.checked_add(1) else {
-        return Err(Memory);
+        return Err(Memory::past_all_sizes());
     };
     grow_by_one(rows)?;
-    if rows.push_back(row).is_err() {
-        return Err(Memory);
-    }
+    rows.push_back(row)?;
     *count = more;
     Ok(())
 }

@@ -64,13 +64,11 @@ pub(crate) fn put<A: Allocator + Copy>(
     match find_slot(gap, rows, x) {
         Slot::New(i) => {
             let Some(more) = count.checked_add(1) else {
-                return Err(Memory);
+                return Err(Memory::past_all_sizes());
             };
             let row = KeptRow::single(*rows.allocator(), x)?;
             grow_by_one(rows)?;
-            if rows.insert(i, row).is_err() {
-                return Err(Memory);
-            }
+            rows.insert(i, row)?;
             *count = more;
         }
         Slot::One(i) => {
@@ -108,8 +106,6 @@ pub(crate) fn grow_by_one<T, A: Allocator>(rows: &mut VecDeque<T, A>) -> Result<
         return Ok(());
     }
     let more = rows.len() / 8 + 1;
-    if rows.reserve_exact(more).is_err() {
-        return Err(Memory);
-    }
+    rows.reserve_exact(more)?;
     Ok(())
 }

@@ -119,8 +119,8 @@ fn word_at(bytes: &[u8], place: usize) -> u64
     u64::from_le_bytes(word)
 }
 
-/// The second of the day that a text of 8 bytes says, as `12:00:00`, or `None` where it isn't the
-/// text of a time.
+/// The second of the day that a text of 8 bytes says, as `12:00:00`. `None` decides nothing, and is
+/// to come only where the bytes aren't the text of a time.
 fn second_of_text(text: &[u8]) -> Option<u32>
     requires { length text.now ≡ TIME_LEN }
     ensures { IfSome result (λ n. Spec.SecondText n text.now) }
@@ -135,7 +135,7 @@ fn second_of_text(text: &[u8]) -> Option<u32>
 }
 
 /// The millisecond that the end of a moment's text says: 0 for `Z`, and 0 to 999 for `.000Z` to
-/// `.999Z`. `None` where it is neither. Requires 1 or 5 bytes.
+/// `.999Z`. `None` decides nothing, and is to come only where it is neither. Requires 1 or 5 bytes.
 fn milli_of_text(text: &[u8]) -> Option<u32>
     requires { (length text.now ≡ 1) ⊎ (length text.now ≡ 5) }
     ensures { IfSome result (λ n. Spec.IsFractionText (Spec.form_of_end text.now) n text.now) }

@@ -55,9 +55,7 @@ impl<A: Allocator + Copy> KeptNames<A> {
         match self {
             KeptNames::One(alloc, first) => {
                 let mut names = Vec::new(*alloc);
-                if names.reserve_exact(2).is_err() {
-                    return Err(Memory);
-                }
+                names.reserve_exact(2)?;
                 names.push_reserved(first.copy());
                 insert_name(&mut names, i, name)?;
                 *self = KeptNames::Many(names);
@@ -87,8 +85,6 @@ fn insert_name<A: Allocator>(
     ensures unchanged { OnErr result (names.new.items ≡ names.old.items) }
 {
     reserve_one(names)?;
-    if names.insert(i, name.copy()).is_err() {
-        return Err(Memory);
-    }
+    names.insert(i, name.copy())?;
     Ok(())
 }

@@ -82,9 +82,7 @@ impl<A: Allocator + Copy> Receivers<A> {
         let ours = self.names.as_slice();
         let theirs = other.names.as_slice();
         let mut names = Vec::new(self.names.allocator());
-        if names.reserve_exact(ours.len() + theirs.len()).is_err() {
-            return Err(Memory);
-        }
+        names.reserve_exact(ours.len() + theirs.len())?;
         merge_onto(&mut names, ours, theirs);
         Ok(Receivers {
             names: KeptNames::of(names),
@@ -102,9 +100,7 @@ impl<A: Allocator + Copy> Receivers<A> {
             });
         }
         let mut names = Vec::new(alloc);
-        if names.reserve_exact(ascending.len()).is_err() {
-            return Err(Memory);
-        }
+        names.reserve_exact(ascending.len())?;
         copy_onto(&mut names, ascending);
         Ok(Receivers {
             names: KeptNames::Many(names),

@@ -53,8 +53,6 @@ fn put_further_names<A: Allocator>(text: &mut Vec<u8, A>, names: &[Receiver]) ->
 fn put<A: Allocator>(text: &mut Vec<u8, A>, bytes: &[u8]) -> Result<(), Memory>
     ensures { OnOk result (text.new.items ≡ text.old.items ++ bytes.now) }
 {
-    if text.extend_from_slice(bytes).is_err() {
-        return Err(Memory);
-    }
+    text.extend_from_slice(bytes)?;
     Ok(())
 }

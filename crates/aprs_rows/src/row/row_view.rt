@@ -282,8 +282,6 @@ fn push_receiver<A: Allocator>(names: &mut Vec<Receiver, A>, name: &[u8]) -> Res
     ensures { OnOk result (names.new.items ≡ names.old.items ++ name.now ∷ []) }
 {
     reserve_one(names)?;
-    if names.push(Receiver::with_name(name)).is_err() {
-        return Err(Memory);
-    }
+    names.push(Receiver::with_name(name))?;
     Ok(())
 }

@@ -66,9 +66,7 @@ impl<'a, A: Allocator + Copy> Merger<'a, A> {
         let Some(front) = Front::of(rows) else {
             return Ok(());
         };
-        if self.others.push(front).is_err() {
-            return Err(Memory);
-        }
+        self.others.push(front)?;
         settle(&mut self.front, &mut self.others);
         Ok(())
     }

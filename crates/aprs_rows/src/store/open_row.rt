@@ -133,7 +133,7 @@ fn join_into<A: Allocator + Copy>(
     room.gather(theirs);
     let both = room.unite();
     if both.len() > MOST_NAMES {
-        return Err(Memory);
+        return Err(Memory::past_all_sizes());
     }
     let (first, greatest) = grown(own.first(), own, next.copy());
     spare.set(&greatest.with_first_and_names(first, both))

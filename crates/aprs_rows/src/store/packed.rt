@@ -172,9 +172,7 @@ impl<A: Allocator + Copy> PackedRows<A> {
         }
         let mut rows = Vec::with_capacity(self.alloc, self.marks.len())?;
         for row in self.rows() {
-            if rows.push(row).is_err() {
-                return Err(Memory);
-            }
+            rows.push(row)?;
         }
         rows.sort_unstable_by(|row, other| row.order(other));
         self.of_sorted(rows.as_slice())

@@ -1,7 +1,6 @@
-use Rattle.aprs_book.proofs.Common.{◌∙◌, ◌∷◌, ◌++◌, [], List, get_or, length, ap, not, arith, BookValue, one_value}
+use Rattle.aprs_book.proofs.Common.{◌∙◌, ◌∷◌, ◌++◌, [], List, get_or, length, ap, arith, BookValue, one_value}
 use Rattle.std.proofs.Common.{length-append}
 use Rattle.aprs_book.specs.Replay.{empty_book}
-use Rattle.aprs_book.proofs.Listings.{push_done}
 use Rattle.aprs_book.proofs.Replays.{one_more_empty}
 use Rattle.aprs_book.proofs.steps.empty_books.Goals as goal
 
@@ -9,7 +8,7 @@ pub filling-preserved : goal.filling-preserved
 filling-preserved g c =
     let none = empty_book c.args.gap in
     let added =
-    push_done _ _ _ _ (c.is_err.ensures.negation ∙ ap not c.if-is_err.false) c.push.ensures.items in
+    c.in_ok-push.ensures.items in
     let more = ap length added ∙ length-append c.filling.books.items (c.with_gap.result ∷ []) in (
       λ i.
           ap (λ (t : List BookValue). get_or t i none)

@@ -24,8 +24,8 @@ returns-in_default-clause-judged c =
     ∙ free) in
     ap (λ (a : App). fault_of a arguments) (sym c.in-Ok.ensures) ∙ kinds
 
-pub returns-in-Ok-read_given_inputs-clause-judged : goal.returns-in-Ok-read_given_inputs-clause-judged
-returns-in-Ok-read_given_inputs-clause-judged c =
+pub returns-in-Ok-read_table_and_inputs-clause-judged : goal.returns-in-Ok-read_table_and_inputs-clause-judged
+returns-in-Ok-read_table_and_inputs-clause-judged c =
     let arguments = map (λ (w : Bor (List ℕ)). w.now) c.args.arguments.now in
     let kinds = c.in-Ok-try_get_matches_from.ensures.kinds (ap is_simple_and_free c.in-Ok.ensures
     ∙ free) in

@@ -9,6 +9,8 @@ pub returns : goal.returns
 unfolding moment_text_in day_after digits report_by_form mic_e_or_none destination_of position_mark_of ambiguity_of_spaces longitude_of_octets motion_of
 returns c = record {
   mic_e = refl;
+  comment = refl;
+  committed = refl;
   raw = refl;
   misses_course = λ e. let n : 53 ≡ 48 = ap (λ l. slice_index l 72) e in omega (arith, n);
   misses_raw = λ e. let n : 109 ≡ 114 = ap (λ l. slice_index l 0) e in omega (arith, n);

@@ -11,6 +11,7 @@ returns c = record {
   south_pole = computed refl;
   past_the_pole = computed refl;
   end_of_the_east = computed refl;
+  past_the_east = computed refl;
   overlay = computed refl;
   north = refl;
   south = refl;

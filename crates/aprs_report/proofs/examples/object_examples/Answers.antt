@@ -19,5 +19,7 @@ returns c = record {
   item = computed refl;
   killed_item = computed refl;
   two_bytes = computed refl;
+  three_bytes = computed refl;
+  nine_bytes = computed refl;
   ten_bytes = computed refl;
 }

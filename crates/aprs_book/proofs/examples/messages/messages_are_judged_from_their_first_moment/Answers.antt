@@ -1,10 +1,10 @@
-use Rattle.aprs_book.proofs.Common.{◌≡◌, ◌≤◌, Option, Some, [], ◌∷◌, inl, inr, refl, sym, ap, ◌∙◌, arith, Received, ◌∈◌, each_of}
+use Rattle.aprs_book.proofs.Common.{◌≡◌, ◌≤◌, Option, None, Some, [], ◌∷◌, inl, inr, refl, sym, ap, ◌∙◌, arith, Received, ◌∈◌, each_of}
 use Rattle.aprs_laws.specs.Key.{key_of}
 use Rattle.aprs_book.specs.declared.lists.message.MessageRow.{MessageRow}
 use Rattle.aprs_book.specs.declared.lists.message.MessageState.TheVariants.{Unanswered, Acknowledged}
-use Rattle.aprs_book.specs.Messages.{Message, ReportsIt, IsMessageRow, IsStateOf, reported_state, shown_message}
+use Rattle.aprs_book.specs.Messages.{Message, ReportsIt, IsAnsweredAt, IsMessageRow, IsStateOf, reported_state, shown_message}
 use Rattle.aprs_book.specs.Examples.{hi_message, one, hi_listed, asked_at, acknowledged_at, asked_again}
-use Rattle.aprs_book.proofs.Worked.{asked_is, acknowledged_is, acknowledged_reads, answered_once, one_state}
+use Rattle.aprs_book.proofs.Worked.{asked_is, acknowledged_is, acknowledged_reads, answered_once, one_answer, one_state}
 use Rattle.aprs_book.proofs.examples.messages.messages_are_judged_from_their_first_moment.Goals as goal
 
 -- a report is of one message
@@ -14,9 +14,12 @@ one_message m n e f = cc
 state : IsStateOf asked_again (hi_message one) 0 one Acknowledged
 state = (Some (acknowledged_at 10), answered_once, ap reported_state (sym acknowledged_reads))
 
+answered : IsAnsweredAt asked_again (hi_message one) 0 one (Some 10)
+answered = (Some (acknowledged_at 10), answered_once, refl)
+
 -- its row in the list
 abbrev row : MessageRow
-row = hi_listed 0 20 Acknowledged
+row = hi_listed 0 20 Acknowledged (Some 10)
 
 is_row : IsMessageRow asked_again row
 is_row = record {
@@ -31,6 +34,7 @@ is_row = record {
         asked_again (λ r. omega arith, (λ r. omega arith, (λ r. omega arith, tt)));
   };
   state = state;
+  answered = answered;
 }
 
 pub returns : goal.returns
@@ -58,9 +62,12 @@ returns c = record {
   };
   misses_unanswered = λ a. let e =
       one_state asked_again 0 Unanswered Acknowledged
-      (a.each (hi_listed 0 20 Unanswered) (inl refl)).state state in cc e;
+      (a.each (hi_listed 0 20 Unanswered None) (inl refl)).state state in cc e;
+  misses_answered = λ a. let e =
+      one_answer asked_again 0 (Some 0) (Some 10)
+      (a.each (hi_listed 0 20 Acknowledged (Some 0)) (inl refl)).answered answered in cc e;
   misses_last = λ a. let n =
-      (a.each (hi_listed 0 0 Acknowledged) (inl refl)).last.greatest (asked_at 20)
+      (a.each (hi_listed 0 0 Acknowledged (Some 10)) (inl refl)).last.greatest (asked_at 20)
       (inr (inr (inl refl))) asked_is in omega (arith, n);
   misses_twice = λ a. let h =
       a.ascending.0 row (inl refl) in cc h;

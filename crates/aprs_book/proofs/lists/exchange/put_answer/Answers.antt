@@ -1,6 +1,5 @@
-use Rattle.aprs_book.proofs.Common.{◌∙◌, ap, not}
+use Rattle.aprs_book.proofs.Common.{◌∙◌}
 use Rattle.aprs_book.proofs.Collected.{adds_last}
-use Rattle.aprs_book.proofs.Messages.{where_ok}
 use Rattle.aprs_book.proofs.GreatestAnswers.{answer_keys_alike, kept_greater, answers_put}
 use Rattle.aprs_book.proofs.lists.exchange.put_answer.Goals as goal
 
@@ -10,6 +9,4 @@ returns g c = λ rows r held asked is.
     c.args.key c.greater_known-answer.result c.insert.new.self.entries asked
     (kept_greater c.greater_known-answer.result c.get.result _ c.copy.result r.greatest
     c.greater_known-answer.ensures c.get.ensures.value (c.copy.ensures ∙ is))
-    (where_ok c.insert.result (c.is_err.ensures.negation ∙ ap not c.if-is_err.false)
-    c.insert.ensures.entries)
-    c.insert.ensures.ordered
+    c.in_ok-insert.ensures.entries c.in_ok-insert.ensures.ordered

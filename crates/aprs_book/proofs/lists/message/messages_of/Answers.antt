@@ -1,8 +1,8 @@
-use Rattle.aprs_book.proofs.Common.{◌∙◌, ap, not, rest_more, rest_all, deref_pair}
+use Rattle.aprs_book.proofs.Common.{◌∙◌, rest_more, rest_all, deref_pair}
 use Rattle.aprs_book.specs.MessageRows.{IsRowOfMessage}
 use Rattle.aprs_book.proofs.Messages.{keys_alike}
 use Rattle.aprs_book.proofs.MessagesOfSets.{messages_of_book}
-use Rattle.aprs_book.proofs.Listings.{ascending_keys, lists_first, lists_next, lists_last, push_done}
+use Rattle.aprs_book.proofs.Listings.{ascending_keys, lists_first, lists_next, lists_last}
 use Rattle.aprs_book.proofs.lists.message.messages_of.Goals as goal
 
 pub loop-message-init : goal.loop-message-init
@@ -18,7 +18,7 @@ loop-message-preserved g c =
     c.row_of.result
     (rest_more deref_pair c.loop-message.message-iterator c.next.new.self c.next.result
     (c.in-Some.message, c.in-Some.span) c.in-Some.is c.next.ensures.steps)
-    (push_done _ _ _ _ (c.is_err-in-loop-message.ensures.negation ∙ ap not c.if-is_err-2.false) c.push.ensures.items)
+    c.in_ok-push.ensures.items
     c.row_of.ensures c.loop-message.invariant
 
 pub returns : goal.returns

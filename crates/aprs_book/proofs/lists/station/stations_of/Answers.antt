@@ -1,8 +1,7 @@
-use Rattle.aprs_book.proofs.Common.{◌∙◌, ◌∷◌, ◌++◌, [], map, ap, sym, subst, not, append-nil, append_assoc, rest_more, rest_all, deref_pair}
+use Rattle.aprs_book.proofs.Common.{◌∙◌, ◌∷◌, ◌++◌, [], map, ap, sym, subst, append-nil, append_assoc, rest_more, rest_all, deref_pair}
 use Rattle.aprs_book.specs.StationRows.{station_in}
 use Rattle.aprs_book.specs.Stations.{ReportsStations}
 use Rattle.aprs_book.proofs.Stations.{stations_ascend, stations_of_book}
-use Rattle.aprs_book.proofs.Listings.{push_done}
 use Rattle.aprs_book.proofs.lists.station.stations_of.Goals as goal
 
 pub loop-call-init : goal.loop-call-init
@@ -18,8 +17,7 @@ loop-call-preserved g c =
     let ys = c.loop-call.list.items in
     let rest = rest_more deref_pair c.loop-call.call-iterator c.next.new.self c.next.result
     (c.in-Some.call, c.in-Some.transmissions) c.in-Some.is c.next.ensures.steps in
-    let pushed = push_done _ _ _ _ (c.is_err.ensures.negation ∙ ap not c.if-is_err.false)
-    c.push.ensures.items in
+    let pushed = c.in_ok-push.ensures.items in
     ap (λ l. l ++ map f c.next.new.self) pushed
     ∙ append_assoc ys (c.station_of.result ∷ []) (map f c.next.new.self)
     ∙ ap (λ y. ys ++ y ∷ map f c.next.new.self) c.station_of.ensures

@@ -28,7 +28,7 @@ pub set-requires-clause-short : goal.set-requires-clause-short
 set-requires-clause-short g c =
     let text = c.unite-both.result.now in
     let n = ap (λ (x : Row). length (join_with_byte 44 x.receivers)) c.with_first_and_names.ensures
-        ∙ ap length (join_with_byte-slice_split 44 text) in
+    ∙ ap length (join_with_byte-slice_split 44 text) in
     grind (arith, nat_tests, n, c.if-both-gt-MOST_NAMES.false)
 
 pub returns : goal.returns

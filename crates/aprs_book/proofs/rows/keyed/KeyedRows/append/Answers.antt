@@ -1,5 +1,5 @@
-use Rattle.aprs_book.proofs.Common.{[], ◌∷◌, ◌++◌, ◌∙◌, sym, ap, insert_entry, Received, head_cmp, on_not_err, on_err}
-use Rattle.aprs_book.proofs.EntryEnds.{stays, err_stays, count_set, count_insert, goes_after, after_ok, after_err, after_kept, after_new}
+use Rattle.aprs_book.proofs.Common.{[], ◌∷◌, ◌++◌, ◌∙◌, ap, insert_entry, Received, head_cmp}
+use Rattle.aprs_book.proofs.EntryEnds.{err_stays, count_set, count_insert, goes_after, after_ok, after_err, after_kept, after_new}
 use Rattle.aprs_book.proofs.rows.keyed.KeyedRows.append.Goals as goal
 
 pub invariant_of-self : goal.invariant_of-self
@@ -36,10 +36,10 @@ returns-in-Some-clause-unchanged g c =
     c.push_one-pushed.result c.in-Some.ensures.value
     (c.get_mut.follows.holds c.push_one-pushed.new.rows).0 c.push_one-pushed.ensures.unchanged)
 
-pub invariant_of-self-then-is_err : goal.invariant_of-self-then-is_err
-invariant_of-self-then-is_err g c =
+pub invariant_of-self-in_err-insert : goal.invariant_of-self-in_err-insert
+invariant_of-self-in_err-insert g c =
     let same =
-    on_err c.insert.result _ c.insert.ensures.err (sym c.if-is_err.true ∙ c.is_err.ensures.value)
+    c.in_err-insert.ensures.err
     ∙ ap (λ m. m.entries) c.get_mut.follows.holds-at-none in
     rw same c.self.invariant
 
@@ -50,7 +50,7 @@ invariant_of-self-2 g c =
     let b = goes_after (λ v. v.items) x c.frame.result.now c.of_frame-head.result es
     c.of_frame-head.ensures (c.frame.ensures ∙ ap (λ (t : Received). t.frame) c.greatest.ensures)
     c.in_default.ensures.ordered c.self.invariant.0 _ c.self.view_is c.requires in
-    let put = on_not_err c.insert.result _ c.insert.ensures.entries c.if-is_err.ensures.value in
+    let put = c.in_ok-insert.ensures.entries in
     let same = ap (λ m. m.entries) c.get_mut.follows.holds-at-none in
     let entries = put
     ∙ ap (λ t. insert_entry head_cmp t c.of_frame-head.result c.push_one.new.rows) same in (
@@ -70,7 +70,7 @@ returns-clause-added g c =
     let b = goes_after (λ v. v.items) x c.frame.result.now c.of_frame-head.result es
     c.of_frame-head.ensures (c.frame.ensures ∙ ap (λ (t : Received). t.frame) c.greatest.ensures)
     c.in_default.ensures.ordered c.self.invariant.0 _ c.self.view_is c.requires in
-    let put = on_not_err c.insert.result _ c.insert.ensures.entries c.if-is_err.ensures.value in
+    let put = c.in_ok-insert.ensures.entries in
     let same = ap (λ m. m.entries) c.get_mut.follows.holds-at-none in
     let entries = put
     ∙ ap (λ t. insert_entry head_cmp t c.of_frame-head.result c.push_one.new.rows) same in
@@ -85,9 +85,8 @@ returns-in_err-push_one-clause-unchanged g c =
     c.self.inside.map.entries _ _ (ap (λ m. m.entries) c.get_mut.follows.holds-at-none)
     c.self.view_is
 
-pub returns-then-is_err-clause-unchanged : goal.returns-then-is_err-clause-unchanged
-returns-then-is_err-clause-unchanged g c =
-    let same =
-    on_err c.insert.result _ c.insert.ensures.err (sym c.if-is_err.true ∙ c.is_err.ensures.value)
-    ∙ ap (λ m. m.entries) c.get_mut.follows.holds-at-none in
-    stays (λ v. v.items) c.self.inside.map.entries _ _ same c.self.view_is
+pub returns-in_err-insert-clause-unchanged : goal.returns-in_err-insert-clause-unchanged
+returns-in_err-insert-clause-unchanged g c =
+    let same = c.in_err-insert.ensures.err ∙ ap (λ m. m.entries) c.get_mut.follows.holds-at-none in
+    err_stays (λ v. v.items) c.from_residual-in_err-insert.result
+    c.self.inside.map.entries _ _ same c.self.view_is

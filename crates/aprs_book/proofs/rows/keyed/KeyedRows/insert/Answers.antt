@@ -1,4 +1,4 @@
-use Rattle.aprs_book.proofs.Common.{[], ◌≡◌, ◌∙◌, sym, ap, subst, true, false, arith, Sound, insert_heard, has_place_for, insert_entry, head_cmp, on_not_err, on_err}
+use Rattle.aprs_book.proofs.Common.{[], ◌≡◌, ◌∙◌, sym, ap, subst, true, false, arith, Sound, insert_heard, has_place_for, insert_entry, head_cmp}
 use Rattle.aprs_book.proofs.Searches.{none_sound, found_sound}
 use Rattle.aprs_book.proofs.Entries.{writes, written_ok, written_err, written_keyed, written_in_place, lacks, absent_in_place, absent_done}
 use Rattle.aprs_book.proofs.EntryEnds.{found_length, count_set, count_insert, inserted_some, filled_insert, written_filled}
@@ -70,20 +70,21 @@ returns-in_err-put-clause-in_place g c = λ p.
     ∙ ap (λ t. has_place_for c.args.gap x t) c.self.view_is ∙ p in
     absurd (cc)
 
-pub returns-then-is_err-clause-in_place : goal.returns-then-is_err-clause-in_place
-returns-then-is_err-clause-in_place g c = λ p.
+pub returns-in_err-insert-clause-in_place : goal.returns-in_err-insert-clause-in_place
+returns-in_err-insert-clause-in_place g c = λ p.
     let x = c.args.x.now in
     let es = c.self.inside.map.entries in
     let a = lacks (λ v. v.items) x c.frame.result.now c.of_frame-head.result es
     c.of_frame-head.ensures c.frame.ensures c.in_default.ensures.ordered c.self.invariant.0.0
     c.in_default.ensures.value in
-    sym (absent_in_place (λ v. v.items) c.args.gap x _ es a)
-    ∙ ap (λ t. has_place_for c.args.gap x t) c.self.view_is ∙ p
+    let no : false ≡ true = sym (absent_in_place (λ v. v.items) c.args.gap x _ es a)
+    ∙ ap (λ t. has_place_for c.args.gap x t) c.self.view_is ∙ p in
+    absurd (cc)
 
-pub invariant_of-self-then-is_err : goal.invariant_of-self-then-is_err
-invariant_of-self-then-is_err g c =
+pub invariant_of-self-in_err-insert : goal.invariant_of-self-in_err-insert
+invariant_of-self-in_err-insert g c =
     let same =
-    on_err c.insert.result _ c.insert.ensures.err (sym c.if-is_err.true ∙ c.is_err.ensures.value)
+    c.in_err-insert.ensures.err
     ∙ ap (λ m. m.entries) c.get_mut.follows.holds-at-none in
     rw same c.self.invariant
 
@@ -94,7 +95,7 @@ invariant_of-self-2 g c =
     let a = lacks (λ v. v.items) x c.frame.result.now c.of_frame-head.result es
     c.of_frame-head.ensures c.frame.ensures c.in_default.ensures.ordered c.self.invariant.0.0
     c.in_default.ensures.value in
-    let put = on_not_err c.insert.result _ c.insert.ensures.entries c.if-is_err.ensures.value in
+    let put = c.in_ok-insert.ensures.entries in
     let same = ap (λ m. m.entries) c.get_mut.follows.holds-at-none in
     let made = c.in_ok-put.ensures.inserted ∙ ap
     (λ t. insert_heard c.args.gap x t) c.new-rows.ensures.items in
@@ -119,7 +120,7 @@ returns-clause-inserted g c =
     let a = lacks (λ v. v.items) x c.frame.result.now c.of_frame-head.result es
     c.of_frame-head.ensures c.frame.ensures c.in_default.ensures.ordered c.self.invariant.0.0
     c.in_default.ensures.value in
-    let put = on_not_err c.insert.result _ c.insert.ensures.entries c.if-is_err.ensures.value in
+    let put = c.in_ok-insert.ensures.entries in
     let same = ap (λ m. m.entries) c.get_mut.follows.holds-at-none in
     let made = c.in_ok-put.ensures.inserted ∙ ap
     (λ t. insert_heard c.args.gap x t) c.new-rows.ensures.items in

@@ -2,7 +2,6 @@ use Rattle.std.proofs.Common.{List, subst}
 use Rattle.std.specs.BinaryHeap.{heap_items}
 use Rattle.aprs_laws.specs.Row.{Row}
 use Rattle.aprs_rows.specs.Fronts.{all_ahead, fronts}
-use Rattle.aprs_rows.proofs.Cases.{on_not_err}
 use Rattle.aprs_rows.proofs.Fronts.{HasAdded, come, stay}
 use Rattle.aprs_rows.proofs.store.merger.Merger.add.Goals as goal
 
@@ -10,10 +9,9 @@ pub invariant_of-self-2 : goal.invariant_of-self-2
 invariant_of-self-2 g c =
     stay c.self.inside.front c.in-Some.front (heap_items c.self.inside.others)
     (heap_items c.push.new.self) c.settle.new.front (heap_items c.settle.new.others)
-    (on_not_err c.push.result _ c.push.ensures.permutation c.if-is_err.ensures.value)
+    c.in_ok-push.ensures.permutation
     c.settle.ensures.same c.args.rows c.in-Some.ensures.some c.requires c.self.invariant.1
-    (on_not_err c.push.result _ c.push.ensures.heap_order c.if-is_err.ensures.value
-    c.self.invariant.0)
+    (c.in_ok-push.ensures.heap_order c.self.invariant.0)
     c.settle.ensures.first
 
 -- the rows after it
@@ -25,7 +23,7 @@ has_added g c =
     (all_ahead (fronts c.settle.new.front (heap_items c.settle.new.others)))) c.self.view_is
     (come c.self.inside.front c.in-Some.front (heap_items c.self.inside.others)
     (heap_items c.push.new.self) c.settle.new.front (heap_items c.settle.new.others)
-    (on_not_err c.push.result _ c.push.ensures.permutation c.if-is_err.ensures.value)
+    c.in_ok-push.ensures.permutation
     c.settle.ensures.same c.args.rows c.in-Some.ensures.some)
 
 pub returns-clause-members : goal.returns-clause-members

@@ -1,0 +1,182 @@
+#!/usr/bin/env python3
+"""Changes each definition of a crate in small ways, on a copy, and tells which changes no worked
+example and no law refuses: such a definition is pinned by nothing, since its body can be changed
+with it.
+
+usage: build/pairs.py CRATE [WORD..]          changes the definitions, of these words if any is given
+       build/pairs.py --list CRATE [WORD..]   shows the changes, and tries none
+       build/pairs.py --edits CRATE FILE..    tries changes by hand: lines `file:`, `old:` and `new:`,
+                                              as an edit that must fail has them, of several files
+
+A change is one more in a number, `||` for `&&`, `<` for `<=` and the reverse, `false` for `true` and
+the reverse, or the answers of two cases exchanged. For each is told what refuses it: an example or a
+law by its name, or a lemma between (then the examples show nothing), or that it STANDS. Changes by
+hand are tried on the whole crate. One check a change, with one job. Needs rt, and the crate proved.
+"""
+import os
+import re
+import shutil
+import subprocess
+import sys
+import tempfile
+from typing import Iterator, List, NamedTuple, Tuple
+
+# modules of specs/ that hold examples and laws alone
+NOT_CHANGED = re.compile(r"^(Lib|Examples?|\w*Laws?|MonitorExample)\.antt$")
+# what is said otherwise, and how
+WORDS = {
+    "&&": "||", "nat_le": "nat_lt", "nat_lt": "nat_le", "≤": "<", "<": "≤",
+    "true": "false", "false": "true", "Less": "Greater", "Greater": "Less",
+}
+WORD = re.compile(r"(?<![\w.#'◌{])(&&|nat_le|nat_lt|≤|<|true|false|Less|Greater|0x[0-9A-Fa-f]+|\d+)(?![\w'◌])")
+CASE = re.compile(r"^(\w[\w']*)( .*?)? = (.*)$")
+
+
+class Change(NamedTuple):
+    """What is changed: the edits, each of a file, and what is said of them."""
+
+    said: str
+    edits: List[Tuple[str, str, str]]
+
+
+def otherwise(word: str) -> str:
+    """What stands in place of the word."""
+    return WORDS.get(word) or str(int(word, 0) + 1)
+
+
+def can_be_exchanged(this: "re.Match[str]", following: "re.Match[str]") -> bool:
+    """Whether two cases of a definition can have each other's answers: none names what it alone
+    has."""
+    ours, theirs = (set(re.findall(r"[\w']+", it[2] or "")) for it in (this, following))
+    uses, others = (set(re.findall(r"[\w']+", it[3])) for it in (this, following))
+    free = not uses & (ours - theirs) and not others & (theirs - ours)
+    return this[1] == following[1] and this[3] != following[3] and free
+
+
+def changes_of(path: str) -> Iterator[Change]:
+    """The changes of the definitions in a file, each by the whole text before and after."""
+    with open(path, encoding="utf-8") as file:
+        lines = file.read().split("\n")
+    before = "\n".join(lines)
+
+    def with_lines(changed: List[str], said: str) -> Change:
+        return Change(f"{os.path.basename(path)}: {said}", [(path, before, "\n".join(changed))])
+
+    # numbers of faults and their names are held to docs/formats.md by tests/numbers.sh
+    numbered = re.findall(r"^(\w+)_number ", before, re.M)
+    for at, line in enumerate(lines):
+        if any(line.startswith((f"{it}_number ", f"{it}_name ")) for it in numbered):
+            continue
+        if re.match(r"--|(pub )?(use|mod|module|infix)|\s*--|.* : .*Type", line):
+            continue
+        if " : " in line and not re.match(r"  pub ", line):
+            continue
+        code = line.split("  --")[0]
+        for found in WORD.finditer(code):
+            word = found.group(1)
+            new = code[: found.start(1)] + otherwise(word) + code[found.end(1):]
+            yield with_lines(lines[:at] + [new] + lines[at + 1:], f"{new.strip()}  ({word})")
+        this, following = CASE.match(line), CASE.match(lines[at + 1] if at + 1 < len(lines) else "")
+        if this and following and can_be_exchanged(this, following):
+            swapped = [
+                f"{this[1]}{this[2] or ''} = {following[3]}",
+                f"{following[1]}{following[2] or ''} = {this[3]}",
+            ]
+            said = f"{swapped[0]} (exchanged with the next)"
+            yield with_lines(lines[:at] + swapped + lines[at + 2:], said)
+
+
+def edits_in(path: str, crate: str) -> Change:
+    """The change that a file of edits holds."""
+    edits: List[Tuple[str, str, str]] = []
+    file, old = "", ""
+    with open(path, encoding="utf-8") as text:
+        for line in text.read().split("\n"):
+            if line.startswith("file: "):
+                file = f"crates/{crate}/{line[6:]}"
+            elif line.startswith("old: "):
+                old = line[5:]
+            elif line.startswith("new: "):
+                edits.append((file, old, line[5:]))
+    return Change(os.path.basename(path), edits)
+
+
+def lower_crates(crate: str) -> List[str]:
+    """The crate and those of this repository below it, the crate first."""
+    stands_on = {}
+    with open("crates.txt", encoding="utf-8") as file:
+        for line in file:
+            if not line.startswith("#") and ":" in line:
+                name, _, others = line.partition(":")
+                stands_on[name.split()[0]] = others.split()
+    found = [crate]
+    for name in found:
+        found += [it for it in stands_on[name] if it in stands_on and it not in found]
+    return found
+
+
+def verdict(folder: str, whole: bool) -> str:
+    """What refuses the crate in this folder as it stands; empty where nothing does."""
+    only = [] if whole else ["--only", "examples", "--only", "laws"]
+    command = ["nice", "rt", "check", "--jobs", "1"] + only
+    run = subprocess.run(command, cwd=folder, capture_output=True, text=True, check=False)
+    said = run.stdout + run.stderr
+    if run.returncode == 0:
+        return ""
+    names = re.findall(r"^\S*?(proofs/\S+?|src/\S+?):\d+:\d+: error.*", said, re.M)
+    names += re.findall(r"^fn \S*?::(\S+): not proved", said, re.M)
+    return ", ".join(sorted(set(names))[:6]) or said.strip().split("\n")[-1]
+
+
+def tried(crate: str, changes: List[Change], whole: bool) -> int:
+    """Tries the changes on a copy of the crate; how many stand."""
+    stand = 0
+    with tempfile.TemporaryDirectory() as place:
+        shutil.copy("crates.txt", place)
+        shutil.copy("HANDLES", place)
+        for name in lower_crates(crate):
+            shutil.copytree(f"crates/{name}", f"{place}/crates/{name}")
+        for change in changes:
+            kept = {path for path, _, _ in change.edits}
+            for path, old, new in change.edits:
+                with open(f"{place}/{path}", encoding="utf-8") as file:
+                    text = file.read()
+                if text.count(old) != 1:
+                    sys.exit(f"build/pairs.py: {path} has `{old}` {text.count(old)} times")
+                with open(f"{place}/{path}", "w", encoding="utf-8") as file:
+                    file.write(text.replace(old, new))
+            refused = verdict(f"{place}/crates/{crate}", whole)
+            stand += not refused
+            print(f"{change.said}: {refused or 'STANDS'}", flush=True)
+            for path in kept:
+                shutil.copy(path, f"{place}/{path}")
+    return stand
+
+
+def main(words: List[str]) -> int:
+    """Does what the words ask for."""
+    if len(words) < 1 or words[0].startswith("--") and len(words) < 2:
+        print(__doc__)
+        return 2
+    way = words.pop(0) if words[0].startswith("--") else ""
+    crate, rest = words[0], words[1:]
+    if way == "--edits":
+        return 1 if tried(crate, [edits_in(path, crate) for path in rest], True) else 0
+    changes = [
+        change
+        for name in sorted(os.listdir(f"crates/{crate}/specs"))
+        if name.endswith(".antt") and not NOT_CHANGED.match(name)
+        for change in changes_of(f"crates/{crate}/specs/{name}")
+        if not rest or any(word in change.said for word in rest)
+    ]
+    if way == "--list":
+        print("\n".join(change.said for change in changes))
+        return 0
+    # lemmas that are examples are checked with the whole crate alone
+    whole = os.path.exists(f"crates/{crate}/proofs/Examples.antt")
+    return 1 if tried(crate, changes, whole) else 0
+
+
+if __name__ == "__main__":
+    os.chdir(os.path.join(os.path.dirname(os.path.abspath(__file__)), ".."))
+    sys.exit(main(sys.argv[1:]))

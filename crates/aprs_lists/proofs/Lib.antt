@@ -1,0 +1,5 @@
+pub mod Common
+pub mod Lines
+pub mod ThingLines
+pub mod Once
+pub mod OneTable

@@ -1,0 +1,5 @@
+-- Definitions that contracts of these tables cite.
+pub mod Lines
+pub mod Messages
+pub mod Stations
+pub mod Things

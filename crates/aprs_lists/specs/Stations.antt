@@ -1,0 +1,80 @@
+-- The table of the stations of a book.
+use Rattle.std.specs.Prelude.{◌≡◌, ℕ, List, [], ◌∷◌, ◌++◌, Option, None, Some, codes}
+use Rattle.std.specs.Fmt.{decimal}
+use Rattle.std.specs.List.{flat_map}
+use Rattle.aprs_ax25.specs.Callsign.{call_text}
+use Rattle.aprs_io.specs.Shown.{shown_text}
+use Rattle.aprs_log.specs.Moment.{moment_text}
+use Rattle.aprs_log.specs.Reception.{Received}
+use Rattle.aprs_report.specs.Reading.{Value, position, status}
+use Rattle.aprs_laws.specs.BookValue.{BookValue}
+use Rattle.aprs_laws.specs.Gap.{millis_of}
+use Rattle.aprs_laws.specs.Key.{key_of}
+use Rattle.aprs_book.specs.Reports.{report_of}
+use Rattle.aprs_book.specs.Stations.{ReportsStations}
+use Rattle.aprs_book.specs.declared.lists.station.Station.{Station}
+use Rattle.aprs_table.specs.Cells.{stamp_text}
+use Rattle.aprs_lists.specs.Lines.{line_of}
+use Rattle.aprs_lists.specs.Things.{placed_fields}
+
+-- The names of the columns.
+abbrev pub station_columns : List (List ℕ)
+station_columns = codes "source" ∷ codes "transmissions" ∷ codes "last" ∷ codes "receiver"
+    ∷ codes "stamp" ∷ codes "latitude" ∷ codes "longitude" ∷ codes "ambiguity"
+    ∷ codes "compressed" ∷ codes "symbol" ∷ codes "text" ∷ codes "status_last"
+    ∷ codes "status_receiver" ∷ codes "status_stamp" ∷ codes "status_text" ∷ []
+
+-- Nine empty fields, where no position is known, and four, where no status is.
+abbrev pub no_position : List (List ℕ)
+no_position = [] ∷ [] ∷ [] ∷ [] ∷ [] ∷ [] ∷ [] ∷ [] ∷ [] ∷ []
+
+abbrev pub no_status : List (List ℕ)
+no_status = [] ∷ [] ∷ [] ∷ [] ∷ []
+
+-- When and by whom a position was heard, and where it is.
+abbrev pub position_in : Received → Value → List (List ℕ)
+position_in x (position messaging stamp place symbol comment) =
+    moment_text x.moment ∷ x.receiver ∷ placed_fields stamp place symbol comment
+position_in x v = no_position
+
+-- When and by whom a status was heard, its time stamp and its text.
+abbrev pub status_in : Received → Value → List (List ℕ)
+status_in x (status stamp text) =
+    moment_text x.moment ∷ x.receiver ∷ stamp_text stamp ∷ shown_text text ∷ []
+status_in x v = no_status
+
+-- The position, or the status, that a reception reports.
+abbrev pub heard_position : Received → List (List ℕ)
+heard_position x = position_in x (report_of (key_of x.frame))
+
+abbrev pub heard_status : Received → List (List ℕ)
+heard_status x = status_in x (report_of (key_of x.frame))
+
+-- The position, or the status, that is last known, if one is.
+abbrev pub position_fields : Option Received → List (List ℕ)
+position_fields None = no_position
+position_fields (Some x) = heard_position x
+
+abbrev pub status_fields : Option Received → List (List ℕ)
+status_fields None = no_status
+status_fields (Some x) = heard_status x
+
+-- The callsign of a station, the number of its transmissions, and its last known position and
+-- status.
+abbrev pub station_table_fields : Station → List (List ℕ)
+station_table_fields x = call_text x.call ∷ decimal x.transmissions ∷ position_fields x.position
+    ++ status_fields x.status
+
+-- The line of a station.
+abbrev pub station_table_line : Station → List ℕ
+station_table_line x = line_of (station_table_fields x)
+
+-- The names of the columns, and one line for each station, in their order.
+abbrev pub stations_table : List Station → List ℕ
+stations_table stations = line_of station_columns ++ flat_map station_table_line stations
+
+-- The text is the table of the stations of the book's rows, whatever set they are the book of.
+pub record IsStationsTable (book : BookValue) (text : List ℕ) : Type 0 where
+  pub stations : List Station
+  pub are_stations : ReportsStations (millis_of book.gap) book.rows stations
+  pub text_is : text ≡ stations_table stations

@@ -1,0 +1,72 @@
+-- The table of the objects and items of a book.
+use Rattle.std.specs.Prelude.{◌≡◌, ℕ, Bool, true, false, List, [], ◌∷◌, ◌++◌, Option, None, Some, codes}
+use Rattle.std.specs.List.{flat_map}
+use Rattle.aprs_ax25.specs.Callsign.{call_text}
+use Rattle.aprs_io.specs.Shown.{shown_text}
+use Rattle.aprs_log.specs.Moment.{moment_text}
+use Rattle.aprs_log.specs.Reception.{Received}
+use Rattle.aprs_report.specs.Reading.{Value, object, item}
+use Rattle.aprs_report.specs.declared.place.Place.{Place}
+use Rattle.aprs_report.specs.declared.stamp.Stamp.{Stamp}
+use Rattle.aprs_report.specs.declared.symbol.Symbol.{Symbol}
+use Rattle.aprs_laws.specs.BookValue.{BookValue}
+use Rattle.aprs_laws.specs.Gap.{millis_of}
+use Rattle.aprs_laws.specs.Key.{key_of}
+use Rattle.aprs_book.specs.Names.{ReportsNamed, Thing}
+use Rattle.aprs_book.specs.Reports.{report_of}
+use Rattle.aprs_book.specs.declared.lists.named.Named.{Named}
+use Rattle.aprs_table.specs.Cells.{ambiguity_text, compressed_text, latitude_text, longitude_text, stamp_text, symbol_text}
+use Rattle.aprs_lists.specs.Lines.{line_of}
+
+-- The names of the columns.
+abbrev pub thing_columns : List (List ℕ)
+thing_columns = codes "kind" ∷ codes "name" ∷ codes "state" ∷ codes "last" ∷ codes "receiver"
+    ∷ codes "source" ∷ codes "stamp" ∷ codes "latitude" ∷ codes "longitude" ∷ codes "ambiguity"
+    ∷ codes "compressed" ∷ codes "symbol" ∷ codes "text" ∷ []
+
+-- Where a report places something, and its text: time stamp, degrees north and east, how many digits
+-- are left out, whether it is compressed, symbol and comment.
+abbrev pub placed_fields : Option Stamp → Place → Symbol → List ℕ → List (List ℕ)
+placed_fields stamp place symbol text = stamp_text stamp ∷ latitude_text (Some place)
+    ∷ longitude_text (Some place) ∷ ambiguity_text (Some place) ∷ compressed_text (Some place)
+    ∷ symbol_text (Some symbol) ∷ shown_text text ∷ []
+
+-- Whether an object or an item is live or killed.
+abbrev pub live_or_killed : Bool → List ℕ
+live_or_killed true = codes "live"
+live_or_killed false = codes "killed"
+
+-- The name of an object or an item, whether it is live, when, by whom and from whom it was heard.
+abbrev pub named_fields : List ℕ → Bool → Received → List (List ℕ)
+named_fields name live x = shown_text name ∷ live_or_killed live ∷ moment_text x.moment
+    ∷ x.receiver ∷ call_text (key_of x.frame).source ∷ []
+
+-- The line of a reception that reports an object or an item. There is none of other reports.
+abbrev pub thing_line_in : Received → Value → List ℕ
+thing_line_in x (object name live stamp place symbol comment) = line_of (codes "object"
+    ∷ named_fields name live x ++ placed_fields (Some stamp) place symbol comment)
+thing_line_in x (item name live place symbol comment) = line_of (codes "item"
+    ∷ named_fields name live x ++ placed_fields None place symbol comment)
+thing_line_in x v = []
+
+-- The line of what was heard of an object or an item.
+abbrev pub heard_thing_line : Received → List ℕ
+heard_thing_line x = thing_line_in x (report_of (key_of x.frame))
+
+-- The line of an object or an item by its last report, and as it is listed.
+abbrev pub report_table_line : Thing × Received → List ℕ
+report_table_line x = heard_thing_line x.1
+
+abbrev pub thing_table_line : Named → List ℕ
+thing_table_line x = heard_thing_line x.heard
+
+-- The names of the columns, and one line for each object and item, in their order.
+abbrev pub things_table : List Named → List ℕ
+things_table things = line_of thing_columns ++ flat_map thing_table_line things
+
+-- The text is the table of the objects and items of the book's rows, whatever set they are the book
+-- of.
+pub record IsThingsTable (book : BookValue) (text : List ℕ) : Type 0 where
+  pub things : List Named
+  pub are_things : ReportsNamed (millis_of book.gap) book.rows things
+  pub text_is : text ≡ things_table things

@@ -1,0 +1,26 @@
+//! The lines of the tables on their way out.
+ghost use Rattle.std.specs.Prelude.{◌∷◌, ◌++◌, map};
+ghost use Rattle.aprs_io.specs.Outlet.{Puts};
+ghost use Rattle.aprs_table.specs.Cells.{cell_text};
+ghost use Rattle.aprs_lists.specs.Lines.{line_of};
+
+use aprs_io::{Outlet, WriteFault};
+use aprs_table::{Cell, put_cell, put_cells};
+use std::io::Write;
+
+/// Puts a line: these fields, in their order, with a tab between two, and LF. Fails where the
+/// output is refused.
+pub fn put_line<W: Write>(
+    out: &mut Outlet<'_, W>,
+    first: &Cell<'_>,
+    second: &[Cell<'_>],
+    third: &[Cell<'_>],
+) -> Result<(), WriteFault>
+    ensures { Puts W.contents result out.old out.new (line_of
+        (cell_text first.now ∷ map cell_text second.now ++ map cell_text third.now)) }
+{
+    put_cell(out, first)?;
+    put_cells(out, second)?;
+    put_cells(out, third)?;
+    out.put(b"\n")
+}

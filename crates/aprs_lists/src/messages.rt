@@ -1,0 +1,122 @@
+//! The table of a book's messages.
+ghost use Rattle.std.specs.Prelude.{◌≡◌, ◌∷◌, ℕ, List, map};
+ghost use Rattle.std.specs.List.{flat_map};
+ghost use Rattle.std.specs.Option.{option_map};
+ghost use Rattle.aprs_io.specs.Device.{Sends};
+ghost use Rattle.aprs_io.specs.Outlet.{Puts};
+ghost use Rattle.aprs_log.specs.Moment.{moment_text};
+ghost use Rattle.aprs_table.specs.Cells.{cell_text};
+ghost use Rattle.aprs_lists.specs.Messages as Spec;
+
+use crate::line::put_line;
+use aprs_book::{MessageRow, MessageState, Summary};
+use aprs_io::{Counted, Outlet, WriteFault};
+use aprs_table::Cell;
+use std::alloc::Allocator;
+use std::io::Write;
+
+/// The names of the columns.
+const COLUMNS: &[u8] = b"source\taddressee\tid\ttext\tstate\tfirst\tlast\tanswer\tanswer_source\n";
+
+/// Writes the table of the messages of a book, from its summary: the names of the columns, and
+/// exactly one line for each message, ascending by source, addressee, text and id. At a fault a
+/// prefix of this went out. Takes no memory.
+pub fn write_messages<W: Write, A: Allocator + Copy>(
+    w: &mut Counted<W>,
+    summary: &Summary<'_, A>,
+) -> Result<(), WriteFault>
+    ensures { (text : List ℕ) × Spec.IsMessagesTable summary.now text
+        × Sends W.contents result w.old w.new text }
+{
+    let mut out = Outlet::new(w);
+    put_messages(&mut out, summary.messages())?;
+    out.flush()
+}
+
+/// Puts the names of the columns, and the lines of the messages, in their order. Fails where the
+/// output is refused.
+fn put_messages<W: Write>(
+    out: &mut Outlet<'_, W>,
+    messages: &[MessageRow<'_>],
+) -> Result<(), WriteFault>
+    ensures { Puts W.contents result out.old out.new (Spec.messages_table messages.now) }
+{
+    out.put(COLUMNS)?;
+    put_message_lines(out, messages)
+}
+
+/// Puts the lines of the messages, in their order. Fails where the output is refused.
+fn put_message_lines<W: Write>(
+    out: &mut Outlet<'_, W>,
+    messages: &[MessageRow<'_>],
+) -> Result<(), WriteFault>
+    ensures { Puts W.contents result out.old out.new
+        (flat_map Spec.message_table_line messages.now) }
+{
+    for message in messages {
+        put_message(out, message)?;
+    }
+    Ok(())
+}
+
+/// Puts the line of a message. Fails where the output is refused.
+fn put_message<W: Write>(
+    out: &mut Outlet<'_, W>,
+    message: &MessageRow<'_>,
+) -> Result<(), WriteFault>
+    ensures { Puts W.contents result out.old out.new (Spec.message_table_line message.now) }
+{
+    let source = Cell::Call(message.source.copy());
+    let said = [
+        Cell::Shown(message.addressee),
+        Cell::Shown(id_or_nothing(message.id)),
+        Cell::Shown(message.text),
+        Cell::Plain(outcome(message.state)),
+    ];
+    let moments = moment_cells(message);
+    put_line(out, &source, &said, &moments)
+}
+
+/// The first and the last moment of a message, and when and by whom it was answered: by its
+/// addressee. Nothing of the latter where it wasn't.
+fn moment_cells<'a>(message: &MessageRow<'a>) -> [Cell<'a>; 4]
+    ensures { map cell_text result ≡ moment_text message.now.first ∷ moment_text message.now.last
+        ∷ Spec.answer_fields message.now.answered message.now.addressee.now }
+{
+    match message.answered {
+        Some(answered) => [
+            Cell::Moment(message.first),
+            Cell::Moment(message.last),
+            Cell::Moment(answered),
+            Cell::Shown(message.addressee),
+        ],
+        None => [
+            Cell::Moment(message.first),
+            Cell::Moment(message.last),
+            Cell::Plain(b""),
+            Cell::Plain(b""),
+        ],
+    }
+}
+
+/// The id, or nothing where there is none.
+fn id_or_nothing<'a>(id: Option<&'a [u8]>) -> &'a [u8]
+    ensures { result.now ≡ Spec.id_or_nothing (option_map (λ x. x.now) id.entry) }
+{
+    match id {
+        Some(id) => id,
+        None => b"",
+    }
+}
+
+/// The word for what came of a message.
+fn outcome(state: MessageState) -> &'static [u8]
+    ensures { result.now ≡ Spec.outcome state }
+{
+    match state {
+        MessageState::Unnumbered => b"unnumbered",
+        MessageState::Unanswered => b"unanswered",
+        MessageState::Acknowledged => b"acknowledged",
+        MessageState::Rejected => b"rejected",
+    }
+}
