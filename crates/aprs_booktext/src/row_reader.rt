@@ -6,7 +6,7 @@ ghost use Rattle.aprs_laws.specs.Sound.{IsSoundRow};
 ghost use Rattle.aprs_rows.specs.Packed.{IsShort};
 ghost use Rattle.aprs_booktext.specs.BookAnswers.{IsAnswerFor};
 ghost use Rattle.aprs_booktext.specs.Fault.{ending_cause};
-ghost use Rattle.aprs_booktext.specs.Lines.{Lacks};
+ghost use Rattle.aprs_io.specs.Cut.{Lacks};
 ghost use Rattle.aprs_booktext.specs.Reader as Spec;
 ghost use Rattle.aprs_booktext.specs.RowReader.{answer_read, count_after, is_row_between, most_stream, row_kept, size_read, version_in, HasReadTo, IsNoneAtHeader, JudgesKept, KeepsVersion, ReadsOne};
 
