@@ -30,6 +30,7 @@ build:
 	cd crates/aprsbook && rt run --jobs 1 -- check ../../examples/sample.log > /dev/null
 	cd crates/aprsbook_history && rt run --jobs 1 -- ../../examples/sample.log > /dev/null
 	cd crates/aprsbook_table && rt run --jobs 1 -- ../../examples/sample.log > /dev/null
+	cd crates/aprsbook_fold && rt run --jobs 1 -- --version > /dev/null
 
 LIBRARIES := $(shell sed -n '/_tests:/d; /^aprs_fixtures:/d; /^aprs_arena:/d; /^aprs_example:/d; s/^\(aprs_[a-z0-9]*\):.*/\1/p' crates.txt)
 $(foreach it,$(LIBRARIES),$(eval $(it): $(filter $(LIBRARIES),$(shell sed -n 's/^$(it)://p' crates.txt))))
