@@ -25,6 +25,7 @@ import argparse
 import collections
 import os
 import re
+import subprocess
 import sys
 
 sys.dont_write_bytecode = True
@@ -393,6 +394,8 @@ def write_all(facts, folder):
     files = {page.call.name: page.file for page in pages}
     for crate in CALLERS:
         write(os.path.join(called, crate + ".md"), crate_text(facts, crate, files))
+    listed = subprocess.run(["build/map.py", "--index"], capture_output=True, text=True, check=True)
+    write(os.path.join(called, "README.md"), listed.stdout)
     try:
         sums = with_sums(facts, statement.read(PROVED))
     except LookupError as said:
