@@ -44,6 +44,8 @@ MADE = "<!-- made by `make reading`: change the sources and not this page -->\n"
 # the crates that others call, and of each a caller that the gate proves
 PROGRAM, TESTS = "crates/aprs_example/src/main.rt", "crates/aprs_tests/src/library.rt"
 CALLERS = {
+    "aprs_kiss": (TESTS, "send_frame"),
+    "aprs_mice": (TESTS, "knots_and_message"),
     "aprs_log": (PROGRAM, "take_log"),
     "aprs_ax25": (TESTS, "beacon"),
     "aprs_report": (TESTS, "latitude"),
