@@ -221,8 +221,8 @@ done > "$scratch/lacks"
 
 # ---- the documents: all of them can be read, and the first at once ----
 
-[ "$(cat README.md CONTRIBUTING.md CHANGELOG.md docs/*.md | wc -w)" -le 26000 ] ||
-    fail 'the documents have more than 26,000 words'
+[ "$(cat README.md CONTRIBUTING.md CHANGELOG.md docs/*.md | wc -w)" -le 28000 ] ||
+    fail 'the documents have more than 28,000 words'
 [ "$(wc -l < README.md)" -le 120 ] || fail 'README.md has more than 120 lines'
 
 # ---- each file by its own reader ----
