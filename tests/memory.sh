@@ -38,8 +38,9 @@ MAKERS = {
     "aprs_command/src/history.rt": 2,
     "aprs_command/src/table.rt": 2,
     "aprs_program/src/complaint.rt": 4,
-    "aprs_program/src/host.rt": 7,
-    "aprs_program/src/opening.rt": 2,
+    "aprs_program/src/host.rt": 5,
+    "aprs_program/src/opening.rt": 3,
+    "aprs_program/src/texts.rt": 1,
 }
 # how often each source names what an allocation answers
 NAMERS = {

@@ -38,6 +38,12 @@ def test_options_stand_anywhere(words: "list[str]") -> None:
     assert args.inputs[0] == "net.log" and (words[0] == "passed" or args.form == "gpx")
 
 
+def test_what_stands_behind_two_dashes_is_no_option() -> None:
+    args = typed.parse(cli.make_parser(), ["page", "--gap", "60", "--", "-x.log", "--y", "z"])
+    assert args.inputs == [os.path.join(".", it) for it in ("-x.log", "--y")] + ["z"]
+    assert typed.parse(cli.make_parser(), ["page", "--", "-x.log"]).inputs == ["./-x.log"]
+
+
 def test_what_isn_t_known_is_refused(programs: Programs) -> None:
     programs.run("tracks", "gpx", "net.log", "--nowhere", status=2)
     programs.run("nothing", status=2)

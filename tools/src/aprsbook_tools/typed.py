@@ -1,6 +1,7 @@
 """What was typed: the subcommand of a link's name, and options that stand among inputs."""
 import argparse
 import os
+import re
 from typing import Dict, List, Sequence
 
 # the names of programs that became subcommands: what each stands for
@@ -37,11 +38,20 @@ def words_of(called: Sequence[str]) -> List[str]:
     return [*LINKS.get(os.path.basename(called[0]), []), *called[1:]]
 
 
+def no_options(words: Sequence[str]) -> List[str]:
+    """The words, in which nothing behind a `--` looks like an option: such a path gets a `./`."""
+    if "--" not in words:
+        return list(words)
+    end = list(words).index("--")
+    paths = [os.path.join(".", it) if re.match("-.", it) else it for it in words[end + 1 :]]
+    return [*words[:end], *paths]
+
+
 def parse(parser: argparse.ArgumentParser, words: Sequence[str]) -> argparse.Namespace:
     """Reads the arguments; options may stand among and behind the others of a subcommand."""
     for action in parser._subparsers._group_actions if parser._subparsers else []:
         choices = action.choices or {}
         if words and isinstance(choices, dict) and words[0] in choices:
             of: argparse.ArgumentParser = choices[words[0]]
-            return of.parse_intermixed_args(list(words[1:]))
+            return of.parse_intermixed_args(no_options(words[1:]))
     return parser.parse_args(words)

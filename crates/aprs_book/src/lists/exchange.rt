@@ -88,9 +88,12 @@ fn put_span<'t, A: Allocator + Copy>(
         → Spec.AreSpans (rows ++ r ∷ []) spans.new.entries) }
 {
     let again = message.copy();
-    if let Some(known) = spans.insert(message, *more)? {
-        spans.insert(again, span_with(&known, more))?;
-    }
+    let known = match spans.insert(message, *more) {
+        Ok(Some(known)) => known,
+        Ok(None) => return Ok(()),
+        Err(failed) => return Err(Memory::from(failed)),
+    };
+    spans.insert(again, span_with(&known, more))?;
     Ok(())
 }
 

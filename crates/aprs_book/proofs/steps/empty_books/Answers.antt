@@ -1,7 +1,6 @@
-use Rattle.aprs_book.proofs.Common.{◌∙◌, ◌∷◌, ◌++◌, [], List, get_or, length, ap, not, arith, BookValue, one_value}
+use Rattle.aprs_book.proofs.Common.{◌∙◌, ◌∷◌, ◌++◌, [], List, get_or, length, ap, arith, BookValue, one_value}
 use Rattle.std.proofs.Common.{length-append}
 use Rattle.aprs_book.specs.Replay.{empty_book}
-use Rattle.aprs_book.proofs.Listings.{push_done}
 use Rattle.aprs_book.proofs.Replays.{one_more_empty}
 use Rattle.aprs_book.proofs.steps.empty_books.Goals as goal
 

@@ -1,6 +1,5 @@
-use Rattle.aprs_book.proofs.Common.{◌∙◌, ap, not}
+use Rattle.aprs_book.proofs.Common.{◌∙◌}
 use Rattle.aprs_book.proofs.Collected.{adds_last}
-use Rattle.aprs_book.proofs.Messages.{where_ok}
 use Rattle.aprs_book.proofs.GreatestAnswers.{answer_keys_alike, kept_greater, answers_put}
 use Rattle.aprs_book.proofs.lists.exchange.put_answer.Goals as goal
 

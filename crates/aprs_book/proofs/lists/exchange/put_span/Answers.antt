@@ -1,7 +1,7 @@
-use Rattle.aprs_book.proofs.Common.{◌≡◌, ◌∙◌, Some, sym, ap, not}
+use Rattle.aprs_book.proofs.Common.{◌≡◌, ◌∙◌, Some, sym, ap}
 use Rattle.aprs_book.specs.MessageRows.{span_of, span_with}
 use Rattle.aprs_book.proofs.Collected.{adds_last}
-use Rattle.aprs_book.proofs.Messages.{keys_alike, spans_put_by, spans_put_twice, where_ok}
+use Rattle.aprs_book.proofs.Messages.{keys_alike, spans_put_by, spans_put_twice}
 use Rattle.aprs_book.proofs.lists.exchange.put_span.Goals as goal
 
 pub returns-in-Ok-None : goal.returns-in-Ok-None
@@ -23,4 +23,4 @@ returns g c = λ rows r held message first last.
     ∙ ap (λ t. span_with t (span_of r))
     (sym c.in-Ok-Some.field-0-is ∙ c.in-Ok-Some.ensures.old))
     c.in-Ok-Some.ensures.entries
-    c.in_ok-insert-2.ensures.entries c.in_ok-insert-2.ensures.ordered
+    c.in_ok-insert.ensures.entries c.in_ok-insert.ensures.ordered

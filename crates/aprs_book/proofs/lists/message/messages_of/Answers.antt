@@ -1,8 +1,8 @@
-use Rattle.aprs_book.proofs.Common.{◌∙◌, ap, not, rest_more, rest_all, deref_pair}
+use Rattle.aprs_book.proofs.Common.{◌∙◌, rest_more, rest_all, deref_pair}
 use Rattle.aprs_book.specs.MessageRows.{IsRowOfMessage}
 use Rattle.aprs_book.proofs.Messages.{keys_alike}
 use Rattle.aprs_book.proofs.MessagesOfSets.{messages_of_book}
-use Rattle.aprs_book.proofs.Listings.{ascending_keys, lists_first, lists_next, lists_last, push_done}
+use Rattle.aprs_book.proofs.Listings.{ascending_keys, lists_first, lists_next, lists_last}
 use Rattle.aprs_book.proofs.lists.message.messages_of.Goals as goal
 
 pub loop-message-init : goal.loop-message-init

@@ -1,8 +1,7 @@
-use Rattle.aprs_book.proofs.Common.{◌∙◌, ◌∷◌, ◌++◌, [], map, ap, sym, subst, not, append-nil, append_assoc, rest_more, rest_all, deref_pair}
+use Rattle.aprs_book.proofs.Common.{◌∙◌, ◌∷◌, ◌++◌, [], map, ap, sym, subst, append-nil, append_assoc, rest_more, rest_all, deref_pair}
 use Rattle.aprs_book.specs.StationRows.{station_in}
 use Rattle.aprs_book.specs.Stations.{ReportsStations}
 use Rattle.aprs_book.proofs.Stations.{stations_ascend, stations_of_book}
-use Rattle.aprs_book.proofs.Listings.{push_done}
 use Rattle.aprs_book.proofs.lists.station.stations_of.Goals as goal
 
 pub loop-call-init : goal.loop-call-init

@@ -1,5 +1,5 @@
-use Rattle.aprs_book.proofs.Common.{[], ◌∷◌, ◌++◌, ◌∙◌, sym, ap, insert_entry, Received, head_cmp, on_not_err, on_err}
-use Rattle.aprs_book.proofs.EntryEnds.{stays, err_stays, count_set, count_insert, goes_after, after_ok, after_err, after_kept, after_new}
+use Rattle.aprs_book.proofs.Common.{[], ◌∷◌, ◌++◌, ◌∙◌, ap, insert_entry, Received, head_cmp}
+use Rattle.aprs_book.proofs.EntryEnds.{err_stays, count_set, count_insert, goes_after, after_ok, after_err, after_kept, after_new}
 use Rattle.aprs_book.proofs.rows.keyed.KeyedRows.append.Goals as goal
 
 pub invariant_of-self : goal.invariant_of-self
@@ -87,7 +87,6 @@ returns-in_err-push_one-clause-unchanged g c =
 
 pub returns-in_err-insert-clause-unchanged : goal.returns-in_err-insert-clause-unchanged
 returns-in_err-insert-clause-unchanged g c =
-    let same =
-    c.in_err-insert.ensures.err
-    ∙ ap (λ m. m.entries) c.get_mut.follows.holds-at-none in
-    stays (λ v. v.items) c.self.inside.map.entries _ _ same c.self.view_is
+    let same = c.in_err-insert.ensures.err ∙ ap (λ m. m.entries) c.get_mut.follows.holds-at-none in
+    err_stays (λ v. v.items) c.from_residual-in_err-insert.result
+    c.self.inside.map.entries _ _ same c.self.view_is

@@ -1,4 +1,4 @@
-use Rattle.aprs_book.proofs.Common.{[], ◌≡◌, ◌∙◌, sym, ap, subst, true, false, arith, Sound, insert_heard, has_place_for, insert_entry, head_cmp, on_not_err, on_err}
+use Rattle.aprs_book.proofs.Common.{[], ◌≡◌, ◌∙◌, sym, ap, subst, true, false, arith, Sound, insert_heard, has_place_for, insert_entry, head_cmp}
 use Rattle.aprs_book.proofs.Searches.{none_sound, found_sound}
 use Rattle.aprs_book.proofs.Entries.{writes, written_ok, written_err, written_keyed, written_in_place, lacks, absent_in_place, absent_done}
 use Rattle.aprs_book.proofs.EntryEnds.{found_length, count_set, count_insert, inserted_some, filled_insert, written_filled}
@@ -77,8 +77,9 @@ returns-in_err-insert-clause-in_place g c = λ p.
     let a = lacks (λ v. v.items) x c.frame.result.now c.of_frame-head.result es
     c.of_frame-head.ensures c.frame.ensures c.in_default.ensures.ordered c.self.invariant.0.0
     c.in_default.ensures.value in
-    sym (absent_in_place (λ v. v.items) c.args.gap x _ es a)
-    ∙ ap (λ t. has_place_for c.args.gap x t) c.self.view_is ∙ p
+    let no : false ≡ true = sym (absent_in_place (λ v. v.items) c.args.gap x _ es a)
+    ∙ ap (λ t. has_place_for c.args.gap x t) c.self.view_is ∙ p in
+    absurd (cc)
 
 pub invariant_of-self-in_err-insert : goal.invariant_of-self-in_err-insert
 invariant_of-self-in_err-insert g c =
