@@ -45,9 +45,11 @@ wasm:
 clib:
 	build/clib.sh
 
-# the sample log as a monitor prints it
+# the main job, on the sample log of two receivers: their book, and what is last known of whom
 run: build
-	$(PROGRAM) convert text examples/sample.log
+	@mkdir -p out
+	$(PROGRAM) merge examples/sample.log > out/sample.book
+	$(PROGRAM) show out/sample.book
 
 # the same without any proof
 try:
@@ -64,6 +66,8 @@ test: words recipes
 words:
 	tests/version.sh
 	tests/words.sh
+	tests/sentences.py
+	tests/outside.py
 	tests/names.sh
 	tests/numbers.sh
 	tests/memory.sh
@@ -94,6 +98,12 @@ page-tests:
 tools:
 	tests/tools.sh --all $(PROGRAM)
 
+# the completions, and the synopsis and the options of the manual pages, written anew of
+# completions/programs.txt
+.PHONY: options
+options:
+	build/options.py
+
 # the map in docs/architecture.md, drawn anew
 map:
 	build/map.py > docs/architecture.new
@@ -103,12 +113,13 @@ map:
 reading:
 	build/reading.py
 
-# what is tried with the program: the README's example, the old club's book, gaps, outputs that take
-# nothing, what happens to books, the units, and each awk; and with all programs: what they
-# complain of, the history, the tables, the version, the packages, and the same on other machines
+# what is tried with the program: 0 to 100 inputs, the README from its top, the old club's book, gaps,
+# outputs that take nothing, what happens to books, the units, and each awk; and with all programs:
+# what they complain of, the history, the tables, the version, the packages, and the same on other
+# machines
 TRIED = readme old_book gaps full_output books units awks
 TRIED_ALL = complaints history table version packages everywhere
-tried = $(foreach it,$(TRIED),tests/$(it).sh $(PROGRAM) &&) \
+tried = tests/arguments.py $(PROGRAM) && $(foreach it,$(TRIED),tests/$(it).sh $(PROGRAM) &&) \
     $(foreach it,$(TRIED_ALL),tests/$(it).sh $(PROGRAM) $(HISTORY) $(TABLE) &&)
 
 # these, and the recipes that need only a POSIX system, where a program is there that is newer than

@@ -31,7 +31,7 @@ columns and words of the table: altitude_m fix gate gust_mph h00 longitude no ph
 phg_height_ft phg_watts pressure_tenths range_miles speed_knots telemetry_sequence temperature_f unknown
 wind_mph yes
 of examples: in/ logs/DAY/HILL.log logs/DAY/RECEIVER.log millis.log numerator/denominator own.book page
-slow.log time RX1.own
+slow.log time RX1.own ./rows
 what is made: out out/ out/release aprsbook.html aprsbook.wasm out/aprsbook.html out/aprsbook.wasm crates/aprsbook/out/aprsbook
 share/aprsbook libaprsbook.a
 libaprsbook.so __heap_base

@@ -3,9 +3,10 @@
 # runs there, and is the same bytes when it is made of another folder on another day. Needs a POSIX
 # system, mktemp,
 # GNU make, install, tar and git, and says what it leaves out because a tool isn't there.
-# usage: tests/packages.sh PROGRAM HISTORY
+# usage: tests/packages.sh PROGRAM HISTORY TABLE
 . "$(dirname "$0")/program.sh"
 [ -n "$history" ] || fail "there is no program of histories"
+[ -n "$table" ] || fail "there is no program of tables"
 has 'make install, tarball and deb' make git || exit 0
 if ! SOURCE_DATE_EPOCH=$(git -C "$repository" log -1 --format=%ct 2> "$scratch/said"); then
     echo 'left out: make install, tarball and deb (no commit is there)'
@@ -21,7 +22,7 @@ aprsbook-history "$repository/examples/sample.log" > expected.history
 version=$("$repository/packaging/version")
 # make_it TARGET ARGUMENT..: builds nothing
 make_it() {
-    make -s -C "$repository" BUILT="$program $history" "$@" > said 2>&1 || fail "make $*: $(cat said)"
+    make -s -C "$repository" BUILT="$program $history $table" "$@" > said 2>&1 || fail "make $*: $(cat said)"
     [ ! -e built ] || fail "make $* builds"
 }
 # runs PREFIX: what was put there runs, its links lead somewhere, and nobody else may write there
@@ -30,7 +31,8 @@ runs() {
         fail "$1: the sample is another"
     "$1/bin/aprsbook-history" "$1/share/aprsbook/examples/sample.log" | cmp - expected.history ||
         fail "$1: the history of the sample is another"
-    "$repository/tests/version.sh" "$1/bin/aprsbook" "$1/bin/aprsbook-history" > said 2>&1 ||
+    "$repository/tests/version.sh" "$1/bin/aprsbook" "$1/bin/aprsbook-history" \
+        "$1/bin/aprsbook-table" > said 2>&1 ||
         fail "$1: $(cat said)"
     [ -z "$(find "$1" -perm -2 ! -type l)" ] || fail "$1 may be written by others"
     [ -z "$(find "$1" -type l ! -exec test -e {} \; -print)" ] || fail "$1 has links to nothing"
@@ -104,7 +106,7 @@ twice() {
     rm -r again
 }
 if has 'make tarball' tar; then
-    twice make-tarball amd64 "$program" "$history"
+    twice make-tarball amd64 "$program" "$history" "$table"
     tar -xzf make-tarball-amd64/*.tar.gz
     # and again, over itself; all may read it, whoever puts it there
     "aprsbook-$version/install.sh" prefix
@@ -128,13 +130,13 @@ deb() {
 }
 # has_pages ARCHITECTURE: the manual pages of the programs are there
 has_pages() {
-    for page in aprsbook.1 aprsbook-history.1; do
+    for page in aprsbook.1 aprsbook-history.1 aprsbook-table.1; do
         gzip -dc "package-$1/usr/share/man/man1/$page.gz" | cmp - "$repository/man/$page" ||
             fail "the deb has another $page"
     done
 }
 if has 'make deb' dpkg-deb strip readelf python3; then
-    deb amd64 "$program" "$history"
+    deb amd64 "$program" "$history" "$table"
     has_pages amd64
     deb all
     # both packages together have what make install puts in place, and no file is in both
@@ -145,10 +147,10 @@ if has 'make deb' dpkg-deb strip readelf python3; then
         fail 'the debs have other files'
     runs package-amd64/usr
     arm=$repository/out/arm64
-    if [ ! -x "$arm/aprsbook" ] || [ ! -x "$arm/aprsbook-history" ]; then
+    if [ ! -x "$arm/aprsbook" ] || [ ! -x "$arm/aprsbook-history" ] || [ ! -x "$arm/aprsbook-table" ]; then
         echo 'left out: make deb ARCH=arm64 (no program is built: make arm64)'
     elif has 'make deb ARCH=arm64' aarch64-linux-gnu-strip; then
-        deb arm64 "$arm/aprsbook" "$arm/aprsbook-history"
+        deb arm64 "$arm/aprsbook" "$arm/aprsbook-history" "$arm/aprsbook-table"
         has_pages arm64
     fi
 fi
