@@ -50,10 +50,12 @@ def test_a_page_has_what_it_is_told(programs: Programs, tmp_path: pathlib.Path) 
     assert data["maps"] == ['{"type": "Point", "coordinates": [1, 2]}']
 
 
-def test_a_roster_s_fault_stands_on_the_page(programs: Programs, tmp_path: pathlib.Path) -> None:
+def test_a_roster_s_fault_doesn_t_end_a_page(programs: Programs, tmp_path: pathlib.Path) -> None:
+    """A net that runs needs its page, which says the fault too."""
     (tmp_path / "names").write_text("Q1A\nQ1RUNNER nine\n")
     data = data_of(programs.run("page", "--roster", "names", "net.log"))
-    assert data["notes"] == ["names: line 2: 'Q1RUNNER' is no call"]
+    assert data["roster"] == "Q1A\nQ1RUNNER nine\n" and data["notes"] == []
+    assert programs.said == "aprs-net: names: line 2: 'Q1RUNNER' is no call\n"
 
 
 BAD_MAPS = [
