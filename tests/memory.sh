@@ -32,7 +32,7 @@ MAKERS = {
     "aprs_tool/src/gathered.rt": 2,
     "aprs_tool/src/merge.rt": 1,
     "aprs_tool/src/widen.rt": 1,
-    "aprs_web/src/written.rt": 3,
+    "aprs_web/src/written.rt": 4,
     # the same for clap's want of memory, and for that of an opening
     "aprs_command/src/arguments.rt": 3,
     "aprs_command/src/history.rt": 2,

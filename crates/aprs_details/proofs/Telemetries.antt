@@ -1,12 +1,11 @@
 -- A telemetry report that is read is spelled so, and what is spelled so is read.
 use Rattle.aprs_details.proofs.Common.{◌≡◌, ◌&&◌, ◌∙◌, ap, Bool, ℕ, true, List, [], ◌∷◌, ◌++◌, length, Option, Some, None, refl, sym, subst, eqb, eqb-true, and_parts, after_some, guarded_some, some_is, chunk_found, arith, false, not, cond, list_all, chunk_takes}
 use Rattle.std.proofs.Common.{append-nil}
-use Rattle.aprs_io.specs.Cut.{Cut, cut_at, is_byte}
+use Rattle.aprs_io.specs.Cut.{Cut, Lacks, cut_at, is_byte}
 use Rattle.std.proofs.lemmas.Bool.Decides.{nat_tests}
 use Rattle.aprs_io.proofs.Cuts.{cut_at-parts, cut_at-append}
 use Rattle.aprs_report.specs.Bytes.{is_digit}
 use Rattle.aprs_report.proofs.Steps.{StartsWith, guarded_takes}
-use Rattle.aprs_details.specs.ThirdParty.{Lacks}
 use Rattle.aprs_details.proofs.Lacking.{cut_at-lacks, lacks_append, then_some}
 use Rattle.aprs_report.specs.Reader.{◌>>=◌, value_when, chunk_of}
 use Rattle.aprs_details.specs.Value.{is_number, is_whole, is_unsigned_in}
