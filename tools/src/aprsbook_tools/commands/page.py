@@ -80,8 +80,10 @@ def brought(args: argparse.Namespace) -> Dict[str, Any]:
 
 def page_of(book: str, gap: Optional[int], said: Dict[str, Any], notes: Sequence[str] = ()) -> str:
     """The page of a book."""
-    begin = {"title": said["title"], "gap": gap or 30}  # in the order of a page that a page saves
-    data = {**begin, **said, "notes": [*said["notes"], *notes], **page_files.texts_of(book, gap)}
+    # in the order of a page that the page saves
+    data: Dict[str, Any] = {"title": said["title"], "gap": gap or 30, **said}
+    data["notes"] = [*said["notes"], *notes]
+    data.update(page_files.texts_of(book, gap))
     return page_files.page_of(data)
 
 
