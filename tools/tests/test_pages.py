@@ -74,8 +74,25 @@ BAD_MAPS = [
     '{"type": "Point", "coordinates": ["0", "x"]}',
     '{"type": "Point", "coordinates": "ab"}',
     '{"type": "LineString", "coordinates": []}',
+    "<kml><coordinates>1</coordinates></kml>",
+    "<kml><Point><coordinates>0,91</coordinates></Point></kml>",
+    "<kml><coord>1 x</coord></kml>",
     "[" * 100_000,
 ]
+
+
+@pytest.mark.parametrize(
+    "text",
+    [
+        "<kml><Point><coordinates> 1,2,3\n4,5 </coordinates></Point></kml>",
+        '<kml xmlns="http://www.opengis.net/kml/2.2"><coord>1 2 3</coord></kml>',
+        '<gpx><wpt lat="2" lon="1"/></gpx>',
+        '{"type": "LineString", "coordinates": [[1, 2], [3, 4]]}',
+    ],
+)
+def test_a_map_is_taken(programs: Programs, tmp_path: pathlib.Path, text: str) -> None:
+    (tmp_path / "course").write_text(text)
+    assert data_of(programs.run("page", "--course", "course", "net.log"))["maps"] == [text]
 
 
 @pytest.mark.parametrize("text", BAD_MAPS, ids=lambda it: str(it)[:30])

@@ -36,7 +36,7 @@ def add_options(parser: argparse.ArgumentParser) -> None:
         action="append",
         default=[],
         metavar="FILE",
-        help="GPX or GeoJSON, drawn below all else, such as the course of a race",
+        help="GPX, KML or GeoJSON, drawn below all else, such as the course of a race",
     )
     parser.add_argument(
         "--roster",
