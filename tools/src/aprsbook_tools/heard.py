@@ -19,7 +19,7 @@ class Heard:
 
 
 def heard_of(rows: Iterable[Row]) -> List[Heard]:
-    """The stations of rows, by callsign. A frame that another station passed on is of its sender."""
+    """The stations of rows, by callsign. A frame that another station passed on is its sender's."""
     counts: Dict[str, int] = {}
     last: Dict[str, Tuple[str, str]] = {}
     for row in rows:
