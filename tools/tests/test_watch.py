@@ -111,6 +111,13 @@ def test_it_is_told_in_lines(net: Programs) -> None:
     assert [it.partition(":")[0] for it in lines] == ["emergency", "unanswered", "silent"]
 
 
+def test_the_gap_of_the_environment(net: Programs, monkeypatch: pytest.MonkeyPatch) -> None:
+    """GAP had no effect in one unit of two."""
+    monkeypatch.setenv("GAP", "60")
+    net.run(*WORDS, "logs")
+    assert [it for it in net.calls if "--gap 60" not in it] == []
+
+
 def test_each_is_told_once(net: Programs) -> None:
     assert net.run(*WORDS, "--state", "told", "logs") != ""
     assert net.run(*WORDS, "--state", "told", "logs") == ""

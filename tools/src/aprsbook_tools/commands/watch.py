@@ -157,6 +157,7 @@ def check(args: argparse.Namespace) -> None:
 
 def run(args: argparse.Namespace) -> int:
     check(args)
+    args.gap = follow.gap_of(args)
     told = read_state(args.state)
     if args.every is None:
         return 0 if turn(args, told)[1] else FAULTY
