@@ -36,9 +36,9 @@ heard=aprs_listing/src/heard_line.rt
     calls aprs_listing/src/listing.rt 'put_\w+'
     calls $heard 'put_\w+'
 } > "$scratch/program/listed"
-sed -n 's/.*if live { b"\([a-z]*\)" } else { b"\([a-z]*\)" }.*/\1 \2/p' "crates/$heard" |
+sed -n 's/.*if live { b"\([a-z]*\)" } else { b"\([a-z]*\)" }.*/\1 \2/p' crates/aprs_report/src/kinds/object.rt |
     tr ' ' '\n' > "$scratch/program/object_states"
-arms aprs_listing/src/listing.rt 'fn state_text' > "$scratch/program/message_states"
+arms aprs_book/src/lists/message.rt 'impl MessageState {' > "$scratch/program/message_states"
 arms aprs_log/src/fault.rt 'impl Reason {' > "$scratch/program/reasons"
 # a failed allocation is reported by a message of its own
 arms aprs_log/src/fault.rt 'impl LogCause {' | sed '/^Memory$/d' > "$scratch/program/log_causes"

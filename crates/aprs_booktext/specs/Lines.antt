@@ -1,4 +1,4 @@
--- Texts in pieces. No public clause cites this module.
+-- Texts in pieces.
 use Rattle.std.specs.Prelude.{ℕ, List}
 use Rattle.std.specs.List.{slice_split}
 use Rattle.aprs_io.specs.Cut.{is_byte}

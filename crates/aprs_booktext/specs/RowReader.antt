@@ -1,4 +1,4 @@
--- What a reader holds that keeps the last row alone. No public clause cites this module.
+-- What a reader holds that keeps the last row alone.
 use Rattle.std.specs.Prelude.{◌≡◌, ℕ, ◌+◌, Bool, true, false, List, [], ◌∷◌, ◌++◌, length, Option, None, Some, Result, Ok, Err}
 use Rattle.std.specs.List.{last_or}
 use Rattle.aprs_laws.specs.BookValue.{BookValue}
