@@ -125,6 +125,8 @@ def verdict(folder: str, whole: bool) -> str:
         return ""
     names = re.findall(r"^\S*?(proofs/\S+?|src/\S+?):\d+:\d+: error.*", said, re.M)
     names += re.findall(r"^fn \S*?::(\S+): not proved", said, re.M)
+    unproved = r"^fn \S*?::(\S+): no proof: .* did not prove `(?:returns-clause-)?([^`]+)`"
+    names += [".".join(found) for found in re.findall(unproved, said, re.M)]
     return ", ".join(sorted(set(names))[:6]) or said.strip().split("\n")[-1]
 
 
