@@ -2,12 +2,8 @@
 # Tries the fold of book files: the bytes of the merge of the same files, in any order, however grouped
 # and however often; the refusals of a merge, and what is left after one, which no program takes for a
 # book; and memory that doesn't grow with the rows. Needs a POSIX system.
-# usage: tests/fold.sh PROGRAM HISTORY FOLD
-fold=${3-}
+# usage: tests/fold.sh PROGRAM
 . "$(dirname "$0")/program.sh"
-for it in "$fold" "${program%/*}/aprsbook-fold" "${program%/aprsbook/out/*}"/aprsbook_fold/out/aprsbook_fold; do
-    if [ -x "$it" ]; then ln -sf "$it" "$scratch/bin/aprsbook-fold" && break; fi
-done
 [ -x "$scratch/bin/aprsbook-fold" ] || fail 'there is no program of folds'
 cd "$scratch"
 for log in "$repository"/examples/evening/*.log; do
@@ -28,7 +24,8 @@ alike 'all books' ./*.log.book
 alike 'the other way round' $backwards
 alike 'books that are given twice' ./*.log.book evening.book ./*.log.book
 alike 'one book' evening.book
-aprsbook-fold < evening.book | cmp -s - evening.book || fail 'the fold of standard input differs'
+aprsbook-fold < evening.book > folded
+cmp -s folded evening.book || fail 'the fold of standard input differs'
 sed '1s/.*/APRSBOOK 2/' evening.book > two
 alike 'a book of version 2' two
 : > no.log
@@ -59,8 +56,8 @@ refuses() {
     [ ! -s left ] || [ $status = 1 ] || fail "a merge takes what is left: $wanted"
 }
 rows=$(grep -c '^T' evening.book)
-head -n 3 evening.book > cut
-refuses 'cut: line 4: Ending' evening.book cut
+head -n 3 evening.book > cut.book
+refuses 'cut.book: line 4: Ending' evening.book cut.book
 [ -s left ] || fail 'nothing is left after a fault, which is an empty log'
 refuses 'no.log: line 1: Ending' evening.book no.log
 refuses "$repository/examples/evening/hill.log: line 1: Header" \
@@ -68,8 +65,8 @@ refuses "$repository/examples/evening/hill.log: line 1: Header" \
 refuses 'all.600: other gap' evening.book all.600
 sed '$d' evening.book | { cat; echo "END $((rows + 1))"; } > count
 refuses "count: line $((rows + 2)): Ending" count
-{ cat evening.book; echo; } > more
-refuses "more: line $((rows + 3)): After" more evening.book
+{ cat evening.book; echo; } > more.book
+refuses "more.book: line $((rows + 3)): After" more.book evening.book
 sed '3s/^T/U/' evening.book > syntax
 refuses 'syntax: line 3: RowSyntax' evening.book syntax
 refuses 'no such.book: cannot open' evening.book 'no such.book'
@@ -80,7 +77,7 @@ aprsbook-fold --gap 0 evening.book > left 2> said || status=$?
 if [ -w /dev/full ]; then
     status=0
     aprsbook-fold evening.book > /dev/full 2> said || status=$?
-    [ $status = 3 ] && [ "$(cat said)" = 'aprsbook-fold: cannot write' ] ||
+    [ "$status $(cat said)" = '3 aprsbook-fold: cannot write' ] ||
         fail "a full disk: $status, $(cat said)"
 fi
 
@@ -94,7 +91,9 @@ awk 'BEGIN {
             "82a0a4a64040e09c60868298986f03f03e%02x%02x%02x%02x\n",
             48 + int(i / 10000), 48 + int(i / 1000) % 10, 48 + int(i / 100) % 10, 32 + i % 100
     print "END 100000" }' > large
+# shellcheck disable=SC3045 # a shell that has no such limit tries nothing
 if (ulimit -v 65536) 2> /dev/null; then
+    # shellcheck disable=SC3045
     (ulimit -v 65536; aprsbook-fold large large large) | cmp -s - large ||
         fail 'the fold of 100,000 rows differs, or takes more than 64 MiB'
 fi
@@ -104,8 +103,13 @@ fi
 for it in gap help version; do
     for where in man/aprsbook-fold.1 completions/aprsbook-fold.bash completions/aprsbook-fold.fish \
         completions/_aprsbook-fold; do
-        tr -d '\\' < "$repository/$where" | grep -qe "-l $it\|--$it" || fail "$where lacks --$it"
+        tr -d '\134' < "$repository/$where" | grep -qe "-l $it\|--$it" || fail "$where lacks --$it"
     done
 done
 aprsbook-fold --version | grep -q '^aprsbook-fold [0-9]' || fail 'the version'
+# ---- random books, where Python is there ----
+
+if command -v python3 > /dev/null; then
+    "$repository/tests/folds.py" "$program" "$scratch/bin/aprsbook-fold" 40 > said || fail "$(cat said)"
+fi
 echo 'folds are as merges are'
