@@ -1,22 +1,19 @@
 -- What a fold writes is the book of all that its inputs stand for.
-use Rattle.aprs_tool.proofs.Common.{◌≡◌, ◌∙◌, ◌<◌, ℕ, List, [], ◌∷◌, ◌++◌, append_assoc, map, Option, Some, None, Ok, inl, inr, refl, sym, ap, subst, arith, SameMembers, BookOf, BookValue, Row, Received, millis_of, Counted, Sends, in_either, in_left, in_right}
+use Rattle.aprs_tool.proofs.Common.{◌≡◌, ◌∙◌, ◌<◌, ℕ, List, [], ◌∷◌, ◌++◌, append_assoc, map, Option, Some, None, Ok, inl, inr, refl, sym, ap, subst, arith, SameMembers, BookOf, Row, millis_of, Counted, Sends, in_either}
 use Rattle.std.specs.Prelude.{IfSome}
-use Rattle.aprs_io.specs.declared.input.InputEnd.TheVariants as how
 use Rattle.aprs_laws.specs.Gap.{IsGap}
-use Rattle.aprs_laws.specs.Lists.{◌∈◌}
 use Rattle.aprs_laws.specs.Sound.{AreSoundRows, Sound}
 use Rattle.aprs_laws.specs.Together.{book_together}
 use Rattle.aprs_laws.specs.Witnesses.{witnesses, witnesses_of_row}
 use Rattle.aprs_laws.proofs.Soundness.{witnessed}
 use Rattle.aprs_laws.proofs.Together.{together}
 use Rattle.aprs_booktext.specs.BookAnswers.{ReadsBook}
-use Rattle.aprs_booktext.specs.Reading.{IsAnswered}
 use Rattle.aprs_booktext.specs.Text.{written_text}
 use Rattle.aprs_booktext.proofs.BookRows.{rows_sound}
 use Rattle.aprs_booktext.proofs.Versions.{some_millis}
 use Rattle.aprs_fold.specs.Inputs.{all_of, book_of_all, AreBooks}
 use Rattle.aprs_tool.specs.Fold.{AreBookFiles}
-use Rattle.aprs_tool.specs.Inputs.{GivesSet, IsBookFileOf}
+use Rattle.aprs_tool.specs.Inputs.{IsBookFileOf}
 use Rattle.aprs_tool.specs.Merge.{IsBookOfAll, IsTextOfBook}
 use Rattle.aprs_tool.specs.Outcome.{IsToldOf, WritesFor}
 use Rattle.aprs_tool.specs.Several.{GiveUnion, GotOf}

@@ -30,4 +30,4 @@ pub use Rattle.aprs_convert.specs.Check
 pub use Rattle.aprs_convert.specs.Got
 pub use Rattle.aprs_convert.specs.Ends
 pub use Rattle.aprs_command.specs.Arguments
-pub use Rattle.aprs_fold.specs.Fold
+pub use Rattle.aprs_fold.specs.Fold as FoldedBooks

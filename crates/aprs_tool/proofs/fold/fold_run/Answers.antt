@@ -1,4 +1,4 @@
-use Rattle.aprs_tool.proofs.Common.{refl, Sends-ok}
+use Rattle.aprs_tool.proofs.Common.{Sends-ok}
 use Rattle.aprs_tool.proofs.Folds.{fold_writes}
 use Rattle.aprs_tool.proofs.fold.fold_run.Goals as goal
 
