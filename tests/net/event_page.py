@@ -1,7 +1,7 @@
 #!/usr/bin/env python3
 """Tests event-page without a browser: what came off the air is data alone.
 
-usage: event_page.py EXAMPLES    aprsbook, aprsbook-history and the recipes in the PATH; needs
+usage: event_page.py EXAMPLES    aprsbook, aprsbook-table and aprs-net in the PATH; needs
                                  Python 3
 """
 import base64
@@ -64,8 +64,8 @@ def test_order(folder):
         assert event_page(stdin=book) in pages
     _, data = read(pages.pop())
     assert data["title"] == "APRS net" and data["notes"] == [] and data["gap"] == 30
-    assert data["history"] == output("aprsbook-history", *LOGS)
-    assert data["listing"] == output("aprsbook", "show", *LOGS)
+    assert data["rows"] == output("aprsbook-table", "rows", *LOGS)
+    assert data["messages"] == output("aprsbook-table", "messages", *LOGS)
     (folder / "page.html").write_text("before")
     event_page("-o", folder / "page.html", "--title", "Fell race", "--note", "a.log is cut", *LOGS)
     data = read((folder / "page.html").read_text())[1]
@@ -83,12 +83,12 @@ def test_hostile(folder):
     assert frame == read(event_page(*LOGS))[0]
     assert data["title"] == hostile.TITLE and data["maps"] == [hostile.course()]
     other = read(event_page("--gap", "60", "--", "-x.log", cwd=folder))[1]
-    assert other["history"] == data["history"] and other["gap"] == 60
+    assert other["rows"] == data["rows"] and other["gap"] == 60
 
 
 def test_nothing(folder):
     (folder / "empty.log").write_text("")
-    assert read(event_page(folder / "empty.log"))[1]["history"] == ""
+    assert read(event_page(folder / "empty.log"))[1]["rows"].count("\n") == 1
 
 
 def refused(folder, *arguments, status=1, **keywords):

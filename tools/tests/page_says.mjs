@@ -4,7 +4,7 @@ import { readFileSync } from "node:fs";
 import { pathToFileURL } from "node:url";
 
 const page = name => import(pathToFileURL(`${process.argv[2]}/${name}.js`).href);
-const { SAVES } = await page("exports");
+const { SAVES, savedText } = await page("exports");
 const { netOf } = await page("net");
 const { columnsOf, readMessages, Rows } = await page("reading");
 const { expectedOf, readRoster } = await page("roster");
@@ -19,7 +19,7 @@ function saidOf({ rows, messages, roster }) {
   const read = new Rows(rows, ended(columnsOf(rows)));
   const all = { rows: read, messages: readMessages(messages), end: read.until };
   const net = ended(netOf(all, -Infinity, 30)), said = {};
-  for (const [name, save] of Object.entries(SAVES)) said[name] = save(net, { title: "net", rows })[2];
+  for (const name of Object.keys(SAVES)) said[name] = savedText(name, net, { title: "net", rows });
   const { list, faults } = readRoster(roster);
   said.expected = expectedOf(list, net.things).map(it => [it.call, it.name, it.group, it.bib,
     it.last === -Infinity ? "never" : new Date(it.last * 1000).toISOString()]);

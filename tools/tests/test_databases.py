@@ -62,6 +62,24 @@ def test_what_isn_t_known_is_null(programs: Programs) -> None:
     ]
 
 
+def test_telemetry_is_numbers_where_it_was_sent_so(programs: Programs) -> None:
+    """`1.50` and `-3` are values of telemetry, and `005` is the number of a report."""
+    programs.say(
+        row("telemetry", "18:00", "Q1WX", telemetry_sequence="005", a1="1.50", a2="-3", a3="007"),
+        row("status", "18:01", "Q1WX"),
+    )
+    programs.run("sqlite", "net.log", "net.db")
+    assert asked(
+        programs.folder / "net.db",
+        "select telemetry_sequence, a1, a2, a3, a4, "
+        "typeof(a1) from transmissions where kind = 'telemetry'",
+    ) == [("005", 1.5, -3.0, 7.0, None, "real")]
+    assert asked(programs.folder / "net.db", "select count(*) from transmissions where a1 > 1") == [
+        (1,)
+    ]
+    assert ",005,1.50,-3,007," in programs.run("csv", "rows", "net.log")
+
+
 def test_the_last_place_of_each(programs: Programs) -> None:
     path = fill(programs)
     assert asked(path, "select kind, name, latitude, first from places order by name") == [

@@ -14,9 +14,10 @@ from standing import at, message, place, put, row, table_text
 from aprsbook_tools import page_files, table
 from aprsbook_tools.commands.ics_309 import csv_of as messages_csv
 from aprsbook_tools.commands.roster import line_of
+from aprsbook_tools.heard import heard_of
 from aprsbook_tools.places import things_of
 from aprsbook_tools.roster import Roster, read_roster
-from aprsbook_tools.table import Message, Row, Station
+from aprsbook_tools.table import Message, Row
 from aprsbook_tools.track_files import FORMS
 
 CASES = 200
@@ -227,10 +228,7 @@ def test_kml(both: List[Any]) -> None:
 def test_roster(both: List[Any]) -> None:
     for case, said in both:
         roster = read_roster(case.roster)
-        last: Dict[str, str] = {}
-        for it in case.rows:
-            last[it.source] = max(last.get(it.source, ""), it.last)
-        stations = [Station(source=call, last=moment) for call, moment in last.items()]
+        stations = heard_of(case.rows)
         told = [
             [it.call, it.name, it.group, it.bib, line_of(it, stations)[0]] for it in roster.expected
         ]

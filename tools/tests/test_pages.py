@@ -50,10 +50,12 @@ def test_a_page_has_what_it_is_told(programs: Programs, tmp_path: pathlib.Path) 
     assert data["maps"] == ['{"type": "Point", "coordinates": [1, 2]}']
 
 
-def test_a_roster_s_fault_stands_on_the_page(programs: Programs, tmp_path: pathlib.Path) -> None:
+def test_a_roster_s_fault_doesn_t_end_a_page(programs: Programs, tmp_path: pathlib.Path) -> None:
+    """A net that runs needs its page, which says the fault too."""
     (tmp_path / "names").write_text("Q1A\nQ1RUNNER nine\n")
     data = data_of(programs.run("page", "--roster", "names", "net.log"))
-    assert data["notes"] == ["names: line 2: 'Q1RUNNER' is no call"]
+    assert data["roster"] == "Q1A\nQ1RUNNER nine\n" and data["notes"] == []
+    assert programs.said == "aprs-net: names: line 2: 'Q1RUNNER' is no call\n"
 
 
 BAD_MAPS = [
@@ -72,8 +74,25 @@ BAD_MAPS = [
     '{"type": "Point", "coordinates": ["0", "x"]}',
     '{"type": "Point", "coordinates": "ab"}',
     '{"type": "LineString", "coordinates": []}',
+    "<kml><coordinates>1</coordinates></kml>",
+    "<kml><Point><coordinates>0,91</coordinates></Point></kml>",
+    "<kml><coord>1 x</coord></kml>",
     "[" * 100_000,
 ]
+
+
+@pytest.mark.parametrize(
+    "text",
+    [
+        "<kml><Point><coordinates> 1,2,3\n4,5 </coordinates></Point></kml>",
+        '<kml xmlns="http://www.opengis.net/kml/2.2"><coord>1 2 3</coord></kml>',
+        '<gpx><wpt lat="2" lon="1"/></gpx>',
+        '{"type": "LineString", "coordinates": [[1, 2], [3, 4]]}',
+    ],
+)
+def test_a_map_is_taken(programs: Programs, tmp_path: pathlib.Path, text: str) -> None:
+    (tmp_path / "course").write_text(text)
+    assert data_of(programs.run("page", "--course", "course", "net.log"))["maps"] == [text]
 
 
 @pytest.mark.parametrize("text", BAD_MAPS, ids=lambda it: str(it)[:30])

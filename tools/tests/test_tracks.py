@@ -139,10 +139,15 @@ SOME = st.builds(
     place,
     TIMES,
     st.sampled_from(["Q1A", "Q1B-7"]),
-    st.floats(-80, 80),
+    st.floats(1, 80),  # 0, 0 is no place
     st.floats(-180, 180),
     text=st.text(max_size=5),
 )
+
+
+def test_a_place_at_0_0_is_none() -> None:
+    assert things_of([place("18:00", "Q1A", 0.0, 0.0)]) == []
+    assert len(things_of([place("18:00", "Q1A", 0.0, 0.1)])) == 1
 
 
 @given(st.lists(SOME, max_size=8, unique_by=first_of), st.randoms(use_true_random=False))

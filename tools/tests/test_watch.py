@@ -6,9 +6,10 @@ import sys
 from typing import List
 
 import pytest
-from standing import Programs, at, message, place, station
+from standing import Programs, at, message, place, row
 
 from aprsbook_tools import watching
+from aprsbook_tools.heard import Heard
 from aprsbook_tools.moments import milliseconds
 from aprsbook_tools.roster import Roster, read_roster
 from aprsbook_tools.table import Row
@@ -16,20 +17,24 @@ from aprsbook_tools.table import Row
 NOW = milliseconds(at("19:00"))
 
 
+def heard(clock: str, call: str) -> Heard:
+    return Heard(call, 1, at(clock), "RX1")
+
+
 def test_who_is_silent_of_all() -> None:
-    found = watching.silent([station("18:30", "Q1A"), station("18:31", "Q1B")], Roster(), NOW, 30)
+    found = watching.silent([heard("18:30", "Q1A"), heard("18:31", "Q1B")], Roster(), NOW, 30)
     assert [(it.call, it.words) for it in found] == [("Q1A", "Q1A wasn't heard since 18:30:00 UTC")]
 
 
 def test_who_is_silent_of_those_expected() -> None:
     roster = read_roster("Q1RUN-* Sweepers\nQ1MED Medic\nQ1A")
-    heard = [
-        station("18:00", "Q1RUN-1"),
-        station("18:59", "Q1RUN-2"),
-        station("18:00", "Q1A"),
-        station("18:00", "Q1OTHR"),
+    stations = [
+        heard("18:00", "Q1RUN-1"),
+        heard("18:59", "Q1RUN-2"),
+        heard("18:00", "Q1A"),
+        heard("18:00", "Q1OTHR"),
     ]
-    assert [it.words for it in watching.silent(heard, roster, NOW, 30)] == [
+    assert [it.words for it in watching.silent(stations, roster, NOW, 30)] == [
         "Medic (Q1MED) was never heard",
         "Q1A wasn't heard since 18:00:00 UTC",
     ]
@@ -94,9 +99,9 @@ def net(programs: Programs) -> Programs:
     folder.mkdir(parents=True)
     (folder / "RX1.log").write_text("2024-06-21T18:00:00.000Z RX1 c0c0\n2024-06-21T1")
     programs.say(
-        station("18:00", "Q1A"),
+        row("status", "18:00", "Q1A"),
         message("18:00", "Q1A", "Q1B", "$(rm x) ; -rf", id="1"),
-        said("18:10", "emergency"),
+        said("18:40", "emergency"),
     )
     return programs
 
@@ -106,13 +111,20 @@ def test_it_is_told_in_lines(net: Programs) -> None:
     assert [it.partition(":")[0] for it in lines] == ["emergency", "unanswered", "silent"]
 
 
+def test_the_gap_of_the_environment(net: Programs, monkeypatch: pytest.MonkeyPatch) -> None:
+    """GAP had no effect in one unit of two."""
+    monkeypatch.setenv("GAP", "60")
+    net.run(*WORDS, "logs")
+    assert [it for it in net.calls if "--gap 60" not in it] == []
+
+
 def test_each_is_told_once(net: Programs) -> None:
     assert net.run(*WORDS, "--state", "told", "logs") != ""
     assert net.run(*WORDS, "--state", "told", "logs") == ""
     # what is over and comes again is told again
-    net.say(station("18:40", "Q1A"))
+    net.say(row("status", "18:40", "Q1A"))
     assert net.run(*WORDS, "--state", "told", "logs") == ""
-    net.say(station("18:00", "Q1A"))
+    net.say(row("status", "18:00", "Q1A"))
     assert net.run(*WORDS, "--state", "told", "logs").startswith("silent: Q1A")
 
 

@@ -27,6 +27,8 @@ TABLES: Dict[str, Type[Any]] = {
     "stations": Station,
     "things": Thing,
 }
+# what is told as it was sent, and is a number
+SENT = {f"a{number}": "real" for number in range(1, 6)}
 MAGIC = b"SQLite format 3\0"
 WAIT = 10.0  # seconds for another program's writing
 # each place, and the last one of each thing
@@ -59,7 +61,9 @@ def sql_type(hint: Any) -> str:
 def columns_of(kind: Type[Any]) -> Dict[str, str]:
     """The columns of a kind, each with its type."""
     hints = get_type_hints(kind)
-    return {it.name: sql_type(hints[it.name]) for it in dataclasses.fields(kind)}
+    return {
+        it.name: SENT.get(it.name) or sql_type(hints[it.name]) for it in dataclasses.fields(kind)
+    }
 
 
 def value_of(value: Any) -> Union[str, int, float, None]:
@@ -70,6 +74,11 @@ def value_of(value: Any) -> Union[str, int, float, None]:
         return ",".join(value)
     known: Union[str, int, float, None] = value
     return known
+
+
+def stored(name: str, value: Any) -> Union[str, int, float, None]:
+    """A value of a column: an empty text is null where the column has numbers."""
+    return None if name in SENT and value == "" else value_of(value)
 
 
 def check(path: str, inputs: Sequence[str]) -> None:
@@ -117,7 +126,7 @@ def fill(base: sqlite3.Connection, name: str, items: Iterable[Any]) -> None:
     places = ", ".join("?" * len(columns))
     base.executemany(
         f"insert into {name} values ({places})",
-        ([value_of(getattr(it, of)) for of in columns] for it in items),
+        ([stored(of, getattr(it, of)) for of in columns] for it in items),
     )
 
 

@@ -48,13 +48,30 @@ def check_spot(north: Any, east: Any) -> None:
         raise ValueError(f"a place off the earth: {north}, {east}")
 
 
-def check_gpx(text: str) -> None:
+def check_xml(text: str) -> None:
     root = xml.etree.ElementTree.fromstring(text.encode())
-    if root.tag.rpartition("}")[2] != "gpx":
-        raise ValueError("no GPX")
+    name = root.tag.rpartition("}")[2]
+    if name not in ("gpx", "kml"):
+        raise ValueError("no GPX and no KML")
+    (check_gpx if name == "gpx" else check_kml)(root)
+
+
+def check_gpx(root: xml.etree.ElementTree.Element) -> None:
     for node in root.iter():
         if node.tag.rpartition("}")[2] in ("trkpt", "rtept", "wpt"):
             check_spot(node.get("lat", "nan"), node.get("lon", "nan"))
+
+
+def check_kml(root: xml.etree.ElementTree.Element) -> None:
+    for node in root.iter():
+        name, text = node.tag.rpartition("}")[2], node.text or ""
+        if name == "coordinates":
+            for spot in text.split():
+                east, north = spot.split(",")[:2]
+                check_spot(north, east)
+        elif name == "coord":
+            east, north = text.split()[:2]
+            check_spot(north, east)
 
 
 def check_coordinates(value: List[Any]) -> None:
@@ -77,11 +94,11 @@ def check_shape(it: Dict[str, Any]) -> None:
 
 
 def read_map(path: str) -> str:
-    """The text of a GPX or GeoJSON file, in which each place has been looked at."""
+    """The text of a GPX, KML or GeoJSON file, in which each place has been looked at."""
     text = text_file.read(path)
     try:
         if text.lstrip().startswith("<"):
-            check_gpx(text)
+            check_xml(text)
         else:
             check_shape(json.loads(text))
     except (xml.etree.ElementTree.ParseError, ValueError) as fault:

@@ -103,18 +103,22 @@ class Row:
     humidity: Optional[int] = column(number)
     pressure_tenths: Optional[int] = column(number)
     luminosity: Optional[int] = column(number)
-    telemetry_sequence: Optional[int] = column(number)
-    a1: Optional[int] = column(number)
-    a2: Optional[int] = column(number)
-    a3: Optional[int] = column(number)
-    a4: Optional[int] = column(number)
-    a5: Optional[int] = column(number)
+    telemetry_sequence: str = column()  # as they were sent: 005 isn't 5, and 1.50 not 1.5
+    a1: str = column()
+    a2: str = column()
+    a3: str = column()
+    a4: str = column()
+    a5: str = column()
     bits: str = column()
     says: str = column()
     text: str = column()
     messaging: Optional[bool] = column(yes, late=True)
     fix: str = column(late=True)
     range_miles: Optional[float] = column(decimal, late=True)
+    phg_watts: Optional[int] = column(number, late=True)
+    phg_height_ft: Optional[int] = column(number, late=True)
+    phg_gain_db: Optional[int] = column(number, late=True)
+    phg_direction: Optional[int] = column(number, late=True)
 
 
 @dataclasses.dataclass(frozen=True)
@@ -188,7 +192,11 @@ def read(kind: Type[T], lines: Iterable[str]) -> Iterator[T]:
         if len(fields) != len(columns):
             raise Fault(f"the table of {WORDS[kind]}: line {number_} has {len(fields)} fields, "
                         f"and {len(columns)} columns are named")
-        yield kind(**{name: reads(fields[at]) for at, name, reads in known})
+        try:
+            item = kind(**{name: reads(fields[at]) for at, name, reads in known})
+        except ValueError as fault:
+            raise Fault(f"the table of {WORDS[kind]}: line {number_}: {fault}") from fault
+        yield item
 
 
 def of(kind: Type[T], inputs: Sequence[str], gap: Optional[int] = None,

@@ -3,8 +3,9 @@ from dataclasses import dataclass
 from typing import Dict, Iterable, List, Optional, Sequence
 
 from aprsbook_tools import moments
+from aprsbook_tools.heard import Heard
 from aprsbook_tools.roster import Roster
-from aprsbook_tools.table import Message, Row, Station
+from aprsbook_tools.table import Message, Row
 
 MINUTE = 60_000  # milliseconds
 EMERGENCY = "emergency"
@@ -34,15 +35,15 @@ def clock(moment: str) -> str:
     return f"{moment[11:19]} UTC"
 
 
-def silent(stations: Sequence[Station], roster: Roster, now: int, minutes: int) -> List[Alert]:
+def silent(stations: Sequence[Heard], roster: Roster, now: int, minutes: int) -> List[Alert]:
     """Who wasn't heard for so long: those expected, or all that were heard where nobody is."""
     if roster.expected:
         asked = [
-            (it.call, [of.last for of in stations if it.is_of(of.source)], it.name)
+            (it.call, [of.last for of in stations if it.is_of(of.call)], it.name)
             for it in roster.expected
         ]
     else:
-        asked = [(it.source, [it.last], "") for it in stations]
+        asked = [(it.call, [it.last], "") for it in stations]
     alerts = []
     for call, heard, name in asked:
         last = max(heard, default="")

@@ -4,7 +4,7 @@ import dataclasses
 import sys
 from typing import Any, List
 
-from aprsbook_tools import report, table
+from aprsbook_tools import arguments, report, table
 from aprsbook_tools.commands import Subparsers
 from aprsbook_tools.spreadsheet import Cell, csv_text
 
@@ -20,7 +20,9 @@ def add_parser(subparsers: Subparsers) -> None:
         "to a spreadsheet. `fields` takes lines of fields with tabs between them, as of awk.",
     )
     parser.add_argument("table", choices=[*KINDS, FIELDS], help="which table")
-    report.add_arguments(parser)
+    arguments.add_gap(parser)
+    arguments.add_output(parser)
+    arguments.add_inputs(parser)
 
 
 def cell_of(value: Any) -> Cell:

@@ -4,7 +4,7 @@ import os
 import re
 import sys
 import time
-from typing import List
+from typing import List, Optional
 
 from aprsbook_tools import arguments, merged, net_logs, whole
 from aprsbook_tools.commands import Subparsers, page
@@ -78,13 +78,20 @@ def make(args: argparse.Namespace) -> bool:
     return not found.is_faulty
 
 
+def gap_of(args: argparse.Namespace) -> Optional[int]:
+    """The gap that is asked for, also by the variable GAP."""
+    said = os.environ.get("GAP")
+    gap: Optional[int] = args.gap
+    if gap is not None or not said:
+        return gap
+    try:
+        return arguments.whole_number(1, 3600)(said)
+    except argparse.ArgumentTypeError as fault:
+        raise Fault(f"GAP: {fault}") from fault
+
+
 def run(args: argparse.Namespace) -> int:
-    gap = os.environ.get("GAP")
-    if args.gap is None and gap:
-        try:
-            args.gap = arguments.whole_number(1, 3600)(gap)
-        except argparse.ArgumentTypeError as fault:
-            raise Fault(f"GAP: {fault}") from fault
+    args.gap = gap_of(args)
     if args.every is None:
         return 0 if make(args) else FAULTY
     while True:

@@ -3,6 +3,7 @@ import argparse
 
 from aprsbook_tools import report, table
 from aprsbook_tools.commands import Subparsers
+from aprsbook_tools.heard import heard_of
 from aprsbook_tools.roster import roster_of
 
 HEAD = ["last", "receiver", "call", "transmissions", "name"]
@@ -22,14 +23,14 @@ def add_parser(subparsers: Subparsers) -> None:
 def run(args: argparse.Namespace) -> int:
     roster = roster_of(args.roster)
     stations = sorted(
-        table.stations(args.inputs, report.gap_of(args)),
-        key=lambda it: (it.last, it.receiver, it.source),
+        heard_of(table.rows(args.inputs, report.gap_of(args))),
+        key=lambda it: (it.last, it.receiver, it.call),
     )
     report.put_table(
         args,
         HEAD,
         [
-            [it.last, it.receiver, it.source, it.transmissions, roster.name_of(it.source)]
+            [it.last, it.receiver, it.call, it.transmissions, roster.name_of(it.call)]
             for it in stations
         ],
     )

@@ -36,7 +36,7 @@ def add_options(parser: argparse.ArgumentParser) -> None:
         action="append",
         default=[],
         metavar="FILE",
-        help="GPX or GeoJSON, drawn below all else, such as the course of a race",
+        help="GPX, KML or GeoJSON, drawn below all else, such as the course of a race",
     )
     parser.add_argument(
         "--roster",
@@ -63,25 +63,28 @@ def add_parser(subparsers: Subparsers) -> None:
 
 
 def brought(args: argparse.Namespace) -> Dict[str, Any]:
-    """The files and options of a page. What isn't understood of a roster is a note on the page."""
+    """The files and options of a page. What isn't understood of a roster is said here, and by the
+    page itself."""
     roster = text_file.read(args.roster) if args.roster else ""
-    faults = [f"{args.roster}: {it}" for it in read_roster(roster).faults]
-    for it in faults:
-        print(f"aprs-net: {it}", file=sys.stderr)
+    for it in read_roster(roster).faults:
+        print(f"aprs-net: {args.roster}: {it}", file=sys.stderr)
     return {
         "title": args.title,
         "live": args.live,
         "silent": args.silent,
         "maps": [page_files.read_map(it) for it in args.course],
         "roster": roster,
-        "notes": [*args.note, *faults],
+        "notes": args.note,
     }
 
 
 def page_of(book: str, gap: Optional[int], said: Dict[str, Any], notes: Sequence[str] = ()) -> str:
     """The page of a book."""
-    data = {**said, "notes": [*said["notes"], *notes], "gap": gap or 30}
-    return page_files.page_of({**data, **page_files.texts_of(book, gap)})
+    # in the order of a page that the page saves
+    data: Dict[str, Any] = {"title": said["title"], "gap": gap or 30, **said}
+    data["notes"] = [*said["notes"], *notes]
+    data.update(page_files.texts_of(book, gap))
+    return page_files.page_of(data)
 
 
 def files_of(args: argparse.Namespace) -> List[str]:

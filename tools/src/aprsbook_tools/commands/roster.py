@@ -4,6 +4,7 @@ from typing import Iterable, List
 
 from aprsbook_tools import arguments, report, table
 from aprsbook_tools.commands import Subparsers
+from aprsbook_tools.heard import Heard, heard_of
 from aprsbook_tools.roster import Expected, roster_of
 from aprsbook_tools.spreadsheet import Cell
 
@@ -26,19 +27,19 @@ def add_parser(subparsers: Subparsers) -> None:
     arguments.add_inputs(parser)
 
 
-def line_of(entry: Expected, stations: Iterable[table.Station]) -> List[Cell]:
+def line_of(entry: Expected, stations: Iterable[Heard]) -> List[Cell]:
     """What was heard of an entry."""
-    own = [it for it in stations if entry.is_of(it.source)]
+    own = [it for it in stations if entry.is_of(it.call)]
     if not own:
         return ["never", "", entry.call, 0, "", entry.name, entry.group]
     last = max(own, key=lambda it: (it.last, it.receiver))
-    sent = sum(it.transmissions or 0 for it in own)
-    return [last.last, last.receiver, entry.call, sent, last.source, entry.name, entry.group]
+    sent = sum(it.transmissions for it in own)
+    return [last.last, last.receiver, entry.call, sent, last.call, entry.name, entry.group]
 
 
 def run(args: argparse.Namespace) -> int:
     expected = roster_of(args.roster).expected
-    stations = list(table.stations(args.inputs, report.gap_of(args)))
+    stations = heard_of(table.rows(args.inputs, report.gap_of(args)))
     rows = [line_of(it, stations) for it in expected]
     rows.sort(key=lambda it: "" if it[0] == "never" else str(it[0]))
     report.put_table(args, HEAD, rows)

@@ -11,8 +11,9 @@ from typing import List, Optional, Set, Tuple
 from aprsbook_tools import arguments, merged, net_logs, table, watching, whole
 from aprsbook_tools.commands import Subparsers, follow
 from aprsbook_tools.errors import ARGUMENTS, FAULTY, Fault
+from aprsbook_tools.heard import heard_of
 from aprsbook_tools.roster import roster_of
-from aprsbook_tools.table import Message, Row, Station
+from aprsbook_tools.table import Message, Row
 from aprsbook_tools.watching import Alert
 
 PATIENCE = 60  # seconds that the user's command may take
@@ -80,7 +81,7 @@ def alerts_of(args: argparse.Namespace) -> List[Alert]:
             messages = table.of(Message, [book], args.gap)
             alerts += watching.unanswered(messages, roster, now, args.unanswered)
         if args.silent:
-            stations = list(table.of(Station, [book], args.gap))
+            stations = heard_of(table.of(Row, [book], args.gap))
             alerts += watching.silent(stations, roster, now, args.silent)
     return alerts
 
@@ -156,6 +157,7 @@ def check(args: argparse.Namespace) -> None:
 
 def run(args: argparse.Namespace) -> int:
     check(args)
+    args.gap = follow.gap_of(args)
     told = read_state(args.state)
     if args.every is None:
         return 0 if turn(args, told)[1] else FAULTY
