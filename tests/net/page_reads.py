@@ -39,6 +39,7 @@ BOOK = "btoa(String.fromCharCode(...aprsfiles.made().book))"
 # each file, and what is said of it
 TOLD = ("Object.fromEntries([...document.querySelectorAll('#files tbody tr')]"
         ".map(it => [it.cells[0].textContent, it.querySelector('.verdict').textContent]))")
+MORE = TOLD.replace("verdict", "more")
 # what a command of the program makes of the book that the page made
 OF_BOOK = ("aprsfiles.run(%r, 30, [aprsfiles.made().book])"
            ".then(it => btoa(String.fromCharCode(...it.bytes)))")
@@ -221,7 +222,7 @@ def test_faults(page, folder):
     is_(page.js("document.activeElement.textContent"), "take away")
     picture(page, "faults")
     # so does it where files are taken away
-    page.js("(document.querySelector('#files button').focus(), 1)")
+    page.js("(document.querySelector('#files td:last-child button').focus(), 1)")
     for k in range(9):
         page.key(" ", 32)
         page.wait(f"aprsfiles.files.length === {8 - k}")
@@ -345,10 +346,12 @@ def test_brought(page, folder):
     (folder / "their.txt").write_bytes(b"Q1WX-13\r\n")
     drop(page, folder / "their.txt")
     page.wait("told.textContent.startsWith('their.txt: 1 call; ')")
-    is_(page.js("aprsbook.page.roster.map(it => it.call).sort()"), ["Q1MED-7", "Q1RUN-*", "Q1WX-13"])
+    is_(page.js("aprsbook.page.roster.list.map(it => it.call).sort()"),
+        ["Q1MED-7", "Q1RUN-*", "Q1WX-13"])
     page.wait(MADE)
     roster = folder / "both.txt"
-    roster.write_bytes(files["ours.csv"] + b"\nQ1WX-13\r\n")
+    roster.write_text("call,name,group,number\nQ1RUN-*,leader,,\nQ1MED-7,second post,,\n"
+                      "Q1WX-13,,,\n")
     own = subprocess.run(["event-page", "--roster", roster, *EVENING], stdout=subprocess.PIPE,
                          check=True).stdout
     is_(same_page(page, own), True)
@@ -517,7 +520,7 @@ def test_missed(page, folder):
         # what was read once stays, though the server has it no longer
         (folder / "north.log").unlink()
         page.js(again)
-        page.wait(f"{MADE} && {TOLD}['north.log'] === 'the server answers 404'")
+        page.wait(f"{MADE} && {MORE}['north.log'].startsWith('the server answers 404, since 20')")
         is_(page.js(BOOK), base64_of(program(["merge"], EVENING).stdout))
         (folder / "north.log").write_bytes(logs["north.log"])
         (folder / "gone.log").write_bytes(b"")
