@@ -45,9 +45,11 @@ wasm:
 clib:
 	build/clib.sh
 
-# the sample log as a monitor prints it
+# the main job, on the sample log of two receivers: their book, and what is last known of whom
 run: build
-	$(PROGRAM) convert text examples/sample.log
+	@mkdir -p out
+	$(PROGRAM) merge examples/sample.log > out/sample.book
+	$(PROGRAM) show out/sample.book
 
 # the same without any proof
 try:
@@ -64,6 +66,8 @@ test: words recipes
 words:
 	tests/version.sh
 	tests/words.sh
+	tests/sentences.py
+	tests/outside.py
 	tests/names.sh
 	tests/numbers.sh
 	tests/memory.sh
@@ -72,6 +76,7 @@ words:
 	tests/library.sh
 	tests/completions.sh
 	tests/scripts.sh
+	tests/tools.sh
 	tests/system_c.sh
 	@$(MAKE) --no-print-directory page-tests
 
@@ -88,6 +93,17 @@ page-tests:
 	    esbuild --bundle --log-level=error page/$$it.js > /dev/null || exit 1; done; \
 	else echo 'left out: the page by a bundler (no esbuild is there)'; fi
 
+# the tests of the command aprs-net, in tools, with the programs where they are built
+.PHONY: tools
+tools:
+	tests/tools.sh --all $(PROGRAM)
+
+# the completions, and the synopsis and the options of the manual pages, written anew of
+# completions/programs.txt
+.PHONY: options
+options:
+	build/options.py
+
 # the map in docs/architecture.md, drawn anew
 map:
 	build/map.py > docs/architecture.new
@@ -97,12 +113,13 @@ map:
 reading:
 	build/reading.py
 
-# what is tried with the program: the README's example, the old club's book, gaps, outputs that take
-# nothing, what happens to logs and books, the units, and each awk; and with all programs: what they
-# complain of, the history, the tables, the version, the packages, and the same on other machines
-TRIED = readme old_book gaps full_output logs books units awks
+# what is tried with the program: 0 to 100 inputs, the README from its top, the old club's book, gaps,
+# outputs that take nothing, what happens to books, the units, and each awk; and with all programs:
+# what they complain of, the history, the tables, the version, the packages, and the same on other
+# machines
+TRIED = readme old_book gaps full_output books units awks
 TRIED_ALL = complaints history table version packages everywhere
-tried = $(foreach it,$(TRIED),tests/$(it).sh $(PROGRAM) &&) \
+tried = tests/arguments.py $(PROGRAM) && $(foreach it,$(TRIED),tests/$(it).sh $(PROGRAM) &&) \
     $(foreach it,$(TRIED_ALL),tests/$(it).sh $(PROGRAM) $(HISTORY) $(TABLE) &&)
 
 # these, and the recipes that need only a POSIX system, where a program is there that is newer than
@@ -118,6 +135,7 @@ recipes:
 cookbook: build
 	@$(MAKE) --no-print-directory elsewhere
 	$(tried) examples/cookbook.sh $(PROGRAM)
+	tests/tools.sh --all $(PROGRAM)
 	$(MAKE) --no-print-directory clib wasm
 	tests/clib.sh $(PROGRAM)
 	tests/module.sh $(PROGRAM)
@@ -187,6 +205,7 @@ elsewhere:
 install:
 	$(call there,build,$(BUILT))
 	packaging/put-into '$(DESTDIR)$(PREFIX)' $(BUILT)
+	packaging/put-tools '$(DESTDIR)$(PREFIX)'
 
 uninstall:
 	packaging/take-from '$(DESTDIR)$(PREFIX)' $(BUILT)
@@ -197,18 +216,26 @@ deb:
 	$(call there,$(if $(filter arm64,$(ARCH)),arm64,build),$(if $(filter arm64,$(ARCH)),$(ARM),$(BUILT)))
 	packaging/make-deb '$(ARCH)' '$(OUT)' $(if $(filter arm64,$(ARCH)),$(ARM),$(BUILT))
 
+# the package of aprs-net, for each processor, and aprs-net as one file for any system with Python
+.PHONY: tools-deb pyz
+tools-deb:
+	packaging/make-deb all '$(OUT)'
+pyz:
+	build/pyz.py '$(OUT)/aprs-net.pyz'
+
 # a tar file of the static programs, with what puts it in place
 tarball:
 	$(call there,static,$(PROGRAMS:%=out/static/$(ARCH)/%))
 	packaging/make-tarball '$(ARCH)' '$(OUT)' $(PROGRAMS:%=out/static/$(ARCH)/%)
 
-# all that a release has, in out/release: packages and tar files for both processors, the page, the
-# module that it runs, and sums. The same programs give the same packages, in any folder and on any day.
+# all that a release has, in out/release: packages and tar files for both processors, aprs-net, the
+# page, the module that it runs, and sums. The same programs give the same packages, in any folder and on any day.
 PAGES = out/aprsbook.html out/aprsbook.wasm
 release:
 	@for it in $(PAGES); do [ -f $$it ] || { echo "there is no $$it yet: make page" >&2; exit 1; }; done
 	rm -rf out/release
 	for arch in amd64 arm64; do \
 	    $(MAKE) --no-print-directory deb tarball ARCH=$$arch OUT=out/release || exit 1; done
+	$(MAKE) --no-print-directory tools-deb pyz OUT=out/release
 	cp $(PAGES) out/release
 	cd out/release && sums=$$(sha256sum *) && printf '%s\n' "$$sums" > SHA256SUMS

@@ -3,8 +3,8 @@
  * Each function does one run of the program and returns how it ended. The region is the memory
  * that the run may take, and belongs to the call: take nothing of it before or meanwhile, and give
  * none of it to another call that runs at the same time. After the call it is the caller's again.
- * A run over logs and books needs some eight times the length of its inputs, and a check or a
- * conversion as much as it writes, twice.
+ * Begin with eight times the length of the inputs and 4 MiB, and call again with twice as much at
+ * status 3 or 4.
  *
  * An input, an output or a name is a pointer and a length in bytes. No pointer is null, also where
  * the length is 0. What is written to doesn't overlap with anything else.

@@ -21,8 +21,8 @@ DRAWS, READS, RUNS = "begin", "reads", "worker"
 IMPORT = re.compile(r'^import (\{[^}]*\}) from "\./(\w+)\.js";\n', re.M)
 EXPORT = re.compile(r"^export (?=(?:async )?(?:const|let|function\*?|class) +(\w+|\{[^}]*\}))", re.M)
 LIST = re.compile(r"^export (\{[^}]*\});\n", re.M)
-# whether a caller has to give tables: once aprsbook-table has rows and messages
-TABLES = False
+# a caller gives the tables rows and messages
+TABLES = True
 FOOTER = "Made by {} from a book of aprsbook."
 
 

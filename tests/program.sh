@@ -1,7 +1,8 @@
 #!/bin/sh
 # Read by the tests of this folder and of net, whose first argument is the program, and the second and
 # the third, where a test has them, those of histories and of tables: finds them, makes a folder that
-# is thrown away, and puts the programs and the recipes into PATH. Needs a POSIX system and mktemp.
+# is thrown away, and puts the programs, aprs-net and the recipes into PATH. Needs a POSIX system and
+# mktemp.
 set -eu
 export LC_ALL=C
 # a make that a test runs is none of the make that runs the test
@@ -36,7 +37,10 @@ done
 for it in "$table" "${program%/*}/aprsbook-table" "${program%/aprsbook/out/*}"/*/out/aprsbook_table; do
     if [ -x "$it" ]; then ln -sf "$it" "$scratch/bin/aprsbook-table" && break; fi
 done
-PATH=$scratch/bin:$repository/examples/recipes:$PATH
+for it in "${program%/*}/aprsbook-fold" "${program%/aprsbook/out/*}"/*/out/aprsbook_fold; do
+    if [ -x "$it" ]; then ln -sf "$it" "$scratch/bin/aprsbook-fold" && break; fi
+done
+PATH=$scratch/bin:$repository/tools/bin:$repository/examples/recipes:$PATH
 export PATH PYTHONDONTWRITEBYTECODE=1
 # same FILE FILE: they have the same bytes
 same() { cmp "$1" "$2" || fail "$1 isn't $2"; }

@@ -1,7 +1,7 @@
 #!/usr/bin/env python3
 """Tests event-page without a browser: what came off the air is data alone.
 
-usage: event_page.py EXAMPLES    aprsbook, aprsbook-history and the recipes in the PATH; needs
+usage: event_page.py EXAMPLES    aprsbook, aprsbook-table and aprs-net in the PATH; needs
                                  Python 3
 """
 import base64
@@ -64,8 +64,8 @@ def test_order(folder):
         assert event_page(stdin=book) in pages
     _, data = read(pages.pop())
     assert data["title"] == "APRS net" and data["notes"] == [] and data["gap"] == 30
-    assert data["history"] == output("aprsbook-history", *LOGS)
-    assert data["listing"] == output("aprsbook", "show", *LOGS)
+    assert data["rows"] == output("aprsbook-table", "rows", *LOGS)
+    assert data["messages"] == output("aprsbook-table", "messages", *LOGS)
     (folder / "page.html").write_text("before")
     event_page("-o", folder / "page.html", "--title", "Fell race", "--note", "a.log is cut", *LOGS)
     data = read((folder / "page.html").read_text())[1]
@@ -83,19 +83,19 @@ def test_hostile(folder):
     assert frame == read(event_page(*LOGS))[0]
     assert data["title"] == hostile.TITLE and data["maps"] == [hostile.course()]
     other = read(event_page("--gap", "60", "--", "-x.log", cwd=folder))[1]
-    assert other["history"] == data["history"] and other["gap"] == 60
+    assert other["rows"] == data["rows"] and other["gap"] == 60
 
 
 def test_nothing(folder):
     (folder / "empty.log").write_text("")
-    assert read(event_page(folder / "empty.log"))[1]["history"] == ""
+    assert read(event_page(folder / "empty.log"))[1]["rows"].count("\n") == 1
 
 
-def refused(folder, *arguments, **keywords):
+def refused(folder, *arguments, status=1, **keywords):
     (folder / "page.html").write_text("before")
     done = subprocess.run(["event-page", "-o", folder / "page.html", *arguments],
                           stdout=subprocess.PIPE, stderr=subprocess.PIPE, **keywords)
-    assert done.returncode == 1 and done.stdout == b"", done
+    assert done.returncode == status and done.stdout == b"", done
     assert (folder / "page.html").read_text() == "before"
     assert not list(folder.glob("*.new*"))
     return done.stderr.decode()
@@ -116,7 +116,7 @@ def test_refused(folder):
     for text in BAD_MAPS:
         (folder / "course").write_text(text)
         said = refused(folder, "--course", folder / "course", EXAMPLES / "sample.log")
-        assert re.fullmatch("event-page: .*\n", said), (text, said)
+        assert re.fullmatch("aprs-net: .*\n", said), (text, said)
     assert "nowhere" in refused(folder, "--course", folder / "nowhere.gpx", LOGS[0])
     assert "nowhere" in refused(folder, "--roster", folder / "nowhere.txt", LOGS[0])
 
@@ -124,7 +124,7 @@ def test_refused(folder):
     def limit():
         resource.setrlimit(resource.RLIMIT_FSIZE, (20000, 20000))
 
-    assert refused(folder, *LOGS, preexec_fn=limit)
+    assert refused(folder, *LOGS, status=3, preexec_fn=limit)
 
 
 def test_two(folder):
