@@ -15,7 +15,6 @@ import json
 import os
 import pathlib
 import random
-import re
 import shutil
 import subprocess
 import sys
@@ -43,9 +42,6 @@ MORE = TOLD.replace("verdict", "more")
 # what a command of the program makes of the book that the page made
 OF_BOOK = ("aprsfiles.run(%r, 30, [aprsfiles.made().book])"
            ".then(it => btoa(String.fromCharCode(...it.bytes)))")
-# whether the module has the program's tables, or the page makes them of its other texts
-HAS_TABLES = "'table rows'" in (EXAMPLES.parent / "page/host.js").read_text().replace('"', "'")
-DATA = re.compile('<script type="application/json" id="data">(.*?)</script>', re.S)
 COMMANDS = ["check", "convert text", "convert kind", "convert kiss", "convert log",
             "convert capture", "merge", "merge", "show", "show", "history", "widen"]
 
@@ -53,6 +49,8 @@ COMMANDS = ["check", "convert text", "convert kind", "convert kiss", "convert lo
 def program(words, files=(), given=None):
     if words[0] == "history":
         words = ["aprsbook-history", *words[1:]]
+    elif words[0] in ("rows", "messages"):
+        words = ["aprsbook-table", *words]
     else:
         words = ["aprsbook", *words]
     return subprocess.run([*words, *map(str, files)], input=given, stdout=subprocess.PIPE,
@@ -65,15 +63,8 @@ def checked(path):
 
 
 def same_page(page, own):
-    """Whether the page of an event that the page makes is that of event-page: but for their data the
-    bytes, and what both have of the data."""
-    own, made = own.decode(), page.js("aprsfiles.eventPage()")
-    if own == made:
-        return True
-    data = [json.loads(DATA.search(it)[1]) for it in (own, made)]
-    both = data[0].keys() & data[1].keys()
-    return (DATA.sub("", own) == DATA.sub("", made) and {"title", "notes", "roster"} <= both and
-            all(data[0][it] == data[1][it] for it in both))
+    """Whether the page of an event that the page makes is that of event-page."""
+    return page.js("aprsfiles.eventPage()") == own.decode()
 
 
 def base64_of(text):
@@ -120,9 +111,8 @@ def test_same(page, _):
         (["rows 3", "merge 3"], ["check 1"] * 3 + ["messages 1"]))
     for command in "history", "show":
         is_(page.js(OF_BOOK % command), base64_of(program([command], EVENING).stdout))
-    if HAS_TABLES:
-        own = subprocess.run(["aprsbook-table", *EVENING], stdout=subprocess.PIPE, check=True)
-        is_(page.js("aprsbook.page.data.rows"), own.stdout.decode())
+    for table in "rows", "messages":
+        is_(page.js(f"aprsbook.page.data.{table}"), program([table], EVENING).stdout.decode())
     own = subprocess.run(["event-page", *EVENING], stdout=subprocess.PIPE, check=True).stdout
     is_(same_page(page, own), True)
     is_(page.js("(aprsbook.page.map.paint(), aprsbook.page.map.marks.length)"),
@@ -572,11 +562,8 @@ def dropped(page, what, logs, wanted):
         return page.js("({ shown: came - went, still, task })")
 
     scale.judged(measure, wanted, f"{what} dropped in {page.name}")
-    own = [program(["merge"], logs).stdout]
-    if HAS_TABLES:
-        own.append(subprocess.run(["aprsbook-table", *logs], stdout=subprocess.PIPE,
-                                  check=True).stdout)
-    is_(page.js(DIGEST)[:len(own)], [list(hashlib.sha256(it).digest()) for it in own])
+    own = [program([command], logs).stdout for command in ("merge", "rows")]
+    is_(page.js(DIGEST), [list(hashlib.sha256(it).digest()) for it in own])
 
 
 def test_large(page, folder):
