@@ -277,3 +277,16 @@ def test_whole_lines_are_whole_and_stay(lines: "list[bytes]", rest: bytes) -> No
     kept, torn, unended = net_logs.whole_lines(b"".join(lines) + rest)
     assert net_logs.whole_lines(kept) == (kept, 0, False)
     assert kept.count(b"\n") + torn == len(lines) and unended == bool(rest)
+
+
+def test_logs_of_other_machines_lie_in_folders_of_their_own(tmp_path: pathlib.Path) -> None:
+    """Two machines may call a receiver alike, and none takes the other's place."""
+    day = "2024-06-21"
+    for name in f"{day}/RX1.log", f"hill/{day}/RX1.log", f"coast/{day}/RX1.log.gz", \
+            "hill/2024-06-22/RX1.log", f".git/{day}/RX1.log", f"hill/more/{day}/RX1.log":
+        (tmp_path / name).parent.mkdir(parents=True, exist_ok=True)
+        (tmp_path / name).write_bytes(b"")
+    assert net_logs.logs_of(str(tmp_path), [day]) == [
+        (day, str(tmp_path / it)) for it in (
+            f"{day}/RX1.log", f"coast/{day}/RX1.log.gz", f"hill/{day}/RX1.log")]
+    assert net_logs.logs_of(str(tmp_path / "nowhere"), [day]) == []
