@@ -1,7 +1,9 @@
 #!/usr/bin/env python3
-"""Prints docs/architecture.md with its map drawn anew: what crates.txt says of each crate and calls
-the floors, and the first sentence of each lib.rt. Needs Python 3.
+"""Prints docs/architecture.md with its map drawn anew, or with --index docs/calls/README.md: what
+crates.txt says of each crate and calls the floors, and the first sentence of each lib.rt. Needs
+Python 3.
 """
+import os
 import re
 import sys
 
@@ -9,34 +11,62 @@ sys.dont_write_bytecode = True
 from rattle_text import read, sentences
 
 PAGE = "docs/architecture.md"
+INDEX = """# The crates
+
+<!-- made by `make reading`: change the sources and not this page -->
+
+Each crate, from the highest floor of [the map](../architecture.md#the-map), with what it is. The last
+column has the highest crates that it stands on. It may call those below them too, and `crates.txt`
+also names crates of the kit. A crate that others call has a page with a caller and its contracts.
+"""
+
+
+def under_each():
+    """The crates under each, lowest crates first."""
+    under = {}
+    for crate, listed in re.findall(r"^([a-z]\w*)[a-z ]*:(.*)", read("crates.txt"), re.M):
+        direct = [it for it in under if it in listed.split()]
+        under[crate] = set(direct).union(*(under[it] for it in direct))
+    return under
+
+
+def floors():
+    """The floors, from above: each with its crates, right above the highest that they call."""
+    names = re.search(r"^# floors of the map, from below: (.*)", read("crates.txt"), re.M)
+    named, up = names.group(1).split("; "), {}
+    for crate, below in under_each().items():
+        up[crate] = 1 + max((up[it] for it in below), default=-1)
+    if len(named) != max(up.values()) + 1:
+        sys.exit(f"build/map.py: crates.txt names {len(named)} floors, of {max(up.values()) + 1}")
+    found = [(n, name, [crate for crate in up if up[crate] == n]) for n, name in enumerate(named)]
+    return found[::-1]
 
 
 def drawn():
-    """The lines of the map: a crate stands right above the highest crate that it calls."""
-    crates, says = read("crates.txt"), sentences()
-    floors = re.search(r"^# floors of the map, from below: (.*)", crates, re.M).group(1).split("; ")
-    under = {}
-    for crate, listed in re.findall(r"^([a-z]\w*)[a-z ]*:(.*)", crates, re.M):
-        direct = [it for it in under if it in listed.split()]
-        under[crate] = set(direct).union(*(under[it] for it in direct))
-    up = {}
-    for crate, below in under.items():
-        up[crate] = 1 + max((up[it] for it in below), default=-1)
-    if len(floors) != max(up.values()) + 1:
-        sys.exit(f"build/map.py: crates.txt names {len(floors)} floors, of {max(up.values()) + 1}")
-    lines, rows = ["```text"], ["| crate | is | stands on |", "|---|---|---|"]
-    for n, floor in reversed(list(enumerate(floors))):
-        here = [crate for crate in under if up[crate] == n]
-        lines.append(f"{n}  {floor:<19} {' '.join(f'{crate:<17}' for crate in here)}".rstrip())
-        for crate in here:
-            # those on which it stands through no other
-            through = set().union(*(under[it] for it in under[crate]))
-            direct = [f"`{it}`" for it in under if it in under[crate] - through]
-            rows.append(f"| `{crate}` | {says[crate]} | {', '.join(direct) or 'none'} |")
-    return lines + ["```", ""] + rows
+    """The lines of the map."""
+    lines = ["```text"]
+    for n, name, here in floors():
+        lines.append(f"{n}  {name:<19} {' '.join(f'{crate:<17}' for crate in here)}".rstrip())
+    return lines + ["```"]
 
 
-before, _, rest = read(PAGE).partition("<!-- the map")
-about, _, rest = rest.partition("\n")
-after = rest.partition("<!-- end of the map")[2]
-print("\n".join([before + "<!-- the map" + about] + drawn()), end="\n<!-- end of the map" + after)
+def index():
+    """The page that says what each crate is."""
+    under, says = under_each(), sentences()
+    rows = ["| crate | is | stands on |", "|---|---|---|"]
+    for crate in [crate for _, _, here in floors() for crate in here]:
+        # those on which it stands through no other
+        through = set().union(*(under[it] for it in under[crate]))
+        direct = [f"`{it}`" for it in under if it in under[crate] - through]
+        name = f"[`{crate}`]({crate}.md)" if os.path.exists(f"docs/calls/{crate}.md") else f"`{crate}`"
+        rows.append(f"| {name} | {says[crate]} | {', '.join(direct) or 'none'} |")
+    return "\n".join([INDEX] + rows)
+
+
+if sys.argv[1:] == ["--index"]:
+    print(index())
+else:
+    before, _, rest = read(PAGE).partition("<!-- the map")
+    about, _, rest = rest.partition("\n")
+    after = rest.partition("<!-- end of the map")[2]
+    print("\n".join([before + "<!-- the map" + about] + drawn()), end="\n<!-- end of the map" + after)

@@ -11,7 +11,7 @@ usage: build/pairs.py CRATE [WORD..]          changes the definitions, of these 
 A change is one more in a number, `||` for `&&`, `<` for `<=` and the reverse, `false` for `true` and
 the reverse, or the answers of two cases exchanged. For each is told what refuses it: an example or a
 law by its name, or a lemma between (then the examples show nothing), or that it STANDS. Changes by
-hand are tried on the whole crate. One check a change, with one job. Needs rt, and the crate proved.
+hand that stand there are tried on the whole crate. One check a change, with one job. Needs rt, and the crate proved.
 """
 import os
 import re
@@ -125,6 +125,8 @@ def verdict(folder: str, whole: bool) -> str:
         return ""
     names = re.findall(r"^\S*?(proofs/\S+?|src/\S+?):\d+:\d+: error.*", said, re.M)
     names += re.findall(r"^fn \S*?::(\S+): not proved", said, re.M)
+    unproved = r"^fn \S*?::(\S+): no proof: .* did not prove `(?:returns-clause-)?([^`]+)`"
+    names += [".".join(found) for found in re.findall(unproved, said, re.M)]
     return ", ".join(sorted(set(names))[:6]) or said.strip().split("\n")[-1]
 
 
@@ -132,9 +134,13 @@ def tried(crate: str, changes: List[Change], whole: bool) -> int:
     """Tries the changes on a copy of the crate; how many stand."""
     stand = 0
     with tempfile.TemporaryDirectory() as place:
-        shutil.copy("crates.txt", place)
         shutil.copy("HANDLES", place)
-        for name in lower_crates(crate):
+        copied = lower_crates(crate)
+        with open("crates.txt", encoding="utf-8") as given, open(
+            f"{place}/crates.txt", "w", encoding="utf-8"
+        ) as kept_lines:
+            kept_lines.writelines(line for line in given if re.split("[ :]", line)[0] in copied)
+        for name in copied:
             shutil.copytree(f"crates/{name}", f"{place}/crates/{name}")
         for change in changes:
             kept = {path for path, _, _ in change.edits}
@@ -145,7 +151,9 @@ def tried(crate: str, changes: List[Change], whole: bool) -> int:
                     sys.exit(f"build/pairs.py: {path} has `{old}` {text.count(old)} times")
                 with open(f"{place}/{path}", "w", encoding="utf-8") as file:
                     file.write(text.replace(old, new))
-            refused = verdict(f"{place}/crates/{crate}", whole)
+            refused = verdict(f"{place}/crates/{crate}", False)
+            if not refused and whole:
+                refused = verdict(f"{place}/crates/{crate}", True)
             stand += not refused
             print(f"{change.said}: {refused or 'STANDS'}", flush=True)
             for path in kept:

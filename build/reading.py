@@ -25,6 +25,7 @@ import argparse
 import collections
 import os
 import re
+import subprocess
 import sys
 
 sys.dont_write_bytecode = True
@@ -43,6 +44,8 @@ MADE = "<!-- made by `make reading`: change the sources and not this page -->\n"
 # the crates that others call, and of each a caller that the gate proves
 PROGRAM, TESTS = "crates/aprs_example/src/main.rt", "crates/aprs_tests/src/library.rt"
 CALLERS = {
+    "aprs_kiss": (TESTS, "send_frame"),
+    "aprs_mice": (TESTS, "knots_and_message"),
     "aprs_log": (PROGRAM, "take_log"),
     "aprs_ax25": (TESTS, "beacon"),
     "aprs_report": (TESTS, "latitude"),
@@ -393,6 +396,8 @@ def write_all(facts, folder):
     files = {page.call.name: page.file for page in pages}
     for crate in CALLERS:
         write(os.path.join(called, crate + ".md"), crate_text(facts, crate, files))
+    listed = subprocess.run(["build/map.py", "--index"], capture_output=True, text=True, check=True)
+    write(os.path.join(called, "README.md"), listed.stdout)
     try:
         sums = with_sums(facts, statement.read(PROVED))
     except LookupError as said:

@@ -157,8 +157,8 @@ done > "$scratch/lacks"
 
 # ---- the documents: all of them can be read, and the first at once ----
 
-[ "$(cat README.md CONTRIBUTING.md CHANGELOG.md docs/*.md | wc -w)" -le 29500 ] ||
-    fail 'the documents have more than 29,500 words'
+[ "$(cat README.md CONTRIBUTING.md CHANGELOG.md docs/*.md | wc -w)" -le 27000 ] ||
+    fail 'the documents have more than 27,000 words'
 [ "$(wc -l < README.md)" -le 120 ] || fail 'README.md has more than 120 lines'
 
 # ---- each file by its own reader ----

@@ -9,7 +9,7 @@ import pathlib
 import shutil
 import subprocess
 import time
-from typing import Callable, Dict, List, Set, Tuple
+from typing import Callable, Dict, List, Optional, Set, Tuple
 
 import pytest
 
@@ -21,8 +21,10 @@ PATH = os.environ["PATH"]
 class Club:
     """A folder with logs of the evening, and the programs."""
 
-    def __init__(self, folder: pathlib.Path, programs: str) -> None:
+    def __init__(self, folder: pathlib.Path, programs: str,
+                 bin: Optional[pathlib.Path] = None) -> None:
         self.folder = folder
+        self.bin = bin  # the stand-ins, which a test may replace; None where they are the programs
         self.runs = folder / "runs.txt"
         self.env = environment(PATH=programs, STAND_IN_RUNS=str(self.runs))
 
@@ -72,7 +74,7 @@ def club(request: pytest.FixtureRequest, tmp_path_factory: pytest.TempPathFactor
         (bin / name).chmod(0o755)
     rest = [it for it in PATH.split(os.pathsep)
             if not os.path.exists(os.path.join(it, "aprsbook-fold"))]
-    return Club(folder, os.pathsep.join([str(bin), *rest]))
+    return Club(folder, os.pathsep.join([str(bin), *rest]), bin)
 
 
 ALL = "hill", "coast", "north"
@@ -178,13 +180,12 @@ def test_a_log_that_was_changed_is_named(club: Club) -> None:
 
 def test_without_the_program_that_folds(club: Club) -> None:
     """aprsbook itself merges then."""
-    bin = pathlib.Path(club.env["PATH"].split(os.pathsep)[0])
-    if not (bin / "aprsbook-fold").exists() or not club.folder.parent.samefile(bin.parent):
+    if club.bin is None:
         pytest.skip("needs the stand-in")
-    (bin / "aprsbook-fold").unlink()
+    (club.bin / "aprsbook-fold").unlink()
     rest = [it for it in PATH.split(os.pathsep)
             if not os.path.exists(os.path.join(it, "aprsbook-fold"))]
-    club.env["PATH"] = os.pathsep.join([str(bin), *rest])
+    club.env["PATH"] = os.pathsep.join([str(club.bin), *rest])
     for name in ALL:
         club.lay(f"logs/{name}.log", name)
     club.book("net.book", "logs")
@@ -378,9 +379,9 @@ def test_a_fault_of_this_machine_is_no_fault_of_a_book(club: Club) -> None:
     club.path("in").mkdir()
     club.path("own.book").write_bytes(club.merged(60, "hill"))
     club.path("in/coast.book").write_bytes(club.merged(60, "coast"))
-    if not (pathlib.Path(club.env["PATH"].split(os.pathsep)[0]) / "aprsbook-fold").exists():
+    if club.bin is None:
         pytest.skip("needs the stand-in")
-    program = pathlib.Path(club.env["PATH"].split(os.pathsep)[0]) / "aprsbook"
+    program = club.bin / "aprsbook"
     program.write_text("#!/bin/sh\necho 'aprsbook: cannot write' >&2\nexit 3\n")
     said = club.book("--pass-over", "own.book", "in", status=3)
     assert said == "aprsbook: cannot write\n"
