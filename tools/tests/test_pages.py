@@ -4,9 +4,11 @@ import json
 import os
 import pathlib
 import re
+import signal
 from typing import Any, Dict
 
 import pytest
+from conftest import started, wait_for
 from hypothesis import given
 from hypothesis import strategies as st
 from standing import Programs, place
@@ -290,3 +292,23 @@ def test_logs_of_other_machines_lie_in_folders_of_their_own(tmp_path: pathlib.Pa
         (day, str(tmp_path / it)) for it in (
             f"{day}/RX1.log", f"coast/{day}/RX1.log.gz", f"hill/{day}/RX1.log")]
     assert net_logs.logs_of(str(tmp_path / "nowhere"), [day]) == []
+
+
+def test_again_and_again(net: Programs) -> None:
+    """A turn that fails doesn't end it, and what is new comes into the page."""
+    log = net.folder / "logs/2024-06-21/RX1.log"
+    log.rename(net.folder / "log")
+    with started("follow", "--every", "1", *NOW[1:]) as process:
+        try:
+            assert process.stderr is not None
+            assert b"is no log of 2024-06-21" in process.stderr.readline()
+            (net.folder / "log").rename(log)
+            wait_for(lambda: os.path.exists("out/index.html"), "a page")
+            before = made(net, "net.book")
+            with open(log, "a") as more:
+                more.write(LINE.replace("RX1", "RX2"))
+            wait_for(lambda: made(net, "net.book") == before + LINE.replace("RX1", "RX2"), "a row")
+        finally:
+            process.terminate()
+        assert process.wait(20) == -signal.SIGTERM
+    assert sorted(os.listdir("out")) == ["index.html", "net.book"]
