@@ -7,7 +7,7 @@ use Rattle.aprs_laws.specs.Row.{row_cmp}
 use Rattle.aprs_laws.specs.Sound.{IsFar}
 use Rattle.aprs_laws.proofs.Lists.{in_left}
 use Rattle.aprs_booktext.specs.Law.{LackAnEnd}
-use Rattle.aprs_booktext.specs.Lines.{Lacks}
+use Rattle.aprs_io.specs.Cut.{Lacks}
 use Rattle.aprs_booktext.specs.Reader.{HasReadLines}
 use Rattle.aprs_booktext.specs.Text.{row_line, IsBookRow, IsBookRows}
 use Rattle.aprs_booktext.specs.Version.{form_of, gap_of, header_of}
