@@ -11,8 +11,8 @@ from aprsbook_tools.errors import Fault
 
 @contextlib.contextmanager
 def plain(paths: Sequence[str]) -> Iterator[List[str]]:
-    """The files that programs read for these: those below folders, and compressed ones unpacked. None
-    of none, for which a program reads standard input."""
+    """The files that programs read for these: those below folders too, and compressed ones
+    unpacked. Where there are no paths, a program reads standard input."""
     with tempfile.TemporaryDirectory(prefix="aprs-net-") as folder:
         found = inputs.of(paths)
         if paths and not found:
