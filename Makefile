@@ -2,6 +2,7 @@
 PREFIX ?= /usr/local
 PROGRAM = crates/aprsbook/out/aprsbook
 HISTORY = crates/aprsbook_history/out/aprsbook_history
+TABLE = crates/aprsbook_table/out/aprsbook_table
 
 # the programs that are installed and packed: each has a crate (with _ for -), a manual page and
 # completions of its name
@@ -10,7 +11,7 @@ crate = $(subst -,_,$(1))
 # as `make build` made them
 BUILT = $(foreach it,$(PROGRAMS),crates/$(call crate,$(it))/out/$(call crate,$(it)))
 
-.PHONY: build libraries run try test words map reading recipes cookbook bench hostile
+.PHONY: build libraries run try test words map reading recipes cookbook bench hostile page-tests
 .PHONY: arm64 static elsewhere install uninstall deb tarball release wasm clib
 
 # how many checks run side by side: as many as there are processors, each with 3 GB of free memory
@@ -28,6 +29,7 @@ build:
 	@$(MAKE) --no-print-directory -j 3 libraries JOBS=$(JOBS)
 	cd crates/aprsbook && rt run --jobs 1 -- check ../../examples/sample.log > /dev/null
 	cd crates/aprsbook_history && rt run --jobs 1 -- ../../examples/sample.log > /dev/null
+	cd crates/aprsbook_table && rt run --jobs 1 -- ../../examples/sample.log > /dev/null
 
 LIBRARIES := $(shell sed -n '/_tests:/d; /^aprs_fixtures:/d; /^aprs_arena:/d; /^aprs_example:/d; s/^\(aprs_[a-z0-9]*\):.*/\1/p' crates.txt)
 $(foreach it,$(LIBRARIES),$(eval $(it): $(filter $(LIBRARIES),$(shell sed -n 's/^$(it)://p' crates.txt))))
@@ -43,9 +45,11 @@ wasm:
 clib:
 	build/clib.sh
 
-# the sample log as a monitor prints it
+# the main job, on the sample log of two receivers: their book, and what is last known of whom
 run: build
-	$(PROGRAM) convert text examples/sample.log
+	@mkdir -p out
+	$(PROGRAM) merge examples/sample.log > out/sample.book
+	$(PROGRAM) show out/sample.book
 
 # the same without any proof
 try:
@@ -62,6 +66,8 @@ test: words recipes
 words:
 	tests/version.sh
 	tests/words.sh
+	tests/sentences.py
+	tests/outside.py
 	tests/names.sh
 	tests/numbers.sh
 	tests/memory.sh
@@ -70,7 +76,33 @@ words:
 	tests/library.sh
 	tests/completions.sh
 	tests/scripts.sh
+	tests/tools.sh
 	tests/system_c.sh
+	@$(MAKE) --no-print-directory page-tests
+
+# the parts of the page that need no browser, their types, and that a bundler reads them too, each
+# where its tool is there
+page-tests:
+	@mkdir -p out
+	@if command -v node > /dev/null; then node --test tests/page/*.test.js > out/page-tests.txt || \
+	    { cat out/page-tests.txt; exit 1; }; echo "page: $$(grep -c '^ok' out/page-tests.txt) tests"; \
+	else echo 'left out: the tests of the page (no node is there)'; fi
+	@if command -v tsc > /dev/null; then tsc -p page/jsconfig.json; \
+	else echo 'left out: the types of the page (no tsc is there)'; fi
+	@if command -v esbuild > /dev/null; then for it in begin reads worker; do \
+	    esbuild --bundle --log-level=error page/$$it.js > /dev/null || exit 1; done; \
+	else echo 'left out: the page by a bundler (no esbuild is there)'; fi
+
+# the tests of the command aprs-net, in tools, with the programs where they are built
+.PHONY: tools
+tools:
+	tests/tools.sh --all $(PROGRAM)
+
+# the completions, and the synopsis and the options of the manual pages, written anew of
+# completions/programs.txt
+.PHONY: options
+options:
+	build/options.py
 
 # the map in docs/architecture.md, drawn anew
 map:
@@ -81,18 +113,19 @@ map:
 reading:
 	build/reading.py
 
-# what is tried with the program: the README's example, the old club's book, gaps, outputs that take
-# nothing, what happens to logs and books, the units, and each awk; and with both programs: what they
-# complain of, the history, the version, the packages, and the same programs on other machines
-TRIED = readme old_book gaps full_output logs books units awks
-TRIED_BOTH = complaints history version packages everywhere
-tried = $(foreach it,$(TRIED),tests/$(it).sh $(PROGRAM) &&) \
-    $(foreach it,$(TRIED_BOTH),tests/$(it).sh $(PROGRAM) $(HISTORY) &&)
+# what is tried with the program: 0 to 100 inputs, the README from its top, the old club's book, gaps,
+# outputs that take nothing, what happens to books, the units, and each awk; and with all programs:
+# what they complain of, the history, the tables, the version, the packages, and the same on other
+# machines
+TRIED = readme old_book gaps full_output books units awks
+TRIED_ALL = complaints history table version packages everywhere
+tried = tests/arguments.py $(PROGRAM) && $(foreach it,$(TRIED),tests/$(it).sh $(PROGRAM) &&) \
+    $(foreach it,$(TRIED_ALL),tests/$(it).sh $(PROGRAM) $(HISTORY) $(TABLE) &&)
 
 # these, and the recipes that need only a POSIX system, where a program is there that is newer than
 # its sources; each says what it leaves out because a tool isn't there
 recipes:
-	@if [ -x $(PROGRAM) ] && [ -x $(HISTORY) ] && \
+	@if [ -x $(PROGRAM) ] && [ -x $(HISTORY) ] && [ -x $(TABLE) ] && \
 	    [ -z "$$(find crates -name out -prune -o -name '*.rt' -newer $(PROGRAM) -print)" ]; then \
 	    $(MAKE) --no-print-directory elsewhere && \
 	    $(tried) examples/cookbook.sh --posix $(PROGRAM); \
@@ -102,6 +135,7 @@ recipes:
 cookbook: build
 	@$(MAKE) --no-print-directory elsewhere
 	$(tried) examples/cookbook.sh $(PROGRAM)
+	tests/tools.sh --all $(PROGRAM)
 	$(MAKE) --no-print-directory clib wasm
 	tests/clib.sh $(PROGRAM)
 	tests/module.sh $(PROGRAM)
@@ -171,6 +205,7 @@ elsewhere:
 install:
 	$(call there,build,$(BUILT))
 	packaging/put-into '$(DESTDIR)$(PREFIX)' $(BUILT)
+	packaging/put-tools '$(DESTDIR)$(PREFIX)'
 
 uninstall:
 	packaging/take-from '$(DESTDIR)$(PREFIX)' $(BUILT)
@@ -181,18 +216,26 @@ deb:
 	$(call there,$(if $(filter arm64,$(ARCH)),arm64,build),$(if $(filter arm64,$(ARCH)),$(ARM),$(BUILT)))
 	packaging/make-deb '$(ARCH)' '$(OUT)' $(if $(filter arm64,$(ARCH)),$(ARM),$(BUILT))
 
+# the package of aprs-net, for each processor, and aprs-net as one file for any system with Python
+.PHONY: tools-deb pyz
+tools-deb:
+	packaging/make-deb all '$(OUT)'
+pyz:
+	build/pyz.py '$(OUT)/aprs-net.pyz'
+
 # a tar file of the static programs, with what puts it in place
 tarball:
 	$(call there,static,$(PROGRAMS:%=out/static/$(ARCH)/%))
 	packaging/make-tarball '$(ARCH)' '$(OUT)' $(PROGRAMS:%=out/static/$(ARCH)/%)
 
-# all that a release has, in out/release: packages and tar files for both processors, the page, the
-# module that it runs, and sums. The same programs give the same packages, in any folder and on any day.
+# all that a release has, in out/release: packages and tar files for both processors, aprs-net, the
+# page, the module that it runs, and sums. The same programs give the same packages, in any folder and on any day.
 PAGES = out/aprsbook.html out/aprsbook.wasm
 release:
 	@for it in $(PAGES); do [ -f $$it ] || { echo "there is no $$it yet: make page" >&2; exit 1; }; done
 	rm -rf out/release
 	for arch in amd64 arm64; do \
 	    $(MAKE) --no-print-directory deb tarball ARCH=$$arch OUT=out/release || exit 1; done
+	$(MAKE) --no-print-directory tools-deb pyz OUT=out/release
 	cp $(PAGES) out/release
 	cd out/release && sums=$$(sha256sum *) && printf '%s\n' "$$sums" > SHA256SUMS

@@ -1,9 +1,9 @@
 #!/usr/bin/env python3
-"""Merges of logs, and of the book files of their days, by one process and by merge-tree with one to
-four processors, and every-place of the logs: seconds, beside the one process, and the greatest memory
+"""Merges of logs, and of the book files of their days, by one process and by aprs-net book with one
+to four processors, and places of the logs: seconds, beside the one process, and the greatest memory
 of a process.
 
-usage: engines.py PROGRAM HISTORY FOLDER LINES..    needs taskset, and what merge-tree needs. The inputs
+usage: engines.py PROGRAM HISTORY FOLDER LINES..    needs taskset and aprsbook-table. The inputs
                                                     of so many lines stay in FOLDER, and aren't made
                                                     again
        engines.py --inputs PROGRAM FOLDER LINES..   makes the inputs alone
@@ -63,23 +63,24 @@ def measure(folder, lines):
         one, memory = run("aprsbook", "merge", *inputs, to=folder / "one")
         print(f"{lines} lines, {kind}: one process {one:.1f} s, {memory:.0f} MiB", flush=True)
         for n in 1, 2, 3, 4:
-            took, most = run("taskset", "-c", f"0-{n - 1}", "merge-tree", folder / kind, folder / "tree")
+            took, most = run("taskset", "-c", f"0-{n - 1}", "aprs-net", "book",
+                             "--anew", "--jobs", n, folder / "tree.book", folder / kind)
             # not read here: a process begins with the memory of the one that starts it
-            subprocess.run(["cmp", folder / "one", folder / "tree"], check=True)
+            subprocess.run(["cmp", folder / "one", folder / "tree.book"], check=True)
             print(f"    {n} processors: {took:.1f} s ({one / took:.2f} times as fast), {most:.0f} MiB",
                   flush=True)
         if kind == "logs":
-            took, most = run("every-place", *inputs)
-            print(f"    every-place: {took:.1f} s ({took / one:.2f} of the merge), {most:.0f} MiB", flush=True)
+            took, most = run("aprs-net", "places", *inputs)
+            print(f"    places: {took:.1f} s ({took / one:.2f} of the merge), {most:.0f} MiB", flush=True)
 
 
 def main():
     made_alone = sys.argv[1] == "--inputs"
     *programs, folder = map(pathlib.Path, sys.argv[2:4] if made_alone else sys.argv[1:4])
     with tempfile.TemporaryDirectory() as name:
-        for path, program in zip(programs, ("aprsbook", "aprsbook-history")):
+        for path, program in zip(programs, ("aprsbook", "aprsbook-table")):
             pathlib.Path(name, program).symlink_to(path.resolve())
-        os.environ["PATH"] = f"{name}:{HERE.parent}/examples/recipes:" + os.environ["PATH"]
+        os.environ["PATH"] = f"{name}:{HERE.parent}/tools/bin:{HERE.parent}/examples/recipes:" + os.environ["PATH"]
         for text in sys.argv[4:]:
             make_inputs(programs[0], folder / text, int(text))
             if not made_alone:

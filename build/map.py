@@ -12,21 +12,21 @@ PAGE = "docs/architecture.md"
 
 
 def drawn():
-    """The lines of the map: a crate stands right below the lowest crate that stands on it."""
+    """The lines of the map: a crate stands right above the highest crate that it calls."""
     crates, says = read("crates.txt"), sentences()
     floors = re.search(r"^# floors of the map, from below: (.*)", crates, re.M).group(1).split("; ")
     under = {}
     for crate, listed in re.findall(r"^([a-z]\w*)[a-z ]*:(.*)", crates, re.M):
         direct = [it for it in under if it in listed.split()]
         under[crate] = set(direct).union(*(under[it] for it in direct))
-    down = dict.fromkeys(under, 0)
-    for crate in reversed(list(under)):
-        down.update({it: max(down[it], down[crate] + 1) for it in under[crate]})
-    if len(floors) != max(down.values()) + 1:
-        sys.exit(f"build/map.py: crates.txt names {len(floors)} floors")
+    up = {}
+    for crate, below in under.items():
+        up[crate] = 1 + max((up[it] for it in below), default=-1)
+    if len(floors) != max(up.values()) + 1:
+        sys.exit(f"build/map.py: crates.txt names {len(floors)} floors, of {max(up.values()) + 1}")
     lines, rows = ["```text"], ["| crate | is | stands on |", "|---|---|---|"]
     for n, floor in reversed(list(enumerate(floors))):
-        here = [crate for crate in under if down[crate] == len(floors) - 1 - n]
+        here = [crate for crate in under if up[crate] == n]
         lines.append(f"{n}  {floor:<19} {' '.join(f'{crate:<17}' for crate in here)}".rstrip())
         for crate in here:
             # those on which it stands through no other

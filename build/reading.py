@@ -1,5 +1,6 @@
 #!/usr/bin/env python3
-"""What a reader has to believe, as pages: one for each call in docs/reading, listed in docs/proved.md.
+"""What a reader has to believe, as pages: one for each call in docs/reading, listed in
+docs/proved.md; and what can be called: one for each crate that others call, in docs/calls.
 
 usage: build/reading.py [--into FOLDER]    writes the pages anew, and the sums in docs/proved.md
        build/reading.py --calls CRATE      the public functions of a crate, with sentence and clauses
@@ -28,6 +29,7 @@ import sys
 
 sys.dont_write_bytecode = True
 import statement
+from rattle_text import clauses_after, closing, dedented, masked, read
 
 # the library calls of the first rank; the runs of the program are found
 LIBRARY = (
@@ -38,6 +40,16 @@ LIBRARY = (
 RUNS = "merge_run widen_run show_run history_run".split()
 PROVED = "docs/proved.md"
 MADE = "<!-- made by `make reading`: change the sources and not this page -->\n"
+# the crates that others call, and of each a caller that the gate proves
+PROGRAM, TESTS = "crates/aprs_example/src/main.rt", "crates/aprs_tests/src/library.rt"
+CALLERS = {
+    "aprs_log": (PROGRAM, "take_log"),
+    "aprs_ax25": (TESTS, "beacon"),
+    "aprs_report": (TESTS, "latitude"),
+    "aprs_book": (TESTS, "heard_last"),
+    "aprs_booktext": (TESTS, "book_in"),
+    "aprs_tool": (TESTS, "merge_two"),
+}
 
 
 class Part:
@@ -261,6 +273,67 @@ def page_text(facts, page, home, told):
     return "\n".join(lines).rstrip() + "\n"
 
 
+# ---- a page for each crate that others call
+
+
+def first_sentence(doc):
+    """The first sentence of a comment."""
+    return re.split(r"(?<=\.) ", " ".join(doc))[0]
+
+
+def caller_lines(crate):
+    """A proved caller of a crate: the imports that name the crate, and the function."""
+    path, name = CALLERS[crate]
+    text = read(path)
+    code = masked(text)
+    head = re.search(rf"^(?:pub )?fn {name}\b", code, re.M)
+    if not head:
+        raise LookupError(f"{path} has no function {name}")
+    end = closing(code, code.index("{", head.end())) + 1
+    uses = re.findall(rf"^use {crate}(?:::[^;]*)?;", code, re.M)
+    return path, uses + [""] + text[head.start() : end].split("\n")
+
+
+def does_nothing(call):
+    """Whether the body of a function is empty, as that of a law and of an example."""
+    text = read(call.path)
+    code = masked(text)
+    for head in re.finditer(rf"\bfn {call.name.split('::')[-1]}\b", code):
+        _, end = clauses_after(text, code, head.end())
+        if dedented(text[text.rindex("\n", 0, head.start()) + 1 : end]) == call.text:
+            return text[end : end + 2] == "{}"
+    return False
+
+
+def types_table(facts, crate):
+    """The public types of a crate, each with the first sentence of its comment."""
+    names = {name for _, name in facts.given[crate]}
+    own = [(name, item) for (of, name), item in facts.items.items() if of == crate]
+    rows = [[f"`{name}`", prose([first_sentence(item.doc)])] for name, item in own if name in names]
+    return table(["type or constant", "is"], sorted(rows)) if rows else []
+
+
+def crate_text(facts, crate, home):
+    """The page of a crate: what it is, a caller, and each public function with its clauses."""
+    about = re.match(r"(?://!.*\n)+", read(f"crates/{crate}/src/lib.rt")).group()
+    path, caller = caller_lines(crate)
+    lines = [f"# `{crate}`", "", MADE]
+    lines += [prose(line[3:].strip() for line in about.splitlines()), ""]
+    lines += [f"A caller that the gate proves, of `{path}`:", ""] + fenced("rust", caller)
+    lines += ["Each function below has its comment, its head and its clauses. `make test` proves"]
+    lines += ["them, and `build/reading.py --page FUNCTION` prints the definitions that they cite.", ""]
+    lines += types_table(facts, crate)
+    own = [call for call in facts.calls if call.crate == crate and call.text and call.clauses]
+    for heading, law in (("Functions", False), ("Laws and examples, which do nothing", True)):
+        some = [call for call in own if does_nothing(call) is law]
+        lines += [f"## {heading}", ""] if some else []
+        for call in some:
+            lines += [f"### `{call.name}`", "", prose(call.doc), ""] + fenced("rust", call.text)
+            if call.name in home:
+                lines += [f"What it cites: [{call.name}](../reading/{home[call.name]}).", ""]
+    return "\n".join(lines).rstrip() + "\n"
+
+
 # ---- the sums in docs/proved.md
 
 
@@ -311,11 +384,15 @@ def write(path, text):
 def write_all(facts, folder):
     """Writes all pages below a folder, and takes away those that are no longer made."""
     pages, home = pages_of(facts, calls(facts))
-    told, inner = set(), os.path.join(folder, "reading")
-    for file in os.listdir(inner) if os.path.isdir(inner) else []:
-        os.remove(os.path.join(inner, file))
+    told, inner, called = set(), os.path.join(folder, "reading"), os.path.join(folder, "calls")
+    for there in (inner, called):
+        for file in os.listdir(there) if os.path.isdir(there) else []:
+            os.remove(os.path.join(there, file))
     for page in pages:
         write(os.path.join(inner, page.file), page_text(facts, page, home, told))
+    files = {page.call.name: page.file for page in pages}
+    for crate in CALLERS:
+        write(os.path.join(called, crate + ".md"), crate_text(facts, crate, files))
     try:
         sums = with_sums(facts, statement.read(PROVED))
     except LookupError as said:
@@ -350,7 +427,7 @@ def print_calls(facts, crate):
     if not found:
         raise LookupError(f"there is no crate {crate} with public clauses")
     for call in found:
-        print(call.name + ": " + re.split(r"(?<=\.) ", " ".join(call.doc))[0])
+        print(call.name + ": " + first_sentence(call.doc))
         print("    " + ", ".join(dict.fromkeys(name for name, _ in call.clauses)))
 
 

@@ -1,28 +1,49 @@
 # bash completion of aprsbook-table, installed as
 # $(PREFIX)/share/bash-completion/completions/aprsbook-table
+# made by `make options` of completions/programs.txt: change that, and not this
 _aprsbook_table() {
-    local tables='rows'
-    local gap_option='--gap'
-    local word=${COMP_WORDS[COMP_CWORD]} before=${COMP_WORDS[COMP_CWORD - 1]}
+    # bash parts words at colons: they are put together again where no blank stands between
+    local line=$COMP_LINE piece
+    local -a typed=()
+    for piece in "${COMP_WORDS[@]:0:COMP_CWORD + 1}"; do
+        if [[ ${#typed[@]} -eq 0 || $line == [[:blank:]]* ]]; then
+            typed+=("$piece")
+        else
+            typed[-1]+=$piece
+        fi
+        line=${line#"${line%%[![:blank:]]*}"}
+        line=${line#"$piece"}
+    done
+    # the commands and forms behind which the word stands
+    local count=${#typed[@]}
+    local word=${typed[-1]} before=${typed[count - 2]} path=' '
+    ((count < 3)) || path+="${typed[1]} "
+    ((count < 4)) || path+="${typed[2]} "
+    # what may stand here beside options: words, and files or none
+    local words='' options='' files=1
     COMPREPLY=()
-    if [[ $before == --gap ]]; then
-        return
-    elif [[ $word == -* ]]; then
-        mapfile -t COMPREPLY < <(compgen -W "$gap_option --help --version" -- "$word")
-    else
-        # bash parts words at colons: what stands before is put before the word again
-        local path=$word i=$COMP_CWORD
-        while ((i > 1)) && [[ ${COMP_WORDS[i]} == : || ${COMP_WORDS[i - 1]} == : ]]; do
-            ((i -= 1))
-            path=${COMP_WORDS[i]}$path
-        done
+    case $path in
+    ' rows '*) options='--gap --help' ;;
+    ' messages '*) options='--gap --help' ;;
+    ' stations '*) options='--gap --help' ;;
+    ' things '*) options='--gap --help' ;;
+    ' ') words='rows messages stations things' options='--gap --help --version' ;;
+    ' '*) options='--gap --help --version' ;;
+    esac
+    case $before in
+    --gap) files= ;;
+    *) if [[ $word == -* ]]; then words=$options files=; fi ;;
+    esac
+    if [[ -n $files ]]; then
         compopt -o filenames 2> /dev/null
-        mapfile -t COMPREPLY < <(
-            # the first word may name a table
-            ((COMP_CWORD != 1)) || compgen -W "$tables" -- "$word"
-            compgen -f -- "${path//\\/}"
-        )
-        [[ $path != *:* ]] || COMPREPLY=("${COMPREPLY[@]#"${path%"${path##*:}"}"}")
+        mapfile -t COMPREPLY < <(compgen -f -- "${word//\\/}")
+    fi
+    if [[ -n $words ]]; then
+        mapfile -t -O "${#COMPREPLY[@]}" COMPREPLY < <(compgen -W "$words" -- "$word")
+    fi
+    # what stands before the last colon is there already
+    if [[ $COMP_WORDBREAKS == *:* && $word == *:* && $word != *'\:'* ]]; then
+        COMPREPLY=("${COMPREPLY[@]#"${word%"${word##*:}"}"}")
     fi
 }
 complete -F _aprsbook_table aprsbook-table

@@ -1,10 +1,7 @@
-# bash completion of aprsbook, installed as $(PREFIX)/share/bash-completion/completions/aprsbook
+# bash completion of aprsbook, installed as
+# $(PREFIX)/share/bash-completion/completions/aprsbook
+# made by `make options` of completions/programs.txt: change that, and not this
 _aprsbook() {
-    local commands='check convert merge widen show help'
-    local forms='text kind kiss log capture'
-    local options='--receiver --moment'
-    local gap_option='--gap'
-
     # bash parts words at colons: they are put together again where no blank stands between
     local line=$COMP_LINE piece
     local -a typed=()
@@ -17,33 +14,43 @@ _aprsbook() {
         line=${line#"${line%%[![:blank:]]*}"}
         line=${line#"$piece"}
     done
+    # the commands and forms behind which the word stands
     local count=${#typed[@]}
-    local word=${typed[-1]} before=${typed[count - 2]} command=${typed[1]} form=${typed[2]-}
-    local words='--help'
+    local word=${typed[-1]} before=${typed[count - 2]} path=' '
+    ((count < 3)) || path+="${typed[1]} "
+    ((count < 4)) || path+="${typed[2]} "
+    # what may stand here beside options: words, and files or none
+    local words='' options='' files=1
     COMPREPLY=()
-    if ((count == 2)); then
-        words="$commands --help --version"
-    elif [[ $command == help ]]; then
-        ((count == 3)) && words=$commands || words=
-    elif [[ $command == convert && $count -eq 3 ]]; then
-        words="$forms --help"
-    elif [[ $before == --receiver || $before == --gap ]]; then
-        words=
-    elif [[ $command == widen && $count -eq 3 && $word != -* ]]; then
-        words=
-    elif [[ $before == --moment ]]; then
-        words=$(date -u +%Y-%m-%dT%H:%M:%SZ)
-    elif [[ $word != -* ]]; then
-        words=
+    case $path in
+    ' convert text '*) options='--help' ;;
+    ' convert kind '*) options='--help' ;;
+    ' convert kiss '*) options='--help' ;;
+    ' convert log '*) options='--help' ;;
+    ' convert capture '*) options='--receiver --moment --help' ;;
+    ' check '*) options='--help' ;;
+    ' convert ') words='text kind kiss log capture --help' options=$words files= ;;
+    ' convert '*) options='--help' ;;
+    ' merge '*) options='--gap --help' ;;
+    ' widen ') options='--help' files= ;;
+    ' widen '*) options='--help' ;;
+    ' show '*) options='--gap --help' ;;
+    ' help ') words='check convert merge widen show help' files= ;;
+    ' help '*) files= ;;
+    ' ') words='check convert merge widen show help --help --version' options=$words files= ;;
+    ' '*) options='--help --version' ;;
+    esac
+    case $before in
+    --gap | --receiver) files= ;;
+    --moment) words=$(date -u +%Y-%m-%dT%H:%M:%SZ) files= ;;
+    *) if [[ $word == -* ]]; then words=$options files=; fi ;;
+    esac
+    if [[ -n $files ]]; then
         compopt -o filenames 2> /dev/null
         mapfile -t COMPREPLY < <(compgen -f -- "${word//\\/}")
-    elif [[ $command == convert && $form == capture ]]; then
-        words="$options --help"
-    elif [[ $command == merge || $command == show ]]; then
-        words="$gap_option --help"
     fi
     if [[ -n $words ]]; then
-        mapfile -t COMPREPLY < <(compgen -W "$words" -- "$word")
+        mapfile -t -O "${#COMPREPLY[@]}" COMPREPLY < <(compgen -W "$words" -- "$word")
     fi
     # what stands before the last colon is there already
     if [[ $COMP_WORDBREAKS == *:* && $word == *:* && $word != *'\:'* ]]; then

@@ -38,7 +38,14 @@ ln -s "$program" "$scratch/bin/aprsbook"
 for it in "${program%/*}/aprsbook-history" "${program%/*/out/*}/aprsbook_history/out/aprsbook_history"; do
     if [ -x "$it" ]; then ln -sf "$(realpath "$it")" "$scratch/bin/aprsbook-history"; fi
 done
-export PATH="$scratch/bin:$here/recipes:$PATH"
+# and those for tables and folds
+for name in table fold; do
+    for it in "${program%/*}/aprsbook-$name" "${program%/*/out/*}/aprsbook_$name/out/aprsbook_$name"; do
+        if [ -x "$it" ]; then ln -sf "$(realpath "$it")" "$scratch/bin/aprsbook-$name"; fi
+    done
+done
+tools=$(dirname "$here")/tools/bin
+export PATH="$scratch/bin:$tools:$here/recipes:$PATH"
 export RECIPES="$here/recipes" EXAMPLES="$here"
 cp "$here"/evening/*.log "$work"
 cp "$here"/evening/*.log "$work/logs/2024-06-21"
@@ -59,13 +66,20 @@ awk -v to="$scratch/blocks/" '
     open { print > file }
 ' "$here/../docs/cookbook.md"
 
+# is_there TOOL: a program, or a module of Python by the name of Debian's package
+is_there() {
+    case $1 in
+    python3-*) python3 -c "import ${1#python3-}" 2> /dev/null ;;
+    *) command -v "$1" > /dev/null ;;
+    esac
+}
 ran=0 left=0
 for block in "$scratch"/blocks/???; do
     heading=$(sed -n 1p "$block")
     read -ra tools <<< "$(sed -n 2p "$block")"
     if [ -n "$posix" ] && [ "${#tools[@]}" -gt 0 ]; then continue; fi
     missing=
-    for tool in "${tools[@]}"; do command -v "$tool" > /dev/null || missing="$missing $tool"; done
+    for tool in "${tools[@]}"; do is_there "$tool" || missing="$missing $tool"; done
     if [ -n "$missing" ]; then
         echo "left out: $heading (needs$missing)"
         left=$((left + 1))

@@ -1,9 +1,11 @@
-# awk -f coverage.awk NET.book > coverage.svg
+# aprsbook-table NET.book | awk -f coverage.awk > coverage.svg
 # A bar for each receiver: how many of the book's transmissions it heard, and how many it alone heard.
 
-$1 == "T" {
+BEGIN { FS = "\t" }
+NR == 1 { for (i = 1; i <= NF; i++) at[$i] = i; next }
+{
     total++
-    n = split($4, by, ",")
+    n = split($at["receivers"], by, ",")
     for (i = 1; i <= n; i++) {
         if (!(by[i] in heard)) names[++receivers] = by[i]
         heard[by[i]]++

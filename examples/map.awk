@@ -1,23 +1,12 @@
-# aprsbook show NET.book | awk -f map.awk > net.svg
+# aprsbook-table NET.book | awk -f map.awk > net.svg
 # A picture of the last places of stations, objects and items. Point at a mark to see the moment, who
 # heard it and the comment. With `-v within=SOUTH,WEST,NORTH,EAST` (degrees) other places are left out.
 # Longitude and latitude have one scale in the middle of the map.
 
-function degrees(fraction,   part) { split(fraction, part, "/"); return part[1] / part[2] }
 function escaped(text) {
     gsub(/&/, "\\&amp;", text)
     gsub(/</, "\\&lt;", text)
     gsub(/>/, "\\&gt;", text)
-    return text
-}
-function after_field(n,   text) {
-    text = $0
-    while (n-- > 0) sub(/^[^ ]* /, "", text)
-    return text
-}
-# What is left of a symbol and a comment without the symbol.
-function comment(text) {
-    sub(/^(\\x5c|.)(\\x5c|.):/, "", text)
     return text
 }
 function add(kind, name, moment, lat, lon, about) {
@@ -44,18 +33,33 @@ function number(text) {
     return text + 0
 }
 
-BEGIN { if (within != "") split(within, edge, ","); for (i in edge) edge[i] = number(edge[i]) }
-$1 == "station" { call = $2; count = $3 }
-$1 == "position" {
-    heard = count == 1 ? "1 transmission" : count " transmissions"
-    about = heard ", this place heard by " $3 "\n" comment(after_field(7))
-    add("station", call, $2, degrees($5), degrees($6), about)
+BEGIN {
+    FS = "\t"
+    if (within != "") split(within, edge, ",")
+    for (i in edge) edge[i] = number(edge[i])
 }
-$1 == "object" || $1 == "item" {
-    name = $2
-    gsub(/\\x20/, " ", name)
-    about = $3 " " $1 " of " $6 ", heard by " $5 "\n" comment(after_field(10))
-    add($3 == "killed" ? "killed" : $1, name, $4, degrees($8), degrees($9), about)
+NR == 1 { for (i = 1; i <= NF; i++) at[$i] = i; next }
+{ sent[$at["source"]]++ }
+$at["latitude"] != "" {
+    kind = $at["kind"] == "object" || $at["kind"] == "item" ? $at["kind"] : "station"
+    it = kind " " (kind == "station" ? $at["source"] : $at["name"])
+    heard = $at["last"] " " $at["receiver"]
+    if (it in last && heard < last[it]) next
+    if (!(it in last)) order[++things] = it
+    last[it] = heard
+    row[it] = $0
+}
+# The last place of a thing, whose row is that of the present line.
+function add_last(it,   kind, state, about) {
+    $0 = row[it]
+    kind = it ~ /^station / ? "station" : $at["kind"]
+    state = $at["state"]
+    if (kind == "station")
+        about = sent[$at["source"]] (sent[$at["source"]] == 1 ? " transmission" : " transmissions") \
+            ", this place heard by " $at["receiver"]
+    else about = state " " kind " of " $at["source"] ", heard by " $at["receiver"]
+    add(state == "killed" ? state : kind, kind == "station" ? $at["source"] : $at["name"], $at["last"],
+        number($at["latitude"]), number($at["longitude"]), about "\n" $at["text"])
 }
 
 # The picture: the map's corner is at (left, top), all in pixels.
@@ -206,6 +210,7 @@ function measure(   pad, squeeze) {
 }
 
 END {
+    for (k = 1; k <= things; k++) add_last(order[k])
     if (n == 0) {
         print "<svg xmlns='http://www.w3.org/2000/svg' width='400' height='60'>"
         print "<text x='20' y='35'>no places</text></svg>"

@@ -3,8 +3,8 @@
  * Each function does one run of the program and returns how it ended. The region is the memory
  * that the run may take, and belongs to the call: take nothing of it before or meanwhile, and give
  * none of it to another call that runs at the same time. After the call it is the caller's again.
- * A run over logs and books needs some eight times the length of its inputs, and a check or a
- * conversion as much as it writes, twice.
+ * Begin with eight times the length of the inputs and 4 MiB, and call again with twice as much at
+ * status 3 or 4.
  *
  * An input, an output or a name is a pointer and a length in bytes. No pointer is null, also where
  * the length is 0. What is written to doesn't overlap with anything else.
@@ -84,6 +84,13 @@ struct aprs_answer aprs_show(struct aprs_region region, uint64_t seconds, const 
 struct aprs_answer aprs_history(struct aprs_region region, uint64_t seconds,
     const uint8_t *inputs, size_t inputs_length, const size_t *lengths, size_t count,
     uint8_t *output, size_t output_length, uint8_t *name, size_t name_length);
+
+/* Writes a table of several logs and books, which are given as to aprs_merge: the names of its
+ * columns, and its lines, with tabs. `table` is the text that names it, such as "rows"; status 2
+ * where no table has that name. */
+struct aprs_answer aprs_table(struct aprs_region region, uint64_t seconds, const uint8_t *table,
+    size_t table_length, const uint8_t *inputs, size_t inputs_length, const size_t *lengths,
+    size_t count, uint8_t *output, size_t output_length, uint8_t *name, size_t name_length);
 
 /* Writes the book of a log or a book under another gap in seconds, no narrower than its own;
  * status 2 where it isn't 1 to 3,600. */

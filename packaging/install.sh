@@ -1,6 +1,8 @@
 #!/bin/sh
-# install.sh [PREFIX]: copies bin, lib and share, which lie beside it, into PREFIX, or /usr/local.
+# install.sh [PREFIX]: copies bin, lib and share, which lie beside it, into PREFIX, or /usr/local, where
+# all may read them.
 set -eu
+umask 022
 mkdir -p "${1:-/usr/local}"
 prefix=$(cd "${1:-/usr/local}" && pwd)
 cd "$(dirname "$0")"

@@ -1,9 +1,14 @@
+// @ts-check
 // A page that goes on: it asks for itself again, ages count to now, and it says what it misses.
 
-const alive = { asked: Date.now(), touched: 0, away: 0, refused: "" };
+import { byId, choose, chosen } from "./dom.js";
+import { drawNews, page, show, view } from "./event.js";
+import { age, fullText } from "./words.js";
+
+export const alive = { asked: Date.now(), touched: 0, away: 0, refused: "" };
 
 /** Has the page of an event ask for itself again, unless somebody is at work in it. */
-function beginAlive() {
+export function beginAlive() {
   const { live } = page.data, box = byId("live");
   byId("live-label").hidden = false;
   byId("live-label").lastElementChild.textContent = `load again each ${live} s`;
@@ -40,11 +45,11 @@ async function again() {
   tick();
 }
 /** Counts ages on, and says how long nothing came. */
-function tick() {
+export function tick() {
   if (!page.all) return;
   const now = Date.now() / 1000, quiet = now - page.all.end, words = [];
-  for (const it of document.querySelectorAll(".age[data-v]"))
-    it.textContent = age(now - it.dataset.v);
+  for (const it of /** @type {NodeListOf<HTMLElement>} */ (document.querySelectorAll(".age[data-v]")))
+    it.textContent = age(now - Number(it.dataset.v));
   for (const row of byId("things-box").querySelectorAll("tr.station"))
     row.classList.toggle("silent", now - row.querySelector(".age").dataset.v > view.silent);
   drawNews();

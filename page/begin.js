@@ -1,4 +1,11 @@
+// @ts-check
 // The page of an event begins with the data that stand in it.
+
+import { alive, beginAlive, tick } from "./alive.js";
+import { byId, choose, chosen, make, save } from "./dom.js";
+import { begin, beginClock, bring, page, refresh, show } from "./event.js";
+import { SAVES, savedText } from "./exports.js";
+import { age, count, fullText, printable } from "./words.js";
 
 begin();
 if (byId("data").textContent.trim())
@@ -6,6 +13,7 @@ if (byId("data").textContent.trim())
     beginClock();
     if (page.data.live) beginAlive();
   });
-// for the script that reads logs, and for tests
-globalThis.aprsbook = Object.freeze({ page, show, refresh, bring, make, byId, save, count, choose,
-  chosen, tick, SAVES, alive, readListing });
+/** For the script that reads logs, and for tests. */
+export const shared = Object.freeze({ page, show, refresh, bring, make, byId, save, count, choose,
+  chosen, tick, SAVES, savedText, alive, printable, fullText, age });
+globalThis.aprsbook = shared;

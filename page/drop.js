@@ -1,128 +1,27 @@
+// @ts-check
 // The page that reads logs: what is dropped on it goes through the module, and nothing leaves it.
 
-const { page, show, bring, make, byId, save, count, readListing } = globalThis.aprsbook;
+import { age, bring, byId, count, make, page, printable, save, show } from "./drawn.js";
+import { filesOf } from "./folders.js";
+import {
+  asText, fileOf, leaveOut, lineText, look, placeOf, shifts, take,
+} from "./intake.js";
+import { REASONS } from "./kinds.js";
+import { movedIn } from "./shift.js";
+import { squareOf } from "./tiles.js";
+import { aMoment, beginWorkers, run } from "./workers.js";
+
+/** @typedef {import("./intake.js").Given} Given */
 const parts = JSON.parse(byId("parts").textContent);
-const files = [];
-let made = null, turn = 0, last = 0, began = 0;
+/** @type {Given[]} */
+export const files = [];
+/** The texts of the files as they stand, once they are made. */
+let made = null;
+export const madeNow = () => made;
+let turn = 0, began = 0;
 
-// ---- workers, each with the module: a run is given to one that is free
-
-const workers = [], waiting = new Map(), queue = [];
-/** So many bytes are copied without a pause. */
-const PIECE = 2 ** 23;
-const aMoment = () => new Promise(done => setTimeout(done));
-function addWorker() {
-  const url = URL.createObjectURL(new Blob([parts.worker], { type: "text/javascript" }));
-  const worker = { it: new Worker(url), busy: 1 };
-  worker.it.onmessage = ({ data: [id, value, fault] }) => {
-    const [done, fail] = waiting.get(id);
-    waiting.delete(id);
-    worker.busy--;
-    if (fault) fail(new Error(fault));
-    else done(value);
-    queue.shift()?.();
-  };
-  worker.it.onerror = event => say(`a worker stopped: ${event.message}`, true);
-  workers.push(worker);
-  return worker;
-}
-/** Asks a worker, which is busy already. */
-function ask(worker, what, given, buffers = []) {
-  return new Promise((done, fail) => {
-    waiting.set(++last, [done, fail]);
-    worker.it.postMessage([last, what, given], buffers);
-  });
-}
-/** Copies, with a pause after some of them, so that the page doesn't stand still for large ones. */
-async function copiesOf(inputs) {
-  const copies = inputs.map(it => new Uint8Array(it.length));
-  let left = PIECE;
-  for (const [k, it] of inputs.entries())
-    for (let at = 0; at < it.length; at += PIECE) {
-      if (left <= 0) {
-        await aMoment();
-        left = PIECE;
-      }
-      const part = it.subarray(at, at + PIECE);
-      copies[k].set(part, at);
-      left -= part.length;
-    }
-  return copies;
-}
-/** A run of the module over inputs; with `read`, of a history, as a text and its columns. */
-async function run(command, options, inputs, read = false) {
-  let free;
-  while (!(free = workers.find(it => !it.busy))) await new Promise(done => queue.push(done));
-  free.busy++;
-  // a copy that is handed over takes less time than what a browser copies itself
-  const copies = await copiesOf(inputs), buffers = copies.map(it => it.buffer);
-  return ask(free, "run", { command, options, inputs: copies, read }, buffers);
-}
-
-// ---- files
-
-const asText = bytes => new TextDecoder("latin1").decode(bytes);
-const EMPTY_BOOK = "is empty, which no book is";
-const NO_CAPTURE = "the receiver isn't written as RX1, or the moment as 2024-06-21T18:00:00Z";
-/** A fault of an input, as the program says it. */
-const place = got =>
-  (/^[A-Z]/.test(got.fault) ? `line ${got.line}: ` : "") + (got.fault || "out of memory");
-
-/** What a file is, by its name and by how it begins, after a mark of UTF-8, as Windows has it. */
-function kindOf(bytes, name) {
-  const begin = asText(bytes.subarray(0, 2000)).replace(/^\xef\xbb\xbf/, "");
-  if (begin.startsWith("APRSBOOK") || !begin && /\.book$/i.test(name)) return "book";
-  if (bytes[0] === 0xc0 || /\.kiss$/i.test(name)) return "KISS stream";
-  if (/^\s*(\{|<([^]*<)?([\w-]+:)?gpx[\s>])/.test(begin)) return "map";
-  if (!/^\d{4}-\d\d-\d\dT/.test(begin) && /\.(txt|csv)$/i.test(name) &&
-    /^\s*[A-Za-z0-9]{1,6}(-\d{1,2})?([\s,;]|$)/.test(begin)) return "roster";
-  return "log";
-}
-async function bytesOf(file) {
-  const bytes = new Uint8Array(await file.arrayBuffer());
-  if (bytes[0] !== 0x1f || bytes[1] !== 0x8b) return bytes;
-  const stream = new Blob([bytes]).stream().pipeThrough(new DecompressionStream("gzip"));
-  try {
-    return new Uint8Array(await new Response(stream).arrayBuffer());
-  } catch {
-    throw new Error("gzip can't unpack it");
-  }
-}
 /** What stands in the field for a gap or for silence; where it is no such number, 30. */
-const numberIn = id => byId(id).validity.valid ? +byId(id).value : 30;
-/** Reads a file as what it is, and keeps what the program says of it. */
-async function look(file) {
-  Object.assign(file, { fault: file.unread || "", said: "", passed: [], taken: null });
-  try {
-    if (!file.unread) await lookInto(file);
-  } catch (fault) {
-    file.fault = fault.message;
-  }
-}
-async function lookInto(file) {
-  let { bytes } = file;
-  const refuse = got => { file.fault = place(got); };
-  if (file.kind === "book" && !bytes.length) return refuse({ fault: EMPTY_BOOK });
-  if (file.kind === "KISS stream") {
-    if (!file.moment) return refuse({ fault: "give the receiver's name and the moment" });
-    const got = await run("convert capture", [file.receiver, file.moment], [bytes]);
-    if (got.status === 2) return refuse({ fault: NO_CAPTURE });
-    if (got.status) return refuse(got);
-    bytes = got.bytes;
-  }
-  if (file.kind === "book") {
-    const got = await run("merge", numberIn("gap"), [bytes]);
-    if (got.status) return refuse(got);
-    const rows = asText(got.bytes.subarray(-20)).match(/END (\d+)\n$/)[1];
-    file.said = count(+rows, "transmission");
-  } else {
-    const got = await run("check", 30, [bytes]), lines = asText(got.bytes).trimEnd().split("\n");
-    if (!got.status) file.said = lines.pop();
-    file.passed = lines.filter(Boolean);
-    if (got.status) return refuse(got);
-  }
-  file.taken = bytes;
-}
+export const numberIn = id => byId(id).validity.valid ? +byId(id).value : 30;
 
 // ---- what the page says
 
@@ -148,7 +47,7 @@ function takeAway(file) {
 function fieldsOf(file) {
   const field = (key, of) => make("input", { value: file[key], ...of, async onchange(event) {
     file[key] = event.target.value;
-    await look(file);
+    await look(file, numberIn("gap"));
     work();
   } });
   return make("p", {},
@@ -157,31 +56,66 @@ function fieldsOf(file) {
       field("moment", { size: 24, placeholder: "2024-06-21T18:00:00Z" })));
 }
 function fileRow(file) {
+  const name = printable(file.name);
   const away = make("button", { type: "button", textContent: "take away",
-    aria: { "aria-label": `take ${file.name} away` }, onclick: () => takeAway(file) });
-  return make("tr", {}, make("th", { scope: "row", textContent: file.name }), make("td"),
+    aria: { "aria-label": `take ${name} away` }, onclick: () => takeAway(file) });
+  return make("tr", {}, make("th", { scope: "row", textContent: name }), make("td"),
     make("td", { className: "num" }),
-    make("td", {}, make("span"), file.kind === "KISS stream" ? fieldsOf(file) : null),
-    make("td", {}, away));
+    make("td", {}, make("span", { className: "verdict" }), make("span", { className: "more" }),
+      file.kind === "KISS stream" ? fieldsOf(file) : null), make("td", {}, away));
 }
-function passedOf(file) {
-  const most = file.passed.slice(0, 50).map(it => make("li", { textContent: it }));
-  const words = `${count(file.passed.length, "line")} passed over`;
-  return make("details", { aria: { "aria-label": "lines passed over" } },
-    make("summary", { textContent: words }), make("ul", {}, ...most));
+/** So many lines are shown at most. */
+const SHOWN = 50;
+function linesOf(words, lines, ...more) {
+  return make("details", { aria: { "aria-label": words } }, make("summary", { textContent: words }),
+    make("ul", {}, ...lines.slice(0, SHOWN).map(it => make("li", { textContent: printable(it) }))),
+    lines.length > SHOWN ? make("p", { textContent: `and ${lines.length - SHOWN} more` }) : null,
+    ...more);
+}
+async function leaveOutOf(file) {
+  leaveOut(file);
+  await look(file, numberIn("gap"));
+  work();
+}
+/** What else is said of a file: how it is spelled, lines that are passed over, refused, left out. */
+function moreOf(file) {
+  const { damage, leftOut, passed, spelling } = file, more = [];
+  if (file.away) more.push(make("p", { className: "warn", textContent: file.away }));
+  if (spelling.length)
+    more.push(make("p", { textContent: `as Windows writes it: ${spelling.join(", ")}` }));
+  if (REASONS[file.reason])
+    more.push(make("p", { textContent: REASONS[file.reason] }));
+  if (damage.length) {
+    const words = `leave out ${damage.length === 1 ? "this line" : `these ${damage.length} lines`}`;
+    const lines = linesOf(count(damage.length, "damaged line"),
+      damage.map(it => `line ${it.line}: ${it.why}: ${lineText(file, it)}`));
+    lines.open = damage.length <= 10;
+    more.push(lines, make("button", { type: "button", className: "leave", textContent: words,
+      onclick: () => leaveOutOf(file) }));
+  }
+  if (leftOut.length) more.push(linesOf(`${count(leftOut.length, "line")} left out`, leftOut));
+  const moved = file.taken && file.kind !== "book" ? movedIn(file.taken, shifts) : [];
+  if (moved.length) more.push(make("p", {
+    textContent: moved.map(it => shiftText(it, shifts.get(it))).join("; ") }),
+  make("button", { type: "button", className: "moved", textContent: "save it so", onclick() {
+    save(file.name.replace(/(\.[a-z]+)?$/i, ".put-right$&"), file.taken, "text/plain");
+  } }));
+  if (passed.length) more.push(linesOf(`${count(passed.length, "line")} passed over`, passed));
+  return more;
 }
 /** The row of a file as it is now. It is one node all the time, so that the focus stays in it. */
 function rowOf(file) {
   const row = file.row ||= fileRow(file), [, kind, size, told] = row.cells;
   kind.textContent = file.kind;
   size.textContent = file.unread ? "" : file.bytes.length.toLocaleString("en");
-  told.firstChild.className = file.fault ? "bad" : "good";
-  told.firstChild.textContent = file.fault || file.said;
-  const before = told.querySelector("details");
-  if (before?.passed === file.passed) return row;
-  before?.remove();
-  if (file.passed.length)
-    told.firstChild.after(Object.assign(passedOf(file), { passed: file.passed }));
+  const [verdict, more] = told.children;
+  verdict.className = `verdict ${file.fault ? "bad" : "good"}`;
+  verdict.textContent = file.fault || file.said;
+  const state = [file.away, file.reason, file.damage.length, file.leftOut.length, file.passed.length,
+    file.spelling, [...shifts].join()].join();
+  if (more.dataset.state === state) return row;
+  more.dataset.state = state;
+  more.replaceChildren(...moreOf(file));
   return row;
 }
 function list() {
@@ -198,31 +132,38 @@ function list() {
 
 const optionsOf = () => ({ title: byId("name").value || "APRS net", gap: numberIn("gap"),
   live: 0, silent: numberIn("silent"), maps: [], roster: "",
-  notes: files.filter(it => it.fault && !it.taken)
-    .map(it => `${it.name} was left out: ${it.fault}`) });
+  notes: [...files.flatMap(notesOf), ...[...shifts].map(([name, by]) => shiftText(name, by))] });
+/** What is said of a clock that is put right. */
+const shiftText = (name, by) =>
+  `the clock of ${name} was put ${age(Math.abs(by))} ${by < 0 ? "back" : "forward"} here`;
+/** What a page has to say of a file: that it isn't in it, or not all of it. */
+function notesOf({ name, fault, taken, leftOut }) {
+  const own = printable(name);
+  if (fault && !taken) return [`${own} was left out: ${fault}`];
+  return leftOut.length ? [`${own}: ${count(leftOut.length, "damaged line")} left out`] : [];
+}
 
 // runs that began before their files were checked: the files, the gap, and what comes of each run
 let early = null;
-/** Of so many bytes at most, the history is made of the files themselves. */
+/** Of so many bytes at most, the table is made of the files themselves. */
 const EARLY_BYTES = 2 ** 26;
 /**
- * Begins with files that aren't checked yet. Files have the same history as their book, so it need
+ * Begins with files that aren't checked yet. Files have the same table as their book, so it need
  * not wait for the book; but two runs then hold all files at once, so only where they are small.
  */
 function beginEarly(all) {
   const gap = numberIn("gap"), inputs = all.map(it => it.taken || it.bytes), got = {};
   const size = inputs.reduce((sum, it) => sum + it.length, 0);
-  const begin = (command, given) =>
-    run(command, gap, given, command === "history").catch(() => null);
+  const begin = (command, given) => run(command, gap, given).catch(() => null);
   const ofBook = command =>
     got.merge.then(book => book?.status === 0 ? begin(command, [book.bytes]) : null);
-  if (size <= EARLY_BYTES) got.history = begin("history", inputs);
+  if (size <= EARLY_BYTES) got.rows = begin("rows", inputs);
   got.merge = begin("merge", inputs);
-  got.history ||= ofBook("history");
-  got.show = ofBook("show");
+  got.rows ||= ofBook("rows");
+  got.messages = ofBook("messages");
   early = { all, gap, got };
 }
-/** Book, history and listing of these files, also where they began early and well. */
+/** Book and tables of these files, also where they began early and well. */
 async function textsOf(good, gap, tellShare) {
   const isIt = early?.gap === gap && early.all.length === good.length &&
     early.all.every(it => good.includes(it));
@@ -230,90 +171,99 @@ async function textsOf(good, gap, tellShare) {
   early = null;
   const answerOf = async (command, inputs) => {
     let got = await begun[command];
-    if (got?.status !== 0) got = await run(command, gap, inputs, command === "history");
+    if (got?.status !== 0) got = await run(command, gap, inputs);
     if (got.status)
-      throw Object.assign(new Error(place(got)), { at: got.status === 1 ? got.input : -1 });
+      throw Object.assign(new Error(placeOf(got)), { at: got.status === 1 ? got.input : -1 });
     return got;
   };
   const book = (await answerOf("merge", good.map(it => it.taken))).bytes;
   tellShare(0.6);
-  const shown = answerOf("show", [book]).then(({ bytes }) => {
-    const listing = asText(bytes);
-    return { listing, told: readListing(listing) };
-  });
-  const [history, listing] = await Promise.all([answerOf("history", [book]), shown]);
-  return { book, history: history.text, read: history.read, ...listing };
+  const [rows, messages] =
+    await Promise.all([answerOf("rows", [book]), answerOf("messages", [book])]);
+  return { book, rows: rows.text, read: rows.read, messages: messages.text };
 }
 /** Draws these texts, with the options as they stand. */
-const draw = ({ history, listing, read, told }) =>
-  show({ ...optionsOf(), history, listing }, read, told);
-async function work() {
+const draw = ({ rows, messages, read }) => show({ ...optionsOf(), rows, messages }, read);
+export async function work() {
   list();
   const good = files.filter(it => it.taken), mine = ++turn, begin = began || performance.now();
   began = 0;
-  byId("book").disabled = byId("event").disabled = true;
+  enableSaves(false);
   made = null;
   tellProgress(1);
   if (!byId("gap").validity.valid)
     return say("the gap has to be a whole number of seconds, from 1 to 3600", true);
   if (!good.length) {
-    show({ ...optionsOf(), notes: [], history: "", listing: "", waits: true });
+    show({ ...optionsOf(), notes: [], rows: "", messages: "", waits: true });
     return say(files.length ? "no file can be read" : "", true);
   }
   const words = `merging ${count(good.length, "file")}`;
   tellProgress(0.3, words);
   try {
-    const texts = await textsOf(good, numberIn("gap"), share => tellProgress(share, words));
+    const texts = await textsOf(good, numberIn("gap"),
+      share => mine === turn && tellProgress(share, words));
     if (mine !== turn) return; // other files came
     tellProgress(0.9, "drawing");
     await aMoment();
     await draw(texts);
     if (mine !== turn) return;
     made = texts;
-    byId("book").disabled = byId("event").disabled = false;
+    enableSaves(true);
     tellProgress(1);
     say(`${count(page.all.rows.length, "transmission")} of ${count(good.length, "file")}, ` +
       `in ${((performance.now() - begin) / 1000).toFixed(1)} s`);
   } catch (fault) {
     if (mine !== turn) return;
     tellProgress(1);
-    say((good[fault.at] ? good[fault.at].name + ": " : "") + fault.message, true);
+    say((good[fault.at] ? printable(good[fault.at].name) + ": " : "") + fault.message, true);
   }
 }
-/** A row of the table of files, with what else a kind of file has. */
-const fileOf = (name, kind, bytes, of = {}) =>
-  ({ name, kind, bytes, receiver: "RX1", moment: "", passed: [], said: "", fault: "", ...of });
-/** Reads a dropped file; a map or a roster goes to the page at once. */
-async function take(it, isFolder) {
-  const unread = why => fileOf(it.name, isFolder ? "folder" : "file", new Uint8Array(),
-    { unread: why });
-  if (isFolder) return unread("drop the files in it");
-  try {
-    const bytes = await bytesOf(it), kind = kindOf(bytes, it.name);
-    if (kind !== "map" && kind !== "roster") return fileOf(it.name, kind, bytes);
-    bring(it.name, new TextDecoder().decode(bytes));
-    return null;
-  } catch (fault) {
-    return unread(`can't be read: ${fault.message}`);
-  }
+/** Takes a picture of a square of the reader's own map; says whether it is one. */
+function takeSquare(file) {
+  const square = squareOf(file.way || file.webkitRelativePath || ""), { map } = page;
+  if (!square) return false;
+  map.tiles.take(square, file);
+  byId("own-map").textContent = `Own map: ${count(map.tiles.size, "square")}.`;
+  map.paintSoon();
+  return true;
 }
+const UNREAD = "drop the files in it, or choose it as a folder";
 /** Takes files: each is checked while the runs over all of them go on. */
-async function add(dropped, areFolders = []) {
+export async function add(dropped) {
   began = performance.now();
   tellProgress(0, "reading");
-  const taken = await Promise.all([...dropped].map((it, k) => take(it, areFolders[k])));
+  const others = [...dropped].filter(it => !it.isFolder && !takeSquare(it));
+  const folders = [...dropped].filter(it => it.isFolder && !files.some(one => one.name === it.name));
+  files.push(...folders.map(it => fileOf(it.name, "folder", new Uint8Array(),
+    { unread: UNREAD, fault: UNREAD })));
+  const taken = await Promise.all(others.map(it => take(it, bring)));
   const read = taken.filter(Boolean);
   const whole = [...files.filter(it => it.taken), ...read.filter(it => !it.unread)];
   if (read.length && whole.every(it => it.kind !== "KISS stream")) beginEarly(whole);
   let done = 0;
   await Promise.all(read.map(async file => {
-    await look(file);
+    await look(file, numberIn("gap"));
     files.push(file);
     tellProgress(0.3 * ++done / read.length, "reading");
   }));
   files.sort((a, b) => a.name < b.name ? -1 : a.name > b.name ? 1 : 0);
   await work();
 }
+
+/** Puts the clock of a receiver right, or as it was; all logs are read anew. */
+async function shiftClock(name, by) {
+  if (by) shifts.set(name, (shifts.get(name) || 0) + by);
+  else shifts.delete(name);
+  for (const it of files) if (!it.unread && it.kind !== "book") await look(it, numberIn("gap"));
+  work();
+}
+/** The clocks that can be put right: of receivers that a log has. */
+const clockOf = {
+  shifted: name => shifts.get(name) || 0,
+  can: name => files.some(it => it.taken && it.kind !== "book" &&
+    movedIn(it.taken, new Map([[name, 0]])).length),
+  put: shiftClock,
+};
 
 // ---- saves
 
@@ -323,7 +273,7 @@ const asHtml = text => text.replace(/[&<>"']/g, it =>
   ({ "&": "&amp;", "<": "&lt;", ">": "&gt;", '"': "&quot;", "'": "&#x27;" })[it]);
 
 /** The page of the event, the same that event-page makes of these files. */
-function eventPage() {
+export function eventPage() {
   const { digests } = parts, { waits, ...data } = page.data;
   for (const it of page.brought.filter(one => !one.fault)) {
     if (it.base) data.maps = [...data.maps, it.text];
@@ -332,55 +282,67 @@ function eventPage() {
   const values = { TITLE: asHtml(data.title), STYLE: document.querySelector("style").textContent,
     POLICY: `default-src 'none'; script-src ${digests.draws}; style-src ${digests.style}; ` +
       "base-uri 'none'; form-action 'none'",
-    FILES: "", FOOTER: "Made by event-page from a book of aprsbook.", DATA: asData(data),
+    FILES: "", COAST: byId("coast").textContent, FOOTER: "Made by event-page from a book of aprsbook.", DATA: asData(data),
     SCRIPTS: `<script>${byId("draws").textContent}<\/script>` };
   return parts.shell.replace(/@([A-Z]+)@/g, (_, name) => values[name]);
+}
+/** The saves that are there once there is a book. */
+const OWN = ["book", "event", "listing", "history"];
+const enableSaves = can => OWN.forEach(id => { byId(id).disabled = !can; });
+/** Saves what a run of the book gives. */
+async function saveRun(command, name) {
+  const got = await run(command, numberIn("gap"), [made.book]);
+  if (got.status) say(placeOf(got), true);
+  else save(name, got.bytes, "text/plain");
 }
 function drawOwnSaves() {
   const put = (id, name, run) => byId("saves").lastElementChild.prepend(
     make("button", { type: "button", id, textContent: name, disabled: true, onclick: run }));
   put("event", "page of the event (HTML)", () => save("event.html", eventPage(), "text/html"));
+  put("listing", "listing (text)", () => saveRun("show", "net.txt"));
+  put("history", "history (text)", () => saveRun("history", "history.txt"));
   put("book", "book", () => save("net.book", made.book, "application/octet-stream"));
 }
 
 // ---- begin
 
 function listen() {
-  byId("choose").onchange = ({ target }) => {
-    add(target.files);
+  byId("choose").onchange = byId("choose-folder").onchange = ({ target }) => {
+    add([...target.files].filter(it => !it.name.startsWith(".")));
     target.value = ""; // so that the same file can be chosen again
   };
   byId("gap").onchange = async () => {
-    if (byId("gap").validity.valid) for (const it of files) await look(it);
+    if (byId("gap").validity.valid) for (const it of files) await look(it, numberIn("gap"));
     work();
   };
   byId("name").onchange = byId("silent").onchange = () => made && draw(made);
   for (const kind of ["dragover", "dragleave", "drop"])
     addEventListener(kind, event => {
-      const { dataTransfer, target } = event;
+      const { dataTransfer, target } = /** @type {any} */ (event);
       const hasFiles = Boolean(dataTransfer?.types.includes("Files"));
       if (!hasFiles && target.matches?.("input")) return; // a text may be dropped into a field
       event.preventDefault();
       byId("drop").classList.toggle("over", hasFiles && kind === "dragover");
-      if (hasFiles && kind === "drop") add(dataTransfer.files, [...dataTransfer.items]
-        .filter(it => it.kind === "file").map(it => it.webkitGetAsEntry()?.isDirectory));
+      if (hasFiles && kind === "drop") filesOf(dataTransfer).then(add);
     });
 }
-async function beginReading() {
+/** Makes workers, and says whether this browser can. */
+export async function beginReading() {
   drawOwnSaves();
-  show({ ...optionsOf(), title: "aprsbook", history: "", listing: "", waits: true });
+  page.clockOf = clockOf;
+  show({ ...optionsOf(), title: "aprsbook", rows: "", messages: "", waits: true });
   try {
     const bytes = Uint8Array.from(atob(parts.module), it => it.charCodeAt(0));
     // compiled once, for all workers
     const module = await WebAssembly.compile(bytes);
-    const many = Math.max(2, Math.min(3, navigator.hardwareConcurrency || 2));
-    await Promise.all(Array.from({ length: many }, () => ask(addWorker(), "load", module)));
+    await beginWorkers(parts.worker, module, fault => say(`a worker stopped: ${fault}`, true));
   } catch (fault) {
-    return say(`This browser can't run the page (${fault.message}): it takes Chromium or Edge ` +
+    say(`This browser can't run the page (${fault.message}): it takes Chromium or Edge ` +
       "133, Firefox 134, or newer.", true);
+    return false;
   }
   listen();
   byId("choose").disabled = false;
   say("");
-  beginFollowing();
+  return true;
 }

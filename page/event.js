@@ -1,45 +1,73 @@
+// @ts-check
 // The page: what it has of the net, what the reader chose, and what is drawn of both.
 
-const page = { data: null, all: null, net: null, map: null, lists: {}, bases: [], roster: [],
-  found: [], brought: [], until: Infinity, playing: null, typing: 0, finder: new Map(),
-  next: null, turn: null, drawn: null };
-/** Of a history of so many letters at most, some 10,000 rows, all is drawn in one step. */
+import { wordsOf } from "./details.js";
+import { air, byId, choose, chosen, make, momentOf, save } from "./dom.js";
+import { gathered, SAVES } from "./exports.js";
+import { detailLines } from "./facts.js";
+import { bearing, distance, locatorOf, minutesText } from "./globe.js";
+import { tablesOf } from "./history.js";
+import { cell, List, timeCell } from "./lists.js";
+import { NetMap } from "./map.js";
+import { bulletinList, fillForm, inOrder, messageList } from "./messages.js";
+import { hearings, netOf, rank } from "./net.js";
+import { needsOf, newsOf } from "./news.js";
+import { readBase } from "./overlays.js";
+import { columnsOf, readMessages, Rows } from "./reading.js";
+import { expectedOf, joined, know, readRoster, who } from "./roster.js";
+import { Alarm } from "./sound.js";
+import { atOnce, inSlices, later, once, runAllWaiting } from "./steps.js";
+import { markOf, symbolOf } from "./symbols.js";
+import {
+  haystack, NO_FIX, pairList, receiverList, rosterList, shareText, thingList, whereOf,
+} from "./tables.js";
+import { timelineList } from "./timeline.js";
+import {
+  clocks, count, dateText, far, printable, secondText, timeText, zoneText,
+} from "./words.js";
+
+export const page = { data: null, all: null, net: null, map: null, lists: {}, bases: [],
+  roster: { list: [], faults: [] }, found: [], brought: [], until: Infinity, playing: null,
+  typing: 0, finder: new Map(), next: null, turn: null, drawn: null, alarm: new Alarm(),
+  clockOf: null };
+/** Of rows of so many letters at most, some 10,000, all is drawn in one step. */
 const SMALL = 2 ** 20;
 
 /** The moment to which ages count: now where the page goes on, or else the last of the inputs. */
 const presentOf = ({ data, all } = page) =>
   data.live || page.follows ? Date.now() / 1000 : all.end;
-const view = {
+export const view = {
   get now() { return presentOf(); },
   get silent() { return page.data.silent * 60; },
   get gap() { return page.data.gap; },
+  get picked() { return page.picked; },
+  get clockOf() { return page.clockOf; },
   isSilent: it => it.kind === "station" && presentOf() - it.last > page.data.silent * 60,
   onPick: key => pick(key),
 };
 
 /**
  * Draws the page of these texts and options, and shows what it did before until all is read. What
- * the reader chose stays. `read` are the columns of the history, and `listing` what was read of the
- * listing, where they are made already.
+ * the reader chose stays. `read` are the columns of the rows, where they are made already.
  */
-function show(data, read = null, listing = readListing(data.listing)) {
-  page.next = { data, read, listing, all: null };
+export function show(data, read = null) {
+  const tables = data.rows === undefined ? tablesOf(data.history, data.listing) : {};
+  page.next = { data: { ...data, ...tables }, read, all: null };
   return refresh();
 }
 /** Draws all anew, for the part of the time that is shown. What is given up ends with the next. */
-function refresh() {
+export function refresh() {
   return page.drawn = draw(page.turn = {});
 }
 async function draw(turn) {
   const steps = drawing(page.next);
-  if (page.next.data.history.length <= SMALL) return atOnce(steps);
+  if (page.next.data.rows.length <= SMALL) return atOnce(steps);
   await inSlices(steps, () => page.turn === turn);
   return page.turn === turn ? undefined : page.drawn;
 }
 /** Reads base maps and the roster, those of the page and those that the reader brought. */
 function readBrought() {
   page.bases = [];
-  page.roster = readRoster(page.data.roster);
   for (const text of page.data.maps) {
     try {
       page.bases.push(readBase(text));
@@ -47,24 +75,28 @@ function readBrought() {
       tell(`a map: ${fault.message}`, true);
     }
   }
+  const rosters = [readRoster(page.data.roster)];
   for (const it of page.brought) {
     if (it.base) page.bases.push(it.base);
-    else page.roster.push(...it.roster);
+    else if (it.roster) rosters.push(it.roster);
   }
+  page.roster = { list: joined(rosters), faults: rosters[0].faults };
+  know(page.roster.list);
   page.map.bases = page.bases;
 }
 /** What is read of the next texts. */
-function* allOf({ data, read, listing }) {
-  const rows = new Rows(data.history, read || (yield* columnsOf(data.history)));
-  listing.messages.forEach(judge);
-  return { rows, listing, end: rows.until };
+function* allOf({ data, read }) {
+  const rows = new Rows(data.rows, read || (yield* columnsOf(data.rows)));
+  const messages = readMessages(data.messages);
+  messages.forEach(rank);
+  return { rows, messages, end: rows.until };
 }
 /** The steps of a drawing. */
 function* drawing(next) {
   next.all ||= yield* allOf(next);
   const hours = +byId("since").value;
   const since = hours ? presentOf(next) - hours * 3600 : -Infinity;
-  const net = yield* netOf(next.all, since);
+  const net = yield* netOf(next.all, since, next.data.gap);
   turnTo(next, net);
   drawAbout();
   drawNews();
@@ -83,6 +115,7 @@ function turnTo({ data, all }, net) {
   clocks.local = byId("local").checked;
   clocks.dated = net.rows.length > 0 && dateText(net.begin) !== dateText(net.end);
   if (fresh) readBrought();
+  for (const it of net.things) if (it.kind === "station" && it.name) it.label = who(it.name);
   page.map.take(net.placed);
   page.map.picked = net.things.some(it => it.key === page.picked) ? page.picked : null;
   page.finder.clear();
@@ -105,44 +138,31 @@ function drawAbout() {
       `${count(stations, "station")} \u00b7 heard by ${by}`;
   }
 }
-/** What wants doing: where it stands, how bad it is, and in words. */
-function newsOf(net, data) {
-  const of = state => net.messages.filter(it => it.state === state).length;
-  const unanswered = of("unanswered"), open = of("not judged"), { roster } = page;
-  const silent = net.things.filter(view.isSilent).length;
-  const missing = rosterOf(roster, net).filter(it => presentOf() - it.last > view.silent).length;
-  const news = [];
-  news.push(["#said", unanswered ? "bad" : "good", `${count(unanswered, "message")} unanswered`]);
-  if (open) news.push(["#said", "warn", `${count(open, "message")} can\u2019t be judged`]);
-  news.push(["#list", silent ? "warn" : "good",
-    `${count(silent, "station")} silent for over ${data.silent} min`]);
-  if (roster.length) news.push(["#roster", missing ? "bad" : "good",
-    `${missing} of ${roster.length} expected not heard`]);
-  for (const it of net.receivers) {
-    const clock = clockWords(it, data.gap);
-    if (clock.wrong)
-      news.push(["#ears", "bad", `the clock of ${it.name} is ${clock.text} from the others`]);
-  }
-  return news;
-}
-function drawNews() {
-  const news = page.net.rows.length ? newsOf(page.net, page.data) : [];
-  const nodes = news.map(([href, className, textContent]) =>
-    make("a", { href, className, textContent }));
-  for (const text of page.data.notes)
+/** What wants doing, as links; what says the same stays, and keeps the focus. */
+export function drawNews() {
+  const { net, data, alarm } = page, some = net.rows.length > 0;
+  const expected = expectedOf(page.roster.list, net.things);
+  const missing = expected.filter(it => presentOf() - it.last > view.silent).length;
+  const news = some ? newsOf(net, { gap: data.gap, silent: data.silent, isSilent: view.isSilent,
+    missing, expected: expected.length }) : [];
+  const nodes = news.map(({ href, grade, text, pick: key }) => make("a", { href, className: grade,
+    textContent: text, data: key ? { key } : {} }));
+  const faults = page.roster.faults.map(it => `roster, line ${it.line}: ${it.why}`);
+  for (const text of [...data.notes, ...faults])
     nodes.push(make("span", { className: "bad", textContent: text }));
-  // what says the same stays, and keeps the focus
   const words = list => list.map(it => it.className + it.textContent).join("\n");
   if (words(nodes) !== words([...byId("news").children]))
     byId("news").replaceChildren(...nodes.flatMap(it => [it, " "]));
+  alarm.hear(needsOf(net.things).filter(it => it.grade === "alarm" || it.grade === "bad")
+    .map(it => it.text));
 }
 function drawLists() {
   const { net, lists, all } = page;
   lists.messages.show([...net.messages].sort(inOrder));
   byId("bulletins-head").hidden = byId("bulletins-box").hidden = !net.bulletins.length;
   lists.bulletins.show([...net.bulletins].sort((a, b) => b.last - a.last));
-  byId("roster").hidden = !page.roster.length;
-  lists.roster.show(rosterOf(page.roster, net));
+  byId("roster").hidden = !page.roster.list.length;
+  lists.roster.show(expectedOf(page.roster.list, net.things));
   later("receivers", once(() => lists.receivers.show(net.receivers)));
   later("pairs", drawPairs(all.rows, net));
   later("find", madeHays(net));
@@ -191,8 +211,11 @@ function sift() {
   page.typing = setTimeout(() => choose("find", byId("find").value), 300);
 }
 
-/** Picks a thing, or, where it is picked already, nothing. */
-function pick(key) {
+/**
+ * Picks a thing, or, where it is picked already, nothing. Where it wasn't picked on the map, the map
+ * comes into view; its row in the table is marked.
+ */
+function pick(key, onMap = false) {
   page.from = page.picked && page.picked !== key ? page.picked : page.from;
   page.picked = page.picked === key ? null : key;
   if (!page.picked) page.from = null;
@@ -201,6 +224,8 @@ function pick(key) {
   const thing = page.net.things.find(it => it.key === page.picked);
   if (thing?.now) page.map.reach(thing.now.vector);
   drawOne();
+  page.lists.things.mark(page.picked, onMap);
+  if (thing?.now && !onMap) byId("map").scrollIntoView({ block: "nearest" });
   page.map.paintSoon();
 }
 /** What is known of the thing that is picked. */
@@ -218,6 +243,7 @@ function factsOf(thing) {
   const { now } = thing, facts = [];
   facts.push(["last heard", momentOf(thing.last), ` by ${thing.by.join(", ")}`],
     ["sent", String(thing.sent)]);
+  if (thing.unfixed) facts.push(["0, 0", NO_FIX]);
   if (now) {
     const word = symbolOf(now).word, words = wordsOf(now);
     if (word) facts.push(["symbol", word]);
@@ -225,9 +251,10 @@ function factsOf(thing) {
       ["", minutesText(now.north, now.east)], ["locator", locatorOf(now.north, now.east)]);
     if (words.length) facts.push(["says", words.join(", ")]);
     if (now.comment) facts.push(["comment", air(now.comment)]);
-    if (thing.kind !== "station") facts.push(["put by", now.source]);
+    if (thing.kind !== "station") facts.push(["put by", who(now.source)]);
   }
   if (thing.status) facts.push(["status", air(thing.status)]);
+  facts.push(...detailLines(thing, page.net.rows));
   const from = page.net.things.find(it => it.key === page.from);
   if (now && from?.now && from !== thing) {
     const way = bearing(from.now.vector, now.vector);
@@ -255,6 +282,7 @@ function turnClock() {
   const moment = net.begin + (net.end - net.begin) * clock.value / clock.max;
   page.map.until = all ? Infinity : moment;
   byId("then").textContent = net.rows.length ? timeText(moment) : "";
+  clock.setAttribute("aria-valuetext", byId("then").textContent);
   page.map.paintSoon();
   return all || !net.rows.length ? "" : Math.round(moment);
 }
@@ -280,21 +308,26 @@ function play() {
 // ---- what the reader brings and takes away
 
 /** Takes a base map or a roster, in place of one of its name; says so where it is none. */
-function bring(name, text) {
-  const it = { name, text, base: null, roster: [], fault: "" };
+export function bring(name, text) {
+  const it = { name, text, base: null, roster: null, fault: "" };
   try {
     if (/^\s*[<{[]/.test(text)) it.base = readBase(text);
     else it.roster = readRoster(text);
-    if (!it.base && !it.roster.length) throw new Error("no map and no list of calls");
+    if (it.roster && !it.roster.list.length) throw new Error("no map and no list of calls");
   } catch (fault) {
-    it.fault = fault.message;
+    Object.assign(it, { fault: fault.message, roster: null });
   }
   page.brought = [...page.brought.filter(one => one.name !== name), it];
-  const told = page.brought.map(one => `${one.name}: ` +
-    (one.fault || (one.base ? "a map" : count(one.roster.length, "call"))));
-  tell(told.reverse().join("; "), page.brought.some(one => one.fault));
+  tell(page.brought.map(toldOf).reverse().join("; "), page.brought.some(isBad));
   readBrought();
   refresh();
+}
+const isBad = it => it.fault !== "" || it.roster?.faults.length > 0;
+/** What came of something that was brought. */
+function toldOf({ name, base, roster, fault }) {
+  const faults = (roster?.faults || []).map(it => `line ${it.line}: ${it.why}`);
+  const told = fault || (base ? "a map" : [count(roster.list.length, "call"), ...faults].join(", "));
+  return `${printable(name)}: ${told}`;
 }
 function tell(text, bad = false) {
   byId("told").textContent = text;
@@ -305,10 +338,16 @@ async function bringAll(files) {
 }
 function drawSaves() {
   byId("saves").lastElementChild.replaceChildren(...Object.keys(SAVES).map(name =>
-    make("button", { type: "button", textContent: name, onclick() {
-      const [file, type, text] = SAVES[name](page.net, page.data);
-      save(file, text, type);
-    } })));
+    make("button", { type: "button", textContent: name, onclick: () => saveNow(name) })));
+}
+/** Saves in slices what the page has, and says so while it takes long. */
+async function saveNow(name, as = SAVES[name][0]) {
+  const [, type, piecesOf] = SAVES[name], { net, data } = page;
+  const slow = setTimeout(() => tell(`making ${as}`), 300);
+  const pieces = await inSlices(gathered(piecesOf(net, data)), () => true);
+  clearTimeout(slow);
+  if (byId("told").textContent === `making ${as}`) tell("");
+  save(as, pieces, type);
 }
 
 // ---- begin
@@ -317,7 +356,17 @@ function listenToControls() {
   const { map } = page, on = (id, kind, run) => byId(id).addEventListener(kind, run);
   on("in", "click", () => { map.zoom(1.5); map.turn(); });
   on("out", "click", () => { map.zoom(1 / 1.5); map.turn(); });
-  on("fit", "click", () => { map.fit(); map.turn(); });
+  on("fit", "click", () => { map.fit(map.fitted && map.far > 0); map.turn(); });
+  on("fill", "click", () => map.fill(!map.isFull));
+  on("sound", "change", () => {
+    choose("sound", byId("sound").checked ? "on" : "");
+    page.alarm.turn(byId("sound").checked);
+  });
+  on("news", "click", ({ target }) => {
+    const { key } = target.dataset;
+    if (key && key !== page.picked) pick(key);
+  });
+  listenToEscape();
   on("clock", "input", keepClock);
   on("play", "click", play);
   on("find", "input", sift);
@@ -335,11 +384,18 @@ function listenToControls() {
     bringAll([...target.files]);
     target.value = ""; // so that the same file can be brought again
   });
-  on("away", "click", () => { page.brought = []; tell(""); readBrought(); refresh(); });
+  on("away", "click", () => {
+    page.brought = [];
+    map.tiles.clear();
+    byId("own-map").textContent = "";
+    tell("");
+    readBrought();
+    refresh();
+  });
   on("ics-open", "click", () => openForm(true));
   on("ics-close", "click", () => openForm(false));
   on("ics-print", "click", () => print());
-  on("ics-save", "click", () => save("ics-309.csv", messagesCsv(page.net), "text/csv"));
+  on("ics-save", "click", () => saveNow("messages (CSV)", "ics-309.csv"));
   addEventListener("beforeprint", () => {
     runAllWaiting();
     for (const list of Object.values(page.lists)) list.whole();
@@ -350,6 +406,35 @@ function listenToControls() {
     // in Firefox all is as wide as on paper until the next picture
     requestAnimationFrame(() => page.map.measure());
   });
+}
+const openMenus = () => [.../** @type {NodeListOf<HTMLDetailsElement>} */ (
+  document.querySelectorAll("#controls details[open]"))];
+/** Escape leaves what is open: a menu, the map that fills the window, or what is picked. */
+function listenToEscape() {
+  addEventListener("keydown", event => {
+    if (event.key !== "Escape") return;
+    const open = openMenus();
+    for (const it of open) {
+      it.open = false;
+      if (it.contains(document.activeElement)) it.querySelector("summary")?.focus();
+    }
+    if (!open.length && page.map.isFull) page.map.fill(false);
+  });
+  // a menu closes where one goes on beside it
+  addEventListener("pointerdown", ({ target }) => {
+    for (const it of openMenus()) if (!it.contains(/** @type {Node} */ (target))) it.open = false;
+  });
+}
+function fillWindow(full) {
+  document.body.classList.toggle("full", full);
+  byId("fill").setAttribute("aria-pressed", String(full));
+  byId("fill").textContent = full ? "leave the window" : "fill the window";
+}
+/** Says how many places are far from all others, and not in view. */
+function tellFar() {
+  const { far, fitted } = page.map;
+  byId("far").textContent = fitted && far
+    ? `${count(far, "place")} far from the others not in view; “all” shows all.` : "";
 }
 /** Puts on the colours of paper, or takes them off. */
 function dressFor(paper) {
@@ -365,12 +450,20 @@ function openForm(open) {
   byId(open ? "ics-incident" : "ics-open").focus();
 }
 /** Makes what is drawn into, with what was chosen before. */
-function begin() {
-  page.map = new NetMap(byId("map"), pick, text => choose("view", text));
+export function begin() {
+  page.map = new NetMap(byId("map"), { onPick: key => pick(key, true), onFill: fillWindow,
+    onFit: () => page.map && tellFar(),
+    onView(text) {
+      choose("view", text);
+      tellFar();
+    } });
   page.picked = chosen.get("pick");
   page.map.look(chosen.get("view") || "");
   byId("since").value = chosen.get("since") || "0";
   byId("local").checked = chosen.get("time") === "local";
+  byId("sound").checked = chosen.get("sound") === "on";
+  page.alarm.turn(byId("sound").checked, false);
+  page.map.land.read(byId("coast").textContent).then(page.map.paintSoon);
   byId("find").value = chosen.get("find") || "";
   byId("kind").value = chosen.get("kind") || "";
   page.lists = {
@@ -383,9 +476,9 @@ function begin() {
   listenToControls();
 }
 /** Puts the clock where it was left. */
-function beginClock() {
+export function beginClock() {
   const { net } = page, at = chosen.get("clock"), clock = byId("clock");
-  const share = (at - net.begin) / Math.max(1, net.end - net.begin);
+  const share = (Number(at) - net.begin) / Math.max(1, net.end - net.begin);
   if (!at || !net.rows.length) return;
   clock.value = share * clock.max;
   turnClock();

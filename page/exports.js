@@ -1,8 +1,13 @@
+// @ts-check
 // What the reader can save: CSV, GPX, GeoJSON, KML of what is shown.
+
+import { logOf } from "./messages.js";
+import { isoText, said } from "./words.js";
 
 /** A text off the air for a spreadsheet, which must not take it as a formula. */
 function csvText(text) {
-  const safe = /^[=+\-@\t\r]/.test(text) ? "'" + text : text;
+  const isFormula = /^'* *[=+\-@\t\r]/.test(text) && !/^-?[0-9]+(\.[0-9]+)?$/.test(text);
+  const safe = isFormula ? "'" + text : text;
   return /[",\n\r]/.test(safe) ? `"${safe.replaceAll('"', '""')}"` : safe;
 }
 const csvOf = rows => rows.map(row =>
@@ -11,21 +16,22 @@ const markup = text => text.replace(/[&<>"']/g, it => `&#${it.charCodeAt(0)};`)
   .replace(/[^\t\n\r -\ud7ff\ue000-\ufffd\u{10000}-\u{10ffff}]/gu, "");
 const decimal = value => value.toFixed(7);
 
-/** Each place of each thing, as rows: kind, name, state, .. */
-function placesCsv(things) {
-  const rows = ["kind name state first last receivers source lat lon ambiguity symbol comment"
-    .split(" ")];
-  for (const it of things)
-    for (const at of it.places)
-      rows.push([it.kind, it.label, at.state, isoText(at.first), isoText(at.last),
-        at.receivers.join(" "), at.source, Number(decimal(at.north)), Number(decimal(at.east)),
-        at.ambiguity, at.table + at.code, said(at.comment)]);
-  return csvOf(rows);
+const COLUMNS = ("kind name state first last receivers source lat lon ambiguity symbol course " +
+  "speed_knots altitude_m comment").split(" ");
+const valueOf = it => it === undefined ? "" : it;
+const placeRow = (it, at) => [it.kind, said(it.name), at.state, isoText(at.first), isoText(at.last),
+  at.receivers.join(" "), at.source, Number(decimal(at.north)), Number(decimal(at.east)),
+  at.compressed ? "c" : at.ambiguity, at.table + at.code, valueOf(at.course), valueOf(at.knots),
+  valueOf(at.metres), said(at.comment)];
+/** Each place of each thing, as rows. */
+function* placesCsv({ placed }) {
+  yield csvOf([COLUMNS]);
+  for (const it of placed) yield csvOf(it.places.map(at => placeRow(it, at)));
 }
-function messagesCsv(net) {
-  return csvOf([["time", "from", "number", "to", "message", "state"], ...logOf(net).map(it =>
-    [isoText(it.first), it.source, it.id === "-" ? "" : it.id, said(it.addressee), said(it.text),
-      isBulletin(it) ? "bulletin" : it.state])]);
+function* messagesCsv(net) {
+  yield csvOf([["time", "from", "number", "to", "message", "state"]]);
+  for (const it of logOf(net))
+    yield csvOf([[isoText(it.first), it.source, it.id, said(it.addressee), said(it.text), it.state]]);
 }
 /** The runs of a thing's places, each but the last ended by a kill. */
 function segmentsOf(thing) {
@@ -39,18 +45,20 @@ function segmentsOf(thing) {
 const hasMoved = ({ places }) =>
   places.some(it => it.north !== places[0].north || it.east !== places[0].east);
 
-function gpxOf(things, title) {
+function* gpxOf({ placed }, { title }) {
   const at = it => `lat="${decimal(it.north)}" lon="${decimal(it.east)}"`;
   const time = it => `<time>${isoText(it.first)}</time>`;
-  const points = things.map(it => `<wpt ${at(it.now)}>${time(it.now)}<name>${markup(it.label)}` +
-    `</name><desc>${markup(said(it.now.comment))}</desc><type>${it.kind}</type></wpt>\n`);
-  const tracks = things.filter(hasMoved).map(it => `<trk><name>${markup(it.label)}</name>` +
-    segmentsOf(it).map(run => "<trkseg>" + run.map(one => `<trkpt ${at(one)}>${time(one)}</trkpt>`)
-      .join("") + "</trkseg>").join("") + "</trk>\n");
-  return '<?xml version="1.0" encoding="UTF-8"?>\n<gpx version="1.1" creator="aprsbook" ' +
+  yield '<?xml version="1.0" encoding="UTF-8"?>\n<gpx version="1.1" creator="aprsbook" ' +
     'xmlns="http://www.topografix.com/GPX/1/1">\n' +
-    `<metadata><name>${markup(title)}</name></metadata>\n${points.join("")}${tracks.join("")}` +
-    "</gpx>\n";
+    `<metadata><name>${markup(title)}</name></metadata>\n`;
+  for (const it of placed)
+    yield `<wpt ${at(it.now)}>${time(it.now)}<name>${markup(it.label)}</name>` +
+      `<desc>${markup(said(it.now.comment))}</desc><type>${it.kind}</type></wpt>\n`;
+  for (const it of placed)
+    yield hasMoved(it) ? `<trk><name>${markup(it.label)}</name>` + segmentsOf(it).map(run =>
+      "<trkseg>" + run.map(one => `<trkpt ${at(one)}>${time(one)}</trkpt>`).join("") + "</trkseg>")
+      .join("") + "</trk>\n" : "";
+  yield "</gpx>\n";
 }
 
 /** A line of [east, north], cut where it goes over the date line (RFC 7946, 3.1.9). */
@@ -69,48 +77,75 @@ function cutAtDateLine(spots) {
   });
   return lines.filter(it => it.length > 1);
 }
-function geoJsonOf(things) {
-  const spot = it => [Number(decimal(it.east)), Number(decimal(it.north))], features = [];
+function* featuresOf({ placed }) {
+  const spot = it => [Number(decimal(it.east)), Number(decimal(it.north))];
   const feature = (geometry, properties) =>
-    features.push({ type: "Feature", geometry, properties });
-  for (const it of things)
-    for (const at of it.places)
-      feature({ type: "Point", coordinates: spot(at) }, { kind: it.kind, name: it.label,
-        state: at.state, first: isoText(at.first), last: isoText(at.last),
-        receivers: at.receivers.join(), source: at.source, symbol: at.table + at.code,
-        comment: said(at.comment) });
-  for (const it of things.filter(hasMoved)) {
-    const lines = segmentsOf(it).flatMap(run => cutAtDateLine(run.map(spot)));
-    if (lines.length)
-      feature({ type: "MultiLineString", coordinates: lines }, { kind: it.kind, name: it.label });
+    JSON.stringify({ type: "Feature", geometry, properties });
+  for (const it of placed)
+    yield it.places.map(at => feature({ type: "Point", coordinates: spot(at) }, { kind: it.kind,
+      name: it.label, state: at.state, first: isoText(at.first), last: isoText(at.last),
+      receivers: at.receivers.join(), source: at.source, symbol: at.table + at.code,
+      comment: said(at.comment) })).join(",");
+  for (const it of placed) {
+    const lines = hasMoved(it) ? segmentsOf(it).flatMap(run => cutAtDateLine(run.map(spot))) : [];
+    yield lines.length ? feature({ type: "MultiLineString", coordinates: lines },
+      { kind: it.kind, name: it.label }) : "";
   }
-  return JSON.stringify({ type: "FeatureCollection", features }) + "\n";
 }
-function kmlOf(things, title) {
+function* geoJsonOf(net) {
+  let begin = '{"type":"FeatureCollection","features":[';
+  for (const it of featuresOf(net)) {
+    yield it && begin + it;
+    if (it) begin = ",";
+  }
+  yield begin === "," ? "]}\n" : begin + "]}\n";
+}
+function* kmlOf({ placed }, { title }) {
   const spot = it => `${decimal(it.east)},${decimal(it.north)}`;
-  const one = it => `<Placemark><name>${markup(it.label)}</name>` +
-    `<description>${markup(said(it.now.comment))}</description>` +
-    `<TimeStamp><when>${isoText(it.now.first)}</when></TimeStamp>` +
-    `<Point><coordinates>${spot(it.now)}</coordinates></Point></Placemark>\n`;
-  const track = it => `<Placemark><name>${markup(it.label)} track</name><MultiGeometry>` +
-    segmentsOf(it).map(run => "<LineString><tessellate>1</tessellate><coordinates>" +
-      `${run.map(spot).join(" ")}</coordinates></LineString>`).join("") +
-    "</MultiGeometry></Placemark>\n";
-  return '<?xml version="1.0" encoding="UTF-8"?>\n<kml xmlns="http://www.opengis.net/kml/2.2">' +
-    `<Document><name>${markup(title)}</name>\n${things.map(one).join("")}` +
-    `${things.filter(hasMoved).map(track).join("")}</Document></kml>\n`;
+  yield '<?xml version="1.0" encoding="UTF-8"?>\n<kml xmlns="http://www.opengis.net/kml/2.2">' +
+    `<Document><name>${markup(title)}</name>\n`;
+  for (const it of placed)
+    yield `<Placemark><name>${markup(it.label)}</name>` +
+      `<description>${markup(said(it.now.comment))}</description>` +
+      `<TimeStamp><when>${isoText(it.now.first)}</when></TimeStamp>` +
+      `<Point><coordinates>${spot(it.now)}</coordinates></Point></Placemark>\n`;
+  for (const it of placed)
+    yield hasMoved(it) ? `<Placemark><name>${markup(it.label)} track</name><MultiGeometry>` +
+      segmentsOf(it).map(run => "<LineString><tessellate>1</tessellate><coordinates>" +
+        `${run.map(spot).join(" ")}</coordinates></LineString>`).join("") +
+      "</MultiGeometry></Placemark>\n" : "";
+  yield "</Document></kml>\n";
+}
+function* tableOf(net, data) {
+  yield data.rows;
 }
 
-/** What can be saved, by the name in the menu: a file's name, its type and what it holds. */
-const SAVES = {
-  "places (CSV)": net => ["places.csv", "text/csv", placesCsv(net.placed)],
-  "messages (CSV)": net => ["messages.csv", "text/csv", messagesCsv(net)],
-  "places and tracks (GPX)": (net, data) =>
-    ["net.gpx", "application/gpx+xml", gpxOf(net.placed, data.title)],
-  "places and tracks (GeoJSON)": net =>
-    ["net.geojson", "application/geo+json", geoJsonOf(net.placed)],
-  "places and tracks (KML)": (net, data) =>
-    ["net.kml", "application/vnd.google-earth.kml+xml", kmlOf(net.placed, data.title)],
-  "listing (text)": (net, data) => ["net.txt", "text/plain", data.listing],
-  "history (text)": (net, data) => ["history.txt", "text/plain", data.history],
+/**
+ * What can be saved, by the name in the menu: a file's name, its type, and what it holds, in pieces.
+ * @type {Record<string, [string, string, (net: any, data: any) => Generator<string>]>}
+ */
+export const SAVES = {
+  "places (CSV)": ["places.csv", "text/csv", placesCsv],
+  "messages (CSV)": ["messages.csv", "text/csv", messagesCsv],
+  "places and tracks (GPX)": ["net.gpx", "application/gpx+xml", gpxOf],
+  "places and tracks (GeoJSON)": ["net.geojson", "application/geo+json", geoJsonOf],
+  "places and tracks (KML)": ["net.kml", "application/vnd.google-earth.kml+xml", kmlOf],
+  "table (TSV)": ["table.tsv", "text/tab-separated-values", tableOf],
 };
+/**
+ * The whole text of what can be saved.
+ * @param {string} name
+ */
+export const savedText = (name, net, data) => [...SAVES[name][2](net, data)].join("");
+/**
+ * The pieces of what can be saved, with pauses, so that the page doesn't stand still.
+ * @param {Iterable<string>} pieces
+ */
+export function* gathered(pieces) {
+  const all = [];
+  for (const it of pieces) {
+    all.push(it);
+    yield;
+  }
+  return all;
+}

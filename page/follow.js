@@ -1,23 +1,36 @@
+// @ts-check
 // A page that is served beside logs: it reads a list of their names, and asks again for what has
-// grown.
+// grown. Each log is asked for by itself, and for so long; what was read of it stays.
 
-const { alive, tick, choose, chosen } = globalThis.aprsbook;
-const EACH = 15; // seconds
+import { alive, byId, choose, chosen, fullText, page, tick } from "./drawn.js";
+import { files, numberIn, work } from "./drop.js";
+import { fileOf, leaveOut, look } from "./intake.js";
+import { kindOf, READ, spelled } from "./kinds.js";
+
+/** @typedef {import("./intake.js").Given} Given */
+/** How often all are asked for in seconds, and how many milliseconds a question may take. */
+export const pace = { each: 15, limit: 10000 };
 const OVERLAP = 64; // bytes that are asked for again, to see that it is the same file
 
-function beginFollowing() {
+export function beginFollowing() {
   if (!location.protocol.startsWith("http")) return;
   byId("follow-label").hidden = false;
   const box = byId("follow");
   box.value = chosen.get("logs") || "";
   box.addEventListener("change", () => { choose("logs", box.value); follow(); });
-  setInterval(follow, EACH * 1000);
+  setInterval(follow, pace.each * 1000);
   setInterval(() => page.follows && tick(), 1000);
   if (box.value) follow();
 }
-// the logs that were asked for, by their addresses; one that was taken away stays away
+/**
+ * The logs that were asked for, by their addresses; one that was taken away stays away.
+ * @type {Map<string, Given>}
+ */
 const followed = new Map();
+/** Since when a log or the list doesn't come, by its address. */
+const missed = new Map();
 let following = false;
+
 /** Asks for all logs of the list once. */
 async function follow() {
   const list = byId("follow").value;
@@ -25,31 +38,85 @@ async function follow() {
   if (!list) byId("stale").textContent = "";
   if (!list || following) return;
   following = true;
-  let grown = false;
   try {
-    const base = new URL(list, location.href), answer = await fetchOwn(base);
-    const names = (await answer.text()).split(/\r?\n/).map(it => it.trim())
-      .filter(it => it && !it.startsWith("#"));
-    for (const name of names) grown = await followOne(name, addressOf(name, base)) || grown;
+    const base = new URL(list, location.href), names = await namesOf(base);
     Object.assign(alive, { away: 0, refused: "" });
+    await followAll(names, base);
   } catch (fault) {
-    if (fault instanceof Refused) alive.refused = `${list}: ${fault.message}`;
+    const why = reasonOf(fault);
+    if (why) alive.refused = `${list}: ${sinceOf(list, why)}`;
     else alive.away ||= Date.now();
   }
-  if (grown) await work();
   following = false;
   tick();
 }
-/** The address of a log: what means something else in an address is a letter of a name. */
+/** @param {URL} base */
+async function namesOf(base) {
+  const answer = await fetchOwn(base), text = await answer.text();
+  missed.delete(byId("follow").value);
+  return text.split(/\r?\n/).map(it => it.trim()).filter(it => it && !it.startsWith("#"));
+}
+/**
+ * @param {string[]} names
+ * @param {URL} base
+ */
+async function followAll(names, base) {
+  const urls = names.map(name => addressOf(name, base));
+  // what comes at once is shown, also where another one hangs
+  const came = await Promise.all(names.map((name, n) => followOne(name, urls[n])));
+  let isNew = came.some(Boolean);
+  for (const [address, file] of followed) {
+    const isListed = urls.some(it => it.href === address);
+    if (!isListed) isNew = mark(file, "no longer on the list; what was read of it stays") || isNew;
+  }
+  if (isNew) await work();
+}
+/** What is said of what doesn't come, and since when. */
+function sinceOf(/** @type {string} */ key, /** @type {string} */ why) {
+  if (!missed.has(key)) missed.set(key, Date.now() / 1000);
+  return `${why}, since ${fullText(missed.get(key))}`;
+}
+/**
+ * Marks a log; says whether that is new.
+ * @param {Given} file
+ * @param {string} away
+ */
+function mark(file, away) {
+  const isNew = (file.away || "") !== away;
+  file.away = away;
+  return isNew;
+}
+/**
+ * The address of a log: what means something else in an address is a letter of a name.
+ * @param {string} name
+ * @param {URL} base
+ */
 const addressOf = (name, base) => new URL(name.replace(/[%?#]/g, encodeURIComponent), base);
 /** The server is there, and hands out no such file. */
 class Refused extends Error {}
+const LATE = () => `no answer within ${pace.limit / 1000} s`;
+/** Why something doesn't come, where the server is there. */
+const reasonOf = (/** @type {any} */ fault) => fault instanceof Refused ? fault.message
+  : fault?.name === "TimeoutError" ? LATE() : "";
+/**
+ * @param {URL} url
+ * @param {RequestInit} [options]
+ */
 async function fetchOwn(url, options = {}) {
-  const answer = await fetch(url, { cache: "no-store", ...options });
-  if (!answer.ok) throw new Refused(`the server answers ${answer.status}`);
-  return answer;
+  const late = /** @type {any} */ (AbortSignal).timeout(pace.limit);
+  try {
+    const answer = await fetch(url, { cache: "no-store", signal: late, ...options });
+    if (!answer.ok) throw new Refused(`the server answers ${answer.status}`);
+    return answer;
+  } catch (fault) {
+    throw late.aborted ? new Refused(LATE()) : fault;
+  }
 }
-/** Asks for what is new in a log; says whether there was something. */
+/**
+ * Asks for what is new in a log; says whether there was something.
+ * @param {string} name
+ * @param {URL} url
+ */
 async function followOne(name, url) {
   let file = followed.get(url.href);
   if (!file) {
@@ -59,30 +126,50 @@ async function followOne(name, url) {
   }
   if (!files.includes(file)) return false;
   try {
-    return await growOne(file, url);
+    const grown = await growOne(file, url);
+    missed.delete(url.href);
+    return mark(file, "") || grown;
   } catch (fault) {
-    if (!(fault instanceof Refused)) throw fault;
-    // what was read before stays, and is asked for again
-    const isNew = file.fault !== fault.message;
-    Object.assign(file, { fault: fault.message, mark: "" });
+    file.mark = "";
+    const why = reasonOf(fault) || "the server is away";
+    if (file.taken) return mark(file, sinceOf(url.href, why));
+    const isNew = file.fault !== why;
+    file.fault = why;
     return isNew;
   }
 }
+/**
+ * @param {Given} file
+ * @param {URL} url
+ */
 async function growOne(file, url) {
   const head = await fetchOwn(url, { method: "HEAD" });
-  const mark = ["content-length", "last-modified", "etag"].map(it => head.headers.get(it)).join();
-  if (mark === file.mark && head.headers.get("content-length")) return false;
-  file.whole = await grownOf(file.whole, url, +head.headers.get("content-length"));
-  file.mark = mark;
-  const kind = kindOf(file.whole, file.name);
-  file.kind = kind === "map" || kind === "roster" ? "log" : kind;
+  const marked = ["content-length", "last-modified", "etag"].map(it => head.headers.get(it)).join();
+  if (marked === file.mark && head.headers.get("content-length")) return false;
+  file.whole = await grownOf(file.whole || new Uint8Array(), url,
+    Number(head.headers.get("content-length")));
+  file.mark = marked;
+  const { bytes, spelling } = spelled(file.whole), kind = kindOf(bytes, file.name), before = file.taken;
+  file.unread = READ.includes(kind) ? "" : `is ${kind}, which no log is`;
+  file.kind = kind === "book" || kind === "KISS stream" ? kind : "log";
+  Object.assign(file, { spelling, leftOut: [] });
   // of a log only whole lines: the last one may still be on its way
-  file.bytes = file.kind === "log"
-    ? file.whole.subarray(0, file.whole.lastIndexOf(10) + 1) : file.whole;
-  await look(file);
+  file.bytes = file.kind === "log" ? bytes.subarray(0, bytes.lastIndexOf(10) + 1) : file.whole;
+  await look(file, numberIn("gap"));
+  if (file.damage.length) {
+    // one bad line doesn't take a receiver off the page, which nobody may be at
+    leaveOut(file);
+    await look(file, numberIn("gap"));
+  }
+  if (!file.taken) file.taken = before;
   return true;
 }
-/** The bytes of a file of which `had` are known: the rest alone, where the server can do so. */
+/**
+ * The bytes of a file of which `had` are known: the rest alone, where the server can do so.
+ * @param {Uint8Array} had
+ * @param {URL} url
+ * @param {number} length
+ */
 async function grownOf(had, url, length) {
   const from = had.length - OVERLAP;
   if (from > 0 && length > had.length) {
@@ -98,7 +185,3 @@ async function grownOf(had, url, length) {
   }
   return new Uint8Array(await (await fetchOwn(url)).arrayBuffer());
 }
-
-beginReading();
-// for tests
-globalThis.aprsfiles = Object.freeze({ files, made: () => made, run, eventPage, add });

@@ -1,19 +1,24 @@
+// @ts-check
 // The earth as a ball: places are unit vectors, so that the date line and the poles are nothing
 // special. The map is Lambert's azimuthal projection, with areas kept, around the middle of the
 // view.
 
-const RADIUS = 6371008.8; // metres
-const RADIAN = Math.PI / 180;
+export const RADIUS = 6371008.8; // metres
+export const RADIAN = Math.PI / 180;
 
-function vectorOf(north, east) {
+export function vectorOf(north, east) {
   const level = Math.cos(north * RADIAN);
   return [level * Math.cos(east * RADIAN), level * Math.sin(east * RADIAN),
     Math.sin(north * RADIAN)];
 }
-function degreesOf([x, y, z]) {
+/**
+ * @param {ArrayLike<number>} vector
+ * @returns {[number, number]} north and east
+ */
+export function degreesOf({ 0: x, 1: y, 2: z }) {
   return [Math.atan2(z, Math.hypot(x, y)) / RADIAN, Math.atan2(y, x) / RADIAN];
 }
-function distance(a, b) {
+export function distance(a, b) {
   const half = Math.hypot(a[0] - b[0], a[1] - b[1], a[2] - b[2]) / 2;
   return 2 * RADIUS * Math.asin(Math.min(1, half));
 }
@@ -26,12 +31,12 @@ function frameAt(north, east) {
   return { east: [-sinE, cosE, 0], north: [-sinN * cosE, -sinN * sinE, cosN] };
 }
 /** The course from one place to another as it begins, in degrees from north by east. */
-function bearing(from, to) {
-  const frame = frameAt(...degreesOf(from));
+export function bearing(from, to) {
+  const [north, east] = degreesOf(from), frame = frameAt(north, east);
   return (Math.atan2(dot(frame.east, to), dot(frame.north, to)) / RADIAN + 360) % 360;
 }
 /** The Maidenhead locator of a place, with six letters. */
-function locatorOf(north, east) {
+export function locatorOf(north, east) {
   const a = Math.min(359.9999, Math.max(0, east + 180)), b = Math.min(179.9999, north + 90);
   const letter = (n, first) => String.fromCharCode(first.charCodeAt(0) + n);
   return letter(Math.floor(a / 20), "A") + letter(Math.floor(b / 10), "A") +
@@ -39,7 +44,7 @@ function locatorOf(north, east) {
     letter(Math.floor(a % 2 * 12), "a") + letter(Math.floor(b % 1 * 24), "a");
 }
 /** A place in degrees and minutes, as radio amateurs say it. */
-function minutesText(north, east) {
+export function minutesText(north, east) {
   const one = (value, digits, marks) => {
     const all = Math.round(Math.abs(value) * 6000);
     return `${String(Math.floor(all / 6000)).padStart(digits, "0")}\u00b0` +
@@ -48,12 +53,48 @@ function minutesText(north, east) {
   return `${one(north, 2, "NS")} ${one(east, 3, "EW")}`;
 }
 
+/** More places than these aren't asked where most are. */
+const ASKED = 5000;
+/**
+ * A cap of the earth that has most of the places of these lines: ten times as wide as what three in
+ * four of them need, and 20 km at least. A few places far away, such as those of damaged fixes, are
+ * outside.
+ * @param {Float64Array[]} lines
+ * @returns {(line: ArrayLike<number>, n: number) => boolean} whether the nth place is in it
+ */
+export function capOf(lines) {
+  const all = lines.reduce((sum, it) => sum + it.length / 3, 0), step = Math.ceil(all / ASKED) || 1;
+  /** @type {number[][]} */
+  const places = [];
+  let n = 0;
+  for (const line of lines)
+    for (let k = 0; k < line.length; k += 3)
+      if (n++ % step === 0) places.push([line[k], line[k + 1], line[k + 2]]);
+  if (places.length < 4) return () => true;
+  const middle = [0, 1, 2].map(i => places.map(it => it[i]).sort((a, b) => a - b)[places.length >> 1]);
+  const off = (/** @type {ArrayLike<number>} */ it, at = 0) =>
+    Math.hypot(it[at] - middle[0], it[at + 1] - middle[1], it[at + 2] - middle[2]);
+  const offs = places.map(it => off(it)).sort((a, b) => a - b);
+  const most = Math.max(10 * offs[Math.floor(0.75 * (offs.length - 1))], 20000 / RADIUS);
+  return (line, k) => off(line, 3 * k) <= most;
+}
+
 /** Between the earth and the pixels of a map. `scale` is pixels for a radian. */
-class Projection {
+export class Projection {
   constructor() {
-    Object.assign(this, { width: 1, height: 1, scale: 1, x: 0, y: 0 });
-    this.look(0, 0);
+    this.width = 1;
+    this.height = 1;
+    this.scale = 1;
+    this.x = 0;
+    this.y = 0;
+    this.middle = [0, 0];
+    this.centre = [1, 0, 0];
+    this.frame = frameAt(0, 0);
   }
+  /**
+   * @param {number} north
+   * @param {number} east
+   */
   look(north, east) {
     this.middle = [Math.max(-90, Math.min(90, north)), east];
     this.centre = vectorOf(...this.middle);
@@ -82,7 +123,8 @@ class Projection {
   }
   /** Moves the picture so many pixels to the right and down. */
   move(right, down) {
-    this.look(...degreesOf(this.at(this.width / 2 - right, this.height / 2 - down)));
+    const [north, east] = degreesOf(this.at(this.width / 2 - right, this.height / 2 - down));
+    this.look(north, east);
   }
   /** Zooms, and the place under that pixel stays there. */
   zoom(by, x = this.width / 2, y = this.height / 2) {
@@ -93,11 +135,21 @@ class Projection {
       this.move(x - this.x, y - this.y);
     }
   }
-  /** Looks at all places of these lines. */
-  fit(lines) {
+  /**
+   * Looks at all places of these lines that are in a cap.
+   * @param {Float64Array[]} all
+   * @param {(line: ArrayLike<number>, n: number) => boolean} [isIn]
+   */
+  fit(all, isIn = () => true) {
+    const lines = all.map(it => {
+      const places = Array.from({ length: it.length / 3 }, (_, k) => k).filter(k => isIn(it, k));
+      return places.length * 3 === it.length ? it
+        : Float64Array.from(places.flatMap(k => [...it.subarray(3 * k, 3 * k + 3)]));
+    });
     const sum = [0, 0, 0];
     for (const line of lines) for (let k = 0; k < line.length; k++) sum[k % 3] += line[k];
-    this.look(...(lines.some(it => it.length) ? degreesOf(sum) : [0, 0]));
+    const [north, east] = lines.some(it => it.length) ? degreesOf(sum) : [0, 0];
+    this.look(north, east);
     this.scale = Math.min(this.width, this.height) / 4;
     // around the earth: from above the equator both poles are seen
     if (this.box(lines).hidden) return this.look(0, this.middle[1]);
@@ -110,9 +162,13 @@ class Projection {
         Math.max(50, this.height - 90) / high));
     }
   }
-  /** The pixels between which these lines lie, and whether one of their places is hidden. */
+  /**
+   * The pixels between which these lines lie, and whether one of their places is hidden.
+   * @param {Float64Array[]} lines
+   */
   box(lines) {
-    const box = { left: Infinity, right: -Infinity, top: Infinity, bottom: -Infinity };
+    const box = { left: Infinity, right: -Infinity, top: Infinity, bottom: -Infinity,
+      hidden: false };
     for (const line of lines)
       for (let k = 0; 3 * k < line.length; k++) {
         if (!this.put(line, k)) {

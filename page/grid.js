@@ -1,14 +1,20 @@
+// @ts-check
 // Parallels and meridians, and their names at the edge of the map.
 
+import { degreesOf, RADIAN, vectorOf } from "./globe.js";
+
 /** 1, 2 or 5 times a power of ten. */
-function roundUp(atLeast) {
+export function roundUp(atLeast) {
   const ten = 10 ** Math.floor(Math.log10(atLeast));
   return [1, 2, 5, 10].map(k => k * ten).find(size => size >= atLeast * 0.999);
 }
 
 /** The parallels and meridians between which the map lies, in degrees; `wide` if all around. */
-function rangeOf(view) {
-  const { width, height } = view, edge = [], mid = view.middle[1];
+export function rangeOf(view) {
+  const { width, height, scale } = view, edge = [], mid = view.middle[1];
+  // beyond the rim of the earth's picture there is nothing, and within it all
+  if (Math.hypot(width, height) / 2 > 1.95 * scale)
+    return { low: -90, high: 90, west: mid - 180, east: mid + 180, wide: true };
   for (let k = 0; k <= 24; k++)
     for (const [x, y] of [[k / 24 * width, 0], [k / 24 * width, height], [0, k / 24 * height],
       [width, k / 24 * height]]) edge.push(degreesOf(view.at(x, y)));
@@ -24,7 +30,7 @@ function rangeOf(view) {
   return { low, high, west: mid + west, east: mid + east, wide };
 }
 /** Draws parallels and meridians, and returns their names for the edge of the map. */
-function paintGrid(pen, view, colours) {
+export function paintGrid(pen, view, colours) {
   const { width, height, scale } = view, { low, high, west, east, wide } = rangeOf(view);
   const labels = [];
   Object.assign(pen, { strokeStyle: colours.line, lineWidth: 1 });
@@ -43,7 +49,14 @@ function paintGrid(pen, view, colours) {
     if (label && label.x > 40 && label.x < width - 50)
       labels.push({ text: degreeText(turnedEast, stepEast, "EW"), x: label.x + 3, y: height - 5 });
   }
-  return labels;
+  return apart(labels);
+}
+/** Names that don't run over one another: of two that would, the first. */
+function apart(labels) {
+  const kept = [];
+  for (const it of labels)
+    if (kept.every(one => Math.abs(one.x - it.x) > 44 || Math.abs(one.y - it.y) > 12)) kept.push(it);
+  return kept;
 }
 function steps(from, to, by) {
   const first = Math.ceil(from / by), last = Math.floor(to / by);

@@ -1,10 +1,16 @@
+// @ts-check
 // The mouse, fingers and keys on the map.
+
+import { wordsOf } from "./details.js";
+import { make } from "./dom.js";
+import { symbolOf } from "./symbols.js";
+import { timeText } from "./words.js";
 
 const KEYS = {
   ArrowLeft: map => map.move(60, 0), ArrowRight: map => map.move(-60, 0),
   ArrowUp: map => map.move(0, 60), ArrowDown: map => map.move(0, -60),
   "+": map => map.zoom(1.3), "=": map => map.zoom(1.3), "-": map => map.zoom(1 / 1.3),
-  0: map => map.fit(),
+  0: map => map.fit(), f: map => map.fill(!map.isFull),
 };
 function listenToKeys(map) {
   map.node.addEventListener("keydown", event => {
@@ -14,21 +20,52 @@ function listenToKeys(map) {
     map.turn();
   });
 }
-function listenToMap(map) {
+/** So much a wheel zooms for a pixel of it; fingers on a trackpad that are drawn apart say `ctrl`. */
+const PER_PIXEL = Math.log(1.2) / 100, PINCHED = 0.01;
+/**
+ * How much a turn of a wheel zooms, by its size; sideways it doesn't.
+ * @param {{ deltaX: number, deltaY: number, deltaMode: number, ctrlKey: boolean }} event
+ */
+export function zoomOf({ deltaX, deltaY, deltaMode, ctrlKey }) {
+  if (Math.abs(deltaX) > Math.abs(deltaY)) return 1;
+  // lines, and pages
+  const pixels = deltaY * [1, 100 / 3, 300][deltaMode];
+  const most = 3 * 100 * PER_PIXEL, by = pixels * (ctrlKey ? PINCHED : PER_PIXEL);
+  return Math.exp(-Math.max(-most, Math.min(most, by)));
+}
+function listenToWheel(map, pixel) {
+  map.node.addEventListener("wheel", event => {
+    event.preventDefault();
+    const by = zoomOf(event);
+    if (by === 1) map.move(-event.deltaX * [1, 100 / 3, 300][event.deltaMode], 0);
+    else map.zoom(by, ...pixel(event));
+    map.turn();
+  }, { passive: false });
+}
+/**
+ * One finger scrolls the page, and two move the map, but where the map fills the window. The mouse
+ * and a pen move it at once.
+ */
+const mayMove = (map, event, fingers) =>
+  event.pointerType !== "touch" || fingers > 1 || map.isFull;
+export function listenToMap(map) {
   listenToKeys(map);
   const { node } = map, fingers = new Map();
-  let moved = 0;
+  let moved = 0, most = 0;
   const pixel = event => {
     const box = node.getBoundingClientRect();
     return [event.clientX - box.left, event.clientY - box.top];
   };
-  node.addEventListener("wheel", event => {
-    event.preventDefault();
-    map.zoom(event.deltaY < 0 ? 1.2 : 1 / 1.2, ...pixel(event));
-    map.turn();
-  }, { passive: false });
+  listenToWheel(map, pixel);
+  for (const kind of ["touchstart", "touchmove"])
+    node.addEventListener(kind, event => {
+      if (event.touches.length > 1 || map.isFull) event.preventDefault();
+      else if (kind === "touchmove") map.hint();
+    }, { passive: false });
   node.addEventListener("pointerdown", event => {
+    if (!fingers.size) most = 0;
     fingers.set(event.pointerId, pixel(event));
+    most = Math.max(most, fingers.size);
     moved = 0;
   });
   addEventListener("pointermove", event => {
@@ -37,15 +74,17 @@ function listenToMap(map) {
     const now = pixel(event), other = [...fingers].find(([id]) => id !== event.pointerId)?.[1];
     fingers.set(event.pointerId, now);
     moved += Math.hypot(now[0] - before[0], now[1] - before[1]);
+    if (!mayMove(map, event, fingers.size)) return;
     if (other) {
       const off = spot => Math.hypot(spot[0] - other[0], spot[1] - other[1]) || 1;
+      map.move((now[0] - before[0]) / 2, (now[1] - before[1]) / 2);
       map.zoom(off(now) / off(before), (now[0] + other[0]) / 2, (now[1] + other[1]) / 2);
     } else map.move(now[0] - before[0], now[1] - before[1]);
     map.paintSoon();
   });
   addEventListener("pointerup", event => {
     if (!fingers.delete(event.pointerId)) return;
-    if (moved > 6) return map.turn();
+    if (moved > 6 || most > 1) return map.turn();
     const thing = map.markAt(...pixel(event));
     if (thing) map.onPick(thing.key);
   });

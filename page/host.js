@@ -1,4 +1,4 @@
-"use strict";
+// @ts-check
 // The host of the module: it makes an instance for each run, as a shell starts the program anew. It
 // has to keep to what the functions of the module ask for: all that it hands over lies from
 // __heap_base on, no two of it in one place, and the region begins at a multiple of 16.
@@ -8,9 +8,13 @@ const FUNCTIONS = {
   check: "aprs_check", "convert text": "aprs_text", "convert kind": "aprs_kind",
   "convert kiss": "aprs_kiss", "convert log": "aprs_log", "convert capture": "aprs_capture",
   merge: "aprs_merge", show: "aprs_show", history: "aprs_history", widen: "aprs_widen",
+  "table rows": "aprs_table", "table messages": "aprs_table", "table stations": "aprs_table",
+  "table things": "aprs_table",
 };
-const OF_SEVERAL = ["merge", "show", "history"];
+const OF_SEVERAL = ["merge", "show", "history",
+  ...Object.keys(FUNCTIONS).filter(it => it.startsWith("table "))];
 const WITH_GAP = [...OF_SEVERAL, "widen"];
+const TABLE = "table ";
 const PAGE = 65536;
 const NAME_ROOM = 16;
 
@@ -47,15 +51,20 @@ class Layout {
   }
 }
 
+// the texts that a command gives its function, beside the inputs
+function wordsOf(command, options) {
+  if (command === "convert capture") return options;
+  return command.startsWith(TABLE) ? [command.slice(TABLE.length)] : [];
+}
+
 // One run with so much room for its output and in its region, both in bytes. `options` are a gap in
-// seconds for merge, show, history and widen, and for convert capture the name of a receiver and a
-// moment, texts. Returns the answer, the name of an input's fault, and what was written, or null
+// seconds for merge, show, history, tables and widen, and for convert capture the name of a receiver
+// and a moment, texts. Returns the answer, the name of an input's fault, and what was written, or null
 // where that had no room.
 function attempt(module, command, options, inputs, outputRoom, regionRoom) {
-  const it = new WebAssembly.Instance(module).exports, { memory } = it;
+  const it = /** @type {any} */ (new WebAssembly.Instance(module).exports), { memory } = it;
   const layout = new Layout(Number(it.__heap_base.value));
-  const words = command === "convert capture"
-    ? options.map(word => new TextEncoder().encode(word)) : [];
+  const words = wordsOf(command, options).map(word => new TextEncoder().encode(word));
   const total = inputs.reduce((sum, input) => sum + input.length, 0);
   const answer = layout.take(40), region = layout.take(16);
   const lengths = layout.take(8 * inputs.length);
@@ -102,4 +111,4 @@ function run(module, command, options, inputs, most = 2 ** 33) {
   }
 }
 
-if (typeof module !== "undefined") module.exports = { FUNCTIONS, OutOfMemory, attempt, run };
+export { FUNCTIONS, OutOfMemory, attempt, run };

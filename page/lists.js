@@ -1,5 +1,10 @@
+// @ts-check
 // Tables that build their rows as they come into view, sort by their heads, and take one stop of
 // the tab key: arrow keys go from row to row.
+
+import { choose, chosen, make, momentOf } from "./dom.js";
+import { later, once } from "./steps.js";
+import { age } from "./words.js";
 
 /**
  * So many rows are more than a box shows. Of a long list the first few come at once, and the rest
@@ -7,13 +12,21 @@
  */
 const PART = 26, FIRST = 10;
 
-class List {
+export class List {
   /**
    * `columns` are { title, number, value } with the value to sort by; `row` makes a row of an item.
    * It stands in `box`, which scrolls.
    */
   constructor(box, { id, caption, columns, row, none = "none" }) {
-    Object.assign(this, { box, id, columns, row, none, items: [], built: 0 });
+    this.box = box;
+    this.id = id;
+    this.columns = columns;
+    this.row = row;
+    this.none = none;
+    this.items = [];
+    this.given = [];
+    this.built = 0;
+    this.scrolled = false;
     const button = (textContent, n) =>
       make("button", { type: "button", textContent, onclick: () => this.turn(n) });
     this.heads = columns.map((it, n) =>
@@ -88,6 +101,23 @@ class List {
     while (this.built < this.items.length &&
       this.box.scrollTop + this.box.clientHeight > this.box.scrollHeight - 600) this.build(PART);
   }
+  /**
+   * Marks the row of a key, and no other; it is brought into view in its box where `isSought`.
+   * @param {string | null} key
+   */
+  mark(key, isSought = false) {
+    if (isSought && key) this.seek(key);
+    for (const row of this.body.children) {
+      const isIt = row.dataset.key === key && key !== null;
+      row.classList.toggle("picked", isIt);
+      if (isIt && isSought) this.box.scrollTop = row.offsetTop - this.box.clientHeight / 3;
+    }
+  }
+  /** Builds on until the row of a key is there. */
+  seek(key) {
+    const at = this.items.findIndex(it => it.key === key);
+    if (at >= this.built && at < 5000) this.build(at + 1 - this.built);
+  }
   /** Builds all, for paper. */
   whole(most = 5000) {
     this.build(Math.max(0, Math.min(this.items.length, most) - this.built));
@@ -110,8 +140,8 @@ class List {
 }
 const collator = new Intl.Collator("en", { numeric: true });
 
-const cell = (className, ...inside) => make("td", { className }, ...inside);
-const number = n => cell("num", n === undefined || n === 0 ? "" : n.toLocaleString("en"));
-const timeCell = seconds => cell("num time", momentOf(seconds));
-const ageCell = (seconds, view) => make("td", { className: "num age", data: { v: seconds },
+export const cell = (className, ...inside) => make("td", { className }, ...inside);
+export const number = n => cell("num", n === undefined || n === 0 ? "" : n.toLocaleString("en"));
+export const timeCell = seconds => cell("num time", momentOf(seconds));
+export const ageCell = (seconds, view) => make("td", { className: "num age", data: { v: seconds },
   textContent: age(view.now - seconds) });

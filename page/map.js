@@ -1,49 +1,74 @@
+// @ts-check
 // The map: a canvas on which all in view is drawn, once for each picture.
 
+import { motionOf } from "./details.js";
+import { oncePerFrame } from "./dom.js";
+import { capOf, degreesOf, Projection, RADIAN, RADIUS } from "./globe.js";
+import { paintGrid, roundUp } from "./grid.js";
+import { listenToMap } from "./hands.js";
+import { Land } from "./land.js";
+import { Room, Sides } from "./sides.js";
+import { later, once } from "./steps.js";
+import { pathOf, symbolOf, TRACKS } from "./symbols.js";
+import { Tiles } from "./tiles.js";
+
 /** Digits of the minutes that were left out leave so many metres open to each side. */
-const OPEN = { 1: 93, 2: 926, 3: 9260, 4: 55560 };
+export const OPEN = { 1: 93, 2: 926, 3: 9260, 4: 55560 };
 const RANK = { item: 1, object: 2, station: 3 };
-/**
- * Where a name may stand: its left edge is so many reaches of the mark, widths of the name and
- * pixels to the right, and its base so many reaches and pixels down.
- */
-const SIDES = [[1, 0, 0, 0, 4], [-1, -1, 0, 0, 4], [0, -0.5, 0, -1, 0], [0, -0.5, 0, 1, 10],
-  [1, 0, -2, 1, 7], [-1, -1, 2, 1, 7], [1, 0, -2, -1, 3], [-1, -1, 2, -1, 3]];
 /** Of more places than these, tracks are thin. */
 const MANY = 8000;
 const FONT = (size, bold) => `${bold ? "600 " : ""}${size}px system-ui, sans-serif`;
 
-/** Which parts of the map have a mark or a name, in squares of 4 pixels. */
-class Room {
-  constructor(width, height) {
-    this.across = Math.ceil(width / 4);
-    this.down = Math.ceil(height / 4);
-    this.squares = new Uint8Array(this.across * this.down);
-  }
-  isFree(left, top, right, bottom) {
-    const x0 = Math.floor(left / 4), x1 = Math.floor(right / 4), y1 = Math.floor(bottom / 4);
-    if (x0 < 0 || top < 0 || x1 >= this.across || y1 >= this.down) return false;
-    for (let y = Math.floor(top / 4); y <= y1; y++)
-      for (let at = y * this.across + x0, end = at + x1 - x0; at <= end; at++)
-        if (this.squares[at]) return false;
-    return true;
-  }
-  take(left, top, right, bottom) {
-    const x0 = Math.max(0, Math.floor(left / 4)), y1 = Math.floor(bottom / 4);
-    const x1 = Math.min(this.across - 1, Math.floor(right / 4));
-    for (let y = Math.max(0, Math.floor(top / 4)); y <= y1 && y < this.down; y++)
-      this.squares.fill(1, y * this.across + x0, y * this.across + x1 + 1);
-  }
-}
+/** @typedef {import("./net.js").Thing} Thing */
+/** @typedef {import("./reading.js").Place} Place */
+/** @typedef {import("./overlays.js").Base} Base */
+/** @typedef {{ thing: Thing, place: Place, picked: boolean, x: number, y: number }} Mark */
 
-class NetMap {
-  /** `node` holds a canvas; `onPick` is told of the thing that was picked, `onView` of a move. */
-  constructor(node, onPick, onView) {
-    Object.assign(this, { node, onPick, onView, canvas: node.querySelector("canvas"),
-      view: new Projection(), placed: [], things: [], bases: [], picked: null, from: null,
-      until: Infinity, fitted: true, measured: false, marks: [], colours: {}, widths: new Map(),
-      shown: {} });
-    this.pen = this.canvas.getContext("2d");
+export class NetMap {
+  /**
+   * `onPick` is told of the thing that was picked, `onView` of a move, `onFill` whether the map fills
+   * the window, `onFit` that it shows all that is near.
+   * @param {HTMLElement} node holds a canvas
+   * @param {{ onPick: (key: string) => void, onView: (text: string) => void,
+   *   onFill: (full: boolean) => void, onFit: () => void }} hears
+   */
+  constructor(node, { onPick, onView, onFill, onFit }) {
+    this.node = node;
+    this.onPick = onPick;
+    this.onView = onView;
+    this.onFill = onFill;
+    this.onFit = onFit;
+    this.canvas = /** @type {HTMLCanvasElement} */ (node.querySelector("canvas"));
+    this.pen = /** @type {CanvasRenderingContext2D} */ (this.canvas.getContext("2d"));
+    this.view = new Projection();
+    this.land = new Land();
+    this.tiles = new Tiles();
+    this.sides = new Sides(1, 1);
+    /** @type {Thing[]} */
+    this.placed = [];
+    /** @type {Thing[]} */
+    this.things = [];
+    /** @type {Base[]} */
+    this.bases = [];
+    /** @type {string | null} */
+    this.picked = null;
+    /** @type {string | null} */
+    this.from = null;
+    this.until = Infinity;
+    this.fitted = true;
+    this.measured = false;
+    this.isFull = false;
+    this.far = 0;
+    /** @type {Mark[]} */
+    this.marks = [];
+    /** @type {Record<string, string>} */
+    this.colours = {};
+    /** @type {string[]} */
+    this.tracks = [];
+    /** @type {Map<string, number>} */
+    this.widths = new Map();
+    /** @type {{ things: Thing[] | null, until: number, picked: string | null, list: Mark[] }} */
+    this.shown = { things: null, until: 0, picked: null, list: [] };
     this.paintSoon = oncePerFrame(() => this.paint());
     this.readColours();
     matchMedia("(prefers-color-scheme: dark)").addEventListener("change", () => {
@@ -53,11 +78,26 @@ class NetMap {
     new ResizeObserver(() => this.measure()).observe(node);
     listenToMap(this);
   }
+  /**
+   * Fills the window, or leaves it.
+   * @param {boolean} full
+   */
+  fill(full) {
+    this.isFull = full;
+    this.onFill(full);
+    this.measure();
+  }
+  /** Says that one finger doesn't move the map. */
+  hint() {
+    const { node } = this;
+    node.classList.add("hint");
+    setTimeout(() => node.classList.remove("hint"), 1500);
+  }
   readColours() {
     const style = getComputedStyle(document.documentElement);
-    for (const name of ["paper", "sheet", "ink", "soft", "line", "warn"])
+    for (const name of ["paper", "sheet", "ink", "soft", "line", "warn", "bad", "land", "shore"])
       this.colours[name] = style.getPropertyValue("--" + name).trim();
-    this.colours.tracks = Array.from({ length: TRACKS }, (_, k) =>
+    this.tracks = Array.from({ length: TRACKS }, (_, k) =>
       style.getPropertyValue("--t" + k).trim());
   }
   measure() {
@@ -70,6 +110,7 @@ class NetMap {
     this.canvas.height = Math.round(height * ratio);
     this.pen.setTransform(ratio, 0, 0, ratio, 0, 0);
     Object.assign(this.view, { width, height });
+    Object.assign(this.sides, { width, height });
     if (this.fitted) this.fit();
     // at first there is much else to do before the next picture
     if (isFirst) this.paintSoon();
@@ -85,10 +126,19 @@ class NetMap {
     // they may be painted before that
     later("map", once(() => this.shown.things === this.things || this.paintSoon()));
   }
-  fit() {
+  /** Looks at what is near most; what is far away from it, in `far`, only where it is asked for. */
+  fit(isAll = false) {
     this.fitted = true;
-    this.view.fit([...this.placed.map(it => it.track),
-      ...this.bases.flatMap(it => [...it.lines, ...it.points.map(point => point.vector)])]);
+    const tracks = this.placed.map(it => it.track);
+    const isIn = isAll ? () => true : capOf(tracks);
+    const bases = this.bases.flatMap(it => [...it.lines,
+      ...it.points.map(point => Float64Array.from(point.vector))]);
+    this.view.fit([...tracks, ...bases], tracks.length ? isIn : () => true);
+    this.far = tracks.reduce((sum, it) => {
+      for (let k = 0; 3 * k < it.length; k++) if (!isIn(it, k)) sum++;
+      return sum;
+    }, 0);
+    this.onFit();
   }
   move(right, down) {
     this.fitted = false;
@@ -117,7 +167,8 @@ class NetMap {
     const near = this.view.put(vector), { x, y, width, height } = this.view;
     if (near && x > 20 && y > 20 && x < width - 20 && y < height - 20) return;
     this.fitted = false;
-    this.view.look(...degreesOf(vector));
+    const [north, east] = degreesOf(vector);
+    this.view.look(north, east);
     this.turn();
   }
   /** The thing whose mark is near a pixel. */
@@ -137,6 +188,8 @@ class NetMap {
     pen.fillStyle = colours.sheet;
     pen.fillRect(0, 0, view.width, view.height);
     pen.lineJoin = "round";
+    const coast = this.land.paint(pen, view, /** @type {any} */ (colours));
+    this.tiles.paint(pen, view, this.paintSoon);
     const labels = paintGrid(pen, view, colours);
     for (const base of this.bases) this.paintBase(base);
     const shown = this.shownNow();
@@ -144,7 +197,7 @@ class NetMap {
     this.paintRuler();
     this.paintMarks(shown);
     for (const label of labels) this.write(label.text, label.x, label.y, colours.soft, 11);
-    this.paintScale();
+    this.paintScale(coast);
   }
   /** What is on the map, in the order in which it is drawn. */
   shownNow() {
@@ -224,7 +277,7 @@ class NetMap {
   /** Tracks of one colour; many short paths are quicker than a long one. */
   strokeTracks(things, colour) {
     const { pen } = this;
-    pen.strokeStyle = this.colours.tracks[colour];
+    pen.strokeStyle = this.tracks[colour];
     pen.beginPath();
     let places = 0;
     for (const it of things) {
@@ -260,19 +313,29 @@ class NetMap {
       it.y = this.view.y;
       this.marks.push(it);
     }
-    const { width, height } = this.view, room = new Room(width, height);
-    const small = this.marks.length > 250, reach = small ? 4 : 10;
+    const small = this.marks.length > 250, reach = small ? 4 : 10, room = this.room();
     if (small) this.paintDots(this.marks.filter(it => !it.picked));
     for (const mark of this.marks) {
       if (!small || mark.picked) this.paintMark(mark);
       room.take(mark.x - reach, mark.y - reach, mark.x + reach, mark.y + reach);
     }
-    // the picked one comes first, so that its name has room
+    // the picked one comes first, so that its name has room, and then those that had a side before
     const named = this.marks.slice(small ? -600 : 0).reverse();
-    for (const mark of named) this.name(mark, room, reach, small);
+    const had = (/** @type {Mark} */ it) => it.picked || this.sides.by.has(it.thing.key);
+    for (const mark of [...named.filter(had), ...named.filter(it => !had(it))])
+      this.name(mark, room, reach, small);
+  }
+  /** Room for names, in squares that move with the map. */
+  room() {
+    const { width, height } = this.view, anchor = this.placed[0]?.now;
+    if (anchor) this.view.put(anchor.vector);
+    const room = new Room(width, height, anchor ? { x: this.view.x, y: this.view.y } : undefined);
+    // the scale stands there
+    room.take(width - 130, height - 52, width, height);
+    return room;
   }
   colourAt(thing, place) {
-    return place.state === "killed" ? this.colours.soft : this.colours.tracks[thing.colour];
+    return place.state === "killed" ? this.colours.soft : this.tracks[thing.colour];
   }
   /** Marks where there are many: dots, those of one colour at once. */
   paintDots(marks) {
@@ -291,10 +354,11 @@ class NetMap {
   paintMark({ thing, place, picked, x, y }) {
     const { pen, colours } = this, killed = place.state === "killed";
     const colour = this.colourAt(thing, place);
+    if (thing.urgent && !killed) this.urgentRing(x, y);
     if (OPEN[place.ambiguity]) this.ring(x, y, place, colour);
     pen.fillStyle = colour;
     const motion = motionOf(place);
-    if (motion?.course && !killed) this.arrow(x, y, motion.course);
+    if (motion?.course !== undefined && !killed) this.arrow(x, y, motion.course);
     pen.strokeStyle = picked ? colours.ink : colours.paper;
     pen.lineWidth = picked ? 2.5 : 1.5;
     pen.beginPath();
@@ -316,6 +380,14 @@ class NetMap {
     pen.fill(pathOf(killed ? "x" : symbol.shape), "evenodd");
     pen.restore();
     if (symbol.overlay) this.write(symbol.overlay, x + 4, y - 5, colours.ink, 10, true);
+  }
+  /** A ring around who is in need. */
+  urgentRing(x, y) {
+    const { pen, colours } = this;
+    Object.assign(pen, { strokeStyle: colours.bad, lineWidth: 3 });
+    pen.beginPath();
+    pen.arc(x, y, 16, 0, 7);
+    pen.stroke();
   }
   ring(x, y, place, colour) {
     const { pen, view } = this;
@@ -347,20 +419,21 @@ class NetMap {
     }
     return width;
   }
-  /** Puts a name beside its mark, where there is room. */
+  /**
+   * Puts a name beside its mark, where there is room.
+   * @param {Mark} mark
+   * @param {Room} room
+   * @param {number} reach
+   * @param {boolean} small
+   */
   name({ thing, place, picked, x, y }, room, reach, small) {
-    const width = this.widthOf(thing.label) + 2, by = reach + 3;
-    const at = SIDES.findIndex(([a, b, c, d, e]) => {
-      const left = x + a * by + b * width + c, base = y + d * by + e;
-      return room.isFree(left, base - 11, left + width, base + 3);
-    });
-    if (at < 0 && !picked) return;
-    const [a, b, c, d, e] = SIDES[Math.max(at, 0)];
-    const left = x + a * by + b * width + c, base = y + d * by + e;
-    room.take(left, base - 11, left + width, base + 3);
-    const colour = place.state === "killed" ? this.colours.soft : this.colours.ink;
-    if (!small || picked) this.write(thing.label, left, base, colour, 12, picked);
-    else this.writeOnSheet(thing.label, left, base, width, colour);
+    const width = this.widthOf(thing.label) + 2, isWanted = picked || thing.urgent !== "";
+    const spot = this.sides.place(thing.key, { x, y }, { width, reach, isWanted }, room);
+    if (!spot) return;
+    const { colours } = this, colour = place.state === "killed" ? colours.soft
+      : thing.urgent ? colours.bad : colours.ink;
+    if (!small || isWanted) this.write(thing.label, spot.left, spot.base, colour, 12, isWanted);
+    else this.writeOnSheet(thing.label, spot.left, spot.base, width, colour);
   }
   write(text, x, y, colour, size, bold = false) {
     const { pen } = this;
@@ -380,11 +453,13 @@ class NetMap {
     pen.fillStyle = colour;
     pen.fillText(text, x, y);
   }
-  paintScale() {
+  /** @param {string} coast what is said of it */
+  paintScale(coast) {
     const { pen, view, colours } = this, km = roundUp(70 / view.scale * RADIUS / 1000);
     const long = km * 1000 / RADIUS * view.scale, x = view.width - 12, y = view.height - 22;
     const text = km < 1 ? `${Math.round(km * 1000)} m` : `${km.toLocaleString("en")} km`;
     this.write(text, x - this.widthOf(text), y - 5, colours.ink, 12);
+    if (coast) this.write(coast, x - this.widthOf(coast), y - 22, colours.soft, 11);
     Object.assign(pen, { strokeStyle: colours.ink, lineWidth: 1.5 });
     pen.beginPath();
     pen.moveTo(x - long, y);

@@ -1,15 +1,27 @@
+// @ts-check
 // Messages, bulletins, and the communications log ICS-309 of them.
+
+import { air, byId, callIn, make } from "./dom.js";
+import { cell, List, timeCell } from "./lists.js";
+import { isBulletin } from "./net.js";
+import { who } from "./roster.js";
+import { fullText, zoneText } from "./words.js";
 
 const NOT_JUDGED = "it ends in a reply-ack such as {01}, of which nobody can say whether it came";
 
-function messageRow(it) {
-  const state = make("td", { className: "state", textContent: it.state });
-  if (it.state === "not judged") state.title = NOT_JUDGED;
-  return make("tr", { className: it.state.replace(" ", "-") }, state, cell("call", it.source),
-    cell("call", air(it.addressee)), cell("text", air(it.text)),
-    cell("id", it.id === "-" ? "" : it.id), timeCell(it.first), timeCell(it.last));
+/** What is said of a message's state beside the state. */
+function answerOf(it) {
+  if (it.state === "not judged") return NOT_JUDGED;
+  if (Number.isNaN(it.answered)) return "";
+  return `${it.answeredBy ? `by ${who(it.answeredBy)}, ` : ""}${fullText(it.answered)}`;
 }
-function messageList(box) {
+function messageRow(it) {
+  return make("tr", { className: it.state.replace(" ", "-") },
+    make("td", { className: "state", textContent: it.state, title: answerOf(it) }),
+    cell("call from", callIn(who(it.source))), cell("call to", callIn(who(it.addressee))),
+    cell("text", air(it.text)), cell("id", it.id), timeCell(it.first), timeCell(it.last));
+}
+export function messageList(box) {
   return new List(box, { id: "messages", caption: "messages", row: messageRow, columns: [
     { title: "state", value: it => it.order }, { title: "from", value: it => it.source },
     { title: "to", value: it => it.addressee }, { title: "text", value: it => it.text },
@@ -17,10 +29,10 @@ function messageList(box) {
     { title: "last", number: true, value: it => it.last },
   ] });
 }
-const inOrder = (a, b) => a.order - b.order || b.last - a.last;
+export const inOrder = (a, b) => a.order - b.order || b.last - a.last;
 
-function bulletinList(box) {
-  const row = it => make("tr", {}, cell("call", air(it.addressee)), cell("call", it.source),
+export function bulletinList(box) {
+  const row = it => make("tr", {}, cell("call", air(it.addressee)), cell("call", callIn(who(it.source))),
     cell("text", air(it.text)), timeCell(it.first), timeCell(it.last));
   return new List(box, { id: "bulletins", caption: "bulletins", row, columns: [
     { title: "bulletin", value: it => it.addressee }, { title: "from", value: it => it.source },
@@ -31,17 +43,17 @@ function bulletinList(box) {
 }
 
 /** The rows of ICS-309, all messages and bulletins by their first moment. */
-function logOf(net) {
+export function logOf(net) {
   return [...net.messages, ...net.bulletins].sort((a, b) => a.first - b.first);
 }
 function ics309Row(it) {
-  return make("tr", {}, timeCell(it.first), cell("call", it.source),
-    cell("id", it.id === "-" ? "" : it.id), cell("call", air(it.addressee)),
+  return make("tr", {}, timeCell(it.first), cell("call", callIn(who(it.source))),
+    cell("id", it.id), cell("call", callIn(who(it.addressee))),
     cell("text", air(it.text), isBulletin(it) || it.state === "unnumbered" ? ""
       : make("small", { textContent: ` (${it.state})` })));
 }
 /** Fills the form ICS-309 with the messages that are shown. */
-function fillForm(net) {
+export function fillForm(net) {
   byId("ics-period").textContent = net.rows.length
     ? `${fullText(net.begin)} to ${fullText(net.end)}` : "";
   byId("ics-zone").textContent = net.rows.length ? zoneText(net.end) : "";

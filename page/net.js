@@ -1,25 +1,65 @@
-// The net that the texts tell of: things, messages, receivers and digipeaters.
+// @ts-check
+// The net that the tables tell of: things, messages, receivers and digipeaters.
 
-/** A message whose state says nothing: it ends in a reply-ack such as {01}. */
-const replyAck = /\{[A-Za-z0-9]{1,2}\}(?:[A-Za-z0-9]{1,2})?$/;
+import { clocksOf, pairsOf } from "./clocks.js";
+import { vectorOf } from "./globe.js";
+import { kindIn, nameIn, URGENT } from "./reading.js";
+import { each } from "./steps.js";
+import { colourOf } from "./symbols.js";
+import { said } from "./words.js";
+
+/** @typedef {import("./reading.js").Rows} Rows */
+/** @typedef {import("./reading.js").Place} Place */
+/** @typedef {import("./reading.js").Message} Message */
+/** @typedef {import("./clocks.js").Clock} Clock */
+/** @typedef {ArrayLike<number>} Picks numbers of rows */
+/** @typedef {{ rows: Rows, messages: Message[], end: number }} All what was read of the tables */
+
 /** The states of messages, in the order in which they stand. */
 const STATES = ["unanswered", "rejected", "not judged", "unnumbered", "acknowledged"];
-const isBulletin = message => /^(BLN|NWS-)/.test(message.addressee);
+export const isBulletin = (/** @type {Message} */ message) =>
+  /^(BLN|NWS-)/.test(message.addressee);
 
-/** Gives a message of the listing the state that is shown, and its place among them. */
-function judge(message) {
-  if (message.state === "unnumbered" && replyAck.test(message.text)) message.state = "not judged";
+/**
+ * Gives a message its place among them.
+ * @param {Message} message
+ */
+export function rank(message) {
   message.order = STATES.indexOf(message.state);
 }
 
 /** A station, an object or an item; its places are the numbers of rows, and made when asked for. */
-class Thing {
+export class Thing {
+  /** @param {Rows} rows @param {string} key */
   constructor(rows, key) {
-    const kind = kindIn(key), name = nameIn(key);
-    Object.assign(this, { rows, kind, name, key, label: said(name), colour: colourOf(key),
-      first: Infinity, last: -Infinity, by: [], sent: 0, lastStatus: -1, placedBy: [],
-      lastPlace: -1, made: new Map() });
+    this.rows = rows;
+    this.kind = kindIn(key);
+    this.name = nameIn(key);
+    this.key = key;
+    this.label = said(this.name) || "(no name)";
+    this.colour = colourOf(key);
+    this.first = Infinity;
+    this.last = -Infinity;
+    /** @type {string[]} */
+    this.by = [];
+    this.sent = 0;
+    // numbers of rows, -1 for none
+    this.lastStatus = -1;
+    this.lastPlace = -1;
+    this.lastSays = -1;
+    this.lastUrgent = -1;
+    this.lastWeather = -1;
+    this.lastTelemetry = -1;
+    /** How many of its rows are at 0, 0. */
+    this.unfixed = 0;
+    /** @type {number[]} */
+    this.placedBy = [];
+    /** @type {Map<number, Place>} */
+    this.made = new Map();
+    /** @type {Float64Array | null} */
+    this.line = null;
   }
+  /** @param {number} k */
   hear(k) {
     const { rows } = this;
     this.sent++;
@@ -29,38 +69,59 @@ class Thing {
       this.by = rows.lists[rows.heard[k]];
     }
   }
-  /** `known` is the last place of the listing, which decides between two of one moment. */
-  put(k, known) {
+  /**
+   * The later one of two rows, the second where both are as late.
+   * @param {number} a
+   * @param {number} b
+   */
+  later(a, b) {
+    return a >= 0 && this.rows.last[a] > this.rows.last[b] ? a : b;
+  }
+  /** @param {number} k */
+  put(k) {
     const { rows, lastPlace } = this, { last } = rows;
     this.placedBy.push(k);
-    if (lastPlace < 0 || last[k] > last[lastPlace] ||
-      last[k] === last[lastPlace] && rows.whereOf(k) === known) this.lastPlace = k;
+    // at one moment receivers decide
+    if (lastPlace < 0 || last[k] > last[lastPlace] || last[k] === last[lastPlace] &&
+      rows.record(k).receiver >= rows.record(lastPlace).receiver) this.lastPlace = k;
   }
+  /** @param {number | undefined} k @returns {Place | null} */
   placeAt(k) {
     if (k === undefined || k < 0) return null;
     let place = this.made.get(k);
     if (!place) this.made.set(k, place = this.rows.placeOf(k));
     return place;
   }
+  /** @returns {Place[]} */
   get places() {
-    return this.placedBy.map(k => this.placeAt(k));
+    return this.placedBy.map(k => /** @type {Place} */ (this.placeAt(k)));
   }
   get now() {
     return this.placeAt(this.lastPlace);
   }
   get status() {
-    return this.lastStatus < 0 ? "" : this.rows.statusOf(this.lastStatus);
+    return this.lastStatus < 0 ? "" : this.rows.record(this.lastStatus).text;
   }
   get killed() {
     return this.lastPlace >= 0 && this.rows.killed[this.lastPlace] === 1;
   }
-  /** How many of its places were known at a moment. */
+  /** Whether the last Mic-E report is an emergency or of priority: which, or nothing. */
+  get urgent() {
+    return this.lastSays < 0 ? "" : URGENT[this.rows.urgent[this.lastSays]];
+  }
+  /**
+   * How many of its places were known at a moment.
+   * @param {number} moment
+   */
   countAt(moment) {
     if (moment === Infinity) return this.placedBy.length;
     const later = this.placedBy.findIndex(k => this.rows.first[k] > moment);
     return later < 0 ? this.placedBy.length : later;
   }
-  /** The place that was known at a moment. */
+  /**
+   * The place that was known at a moment.
+   * @param {number} moment
+   */
   at(moment) {
     return moment === Infinity ? this.now : this.placeAt(this.placedBy[this.countAt(moment) - 1]);
   }
@@ -73,44 +134,70 @@ class Thing {
   }
 }
 
+/** @type {Record<string, number>} */
 const ORDER = { station: 0, object: 1, item: 2 };
-const byKindAndName = (a, b) =>
+const byKindAndName = (/** @type {Thing} */ a, /** @type {Thing} */ b) =>
   ORDER[a.kind] - ORDER[b.kind] || (a.name < b.name ? -1 : a.name > b.name ? 1 : 0);
-/** Stations, then objects, then items, each kind by name, with their places in order. */
-function* thingsOf(rows, picks, places) {
-  const things = [], known = rows.things.map(it => places.get(it));
-  const thing = n => things[n] ||= new Thing(rows, rows.things[n]);
+
+/**
+ * What a station's row says beside a place.
+ * @param {Thing} station
+ * @param {Rows} rows
+ * @param {number} k
+ */
+function note(station, rows, k) {
+  if (rows.is(k, "status")) station.lastStatus = station.later(station.lastStatus, k);
+  else if (rows.is(k, "weather")) station.lastWeather = station.later(station.lastWeather, k);
+  else if (rows.is(k, "telemetry")) station.lastTelemetry = station.later(station.lastTelemetry, k);
+  else if (rows.is(k, "mic-e")) station.lastSays = station.later(station.lastSays, k);
+  if (rows.urgent[k]) station.lastUrgent = station.later(station.lastUrgent, k);
+}
+/**
+ * Stations, then objects, then items, each kind by name, with their places in order.
+ * @param {Rows} rows @param {Picks} picks @returns {Generator<undefined, Thing[]>}
+ */
+function* thingsOf(rows, picks) {
+  /** @type {Thing[]} */
+  const things = [];
+  const thing = (/** @type {number} */ n) => things[n] ||= new Thing(rows, rows.things[n]);
   yield* each(picks, k => {
     const station = thing(rows.station[k]);
     station.hear(k);
-    if (rows.isStatus(k) && !(rows.last[k] < rows.last[station.lastStatus]))
-      station.lastStatus = k;
-    if (!rows.hasPlace(k)) return;
+    note(station, rows, k);
     const it = thing(rows.thing[k]);
+    if (rows.isUnfixed(k)) it.unfixed++;
     if (it !== station) it.hear(k);
-    it.put(k, known[rows.thing[k]]);
+    if (rows.hasPlace(k)) it.put(k);
   });
   return things.filter(Boolean).sort(byKindAndName);
 }
 
 /** How many of a thing there are for each pair of names. */
-class Pairs {
+export class Pairs {
   constructor() {
+    /** @type {Map<string, Map<string, number>>} */
     this.counts = new Map();
+    /** @type {Set<string>} */
     this.columns = new Set();
   }
+  /** @param {string} row @param {string} column */
   add(row, column, n = 1) {
     let of = this.counts.get(row);
     if (!of) this.counts.set(row, of = new Map());
     of.set(column, (of.get(column) || 0) + n);
     this.columns.add(column);
   }
+  /** @param {string} row @param {string} column */
   get(row, column) {
     return this.counts.get(row)?.get(column) || 0;
   }
 }
 
-/** How many rows there are of each station and list of names, such as the receivers. */
+/**
+ * How many rows there are of each station and list of names, such as the receivers.
+ * @param {Rows} rows @param {Picks} picks @param {Uint32Array} column
+ * @returns {Generator<undefined, [string, string[], number][]>}
+ */
 function* countLists(rows, picks, column) {
   const counts = new Map(), { station } = rows, many = rows.lists.length;
   yield* each(picks, k => {
@@ -120,8 +207,11 @@ function* countLists(rows, picks, column) {
   return [...counts].map(([key, n]) =>
     [nameIn(rows.things[Math.floor(key / many)]), rows.lists[key % many], n]);
 }
-/** Who heard whom, who alone, and who repeated whom; `all` is the sum over the stations. */
-function* hearings(rows, picks) {
+/**
+ * Who heard whom, who alone, and who repeated whom; `all` is the sum over the stations.
+ * @param {Rows} rows @param {Picks} picks
+ */
+export function* hearings(rows, picks) {
   const heard = new Pairs(), alone = new Pairs(), repeated = new Pairs(), sent = new Map();
   for (const [name, list, n] of yield* countLists(rows, picks, rows.heard))
     for (const source of [name, "all"]) {
@@ -136,77 +226,60 @@ function* hearings(rows, picks) {
   return { heard, alone, repeated, sent };
 }
 
-/** The middle one of so many zeros and a list of others. */
-function medianOf(zeros, list) {
-  list.sort((a, b) => a - b);
-  const below = list.filter(it => it < 0).length, middle = (zeros + list.length) >> 1;
-  return middle < below ? list[middle] : middle < below + zeros ? 0 : list[middle - zeros];
-}
-
 /**
- * How far each receiver's clock is from the others', in seconds, with the number of transmissions
- * that say so. Copies that are nearer than the gap are one row, and count as 0. What two receivers
- * have each in one row of its own, with the same text, was one transmission if a clock is wrong.
- * `heard` are the rows of each list of receivers.
+ * A receiver: what it heard, and when.
+ * @typedef {{ name: string, last: number, heard: number, alone: number,
+ *   clock: Clock | null }} Receiver
  */
-function* clocksOf(rows, picks, heard) {
-  const { same, first } = rows, clocks = new Map(), times = new Uint32Array(rows.length);
-  const clock = name => {
-    if (!clocks.has(name)) clocks.set(name, { zeros: 0, list: [] });
-    return clocks.get(name);
-  };
-  for (const { names, heard: n } of heard)
-    if (names.length > 1) for (const name of names) clock(name).zeros += n;
-  yield* each(picks, k => times[same[k]]++);
-  const before = new Int32Array(rows.length).fill(-1);
-  yield* each(picks, k => {
-    if (times[same[k]] !== 2) return;
-    const a = before[same[k]];
-    before[same[k]] = k;
-    if (a < 0) return;
-    const mine = rows.lists[rows.heard[k]], its = rows.lists[rows.heard[a]];
-    if (its.some(name => mine.includes(name))) return;
-    for (const name of its) clock(name).list.push(first[a] - first[k]);
-    for (const name of mine) clock(name).list.push(first[k] - first[a]);
-  });
-  return new Map([...clocks].map(([name, { zeros, list }]) =>
-    [name, { by: medianOf(zeros, list), of: zeros + list.length }]));
-}
-
-/** Each receiver: what it heard, and when. */
-function* receiversOf(rows, picks) {
-  const lists = [], receivers = new Map();
+/**
+ * Each receiver, and the pairs of them whose clocks can be compared.
+ * @param {Rows} rows @param {Picks} picks @param {number} gap
+ * @returns {Generator<undefined, Receiver[]>}
+ */
+function* receiversOf(rows, picks, gap) {
+  /** @type {{ names: string[], heard: number, last: number }[]} */
+  const lists = [];
+  /** @type {Map<string, Receiver>} */
+  const receivers = new Map();
   yield* each(picks, k => {
     // the rows stand by their first moment, at which one of several receivers heard it at least
     const n = rows.heard[k], list = lists[n] ||= { names: rows.lists[n], heard: 0, last: 0 };
     list.heard++;
     list.last = k;
   });
-  const heard = lists.filter(Boolean), offsets = yield* clocksOf(rows, picks, heard);
+  const heard = lists.filter(Boolean);
+  const clocks = clocksOf(yield* pairsOf(rows, picks, heard), gap);
   for (const { names, heard: n, last } of heard) {
     const alone = names.length === 1;
     for (const name of names) {
       let it = receivers.get(name);
-      if (!it) receivers.set(name, it = { name, last: -Infinity, heard: 0, alone: 0 });
+      if (!it) {
+        it = { name, last: -Infinity, heard: 0, alone: 0, clock: clocks.get(name) || null };
+        receivers.set(name, it);
+      }
       it.heard += n;
       it.alone += alone ? n : 0;
       it.last = Math.max(it.last, alone ? rows.last[last] : rows.first[last]);
     }
   }
-  for (const it of receivers.values()) it.clock = offsets.get(it.name) || null;
   return [...receivers.values()].sort((a, b) => a.name < b.name ? -1 : 1);
 }
 
-/** All of the net that was heard since a moment, but who heard whom. */
-function* netOf(all, since) {
+/**
+ * All of the net that was heard since a moment, but who heard whom.
+ * @param {All} all @param {number} since @param {number} gap
+ */
+export function* netOf(all, since, gap) {
   const { rows } = all, picks = rows.since(since), some = picks.length > 0;
   // they stand by their first moment, and the last of all is one of them
   const begin = some ? rows.first[picks[0]] : Infinity, end = some ? rows.until : -Infinity;
-  const messages = all.listing.messages.filter(it => it.last >= since);
-  const things = yield* thingsOf(rows, picks, all.listing.places);
+  const messages = all.messages.filter(it => it.last >= since);
+  const things = yield* thingsOf(rows, picks);
   const placed = things.filter(it => it.lastPlace >= 0);
   for (const it of placed) yield it.track; // it is kept
-  return { rows: picks, begin, end, things, placed,
+  let others = 0;
+  yield* each(picks, k => { if (rows.is(k, "other")) others++; });
+  return { rows: picks, begin, end, things, placed, others,
     messages: messages.filter(it => !isBulletin(it)), bulletins: messages.filter(isBulletin),
-    receivers: yield* receiversOf(rows, picks) };
+    receivers: yield* receiversOf(rows, picks, gap) };
 }

@@ -1,26 +1,72 @@
-// What the reader brings: base maps of GPX or GeoJSON, and a roster of the stations expected.
+// @ts-check
+// The base maps that a reader brings, of GPX, KML or GeoJSON.
 
-/** The lines and named points of a GPX or GeoJSON text; throws where it is none. */
-function readBase(text) {
-  const { lines, points } = /^\s*</.test(text) ? readGpx(text) : readGeoJson(text);
+import { vectorOf } from "./globe.js";
+
+/** @typedef {{ lines: Float64Array[], points: { vector: number[], name: string }[] }} Base */
+/** @typedef {{ lines: number[][][], points: { vector: number[], name: string }[] }} Places */
+
+/**
+ * Whether a text begins as a map does.
+ * @param {string} begin
+ */
+export const isMap = begin => /^\s*(\{|<([^]*<)?([\w-]+:)?(gpx|kml)[\s>])/.test(begin);
+
+/**
+ * The lines and named points of a GPX, KML or GeoJSON text; throws where it is none.
+ * @param {string} text
+ * @returns {Base}
+ */
+export function readBase(text) {
+  const read = !/^\s*</.test(text) ? readGeoJson : /<([\w-]+:)?kml[\s>]/.test(text) ? readKml : readGpx;
+  const { lines, points } = read(text);
   return { lines: lines.map(it => Float64Array.from(it.flat())), points };
 }
+/** @param {number} north @param {number} east */
 function spotOf(north, east) {
   if (!(Math.abs(north) <= 90 && Math.abs(east) <= 540)) throw new Error("a place off the earth");
   return vectorOf(north, east);
 }
-function readGpx(text) {
-  if (!/<([\w-]+:)?gpx[\s>]/.test(text)) throw new Error("no GPX");
+/**
+ * The elements of an XML text, by name.
+ * @param {string} text
+ */
+function elementsOf(text) {
   const tree = new DOMParser().parseFromString(text, "application/xml");
   if (tree.querySelector("parsererror")) throw new Error("not well-formed XML");
-  const spot = it => spotOf(Number.parseFloat(it.getAttribute("lat")),
-    Number.parseFloat(it.getAttribute("lon")));
-  const all = name => [...tree.getElementsByTagNameNS("*", name)];
+  return (/** @type {string} */ name, /** @type {Document | Element} */ of = tree) =>
+    [...of.getElementsByTagNameNS("*", name)];
+}
+/** @param {Element} it */
+const nameOf = it => [...it.children].find(one => one.localName === "name")?.textContent || "";
+/** @param {string} text @returns {Places} */
+function readGpx(text) {
+  if (!/<([\w-]+:)?gpx[\s>]/.test(text)) throw new Error("no GPX");
+  const all = elementsOf(text), degrees = (/** @type {Element} */ it, /** @type {string} */ name) =>
+    Number.parseFloat(it.getAttribute(name) || "");
+  const spot = (/** @type {Element} */ it) => spotOf(degrees(it, "lat"), degrees(it, "lon"));
   const lines = [...all("trkseg"), ...all("rte")].map(it =>
     [...it.children].filter(one => /^(trkpt|rtept)$/.test(one.localName)).map(spot));
-  const points = all("wpt").map(it => ({ vector: spot(it),
-    name: [...it.children].find(one => one.localName === "name")?.textContent || "" }));
+  const points = all("wpt").map(it => ({ vector: spot(it), name: nameOf(it) }));
   return { lines: lines.filter(it => it.length), points };
+}
+/** @param {string} text @returns {Places} */
+function readKml(text) {
+  const all = elementsOf(text);
+  /** @type {Places} */
+  const base = { lines: [], points: [] };
+  const spots = (/** @type {Element} */ it) => (it.textContent || "").trim().split(/\s+/)
+    .map(one => one.split(",").map(Number)).map(([east, north]) => spotOf(north, east));
+  for (const mark of all("Placemark")) {
+    for (const it of all("coordinates", mark)) {
+      if (it.parentElement?.localName === "Point")
+        base.points.push({ vector: spots(it)[0], name: nameOf(mark) });
+      else base.lines.push(spots(it));
+    }
+    const track = all("coord", mark).map(it => (it.textContent || "").trim().split(/\s+/).map(Number));
+    if (track.length) base.lines.push(track.map(([east, north]) => spotOf(north, east)));
+  }
+  return base;
 }
 function readGeoJson(text) {
   const base = { lines: [], points: [] }, spot = ([east, north]) => spotOf(north, east);
@@ -43,39 +89,4 @@ function readGeoJson(text) {
   }
   take(JSON.parse(text), "");
   return base;
-}
-
-/** The calls of a roster: the first word of each line, and what stands after it. */
-const expected = /^\s*([A-Za-z0-9]{1,6}(?:-[0-9]{1,2})?)(?:[\s,;]+(.*))?$/;
-function readRoster(text) {
-  const list = [];
-  for (const line of text.split(/\r?\n/)) {
-    const [, call, note] = expected.exec(line) || [];
-    if (call) list.push({ call: call.toUpperCase(), note: (note || "").trim() });
-  }
-  return list;
-}
-/** When each expected station was last heard. A call without SSID stands for each of its SSIDs. */
-function rosterOf(list, net) {
-  const last = new Map();
-  for (const it of net.things) {
-    if (it.kind !== "station") continue;
-    for (const call of new Set([it.name, it.name.split("-")[0]]))
-      last.set(call, Math.max(last.get(call) ?? -Infinity, it.last));
-  }
-  return list.map(it => ({ ...it, last: last.get(it.call) ?? -Infinity }));
-}
-function rosterList(box, view) {
-  const row = it => {
-    const heard = it.last > -Infinity, silent = !heard || view.now - it.last > view.silent;
-    return make("tr", { className: silent ? "silent" : "" },
-      make("th", { scope: "row", textContent: it.call }),
-      cell("text", make("bdi", { textContent: it.note })),
-      heard ? timeCell(it.last) : cell("num time", "not heard"),
-      heard ? ageCell(it.last, view) : cell("num"));
-  };
-  return new List(box, { id: "expected", caption: "expected stations", row, columns: [
-    { title: "call", value: it => it.call }, { title: "who", value: it => it.note },
-    { title: "last heard", number: true, value: it => it.last },
-    { title: "age", number: true, value: it => -it.last }] });
 }

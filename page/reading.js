@@ -1,22 +1,52 @@
-// The two texts: the history of a book (aprsbook-history) and its listing (aprsbook show). Of a
-// history, columns of numbers are made in one pass; what else stands in a row is cut out of the
-// text when it is asked for.
+// @ts-check
+// The tables of a book (aprsbook-table): a first line that names the columns, then a line for each
+// row, with a tab between two fields. Fields are taken by the names of their columns alone. Of the
+// rows, columns of numbers are made in one pass; what else stands in a row is cut out of the text
+// when it is asked for.
 
-/** What a row is, by its first word, and how many words stand between its head and its place. */
-const BEFORE_PLACE = { position: 0, object: 2, item: 2, "mic-e": 3 };
-const KINDS = [...Object.keys(BEFORE_PLACE), "status", "message", "ack", "rej", "raw"];
-const STATUS = KINDS.indexOf("status"), NONE = 0xffffffff;
+import { vectorOf } from "./globe.js";
+import { Parts } from "./parts.js";
+import { STEP } from "./steps.js";
+import { letterOf, said } from "./words.js";
 
-/** Where the nth word after a place of the text begins. */
-function after(text, at, words) {
-  for (let k = 0; k < words; k++) at = text.indexOf(" ", at) + 1;
-  return at;
+/** What a row is. A kind that this page doesn't know is the last of these. */
+export const KINDS = ["position", "object", "item", "status", "message", "ack", "rej", "mic-e",
+  "weather", "telemetry", "raw", "other"];
+const OTHER = KINDS.length - 1;
+/** What Mic-E says in need, by how much it matters. */
+export const URGENT = ["", "priority", "emergency"];
+
+/** @typedef {{ names: string[], begin: number }} Head the columns' names, and where rows begin */
+
+/** @param {string} text @returns {Head} */
+function headOf(text) {
+  const end = text.indexOf("\n");
+  return end < 0 ? { names: [], begin: text.length }
+    : { names: text.slice(0, end).split("\t"), begin: end + 1 };
 }
-const digit = (text, at) => text.charCodeAt(at) - 48;
-const digits2 = (text, at) => 10 * digit(text, at) + digit(text, at + 1);
+/**
+ * The rows of a small table, each by the names of its columns.
+ * @param {string} text @returns {Record<string, string>[]}
+ */
+export function recordsOf(text) {
+  const { names, begin } = headOf(text), lines = text.slice(begin).split("\n");
+  return lines.filter(Boolean).map(line => recordOf(names, line));
+}
+/** @param {string[]} names @param {string} line @returns {Record<string, string>} */
+function recordOf(names, line) {
+  const fields = line.split("\t");
+  return Object.fromEntries(names.map((name, n) => [name, fields[n] ?? ""]));
+}
+
+const digit = (/** @type {string} */ text, /** @type {number} */ at) => text.charCodeAt(at) - 48;
+const digits2 = (/** @type {string} */ text, /** @type {number} */ at) =>
+  10 * digit(text, at) + digit(text, at + 1);
 const lastDay = { is: -1, begin: 0 };
-/** Seconds since 1970, of a moment such as 2024-06-21T18:00:30.000Z in a text. */
-function secondsAt(text, at) {
+/**
+ * Seconds since 1970, of a moment such as 2024-06-21T18:00:30.000Z in a text.
+ * @param {string} text @param {number} at
+ */
+export function secondsAt(text, at) {
   const year = 100 * digits2(text, at) + digits2(text, at + 2);
   const month = digits2(text, at + 5), day = digits2(text, at + 8);
   const is = (year * 16 + month) * 32 + day;
@@ -26,82 +56,53 @@ function secondsAt(text, at) {
   return lastDay.begin + 3600 * digits2(text, at + 11) + 60 * digits2(text, at + 14) +
     digits2(text, at + 17) + millis / 1000;
 }
-/** Degrees, of a fraction such as -21084/6000 in a text. */
-function degreesAt(text, at) {
+/**
+ * A number such as -72.0291667 in a text.
+ * @param {string} text @param {number} at @param {number} end
+ */
+function numberAt(text, at, end) {
   const sign = text.charCodeAt(at) === 45 ? -1 : 1;
-  const parts = [0, 0];
-  for (let k = sign < 0 ? at + 1 : at, part = 0, n; part < 2; k++) {
-    n = digit(text, k);
-    if (n >= 0 && n <= 9) parts[part] = 10 * parts[part] + n;
-    else part++;
-  }
-  return sign * parts[0] / parts[1];
-}
-
-// where a hash begins, so that nobody can send texts that all have the same one
-const SEED = Math.floor(Math.random() * 2 ** 31);
-/** Gives each of several parts of a text a number, from 0 on, without cutting them out. */
-class Parts {
-  constructor(text) {
-    Object.assign(this, { text, begins: [], ends: [], owns: [], hashes: [],
-      slots: new Int32Array(1024) });
-  }
-  /** The number of a part, which comes with a number of its own that must be the same too. */
-  take(begin, end, own = 0) {
-    const { text } = this;
-    let hash = SEED ^ own;
-    for (let at = begin; at < end; at++) hash = Math.imul(hash ^ text.charCodeAt(at), 0x5bd1e995);
-    hash ^= hash >>> 15;
-    const mask = this.slots.length - 1;
-    for (let slot = hash & mask; ; slot = (slot + 1) & mask) {
-      const n = this.slots[slot] - 1;
-      if (n < 0) return this.add(begin, end, own, hash, slot);
-      if (this.hashes[n] === hash && this.owns[n] === own && this.isSame(n, begin, end)) return n;
+  let all = 0, below = 1, isBelow = false;
+  for (let k = sign < 0 ? at + 1 : at; k < end; k++) {
+    const n = digit(text, k);
+    if (n === -2) isBelow = true;
+    else {
+      all = 10 * all + n;
+      if (isBelow) below *= 10;
     }
   }
-  isSame(n, begin, end) {
-    const from = this.begins[n], { text } = this;
-    if (this.ends[n] - from !== end - begin) return false;
-    for (let k = 0; k < end - begin; k++)
-      if (text.charCodeAt(from + k) !== text.charCodeAt(begin + k)) return false;
-    return true;
-  }
-  add(begin, end, own, hash, slot) {
-    this.slots[slot] = this.begins.push(begin);
-    this.ends.push(end);
-    this.owns.push(own);
-    this.hashes.push(hash);
-    if (2 * this.begins.length > this.slots.length) this.widen();
-    return this.begins.length - 1;
-  }
-  widen() {
-    const mask = 2 * this.slots.length - 1;
-    this.slots = new Int32Array(mask + 1);
-    this.hashes.forEach((hash, n) => {
-      let slot = hash & mask;
-      while (this.slots[slot]) slot = (slot + 1) & mask;
-      this.slots[slot] = n + 1;
-    });
-  }
-  get texts() {
-    return this.begins.map((begin, n) => this.text.slice(begin, this.ends[n]));
-  }
+  return sign * all / below;
 }
 
-/** The columns for so many rows. */
+/**
+ * The columns for so many rows.
+ * @param {number} n
+ */
 const emptyColumns = n => ({
   kind: new Uint8Array(n), first: new Float64Array(n), last: new Float64Array(n),
   // who sent it and what it places, by their numbers in `things`; lists, by theirs in `lists`
   station: new Uint32Array(n), thing: new Uint32Array(n), heard: new Uint32Array(n),
   via: new Uint32Array(n),
-  // where its words and its place begin, and where it ends, in the text
-  rest: new Uint32Array(n), where: new Uint32Array(n), stop: new Uint32Array(n),
-  killed: new Uint8Array(n), north: new Float64Array(n), east: new Float64Array(n),
+  // where its line begins and ends in the text
+  begin: new Uint32Array(n), stop: new Uint32Array(n),
+  killed: new Uint8Array(n), urgent: new Uint8Array(n),
+  // not a number, of what has no place
+  north: new Float64Array(n), east: new Float64Array(n),
   // what has the same text but for moments, receivers and digipeaters has the same number
-  same: new Uint32Array(n),
+  same: new Uint32Array(n), order: new Uint32Array(0),
 });
-/** The numbers of `n` moments, those of earlier ones first, of equal ones as they stand. */
-function orderOf(moments, n) {
+/** @typedef {ReturnType<typeof emptyColumns>} Columns */
+/**
+ * What a worker can hand over of the rows of a table.
+ * @typedef {{ columns: Columns, names: string[], things: string[], lists: string[],
+ *   until: number }} Read
+ */
+
+/**
+ * The numbers of `n` moments, those of earlier ones first, of equal ones as they stand.
+ * @param {Float64Array} moments @param {number} n
+ */
+export function orderOf(moments, n) {
   let least = Infinity, most = -Infinity;
   for (let k = 0; k < n; k++) {
     least = Math.min(least, moments[k]);
@@ -117,152 +118,273 @@ function orderOf(moments, n) {
   return order;
 }
 
-/** Reads the rows of a history into columns. */
-class HistoryReader {
+/** The columns that say when and by whom a row was heard, and not what it is. */
+const HEARD = ["kind", "first", "last", "receivers", "receiver", "source", "destination", "via"];
+
+/** Reads the rows of a table into columns. */
+class TableReader {
+  /** @param {string} text */
   constructor(text) {
-    let n = 0;
+    let n = -1;
     for (let at = -1; (at = text.indexOf("\n", at + 1)) >= 0;) n++;
-    const parts = () => new Parts(text);
-    Object.assign(this, { text, n: 0, until: -Infinity, columns: emptyColumns(n), things: [],
-      lists: parts(), rests: parts(), named: { station: parts(), object: parts(), item: parts() },
-      numbers: { station: [], object: [], item: [] } });
+    const { names, begin } = headOf(text);
+    const of = (/** @type {string} */ name) => names.indexOf(name);
+    this.names = names;
+    this.text = text;
+    this.n = 0;
+    this.at = begin;
+    this.until = -Infinity;
+    this.columns = emptyColumns(Math.max(0, n));
+    /** @type {string[]} */
+    this.things = [];
+    this.lists = new Parts(text);
+    this.rests = new Parts(text);
+    this.named = { station: new Parts(text), object: new Parts(text), item: new Parts(text) };
+    /** @type {Record<string, number[]>} */
+    this.numbers = { station: [], object: [], item: [] };
+    // where each field begins, and the end of the line after them; of a column that isn't there,
+    // two places where it is empty
+    this.begins = new Uint32Array(names.length + 2);
+    this.kind = of("kind");
+    this.first = of("first");
+    this.last = of("last");
+    this.receivers = of("receivers");
+    this.source = of("source");
+    this.via = of("via");
+    this.name = of("name");
+    this.state = of("state");
+    this.latitude = of("latitude");
+    this.longitude = of("longitude");
+    this.says = of("says");
+    this.rest = Math.max(...HEARD.map(of)) + 1;
   }
-  /** The number of the thing whose name stands between two places of the text. */
-  thing(kind, begin, end) {
-    const n = this.named[kind].take(begin, end), numbers = this.numbers[kind];
+  /**
+   * Finds the fields of the line that begins here; gives its end.
+   * @param {number} at
+   */
+  cut(at) {
+    const { text, begins } = this, fields = this.names.length, { length } = text;
+    let n = 1;
+    begins[0] = at;
+    for (; at < length; at++) {
+      const code = text.charCodeAt(at);
+      if (code === 10) break;
+      if (code === 9 && n < fields) begins[n++] = at + 1;
+    }
+    while (n <= fields) begins[n++] = at + 1;
+    return at;
+  }
+  /**
+   * Whether a column is there and not empty.
+   * @param {number} column
+   */
+  has(column) {
+    return column >= 0 && this.begins[column + 1] > this.begins[column] + 1;
+  }
+  /** @param {number} column */
+  field(column) {
+    return column < 0 ? "" : this.text.slice(this.begins[column], this.begins[column + 1] - 1);
+  }
+  /**
+   * The number of a list, such as the receivers.
+   * @param {number} column
+   */
+  list(column) {
+    return column < 0 ? this.lists.take(0, 0)
+      : this.lists.take(this.begins[column], this.begins[column + 1] - 1);
+  }
+  /** The number of the thing of a kind whose name stands in a column. */
+  thing(/** @type {"station" | "object" | "item"} */ kind, /** @type {number} */ column) {
+    const n = this.named[kind].take(this.begins[column], this.begins[column + 1] - 1);
+    const numbers = this.numbers[kind];
     if (n === numbers.length) {
       numbers.push(this.things.length);
-      this.things.push(`${kind} ${this.text.slice(begin, end)}`);
+      this.things.push(`${kind} ${this.field(column)}`);
     }
     return numbers[n];
   }
-  line(at, end) {
-    const { text, columns, n } = this, first = after(text, at, 1);
-    const kind = KINDS.indexOf(text.slice(at, first - 1));
-    if (kind < 0) return;
-    const last = after(text, first, 1), heard = after(text, last, 1);
-    const source = after(text, heard, 1), via = after(text, source, 1), rest = after(text, via, 1);
+  line() {
+    const { text, columns, n, begins } = this, begin = this.at, end = this.cut(begin);
+    this.at = end + 1;
+    if (end === begin) return;
+    const known = KINDS.indexOf(this.field(this.kind)), kind = known < 0 ? OTHER : known;
     columns.kind[n] = kind;
-    columns.first[n] = secondsAt(text, first);
-    columns.last[n] = secondsAt(text, last);
+    columns.first[n] = secondsAt(text, begins[this.first]);
+    columns.last[n] = secondsAt(text, begins[this.last]);
     this.until = Math.max(this.until, columns.last[n]);
-    columns.heard[n] = this.lists.take(heard, source - 1);
-    columns.station[n] = columns.thing[n] = this.thing("station", source, via - 1);
-    columns.via[n] = this.lists.take(via, rest - 1);
-    columns.rest[n] = rest;
+    columns.heard[n] = this.list(this.receivers);
+    columns.station[n] = columns.thing[n] = this.thing("station", this.source);
+    columns.via[n] = this.list(this.via);
+    columns.begin[n] = begin;
     columns.stop[n] = end;
-    columns.same[n] = this.rests.take(rest, end, columns.station[n] * KINDS.length + kind);
-    this.place(KINDS[kind], rest, n);
+    columns.same[n] = this.rests.take(Math.min(begins[this.rest], end), end,
+      columns.station[n] * KINDS.length + kind);
+    if (this.has(this.says)) columns.urgent[n] = Math.max(0, URGENT.indexOf(this.field(this.says)));
+    this.place(KINDS[kind], n);
     this.n++;
   }
-  place(kind, rest, n) {
-    const { text, columns } = this, words = BEFORE_PLACE[kind];
-    if (words === undefined) {
-      columns.where[n] = NONE;
-      return;
+  /** @param {string} kind @param {number} n */
+  place(kind, n) {
+    const { text, columns, begins, latitude, longitude } = this;
+    columns.north[n] = columns.east[n] = NaN;
+    if (kind === "object" || kind === "item") {
+      columns.thing[n] = this.thing(kind, this.name);
+      columns.killed[n] = text.startsWith("killed\t", begins[this.state]) ? 1 : 0;
     }
-    const where = after(text, rest, words), north = after(text, where, 1);
-    if (words === 2) {
-      const state = after(text, rest, 1);
-      columns.thing[n] = this.thing(kind, rest, state - 1);
-      columns.killed[n] = text.startsWith("killed ", state) ? 1 : 0;
-    }
-    columns.where[n] = where;
-    columns.north[n] = degreesAt(text, north);
-    columns.east[n] = degreesAt(text, after(text, north, 1));
+    if (!this.has(latitude) || !this.has(longitude)) return;
+    columns.north[n] = numberAt(text, begins[latitude], begins[latitude + 1] - 1);
+    columns.east[n] = numberAt(text, begins[longitude], begins[longitude + 1] - 1);
   }
 }
-/** The columns of a history, which a worker can hand over. */
-function* columnsOf(text) {
-  const reader = new HistoryReader(text), { columns } = reader;
-  for (let at = 0, end; (end = text.indexOf("\n", at)) >= 0; at = end + 1) {
-    reader.line(at, end);
+/**
+ * The columns of the rows of a table, which a worker can hand over.
+ * @param {string} text @returns {Generator<undefined, Read>}
+ */
+export function* columnsOf(text) {
+  const reader = new TableReader(text), { columns } = reader;
+  while (reader.at < text.length) {
+    reader.line();
     if (reader.n % STEP === 0) yield;
   }
   columns.order = orderOf(columns.first, reader.n);
-  return { columns, things: reader.things, lists: reader.lists.texts, until: reader.until };
+  return { columns, names: reader.names, things: reader.things, lists: reader.lists.texts,
+    until: reader.until };
 }
 
-/** The first `n` words of a text, and what stands after them. */
-function cut(text, n) {
-  const words = [];
-  for (let at = 0; n > 0; n--) {
-    const end = text.indexOf(" ", at);
-    words.push(text.slice(at, end < 0 ? text.length : end));
-    at = end < 0 ? text.length : end + 1;
-    if (n === 1) words.push(text.slice(at));
+/**
+ * A number of a table, where there is one.
+ * @param {string | undefined} text
+ */
+const numeric = text => text ? Number(text) : undefined;
+/** What a row says beside its place, in numbers, each where it says so. */
+const NUMBERS = { course: "course", knots: "speed_knots", metres: "altitude_m",
+  windFrom: "wind_from", wind: "wind_mph", gust: "gust_mph", fahrenheit: "temperature_f",
+  rainHour: "rain_hour", rainDay: "rain_day", rainMidnight: "rain_midnight",
+  humidity: "humidity", pressure: "pressure_tenths", luminosity: "luminosity",
+  range: "range_miles" };
+/** @typedef {Partial<Record<keyof typeof NUMBERS, number>> & { says?: string }} Details */
+
+/** @param {Record<string, string>} it @returns {Details} */
+export function detailsOf(it) {
+  /** @type {Details} */
+  const details = {};
+  for (const [name, column] of Object.entries(NUMBERS)) {
+    const value = numeric(it[column]);
+    if (value !== undefined) details[/** @type {keyof typeof NUMBERS} */ (name)] = value;
   }
-  return words;
+  if (it.says) details.says = it.says;
+  return details;
 }
-/** Of STAMP LATITUDE LONGITUDE AMBIGUITY SYMBOL:COMMENT, all but latitude and longitude. */
-function placeOf(where) {
-  const [stamp, , , ambiguity, rest] = cut(where, 4);
-  let at = rest[0] === "\\" ? 4 : 1;
-  const table = rest.slice(0, at), mark = rest[at] === "\\" ? 4 : 1;
-  const code = rest.slice(at, at + mark);
-  at += mark;
-  return { stamp, ambiguity, table: said(table), code: said(code), comment: rest.slice(at + 1) };
+/**
+ * What a symbol of a table is: its two letters.
+ * @param {string} shown
+ */
+function symbolIn(shown) {
+  const table = letterOf(shown);
+  return { table: said(table), code: said(letterOf(shown.slice(table.length))) };
 }
 
-/** The transmissions of a history: numbers of rows, in `order` by their first moments. */
-class Rows {
-  constructor(text, { columns, things, lists, until }) {
-    Object.assign(this, columns, { text, things, until,
-      lists: lists.map(it => it === "-" ? [] : it.split(",")) });
-    this.length = this.order.length;
+/**
+ * What is known of a thing at a place.
+ * @typedef {{ stamp: string, ambiguity: number, table: string, code: string, comment: string,
+ *   compressed: boolean, north: number, east: number, first: number, last: number, receivers: string[], source: string,
+ *   state: string, vector: number[] } & Details} Place
+ */
+
+/** The transmissions of a table: numbers of rows, in `order` by their first moments. */
+export class Rows {
+  /** @param {string} text @param {Read} read */
+  constructor(text, { columns, names, things, lists, until }) {
+    this.text = text;
+    this.names = names;
+    this.things = things;
+    this.until = until;
+    this.lists = lists.map(it => it === "" || it === "-" ? [] : it.split(","));
+    this.kind = columns.kind;
+    this.first = columns.first;
+    this.last = columns.last;
+    this.station = columns.station;
+    this.thing = columns.thing;
+    this.heard = columns.heard;
+    this.via = columns.via;
+    this.begin = columns.begin;
+    this.stop = columns.stop;
+    this.killed = columns.killed;
+    this.urgent = columns.urgent;
+    this.north = columns.north;
+    this.east = columns.east;
+    this.same = columns.same;
+    this.order = columns.order;
+    this.length = columns.order.length;
   }
-  /** The numbers of those that were heard since a moment. */
+  /**
+   * The numbers of those that were heard since a moment.
+   * @param {number} moment
+   */
   since(moment) {
     return moment === -Infinity ? this.order : this.order.filter(k => this.last[k] >= moment);
   }
+  /**
+   * Whether a row has a place. At 0, 0 is no fix.
+   * @param {number} k
+   */
   hasPlace(k) {
-    return this.where[k] !== NONE;
+    return !Number.isNaN(this.north[k]) && !this.isUnfixed(k);
   }
-  isStatus(k) {
-    return this.kind[k] === STATUS;
+  /** @param {number} k */
+  isUnfixed(k) {
+    return this.north[k] === 0 && this.east[k] === 0;
   }
-  /** What a status says. */
-  statusOf(k) {
-    return this.text.slice(this.text.indexOf(":", this.rest[k]) + 1, this.stop[k]);
+  /**
+   * A row by the names of its columns.
+   * @param {number} k
+   */
+  record(k) {
+    return recordOf(this.names, this.text.slice(this.begin[k], this.stop[k]));
   }
-  /** A place as it stands in the text, which a listing has too. */
-  whereOf(k) {
-    return this.text.slice(this.where[k], this.stop[k]);
+  /**
+   * The kind of a row, as the table names it.
+   * @param {number} k
+   */
+  kindOf(k) {
+    return KINDS[this.kind[k]] === "other" ? this.record(k).kind : KINDS[this.kind[k]];
   }
-  /** All that a row says of a place. */
+  /** @param {number} k @param {string} kind */
+  is(k, kind) {
+    return KINDS[this.kind[k]] === kind;
+  }
+  /**
+   * All that a row says of a place.
+   * @param {number} k
+   * @returns {Place}
+   */
   placeOf(k) {
-    const place = { ...placeOf(this.whereOf(k)), north: this.north[k], east: this.east[k],
-      first: this.first[k], last: this.last[k], receivers: this.lists[this.heard[k]],
-      source: nameIn(this.things[this.station[k]]), state: this.killed[k] ? "killed" : "live" };
-    place.vector = vectorOf(place.north, place.east);
-    if (KINDS[this.kind[k]] !== "mic-e") return place;
-    const [course, knots, says] = this.text.slice(this.rest[k], this.where[k]).split(" ");
-    return Object.assign(place, { course: +course, knots: +knots, says });
+    const it = this.record(k), north = this.north[k], east = this.east[k];
+    return { stamp: it.stamp || "", ambiguity: Number(it.ambiguity || 0), ...symbolIn(it.symbol),
+      comment: it.text || "", compressed: it.compressed === "yes", north, east, first: this.first[k], last: this.last[k],
+      receivers: this.lists[this.heard[k]], source: nameIn(this.things[this.station[k]]),
+      state: this.killed[k] ? "killed" : "live", vector: vectorOf(north, east), ...detailsOf(it) };
   }
 }
-const kindIn = thing => thing.slice(0, thing.indexOf(" "));
-const nameIn = thing => thing.slice(thing.indexOf(" ") + 1);
+export const kindIn = (/** @type {string} */ thing) => thing.slice(0, thing.indexOf(" "));
+export const nameIn = (/** @type {string} */ thing) => thing.slice(thing.indexOf(" ") + 1);
 
-/** MESSAGE of the listing: SOURCE ADDRESSEE ID STATE FIRST LAST:TEXT */
-function messageOf(text, at, end) {
-  const [source, addressee, id, state] = text.slice(at, end).split(" ", 4);
-  const first = after(text, at, 4), last = after(text, first, 1);
-  return { source, addressee, id, state, first: secondsAt(text, first),
-    last: secondsAt(text, last), text: text.slice(last + 25, end) };
+/**
+ * A message as it stands in its table.
+ * @typedef {{ source: string, addressee: string, id: string, text: string, state: string,
+ *   first: number, last: number, answered: number, answeredBy: string, order: number }} Message
+ */
+/** @param {Record<string, string>} it @returns {Message} */
+function messageOf(it) {
+  return { source: it.source, addressee: it.addressee, id: it.id, text: it.text,
+    // a reply-ack of APRS 1.1 says what has no number of its own
+    state: it.reply_ack || it.state,
+    first: secondsAt(it.first, 0), last: secondsAt(it.last, 0),
+    answered: it.answer ? secondsAt(it.answer, 0) : NaN, answeredBy: it.answer_source || "",
+    order: 0 };
 }
-/** The messages of a listing, and the last place of each thing, as text, by kind and name. */
-function readListing(text) {
-  const messages = [], places = new Map();
-  let call = "";
-  for (let at = 0, end; (end = text.indexOf("\n", at)) >= 0; at = end + 1) {
-    const begin = after(text, at, 1), kind = text.slice(at, begin - 1);
-    const word = () => text.slice(begin, text.indexOf(" ", begin));
-    if (kind === "message") messages.push(messageOf(text, begin, end));
-    else if (kind === "station") call = word();
-    else if (kind === "position")
-      places.set("station " + call, text.slice(after(text, begin, 2), end));
-    else if (kind === "object" || kind === "item")
-      places.set(`${kind} ${word()}`, text.slice(after(text, begin, 5), end));
-  }
-  return { messages, places };
-}
+/**
+ * The messages of their table.
+ * @param {string} text
+ */
+export const readMessages = text => recordsOf(text).map(messageOf);

@@ -1,29 +1,30 @@
+// @ts-check
 // Long work in steps, which generators are, so that the page never stands still for long.
 
 /** So many milliseconds the page works before the browser may do what else there is. */
 const SLICE = 20;
 /** After so many rows there is a step. */
-const STEP = 4096;
+export const STEP = 4096;
 
 /** Calls `run` with each number of a list. */
-function* each(numbers, run) {
+export function* each(numbers, run) {
   for (let at = 0; at < numbers.length; at++) {
     run(numbers[at]);
     if (at % STEP === STEP - 1) yield;
   }
 }
 /** A single step. */
-function* once(run) {
+export function* once(run) {
   run();
 }
 /** Takes all steps, and gives what they come to. */
-function atOnce(steps) {
+export function atOnce(steps) {
   let it;
   do it = steps.next(); while (!it.done);
   return it.value;
 }
 /** Takes steps for as long as `goOn` says so; gives what they come to. */
-async function inSlices(steps, goOn) {
+export async function inSlices(steps, goOn) {
   while (goOn()) {
     const until = performance.now() + SLICE;
     do {
@@ -37,7 +38,7 @@ async function inSlices(steps, goOn) {
 const waiting = [];
 let timer = 0;
 /** Takes steps once the page has been painted, after those that wait; `key` is their name. */
-function later(key, steps) {
+export function later(key, steps) {
   const before = waiting.findIndex(it => it.key === key);
   if (before >= 0) waiting.splice(before, 1);
   waiting.push({ key, steps });
@@ -53,6 +54,6 @@ function runWaiting() {
   if (waiting.length) timer ||= setTimeout(runWaiting);
 }
 /** Takes at once all steps that wait, for paper. */
-function runAllWaiting() {
+export function runAllWaiting() {
   while (waiting.length) atOnce(waiting.shift().steps);
 }

@@ -1,4 +1,7 @@
+// @ts-check
 // APRS symbols as shapes of our own, drawn in a square of 24 by 24.
+
+import { svg } from "./dom.js";
 
 const SHAPES = {
   aeroplane: "M12 2l1.6 6.6L22 13v2.2l-8.3-2.4-.6 5 2.4 1.8V21L12 20l-3.5 1v-1.4l2.4-1.8-.6-5L2 15.2V13l8.4-4.4z",
@@ -59,7 +62,7 @@ const ALTERNATE = {
 };
 
 /** The shape of a place's symbol, its word, and the letter that is laid over it. */
-function symbolOf(place) {
+export function symbolOf(place) {
   const [shape, ...words] = ((place.table === "/" ? PRIMARY : ALTERNATE)[place.code] || "dot")
     .split(" ");
   const overlay = place.table === "/" || place.table === "\\" ? "" : place.table;
@@ -67,19 +70,19 @@ function symbolOf(place) {
     (overlay ? ` ${overlay}` : "") };
 }
 const paths = new Map();
-function pathOf(shape) {
+export function pathOf(shape) {
   if (!paths.has(shape)) paths.set(shape, new Path2D(SHAPES[shape]));
   return paths.get(shape);
 }
 /** A colour of the track, by name, so that it is the same in each page. */
-const TRACKS = 10;
-function colourOf(name) {
+export const TRACKS = 10;
+export function colourOf(name) {
   let sum = 7;
   for (let k = 0; k < name.length; k++) sum = (sum * 31 + name.charCodeAt(k)) % 65521;
   return sum % TRACKS;
 }
 /** A thing's mark for a table: its symbol in the colour of its track. */
-function markOf(thing) {
+export function markOf(thing) {
   const shape = thing.killed ? "x" : symbolOf(thing.now).shape;
   return svg("svg", { class: `mark t${thing.colour}`, viewBox: "0 0 24 24",
     "aria-hidden": "true" }, svg("path", { d: SHAPES[shape], "fill-rule": "evenodd" }));

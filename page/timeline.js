@@ -1,9 +1,16 @@
+// @ts-check
 // How many transmissions there were in each part of the time, of all and of each station.
+
+import { make, svg } from "./dom.js";
+import { cell, List } from "./lists.js";
+import { nameIn } from "./reading.js";
+import { each } from "./steps.js";
+import { count, dateText, hourText } from "./words.js";
 
 const PARTS = 144;
 
 /** A strip for all and one for each station, as rows of a list. */
-function* timelineList(box, rows, net) {
+export function* timelineList(box, rows, net) {
   const width = Math.max(net.end - net.begin, 1) / PARTS, all = new Uint32Array(PARTS);
   const by = [], counts = new Map([["all", all]]);
   yield* each(net.rows, k => {

@@ -15,11 +15,14 @@ import re
 import sys
 
 HERE = pathlib.Path(__file__).resolve().parent
-# what draws, in each page; what reads logs; and what runs the module, beside the page
-DRAWS = ("words dom steps reading net globe symbols comment grid map hands lists messages tables "
-         "timeline overlays exports event alive begin").split()
-READS = "drop follow".split()
-RUNS = "host steps reading worker".split()
+# what draws, in each page; what reads logs; and what runs the module, beside the page: each a module
+# that imports others
+DRAWS, READS, RUNS = "begin", "reads", "worker"
+IMPORT = re.compile(r'^import (\{[^}]*\}) from "\./(\w+)\.js";\n', re.M)
+EXPORT = re.compile(r"^export (?=(?:async )?(?:const|let|function\*?|class) +(\w+|\{[^}]*\}))", re.M)
+LIST = re.compile(r"^export (\{[^}]*\});\n", re.M)
+# whether a caller has to give tables: once aprsbook-table has rows and messages
+TABLES = False
 FOOTER = "Made by {} from a book of aprsbook."
 
 
@@ -27,9 +30,39 @@ def read(name):
     return (HERE / name).read_text(encoding="utf-8")
 
 
-def script(names):
-    """These files as one script, which leaves no name behind but those that it gives away."""
-    parts = "".join(read(name + ".js") for name in names)
+def words_in(text):
+    return re.findall(r"\w+", text)
+
+
+def scope(name, text):
+    """A module as a scope of its own, which gives away what it exports."""
+    inside = IMPORT.sub(lambda it: f"const {it[1]} = in_{it[2]};\n", text)
+    exported = [word for it in EXPORT.findall(inside) + LIST.findall(inside) for word in words_in(it)]
+    inside = LIST.sub("", EXPORT.sub("", inside))
+    if re.search("^(?:import|export)", inside, re.M):
+        raise ValueError(f"{name}.js: an import or export of another form")
+    return f"const in_{name} = (() => {{\n{inside}return {{ {', '.join(exported)} }};\n}})();\n"
+
+
+def modules_of(name, found):
+    """This module after those that it imports, each once and as a scope."""
+    if name in found:
+        if not found[name]:
+            raise ValueError(f"{name}.js imports itself by others")
+        return found
+    found[name] = ""
+    text = read(name + ".js")
+    for _, it in IMPORT.findall(text):
+        modules_of(it, found)
+    del found[name]
+    found[name] = scope(name, text)
+    return found
+
+
+def script(name):
+    """A module and those that it imports as one script, which leaves no name behind but those that
+    it gives away."""
+    parts = "".join(modules_of(name, {}).values())
     if "</script" in parts:
         raise ValueError("a script that would end its own element")
     return f'"use strict";\n(() => {{\n{parts}}})();\n'
@@ -50,6 +83,11 @@ def filled(values):
     return re.sub("@([A-Z]+)@", lambda it: values[it[1]], read("shell.html"))
 
 
+def coast():
+    """The coasts of the world, as build/coast.py packs them."""
+    return read("coast.txt").strip()
+
+
 def policy(scripts, style, more=""):
     """No script runs but these, nothing is styled by others, and nothing is loaded."""
     return (f"default-src 'none'; script-src {' '.join(map(digest, scripts))}{more}; "
@@ -57,13 +95,14 @@ def policy(scripts, style, more=""):
 
 
 def event(data):
-    """The page of an event: title, live, silent, gap, maps, roster, notes, history, listing."""
+    """The page of an event: title, live, silent, gap, maps, roster, notes; and of its book the tables
+    rows and messages, or where there are none its history and its listing."""
     draws, style = script(DRAWS), read("page.css")
     asks = "; connect-src 'self'" if data["live"] else ""
     return filled({
         "TITLE": html.escape(data["title"]), "STYLE": style, "FILES": "",
         "POLICY": policy([draws], style) + asks, "FOOTER": FOOTER.format("event-page"),
-        "DATA": as_data(data), "SCRIPTS": f"<script>{draws}</script>",
+        "COAST": coast(), "DATA": as_data(data), "SCRIPTS": f"<script>{draws}</script>",
     })
 
 
@@ -78,7 +117,7 @@ def whole(module):
     return filled({
         "TITLE": "aprsbook", "STYLE": style, "FILES": read("files.html"),
         "POLICY": policy([draws, reads], style, more), "FOOTER": FOOTER.format("this page"),
-        "DATA": "", "SCRIPTS": f'<script id="draws">{draws}</script>\n'
+        "COAST": coast(), "DATA": "", "SCRIPTS": f'<script id="draws">{draws}</script>\n'
         f'<script type="application/json" id="parts">{parts}</script>\n<script>{reads}</script>',
     })
 

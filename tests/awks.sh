@@ -5,7 +5,7 @@
 # leaves out because a tool isn't there.
 # usage: tests/awks.sh PROGRAM
 . "$(dirname "$0")/program.sh"
-examples=$repository/examples recipes=$repository/examples/recipes
+examples=$repository/examples
 cd "$scratch"
 
 # ---- the cookbook under each ----
@@ -28,35 +28,21 @@ done
 
 mkdir locales
 export LOCPATH="$scratch/locales"
-if ! has 'a decimal comma' localedef; then
+if ! has 'a decimal comma' localedef aprsbook-table; then
     :
 elif ! localedef -i de_DE -f UTF-8 locales/de_DE.UTF-8 > said 2>&1; then
     echo "left out: a decimal comma (needs the language de_DE, as in Debian's package locales)"
 else
     aprsbook merge "$examples"/evening/*.log "$examples/slow.log" > net.book
-    aprsbook show net.book > listing
-    history-rows net.book > rows
-    aprsbook-history net.book > history
-    cat > atest.txt << 'end'
-DECODED[1] 1:02.345 N0CALL audio level = 50(21/22)     |||||||||
-  000:  82 a0 a4 a6 40 40 e0 9c 60 86 82 98 98 6f 03 f0  ....@@..`....o..
-  010:  3e 48 69                                         >Hi
-------
-end
+    aprsbook-table net.book > rows
     # all AWK..: what each file of awk prints
     all() {
-        "$@" -f "$recipes/places.awk" rows
-        "$@" -f "$examples/map.awk" listing
-        "$@" -v within=54.51,-3.54,54.53,-3.50 -f "$examples/map.awk" listing
-        "$@" -f "$examples/coverage.awk" net.book
-        "$@" -f "$recipes/log.awk" net.book
-        "$@" -f "$recipes/pcap.awk" net.book
-        "$@" -f "$recipes/receivers.awk" net.book | sort
-        "$@" -f "$recipes/stations.awk" history | sort
-        "$@" -v start=1714564800 -v name=TAPE -f "$recipes/atest.awk" atest.txt
+        "$@" -f "$examples/map.awk" rows
+        "$@" -v within=54.51,-3.54,54.53,-3.50 -f "$examples/map.awk" rows
+        "$@" -f "$examples/coverage.awk" rows
     }
     all awk > expected
-    says '^2024-05-01T12:01:02.345Z TAPE c00082' expected
+    [ -s expected ] || fail 'nothing is drawn'
     for awk in mawk gawk 'gawk --use-lc-numeric' 'busybox awk'; do
         has "a decimal comma with $awk" "${awk%% *}" || continue
         # shellcheck disable=SC2086 # the name of one, or a name and an argument

@@ -2,9 +2,10 @@
 # Tries what each program complains of, word for word, and the exit status that comes with it: inputs
 # that can't be opened, faults of an input by its path and of standard input, wrong words, refused
 # outputs and refused memory. Needs a POSIX system; what needs more says so where it is left out.
-# usage: tests/complaints.sh PROGRAM HISTORY
+# usage: tests/complaints.sh PROGRAM HISTORY TABLE
 . "$(dirname "$0")/program.sh"
 [ -n "$history" ] || fail "there is no program of histories"
+[ -n "$table" ] || fail "there is no program of tables"
 cd "$scratch"
 printf '%s\n' \
     '2024-05-01T12:00:00Z RX1 c00082a0a4a64040e09c60868298986f03f03e4869c0' \
@@ -33,10 +34,12 @@ for command in check 'convert text' 'convert kiss' merge show 'widen 60'; do
     writes_nothing
 done
 complains 1 'aprsbook-history: no such.log: cannot open' aprsbook-history 'no such.log'
+complains 1 'aprsbook-table: no such.log: cannot open' aprsbook-table 'no such.log'
 writes_nothing
 # the first that can't be opened is named, and none is read before that
 complains 1 'aprsbook: second: cannot open' aprsbook merge bad.log second third
 complains 1 'aprsbook-history: second: cannot open' aprsbook-history bad.log second third
+complains 1 'aprsbook-table: second: cannot open' aprsbook-table bad.log second third
 
 for command in check 'convert text' merge show 'widen 60'; do
     # shellcheck disable=SC2086
@@ -44,22 +47,27 @@ for command in check 'convert text' merge show 'widen 60'; do
     complains 1 'aprsbook: standard input: line 3: Hex' sh -c "aprsbook $command < bad.log"
 done
 complains 1 'aprsbook-history: bad.log: line 3: Hex' aprsbook-history bad.log
+complains 1 'aprsbook-table: bad.log: line 3: Hex' aprsbook-table bad.log
 complains 1 'aprsbook-history: standard input: line 3: Hex' sh -c "aprsbook-history < bad.log"
+complains 1 'aprsbook-table: standard input: line 3: Hex' sh -c "aprsbook-table < bad.log"
 # of several inputs the one at fault
 complains 1 'aprsbook: bad.log: line 3: Hex' aprsbook merge good.log bad.log good.book
 writes_nothing
 complains 1 'aprsbook-history: bad.log: line 3: Hex' aprsbook-history good.log bad.log good.book
+complains 1 'aprsbook-table: bad.log: line 3: Hex' aprsbook-table good.log bad.log good.book
 writes_nothing
 # a book, cut short
 head -n 1 good.book > cut.book
 complains 1 'aprsbook: cut.book: line 2: Ending' aprsbook show cut.book
 complains 1 'aprsbook-history: cut.book: line 2: Ending' aprsbook-history cut.book
+complains 1 'aprsbook-table: cut.book: line 2: Ending' aprsbook-table cut.book
 complains 1 'aprsbook: standard input: line 2: Ending' sh -c 'aprsbook merge < cut.book'
 # other gaps
 for command in merge show; do
     complains 1 'aprsbook: wide.book: other gap' aprsbook $command good.log wide.book
 done
 complains 1 'aprsbook-history: wide.book: other gap' aprsbook-history good.log wide.book
+complains 1 'aprsbook-table: wide.book: other gap' aprsbook-table good.log wide.book
 complains 1 'aprsbook: standard input: other gap' sh -c 'aprsbook show < wide.book'
 complains 1 'aprsbook: wide.book: narrower' aprsbook widen 30 wide.book
 complains 1 'aprsbook: standard input: narrower' sh -c 'aprsbook widen 30 < wide.book'
@@ -97,13 +105,17 @@ done
 
 complains 3 'aprsbook: cannot write' sh -c 'aprsbook merge good.log >&-'
 complains 3 'aprsbook-history: cannot write' sh -c "aprsbook-history good.log >&-"
+complains 3 'aprsbook-table: cannot write' sh -c "aprsbook-table good.log >&-"
 complains 3 'aprsbook-history: cannot write' sh -c "aprsbook-history --help >&-"
+complains 3 'aprsbook-table: cannot write' sh -c "aprsbook-table --help >&-"
 complains 3 'aprsbook-history: cannot write' sh -c "aprsbook-history --version >&-"
+complains 3 'aprsbook-table: cannot write' sh -c "aprsbook-table --version >&-"
 # a fault of the input comes before that of the output
 complains 1 'aprsbook: bad.log: line 3: Hex' sh -c 'aprsbook check bad.log >&-'
 complains 1 'aprsbook: bad.log: line 3: Hex' sh -c 'aprsbook convert text bad.log >&-'
 if [ -c /dev/full ]; then
     complains 3 'aprsbook-history: cannot write' sh -c "aprsbook-history good.log > /dev/full"
+    complains 3 'aprsbook-table: cannot write' sh -c "aprsbook-table good.log > /dev/full"
     complains 1 'aprsbook: bad.log: line 3: Hex' sh -c 'aprsbook check bad.log > /dev/full'
 fi
 # standard error may be closed: the status says it
@@ -123,6 +135,7 @@ if sh -c 'ulimit -v 20000 && aprsbook check good.log; exit $?' > written 2>&1; t
         writes_nothing
     done
     complains 4 'aprsbook-history: out of memory' sh -c "ulimit -v 20000; aprsbook-history large.log"
+    complains 4 'aprsbook-table: out of memory' sh -c "ulimit -v 20000; aprsbook-table large.log"
     writes_nothing
 else
     echo 'left out: memory (needs ulimit -v, and a program that runs without qemu)'

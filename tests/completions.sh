@@ -1,15 +1,16 @@
 #!/usr/bin/env bash
-# Tries what the completion of bash offers, for words that end where the cursor stands.
+# Tries what the completions of bash, and of fish where it is there, offer for words that end where the
+# cursor stands.
 set -euo pipefail
 export LC_ALL=C
 cd "$(dirname "$0")/.."
-# shellcheck source=../completions/aprsbook.bash
-source completions/aprsbook.bash
-# shellcheck source=../completions/aprsbook-history.bash
-source completions/aprsbook-history.bash
-# shellcheck source=../completions/aprsbook-table.bash
-source completions/aprsbook-table.bash
-# bash knows this only while it completes
+repository=$PWD
+for it in completions/*.bash; do
+    # shellcheck disable=SC1090
+    source "$it"
+done
+# bash knows this only while it completes, and the completions call it
+# shellcheck disable=SC2317
 compopt() { :; }
 scratch=$(mktemp -d)
 trap 'rm -rf "$scratch"' EXIT
@@ -30,11 +31,7 @@ offers() {
     done
     if [[ -n $rest ]]; then COMP_WORDS+=(''); fi
     COMP_CWORD=$((${#COMP_WORDS[@]} - 1))
-    case ${COMP_WORDS[0]} in
-    aprsbook) _aprsbook ;;
-    aprsbook-history) _aprsbook_history ;;
-    aprsbook-table) _aprsbook_table ;;
-    esac
+    "_${COMP_WORDS[0]//-/_}"
     if [[ $(printf '%s\n' "$@" | sort) != $(printf '%s\n' "${COMPREPLY[@]}" | sort) ]]; then
         echo "tests/completions.sh: after '$COMP_LINE': ${COMPREPLY[*]@Q}, not ${*@Q}" >&2
         failed=1
@@ -69,12 +66,37 @@ offers 'aprsbook-history rx1.log ' 2024-05-01T12:00.log rx1.log 'a b.log' 'di:r'
 offers 'aprsbook-history 2024-05-01T12:' 00.log
 offers 'aprsbook-history 2024-05-01T12:0' 00.log
 offers 'aprsbook-history rx1.log di:r/' r/x.log
-offers 'aprsbook-table ' rows 2024-05-01T12:00.log rx1.log 'a b.log' 'di:r'
+offers 'aprsbook-table ' rows messages stations things 2024-05-01T12:00.log rx1.log 'a b.log' 'di:r'
 offers 'aprsbook-table r' rows rx1.log
 offers 'aprsbook-table rows r' rx1.log
 offers 'aprsbook-table -' --gap --help --version
 offers 'aprsbook-table --gap '
 offers 'aprsbook-table rows --gap 60 r' rx1.log
 offers 'aprsbook-table 2024-05-01T12:' 00.log
-[ $failed = 0 ] && echo 'the completion of bash offers what it has to'
+# ---- fish, where it is there ----
+
+# fish_offers LINE WORD..: these words alone are offered
+fish_offers() {
+    local line=$1 offered
+    shift
+    offered=$(fish -c "for it in $repository/completions/*.fish; source \$it; end; complete -C'$line'" |
+        cut -f 1)
+    if [[ $(printf '%s\n' "$@" | sort) != $(printf '%s\n' "$offered" | sort) ]]; then
+        echo "tests/completions.sh: fish after '$line': ${offered//$'\n'/ }, not $*" >&2
+        failed=1
+    fi
+}
+if command -v fish > /dev/null; then
+    fish_offers 'aprsbook ' check convert merge widen show help
+    fish_offers 'aprsbook convert ' text kind kiss log capture
+    fish_offers 'aprsbook convert capture --' --receiver --moment --help
+    fish_offers 'aprsbook help m' merge
+    fish_offers 'aprsbook widen ' ''
+    fish_offers 'aprsbook widen 60 rx' rx1.log
+    fish_offers 'aprsbook merge --' --gap --help
+    fish_offers 'aprsbook --' --help --version
+    fish_offers 'aprsbook-history --' --gap --help --version
+    fish_offers 'aprsbook-table ro' rows
+fi
+[ $failed = 0 ] && echo 'the completions of bash and fish offer what they have to'
 exit $failed

@@ -1,12 +1,13 @@
 #!/bin/sh
 # Tries the programs for other machines that `make arm64` and `make static` made: what the tests of
-# the programs try, and that each answers as PROGRAM and HISTORY do on the examples and on 300 logs,
+# the programs try, and that each answers as the given programs do on the examples and on 300 logs,
 # books and damaged ones (of the two for ARM, which are linked of one object, that without libraries).
 # ARM is that of a Raspberry Pi 3, whose processor qemu plays. Then what becomes of runs that get
 # little memory. Says what it leaves out because a program or a tool isn't there.
-# usage: tests/everywhere.sh PROGRAM HISTORY
+# usage: tests/everywhere.sh PROGRAM HISTORY TABLE
 . "$(dirname "$0")/program.sh"
 [ -n "$history" ] || fail "there is no program of histories"
+[ -n "$table" ] || fail "there is no program of tables"
 made=$repository/out
 cd "$scratch"
 # tests/books.sh, run as root, runs a program as another user
@@ -18,21 +19,21 @@ mkdir inputs programs
 
 # here NAME FOLDER WHAT: its programs run on this processor
 here() {
-    for it in aprsbook aprsbook-history; do
+    for it in aprsbook aprsbook-history aprsbook-table; do
         if [ ! -x "$2/$it" ]; then
             echo "left out: $1 (no program $it is built: make $3)"
             return
         fi
     done
     mkdir "programs/$1"
-    ln -s "$2/aprsbook" "$2/aprsbook-history" "programs/$1"
+    ln -s "$2/aprsbook" "$2/aprsbook-history" "$2/aprsbook-table" "programs/$1"
 }
 # there NAME FOLDER WHAT: they run on an ARM processor
 there() {
     has "$1" qemu-aarch64-static || return 0
     here "$@"
     [ -d "programs/$1" ] || return 0
-    for it in aprsbook aprsbook-history; do
+    for it in aprsbook aprsbook-history aprsbook-table; do
         rm "programs/$1/$it"
         printf '#!/bin/sh\nexec qemu-aarch64-static -cpu cortex-a53 -L %s "%s" "$@"\n' \
             /usr/aarch64-linux-gnu "$2/$it" > "programs/$1/$it"
@@ -62,7 +63,7 @@ answers() {
     shift
     for input; do
         for words in 'aprsbook check' 'aprsbook convert kind' 'aprsbook merge' 'aprsbook show' \
-            aprsbook-history; do
+            aprsbook-history aprsbook-table; do
             echo "$words $input"
             # shellcheck disable=SC2086 # one word each
             "$folder"/$words "$input" 2>&1 || echo "status $?"
@@ -73,15 +74,18 @@ answers() {
     "$folder/aprsbook" convert kiss inputs/hill.log
     "$folder/aprsbook-history" --gap 60 inputs/hill.log inputs/coast.log inputs/north.log
     "$folder/aprsbook" --help
+    "$folder/aprsbook-table" messages --gap 60 inputs/hill.log inputs/coast.log inputs/north.log
     "$folder/aprsbook-history" --help
+    "$folder/aprsbook-table" --help
 }
 # tried NAME: the tests with its programs, and their answers
 tried() {
     for test in readme old_book gaps full_output logs books; do
         "$repository/tests/$test.sh" "programs/$1/aprsbook" || return 1
     done
-    for test in complaints history; do
-        "$repository/tests/$test.sh" "programs/$1/aprsbook" "programs/$1/aprsbook-history" || return 1
+    for test in complaints history table; do
+        "$repository/tests/$test.sh" "programs/$1/aprsbook" "programs/$1/aprsbook-history" \
+            "programs/$1/aprsbook-table" || return 1
     done
     case $1 in
     arm64) answers "programs/$1" inputs/*.* ;;
@@ -110,7 +114,7 @@ done
 
 if [ -d programs/static-amd64 ] && has 'old x86-64 processors' qemu-x86_64-static; then
     # shellcheck disable=SC2086 # one word each
-    for words in 'aprsbook show' aprsbook-history; do
+    for words in 'aprsbook show' aprsbook-history aprsbook-table; do
         bin/$words inputs/hill.log > expected
         qemu-x86_64-static -cpu Nehalem programs/static-amd64/$words inputs/hill.log > here 2> said ||
             fail "$words on a Nehalem says: $(cat said)"
@@ -145,7 +149,7 @@ for it in bin programs/static-amd64; do
     [ -d "$it" ] || continue
     short 'ulimit -v 20000' 0 "$it/aprsbook" check
     short 'ulimit -v 20000' 0 "$it/aprsbook" convert kind
-    for words in 'aprsbook merge' 'aprsbook show' 'aprsbook widen 60' aprsbook-history; do
+    for words in 'aprsbook merge' 'aprsbook show' 'aprsbook widen 60' aprsbook-history aprsbook-table; do
         # shellcheck disable=SC2086 # one word each
         short 'ulimit -v 20000' 4 "$it"/$words
         # shellcheck disable=SC2086 # one word each

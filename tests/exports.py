@@ -25,6 +25,12 @@ HEARD_HERE = f"{FIRST}.000Z {FIRST}.000Z RX1 RX1"
 HEARD_BY_BOTH = f"{FIRST}.000Z {LAST}.000Z RX1,RX2 RX2"
 HEARD_THERE = f"{LAST}.000Z {LAST}.000Z RX2 RX2"
 LISTING = f"station N0CALL-7 1\nstatus {LAST}.000Z RX2 -:Hi\n".encode()
+COLUMNS = ("kind first last receivers receiver source destination via gate name state id latitude"
+           " longitude ambiguity compressed symbol stamp course speed_knots altitude_m wind_from"
+           " wind_mph gust_mph temperature_f rain_hour rain_day rain_midnight humidity"
+           " pressure_tenths luminosity telemetry_sequence a1 a2 a3 a4 a5 bits says text").split()
+ROW = {"kind": "status", "first": f"{FIRST}.000Z", "last": f"{LAST}.000Z", "receivers": "RX1,RX2",
+       "receiver": "RX2", "source": "N0CALL-7", "destination": "APRS", "text": "Hi"}
 WORD = ctypes.c_uint64
 SIZE = ctypes.c_size_t
 PLENTY = 65536
@@ -147,34 +153,49 @@ def try_conversions():
         no_run("aprs_capture", [receiver, moment, KISS])
 
 
-def gathered(gap, *inputs):
-    return [gap, b"".join(inputs), [len(it) for it in inputs]]
+def gathered(gap, *inputs, words=()):
+    return [gap, *words, b"".join(inputs), [len(it) for it in inputs]]
 
 
 def try_gathering():
-    for function, both, none in (("aprs_merge", book(30, [HEARD_BY_BOTH]), book(30, [])),
-                                 ("aprs_show", LISTING, b"")):
-        one(function, gathered(30, HERE, THERE), both)
-        one(function, gathered(30, HERE, b"", book(30, [HEARD_THERE])), both)
-        one(function, gathered(30), none)
-        try_rooms(function, gathered(30, b""), none)
-        # which input is at fault, and where
-        try_rooms(function, gathered(30, HERE, TWICE, b"y"), b"", (1, 1, 2), b"Moment")
-        try_rooms(function, gathered(30, HERE, book(60, [])), b"", (1, 1, 0), b"other gap")
-        try_rooms(function, gathered(30, book(30, [])[:-2], HERE), b"", (1, 0, 2), b"Ending")
-        # inputs are cut where the lengths say
-        try_rooms(function, [30, HERE + THERE, [len(HERE) - 1, len(THERE) + 1]], b"", (1, 0, 1),
-                  b"NoNewline")
-        every = HERE + THERE
-        for lengths in ([], [len(HERE)], [len(every) - 1], [len(every) + 1], [len(HERE)] * 3,
-                        [2 ** 64 - 1, len(every) + 1], [len(every), 2 ** 64 - 1, 1]):
-            no_run(function, [30, every, lengths])
-        no_run(function, [30, b"", [1]])
-        for gap in (0, 3601, 2 ** 64 - 1):
-            no_run(function, gathered(gap, HERE, THERE))
+    # a later version may have more columns at the end
+    columns = call("aprs_table", gathered(30, words=[b"rows"]))[1].split(b"\n")[0].decode().split("\t")
+    expect(columns[:len(COLUMNS)] == COLUMNS, "aprs_table has the columns", columns)
+    header = ("\t".join(columns) + "\n").encode()
+    row = ("\t".join(ROW.get(it, "") for it in columns) + "\n").encode()
+    for function, words, both, none in (
+            ("aprs_merge", [], book(30, [HEARD_BY_BOTH]), book(30, [])),
+            ("aprs_show", [], LISTING, b""), ("aprs_table", [b"rows"], header + row, header)):
+        try_gathering_to(function, words, both, none)
+    for name in b"", b"row", b"rowss", b"Rows", b"rows\0":
+        no_run("aprs_table", gathered(30, HERE, words=[name]))
     two = [HEARD_HERE, HEARD_THERE]
     try_rooms("aprs_merge", gathered(1, HERE, THERE), book(1, two))
     try_rooms("aprs_merge", gathered(3600, HERE, THERE), book(3600, [HEARD_BY_BOTH]))
+
+
+def try_gathering_to(function, words, both, none):
+    def given(gap, *inputs):
+        return gathered(gap, *inputs, words=words)
+
+    one(function, given(30, HERE, THERE), both)
+    one(function, given(30, HERE, b"", book(30, [HEARD_THERE])), both)
+    one(function, given(30), none)
+    try_rooms(function, given(30, b""), none)
+    # which input is at fault, and where
+    try_rooms(function, given(30, HERE, TWICE, b"y"), b"", (1, 1, 2), b"Moment")
+    try_rooms(function, given(30, HERE, book(60, [])), b"", (1, 1, 0), b"other gap")
+    try_rooms(function, given(30, book(30, [])[:-2], HERE), b"", (1, 0, 2), b"Ending")
+    # inputs are cut where the lengths say
+    try_rooms(function, [30, *words, HERE + THERE, [len(HERE) - 1, len(THERE) + 1]], b"", (1, 0, 1),
+              b"NoNewline")
+    every = HERE + THERE
+    for lengths in ([], [len(HERE)], [len(every) - 1], [len(every) + 1], [len(HERE)] * 3,
+                    [2 ** 64 - 1, len(every) + 1], [len(every), 2 ** 64 - 1, 1]):
+        no_run(function, [30, *words, every, lengths])
+    no_run(function, [30, *words, b"", [1]])
+    for gap in (0, 3601, 2 ** 64 - 1):
+        no_run(function, given(gap, HERE, THERE))
 
 
 def try_widening():

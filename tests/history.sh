@@ -71,8 +71,8 @@ END { for (it in last) print it, last[it] }' "$scratch/evening" | sort | cmp -s 
 
 # ---- each place, and what has none, as Dire Wolf reads it ----
 
-if has "Dire Wolf's places" decode_aprs; then
-    awk -f "$repository/examples/recipes/log.awk" "$scratch/all.book" | aprsbook convert text |
+if has "Dire Wolf's places" decode_aprs python3; then
+    "$repository/tools/bin/aprs-net" import book "$scratch/all.book" | aprsbook convert text |
         sed 's/\\x\(..\)/<0x\1>/g' | while IFS= read -r text; do
         place=$(printf '%s\n' "$text" | decode_aprs | grep -ao '[NS] [0-9]* [0-9.]*, [EW] [0-9]* [0-9.]*' || true)
         echo "${place:-none}"

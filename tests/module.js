@@ -1,15 +1,19 @@
-"use strict";
 // Runs the commands by the module and by the program, over the given files, books made of them,
 // damaged texts and none, and compares bytes, statuses and what is said of a fault.
 // usage: node [--experimental-wasm-memory64] tests/module.js MODULE PROGRAM COUNT SEED FILE..
-const fs = require("fs"), path = require("path"), { spawnSync } = require("child_process");
-const { FUNCTIONS, attempt, run } = require("../page/host.js");
+import { spawnSync } from "node:child_process";
+import fs from "node:fs";
+import path from "node:path";
+import { attempt, FUNCTIONS, run } from "../page/host.js";
+
 const [file, program, count, seed, ...files] = process.argv.slice(2);
 const code = new WebAssembly.Module(fs.readFileSync(file));
 const COMMANDS = Object.keys(FUNCTIONS);
-const SEVERAL = ["merge", "show", "history"];
-// the history has a program of its own
-const NAME_OF = command => command === "history" ? "aprsbook-history" : "aprsbook";
+const TABLES = COMMANDS.filter(it => it.startsWith("table "));
+const SEVERAL = ["merge", "show", "history", ...TABLES];
+// the history and the tables have programs of their own
+const NAME_OF = command => command === "history" ? "aprsbook-history"
+  : TABLES.includes(command) ? "aprsbook-table" : "aprsbook";
 const CAPTURE = ["RX1", "2024-05-01T12:00:00Z"];
 let runs = 0, faults = 0;
 
@@ -21,11 +25,11 @@ function fail(...words) {
 function byProgram(command, options, inputs) {
   const names = inputs.map((_, k) => path.join(process.cwd(), `input-${k}`));
   inputs.forEach((it, k) => fs.writeFileSync(names[k], it));
-  const words = command === "history" ? [] : command.split(" ");
+  const own = NAME_OF(command) !== "aprsbook", words = command.split(" ").slice(own ? 1 : 0);
   if (SEVERAL.includes(command)) words.push("--gap", String(options));
   if (command === "widen") words.push(String(options));
   if (command === "convert capture") words.push("--receiver", options[0], "--moment", options[1]);
-  const it = spawnSync(command === "history" ? NAME_OF(command) : program, [...words, ...names],
+  const it = spawnSync(own ? NAME_OF(command) : program, [...words, ...names],
     { input: "", maxBuffer: 1 << 30 });
   return { status: it.status, bytes: it.stdout, said: it.stderr.toString(), names };
 }

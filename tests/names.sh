@@ -17,17 +17,21 @@ trap 'rm -rf "$scratch"' EXIT
 
 # what is no name of this repository
 cat > "$scratch/others" << 'end'
-tools: awk callgrind cat ctypes decode_aprs direwolf gcc gen_packets git grep nc nice od ogr2ogr python3 rsync
-shellcheck sort stdbuf stdin stdout text2pcap valgrind zcat
+tools: awk callgrind mypy cat ctypes decode_aprs direwolf gcc gen_packets git grep nc nice od ogr2ogr python3 rsync
+shellcheck sort stdbuf stdin stdout tshark valgrind zcat
 Rattle: rattle rt contents remaining ensures requires proves file old std Proof.decls out/incremental x.old x.new x.now x.entry
 std: Box BufWriter Copy Drop Ok Option PartialEq Result u64::MAX
 standards: DDMM.hh DDDMM.hh atest f0 rust loop use
-commands of make: arm64 deb install release static tarball try
+commands of make: arm64 deb pyz install release static tarball try
 processors and users of Debian: amd64 aprs
-names of Mic-E messages: committed emergency priority returning
+names of Mic-E messages: committed emergency priority returning unknown
+fields of weather: h00
 states of messages and objects: acknowledged rejected unanswered unnumbered tracks
+columns and words of the table: altitude_m fix gate gust_mph h00 longitude no phg_direction phg_gain_db
+phg_height_ft phg_watts pressure_tenths range_miles speed_knots telemetry_sequence temperature_f unknown
+wind_mph yes
 of examples: in/ logs/DAY/HILL.log logs/DAY/RECEIVER.log millis.log numerator/denominator own.book page
-slow.log time
+slow.log time RX1.own ./rows
 what is made: out out/ out/release aprsbook.html aprsbook.wasm out/aprsbook.html out/aprsbook.wasm crates/aprsbook/out/aprsbook
 share/aprsbook libaprsbook.a
 libaprsbook.so __heap_base
@@ -37,6 +41,9 @@ end
 # ---- what is there: `x`, `x::y`, `x.y`, and `x.` where a function has a clause without a name ----
 
 build/rattle_text.py --names > "$scratch/there"
+# columns of tables, and words in them
+grep -oh 'codes "[a-z0-9_]*"' crates/aprs_table/specs/*.antt crates/aprs_lists/specs/*.antt |
+    sed 's/codes "\(.*\)"/\1/' >> "$scratch/there"
 # files and folders, each with as much of its path as is wanted, and definitions also without .antt
 find . -name .git -prune -o -name out -prune -o -print | awk '
     {

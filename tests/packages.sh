@@ -1,10 +1,12 @@
 #!/bin/sh
-# Tries make install, uninstall, deb and tarball: what each puts into an empty folder runs there, and
-# is the same bytes when it is made of another folder on another day. Needs a POSIX system, mktemp,
+# Tries make install, uninstall, deb, tools-deb, pyz and tarball: what each puts into an empty folder
+# runs there, and is the same bytes when it is made of another folder on another day. Needs a POSIX
+# system, mktemp,
 # GNU make, install, tar and git, and says what it leaves out because a tool isn't there.
-# usage: tests/packages.sh PROGRAM HISTORY
+# usage: tests/packages.sh PROGRAM HISTORY TABLE
 . "$(dirname "$0")/program.sh"
 [ -n "$history" ] || fail "there is no program of histories"
+[ -n "$table" ] || fail "there is no program of tables"
 has 'make install, tarball and deb' make git || exit 0
 if ! SOURCE_DATE_EPOCH=$(git -C "$repository" log -1 --format=%ct 2> "$scratch/said"); then
     echo 'left out: make install, tarball and deb (no commit is there)'
@@ -20,7 +22,7 @@ aprsbook-history "$repository/examples/sample.log" > expected.history
 version=$("$repository/packaging/version")
 # make_it TARGET ARGUMENT..: builds nothing
 make_it() {
-    make -s -C "$repository" BUILT="$program $history" "$@" > said 2>&1 || fail "make $*: $(cat said)"
+    make -s -C "$repository" BUILT="$program $history $table" "$@" > said 2>&1 || fail "make $*: $(cat said)"
     [ ! -e built ] || fail "make $* builds"
 }
 # runs PREFIX: what was put there runs, its links lead somewhere, and nobody else may write there
@@ -29,7 +31,8 @@ runs() {
         fail "$1: the sample is another"
     "$1/bin/aprsbook-history" "$1/share/aprsbook/examples/sample.log" | cmp - expected.history ||
         fail "$1: the history of the sample is another"
-    "$repository/tests/version.sh" "$1/bin/aprsbook" "$1/bin/aprsbook-history" > said 2>&1 ||
+    "$repository/tests/version.sh" "$1/bin/aprsbook" "$1/bin/aprsbook-history" \
+        "$1/bin/aprsbook-table" > said 2>&1 ||
         fail "$1: $(cat said)"
     [ -z "$(find "$1" -perm -2 ! -type l)" ] || fail "$1 may be written by others"
     [ -z "$(find "$1" -type l ! -exec test -e {} \; -print)" ] || fail "$1 has links to nothing"
@@ -38,17 +41,26 @@ runs() {
             [ -e "${page%/*}/$link" ] || fail "$page: nothing is at $link"
         done
     done
-    # the recipes are in the PATH, also one that needs a file beside it, and each unit finds its own
-    for recipe in "$repository"/examples/recipes/*; do
+    # the recipes and aprs-net's names are in the PATH, and each unit names what is there
+    for recipe in "$repository"/examples/recipes/* "$repository"/tools/bin/*; do
         [ -x "$recipe" ] || continue
         name=${recipe##*/}
         [ -x "$1/bin/$name" ] || fail "$1: $name isn't in bin"
         [ -e "$1/share/man/man1/$name.1" ] || [ -e "$1/share/man/man1/$name.1.gz" ] ||
             fail "$1: $name has no manual page"
     done
-    PATH=$PWD/$1/bin:/usr/bin:/bin last-heard "$1/share/aprsbook/examples/sample.log" > said 2>&1 ||
-        fail "$1: last-heard says: $(cat said)"
-    grep -q 'N0CALL-8' said || fail "$1: last-heard says: $(cat said)"
+    if has 'what is installed of aprs-net' python3; then
+        for name in whole-lines 'aprs-net mend'; do
+            # shellcheck disable=SC2086 # words
+            PATH=$PWD/$1/bin:/usr/bin:/bin $name "$1/share/aprsbook/examples/sample.log" > said 2>&1 ||
+                fail "$1: $name says: $(cat said)"
+            cmp said "$1/share/aprsbook/examples/sample.log" || fail "$1: $name makes another log"
+        done
+        if [ -x "$1/bin/aprsbook-table" ]; then
+            PATH=$PWD/$1/bin:/usr/bin:/bin aprs-net page -o page.html \
+                "$1/share/aprsbook/examples/sample.log" || fail "$1: there is no page"
+        fi
+    fi
     grep -h '^ExecStart=' "$1"/lib/systemd/system/*.service | tr ' ' '\n' |
         sed -n 's|^/usr/local/share/||p; s|^/usr/share/||p' | while read -r file; do
         [ -e "$1/share/$file" ] || fail "$1: a unit names $file"
@@ -94,11 +106,12 @@ twice() {
     rm -r again
 }
 if has 'make tarball' tar; then
-    twice make-tarball amd64 "$program" "$history"
+    twice make-tarball amd64 "$program" "$history" "$table"
     tar -xzf make-tarball-amd64/*.tar.gz
-    # and again, over itself
+    # and again, over itself; all may read it, whoever puts it there
     "aprsbook-$version/install.sh" prefix
-    "aprsbook-$version/install.sh" prefix
+    (umask 077 && "aprsbook-$version/install.sh" prefix && "aprsbook-$version/install.sh" private)
+    [ -z "$(find private ! -type l ! -perm -4)" ] || fail 'install.sh keeps files from others'
     diff -r --no-dereference installed prefix || fail 'the tar file has other files than make install'
     runs prefix
     # the cookbook that was unpacked with it
@@ -109,26 +122,43 @@ fi
 deb() {
     twice make-deb "$@"
     dpkg-deb -x make-deb-"$1"/*.deb "package-$1"
-    diff -r -x '*.service' installed/share/aprsbook "package-$1/usr/share/aprsbook" ||
-        fail 'the deb has other files'
-    for page in aprsbook.1 aprsbook-history.1; do
-        gzip -dc "package-$1/usr/share/man/man1/$page.gz" | cmp - "$repository/man/$page" ||
-            fail "the deb has another $page"
-    done
     if has "lintian of the package for $1" lintian; then
         lintian --allow-root --fail-on none make-deb-"$1"/*.deb > said 2>&1 || fail "$(cat said)"
         sed '/^N:/d; /^warning: /d' said > complaints
         [ ! -s complaints ] || fail "lintian says: $(cat complaints)"
     fi
 }
-if has 'make deb' dpkg-deb strip readelf; then
-    deb amd64 "$program" "$history"
+# has_pages ARCHITECTURE: the manual pages of the programs are there
+has_pages() {
+    for page in aprsbook.1 aprsbook-history.1 aprsbook-table.1; do
+        gzip -dc "package-$1/usr/share/man/man1/$page.gz" | cmp - "$repository/man/$page" ||
+            fail "the deb has another $page"
+    done
+}
+if has 'make deb' dpkg-deb strip readelf python3; then
+    deb amd64 "$program" "$history" "$table"
+    has_pages amd64
+    deb all
+    # both packages together have what make install puts in place, and no file is in both
+    (cd package-amd64 && find . ! -type d) | (cd package-all && xargs -d '\n' ls -d 2> /dev/null) > both || true
+    [ ! -s both ] || fail "both packages have: $(cat both)"
+    cp -R package-all/. package-amd64
+    diff -r installed/share/aprsbook package-amd64/usr/share/aprsbook ||
+        fail 'the debs have other files'
     runs package-amd64/usr
     arm=$repository/out/arm64
-    if [ ! -x "$arm/aprsbook" ] || [ ! -x "$arm/aprsbook-history" ]; then
+    if [ ! -x "$arm/aprsbook" ] || [ ! -x "$arm/aprsbook-history" ] || [ ! -x "$arm/aprsbook-table" ]; then
         echo 'left out: make deb ARCH=arm64 (no program is built: make arm64)'
     elif has 'make deb ARCH=arm64' aarch64-linux-gnu-strip; then
-        deb arm64 "$arm/aprsbook" "$arm/aprsbook-history"
+        deb arm64 "$arm/aprsbook" "$arm/aprsbook-history" "$arm/aprsbook-table"
+        has_pages arm64
     fi
+fi
+if has 'make pyz' python3; then
+    "$repository/build/pyz.py" one/aprs-net.pyz
+    (umask 077 && copy/build/pyz.py two/aprs-net.pyz)
+    cmp one/aprs-net.pyz two/aprs-net.pyz || fail 'aprs-net.pyz has other bytes in another folder'
+    one/aprs-net.pyz mend "$repository/examples/sample.log" | cmp - "$repository/examples/sample.log" ||
+        fail 'aprs-net.pyz makes another log'
 fi
 echo 'what is installed, packed and unpacked runs'

@@ -1,7 +1,8 @@
 #!/bin/sh
-# Read by the tests of this folder and of net, whose first argument is the program, and the second,
-# where a test has one, that of histories: finds them, makes a folder that is thrown away, and puts the
-# programs and the recipes into PATH. Needs a POSIX system and mktemp.
+# Read by the tests of this folder and of net, whose first argument is the program, and the second and
+# the third, where a test has them, those of histories and of tables: finds them, makes a folder that
+# is thrown away, and puts the programs, aprs-net and the recipes into PATH. Needs a POSIX system and
+# mktemp.
 set -eu
 export LC_ALL=C
 # a make that a test runs is none of the make that runs the test
@@ -22,16 +23,24 @@ path_of() {
 program=$(path_of "${1-}")
 history=
 if [ $# -gt 1 ]; then history=$(path_of "$2"); fi
+table=
+if [ $# -gt 2 ]; then table=$(path_of "$3"); fi
 repository=$(cd "$(dirname "$0")" && cd "$(pwd | sed 's,/tests.*,,')" && pwd)
 scratch=$(mktemp -d)
 trap 'rm -rf "$scratch"' EXIT
 mkdir "$scratch/bin"
 ln -s "$program" "$scratch/bin/aprsbook"
-# the other program lies beside it, or where it is built
+# the other programs lie beside it, or where they are built
 for it in "$history" "${program%/*}/aprsbook-history" "${program%/aprsbook/out/*}"/*/out/aprsbook_history; do
     if [ -x "$it" ]; then ln -sf "$it" "$scratch/bin/aprsbook-history" && break; fi
 done
-PATH=$scratch/bin:$repository/examples/recipes:$PATH
+for it in "$table" "${program%/*}/aprsbook-table" "${program%/aprsbook/out/*}"/*/out/aprsbook_table; do
+    if [ -x "$it" ]; then ln -sf "$it" "$scratch/bin/aprsbook-table" && break; fi
+done
+for it in "${program%/*}/aprsbook-fold" "${program%/aprsbook/out/*}"/*/out/aprsbook_fold; do
+    if [ -x "$it" ]; then ln -sf "$it" "$scratch/bin/aprsbook-fold" && break; fi
+done
+PATH=$scratch/bin:$repository/tools/bin:$repository/examples/recipes:$PATH
 export PATH PYTHONDONTWRITEBYTECODE=1
 # same FILE FILE: they have the same bytes
 same() { cmp "$1" "$2" || fail "$1 isn't $2"; }

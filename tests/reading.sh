@@ -1,5 +1,5 @@
 #!/bin/sh
-# Checks that the pages in docs/reading and the sums in docs/proved.md are what the sources say, that
+# Checks that the pages in docs/reading and docs/calls and the sums in docs/proved.md are what the sources say, that
 # no public clause cites a module of specs/ whose head says that none does, and that no name stands
 # for two definitions that are cited, and no such definition stands twice.
 # Needs a POSIX system and Python 3, and says that it leaves this out where there is no Python.
@@ -18,7 +18,7 @@ fail() {
 }
 
 build/reading.py --into "$scratch"
-for page in reading proved.md; do
+for page in reading calls proved.md; do
     if ! diff -r "docs/$page" "$scratch/$page" > "$scratch/said" 2>&1; then
         fail "docs/$page is another one: make reading"
         head -n 8 "$scratch/said" >&2

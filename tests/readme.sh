@@ -1,12 +1,59 @@
 #!/bin/sh
-# Runs the README's commands: those of its example print what the README says, those of the table and that
-# of the page end well, and the files of a release have the names that it has. Needs a POSIX system, and
-# says what it leaves out because a tool isn't there.
-# usage: tests/readme.sh PROGRAM
+# Does the README from its top, in a checkout of this repository without anything that was built. The
+# first command of its first block prints last what the README says, and the second is the command
+# of .ci/run. Then the commands of its example print what the README says, those of the table and
+# that of the page end well, and the files of a release have the names that it has.
+#
+# With --whole both commands build and prove everything, as for somebody who begins here. That takes
+# the time that the README says. Otherwise the first one runs the given program, and the second
+# nothing. Needs a POSIX system, git, tar and GNU make (with --whole what the README says), and says
+# what it leaves out because a tool isn't there.
+# usage: tests/readme.sh PROGRAM [--whole]
+whole=${2-}
+set -- "${1-}"
 . "$(dirname "$0")/program.sh"
-ln -s "$repository/examples" "$scratch/examples"
-cd "$scratch"
 page=$repository/README.md
+cd "$scratch"
+
+# ---- the two commands of the first block ----
+
+# block NAME NUMBER: the block of this number in this language
+block() {
+    awk -v name="$1" -v n="$2" '/^```/ { open = $0 == "```" name && ++at == n; next } open' "$page"
+}
+block sh 1 | sed 's/ *#.*//' > commands
+block text 1 > expected
+if [ "$(wc -l < commands)" != 2 ] || [ ! -s expected ]; then
+    fail 'the first block of the README has no two commands'
+fi
+first=$(sed -n 1p commands) second=$(sed -n 2p commands)
+[ "$(sed '/^## The page/,$d' "$page" | wc -l)" -le 40 ] || fail 'its two commands are too far below'
+# the gate calls the second, in this folder and in no other
+[ "$(sed -n 's/^exec //p' "$repository/.ci/run" | sed 's/ --no-print-directory//')" = "$second" ] ||
+    fail ".ci/run doesn't call '$second'"
+if has 'the two commands of the README' make git tar &&
+    git -C "$repository" rev-parse HEAD > /dev/null 2>&1; then
+    mkdir checkout
+    (cd "$repository" && git ls-files | tar -cf - -T -) | tar -xf - -C checkout
+    cd checkout
+    if [ "$whole" = --whole ]; then
+        # as somebody who has just logged in
+        anew() { env -i HOME="$scratch" PATH="/usr/local/bin:/usr/bin:/bin" LC_ALL=C sh -c "$1"; }
+        anew "$first" > ../printed
+        anew "$second" > ../tested
+        tail -n 1 ../tested | grep -qx '[1-9][0-9]* passed, 0 failed' ||
+            fail "$second: $(tail ../tested)"
+    else
+        sh -c "$first -s -o build PROGRAM='$program'" > ../printed
+        make -n "${second#make }" > /dev/null || fail "there is no '$second'"
+    fi
+    cd ..
+    tail -n "$(wc -l < expected)" printed | cmp - expected || fail "$first prints: $(cat printed)"
+fi
+
+# ---- its other commands ----
+
+ln -s "$repository/examples" "$scratch/examples"
 awk '/^```/ { open = $0 == "```console"; next } open' "$page" > said
 sed -n 's/^\$ //p' said | while IFS= read -r command; do
     printf '$ %s\n' "$command"
@@ -24,16 +71,19 @@ runs() {
 }
 cp rx1.log rx3.log
 # shellcheck disable=SC2016 # these are backquotes of the page
-sed -n 's/^| .* | .* | `\(aprsbook.*\)` |$/\1/p' "$page" > table
+sed -n 's/^| .* | .* | `\(aprsbook.*\)` |$/\1/p' "$page" > all
+while read -r command rest; do
+    if has "'$command $rest' of the README" "$command"; then echo "$command $rest" >> table; fi
+done < all
 runs table
 cmp new.book net.book || fail 'a receiver that heard nothing else changes the book'
-sed -n '/^event-page /p' "$page" > pages
-if has 'the page of the README' python3; then
+sed -n '/^aprs-net page /p' "$page" > pages
+if has 'the page of the README' python3 aprsbook-table; then
     runs pages
-    grep -q 'Fell race' race.html || fail 'event-page makes another page'
+    grep -q 'Fell race' race.html || fail 'aprs-net makes another page'
 fi
 version=$("$repository/packaging/version")
 for name in "/aprsbook_${version}_arm64.deb" " aprsbook-$version-linux-arm64.tar.gz"; do
     grep -qF -- "$name" "$page" || fail "the README doesn't name$name"
 done
-echo "the README's example prints what the README says, and its other commands end well"
+echo "the README's commands, from its top, print what the README says and end well"

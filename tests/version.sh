@@ -24,6 +24,8 @@ for program; do
     is "$program --version" "$name $version" "$("$program" --version)"
 done
 cd "$repository"
+is tools/src/aprsbook_tools/__init__.py "$version" \
+    "$(sed -n 's/^VERSION = "\(.*\)"$/\1/p' tools/src/aprsbook_tools/__init__.py)"
 newest=$(sed -n 's/^## //p' CHANGELOG.md | sed 1q)
 is CHANGELOG.md "$version" "${newest%, *}"
 for page in man/*.1; do

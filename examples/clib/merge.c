@@ -33,7 +33,7 @@ int main(int count, char **paths)
         fclose(file);
         lengths[k - 1] = used - before;
     }
-    for (size_t size = 16 * used + (1 << 20);; size *= 2) { /* again with more, where it lacked */
+    for (size_t size = 8 * used + (4 << 20);; size *= 2) { /* again with more, where it lacked */
         memory = get(memory, size), output = get(output, size);
         struct aprs_region region = {memory, size / 16};
         struct aprs_answer it = aprs_merge(region, 30, inputs, used, lengths, count - 1, output,

@@ -23,7 +23,7 @@ def show(library, inputs, gap=30):
     every = b"".join(inputs)
     lengths = (ctypes.c_size_t * len(inputs))(*map(len, inputs))
     name = ctypes.create_string_buffer(16)
-    size = 16 * len(every) + (1 << 20)
+    size = 8 * len(every) + (4 << 20)
     while True:  # again with more memory where it was too little
         memory, output = ctypes.create_string_buffer(size + 16), ctypes.create_string_buffer(size)
         start = ctypes.addressof(memory)

@@ -1,4 +1,4 @@
-"""Pages of an event of histories by hand, without a program."""
+"""Pages of an event of tables by hand, without a program."""
 import pathlib
 import sys
 
@@ -6,22 +6,58 @@ sys.dont_write_bytecode = True
 sys.path.append(str(pathlib.Path(__file__).resolve().parent.parent.parent / "page"))
 import together  # noqa: E402 (it lies in the folder page)
 
-# a position of the history
-PLACE = "position {0} {0} RX1 {1} {2} - {3}/6000 {4}/6000 0 />:{5}\n"
+COLUMNS = (
+    "kind first last receivers receiver source destination via gate name state id latitude "
+    "longitude ambiguity compressed symbol stamp course speed_knots altitude_m wind_from wind_mph "
+    "gust_mph temperature_f rain_hour rain_day rain_midnight humidity pressure_tenths luminosity "
+    "telemetry_sequence a1 a2 a3 a4 a5 bits says text").split()
+MESSAGE_COLUMNS = "source addressee id text state first last answer answer_source reply_ack".split()
 
 
 def moment(minute):
-    return f"2024-06-{21 + minute // 1440:02}T{minute // 60 % 24:02}:{minute % 60:02}:00.000Z"
+    seconds = round(60 * minute)
+    return (f"2024-06-{21 + seconds // 86400:02}T{seconds // 3600 % 24:02}:{seconds // 60 % 60:02}:"
+            f"{seconds % 60:02}.000Z")
 
 
-def place(minute, source, north, east, comment="", via="-"):
-    where = round(north * 6000), round(east * 6000)
-    return PLACE.format(moment(minute), source, via, *where, comment)
+def line(columns, fields):
+    unknown = set(fields) - set(columns)
+    assert not unknown, unknown
+    return "\t".join(str(fields.get(name, "")) for name in columns) + "\n"
 
 
-def page_of(path, history, listing="", **options):
-    """The page of these texts."""
+def row(kind, minute, source, receivers="RX1", **fields):
+    """A row of a table, heard at a minute of that day by these."""
+    at = {"first": moment(minute), "last": moment(minute)}
+    return line(COLUMNS, {"kind": kind, "source": source, "destination": "APRS",
+                          "receivers": receivers, "receiver": receivers.split(",")[-1], **at,
+                          **fields})
+
+
+def place(minute, source, north, east, text="", receivers="RX1", **fields):
+    """A position."""
+    where = {"latitude": f"{north:.7f}", "longitude": f"{east:.7f}", "ambiguity": 0,
+             "compressed": "no", "symbol": "/>"}
+    return row("position", minute, source, receivers, **{**where, "text": text, **fields})
+
+
+def message(source, addressee, text, state, first, last=None, **fields):
+    """A row of the table of messages."""
+    last = first if last is None else last
+    return line(MESSAGE_COLUMNS, {"source": source, "addressee": addressee, "text": text,
+                                  "state": state, "first": moment(first), "last": moment(last),
+                                  **fields})
+
+
+def tables(rows, messages=""):
+    """Both tables, each with its head."""
+    return {"rows": line(COLUMNS, {it: it for it in COLUMNS}) + rows,
+            "messages": line(MESSAGE_COLUMNS, {it: it for it in MESSAGE_COLUMNS}) + messages}
+
+
+def page_of(path, rows, messages="", **options):
+    """The page of these rows and messages."""
     data = {"title": "APRS net", "gap": 30, "live": 0, "silent": 30, "maps": [], "roster": "",
-            "notes": [], "history": history, "listing": listing, **options}
+            "notes": [], **tables(rows, messages), **options}
     path.write_text(together.event(data), encoding="utf-8")
     return "file://" + str(path)

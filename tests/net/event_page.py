@@ -91,11 +91,11 @@ def test_nothing(folder):
     assert read(event_page(folder / "empty.log"))[1]["history"] == ""
 
 
-def refused(folder, *arguments, **keywords):
+def refused(folder, *arguments, status=1, **keywords):
     (folder / "page.html").write_text("before")
     done = subprocess.run(["event-page", "-o", folder / "page.html", *arguments],
                           stdout=subprocess.PIPE, stderr=subprocess.PIPE, **keywords)
-    assert done.returncode == 1 and done.stdout == b"", done
+    assert done.returncode == status and done.stdout == b"", done
     assert (folder / "page.html").read_text() == "before"
     assert not list(folder.glob("*.new*"))
     return done.stderr.decode()
@@ -116,7 +116,7 @@ def test_refused(folder):
     for text in BAD_MAPS:
         (folder / "course").write_text(text)
         said = refused(folder, "--course", folder / "course", EXAMPLES / "sample.log")
-        assert re.fullmatch("event-page: .*\n", said), (text, said)
+        assert re.fullmatch("aprs-net: .*\n", said), (text, said)
     assert "nowhere" in refused(folder, "--course", folder / "nowhere.gpx", LOGS[0])
     assert "nowhere" in refused(folder, "--roster", folder / "nowhere.txt", LOGS[0])
 
@@ -124,7 +124,7 @@ def test_refused(folder):
     def limit():
         resource.setrlimit(resource.RLIMIT_FSIZE, (20000, 20000))
 
-    assert refused(folder, *LOGS, preexec_fn=limit)
+    assert refused(folder, *LOGS, status=3, preexec_fn=limit)
 
 
 def test_two(folder):

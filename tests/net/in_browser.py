@@ -18,7 +18,7 @@ import xml.etree.ElementTree
 import browser
 import hostile
 import scale
-from by_hand import moment, page_of, place
+from by_hand import message, moment, page_of, place, row
 from serving import Server
 
 EXAMPLES = pathlib.Path(sys.argv[1])
@@ -79,7 +79,7 @@ def test_hostile(page, folder):
     page.js("document.querySelectorAll('.pick, th button').forEach(it => "
             "it.dispatchEvent(new Event('click')))")
     is_(page.js("[window.ran === undefined, document.querySelectorAll('script').length, "
-                "document.querySelectorAll('img, iframe, #net b').length]"), [True, 2, 0])
+                "document.querySelectorAll('img, iframe, #net b').length]"), [True, 3, 0])
     is_(page.requests(), [url])
     is_(page.problems(), [])
     picture(page, "hostile", whole=True)
@@ -198,7 +198,7 @@ def test_names(page, folder):
         page.key("Tab", 9)
         reached.add(page.js("document.activeElement.id || document.activeElement.className "
                             "|| document.activeElement.parentNode.id"))
-    wanted = "in out fit play clock map find kind live since local saves adds ics-open".split()
+    wanted = "in out fit fill sound play clock map find kind live since local saves adds ics-open".split()
     assert reached >= {*wanted, "pick station"}, reached
     page.js("document.querySelector('.pick').focus()")
     page.key("ArrowDown", 40)
@@ -233,10 +233,10 @@ def test_times(page, folder):
     """Dates where more than one day is shown, the last hours alone, and local time."""
     lines = [place(600, "Q1OLD", 54.5, -3.5), place(1390, "Q1MID", 54.6, -3.5),
              place(1445, "Q1NEW", 54.7, -3.5)]
-    listing = (f"message Q1OLD Q1NEW 1 unanswered {moment(600)} {moment(600)}:old\n"
-               f"message Q1NEW Q1MID 2 unanswered {moment(1445)} {moment(1445)}:new\n")
+    messages = (message("Q1OLD", "Q1NEW", "old", "unanswered", 600, id=1) +
+                message("Q1NEW", "Q1MID", "new", "unanswered", 1445, id=2))
     page.call("Emulation.setTimezoneOverride", timezoneId="Pacific/Auckland")
-    page.open(page_of(folder / "days.html", "".join(lines), listing))
+    page.open(page_of(folder / "days.html", "".join(lines), messages))
     times = texts % "#things time"
     is_(page.js(times), ["21 Jun 23:10:00", "22 Jun 00:05:00", "21 Jun 10:00:00"])
     is_(page.js(BADGES)[:2], ["2 messages unanswered", "2 stations silent for over 30 min"])
@@ -253,7 +253,7 @@ def test_times(page, folder):
     assert "UTC+12:00" in page.js("about.textContent")
     page.call("Emulation.setTimezoneOverride", timezoneId="")
     # a net that goes on, and in whose last hour nothing was heard
-    page.open(page_of(folder / "days.html", "".join(lines), listing, live=3600) + "#since=1")
+    page.open(page_of(folder / "days.html", "".join(lines), messages, live=3600) + "#since=1")
     is_(page.js("about.textContent"), "Nothing was heard in this time.")
     page.wait("document.getElementById('timeline-box').textContent === 'none'")
     page.wait("stale.textContent.startsWith('nothing was heard for ')")
@@ -261,23 +261,27 @@ def test_times(page, folder):
 
 
 def test_messages(page, folder):
-    """Reply-acks aren't counted as in order; bulletins stand apart; Mic-E has its places."""
-    listing = "".join(f"message {it}\n" for it in [
-        f"Q1A Q1B - unnumbered {moment(1)} {moment(1)}:help needed{{01}}",
-        f"Q1A Q1B - unnumbered {moment(2)} {moment(2)}:on my way{{02}}AA",
-        f"Q1A Q1B - unnumbered {moment(3)} {moment(3)}:a set {{}} of braces",
-        f"Q1A BLN1 - unnumbered {moment(4)} {moment(4)}:open at 18",
-        f"Q1A Q1B 7 acknowledged {moment(5)} {moment(6)}:all well"])
-    mice = (f"mic-e {moment(2)} {moment(3)} RX1,RX2 Q1MIC-9 Q1DIG*,WIDE2-1 251 20 en-route "
-            "- 199560/6000 -747000/6000 0 /j:hello\\x5c\n")
+    """The states are the table's; bulletins stand apart; Mic-E has its places."""
+    messages = (message("Q1A", "Q1B", "help needed{01}", "unnumbered", 1, reply_ack="unanswered") +
+                message("Q1A", "Q1B", "on my way{02}AA", "unnumbered", 2, reply_ack="acknowledged",
+                        answer=moment(3), answer_source="Q1B") +
+                message("Q1A", "Q1B", "a set {} of braces", "unnumbered", 3) +
+                message("Q1A", "Q1B", "no room", "rejected", 3, id=6) +
+                message("Q1A", "BLN1", "open at 18", "unnumbered", 4) +
+                message("Q1A", "Q1B", "all well", "acknowledged", 5, 6, id=7))
+    where = {"latitude": "33.26", "longitude": "-124.5", "ambiguity": 0, "compressed": "no"}
+    mice = row("mic-e", 2, "Q1MIC-9", "RX1,RX2", via="Q1DIG*,WIDE2-1", course=251, speed_knots=20,
+               says="en-route", symbol="/j", text="hello\\x5c", **where)
     # a symbol may be a colon, and its table a backslash
-    fire = place(5, "Q1FIRE", 33.3, -124.4).replace("/>:", "/::here: it burns")
-    shed = place(6, "Q1SHED", 33.3, -124.3).replace("/>:", "\\x5c\\x5c:x")
-    history = mice + place(4, "Q1A", 33.2, -124.4) + fire + shed
-    page.open(page_of(folder / "mice.html", history, listing))
-    is_(page.js(BADGES)[:2], ["0 messages unanswered", "2 messages can\u2019t be judged"])
-    is_(page.js(texts % "#messages .state"),
-        ["not judged", "not judged", "unnumbered", "acknowledged"])
+    fire = place(5, "Q1FIRE", 33.3, -124.4, "here: it burns", symbol="/:")
+    shed = place(6, "Q1SHED", 33.3, -124.3, "x", symbol="\\x5c\\x5c")
+    rows = mice + place(4, "Q1A", 33.2, -124.4) + fire + shed
+    page.open(page_of(folder / "mice.html", rows, messages))
+    is_(page.js(BADGES)[:2], ["1 message unanswered", "1 message rejected"])
+    is_(page.js(texts % "#messages td.state"),
+        ["unanswered", "rejected", "unnumbered", "acknowledged", "acknowledged"])
+    is_(page.js("[...document.querySelectorAll('#messages td.state')].map(it => it.title)")[-1],
+        "by Q1B, 2024-06-21 00:03:00 UTC")
     is_(page.js(texts % "#bulletins td.text"), ["open at 18"])
     rows = {name: [where, about.strip()] for name, where, about in page.js(
         "[...document.querySelectorAll('#things tbody tr')]"
@@ -290,16 +294,16 @@ def test_messages(page, folder):
     # the form, and what it saves
     page.js("document.getElementById('ics-open').click()")
     is_(page.js("document.querySelector('main').checkVisibility()"), False)
-    is_(page.js("document.querySelectorAll('#ics-rows tr').length"), 5)
+    is_(page.js("document.querySelectorAll('#ics-rows tr').length"), 6)
     picture(page, "ics-309")
     pdf = page.pdf()
     assert pdf.startswith(b"%PDF")
     if PICTURES:
         (pathlib.Path(PICTURES) / "ics-309.pdf").write_bytes(pdf)
     rows = list(csv.reader(io.StringIO(page.js(
-        "aprsbook.SAVES['messages (CSV)'](aprsbook.page.net, aprsbook.page.data)[2]"))))
-    is_(rows[1], [moment(1), "Q1A", "", "Q1B", "help needed{01}", "not judged"])
-    is_(len(rows), 6)
+        "aprsbook.savedText('messages (CSV)', aprsbook.page.net, aprsbook.page.data)"))))
+    is_(rows[1], [moment(1), "Q1A", "", "Q1B", "help needed{01}", "unanswered"])
+    is_(len(rows), 7)
     is_(page.problems(), [])
 
 
@@ -313,7 +317,7 @@ def test_world(page, folder):
     scale, width = page.js("[aprsbook.page.map.view.scale, aprsbook.page.map.view.width]")
     assert 10000 < 6371008.8 / scale * width < 30000
     lines = json.loads(page.js(
-        "aprsbook.SAVES['places and tracks (GeoJSON)'](aprsbook.page.net, aprsbook.page.data)[2]"))
+        "aprsbook.savedText('places and tracks (GeoJSON)', aprsbook.page.net, aprsbook.page.data)"))
     track = lines["features"][-1]["geometry"]["coordinates"]
     is_([it[0][0] for it in track], [179.95, -180])
     is_(track[0][-1][0], 180)
@@ -342,7 +346,7 @@ def test_brought(page, folder):
         {"type": "Feature", "properties": None, "geometry": {
             "type": "LineString", "coordinates": [[-3.5, 54.5], [-3.4, 54.6]]}}]}))
     (folder / "race.gpx").write_text(hostile.course())
-    (folder / "roster.txt").write_text("Q1RUN leader\nq1nine-9, not here\n\nQ1MED-7;\"=1+1\"\n")
+    (folder / "roster.txt").write_text("Q1RUN-* leader\nq1nine-9, not here\n\nQ1MED-7;\"=1+1\"\n")
     (folder / "bad.gpx").write_text("<gpx")
     (folder / "far.geojson").write_text('{"type":"Point","coordinates":[0,91]}')
     page.open(event_page(folder / "evening.html", *EVENING))
@@ -351,7 +355,7 @@ def test_brought(page, folder):
         page.wait(f"told.textContent.startsWith('{name}')")
     is_(page.js("aprsbook.page.bases.map(it => [it.lines.length, it.points.map(one => one.name)])"),
         [[1, ["pier"]], [1, [hostile.TEXTS[0]]]])
-    is_(page.js(texts % "#expected tbody th"), ["Q1RUN", "Q1NINE-9", "Q1MED-7"])
+    is_(page.js(texts % "#expected tbody th"), ["Q1RUN-*", "Q1NINE-9", "Q1MED-7"])
     is_(page.js(texts % "#expected .time"), ["20:02:14", "not heard", "19:44:12"])
     assert "2 of 3 expected not heard" in page.js(BADGES)
     is_(page.problems(), [])
@@ -362,27 +366,166 @@ def test_brought(page, folder):
     page.js("away.click()")
     is_(page.js("[aprsbook.page.bases.length, roster.hidden]"), [0, True])
     page.open(event_page(folder / "roster.html", "--roster", folder / "roster.txt", *EVENING))
-    is_(page.js(texts % "#expected tbody th"), ["Q1RUN", "Q1NINE-9", "Q1MED-7"])
+    is_(page.js(texts % "#expected tbody th"), ["Q1RUN-*", "Q1NINE-9", "Q1MED-7"])
 
 
 def test_clocks(page, folder):
     """A receiver whose clock is two hours ahead is named; one that is right isn't."""
     lines = []
     for k in range(9):
-        row = place(10 * k, f"Q1A{k % 3}", 54.5, -3.5, f"no. {k}")
-        lines += [row.replace("RX1", "RX1,RX2"),
-                  row.replace("RX1", "COAST").replace(moment(10 * k), moment(10 * k + 120))]
+        lines += [place(10 * k, f"Q1A{k % 3}", 54.5, -3.5, f"no. {k}", "RX1,RX2"),
+                  place(10 * k + 120, f"Q1A{k % 3}", 54.5, -3.5, f"no. {k}", "COAST")]
     page.open(page_of(folder / "clock.html", "".join(lines)))
     page.wait("!!document.querySelector('#receivers')")
     is_(page.js(texts % "#receivers tbody td:last-child"), ["+2 h", "within 30 s", "within 30 s"])
     assert "the clock of COAST is +2 h from the others" in page.js(BADGES)
 
 
+def test_needs(page, folder):
+    """Who is in need comes first of all news, in words, and with a sound that is switched on."""
+    where = {"latitude": "54.51", "longitude": "-3.47", "symbol": "/j"}
+    rows = (place(1, "Q1A", 54.5, -3.5) + place(2, "Q1NUL", 0, 0) + row("beacon", 3, "Q1ODD") +
+            row("mic-e", 10, "Q1MIC-9", says="emergency", text="help", **where) +
+            row("mic-e", 9, "Q1MIC-8", says="priority", **where))
+    page.open(page_of(folder / "needs.html", rows, roster="Q1MIC-9 Runner 118\n"))
+    is_(page.js(BADGES)[:2], ["EMERGENCY: Runner 118 (Q1MIC-9), 00:10:00",
+                              "priority: Q1MIC-8, 00:09:00"])
+    is_(page.js("document.querySelector('#news > *').className"), "alarm")
+    is_(page.js(BADGES)[-2:], ["1 station at 0, 0, which is no fix",
+                               "1 transmission of a kind that this page doesn\u2019t know"])
+    page.js("(aprsbook.page.alarm.play = () => { window.rung = (window.rung || 0) + 1 }, 1)")
+    page.js("sound.click()")
+    is_(page.js("[window.rung, location.hash]"), [1, "#sound=on"])
+    page.js("aprsbook.show({ ...aprsbook.page.data, rows: aprsbook.page.data.rows + "
+            f"{json.dumps(row('mic-e', 11, 'Q1MIC-7', says='emergency', **where))} }})")
+    page.wait("window.rung === 2")
+    # a click on the news picks who it is, and what isn't on the map is told as what it is
+    page.js("document.querySelector('#news > a').click()")
+    is_(page.js("[aprsbook.page.picked, document.getElementById('one').hidden]"),
+        ["station Q1MIC-7", False])
+    page.js("[...document.querySelectorAll('.pick')].find(it => it.textContent === 'Q1ODD').click()")
+    assert "1 other (beacon)" in page.js("document.getElementById('one-about').textContent")
+    is_(page.problems(), [])
+
+
+def test_shown(page, folder):
+    """What is picked comes into view on the map, and its row is marked."""
+    rows = "".join(place(k, f"Q{k:03}", 54.5 + k % 9 / 100, -3.5) for k in range(120))
+    page.open(page_of(folder / "shown.html", rows), 1280, 700)
+    page.js("(document.getElementById('list').scrollIntoView(), 1)")
+    page.js("document.querySelectorAll('#things .pick')[7].click()")
+    is_(page.js("(() => { const { top, bottom } = map.getBoundingClientRect(); "
+                "return top >= 0 && bottom <= innerHeight })()"), True)
+    is_(page.js(texts % "#things tr.picked th"), ["Q007"])
+    # one that is picked on the map has its row marked too, far down in its list
+    page.js("(aprsbook.page.map.onPick('station Q099'), 1)")
+    is_(page.js(texts % "#things tr.picked th"), ["Q099"])
+    is_(page.js("(() => { const row = document.querySelector('tr.picked').getBoundingClientRect(), "
+                "box = document.getElementById('things-box').getBoundingClientRect(); "
+                "return row.top >= box.top && row.bottom <= box.bottom })()"), True)
+
+
+def test_far(page, folder):
+    """The map opens on what is near most; the rest is said, and shown at a click."""
+    rows = "".join(place(k, f"Q1A{k}", 54.5 + k / 500, -3.5) for k in range(9))
+    rows += place(10, "Q1FAR", -20, 100) + "".join(place(k, f"Q1Z{k}", 0, 0) for k in range(5))
+    page.open(page_of(folder / "far.html", rows))
+    km = "aprsbook.page.map.view.width / aprsbook.page.map.view.scale * 6371"
+    assert page.js(km) < 20
+    is_(page.js(marks), 9)
+    is_(page.js("far.textContent").split(" not ")[0], "1 place far from the others")
+    page.js("fit.click()")
+    assert page.js(km) > 5000
+    is_(page.js(marks), 10)
+    page.js("fit.click()")
+    assert page.js(km) < 20
+
+
+def touch(page, kind, *spots):
+    page.call("Input.dispatchTouchEvent", type=kind, touchPoints=[{"x": x, "y": y} for x, y in spots])
+
+
+def test_touch(page, folder):
+    """On a telephone one finger on the map scrolls the page, and two move the map."""
+    rows = "".join(place(k, f"Q1ABCD-{k}", 54.5 + k / 500, -3.5) for k in range(9))
+    messages = message("Q1ABCD-10", "Q1EFGH-11", "are you there", "unanswered", 5, id=1)
+    page.open(page_of(folder / "touch.html", rows, messages), 360, 640)
+    page.call("Emulation.setTouchEmulationEnabled", enabled=True, maxTouchPoints=2)
+    page.js("(map.scrollIntoView({ block: 'center' }), 1)")
+    x, y = page.js("(() => { const it = map.getBoundingClientRect(); "
+                   "return [it.x + it.width / 2, it.y + it.height / 2] })()")
+    view = page.js("aprsbook.page.map.view.middle")
+    before = page.js("scrollY")
+    touch(page, "touchStart", (x, y))
+    for k in range(1, 12):
+        touch(page, "touchMove", (x, y - 10 * k))
+    touch(page, "touchEnd")
+    page.wait(f"scrollY > {before} + 20")
+    is_(page.js("aprsbook.page.map.view.middle"), view)
+    time.sleep(1)  # until it no longer glides
+    page.js("(map.scrollIntoView({ block: 'center' }), 1)")
+    before = page.js("scrollY")
+    touch(page, "touchStart", (x - 40, y), (x + 40, y))
+    for k in range(1, 12):
+        touch(page, "touchMove", (x - 40 + 4 * k, y - 5 * k), (x + 40 + 4 * k, y - 5 * k))
+    touch(page, "touchEnd")
+    page.wait(f"aprsbook.page.map.view.middle[0] < {view[0]}")
+    is_(page.js("scrollY"), before)
+    page.call("Emulation.setTouchEmulationEnabled", enabled=False)
+    # and the time of a message isn't cut
+    is_(page.js("[...document.querySelectorAll('#messages-box, #messages time')]"
+                ".filter(it => it.scrollWidth > it.clientWidth + 1 && it.clientWidth).length"), 0)
+    box, last = page.js("[messages, document.querySelector('#messages .time + .time time')]"
+                        ".map(it => it.getBoundingClientRect().right)")
+    assert last <= box
+
+
+def test_keys(page, folder):
+    """Escape closes a menu and leaves the map that fills the window; the clock says its time."""
+    page.open(page_of(folder / "keys.html", place(1, "Q1A", 54.5, -3.5) + place(9, "Q1A", 54.6, -3.5)))
+    is_(page.js("clock.getAttribute('aria-valuetext')"), "00:09:00")
+    page.js("document.querySelector('#saves summary').focus()")
+    page.key("Enter", 13)
+    page.js("(saves.open = true, document.querySelector('#saves button').focus(), 1)")
+    page.key("Escape", 27)
+    is_(page.js("[saves.open, document.activeElement.tagName]"), [False, "SUMMARY"])
+    page.js("map.focus()")
+    page.key("f", 70)
+    page.wait("aprsbook.page.map.view.width > 1200 && aprsbook.page.map.view.height > 700")
+    is_(page.js("fill.getAttribute('aria-pressed')"), "true")
+    picture(page, "full")
+    page.key("Escape", 27)
+    page.wait("aprsbook.page.map.view.width < 1000")
+    is_(page.problems(), [])
+
+
+def test_coast(page, folder):
+    """Coasts below the map, also across the date line, and whose they are."""
+    rows = place(1, "Q1A", 51.5, -0.1) + place(2, "Q1B", 40.7, -74) + place(3, "Q1C", -33.9, 151.2)
+    page.open(page_of(folder / "coast.html", rows))
+    page.wait("aprsbook.page.map.land.rings.length > 1000")
+    land = page.js("(() => { const it = document.createElement('canvas').getContext('2d'); "
+                   "it.fillStyle = aprsbook.page.map.colours.land; it.fillRect(0, 0, 1, 1); "
+                   "return [...it.getImageData(0, 0, 1, 1).data] })()")
+    # in view alone, without marks: land and sea, each seen from above and from far around
+    for north, east, is_land in ((47, 2, 1), (51, -21, 0), (-26, 134, 1), (-46, -141, 0), (-81, 7, 1),
+                                 (66.3, 178.6, 1), (41, -101, 1), (3, -4, 0)):
+        for scale in 0.02, 0.2:
+            got = page.js(f"(() => {{ const {{ map }} = aprsbook.page; map.things = []; "
+                          f"map.look('{north},{east},{scale}'); map.paint(); "
+                          "return [...map.pen.getImageData(map.canvas.width / 2, "
+                          "map.canvas.height / 2, 1, 1).data] })()")
+            is_((north, east, scale, got == land), (north, east, scale, bool(is_land)))
+    assert "Natural Earth" in page.js("document.querySelector('footer').textContent")
+    page.js("(aprsbook.page.map.look('30,-40,0.03'), aprsbook.page.map.paint())")
+    picture(page, "coast")
+
+
 def test_saves(page, folder):
     """GPX, KML, GeoJSON and CSV have the places of tracks; no cell is a formula."""
     (folder / "all.log").write_text("".join(hostile.log()))
     page.open(event_page(folder / "saves.html", folder / "all.log"))
-    saved = {name: page.js(f"aprsbook.SAVES[{name!r}](aprsbook.page.net, aprsbook.page.data)[2]")
+    saved = {name: page.js(f"aprsbook.savedText({name!r}, aprsbook.page.net, aprsbook.page.data)")
              for name in page.js("Object.keys(aprsbook.SAVES)")}
     rows = list(csv.DictReader(io.StringIO(saved["places (CSV)"])))
     command = ["aprsbook-history", folder / "all.log"]
@@ -399,7 +542,7 @@ def test_saves(page, folder):
     points = [it for it in json.loads(saved["places and tracks (GeoJSON)"])["features"]
               if it["geometry"]["type"] == "Point"]
     is_(len(points), count)
-    is_(saved["history (text)"], own.stdout.decode())
+    is_(saved["table (TSV)"].count("\n") - 1, own.stdout.count(b"\n"))
 
 
 def test_scale(page, folder):
@@ -425,7 +568,8 @@ def test_slices(page, folder):
     page.open(page_of(folder / "small.html", place(1, "Q1OLD", 54.5, -3.5)))
     page.js("(window.names = () => aprsbook.page.net.things.map(it => it.name), "
             "window.small = aprsbook.page.data, "
-            f"window.large = {{ ...small, history: {json.dumps(''.join(lines))} }}, 1)")
+            f"window.large = {{ ...small, rows: small.rows.split('\\n')[0] + '\\n' + "
+            f"{json.dumps(''.join(lines))} }}, 1)")
     for then, wanted in ("1", 300), ("aprsbook.refresh()", 300), ("aprsbook.show(small)", 1):
         page.js("aprsbook.show(small)")
         is_(page.js("(async () => { const drawn = aprsbook.show(large), before = names(); "
@@ -480,8 +624,8 @@ def picture(page, name, whole=False):
 
 
 TESTS = (test_hostile, test_contained, test_controls, test_names, test_widths, test_times,
-         test_messages, test_world, test_brought, test_clocks, test_saves, test_scale, test_slices,
-         test_live, test_served)
+         test_messages, test_world, test_brought, test_clocks, test_needs, test_shown, test_far,
+         test_touch, test_keys, test_coast, test_saves, test_scale, test_slices, test_live, test_served)
 page = browser.Browser()
 try:
     with tempfile.TemporaryDirectory() as name:
@@ -490,4 +634,4 @@ try:
 finally:
     page.close()
 print("event-page in Chromium: nothing ran, one request, no message; controls, names, widths, "
-      "times, the world, what is brought and saved, live")
+      "times, the world, needs, fingers, coasts, what is brought and saved, live")

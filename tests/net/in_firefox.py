@@ -86,14 +86,14 @@ def test_hostile(page, folder):
     for text in hostile.TEXTS:
         is_(said.count(hostile.shown(text)), 3)
     is_(page.js("[window.ran === undefined, document.querySelectorAll('script').length, "
-                "document.images.length]"), [True, 2, 0])
+                "document.images.length]"), [True, 3, 0])
     is_(page.requests(), [])
 
 
 def test_keys(page, folder):
     page.open(event_page(folder / "keys.html", *EVENING))
     page.wait("document.querySelectorAll('#timeline tbody tr').length > 10")
-    left = set("in out fit play clock map find kind since local saves adds ics-open".split())
+    left = set("in out fit fill sound play clock map find kind since local saves adds ics-open".split())
     left.add("pick station")
     for _ in range(40):  # more would leave the page
         page.key("Tab")
@@ -108,7 +108,7 @@ def test_keys(page, folder):
 
 
 def test_roster(page, folder):
-    (folder / "roster.txt").write_text("Q1RUN leader\nQ1MED-7 at the second post\nQ1NINE\n")
+    (folder / "roster.txt").write_text("Q1RUN-* leader\nQ1MED-7 at the second post\nQ1NINE\n")
     page.open(event_page(folder / "roster.html", *EVENING))
     page.give("#bring", folder / "roster.txt")
     page.wait("told.textContent === 'roster.txt: 3 calls'")

@@ -15,6 +15,7 @@ import json
 import os
 import pathlib
 import random
+import re
 import shutil
 import subprocess
 import sys
@@ -37,7 +38,13 @@ MADE = "aprsfiles.made() !== null"
 BOOK = "btoa(String.fromCharCode(...aprsfiles.made().book))"
 # each file, and what is said of it
 TOLD = ("Object.fromEntries([...document.querySelectorAll('#files tbody tr')]"
-        ".map(it => [it.cells[0].textContent, it.cells[3].firstChild.textContent]))")
+        ".map(it => [it.cells[0].textContent, it.querySelector('.verdict').textContent]))")
+# what a command of the program makes of the book that the page made
+OF_BOOK = ("aprsfiles.run(%r, 30, [aprsfiles.made().book])"
+           ".then(it => btoa(String.fromCharCode(...it.bytes)))")
+# whether the module has the program's tables, or the page makes them of its other texts
+HAS_TABLES = "'table rows'" in (EXAMPLES.parent / "page/host.js").read_text().replace('"', "'")
+DATA = re.compile('<script type="application/json" id="data">(.*?)</script>', re.S)
 COMMANDS = ["check", "convert text", "convert kind", "convert kiss", "convert log",
             "convert capture", "merge", "merge", "show", "show", "history", "widen"]
 
@@ -54,6 +61,18 @@ def program(words, files=(), given=None):
 def checked(path):
     """How many lines a log has, as check says."""
     return program(["check"], [path]).stdout.decode().splitlines()[-1]
+
+
+def same_page(page, own):
+    """Whether the page of an event that the page makes is that of event-page: but for their data the
+    bytes, and what both have of the data."""
+    own, made = own.decode(), page.js("aprsfiles.eventPage()")
+    if own == made:
+        return True
+    data = [json.loads(DATA.search(it)[1]) for it in (own, made)]
+    both = data[0].keys() & data[1].keys()
+    return (DATA.sub("", own) == DATA.sub("", made) and {"title", "notes", "roster"} <= both and
+            all(data[0][it] == data[1][it] for it in both))
 
 
 def base64_of(text):
@@ -94,14 +113,17 @@ def test_same(page, _):
     page.give("#choose", *EVENING)
     page.wait(MADE)
     is_(page.js(BOOK), base64_of(program(["merge"], EVENING).stdout))
-    is_(page.js("aprsbook.page.data.history"), program(["history"], EVENING).stdout.decode())
-    is_(page.js("aprsbook.page.data.listing"), program(["show"], EVENING).stdout.decode())
-    # the history didn't wait for the book, and nothing was done twice
+    # the rows didn't wait for the book, and nothing was done twice
     asked = page.js("[...window.asked]")
     is_((asked[:2], sorted(asked[2:])),
-        (["history 3", "merge 3"], ["check 1"] * 3 + ["show 1"]))
+        (["rows 3", "merge 3"], ["check 1"] * 3 + ["messages 1"]))
+    for command in "history", "show":
+        is_(page.js(OF_BOOK % command), base64_of(program([command], EVENING).stdout))
+    if HAS_TABLES:
+        own = subprocess.run(["aprsbook-table", *EVENING], stdout=subprocess.PIPE, check=True)
+        is_(page.js("aprsbook.page.data.rows"), own.stdout.decode())
     own = subprocess.run(["event-page", *EVENING], stdout=subprocess.PIPE, check=True).stdout
-    is_(page.js("aprsfiles.eventPage()") == own.decode(), True)
+    is_(same_page(page, own), True)
     is_(page.js("(aprsbook.page.map.paint(), aprsbook.page.map.marks.length)"),
         page.js("aprsbook.page.net.placed.length"))
     for name in sorted(page.js(TOLD)):
@@ -123,6 +145,9 @@ def test_saves(page, folder):
         page.js("[...document.querySelectorAll('#saves button')]"
                 f".find(it => it.textContent === {button!r}).click()")
         own = subprocess.run([*words, *EVENING], stdout=subprocess.PIPE, check=True).stdout
+        if name == "event.html":
+            is_(same_page(page, own), True)
+            own = page.js("aprsfiles.eventPage()").encode()
         for _ in range(200):
             if (folder / name).exists() and (folder / name).read_bytes() == own:
                 break
@@ -169,19 +194,19 @@ def test_faults(page, folder):
     page.give("#choose", *[folder / name for name in files])
     page.wait(MADE)
     told = page.js(TOLD)
-    for name in "bad.log", "crlf.log", "cut.book", "wide.book", "torn.log":
+    for name in "bad.log", "cut.book", "wide.book", "torn.log":
         said = program(["merge"], [folder / name]).stderr.decode()
         is_(f"aprsbook: {folder / name}: {told[name]}\n", said)
     is_(told["heard.kiss"], "give the receiver's name and the moment")
-    is_(told["packed.log.gz"], checked(EVENING[0]))
+    is_([told["packed.log.gz"], told["crlf.log"]], 2 * [checked(EVENING[0])])
     is_(told["empty.log"], "heard 0 passed 0")
     is_(page.js(BOOK), base64_of(book))
-    for name, command in ("history", "history"), ("listing", "show"):
-        is_(page.js(f"aprsbook.page.data.{name}"),
-            program([command], [folder / "net.book"]).stdout.decode())
+    for command in "history", "show":
+        is_(page.js(OF_BOOK % command),
+            base64_of(program([command], [folder / "net.book"]).stdout))
     notes = page.js("aprsbook.page.data.notes")
     is_(sorted(it.split(" ")[0] for it in notes),
-        ["bad.log", "crlf.log", "cut.book", "heard.kiss", "torn.log", "wide.book"])
+        ["bad.log", "cut.book", "heard.kiss", "torn.log", "wide.book"])
     # a stream gets a receiver and a moment; the focus stays, though the page reads meanwhile
     page.js("(document.querySelector('#files input').select(), 1)")
     for key in "TAPE":
@@ -251,7 +276,7 @@ def test_unread(page, folder):
     bad = {"net.book": "is empty, which no book is",
            "torn.log.gz": "can't be read: gzip can't unpack it"}
     if hasattr(page, "events"):
-        bad["logs"] = "drop the files in it"
+        bad["logs"] = "drop the files in it, or choose it as a folder"
     for good in [], EVENING:
         fresh(page)
         drop(page, folder / "logs", *[folder / name for name in bad if name != "logs"], *good)
@@ -302,13 +327,13 @@ def test_options(page, _):
     is_(page.js(BOOK), base64_of(program(["merge", "--gap", "60"], EVENING).stdout))
     own = subprocess.run(["event-page", "--gap", "60", "--title", "Fell race", "--silent", "5",
                           *EVENING], stdout=subprocess.PIPE, check=True).stdout
-    is_(page.js("aprsfiles.eventPage()") == own.decode(), True)
+    is_(same_page(page, own), True)
     quiet(page)
 
 
 def test_brought(page, folder):
     """Rosters as Windows writes them, one of which is put right, beside a map that is none."""
-    files = {"ours.csv": b"\xef\xbb\xbfQ1RUN;leader\r\nQ1MED-7;second post\r\n",
+    files = {"ours.csv": b"\xef\xbb\xbfQ1RUN-*;leader\r\nQ1MED-7;second post\r\n",
              "their.txt": b"Q1NINE\r\nQ1TEN", "course.gpx": b"<gpx><wpt lat='91' lon='0'/></gpx>"}
     for name, text in files.items():
         (folder / name).write_bytes(text)
@@ -320,13 +345,13 @@ def test_brought(page, folder):
     (folder / "their.txt").write_bytes(b"Q1WX-13\r\n")
     drop(page, folder / "their.txt")
     page.wait("told.textContent.startsWith('their.txt: 1 call; ')")
-    is_(page.js("aprsbook.page.roster.map(it => it.call).sort()"), ["Q1MED-7", "Q1RUN", "Q1WX-13"])
+    is_(page.js("aprsbook.page.roster.map(it => it.call).sort()"), ["Q1MED-7", "Q1RUN-*", "Q1WX-13"])
     page.wait(MADE)
     roster = folder / "both.txt"
     roster.write_bytes(files["ours.csv"] + b"\nQ1WX-13\r\n")
     own = subprocess.run(["event-page", "--roster", roster, *EVENING], stdout=subprocess.PIPE,
                          check=True).stdout
-    is_(page.js("aprsfiles.eventPage()") == own.decode(), True)
+    is_(same_page(page, own), True)
     quiet(page)
 
 
@@ -528,7 +553,7 @@ WATCH = """(() => {
         window.went = performance.now(); }, true);
     return 1; })()"""
 DIGEST = """Promise.all(
-    [aprsfiles.made().book, new TextEncoder().encode(aprsbook.page.data.history)]
+    [aprsfiles.made().book, new TextEncoder().encode(aprsbook.page.data.rows)]
     .map(it => crypto.subtle.digest('SHA-256', it)))
     .then(them => them.map(it => [...new Uint8Array(it)]))"""
 
@@ -544,8 +569,11 @@ def dropped(page, what, logs, wanted):
         return page.js("({ shown: came - went, still, task })")
 
     scale.judged(measure, wanted, f"{what} dropped in {page.name}")
-    own = [program([command], logs).stdout for command in ("merge", "history")]
-    is_(page.js(DIGEST), [list(hashlib.sha256(it).digest()) for it in own])
+    own = [program(["merge"], logs).stdout]
+    if HAS_TABLES:
+        own.append(subprocess.run(["aprsbook-table", *logs], stdout=subprocess.PIPE,
+                                  check=True).stdout)
+    is_(page.js(DIGEST)[:len(own)], [list(hashlib.sha256(it).digest()) for it in own])
 
 
 def test_large(page, folder):
@@ -556,7 +584,7 @@ def test_large(page, folder):
 
 
 def test_larger(page, folder):
-    """More than 64 MB: the evening on each of 320 days, its lines ten times. The history is the
+    """More than 64 MB: the evening on each of 320 days, its lines ten times. The rows are the
     book's then, and isn't made of all the files."""
     logs = [folder / it.name for it in EVENING]
     for own, path in zip(EVENING, logs):
@@ -566,8 +594,9 @@ def test_larger(page, folder):
                                   for day in days))
     assert sum(it.stat().st_size for it in logs) > 2 ** 26
     dropped(page, "more than 64 MB", logs, {})
+    # each log was looked into before it was read
     is_(sorted(page.js("[...window.asked]")),
-        ["check 1"] * 3 + ["history 1", "merge 3", "show 1"])
+        ["check 1"] * 6 + ["merge 3", "messages 1", "rows 1"])
 
 
 def picture(page, name):

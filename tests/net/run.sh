@@ -1,6 +1,6 @@
 #!/bin/sh
-# Tests the recipes of tracks, the page and the net, each where its tools are there, and says which
-# were left out.
+# Tests the page and the recipes of a receiver, each where its tools are there, and says which were left
+# out.
 # usage: tests/net/run.sh PROGRAM [PAGE]    PAGE is the page that reads logs, out/aprsbook.html
 page=${2-}
 set -- "${1-}"
@@ -15,15 +15,12 @@ with() {
     if has "$test" $tools; then "$repository/tests/net/$test" "$@"; fi
 }
 
-for test in every_place tracks asked event_page; do
-    with 'python3 aprsbook-history' $test.py "$examples"
-done
+with 'python3 aprsbook-history' event_page.py "$examples"
 with 'python3 aprsbook-history chromium' in_browser.py "$examples"
 with 'python3 aprsbook-history firefox-esr' in_firefox.py "$examples"
+with 'python3 chromium' page_alone.py
 if [ -f "$page" ]; then
     with 'python3 aprsbook-history' page_reads.py "$page" "$examples"
 else
     echo 'left out: page_reads.py (no page is there: make page)'
 fi
-with 'python3 aprsbook-history' net_now.sh "$program"
-for test in aprs_log monitor_log; do with 'python3' $test.py "$examples"; done

@@ -1,5 +1,5 @@
 -- The messages of a set of receptions.
-use Rattle.std.specs.Prelude.{◌≡◌, ◌↔◌, ◌⊎◌, ℕ, nat_lt, List, Option, Some, None, if◌then◌else◌}
+use Rattle.std.specs.Prelude.{◌≡◌, ◌↔◌, ◌⊎◌, ℕ, nat_lt, List, Option, Some, None, if◌then◌else◌, codes}
 use Rattle.std.specs.Option.{option_cmp, option_map}
 use Rattle.std.specs.Ordering.{on, then_cmp}
 use Rattle.std.specs.declared.cmp.Ordering.{Ordering}
@@ -18,6 +18,13 @@ use Rattle.aprs_book.specs.declared.lists.message.MessageRow.{MessageRow}
 use Rattle.aprs_book.specs.declared.lists.message.MessageState.{MessageState}
 use Rattle.aprs_book.specs.declared.lists.message.MessageState.TheVariants.{Unnumbered, Unanswered, Acknowledged, Rejected}
 use Rattle.aprs_book.specs.Reports.{report_of}
+
+-- The word for what came of a message.
+abbrev pub state_text : MessageState → List ℕ
+state_text Unnumbered = codes "unnumbered"
+state_text Unanswered = codes "unanswered"
+state_text Acknowledged = codes "acknowledged"
+state_text Rejected = codes "rejected"
 
 -- Who sent it, to whom, its text, and its id or none: receptions that agree in these are of one
 -- message.

@@ -1,7 +1,8 @@
 -- Lemmas on texts in pieces.
 use Rattle.aprs_booktext.proofs.Common.{◌≡◌, ℕ, zero, suc, ◌<◌, true, false, eqb, List, [], ◌∷◌, ◌++◌, length, get_or, take, drop, refl, sym, ap, ◌∙◌, arith, join_with_byte, onto_first, AllByRecursion, All-from_recursion, false_from_ne_true, is_byte}
 use Rattle.std.proofs.lemmas.List.Splits.{slice_split_none, slice_split_at, join_with_byte-slice_split, length-slice_split}
-use Rattle.aprs_booktext.specs.Lines.{Lacks, pieces}
+use Rattle.aprs_booktext.specs.Lines.{pieces}
+use Rattle.aprs_io.specs.Cut.{Lacks}
 
 -- ---- texts without the byte
 

@@ -7,7 +7,8 @@ use Rattle.aprs_laws.specs.declared.row_cause.RowCause.TheVariants as row
 use Rattle.aprs_booktext.specs.FirstFault.{FirstFault}
 use Rattle.aprs_booktext.specs.TextFault.{is_end, SpellsRefusedRow}
 use Rattle.aprs_booktext.specs.Law.{IsBookText}
-use Rattle.aprs_booktext.specs.Lines.{Lacks, pieces}
+use Rattle.aprs_booktext.specs.Lines.{pieces}
+use Rattle.aprs_io.specs.Cut.{Lacks}
 use Rattle.aprs_booktext.specs.Reader.{JudgesLine, HasReadLines, is_done, line_number, may_end}
 use Rattle.aprs_booktext.specs.RowFields.{SpellsBytes}
 use Rattle.aprs_booktext.specs.Text.{row_line, end_line, lines_of, book_text, most_frame_bytes, IsSpelled, IsBookRow}

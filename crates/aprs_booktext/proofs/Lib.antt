@@ -2,6 +2,7 @@ pub mod Common
 pub mod Accepting
 pub mod Asking
 pub mod BookRows
+pub mod CutRows
 pub mod Cuts
 pub mod Deciding
 pub mod Digits

@@ -2,7 +2,7 @@
 use Rattle.aprs_booktext.proofs.Common.{◌≡◌, ℕ, ◌+◌, ◌^◌, ◌<◌, ◌≤◌, List, [], ◌∷◌, ◌++◌, length, map, ◌⊎◌, inl, inr, refl, sym, ap, ◌∙◌, subst, append_assoc, append-nil, length-append, arith, All, AllByRecursion, length-map, All-head, All-tail, InputEnd, MomentForm, millis_of, Row, Sound, text_of_lines}
 use Rattle.aprs_booktext.specs.FirstFault.{AmongRows, EndFault, RestIsAtFault, FirstFault, HeaderFault, IsCut, LineFault, PastEnd}
 use Rattle.aprs_booktext.specs.TextFault.{IsWrong}
-use Rattle.aprs_booktext.specs.Lines.{Lacks}
+use Rattle.aprs_io.specs.Cut.{Lacks}
 use Rattle.aprs_booktext.specs.Text.{row_line, end_line, lines_of, IsBookRow, IsBookRows}
 use Rattle.aprs_booktext.specs.Version.{form_of, gap_of, header_of, IsVersion}
 use Rattle.aprs_booktext.specs.declared.fault.BookCause.{BookCause}

@@ -6,7 +6,8 @@ use Rattle.aprs_io.specs.declared.input.InputEnd.TheVariants as ending
 use Rattle.aprs_laws.proofs.Pushes.{sound_prefix}
 use Rattle.aprs_booktext.specs.FirstFault.{EndFault, RestIsAtFault, FirstFault, HasLine, HeaderFault, IsCut, LineFault}
 use Rattle.aprs_booktext.specs.TextFault.{SpellsRefusedRow, IsWrong}
-use Rattle.aprs_booktext.specs.Lines.{Lacks, pieces}
+use Rattle.aprs_booktext.specs.Lines.{pieces}
+use Rattle.aprs_io.specs.Cut.{Lacks}
 use Rattle.aprs_booktext.specs.Text.{fields_of, row_line, end_line, book_text, IsSpelled, IsBookRow, IsBookRows, written_text, written_version}
 use Rattle.aprs_booktext.specs.RowLines.{ended_by_lf}
 use Rattle.aprs_booktext.specs.Fault.{ending_cause}

@@ -3,7 +3,8 @@ use Rattle.aprs_booktext.proofs.Common.{◌≡◌, ℕ, ◌<◌, List, [], ◌�
 use Rattle.aprs_log.specs.Moment.{moment_text_in}
 use Rattle.aprs_log.specs.Clock.{form_size}
 use Rattle.aprs_rows.specs.Names.{row_of_text}
-use Rattle.aprs_booktext.specs.Lines.{Lacks, pieces}
+use Rattle.aprs_booktext.specs.Lines.{pieces}
+use Rattle.aprs_io.specs.Cut.{Lacks}
 use Rattle.aprs_booktext.specs.TextFault.{HasNoFrame}
 use Rattle.aprs_booktext.specs.RowFields.{SpellsBytes, SpellsFrame, IsWrongFrame, IsWrongRow}
 use Rattle.aprs_booktext.specs.Text.{row_line, IsSpelled, IsBookRow}

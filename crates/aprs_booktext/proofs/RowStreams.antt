@@ -2,7 +2,7 @@
 use Rattle.aprs_booktext.proofs.Common.{◌≡◌, ℕ, ◌+◌, ◌-◌, ◌<◌, ◌≤◌, Bool, true, false, List, [], ◌∷◌, ◌++◌, length, drop, drop-append-add, Option, Some, None, Result, Ok, Err, inl, inr, refl, sym, ap, ◌∙◌, subst, append-nil, append_assoc, length-append, arith, InputEnd, Row, Counted, Calls, Going, Calls-then, EndsHere, last_of_ending}
 use Rattle.std.specs.Io.KnownBytes.{Consumes}
 use Rattle.std.specs.Prelude.{OnOk, IfErr}
-use Rattle.aprs_booktext.specs.Lines.{Lacks}
+use Rattle.aprs_io.specs.Cut.{Lacks}
 use Rattle.aprs_booktext.specs.Piece.{bytes_left}
 use Rattle.aprs_booktext.specs.BookAnswers.{IsAnswerFor}
 use Rattle.aprs_booktext.specs.Fault.{ending_cause}

@@ -3,7 +3,7 @@ use Rattle.aprs_booktext.proofs.Common.{◌≡◌, ◌∙◌, ℕ, ◌<◌, ◌�
 use Rattle.aprs_io.specs.declared.input.InputEnd.TheVariants as how
 use Rattle.aprs_booktext.specs.Fault.{ending_cause}
 use Rattle.aprs_booktext.specs.FirstFault.{EndFault, RestIsAtFault, FirstFault, HeaderFault, IsMemoryAt, LineFault}
-use Rattle.aprs_booktext.specs.Lines.{Lacks}
+use Rattle.aprs_io.specs.Cut.{Lacks}
 use Rattle.aprs_booktext.specs.TextFault.{AreBook, AreOfRows, BeginBook, EndsLine, HasBookFault, IsWrong, IsWrongRest, most_ahead, StopsIn}
 use Rattle.aprs_booktext.specs.Version.{form_of, gap_of, header_of, IsVersion}
 use Rattle.aprs_booktext.specs.declared.fault.BookCause.{BookCause}

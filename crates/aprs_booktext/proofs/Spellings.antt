@@ -3,7 +3,8 @@ use Rattle.aprs_booktext.proofs.Common.{◌≡◌, ℕ, zero, suc, ◌/◌, ◌%
 use Rattle.hex.specs.Hex.{encode_with}
 use Rattle.aprs_log.specs.Moment.{moment_text_in}
 use Rattle.aprs_log.specs.CivilMoment.{IsMomentTextIn, civil_after}
-use Rattle.aprs_booktext.specs.Lines.{Lacks, pieces}
+use Rattle.aprs_booktext.specs.Lines.{pieces}
+use Rattle.aprs_io.specs.Cut.{Lacks}
 use Rattle.aprs_booktext.specs.Text.{fields_of, row_line, IsSpelled}
 use Rattle.aprs_booktext.proofs.Cuts.{lacks_joined, pieces_joined, joined_pieces}
 

@@ -2,7 +2,7 @@
 use Rattle.aprs_booktext.proofs.Common.{◌≡◌, ℕ, ◌+◌, ◌<◌, ◌≤◌, true, false, List, [], ◌∷◌, ◌++◌, length, map, None, Result, Ok, Err, inl, inr, refl, sym, ap, ◌∙◌, subst, append_assoc, append-nil, length-append, arith, ◌≢◌, All, IfErr, length-map, map_push, flat_map-append, All-nil, All-push, InputEnd, millis_of, Row, Sound, none_exactly, text_of_lines}
 use Rattle.aprs_rows.specs.Refusal.{refusal}
 use Rattle.aprs_io.specs.declared.input.InputEnd.TheVariants as ending
-use Rattle.aprs_booktext.specs.Lines.{Lacks}
+use Rattle.aprs_io.specs.Cut.{Lacks}
 use Rattle.aprs_booktext.proofs.Cuts.{lacks_append}
 use Rattle.aprs_booktext.specs.FirstFault.{FirstFault}
 use Rattle.aprs_booktext.specs.Reader.{HoldsIn, HasReadLines, Fails, IsFault, JudgesLine, AgreesWithEnding, gap_in, is_done, line_number, lines_read, may_end}

@@ -1,6 +1,6 @@
 -- Lemmas on versions of book files.
 use Rattle.aprs_booktext.proofs.Common.{◌≡◌, ℕ, ◌+◌, ◌%◌, ◌^◌, ◌<◌, ◌≤◌, Bool, true, false, List, [], ◌∷◌, length, Option, None, Some, get_or, refl, sym, ap, ◌∙◌, arith, ◌≢◌, decimal, bytes_eq, nat_tests, decimal_by_steps, decimal_injective, length-decimal-le, bytes_eq-Decides, IsGap, millis_of, standard_gap, is_byte}
-use Rattle.aprs_booktext.specs.Lines.{Lacks}
+use Rattle.aprs_io.specs.Cut.{Lacks}
 use Rattle.aprs_booktext.specs.Version.{gap_of, header_of, IsVersion}
 use Rattle.aprs_booktext.specs.declared.version.Version.{Version}
 use Rattle.aprs_booktext.specs.declared.version.Version.TheVariants.{One, Two, Three}

@@ -8,7 +8,7 @@ use Rattle.aprs_log.specs.LogText.{text_of_lines}
 use Rattle.aprs_laws.specs.Gap.{millis_of}
 use Rattle.aprs_laws.specs.Row.{Row}
 use Rattle.aprs_booktext.specs.Fault.{ending_cause}
-use Rattle.aprs_booktext.specs.Lines.{Lacks}
+use Rattle.aprs_io.specs.Cut.{Lacks}
 use Rattle.aprs_booktext.specs.Text.{row_line, lines_of, IsBookRows}
 use Rattle.aprs_booktext.specs.TextFault.{BeginBook, IsWrong}
 use Rattle.aprs_booktext.specs.Version.{form_of, gap_of, header_of, IsVersion}

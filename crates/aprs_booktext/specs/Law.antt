@@ -1,16 +1,17 @@
 -- What holds of all texts of books.
-use Rattle.std.specs.Prelude.{◌≡◌, ◌≢◌, ℕ, ◌^◌, ◌<◌, ◌≤◌, ◌⊎◌, ◌↔◌, List, [], ◌++◌, length, All, Option, Result, Ok, IfErr}
+use Rattle.std.specs.Prelude.{◌≡◌, ◌≢◌, ℕ, ◌^◌, ◌<◌, ◌≤◌, ◌⊎◌, ◌↔◌, List, [], ◌∷◌, ◌++◌, length, map, All, Option, Result, Ok, IfErr}
 use Rattle.aprs_io.specs.Input.{most_input}
 use Rattle.aprs_io.specs.declared.input.InputEnd.{InputEnd}
 use Rattle.aprs_io.specs.declared.input.InputEnd.TheVariants as how
+use Rattle.aprs_log.specs.LogText.{text_of_lines}
 use Rattle.aprs_log.specs.Reception.{Received}
 use Rattle.aprs_laws.specs.BookValue.{BookValue, Holds}
 use Rattle.aprs_laws.specs.Row.{Row}
 use Rattle.aprs_booktext.specs.BookAnswers.{IsBookOrMemory, ReadsBook}
 use Rattle.aprs_booktext.specs.Fault.{ending_cause}
-use Rattle.aprs_booktext.specs.Text.{book_of_version, book_text, IsBookRow, IsBookRows, written_text, written_version}
+use Rattle.aprs_booktext.specs.Text.{book_of_version, book_text, row_line, IsBookRow, IsBookRows, written_text, written_version}
 use Rattle.aprs_booktext.specs.TextFault.{HasBookFault}
-use Rattle.aprs_booktext.specs.Version.{form_of, gap_of, IsVersion}
+use Rattle.aprs_booktext.specs.Version.{form_of, gap_of, header_of, IsVersion}
 use Rattle.aprs_booktext.specs.declared.fault.BookCause.TheVariants as why
 use Rattle.aprs_booktext.specs.declared.fault.BookFault.{BookFault}
 use Rattle.aprs_booktext.specs.declared.version.Version.{Version}
@@ -32,6 +33,14 @@ AreCutShort = (v : Version) (rows : List Row) → IsBookRows v rows → length r
     → (text more : List ℕ) (ending : InputEnd) (fault : BookFault) → text ++ more ≡ book_text v rows
     → HasBookFault text ending fault → fault.cause ≢ why.Memory
     → (fault.cause ≡ ending_cause ending) × (ending ≡ how.End → more ≢ [])
+
+-- The header of a version and a part of the lines of a book's rows lack the last line: where the
+-- input ends there, that is the fault.
+abbrev pub LackAnEnd : Type 0
+LackAnEnd = (v : Version) (rows : List Row) → IsBookRows v rows → (part rest : List ℕ)
+    → text_of_lines (map (row_line (form_of v)) rows) ≡ part ++ rest
+    → (line : ℕ) × HasBookFault ((header_of v ++ 10 ∷ []) ++ part) how.End
+    (record { line = line; cause = why.Ending })
 
 -- An input that is the text of a book gives that book, unless it is longer than the limit, a read
 -- failed or an allocation failed.

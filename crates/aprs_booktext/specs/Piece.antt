@@ -1,4 +1,4 @@
--- Bytes that were read and are not yet taken. No public clause cites this module.
+-- Bytes that were read and are not yet taken.
 use Rattle.std.specs.Prelude.{ℕ, List, slice_range}
 use Rattle.aprs_booktext.specs.declared.piece.Piece.{Piece}
 

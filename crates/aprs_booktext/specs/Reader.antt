@@ -1,4 +1,4 @@
--- What a reader of a book holds. No public clause cites this module.
+-- What a reader of a book holds.
 use Rattle.std.specs.Prelude.{◌≡◌, ◌≢◌, ℕ, ◌+◌, ◌⊎◌, Bool, true, false, List, [], ◌∷◌, ◌++◌, length, map, None, Result, Ok, Err}
 use Rattle.aprs_io.specs.declared.input.InputEnd.{InputEnd}
 use Rattle.aprs_io.specs.declared.input.InputEnd.TheVariants as how
@@ -7,7 +7,7 @@ use Rattle.aprs_laws.specs.Row.{Row}
 use Rattle.aprs_rows.specs.Refusal.{refusal}
 use Rattle.aprs_booktext.specs.FirstFault.{FirstFault, IsMemoryAt, IsNoHeader}
 use Rattle.aprs_booktext.specs.TextFault.{IsWrong}
-use Rattle.aprs_booktext.specs.Lines.{Lacks}
+use Rattle.aprs_io.specs.Cut.{Lacks}
 use Rattle.aprs_booktext.specs.ReadRows.{StopsAfter}
 use Rattle.aprs_booktext.specs.Text.{row_line, end_line, lines_of, IsBookRow, IsBookRows}
 use Rattle.aprs_log.specs.LogText.{text_of_lines}

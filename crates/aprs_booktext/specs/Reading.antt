@@ -1,4 +1,4 @@
--- How much of a book's text was read of an input. No public clause cites this module.
+-- How much of a book's text was read of an input.
 use Rattle.std.specs.Prelude.{◌≡◌, ℕ, ◌+◌, ◌-◌, List, ◌++◌, length, Option, IfSome, Result}
 use Rattle.std.specs.Io.KnownBytes.{Consumes}
 use Rattle.aprs_io.specs.declared.device.Counted.{Counted}

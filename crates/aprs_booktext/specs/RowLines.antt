@@ -1,5 +1,4 @@
 -- The lines of rows as they are written.
--- No public clause cites this module.
 use Rattle.std.specs.Prelude.{◌<◌, ◌≤◌, ℕ, List, [], ◌∷◌, ◌++◌, length}
 use Rattle.hex.specs.Hex.{IsBytes}
 use Rattle.aprs_ax25.specs.UiFrame.{IsUiFrame}

@@ -1,4 +1,4 @@
--- What a reader holds that keeps the last row alone. No public clause cites this module.
+-- What a reader holds that keeps the last row alone.
 use Rattle.std.specs.Prelude.{◌≡◌, ℕ, ◌+◌, Bool, true, false, List, [], ◌∷◌, ◌++◌, length, Option, None, Some, Result, Ok, Err}
 use Rattle.std.specs.List.{last_or}
 use Rattle.aprs_laws.specs.BookValue.{BookValue}
@@ -9,6 +9,7 @@ use Rattle.aprs_booktext.specs.declared.fault.BookFault.{BookFault}
 use Rattle.aprs_booktext.specs.declared.reader.Stage.{Stage}
 use Rattle.aprs_booktext.specs.declared.reader.Stage.TheVariants.{Header, Rows, Done}
 use Rattle.aprs_booktext.specs.declared.row_reader.RowReader.{RowReader}
+use Rattle.aprs_booktext.specs.declared.version.Version.{Version}
 
 -- The list of a row, or the empty list where there is none.
 abbrev pub list_of_row : Option Row → List Row
@@ -25,6 +26,16 @@ row_kept (Done v) rows = []
 abbrev pub is_row_between : Stage → Stage → Bool
 is_row_between (Rows v) (Rows w) = true
 is_row_between before after = false
+
+-- The version that the header says, once it was read.
+abbrev pub version_in : Stage → Option Version
+version_in Header = None
+version_in (Rows v) = Some v
+version_in (Done v) = Some v
+
+-- A version that the header said stays.
+abbrev pub KeepsVersion : Stage → Stage → Type 0
+KeepsVersion old new = (v : Version) → version_in old ≡ Some v → version_in new ≡ Some v
 
 -- Before the header there are no rows.
 abbrev pub IsNoneAtHeader : Stage → List Row → Type 0

@@ -1,4 +1,4 @@
--- How far the rows of a book's text were read of an input. No public clause cites this module.
+-- How far the rows of a book's text were read of an input.
 use Rattle.std.specs.Prelude.{◌≡◌, ℕ, ◌+◌, ◌*◌, ◌⊎◌, if◌then◌else◌, Bool, true, false, List, [], ◌∷◌, ◌++◌, length, Option, Ok, Err}
 use Rattle.aprs_io.specs.Device.{Calls, Going}
 use Rattle.aprs_io.specs.declared.device.Counted.{Counted}

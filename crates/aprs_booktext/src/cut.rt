@@ -1,6 +1,7 @@
 //! Texts that are cut at a byte.
 ghost use Rattle.std.specs.Prelude.{◌≡◌, ◌+◌, ◌∷◌, ◌++◌, [], length, IfNone, IfSome};
-ghost use Rattle.aprs_booktext.specs.Lines.{Lacks, pieces};
+ghost use Rattle.aprs_booktext.specs.Lines.{pieces};
+ghost use Rattle.aprs_io.specs.Cut.{Lacks};
 
 use memchr::memchr;
 

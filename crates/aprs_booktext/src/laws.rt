@@ -12,6 +12,12 @@ pub fn each_book_has_one_text()
     ensures cut { Spec.AreCutShort }
 {}
 
+/// The header of a book and a part of the lines of its rows, the whole of them too, have the fault
+/// `Ending` where the input ends there, and so are the text of no book.
+pub fn cut_rows_lack_an_end()
+    ensures { Spec.LackAnEnd }
+{}
+
 /// The rows and the gap of a whole text of any version are read back, where the text is within the
 /// limit, no read fails and no allocation fails.
 pub fn written_books_are_read()

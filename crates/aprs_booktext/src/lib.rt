@@ -24,8 +24,9 @@ pub use example::{
 };
 pub use fault::{BookCause, BookFault};
 pub use laws::{
-    book_texts_are_of_sets, each_book_has_one_text, each_text_has_one_fault_or_none,
-    old_moments_are_told_to_the_second, read_books_are_written_back, written_books_are_read,
+    book_texts_are_of_sets, cut_rows_lack_an_end, each_book_has_one_text,
+    each_text_has_one_fault_or_none, old_moments_are_told_to_the_second,
+    read_books_are_written_back, written_books_are_read,
 };
 pub use read::{read_book, read_rows};
 pub use row_stream::RowStream;

@@ -4,7 +4,7 @@ ghost use Rattle.aprs_io.specs.Input.{most_input};
 ghost use Rattle.aprs_laws.specs.Row.{Row};
 ghost use Rattle.aprs_booktext.specs.BookAnswers.{IsAnswerFor};
 ghost use Rattle.aprs_booktext.specs.Fault.{ending_cause};
-ghost use Rattle.aprs_booktext.specs.Lines.{Lacks};
+ghost use Rattle.aprs_io.specs.Cut.{Lacks};
 ghost use Rattle.aprs_booktext.specs.ReadRows.{book_read};
 ghost use Rattle.aprs_booktext.specs.Text.{end_line};
 ghost use Rattle.aprs_booktext.specs.Reader as Spec;

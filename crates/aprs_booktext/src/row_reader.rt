@@ -2,11 +2,13 @@
 ghost use Rattle.std.specs.Prelude.{◌≡◌, ◌+◌, ◌≤◌, ◌++◌, ◌∷◌, ℕ, [], false, List, length, None, Some, OnOk, IfErr, IfOk, IfSome, IfNone};
 ghost use Rattle.std.specs.List.{last_or};
 ghost use Rattle.aprs_laws.specs.Row.{Row};
+ghost use Rattle.aprs_laws.specs.Sound.{IsSoundRow};
+ghost use Rattle.aprs_rows.specs.Packed.{IsShort};
 ghost use Rattle.aprs_booktext.specs.BookAnswers.{IsAnswerFor};
 ghost use Rattle.aprs_booktext.specs.Fault.{ending_cause};
-ghost use Rattle.aprs_booktext.specs.Lines.{Lacks};
+ghost use Rattle.aprs_io.specs.Cut.{Lacks};
 ghost use Rattle.aprs_booktext.specs.Reader as Spec;
-ghost use Rattle.aprs_booktext.specs.RowReader.{answer_read, count_after, is_row_between, most_stream, row_kept, size_read, HasReadTo, IsNoneAtHeader, JudgesKept, ReadsOne};
+ghost use Rattle.aprs_booktext.specs.RowReader.{answer_read, count_after, is_row_between, most_stream, row_kept, size_read, version_in, HasReadTo, IsNoneAtHeader, JudgesKept, KeepsVersion, ReadsOne};
 
 use crate::end_line::end_line;
 use crate::fault::{BookCause, BookFault};
@@ -71,7 +73,10 @@ impl<A: Allocator + Copy> RowReader<A> {
     pub fn row(&self) -> Option<RowView<'_>>
         ensures some { IfSome result (λ x. last_or None self.now.last ≡ Some x) }
         ensures none { IfNone result (self.now.last ≡ []) }
+        // A row is sound by itself, and its receivers' names have fewer than 4,294,967,296 bytes.
+        ensures own { IfSome result (λ x. IsSoundRow x × IsShort x) }
     {
+        self.last.sound();
         self.last.last()
     }
 
@@ -103,6 +108,7 @@ impl<A: Allocator + Copy> RowReader<A> {
         ensures reads { IfOk result (λ is_row. (rows : List Row) (t : List ℕ)
             → HasReadTo self.old rows t → Lacks 10 part.now
             → ReadsOne is_row self.new rows ((t ++ part.now) ++ 10 ∷ [])) }
+        ensures version { OnOk result (KeepsVersion self.old.stage self.new.stage) }
         ensures size { OnOk result
             (size_read self.new ≤ size_read self.old + length part.now + 1) }
         ensures fault { IfErr result (λ fault. (rows : List Row) (t more : List ℕ)
@@ -126,6 +132,7 @@ impl<A: Allocator + Copy> RowReader<A> {
         ensures reads { IfOk result (λ is_row. (rows : List Row) (t : List ℕ)
             → HasReadTo self.old rows t → Lacks 10 line.now
             → ReadsOne is_row self.new rows ((t ++ line.now) ++ 10 ∷ [])) }
+        ensures version { OnOk result (KeepsVersion self.old.stage self.new.stage) }
         ensures size { OnOk result (size_read self.new ≤ size_read self.old + 1) }
         ensures fault { IfErr result (λ fault. (rows : List Row) (t more : List ℕ)
             → HasReadTo self.old rows t → Lacks 10 line.now
@@ -150,6 +157,7 @@ impl<A: Allocator + Copy> RowReader<A> {
         requires going { Spec.is_done self.old.stage ≡ false }
         ensures reads { IfOk result (λ is_row. (rows : List Row) (t : List ℕ)
             → HasReadTo self.old rows t → ReadsOne is_row self.new rows (t ++ 10 ∷ [])) }
+        ensures version { OnOk result (KeepsVersion self.old.stage self.new.stage) }
         ensures size { OnOk result (size_read self.new ≤ size_read self.old + 1) }
         ensures fault { IfErr result (λ fault. (rows : List Row) (t more : List ℕ)
             → HasReadTo self.old rows t → Spec.IsFault (length more + 1) fault (t ++ 10 ∷ more)) }
@@ -253,6 +261,7 @@ fn judge<A: Allocator + Copy>(
 ) -> Result<Stage, BookCause>
     ensures judged { (rows : List Row) → count ≡ length rows → last.old ≡ row_kept stage rows
         → IsNoneAtHeader stage rows → JudgesKept stage result rows line.now last.new }
+    ensures version { IfOk result (KeepsVersion stage) }
     ensures cause { IfErr result Spec.IsOfText }
 {
     match stage {
@@ -273,6 +282,7 @@ fn judge_row<A: Allocator + Copy>(
     ensures judged { (rows : List Row) → count ≡ length rows
         → last.old ≡ row_kept (Stage.Rows version) rows
         → JudgesKept (Stage.Rows version) result rows line.now last.new }
+    ensures version { IfOk result (λ next. version_in next ≡ Some version) }
     ensures cause { IfErr result Spec.IsOfText }
 {
     if line.starts_with(b"END") {

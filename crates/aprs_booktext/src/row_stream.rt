@@ -3,9 +3,11 @@ ghost use Rattle.std.specs.Prelude.{◌≡◌, ◌≤◌, ◌<◌, ◌+◌, ◌*
 ghost use Rattle.std.specs.List.{last_or};
 ghost use Rattle.aprs_io.specs.declared.device.Counted.{Counted as CountedValue};
 ghost use Rattle.aprs_laws.specs.Row.{Row};
+ghost use Rattle.aprs_laws.specs.Sound.{IsSoundRow};
+ghost use Rattle.aprs_rows.specs.Packed.{IsShort};
 ghost use Rattle.aprs_booktext.specs.Reading.{IsAnswered};
 ghost use Rattle.aprs_booktext.specs.Piece.{bytes_left};
-ghost use Rattle.aprs_booktext.specs.RowReader.{most_stream};
+ghost use Rattle.aprs_booktext.specs.RowReader.{most_stream, KeepsVersion};
 ghost use Rattle.aprs_booktext.specs.RowStream as Spec;
 
 use crate::cut::cut;
@@ -54,6 +56,8 @@ impl<A: Allocator + Copy> RowStream<A> {
     pub fn row(&self) -> Option<RowView<'_>>
         ensures some { IfSome result (λ x. last_or None (Spec.front_of self.now) ≡ Some x) }
         ensures none { IfNone result (Spec.front_of self.now ≡ []) }
+        // A row is sound by itself, and its receivers' names have fewer than 4,294,967,296 bytes.
+        ensures own { IfSome result (λ x. IsSoundRow x × IsShort x) }
     {
         self.reader.row()
     }
@@ -67,6 +71,8 @@ impl<A: Allocator + Copy> RowStream<A> {
         ensures one { OnOk result ((limit : ℕ) (first : CountedValue R) (rows : List Row)
             → Spec.HasGot R.remaining limit first source.old self.old rows
             → Spec.GetsOne R.remaining limit first source.new self.new rows) }
+        ensures version { OnOk result
+            (KeepsVersion self.old.reader.stage self.new.reader.stage) }
         ensures size { OnOk result (Spec.stream_size self.new ≤ Spec.stream_size self.old) }
         ensures less { OnOk result (Spec.is_ended self.new ≡ false
             → Spec.stream_ahead self.new < Spec.stream_ahead self.old) }
@@ -89,6 +95,8 @@ impl<A: Allocator + Copy> RowStream<A> {
         ensures steps { IfOk result (λ is_row. (limit : ℕ) (first : CountedValue R) (rows : List Row)
             → Spec.HasGot R.remaining limit first source.old self.old rows
             → Spec.StepsTo R.remaining is_row limit first source.new self.new rows) }
+        ensures version { OnOk result
+            (KeepsVersion self.old.reader.stage self.new.reader.stage) }
         ensures size { OnOk result (Spec.stream_size self.new ≤ Spec.stream_size self.old) }
         ensures less { OnOk result (Spec.stream_ahead self.new < Spec.stream_ahead self.old) }
         ensures fault { IfErr result (λ fault.

@@ -13,8 +13,8 @@ use Rattle.aprs_details.specs.declared.extension.Transmitter.{Transmitter}
 use Rattle.aprs_details.specs.declared.weather.Weather.{Weather}
 use Rattle.aprs_details.specs.Altitude.{feet_of, feet_at}
 use Rattle.aprs_details.specs.Compressed.{knots_of, range_of, range_of_cst, is_current_of_cst}
-use Rattle.aprs_details.specs.Decimal.{degrees_text, metres_text, hundredths_text, nearest}
-use Rattle.aprs_details.specs.Details.{details_of, motion_of, weather_at, altitude_of, range_of_place, mic_e_altitude_of, base91_at}
+use Rattle.aprs_details.specs.Decimal.{decimal_degrees_text, metres_text, hundredths_text, nearest}
+use Rattle.aprs_details.specs.Details.{details_of, motion_at, weather_at, altitude_of, range_of_place, mic_e_altitude_of, base91_at}
 use Rattle.aprs_details.specs.Extension.{pair_of, range_at, phg_at}
 use Rattle.aprs_details.specs.Telemetry.{Measured, telemetry_of, after_mic}
 use Rattle.aprs_details.specs.ThirdParty.{Passed, passed_of}
@@ -48,11 +48,11 @@ compressed_place cst = Base91 15427503 20427156 cst
 -- what the steps of reading details compute with: of a car with a comment, and of one with bytes c,
 -- s and T
 abbrev pub of_car : List ℕ → Details
-unfolding details_of motion_of weather_at altitude_of range_of_place pair_of range_at phg_at numeral_of feet_of feet_at
+unfolding details_of motion_at weather_at altitude_of range_of_place pair_of range_at phg_at numeral_of feet_of feet_at
 of_car comment = details_of plain_place car comment
 
 abbrev pub of_compressed_car : List ℕ × List ℕ → Details
-unfolding details_of motion_of weather_at altitude_of range_of_place pair_of range_at phg_at numeral_of feet_of feet_at knots_of range_of
+unfolding details_of motion_at weather_at altitude_of range_of_place pair_of range_at phg_at numeral_of feet_of feet_at knots_of range_of
 of_compressed_car x = details_of (compressed_place x.0) car x.1
 
 -- Course, speed, altitude, range and how old the fix is.
@@ -496,7 +496,7 @@ parts n d = record { numerator = n; denominator = d }
 
 abbrev pub text_of_degrees : Fraction → List ℕ
 unfolding digits
-text_of_degrees f = degrees_text f
+text_of_degrees f = decimal_degrees_text f
 
 abbrev pub text_of_hundredths : ℕ → List ℕ
 unfolding digits

@@ -2,11 +2,10 @@
 use Rattle.aprs_details.proofs.Common.{◌≡◌, ℕ, suc, ◌≤◌, Bool, true, false, cond, List, [], ◌∷◌, ◌++◌, length, take, Option, Some, None, refl, sym, ap, subst, ◌∙◌, arith, take_all, some_is}
 use Rattle.std.specs.List.{position_or_len, before_first}
 use Rattle.std.proofs.lemmas.Bool.Decides.{nat_tests}
-use Rattle.aprs_io.specs.Cut.{Cut, cut_at, first_cut, has_byte, is_byte}
+use Rattle.aprs_io.specs.Cut.{Cut, Lacks, cut_at, first_cut, has_byte, is_byte}
 use Rattle.aprs_io.proofs.Cuts.{cut_at-missing}
 use Rattle.aprs_report.specs.Reader.{◌>>=◌}
 use Rattle.aprs_report.proofs.Steps.{if_some}
-use Rattle.aprs_details.specs.ThirdParty.{Lacks}
 
 -- a step that has a value, and the next ones from there
 pub then_some : {A B : Type 0} (o : Option A) (x : A) (f : A → Option B) (r : Option B) →

@@ -3,7 +3,7 @@ use Rattle.aprs_details.proofs.Common.{◌≡◌, true, ℕ, List, ◌∷◌, �
 use Rattle.aprs_io.specs.Cut.{Cut, cut_at}
 use Rattle.aprs_io.proofs.Cuts.{cut_at-parts, cut_at-append}
 use Rattle.aprs_report.specs.Reader.{◌>>=◌, byte_where}
-use Rattle.aprs_details.specs.ThirdParty.{Passed, IsPath, by, direct, IsPassed, is_brace, cut_or_all, passed_of}
+use Rattle.aprs_details.specs.ThirdParty.{Passed, IsPath, by, direct, IsPassedFrame, is_brace, cut_or_all, passed_of}
 use Rattle.aprs_details.proofs.Lacking.{cut_at-before, cut_at-none, cut_at-lacks, then_some}
 
 -- the steps of reading
@@ -34,15 +34,15 @@ whole_is : (info rest addresses inner : List ℕ) (b : ℕ) → info ≡ b ∷ r
 whole_is info rest addresses inner b e h r = rw (e, eqb-true b 125 h, r) refl
 
 -- a frame that is read
-pub passed_found : (info : List ℕ) (x : Passed) → passed_of info ≡ Some x → IsPassed x info
+pub passed_found : (info : List ℕ) (x : Passed) → passed_of info ≡ Some x → IsPassedFrame x info
 unfolding passed_of
 passed_found info x e =
-    let P : Type 0 = IsPassed x info in
+    let P : Type 0 = IsPassedFrame x info in
     after_some (byte_where is_brace info) after_brace x P e (λ mark e1 r1.
     after_some (cut_at 58 mark.1) after_addresses x P r1 (λ parts e2 r2.
     after_some (cut_at 62 parts.before) (after_source parts.after) x P r2 (λ ends e3 r3.
     let f = byte_found is_brace info mark e1 in
-    subst (λ (x : Passed). IsPassed x info)
+    subst (λ (x : Passed). IsPassedFrame x info)
     (some_is (made ends.before ends.after parts.after) x r3) (record {
       addresses = parts.before;
       path = ends.after;
@@ -74,7 +74,7 @@ made_is x path h =
       info = x.info;
     })) (path_takes x.destination x.via path h)
 
-pub passed_takes : (info : List ℕ) (x : Passed) → IsPassed x info → passed_of info ≡ Some x
+pub passed_takes : (info : List ℕ) (x : Passed) → IsPassedFrame x info → passed_of info ≡ Some x
 unfolding passed_of
 passed_takes info x h =
     let rest : List ℕ = h.addresses ++ 58 ∷ x.info in

@@ -1,16 +1,15 @@
 -- A telemetry report that is read is spelled so, and what is spelled so is read.
 use Rattle.aprs_details.proofs.Common.{◌≡◌, ◌&&◌, ◌∙◌, ap, Bool, ℕ, true, List, [], ◌∷◌, ◌++◌, length, Option, Some, None, refl, sym, subst, eqb, eqb-true, and_parts, after_some, guarded_some, some_is, chunk_found, arith, false, not, cond, list_all, chunk_takes}
 use Rattle.std.proofs.Common.{append-nil}
-use Rattle.aprs_io.specs.Cut.{Cut, cut_at, is_byte}
+use Rattle.aprs_io.specs.Cut.{Cut, Lacks, cut_at, is_byte}
 use Rattle.std.proofs.lemmas.Bool.Decides.{nat_tests}
 use Rattle.aprs_io.proofs.Cuts.{cut_at-parts, cut_at-append}
 use Rattle.aprs_report.specs.Bytes.{is_digit}
 use Rattle.aprs_report.proofs.Steps.{StartsWith, guarded_takes}
-use Rattle.aprs_details.specs.ThirdParty.{Lacks}
 use Rattle.aprs_details.proofs.Lacking.{cut_at-lacks, lacks_append, then_some}
 use Rattle.aprs_report.specs.Reader.{◌>>=◌, value_when, chunk_of}
 use Rattle.aprs_details.specs.Value.{is_number, is_whole, is_unsigned_in}
-use Rattle.aprs_details.specs.Telemetry.{Measured, IsTelemetry, BeginsWithNumber, numbered, unnumbered, IsNext, comma_before, without_comma, bits_in, is_mic, is_telemetry_mark, after_mic, sequence_with, sequence_at, numbered_in, value_in, value_at, telemetry_of}
+use Rattle.aprs_details.specs.Telemetry.{Measured, IsTelemetry, BeginsWithNumber, numbered, unnumbered, IsNextValue, comma_before, without_comma, bits_in, is_mic, is_telemetry_mark, after_mic, sequence_with, sequence_at, numbered_in, value_in, value_at, telemetry_of}
 
 -- ---- the number
 
@@ -59,20 +58,20 @@ number_found text (Some rest) x m e =
 -- ---- the values
 
 value_in_found : (text : List ℕ) (o : Option Cut) (x : List ℕ × Option (List ℕ)) →
-    cut_at 44 text ≡ o → value_in text o ≡ Some x → IsNext x.0 (Some text) x.1
+    cut_at 44 text ≡ o → value_in text o ≡ Some x → IsNextValue x.0 (Some text) x.1
 value_in_found text None x c e =
     let g = guarded_some (is_number text) (text, None) x e in
-    subst (λ (x : List ℕ × Option (List ℕ)). IsNext x.0 (Some text) x.1) g.1
+    subst (λ (x : List ℕ × Option (List ℕ)). IsNextValue x.0 (Some text) x.1) g.1
     (g.0, sym (append-nil text))
 value_in_found text (Some cut) x c e =
     let g = guarded_some (is_number cut.before) (cut.before, Some cut.after) x e in
-    subst (λ (x : List ℕ × Option (List ℕ)). IsNext x.0 (Some text) x.1) g.1
+    subst (λ (x : List ℕ × Option (List ℕ)). IsNextValue x.0 (Some text) x.1) g.1
     (g.0, cut_at-parts 44 text cut c)
 
 value_found : (left : Option (List ℕ)) (x : List ℕ × Option (List ℕ)) → value_at left ≡ Some x →
-    IsNext x.0 left x.1
+    IsNextValue x.0 left x.1
 value_found None x e =
-    subst (λ (x : List ℕ × Option (List ℕ)). IsNext x.0 None x.1) (some_is ([], None) x e)
+    subst (λ (x : List ℕ × Option (List ℕ)). IsNextValue x.0 None x.1) (some_is ([], None) x e)
     (refl, refl)
 value_found (Some text) x e = value_in_found text (cut_at 44 text) x refl e
 
@@ -253,7 +252,7 @@ value_in_takes value text (Some rest) h e =
     ∙ ap (value_in (value ++ 44 ∷ rest)) (cut_at-append 44 value rest (number_lacks value h))
     ∙ guarded_takes (is_number value) (value, Some rest) h
 
-value_takes : (value : List ℕ) (left later : Option (List ℕ)) → IsNext value left later →
+value_takes : (value : List ℕ) (left later : Option (List ℕ)) → IsNextValue value left later →
     value_at left ≡ Some (value, later)
 value_takes value None later h = rw (h.0, h.1) refl
 value_takes value (Some text) later h = value_in_takes value text later h.0 h.1

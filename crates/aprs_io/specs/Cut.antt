@@ -1,11 +1,15 @@
 -- Texts that are cut at a byte.
-use Rattle.std.specs.Prelude.{ℕ, ◌==◌, Bool, if◌then◌else◌, List, length, Option, None, Some, nat_lt}
-use Rattle.std.specs.List.{position_or_len, before_first, after_first}
+use Rattle.std.specs.Prelude.{◌≡◌, ℕ, ◌==◌, Bool, false, if◌then◌else◌, List, length, Option, None, Some, nat_lt}
+use Rattle.std.specs.List.{AllByRecursion, position_or_len, before_first, after_first}
 use Rattle.std.specs.Borrow.{Bor}
 
 -- The byte is `stop`.
 abbrev pub is_byte : ℕ → ℕ → Bool
 is_byte stop byte = byte == stop
+
+-- The text lacks the byte.
+abbrev pub Lacks : ℕ → List ℕ → Type 0
+Lacks stop text = AllByRecursion (λ b. is_byte stop b ≡ false) text
 
 -- The part of a text before a byte, and the part after it.
 pub record Cut : Type 0 where

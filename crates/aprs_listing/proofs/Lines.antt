@@ -2,7 +2,8 @@
 use Rattle.aprs_listing.proofs.Common.{◌≡◌, ℕ, Bool, List, [], ◌∷◌, ◌++◌, map, refl, sym, ap, ap₂, ◌∙◌, append_assoc, flat_map, flat_map-append, Call, call_text, moment_text, Received, shown_text}
 use Rattle.aprs_laws.specs.Key.{key_of}
 use Rattle.aprs_listing.specs.Lines.{field_text, spaced_field}
-use Rattle.aprs_listing.specs.Listing.{after_space, heard_fields, live_text, name_fields, line_with_text, word}
+use Rattle.aprs_listing.specs.Listing.{after_space, heard_fields, name_fields, line_with_text, word}
+use Rattle.aprs_report.specs.Object.{live_text}
 use Rattle.aprs_listing.specs.declared.field.Field.{Field}
 
 pub spaced_fields : (xs : List Field) → flat_map spaced_field xs

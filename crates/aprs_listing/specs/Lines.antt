@@ -5,7 +5,8 @@ use Rattle.aprs_ax25.specs.Callsign.{call_text}
 use Rattle.aprs_log.specs.Moment.{moment_text}
 use Rattle.aprs_report.specs.Reading.{Value, object, item}
 use Rattle.aprs_listing.specs.Listing.{word, stamp_text, degrees_text, ambiguity_text, symbol_text}
-use Rattle.aprs_listing.specs.Listing.{line_with_text, live_text, place_fields}
+use Rattle.aprs_listing.specs.Listing.{line_with_text, place_fields}
+use Rattle.aprs_report.specs.Object.{live_text}
 use Rattle.aprs_listing.specs.declared.field.Field.{Field}
 use Rattle.aprs_listing.specs.declared.field.Field.TheVariants as field
 

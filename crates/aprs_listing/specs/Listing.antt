@@ -13,6 +13,7 @@ use Rattle.aprs_report.specs.declared.place.Place.{Place}
 use Rattle.aprs_report.specs.declared.place.Place.TheVariants.{Plain, Base91}
 use Rattle.aprs_report.specs.declared.stamp.Stamp.{Stamp}
 use Rattle.aprs_report.specs.declared.symbol.Symbol.{Symbol}
+use Rattle.aprs_report.specs.Object.{live_text}
 use Rattle.aprs_log.specs.Moment.{moment_text}
 use Rattle.aprs_log.specs.Reception.{Received}
 use Rattle.aprs_laws.specs.Key.{key_of}
@@ -22,7 +23,7 @@ use Rattle.aprs_book.specs.declared.lists.message.MessageState.{MessageState}
 use Rattle.aprs_book.specs.declared.lists.message.MessageState.TheVariants.{Unnumbered, Unanswered, Acknowledged, Rejected}
 use Rattle.aprs_laws.specs.BookValue.{BookValue}
 use Rattle.aprs_laws.specs.Gap.{millis_of}
-use Rattle.aprs_book.specs.Messages.{ReportsMessages}
+use Rattle.aprs_book.specs.Messages.{ReportsMessages, state_text}
 use Rattle.aprs_book.specs.Names.{ReportsNamed, Thing}
 use Rattle.aprs_book.specs.Stations.{ReportsStations}
 use Rattle.aprs_book.specs.declared.lists.named.Named.{Named}
@@ -57,22 +58,10 @@ ambiguity_text (Base91 y x cst) = codes "c"
 abbrev pub symbol_text : Symbol → List ℕ
 symbol_text s = shown_text (s.table ∷ s.code ∷ [])
 
--- Whether an object or an item is live or killed.
-abbrev pub live_text : Bool → List ℕ
-live_text true = codes "live"
-live_text false = codes "killed"
-
 -- The id of a message, or - without one.
 abbrev pub id_text : Option (Bor (List ℕ)) → List ℕ
 id_text None = codes "-"
 id_text (Some id) = id.now
-
--- What came of a message.
-abbrev pub state_text : MessageState → List ℕ
-state_text Unnumbered = codes "unnumbered"
-state_text Unanswered = codes "unanswered"
-state_text Acknowledged = codes "acknowledged"
-state_text Rejected = codes "rejected"
 
 -- The fields that say when and by whom a reception was heard.
 abbrev pub heard_fields : Received → List (List ℕ)

@@ -8,7 +8,7 @@ use crate::field::Field;
 use crate::line::put_text_line;
 use aprs_book::Heard;
 use aprs_io::{Outlet, WriteFault};
-use aprs_report::{Place, Report, Stamp, Symbol};
+use aprs_report::{Place, Report, Stamp, Symbol, live_text};
 use std::io::Write;
 
 /// Where a report says that something is.
@@ -155,11 +155,4 @@ fn place_fields(at: &Whereabouts<'_>) -> [Field<'static>; 5]
         Field::Ambiguity(at.place),
         Field::Symbol(at.symbol),
     ]
-}
-
-/// `live`, or `killed`: whether an object or an item is still there.
-pub fn live_text(live: bool) -> &'static [u8]
-    ensures { result.now ≡ Spec.live_text live }
-{
-    if live { b"live" } else { b"killed" }
 }

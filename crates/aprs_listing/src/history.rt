@@ -6,6 +6,7 @@ ghost use Rattle.aprs_log.specs.Moment.{moment_text};
 ghost use Rattle.aprs_ax25.specs.FrameFault.{parts_of};
 ghost use Rattle.aprs_io.specs.Device.{Sends};
 ghost use Rattle.aprs_io.specs.Outlet.{Puts};
+ghost use Rattle.aprs_report.specs.Object as ReportWords;
 ghost use Rattle.aprs_report.specs.Reading.{view};
 ghost use Rattle.aprs_mice.specs.MicEMessage.{message_name};
 ghost use Rattle.aprs_mice.specs.Reader.{mic_e_or_none};
@@ -15,7 +16,6 @@ ghost use Rattle.aprs_listing.specs.Listing as Spec;
 ghost use Rattle.aprs_listing.specs.OneLine.{HasOneLineEach};
 
 use crate::field::Field;
-use crate::heard_line::live_text;
 use crate::line::{put_lists_line, put_text_line};
 use crate::listing::id_text;
 use crate::via::{hops_text, via_of};
@@ -23,7 +23,7 @@ use aprs_ax25::{Callsign, Frame};
 use aprs_io::{Counted, Outlet, WriteFault};
 use aprs_log::Moment;
 use aprs_mice::MicE;
-use aprs_report::{Place, Report, Stamp, Symbol};
+use aprs_report::{Place, Report, Stamp, Symbol, live_text};
 use aprs_rows::{BookRows, RowView};
 use std::alloc::Allocator;
 use std::io::Write;
@@ -251,7 +251,7 @@ fn named_fields<'a>(
     place: Place,
     symbol: Symbol,
 ) -> [Field<'a>; 7]
-    ensures { map field_text result ≡ Spec.word name.entry.now ∷ Spec.live_text live
+    ensures { map field_text result ≡ Spec.word name.entry.now ∷ ReportWords.live_text live
         ∷ Spec.place_fields stamp place symbol }
 {
     [

@@ -126,7 +126,7 @@ fn put_message<W: Write>(
         Field::Call(message.source.copy()),
         Field::Word(message.addressee),
         Field::Plain(id_text(message.id)),
-        Field::Plain(state_text(message.state)),
+        Field::Plain(message.state.text()),
         Field::Moment(message.first),
         Field::Moment(message.last),
     ];
@@ -140,17 +140,5 @@ pub fn id_text<'a>(id: Option<&'a [u8]>) -> &'a [u8]
     match id {
         Some(id) => id,
         None => b"-",
-    }
-}
-
-/// The word for what came of a message.
-fn state_text(state: MessageState) -> &'static [u8]
-    ensures { result.now ≡ Spec.state_text state }
-{
-    match state {
-        MessageState::Unnumbered => b"unnumbered",
-        MessageState::Unanswered => b"unanswered",
-        MessageState::Acknowledged => b"acknowledged",
-        MessageState::Rejected => b"rejected",
     }
 }

@@ -1,6 +1,6 @@
 -- A line, put in parts.
 use Rattle.aprs_lists.proofs.Common.{◌≡◌, ◌∙◌, ℕ, List, [], ◌∷◌, ◌++◌, ap, sym, append-nil, append_assoc, flat_map, flat_map-append, join_with_byte, after_tab}
-use Rattle.aprs_lists.specs.Lines.{line_of}
+use Rattle.aprs_lists.specs.Lines.{tabbed_line}
 
 -- the fields, each after a tab
 abbrev pub tabs : List (List ℕ) → List ℕ
@@ -11,7 +11,7 @@ joined x [] = append-nil x
 joined x (y ∷ ys) = ap (λ (l : List ℕ). x ++ (9 ∷ l)) (joined y ys)
 
 pub in_parts : (x : List ℕ) (xs ys : List (List ℕ))
-    → x ++ (tabs xs ++ (tabs ys ++ 10 ∷ [])) ≡ line_of (x ∷ xs ++ ys)
+    → x ++ (tabs xs ++ (tabs ys ++ 10 ∷ [])) ≡ tabbed_line (x ∷ xs ++ ys)
 in_parts x xs ys = ap (λ l. x ++ l) (sym (append_assoc (tabs xs) (tabs ys) (10 ∷ [])))
     ∙ ap (λ l. x ++ (l ++ 10 ∷ [])) (sym (flat_map-append after_tab xs ys))
     ∙ sym (append_assoc x (tabs (xs ++ ys)) (10 ∷ []))

@@ -10,7 +10,7 @@ use Rattle.aprs_laws.specs.Order.{IsBelow}
 use Rattle.aprs_laws.specs.Row.{row_key}
 use Rattle.aprs_laws.specs.Spans.{IsFirstMoment, IsLastMoment}
 use Rattle.aprs_book.proofs.Messages.{message_total}
-use Rattle.aprs_book.specs.Messages.{AnswersIt, AreMessages, IsAnsweredAt, IsStateOf, Message, ReportsIt, answered_by, message_cmp, shown_message, state_by}
+use Rattle.aprs_book.specs.Messages.{AnswersIt, AreMessages, IsAnsweredAt, IsStateOf, Message, ReportsIt, answered_by, message_cmp, shown_message, state_by, state_text}
 use Rattle.aprs_book.specs.Names.{AreNamed, ReportsOf, Thing, shown_thing, thing_cmp}
 use Rattle.aprs_book.specs.Reports.{has_source, reports_position, reports_status}
 use Rattle.aprs_book.specs.Stations.{AreStations}
@@ -19,8 +19,8 @@ use Rattle.aprs_book.specs.declared.lists.message.MessageState.{MessageState}
 use Rattle.aprs_book.specs.declared.lists.message.MessageState.TheVariants.{Unnumbered}
 use Rattle.aprs_book.specs.declared.lists.named.Named.{Named}
 use Rattle.aprs_book.specs.declared.lists.station.Station.{Station}
-use Rattle.aprs_lists.specs.Lines.{line_of}
-use Rattle.aprs_lists.specs.Messages.{answer_fields, id_or_nothing, message_columns, message_table_line, messages_table, outcome}
+use Rattle.aprs_lists.specs.Lines.{tabbed_line}
+use Rattle.aprs_lists.specs.Messages.{answer_fields, id_or_nothing, message_columns, message_table_line, messages_table}
 use Rattle.aprs_lists.specs.Stations.{position_fields, station_columns, station_table_line, stations_table, status_fields}
 use Rattle.aprs_lists.specs.Things.{heard_thing_line, thing_columns, thing_table_line, things_table}
 use Rattle.aprs_lists.proofs.Once.{same_lines}
@@ -53,8 +53,8 @@ module _ (S T : List Received) (same : SameMembers S T) where
       ∙ (ap (answered_by first) (known_once S T (AnswersIt m id) h.0 k.0 same h.1 k.1) ∙ sym k.2)
 
   abbrev message_told : Message → MessageState → ℕ → ℕ → Option ℕ → List ℕ
-  message_told m state first last answered = line_of (call_text m.source ∷ shown_text m.addressee
-      ∷ shown_text (id_or_nothing m.id) ∷ shown_text m.text ∷ outcome state ∷ moment_text first
+  message_told m state first last answered = tabbed_line (call_text m.source ∷ shown_text m.addressee
+      ∷ shown_text (id_or_nothing m.id) ∷ shown_text m.text ∷ state_text state ∷ moment_text first
       ∷ moment_text last ∷ answer_fields answered m.addressee)
 
   module _ (xs ys : List MessageRow) (p : AreMessages S xs) (q : AreMessages T ys) where
@@ -86,7 +86,7 @@ module _ (S T : List Received) (same : SameMembers S T) where
         answered)))
 
     pub one_messages : messages_table xs ≡ messages_table ys
-    one_messages = ap (λ (l : List ℕ). line_of message_columns ++ l)
+    one_messages = ap (λ (l : List ℕ). tabbed_line message_columns ++ l)
         (same_lines shown_message message_table_line (IsBelow message_cmp)
         (not_both message_total) xs ys p.ascending q.ascending
         (λ x i. let s = (p.messages (shown_message x)).0 (x, i, refl) in
@@ -98,7 +98,7 @@ module _ (S T : List Received) (same : SameMembers S T) where
   -- ---- stations
 
   abbrev station_told : Call → ℕ → Option Received → Option Received → List ℕ
-  station_told call n position status = line_of (call_text call ∷ decimal n
+  station_told call n position status = tabbed_line (call_text call ∷ decimal n
       ∷ position_fields position ++ status_fields status)
 
   abbrev rows_from : Call → List Row → ℕ
@@ -127,7 +127,7 @@ module _ (S T : List Received) (same : SameMembers S T) where
         ∙ ap (λ (o : Option Received). station_told y.call y.transmissions y.position o) status))
 
     pub one_stations : stations_table xs ≡ stations_table ys
-    one_stations = ap (λ (l : List ℕ). line_of station_columns ++ l)
+    one_stations = ap (λ (l : List ℕ). tabbed_line station_columns ++ l)
         (same_lines (λ (x : Station). x.call) station_table_line (IsBelow call_cmp)
         (not_both call_total) xs ys p.ascending q.ascending
         (λ x i. let s = (p.sources x.call).0 (x, i, refl) in
@@ -154,7 +154,7 @@ module _ (S T : List Received) (same : SameMembers S T) where
         (subst (λ (t : Thing). LastKnown T (ReportsOf t) (Some y.heard)) (sym e) (q.each y j)))
 
     pub one_things : things_table xs ≡ things_table ys
-    one_things = ap (λ (l : List ℕ). line_of thing_columns ++ l)
+    one_things = ap (λ (l : List ℕ). tabbed_line thing_columns ++ l)
         (same_lines shown_thing thing_table_line (IsBelow thing_cmp)
         (not_both thing_total) xs ys p.ascending q.ascending
         (λ x i. let s = (p.things (shown_thing x)).0 (x, i, refl) in

@@ -6,11 +6,11 @@ use Rattle.aprs_io.specs.Shown.{shown_text}
 use Rattle.aprs_log.specs.Moment.{moment_text}
 use Rattle.aprs_laws.specs.BookValue.{BookValue}
 use Rattle.aprs_laws.specs.Gap.{millis_of}
-use Rattle.aprs_book.specs.Messages.{ReportsMessages, shown_message}
+use Rattle.aprs_book.specs.Messages.{ReportsMessages, shown_message, state_text}
 use Rattle.aprs_book.specs.declared.lists.message.MessageRow.{MessageRow}
 use Rattle.aprs_book.specs.declared.lists.message.MessageState.{MessageState}
 use Rattle.aprs_book.specs.declared.lists.message.MessageState.TheVariants.{Unnumbered, Unanswered, Acknowledged, Rejected}
-use Rattle.aprs_lists.specs.Lines.{line_of}
+use Rattle.aprs_lists.specs.Lines.{tabbed_line}
 
 -- The names of the columns.
 abbrev pub message_columns : List (List ℕ)
@@ -22,13 +22,6 @@ abbrev pub id_or_nothing : Option (List ℕ) → List ℕ
 id_or_nothing None = []
 id_or_nothing (Some id) = id
 
--- What came of a message.
-abbrev pub outcome : MessageState → List ℕ
-outcome Unnumbered = codes "unnumbered"
-outcome Unanswered = codes "unanswered"
-outcome Acknowledged = codes "acknowledged"
-outcome Rejected = codes "rejected"
-
 -- When a message was answered, and by whom: only its addressee answers it. Nothing where it wasn't.
 abbrev pub answer_fields : Option ℕ → List ℕ → List (List ℕ)
 answer_fields None addressee = [] ∷ [] ∷ []
@@ -39,16 +32,16 @@ answer_fields (Some answered) addressee = moment_text answered ∷ shown_text ad
 abbrev pub message_table_fields : MessageRow → List (List ℕ)
 message_table_fields x = call_text x.source ∷ shown_text (shown_message x).addressee
     ∷ shown_text (id_or_nothing (shown_message x).id) ∷ shown_text (shown_message x).text
-    ∷ outcome x.state ∷ moment_text x.first ∷ moment_text x.last
+    ∷ state_text x.state ∷ moment_text x.first ∷ moment_text x.last
     ∷ answer_fields x.answered (shown_message x).addressee
 
 -- The line of a message.
 abbrev pub message_table_line : MessageRow → List ℕ
-message_table_line x = line_of (message_table_fields x)
+message_table_line x = tabbed_line (message_table_fields x)
 
 -- The names of the columns, and one line for each message, in their order.
 abbrev pub messages_table : List MessageRow → List ℕ
-messages_table messages = line_of message_columns ++ flat_map message_table_line messages
+messages_table messages = tabbed_line message_columns ++ flat_map message_table_line messages
 
 -- The text is the table of the messages that the book's rows report, whatever set they are the book
 -- of.

@@ -13,8 +13,8 @@ use Rattle.aprs_laws.specs.Key.{key_of}
 use Rattle.aprs_book.specs.Reports.{report_of}
 use Rattle.aprs_book.specs.Stations.{ReportsStations}
 use Rattle.aprs_book.specs.declared.lists.station.Station.{Station}
-use Rattle.aprs_table.specs.Cells.{stamp_text}
-use Rattle.aprs_lists.specs.Lines.{line_of}
+use Rattle.aprs_table.specs.Cells.{stamp_field}
+use Rattle.aprs_lists.specs.Lines.{tabbed_line}
 use Rattle.aprs_lists.specs.Things.{placed_fields}
 
 -- The names of the columns.
@@ -40,7 +40,7 @@ position_in x v = no_position
 -- When and by whom a status was heard, its time stamp and its text.
 abbrev pub status_in : Received → Value → List (List ℕ)
 status_in x (status stamp text) =
-    moment_text x.moment ∷ x.receiver ∷ stamp_text stamp ∷ shown_text text ∷ []
+    moment_text x.moment ∷ x.receiver ∷ stamp_field stamp ∷ shown_text text ∷ []
 status_in x v = no_status
 
 -- The position, or the status, that a reception reports.
@@ -67,11 +67,11 @@ station_table_fields x = call_text x.call ∷ decimal x.transmissions ∷ positi
 
 -- The line of a station.
 abbrev pub station_table_line : Station → List ℕ
-station_table_line x = line_of (station_table_fields x)
+station_table_line x = tabbed_line (station_table_fields x)
 
 -- The names of the columns, and one line for each station, in their order.
 abbrev pub stations_table : List Station → List ℕ
-stations_table stations = line_of station_columns ++ flat_map station_table_line stations
+stations_table stations = tabbed_line station_columns ++ flat_map station_table_line stations
 
 -- The text is the table of the stations of the book's rows, whatever set they are the book of.
 pub record IsStationsTable (book : BookValue) (text : List ℕ) : Type 0 where

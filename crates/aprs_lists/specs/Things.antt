@@ -9,14 +9,15 @@ use Rattle.aprs_report.specs.Reading.{Value, object, item}
 use Rattle.aprs_report.specs.declared.place.Place.{Place}
 use Rattle.aprs_report.specs.declared.stamp.Stamp.{Stamp}
 use Rattle.aprs_report.specs.declared.symbol.Symbol.{Symbol}
+use Rattle.aprs_report.specs.Object.{live_text}
 use Rattle.aprs_laws.specs.BookValue.{BookValue}
 use Rattle.aprs_laws.specs.Gap.{millis_of}
 use Rattle.aprs_laws.specs.Key.{key_of}
 use Rattle.aprs_book.specs.Names.{ReportsNamed, Thing}
 use Rattle.aprs_book.specs.Reports.{report_of}
 use Rattle.aprs_book.specs.declared.lists.named.Named.{Named}
-use Rattle.aprs_table.specs.Cells.{ambiguity_text, compressed_text, latitude_text, longitude_text, stamp_text, symbol_text}
-use Rattle.aprs_lists.specs.Lines.{line_of}
+use Rattle.aprs_table.specs.Cells.{ambiguity_field, compressed_field, latitude_field, longitude_field, stamp_field, symbol_field}
+use Rattle.aprs_lists.specs.Lines.{tabbed_line}
 
 -- The names of the columns.
 abbrev pub thing_columns : List (List ℕ)
@@ -27,25 +28,20 @@ thing_columns = codes "kind" ∷ codes "name" ∷ codes "state" ∷ codes "last"
 -- Where a report places something, and its text: time stamp, degrees north and east, how many digits
 -- are left out, whether it is compressed, symbol and comment.
 abbrev pub placed_fields : Option Stamp → Place → Symbol → List ℕ → List (List ℕ)
-placed_fields stamp place symbol text = stamp_text stamp ∷ latitude_text (Some place)
-    ∷ longitude_text (Some place) ∷ ambiguity_text (Some place) ∷ compressed_text (Some place)
-    ∷ symbol_text (Some symbol) ∷ shown_text text ∷ []
-
--- Whether an object or an item is live or killed.
-abbrev pub live_or_killed : Bool → List ℕ
-live_or_killed true = codes "live"
-live_or_killed false = codes "killed"
+placed_fields stamp place symbol text = stamp_field stamp ∷ latitude_field (Some place)
+    ∷ longitude_field (Some place) ∷ ambiguity_field (Some place) ∷ compressed_field (Some place)
+    ∷ symbol_field (Some symbol) ∷ shown_text text ∷ []
 
 -- The name of an object or an item, whether it is live, when, by whom and from whom it was heard.
 abbrev pub named_fields : List ℕ → Bool → Received → List (List ℕ)
-named_fields name live x = shown_text name ∷ live_or_killed live ∷ moment_text x.moment
+named_fields name live x = shown_text name ∷ live_text live ∷ moment_text x.moment
     ∷ x.receiver ∷ call_text (key_of x.frame).source ∷ []
 
 -- The line of a reception that reports an object or an item. There is none of other reports.
 abbrev pub thing_line_in : Received → Value → List ℕ
-thing_line_in x (object name live stamp place symbol comment) = line_of (codes "object"
+thing_line_in x (object name live stamp place symbol comment) = tabbed_line (codes "object"
     ∷ named_fields name live x ++ placed_fields (Some stamp) place symbol comment)
-thing_line_in x (item name live place symbol comment) = line_of (codes "item"
+thing_line_in x (item name live place symbol comment) = tabbed_line (codes "item"
     ∷ named_fields name live x ++ placed_fields None place symbol comment)
 thing_line_in x v = []
 
@@ -62,7 +58,7 @@ thing_table_line x = heard_thing_line x.heard
 
 -- The names of the columns, and one line for each object and item, in their order.
 abbrev pub things_table : List Named → List ℕ
-things_table things = line_of thing_columns ++ flat_map thing_table_line things
+things_table things = tabbed_line thing_columns ++ flat_map thing_table_line things
 
 -- The text is the table of the objects and items of the book's rows, whatever set they are the book
 -- of.

@@ -2,7 +2,7 @@
 ghost use Rattle.std.specs.Prelude.{◌∷◌, ◌++◌, map};
 ghost use Rattle.aprs_io.specs.Outlet.{Puts};
 ghost use Rattle.aprs_table.specs.Cells.{cell_text};
-ghost use Rattle.aprs_lists.specs.Lines.{line_of};
+ghost use Rattle.aprs_lists.specs.Lines.{tabbed_line};
 
 use aprs_io::{Outlet, WriteFault};
 use aprs_table::{Cell, put_cell, put_cells};
@@ -16,7 +16,7 @@ pub fn put_line<W: Write>(
     second: &[Cell<'_>],
     third: &[Cell<'_>],
 ) -> Result<(), WriteFault>
-    ensures { Puts W.contents result out.old out.new (line_of
+    ensures { Puts W.contents result out.old out.new (tabbed_line
         (cell_text first.now ∷ map cell_text second.now ++ map cell_text third.now)) }
 {
     put_cell(out, first)?;

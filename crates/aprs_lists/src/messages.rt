@@ -9,7 +9,7 @@ ghost use Rattle.aprs_table.specs.Cells.{cell_text};
 ghost use Rattle.aprs_lists.specs.Messages as Spec;
 
 use crate::line::put_line;
-use aprs_book::{MessageRow, MessageState, Summary};
+use aprs_book::{MessageRow, Summary};
 use aprs_io::{Counted, Outlet, WriteFault};
 use aprs_table::Cell;
 use std::alloc::Allocator;
@@ -71,7 +71,7 @@ fn put_message<W: Write>(
         Cell::Shown(message.addressee),
         Cell::Shown(id_or_nothing(message.id)),
         Cell::Shown(message.text),
-        Cell::Plain(outcome(message.state)),
+        Cell::Plain(message.state.text()),
     ];
     let moments = moment_cells(message);
     put_line(out, &source, &said, &moments)
@@ -106,17 +106,5 @@ fn id_or_nothing<'a>(id: Option<&'a [u8]>) -> &'a [u8]
     match id {
         Some(id) => id,
         None => b"",
-    }
-}
-
-/// The word for what came of a message.
-fn outcome(state: MessageState) -> &'static [u8]
-    ensures { result.now ≡ Spec.outcome state }
-{
-    match state {
-        MessageState::Unnumbered => b"unnumbered",
-        MessageState::Unanswered => b"unanswered",
-        MessageState::Acknowledged => b"acknowledged",
-        MessageState::Rejected => b"rejected",
     }
 }

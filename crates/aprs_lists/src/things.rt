@@ -4,13 +4,13 @@ ghost use Rattle.std.specs.List.{flat_map};
 ghost use Rattle.aprs_io.specs.Device.{Sends};
 ghost use Rattle.aprs_io.specs.Outlet.{Puts};
 ghost use Rattle.aprs_table.specs.Cells.{cell_text};
-ghost use Rattle.aprs_lists.specs.Lines.{line_of};
+ghost use Rattle.aprs_lists.specs.Lines.{tabbed_line};
 ghost use Rattle.aprs_lists.specs.Things as Spec;
 
 use crate::line::put_line;
 use aprs_book::{Heard, HeardRoom, NamedWalk, Summary};
 use aprs_io::{Counted, Outlet, WriteFault};
-use aprs_report::{Place, Report, Stamp, Symbol};
+use aprs_report::{Place, Report, Stamp, Symbol, live_text};
 use aprs_table::Cell;
 use std::alloc::Allocator;
 use std::io::Write;
@@ -41,7 +41,7 @@ fn put_things<W: Write, A: Allocator + Copy>(
     things: NamedWalk<'_, '_, A>,
 ) -> Result<(), WriteFault>
     ensures { Puts W.contents result out.old out.new
-        (line_of Spec.thing_columns ++ flat_map Spec.report_table_line things.entry) }
+        (tabbed_line Spec.thing_columns ++ flat_map Spec.report_table_line things.entry) }
 {
     out.put(COLUMNS)?;
     put_thing_lines(out, things)
@@ -104,13 +104,13 @@ fn put_named<'a, W: Write>(
     heard: &Heard<'a>,
     whereabouts: &[Cell<'_>],
 ) -> Result<(), WriteFault>
-    ensures { Puts W.contents result out.old out.new (line_of (kind.now
+    ensures { Puts W.contents result out.old out.new (tabbed_line (kind.now
         ∷ Spec.named_fields name.now live heard.now ++ map cell_text whereabouts.now)) }
 {
     let kind = Cell::Plain(kind);
     let named = [
         Cell::Shown(name),
-        Cell::Plain(live_or_killed(live)),
+        Cell::Plain(live_text(live)),
         Cell::Moment(heard.moment),
         Cell::Plain(heard.receiver.as_bytes()),
         Cell::Call(heard.frame.source()),
@@ -136,11 +136,4 @@ fn place_cells<'a>(
         Cell::Symbol(Some(symbol)),
         Cell::Shown(text),
     ]
-}
-
-/// The word for whether an object or an item is live.
-fn live_or_killed(live: bool) -> &'static [u8]
-    ensures { result.now ≡ Spec.live_or_killed live }
-{
-    if live { b"live" } else { b"killed" }
 }

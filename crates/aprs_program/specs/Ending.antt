@@ -21,6 +21,6 @@ abbrev pub input_name : List (List ℕ) → ℕ → List ℕ
 input_name paths index = unwrap_or (slice_get paths index) (codes "standard input")
 
 -- The name of the input at fault after a run, where one is: a fault that is no input's names none.
-abbrev pub place_of : List (List ℕ) → Result (Unit {0}) RunFault → List ℕ
-place_of paths (Err (Input index fault)) = input_name paths index
-place_of paths other = codes "standard input"
+abbrev pub place_at_fault : List (List ℕ) → Result (Unit {0}) RunFault → List ℕ
+place_at_fault paths (Err (Input index fault)) = input_name paths index
+place_at_fault paths other = codes "standard input"

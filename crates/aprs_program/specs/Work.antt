@@ -34,13 +34,13 @@ work_of (job.Widen gap inputs) = work.Of (single.Widen gap)
 work_of (job.Merge gap inputs) = work.OfAll gathering.Merge gap
 work_of (job.Show gap inputs) = work.OfAll gathering.Show gap
 
--- The text is what is written of a set: its book, its listing, its history or its
--- table under this gap.
+-- The text is what is written of a set: its book, its listing, its history or a table of it, under
+-- this gap.
 abbrev pub IsOutputOf : Gathering → ℕ → List Received → List ℕ → Type 0
 IsOutputOf gathering.Merge gap = IsTextOfBook gap
 IsOutputOf gathering.Show gap = IsListingOf gap
 IsOutputOf gathering.History gap = IsHistoryOf gap
-IsOutputOf gathering.Table gap = IsTableOf gap
+IsOutputOf (gathering.Table t) gap = IsTableOf t gap
 
 -- What the readers were asked: a merge may be refused memory after their ends as well.
 abbrev pub AsksAll : {R : Type 0} → Gathering → Result (Unit {0}) RunFault → List (Counted R)

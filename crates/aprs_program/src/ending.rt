@@ -16,11 +16,11 @@ pub fn complaint_after<'t>(
     outcome: &Result<(), RunFault>,
     flushed: bool,
 ) -> Option<Complaint<'t>>
-    ensures { Spec.EndsWith (Spec.place_of (map (λ path. string_bytes path) paths.entry.now)
+    ensures { Spec.EndsWith (Spec.place_at_fault (map (λ path. string_bytes path) paths.entry.now)
         outcome.now) outcome.now flushed result }
 {
     match outcome {
-        Err(fault) => Some(complaint_of(place_of(paths, fault).as_bytes(), fault)),
+        Err(fault) => Some(complaint_of(place_at_fault(paths, fault).as_bytes(), fault)),
         Ok(()) if flushed => None,
         Ok(()) => Some(Complaint::CannotWrite),
     }
@@ -28,8 +28,8 @@ pub fn complaint_after<'t>(
 
 /// The name of the input at fault: its path, or `standard input` where there is none. Takes no
 /// memory.
-fn place_of<'t>(paths: &'t [String], fault: &RunFault) -> &'t str
-    ensures { result.now ≡ Spec.place_of (map (λ path. string_bytes path) paths.entry.now)
+fn place_at_fault<'t>(paths: &'t [String], fault: &RunFault) -> &'t str
+    ensures { result.now ≡ Spec.place_at_fault (map (λ path. string_bytes path) paths.entry.now)
         (Err fault.now) }
 {
     match fault {

@@ -11,7 +11,7 @@ use aprs_io::Counted;
 use aprs_laws::Gap;
 use aprs_log::MAX_INPUT;
 use aprs_tool::{
-    Form, Job, RunFault, check_run, convert_run, history_run, merge_run, show_run, table_run,
+    Form, Job, RunFault, Table, check_run, convert_run, history_run, merge_run, show_run, table_run,
     widen_run,
 };
 use std::alloc::Allocator;
@@ -37,8 +37,8 @@ pub enum Gathering {
     Show,
     /// Writes the history of the inputs' book.
     History,
-    /// Writes the table of the inputs' book.
-    Table,
+    /// Writes this table of the inputs' book.
+    Table(Table),
 }
 
 /// What a program is to do.
@@ -122,6 +122,6 @@ pub fn run_gathering<R: Read, W: Write, A: Allocator + Copy>(
         Gathering::Merge => merge_run(alloc, MAX_INPUT, gap, inputs, w),
         Gathering::Show => show_run(alloc, MAX_INPUT, gap, inputs, w),
         Gathering::History => history_run(alloc, MAX_INPUT, gap, inputs, w),
-        Gathering::Table => table_run(alloc, MAX_INPUT, gap, inputs, w),
+        Gathering::Table(table) => table_run(alloc, MAX_INPUT, table, gap, inputs, w),
     }
 }

@@ -1,6 +1,6 @@
 -- Object and item reports (APRS Protocol Reference 1.0.1, chapter 11).
 use Rattle.std.specs.Prelude.{◌≡◌, ℕ, ◌≤◌, Bool, true, false, not, ◌||◌, ◌==◌, List, ◌∷◌, ◌++◌}
-use Rattle.std.specs.Prelude.{length}
+use Rattle.std.specs.Prelude.{codes, length}
 use Rattle.std.specs.List.{list_all}
 use Rattle.aprs_report.specs.declared.stamp.Stamp.{Stamp}
 use Rattle.aprs_report.specs.declared.symbol.Symbol.{Symbol}
@@ -13,6 +13,11 @@ use Rattle.aprs_report.specs.Name.{IsPaddedName}
 abbrev pub state_mark : ℕ → Bool → ℕ
 state_mark live true = live
 state_mark live false = 95
+
+-- The word for whether an object or an item is live.
+abbrev pub live_text : Bool → List ℕ
+live_text true = codes "live"
+live_text false = codes "killed"
 
 -- The field is ";", a name in nine bytes, * or _, a stamp, a position and a comment.
 pub record IsObject (name : List ℕ) (live : Bool) (stamp : Stamp) (place : Place) (symbol : Symbol)

@@ -13,6 +13,7 @@ mod report;
 mod stamp;
 mod symbol;
 
+pub use kinds::object::live_text;
 pub use place::{Fraction, Place};
 pub use report::Report;
 pub use stamp::Stamp;

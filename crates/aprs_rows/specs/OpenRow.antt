@@ -1,4 +1,4 @@
--- A row that later ones may still join. No public clause cites this module.
+-- A row that later ones may still join.
 use Rattle.std.specs.Prelude.{◌≡◌, ◌⊎◌, ℕ, Bool, true, false, List, [], ◌∷◌}
 use Rattle.std.specs.Ordering.{is_eq}
 use Rattle.aprs_laws.specs.JoinRow.{combine, compare_near}

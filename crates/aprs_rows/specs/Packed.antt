@@ -1,4 +1,4 @@
--- Rows packed in bytes, one after another. No public clause cites this module.
+-- Rows packed in bytes, one after another.
 use Rattle.std.specs.Prelude.{◌≡◌, ℕ, ◌+◌, ◌<◌, ◌≤◌, List, [], ◌∷◌, ◌++◌, length, take, drop}
 use Rattle.std.specs.List.{join_with_byte, sum_by}
 use Rattle.aprs_ax25.specs.FrameFault.{parts_of}

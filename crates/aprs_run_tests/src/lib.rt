@@ -38,4 +38,6 @@ mod runs;
 #[cfg(test)]
 mod show_runs;
 #[cfg(test)]
+mod table_runs;
+#[cfg(test)]
 mod words;

@@ -1,18 +1,28 @@
 //! Memory that is refused in the midst of a run.
 
 use crate::pieces::{RUNS, writes};
+use crate::table_runs::{TABLES, table_of};
 use aprs_book::Gap;
 use aprs_booktext::BookCause;
 use aprs_fixtures::{MERGED_TEXT, THREE_LINES, is_shown, is_written_as, shown};
 use aprs_kiss::Counted;
 use aprs_log::MAX_INPUT;
-use aprs_tool::{Desk, InputFault, RunFault, merge_run, read_input, show_run, status_of};
+use aprs_tool::{
+    Desk, InputFault, RunFault, Table, history_run, merge_run, read_input, show_run, status_of,
+    table_run,
+};
 use bumpalo::Bump;
 use std::alloc::Global;
 use std::test::Fail;
 
 /// What is listed of `MERGED_TEXT`.
 pub const MERGED_LISTING: &[u8] = b"station N0CALL-7 2\nstatus 2099-12-31T23:59:59.000Z RX2 -:Hi\n";
+
+/// What its history tells.
+const MERGED_HISTORY: &[u8] = b"status 1970-01-01T00:00:00.000Z 1970-01-01T00:00:30.000Z RX1,RX2 \
+    N0CALL-7 WIDE1-1* -:Hi
+status 2099-12-31T23:59:59.000Z 2099-12-31T23:59:59.000Z RX2 N0CALL-7 - -:Hi
+";
 
 /// An arena that has room for so many units of 64 bytes, and refuses the growth that would take it
 /// beyond until its limit is lifted.
@@ -143,6 +153,8 @@ fn a_desk_is_as_before_where_memory_is_refused(rt: HostRuntime) -> Result<(), Fa
 enum Gathering {
     Merge,
     Show,
+    History,
+    Table(Table),
 }
 
 /// How far a run came: to its log, to its book file, to the lists, or to its end.
@@ -169,23 +181,15 @@ fn stage_of(run: &Result<(), RunFault>) -> Option<Stage> {
 
 /// What a run over a log and a book file writes, and its answer.
 fn gathered(alloc: Global, bump: &Bump, gathering: Gathering) -> (Vec<u8>, Result<(), RunFault>) {
-    let mut inputs = [Counted::new(THREE_LINES), Counted::new(MERGED_TEXT)];
+    let mut given = [Counted::new(THREE_LINES), Counted::new(MERGED_TEXT)];
+    let inputs = given.as_mut_slice();
     let mut out = Counted::new(Vec::new(alloc));
+    let (limit, gap) = (MAX_INPUT, Gap::STANDARD);
     let run = match gathering {
-        Gathering::Merge => merge_run(
-            bump,
-            MAX_INPUT,
-            Gap::STANDARD,
-            inputs.as_mut_slice(),
-            &mut out,
-        ),
-        Gathering::Show => show_run(
-            bump,
-            MAX_INPUT,
-            Gap::STANDARD,
-            inputs.as_mut_slice(),
-            &mut out,
-        ),
+        Gathering::Merge => merge_run(bump, limit, gap, inputs, &mut out),
+        Gathering::Show => show_run(bump, limit, gap, inputs, &mut out),
+        Gathering::History => history_run(bump, limit, gap, inputs, &mut out),
+        Gathering::Table(table) => table_run(bump, limit, table, gap, inputs, &mut out),
     };
     (out.into_inner(), run)
 }
@@ -231,6 +235,21 @@ fn runs_write_nothing_where_memory_is_refused(rt: HostRuntime) -> Result<(), Fai
     let shown = stages(alloc, Gathering::Show, MERGED_LISTING)?;
     let wanted = [Stage::Log, Stage::Book, Stage::Lists, Stage::End];
     assert!(rt; shown.as_slice() == wanted.as_slice());
+    let told = stages(alloc, Gathering::History, MERGED_HISTORY)?;
+    assert!(rt; told.as_slice() == wanted.as_slice());
+    Ok(())
+}
+
+// A table is that of ample memory, or nothing.
+#[test]
+fn tables_are_whole_or_nothing_where_memory_is_refused(rt: HostRuntime) -> Result<(), Fail> {
+    let alloc = rt.alloc();
+    let wanted = [Stage::Log, Stage::Book, Stage::Lists, Stage::End];
+    for &table in TABLES {
+        let whole = table_of(alloc, table, &[THREE_LINES, MERGED_TEXT])?;
+        let seen = stages(alloc, Gathering::Table(table), whole.as_slice())?;
+        assert!(rt; seen.as_slice() == wanted.as_slice());
+    }
     Ok(())
 }
 

@@ -1,7 +1,7 @@
 //! The program's words.
 
 use aprs_log::{Moment, Receiver};
-use aprs_tool::{Form, Job, JobFault, job};
+use aprs_tool::{Form, Job, JobFault, Table, TableJob, job, table_job};
 use std::test::Fail;
 
 /// Whether the words ask for a conversion to this form.
@@ -225,4 +225,49 @@ fn words_that_ask_for_help(rt: HostRuntime) -> Result<(), Fail> {
         }
     }
     Ok(())
+}
+
+/// Whether the words ask for the rows of these inputs under a gap of so many seconds.
+fn asks_for_rows(rt: &HostRuntime, words: &[&str], seconds: u64, paths: &[&str]) -> bool {
+    match table_job(rt.alloc(), words) {
+        Ok(TableJob { table, gap, inputs }) => {
+            matches!(table, Table::Rows)
+                && gap.seconds() == seconds
+                && are_inputs(inputs.as_slice(), paths)
+        }
+        Err(_) => false,
+    }
+}
+
+// The first word that is no option names a table, where one has its name.
+#[test]
+fn words_that_ask_for_a_table(rt: HostRuntime) {
+    assert!(rt; asks_for_rows(&rt, &["aprsbook-table"], 30, &[]));
+    assert!(rt; asks_for_rows(&rt, &["aprsbook-table", "rows"], 30, &[]));
+    assert!(rt;
+        asks_for_rows(
+            &rt,
+            &["aprsbook-table", "a.log", "rows"],
+            30,
+            &["a.log", "rows"]
+        )
+    );
+    assert!(rt; asks_for_rows(&rt, &["aprsbook-table", "./rows"], 30, &["./rows"]));
+    assert!(rt;
+        asks_for_rows(
+            &rt,
+            &["aprsbook-table", "--gap", "60", "rows", "a"],
+            60,
+            &["a"]
+        )
+    );
+    assert!(rt;
+        asks_for_rows(
+            &rt,
+            &["aprsbook-table", "rows", "a", "--gap", "1"],
+            1,
+            &["a"]
+        )
+    );
+    assert!(rt; table_job(rt.alloc(), &["aprsbook-table", "--gap", "0"]).is_err());
 }

@@ -11,7 +11,7 @@ use Rattle.aprs_report.specs.Reader.{text_and_id_of}
 use Rattle.aprs_mice.specs.Reader.{mic_e_or_none, destination_of, position_mark_of, ambiguity_of_spaces, longitude_of_octets, motion_of}
 use Rattle.aprs_details.specs.Altitude.{feet_of, feet_at}
 use Rattle.aprs_details.specs.Compressed.{knots_of, range_of}
-use Rattle.aprs_details.specs.Details.{details_of, motion_of as motion_of_place, weather_at, altitude_of, range_of_place, mic_e_altitude_of, base91_at}
+use Rattle.aprs_details.specs.Details.{details_of, motion_at as motion_of_place, weather_at, altitude_of, range_of_place, mic_e_altitude_of, base91_at}
 use Rattle.aprs_details.specs.Extension.{pair_of, range_at, phg_at}
 use Rattle.aprs_details.specs.Telemetry.{telemetry_of, after_mic}
 use Rattle.aprs_details.specs.ThirdParty.{passed_of}

@@ -7,7 +7,7 @@ use Rattle.aprs_io.proofs.Cuts.{cut_at-parts}
 use Rattle.aprs_report.specs.Bytes.{is_digit}
 use Rattle.aprs_report.specs.Reader.{chunk_of}
 use Rattle.aprs_details.specs.Value.{is_number, is_unsigned_in, is_whole}
-use Rattle.aprs_details.specs.Telemetry.{Measured, IsTelemetry, BeginsWithNumber, numbered, unnumbered, IsNext, is_bit, bits_with, bits_in}
+use Rattle.aprs_details.specs.Telemetry.{Measured, IsTelemetry, BeginsWithNumber, numbered, unnumbered, IsNextValue, is_bit, bits_with, bits_in}
 use Rattle.aprs_table.specs.Cells as cells
 use Rattle.aprs_table.proofs.Frees.{Free, AreFree, high, free_append, free_digits_alone, free_bits}
 
@@ -36,7 +36,7 @@ number_free (b ∷ rest) h = go (b == 45) refl h
     go true e k = (high b (omega (arith, eqb-true b 45 e)), unsigned_free rest k)
     go false e k = unsigned_free (b ∷ rest) k
 
-next_free : (value : List ℕ) (left later : Option (List ℕ)) → IsNext value left later → Free value
+next_free : (value : List ℕ) (left later : Option (List ℕ)) → IsNextValue value left later → Free value
 next_free value None later h = subst Free (sym h.0) tt
 next_free value (Some text) later h = number_free value h.0
 

@@ -14,7 +14,8 @@ use Rattle.aprs_laws.specs.Row.{Row}
 use Rattle.aprs_book.specs.Reports.{reports_item, reports_object, reports_position}
 use Rattle.aprs_listing.specs.History.{history_line, history_text, row_fields}
 use Rattle.aprs_listing.specs.OneLine.{HasOneLineEach}
-use Rattle.aprs_listing.specs.Listing.{heard_fields, known_line, line_with_text, live_text, name_fields, place_fields, word}
+use Rattle.aprs_listing.specs.Listing.{heard_fields, known_line, line_with_text, name_fields, place_fields, word}
+use Rattle.aprs_report.specs.Object.{live_text}
 
 -- The text is the history of the book of S under this gap, in seconds, and has one line for each of
 -- the book's rows.

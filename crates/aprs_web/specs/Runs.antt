@@ -6,6 +6,7 @@ use Rattle.aprs_log.specs.Reception.{Received}
 use Rattle.aprs_log.specs.declared.InputEnd.{InputEnd}
 use Rattle.aprs_log.specs.declared.fault.LogFault.{LogFault}
 use Rattle.aprs_laws.specs.Gap.{IsGap}
+use Rattle.aprs_command.specs.declared.jobs.Table.{Table}
 use Rattle.aprs_convert.specs.Ends.{Ends}
 use Rattle.aprs_convert.specs.Got.{OfGot}
 use Rattle.aprs_tool.specs.HistoryOf.{IsHistoryOf}
@@ -14,6 +15,7 @@ use Rattle.aprs_tool.specs.Outcome.{IsToldOf}
 use Rattle.aprs_tool.specs.Run.{AnswersAs}
 use Rattle.aprs_tool.specs.Several.{GiveUnion, GotOf, IsFirstRefused}
 use Rattle.aprs_tool.specs.Show.{IsListingOf}
+use Rattle.aprs_tool.specs.TableOf.{IsTableOf}
 use Rattle.aprs_tool.specs.Widen.{GivesSetWithin, IsNotWidened}
 use Rattle.aprs_tool.specs.declared.fault.InputFault.{InputFault}
 use Rattle.aprs_tool.specs.declared.fault.RunFault.TheVariants.{Input, Write, Memory}
@@ -68,6 +70,10 @@ Shows gap = GathersTo (IsListingOf gap) gap
 -- The history of these inputs under this gap ends so, and this is its text.
 abbrev pub TellsHistory : ℕ → List (List ℕ) → Outcome → List ℕ → Type 0
 TellsHistory gap = GathersTo (IsHistoryOf gap) gap
+
+-- This table of these inputs under this gap ends so, and this is its text.
+abbrev pub TellsTable : Table → ℕ → List (List ℕ) → Outcome → List ℕ → Type 0
+TellsTable t gap = GathersTo (IsTableOf t gap) gap
 
 -- The widening of this input to this gap ends so, and writes this text.
 abbrev pub Widens : ℕ → List ℕ → Outcome → List ℕ → Type 0

@@ -1,5 +1,7 @@
 //! What a host calls. Each function is given a region of memory for good.
 ghost use Rattle.std.specs.Prelude.{◌≡◌, ℕ, None, Some, IfNone, IfSome};
+ghost use Rattle.aprs_command.specs.Arguments.{named_table};
+ghost use Rattle.aprs_command.specs.declared.jobs.Table.{Table};
 ghost use Rattle.aprs_convert.specs.Check.{Checks};
 ghost use Rattle.aprs_convert.specs.Conversion.{Converts};
 ghost use Rattle.aprs_convert.specs.declared.form.Form.TheVariants as form;
@@ -7,15 +9,15 @@ ghost use Rattle.aprs_laws.specs.Gap.{IsGap};
 ghost use Rattle.aprs_log.specs.MomentReading.{moment_of};
 ghost use Rattle.aprs_log.specs.Receiver.{IsName};
 ghost use Rattle.aprs_web.specs.Answer.{TellsNoRun, TellsRun};
-ghost use Rattle.aprs_web.specs.Runs.{AskForSeveral, Merges, Shows, TellsHistory, Widens, WritesOver, input_texts};
+ghost use Rattle.aprs_web.specs.Runs.{AskForSeveral, Merges, Shows, TellsHistory, TellsTable, Widens, WritesOver, input_texts};
 
 use crate::answer::{Answer, answer_of, no_run};
 use crate::inputs::add_up;
-use crate::written::{check, convert, history, merge, show, widen};
+use crate::written::{check, convert, history, merge, show, tabulate, widen};
 use aprs_arena::{Arena, Region};
 use aprs_book::Gap;
 use aprs_log::{Moment, Receiver};
-use aprs_tool::Form;
+use aprs_tool::{Form, Table};
 
 /// Checks the log `input`: writes a line for each line in which no frame was heard, and the totals.
 /// At a fault of the log its lines before that are written, and no totals.
@@ -214,6 +216,40 @@ pub extern "C" fn aprs_history(
     };
     let arena = Arena::over(region);
     let (outcome, text) = history(&arena, gap, inputs, lengths);
+    answer_of(&outcome, text.as_slice(), output, name)
+}
+
+/// Writes a table of the book of several inputs, logs or books, under a gap of so many seconds.
+/// `table` is the text that names it, such as `rows`. The inputs lie one after the other in `inputs`
+/// and have these lengths. No run where the text names no table, the seconds are no gap, or the
+/// lengths don't add up to that of `inputs`. Where an input is refused, nothing is written.
+#[unsafe(no_mangle)]
+pub extern "C" fn aprs_table(
+    region: Region,
+    seconds: u64,
+    table: &[u8],
+    inputs: &[u8],
+    lengths: &[usize],
+    output: &mut [u8],
+    name: &mut [u8],
+) -> Answer
+    ensures run { (t : Table) → named_table table.now ≡ Some t
+        → AskForSeveral seconds lengths.now inputs.now
+        → TellsRun (TellsTable t seconds (input_texts lengths.now inputs.now))
+        result output.old output.new name.old name.new }
+    ensures no_table { named_table table.now ≡ None
+        → TellsNoRun result output.old output.new name.old name.new }
+    ensures no_run { ¬ AskForSeveral seconds lengths.now inputs.now
+        → TellsNoRun result output.old output.new name.old name.new }
+{
+    let Some(table) = Table::named(table) else {
+        return no_run();
+    };
+    let Some(gap) = gap_of(seconds, inputs, lengths) else {
+        return no_run();
+    };
+    let arena = Arena::over(region);
+    let (outcome, text) = tabulate(&arena, table, gap, inputs, lengths);
     answer_of(&outcome, text.as_slice(), output, name)
 }
 

@@ -9,5 +9,5 @@ mod written;
 pub use answer::Answer;
 pub use exports::{
     aprs_capture, aprs_check, aprs_history, aprs_kind, aprs_kiss, aprs_log, aprs_merge, aprs_show,
-    aprs_text, aprs_widen,
+    aprs_table, aprs_text, aprs_widen,
 };

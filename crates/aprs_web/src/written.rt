@@ -2,13 +2,14 @@
 ghost use Rattle.std.specs.Prelude.{◌≡◌};
 ghost use Rattle.aprs_convert.specs.Check.{Checks};
 ghost use Rattle.aprs_convert.specs.Conversion.{Converts};
-ghost use Rattle.aprs_web.specs.Runs.{Merges, Shows, TellsHistory, Widens, WritesOver, input_texts};
+ghost use Rattle.aprs_web.specs.Runs.{Merges, Shows, TellsHistory, TellsTable, Widens, WritesOver, input_texts};
 
 use crate::inputs::readers;
 use aprs_book::Gap;
 use aprs_log::MAX_INPUT;
 use aprs_tool::{
-    Counted, Form, RunFault, check_run, convert_run, history_run, merge_run, show_run, widen_run,
+    Counted, Form, RunFault, Table, check_run, convert_run, history_run, merge_run, show_run,
+    table_run, widen_run,
 };
 use std::alloc::Allocator;
 
@@ -87,6 +88,24 @@ pub(crate) fn history<A: Allocator + Copy>(
         return (Err(RunFault::Memory), w.into_inner());
     };
     let outcome = history_run(alloc, MAX_INPUT, gap, readers.as_mut_slice(), &mut w);
+    (outcome, w.into_inner())
+}
+
+/// This table of the inputs, and what it wrote.
+pub(crate) fn tabulate<A: Allocator + Copy>(
+    alloc: A,
+    table: Table,
+    gap: Gap,
+    inputs: &[u8],
+    lengths: &[usize],
+) -> (Result<(), RunFault>, Vec<u8, A>)
+    ensures { TellsTable table gap (input_texts lengths.now inputs.now) result.0 result.1.items }
+{
+    let mut w = Counted::new(Vec::new(alloc));
+    let Ok(mut readers) = readers(alloc, inputs, lengths) else {
+        return (Err(RunFault::Memory), w.into_inner());
+    };
+    let outcome = table_run(alloc, MAX_INPUT, table, gap, readers.as_mut_slice(), &mut w);
     (outcome, w.into_inner())
 }
 

@@ -4,7 +4,7 @@ ghost use Rattle.std.specs.Option.{option_copied};
 ghost use Rattle.aprs_report.specs.Reader.{reading_of};
 ghost use Rattle.aprs_laws.specs.Gap.{millis_of};
 ghost use Rattle.aprs_laws.specs.Row.{Row};
-ghost use Rattle.aprs_book.specs.Messages.{answered_by, state_by, reported_state, ReportsMessages};
+ghost use Rattle.aprs_book.specs.Messages.{answered_by, state_by, state_text, reported_state, ReportsMessages};
 ghost use Rattle.aprs_book.specs.MessageRows as Spec;
 ghost use Rattle.aprs_book.specs.Exchange.{IsExchangeOf};
 
@@ -29,6 +29,20 @@ pub enum MessageState {
     Acknowledged,
     /// It was rejected last.
     Rejected,
+}
+
+impl MessageState {
+    /// The word for it: `unnumbered`, `unanswered`, `acknowledged` or `rejected`. Takes no memory.
+    pub fn text(&self) -> &'static [u8]
+        ensures { result.now ≡ state_text self.now }
+    {
+        match self {
+            MessageState::Unnumbered => b"unnumbered",
+            MessageState::Unanswered => b"unanswered",
+            MessageState::Acknowledged => b"acknowledged",
+            MessageState::Rejected => b"rejected",
+        }
+    }
 }
 
 /// A message that was heard.

@@ -3,6 +3,7 @@
 ghost use Rattle.std.specs.Prelude.{◌≡◌, ◌<◌, length, position, IfSome};
 ghost use Rattle.std.specs.Option.{option_map};
 ghost use Rattle.aprs_report.specs.Object.{is_item_mark};
+ghost use Rattle.aprs_report.specs.Object as Spec;
 ghost use Rattle.aprs_report.specs.Reading.{view};
 ghost use Rattle.aprs_report.specs.Reader.{state_of, object_of, item_field_of, item_of};
 
@@ -11,6 +12,13 @@ use crate::name::name_in;
 use crate::place::place_at_start;
 use crate::report::Report;
 use crate::stamp::stamp_at_start;
+
+/// The word for whether an object or an item is live: `live` or `killed`. Takes no memory.
+pub fn live_text(live: bool) -> &'static [u8]
+    ensures { result.now ≡ Spec.live_text live }
+{
+    if live { b"live" } else { b"killed" }
+}
 
 /// Whether an object or an item is live, and the rest, from bytes that begin with its mark: the
 /// byte `live` where it is live, `_` where it is killed. `None` where they begin with neither.

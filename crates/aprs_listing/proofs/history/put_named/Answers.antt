@@ -1,6 +1,7 @@
 use Rattle.aprs_listing.proofs.Common.{◌≡◌, ◌∙◌, ℕ, List, ◌∷◌, map, Some, None, ap, sym, codes, view, Report, Puts-is}
 use Rattle.aprs_listing.specs.Lines.{field_text, told_named_line}
-use Rattle.aprs_listing.specs.Listing.{live_text, place_fields, word}
+use Rattle.aprs_listing.specs.Listing.{place_fields, word}
+use Rattle.aprs_report.specs.Object.{live_text}
 use Rattle.aprs_listing.proofs.Histories.{text_line}
 use Rattle.aprs_listing.proofs.history.put_named.Goals as goal
 

@@ -22,6 +22,7 @@ pub loop-self-preserved : goal.loop-self-preserved
 loop-self-preserved g c = record {
   size = omega (arith, c.loop-self.invariant.size, c.in_ok-step.ensures.size);
   less = omega (arith, c.loop-self.invariant.less, c.in_ok-step.ensures.less);
+  version = λ v is. c.in_ok-step.ensures.version v (c.loop-self.invariant.version v is);
   fed = λ limit first rows h.
       subst (λ (b : Bool). StepsTo g.R.Read.remaining b limit first c.step.new.source
       c.step.new.self rows) c.if-branch.false

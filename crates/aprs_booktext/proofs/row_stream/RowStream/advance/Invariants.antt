@@ -1,4 +1,5 @@
 use Rattle.aprs_booktext.proofs.Common.{ℕ, ◌≤◌, List, Row, Counted}
+use Rattle.aprs_booktext.specs.RowReader.{KeepsVersion}
 use Rattle.aprs_booktext.specs.RowStream.{stream_ahead, stream_size, HasGot}
 use Rattle.aprs_booktext.proofs.row_stream.RowStream.advance.Given as goal
 
@@ -8,6 +9,7 @@ invariant-loop-self g l =
     record {
       size : stream_size l.self ≤ stream_size l.fn.self;
       less : stream_ahead l.self ≤ stream_ahead l.fn.self;
+      version : KeepsVersion l.fn.self.reader.stage l.self.reader.stage;
       fed : (limit : ℕ) (first : Counted _) (rows : List Row)
           → HasGot remaining limit first l.fn.source l.fn.self rows
           → HasGot remaining limit first l.source l.self rows;

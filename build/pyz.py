@@ -1,0 +1,55 @@
+#!/usr/bin/env python3
+"""Writes aprs-net as one file, which any Python from 3.9 on runs, also on Windows.
+
+usage: pyz.py FILE    The same sources give the same bytes.
+"""
+import pathlib
+import sys
+import zipfile
+
+REPOSITORY = pathlib.Path(__file__).resolve().parent.parent
+SOURCES = REPOSITORY / "tools/src"
+DAY = (1980, 1, 1, 0, 0, 0)  # of each file in it
+MAIN = '''"""aprs-net, of the archive in which this lies. A page is drawn of files beside this one."""
+import atexit
+import os
+import shutil
+import sys
+import tempfile
+import zipfile
+
+if sys.argv[1:2] in (["page"], ["follow"]) and "APRSBOOK_PAGE" not in os.environ:
+    folder = tempfile.mkdtemp()
+    atexit.register(shutil.rmtree, folder, True)
+    with zipfile.ZipFile(sys.path[0]) as archive:
+        archive.extractall(folder, [it for it in archive.namelist() if it.startswith("page/")])
+    os.environ["APRSBOOK_PAGE"] = os.path.join(folder, "page")
+
+from aprsbook_tools.cli import main
+
+sys.exit(main())
+'''
+
+
+def main() -> None:
+    out = pathlib.Path(sys.argv[1])
+    files = {"__main__.py": MAIN.encode()}
+    for root, folder in (SOURCES, SOURCES / "aprsbook_tools"), (REPOSITORY, REPOSITORY / "page"):
+        for path in folder.rglob("*"):
+            if path.is_file() and "__pycache__" not in path.parts:
+                files[path.relative_to(root).as_posix()] = path.read_bytes()
+    out.parent.mkdir(parents=True, exist_ok=True)
+    new = out.with_name(out.name + ".new")
+    with open(new, "wb") as file:
+        file.write(b"#!/usr/bin/env python3\n")
+        with zipfile.ZipFile(file, "w", zipfile.ZIP_DEFLATED) as archive:
+            for name in sorted(files):
+                entry = zipfile.ZipInfo(name, DAY)
+                entry.compress_type = zipfile.ZIP_DEFLATED
+                entry.external_attr = 0o644 << 16
+                archive.writestr(entry, files[name])
+    new.chmod(0o755)
+    new.replace(out)
+
+
+main()

@@ -1,0 +1,7 @@
+pub mod Common
+pub mod Fronts
+pub mod Reading
+pub mod Streamed
+pub mod Puttings
+pub mod Walking
+pub mod Texts

@@ -1,0 +1,344 @@
+-- The rows of several streams are taken and written, until none is left.
+use Rattle.aprs_fold.proofs.Common.{◌≡◌, ◌<◌, ◌+◌, ◌∙◌, ℕ, Bool, true, false, cond, List, [], ◌∷◌, ◌++◌, append-nil, length, length-append, map, Option, Some, None, IfSome, IfNone, Ok, Err, inl, inr, refl, sym, ap, subst, arith, All, Puts, Counted, Row, row_cmp, IsBelow, Ordered, Sound, IsSoundRow, IsGap, millis_of, in_left, ◌∈◌}
+use Rattle.std.specs.Prelude.{is_some}
+use Rattle.std.proofs.lemmas.List.Elements.{All-cons, All-nil}
+use Rattle.aprs_io.specs.declared.outlet.Outlet.{Outlet}
+use Rattle.aprs_log.specs.declared.moment_form.MomentForm.TheVariants.{Millis}
+use Rattle.aprs_laws.specs.Sound.{IsFar}
+use Rattle.aprs_laws.specs.Together.{book_together}
+use Rattle.aprs_laws.proofs.Together.{book_is_sound}
+use Rattle.aprs_booktext.specs.Text.{IsBookRow}
+use Rattle.aprs_booktext.specs.declared.row_stream.RowStream.{RowStream}
+use Rattle.aprs_booktext.specs.declared.version.Version.TheVariants.{Three}
+use Rattle.aprs_booktext.proofs.BookRows.{rows_are}
+use Rattle.aprs_folding.specs.Folding.{rows_put, IsFolding, NoneIsBefore, TakesNext}
+use Rattle.aprs_folding.proofs.Steps.{begins, ends_as_book, takes_on}
+use Rattle.aprs_fold.specs.Fold.{IsWhole, LeavesRows, PutsPart, PutsRows}
+use Rattle.aprs_fold.specs.Fronts.{row_at, IsFirst, NotAfter}
+use Rattle.aprs_fold.specs.Inputs.{all_of, book_of_all, AreBooks, IsRefused}
+use Rattle.aprs_fold.specs.Streams.{fronts_of, taken_at, AreReading, GoesOn, IsOfInputs}
+use Rattle.aprs_fold.specs.Taking.{lines_of_rows, AreSpelled, ClosesFor, FailsTaking, HasPut, IsThere}
+use Rattle.aprs_fold.specs.declared.fault.FoldFault.{FoldFault}
+use Rattle.aprs_fold.specs.declared.fault.FoldFault.TheVariants.{Input, OtherGap, Memory, Write}
+use Rattle.aprs_fold.proofs.Puttings.{HasPut-fails, HasPut-none, HasPut-then, there_put}
+use Rattle.aprs_fold.proofs.Reading.{AreReading-ended, AreReading-front, AreReading-in, AreReading-taken}
+
+-- ---- rows that were written are a book's
+
+front_ordered : {X : Type 0} (Q : X → X → Type 0) (xs ys : List X) → Ordered Q (xs ++ ys)
+    → Ordered Q xs
+front_ordered Q [] ys h = tt
+front_ordered Q (x ∷ xs) ys h =
+    ((λ y k. h.0 y (in_left y xs ys k)), front_ordered Q xs ys h.1)
+
+front_sound : (gap : ℕ) (xs ys : List Row) → Sound gap (xs ++ ys) → Sound gap xs
+front_sound gap xs ys h = record {
+  ascending = front_ordered (IsBelow row_cmp) xs ys h.ascending;
+  apart = front_ordered (IsFar gap) xs ys h.apart;
+  each = λ x k. h.each x (in_left x xs ys k);
+}
+
+each_all : {X : Type 0} (P : X → Type 0) (xs : List X) → ((x : X) → x ∈ xs → P x) → All P xs
+each_all P [] h = All-nil P
+each_all P (x ∷ xs) h = All-cons P x xs (h x (inl refl)) (each_all P xs (λ y k. h y (inr k)))
+
+some_of : (x : List ℕ) (xs : List (List ℕ)) → x ∈ xs → 0 < length xs
+some_of x [] h = absurd h
+some_of x (y ∷ ys) h = omega arith
+
+sound_whole : (gap : ℕ) (rows : List Row) → IsGap gap → Sound (millis_of gap) rows
+    → AreSpelled rows → IsWhole gap rows
+sound_whole gap rows range sound spelled = rows_are (Three gap) rows range sound
+    (each_all (IsBookRow Millis) rows (λ x h. let own = sound.each x h in
+    spelled x h (some_of x.greatest.receiver x.receivers own.receiver)))
+
+module _ (gap : ℕ) (range : IsGap gap) where
+  some_millis : 0 < millis_of gap
+  some_millis = omega (arith, range.0)
+
+  read_sound : (read front written last : List Row)
+      → IsFolding (millis_of gap) read front written last
+      → Sound (millis_of gap) (written ++ last)
+  read_sound read front written last h =
+      subst (Sound (millis_of gap)) (sym (ends_as_book (millis_of gap) some_millis read front written
+      last h)) (book_is_sound (millis_of gap) some_millis read
+      (λ x k. h.each x ((h.members x).0 k)))
+
+  pub folded_whole : (read front written last : List Row)
+      → IsFolding (millis_of gap) read front written last → AreSpelled written
+      → IsWhole gap written
+  folded_whole read front written last h spelled = sound_whole gap written range
+      (front_sound (millis_of gap) written last (read_sound read front written last h)) spelled
+
+-- whether there is a last row
+pub there_is : (last : List Row) (r : Option Row) → IfSome r (λ x. last ≡ x ∷ [])
+    → IfNone r (last ≡ []) → IsThere (is_some r) last
+there_is last None some none = none
+there_is last (Some x) some none = (x, some)
+
+-- ---- the walk
+
+-- So far these rows were taken of each input, and these were written; the last one is still open.
+pub record Walking {R W A : Type 0} (remaining : R → Option (List ℕ))
+    (contents : W → Option (List ℕ)) (limit gap : ℕ) (first now : List (Counted R))
+    (streams : List (RowStream A)) (begun out : Outlet W) (last : List Row) (count : ℕ)
+    : Type 0 where
+  pub taken : List (List Row)
+  pub written : List Row
+  pub reading : AreReading remaining limit gap first now streams taken
+  pub folding : IsFolding (millis_of gap) (all_of taken) (fronts_of streams) written last
+  pub put : HasPut contents begun out written
+  pub counted : count ≡ length written
+
+all_none : {A : Type 0} (streams : List (RowStream A))
+    → all_of (map (λ (s : RowStream A). []) streams) ≡ []
+all_none [] = refl
+all_none (s ∷ streams) = all_none streams
+
+len_put : (wrote : Bool) (gap : ℕ) (last : List Row) (x : Row) (new : List Row)
+    → TakesNext wrote gap last x new → length (rows_put wrote last) ≡ cond wrote 1 0
+len_put true gap last x new h = ap length h.1
+len_put false gap last x new h = refl
+
+count_put : (wrote : Bool) (count n m : ℕ) → count ≡ n → m ≡ cond wrote 1 0
+    → cond wrote (count + 1) count ≡ n + m
+count_put true count n m e f = omega (arith, e, f)
+count_put false count n m e f = omega (arith, e, f)
+
+parts_by : {W : Type 0} (contents : W → Option (List ℕ)) (fault : FoldFault)
+    (rows last : List Row) (old new : Outlet W) → IsOfInputs fault
+    → Puts {E = Unit {0}} contents (Ok tt) old new (lines_of_rows rows)
+    → PutsPart contents fault rows last old new
+parts_by contents (Input index fault) rows last old new is put = put
+parts_by contents (OtherGap index) rows last old new is put = put
+parts_by contents Memory rows last old new is put = put
+parts_by contents Write rows last old new is put = absurd is
+
+-- before the first row nothing was put
+pub leaves_none : {W : Type 0} (contents : W → Option (List ℕ)) (gap : ℕ) (fault : FoldFault)
+    (o : Outlet W) → IsGap gap → IsOfInputs fault → LeavesRows contents gap fault o o
+leaves_none contents gap fault o range is = record {
+  read = [];
+  front = [];
+  rows = [];
+  last = [];
+  folding = begins (millis_of gap) [];
+  rows_are = folded_whole gap range [] [] [] [] (begins (millis_of gap) []) (λ x h. absurd h);
+  put = parts_by contents fault [] [] o o is (HasPut-none {contents = contents} o).puts;
+}
+
+-- a fault that is none of an input refuses none
+pub taking_refuses : {R W : Type 0} (remaining : R → Option (List ℕ)) (limit gap : ℕ)
+    (old new : List (Counted R)) (contents : W → Option (List ℕ)) (millis : ℕ) (fault : FoldFault)
+    (o p : Outlet W) (last : List Row) (x : Row) → FailsTaking contents millis fault o p last x
+    → IsRefused remaining limit gap fault old new
+taking_refuses remaining limit gap old new contents millis (Input index fault) o p last x h = absurd h
+taking_refuses remaining limit gap old new contents millis (OtherGap index) o p last x h = absurd h
+taking_refuses remaining limit gap old new contents millis Memory o p last x h = tt
+taking_refuses remaining limit gap old new contents millis Write o p last x h = tt
+
+pub memory_refuses : {R : Type 0} (remaining : R → Option (List ℕ)) (limit gap : ℕ)
+    (old new : List (Counted R)) (fault : FoldFault) → fault ≡ Memory
+    → IsRefused remaining limit gap fault old new
+memory_refuses remaining limit gap old new fault e =
+    subst (λ (f : FoldFault). IsRefused remaining limit gap f old new) (sym e) tt
+
+pub write_refuses : {R : Type 0} (remaining : R → Option (List ℕ)) (limit gap : ℕ)
+    (old new : List (Counted R)) (fault : FoldFault) → fault ≡ Write
+    → IsRefused remaining limit gap fault old new
+write_refuses remaining limit gap old new fault e =
+    subst (λ (f : FoldFault). IsRefused remaining limit gap f old new) (sym e) tt
+
+module _ {R W A : Type 0} (remaining : R → Option (List ℕ)) (contents : W → Option (List ℕ))
+    (limit gap : ℕ) (first : List (Counted R)) (begun : Outlet W) where
+  pub walk_begins : (now : List (Counted R)) (streams : List (RowStream A))
+      → AreReading remaining limit gap first now streams (map (λ (s : RowStream A). []) streams)
+      → Walking remaining contents limit gap first now streams begun begun [] 0
+  walk_begins now streams h = record {
+    taken = map (λ (s : RowStream A). []) streams;
+    written = [];
+    reading = h;
+    folding = subst (λ (l : List Row). IsFolding (millis_of gap) l (fronts_of streams) [] [])
+        (sym (all_none streams)) (begins (millis_of gap) (fronts_of streams));
+    put = HasPut-none begun;
+    counted = refl;
+  }
+
+  module _ (range : IsGap gap) (now : List (Counted R)) (streams : List (RowStream A))
+      (out : Outlet W) (last : List Row) (count : ℕ)
+      (w : Walking remaining contents limit gap first now streams begun out last count) where
+    -- a fault of the inputs, where no row was taken any more
+    pub leaves_here : (fault : FoldFault) → IsOfInputs fault
+        → LeavesRows contents gap fault begun out
+    leaves_here fault is = record {
+      read = all_of w.taken;
+      front = fronts_of streams;
+      rows = w.written;
+      last = last;
+      folding = w.folding;
+      rows_are = folded_whole gap range (all_of w.taken) (fronts_of streams) w.written last w.folding
+          w.put.spelled;
+      put = parts_by contents fault w.written last begun out is w.put.puts;
+    }
+
+    -- the output was refused within the last row's line
+    pub leaves_write : {E : Type 0} {e : E} (next : Outlet W)
+        → Puts {E = E} contents (Err e) out next (lines_of_rows last)
+        → Puts {E = FoldFault} contents (Err Write) begun next (lines_of_rows (w.written ++ last))
+        → LeavesRows contents gap Write begun next
+    leaves_write {E} {e} next put all = record {
+      read = all_of w.taken;
+      front = fronts_of streams;
+      rows = w.written;
+      last = last;
+      folding = w.folding;
+      rows_are = folded_whole gap range (all_of w.taken) (fronts_of streams) w.written last w.folding
+          w.put.spelled;
+      put = all;
+    }
+
+    module _ (i : ℕ) (f : IsFirst streams i) where
+      -- none in front comes before it
+      none_before : NoneIsBefore f.row (fronts_of streams)
+      none_before y h =
+          let at = AreReading-front remaining limit gap first now streams w.taken y w.reading h in
+          subst (λ (o : Option Row). NotAfter o (Some y)) f.is
+          (subst (λ (o : Option Row). NotAfter (row_at streams i) o) at.1 (f.least at.0))
+
+      module _ (wrote : Bool) (next : Outlet W) (sound : IsSoundRow f.row)
+          (put : HasPut contents out next (rows_put wrote last)) where
+        -- with it the rows that are written are final, whatever stays in front
+        takes_here : (new : List Row) → TakesNext wrote (millis_of gap) last f.row new
+            → IsFolding (millis_of gap) (f.row ∷ all_of w.taken) (fronts_of streams)
+            (w.written ++ rows_put wrote last) new
+        takes_here new takes = takes_on (millis_of gap) (all_of w.taken) (fronts_of streams)
+            w.written last f.row wrote (f.row ∷ all_of w.taken) (fronts_of streams) new w.folding
+            (AreReading-in remaining limit gap i first now streams w.taken f.row f.is w.reading)
+            sound (λ z. ((λ h. h), (λ h. h))) none_before takes
+
+        -- a fault of the inputs after it was taken
+        pub leaves_taken : (new : List Row) → TakesNext wrote (millis_of gap) last f.row new
+            → (fault : FoldFault) → IsOfInputs fault → LeavesRows contents gap fault begun next
+        leaves_taken new takes fault is =
+            let both = HasPut-then begun out next w.written (rows_put wrote last) w.put put in
+            let folding = takes_here new takes in
+            record {
+              read = f.row ∷ all_of w.taken;
+              front = fronts_of streams;
+              rows = w.written ++ rows_put wrote last;
+              last = new;
+              folding = folding;
+              rows_are = folded_whole gap range (f.row ∷ all_of w.taken) (fronts_of streams)
+                  (w.written ++ rows_put wrote last) new folding both.spelled;
+              put = parts_by contents fault (w.written ++ rows_put wrote last) new begun next is
+                  both.puts;
+            }
+
+        -- the walk goes on
+        pub walks_on : (new : List Row) (after : List (Counted R)) (others : List (RowStream A))
+            (n : ℕ) → TakesNext wrote (millis_of gap) last f.row new
+            → n ≡ cond wrote (count + 1) count
+            → AreReading remaining limit gap first after others (taken_at streams i w.taken)
+            → GoesOn i streams others
+            → Walking remaining contents limit gap first after others begun next new n
+        walks_on new after others n takes counted reading goes = record {
+          taken = taken_at streams i w.taken;
+          written = w.written ++ rows_put wrote last;
+          reading = reading;
+          folding = takes_on (millis_of gap) (all_of w.taken) (fronts_of streams)
+              w.written last f.row wrote (all_of (taken_at streams i w.taken)) (fronts_of others) new
+              w.folding
+              (AreReading-in remaining limit gap i first now streams w.taken f.row f.is w.reading)
+              sound
+              (AreReading-taken remaining limit gap i first now streams w.taken f.row f.is w.reading)
+              none_ahead takes;
+          put = HasPut-then begun out next w.written (rows_put wrote last) w.put put;
+          counted = counted
+              ∙ count_put wrote count (length w.written) (length (rows_put wrote last)) w.counted
+              (len_put wrote (millis_of gap) last f.row new takes)
+              ∙ sym (length-append w.written (rows_put wrote last));
+        } where
+          none_ahead : NoneIsBefore f.row (fronts_of others)
+          none_ahead y h =
+              let at = AreReading-front remaining limit gap first after others
+              (taken_at streams i w.taken) y reading h in
+              elim (goes at.0 f.row y f.is at.1) [
+                | inl old ↦ subst (λ (o : Option Row). NotAfter o (Some y)) f.is
+                    (subst (λ (o : Option Row). NotAfter (row_at streams i) o) old (f.least at.0))
+                | inr up ↦ up
+              ]
+
+      leaves_by : (fault : FoldFault) (next : Outlet W) → IsSoundRow f.row → (wrote : Bool)
+          → HasPut contents out next (rows_put wrote last)
+          → ClosesFor wrote (millis_of gap) last f.row → IsOfInputs fault
+          → LeavesRows contents gap fault begun next
+      leaves_by fault next sound true put closes is =
+          leaves_taken true next sound put (f.row ∷ []) closes fault is
+      leaves_by fault next sound false put closes is =
+          let both = HasPut-then begun out next w.written [] w.put put in
+          let same : w.written ++ [] ≡ w.written = append-nil w.written in
+          record {
+            read = all_of w.taken;
+            front = fronts_of streams;
+            rows = w.written;
+            last = last;
+            folding = w.folding;
+            rows_are = folded_whole gap range (all_of w.taken) (fronts_of streams) w.written last
+                w.folding w.put.spelled;
+            put = parts_by contents fault w.written last begun next is
+                (subst (λ (l : List Row). Puts {E = Unit {0}} contents (Ok tt) begun next
+                (lines_of_rows l)) same both.puts);
+          }
+
+      -- a fault as it was taken
+      pub leaves_taking : (fault : FoldFault) (next : Outlet W) → IsSoundRow f.row
+          → FailsTaking contents (millis_of gap) fault out next last f.row
+          → LeavesRows contents gap fault begun next
+      leaves_taking Write next sound fails =
+          leaves_write next fails (HasPut-fails begun out next w.written last w.put fails)
+      leaves_taking (Input index fault) next sound fails = absurd fails
+      leaves_taking (OtherGap index) next sound fails = absurd fails
+      leaves_taking Memory next sound fails =
+          leaves_by Memory next sound fails.0 fails.1 fails.2 tt
+
+    -- all rows were taken
+    pub walk_ends : ((k : ℕ) → row_at streams k ≡ None)
+        → (some wrote : Bool) (next : Outlet W) (n : ℕ) → IsThere some last → IsThere wrote last
+        → HasPut contents out next (rows_put wrote last)
+        → n ≡ cond some (count + 1) count
+        → (rows : List (List Row)) × AreBooks remaining limit gap first now rows
+        × PutsRows contents gap n begun next (book_of_all gap rows).rows
+    walk_ends none some wrote next n known there put counted =
+        let both = HasPut-then begun out next w.written last w.put
+        (subst (λ (l : List Row). HasPut contents out next l) (there_put wrote last there) put) in
+        let book : w.written ++ last ≡ book_together (millis_of gap) (all_of w.taken) =
+        ends_as_book (millis_of gap) (some_millis gap range) (all_of w.taken)
+        (fronts_of streams) w.written last w.folding in
+        let whole : IsWhole gap (w.written ++ last) = sound_whole gap (w.written ++ last) range
+        (read_sound gap range (all_of w.taken) (fronts_of streams) w.written last w.folding)
+        both.spelled in (
+          w.taken,
+          AreReading-ended remaining limit gap first now streams w.taken none w.reading,
+          subst (λ (l : List Row). PutsRows contents gap n begun next l) book (record {
+            counted = counted
+                ∙ count_put some count (length w.written) (length last) w.counted
+                (len_there some last known)
+                ∙ sym (length-append w.written last);
+            puts = both.puts;
+            book = record {
+              read = all_of w.taken;
+              front = fronts_of streams;
+              written = w.written;
+              last = last;
+              folding = w.folding;
+              before = folded_whole gap range (all_of w.taken) (fronts_of streams) w.written last
+                  w.folding w.put.spelled;
+              all = refl;
+              whole = whole;
+            };
+          }),
+        ) where
+          len_there : (wrote : Bool) (last : List Row) → IsThere wrote last
+              → length last ≡ cond wrote 1 0
+          len_there true last h = ap length h.1
+          len_there false last h = ap length h

@@ -1,0 +1,37 @@
+use Rattle.aprs_fold.proofs.Common.{Ok, rules, subst, err_from_is_err_and, Sends, Sends-put}
+use Rattle.aprs_io.proofs.Sends.{Sends-ok}
+use Rattle.aprs_booktext.specs.Text.{written_text}
+use Rattle.aprs_fold.specs.Fold.{IsLeft}
+use Rattle.aprs_fold.specs.Inputs.{book_of_all}
+use Rattle.aprs_fold.specs.declared.fault.FoldFault.{FoldFault}
+use Rattle.aprs_fold.specs.declared.fault.FoldFault.TheVariants.{Write}
+use Rattle.aprs_fold.proofs.Texts.{leaves_sent, leaves_text}
+use Rattle.aprs_fold.proofs.fold.fold_books.Goals as goal
+
+pub returns-in_err-put_text-clause-left : goal.returns-in_err-put_text-clause-left
+returns-in_err-put_text-clause-left g c =
+    let p = err_from_is_err_and c.from_residual.result c.from_residual.ensures.1 in
+    rw (p.1, p.2) (subst (λ w. IsLeft g.W.Write.contents c.args.gap c.in_err-put_text.field-0.0
+    c.args.w.now w) (search rules) (leaves_text g.W.Write.contents c.args.gap c.args.w.now
+    c.new-out.result c.put_text.new.out c.new-out.ensures.nothing c.in_err-put_text.field-0.0
+    c.in_err-put_text.ensures.left))
+
+pub returns-in_err-flush-clause-left : goal.returns-in_err-flush-clause-left
+returns-in_err-flush-clause-left g c =
+    let p = err_from_is_err_and c.from_residual-in_err-flush.result
+    c.from_residual-in_err-flush.ensures.1 in
+    let h = c.in_ok-put_text.ensures.folds in
+    rw (p.1, p.2) (subst (λ w. IsLeft g.W.Write.contents c.args.gap Write c.args.w.now w)
+    (search rules) (leaves_sent g.W.Write.contents c.args.gap c.args.w.now _ _ h.3
+    (Sends-put c.new-out.ensures.nothing h.2 c.in_err-flush.ensures.sent)))
+
+pub returns-clause-folds : goal.returns-clause-folds
+returns-clause-folds g c =
+    let h = c.in_ok-put_text.ensures.folds in (
+      h.0,
+      h.1,
+      subst (λ w. Sends {E = FoldFault} g.W.Write.contents (Ok tt) c.args.w.now w
+          (written_text (book_of_all c.args.gap h.0))) (search rules)
+          (Sends-ok (Sends-put c.new-out.ensures.nothing h.2 c.in_ok-flush.ensures.sent)),
+      h.3.whole,
+    )

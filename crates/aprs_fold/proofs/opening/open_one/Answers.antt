@@ -1,0 +1,32 @@
+use Rattle.aprs_fold.proofs.Common.{[], ◌∙◌, refl, sym, arith}
+use Rattle.aprs_fold.proofs.Streamed.{begins_other, differing_gap, gets_calls, same_gap, HasGot-none}
+use Rattle.aprs_fold.proofs.opening.open_one.Goals as goal
+
+pub returns-in-Err-clause-refuses : goal.returns-in-Err-clause-refuses
+returns-in-Err-clause-refuses g c =
+    let first = HasGot-none g.R.Read.remaining c.args.limit c.args.input.now c.in_ok-stream.stream
+    c.in_ok-stream.ensures.holds c.in_ok-stream.ensures.left in
+    (refl, c.in-Err.ensures.fault c.args.limit c.args.input.now [] first)
+
+pub returns-then-ne-clause-refuses : goal.returns-then-ne-clause-refuses
+returns-then-ne-clause-refuses g c =
+    let first = HasGot-none g.R.Read.remaining c.args.limit c.args.input.now c.in_ok-stream.stream
+    c.in_ok-stream.ensures.holds c.in_ok-stream.ensures.left in
+    let gets = c.in_default.ensures.one c.args.limit c.args.input.now [] first in
+    let differs = differing_gap c.gap.result c.args.gap c.if-ne.ensures in (
+      refl,
+      begins_other g.R.Read.remaining c.args.limit c.args.gap c.args.input.now c.advance.new.source
+          c.advance.new.self (λ same. differs (c.gap.ensures ∙ same)) gets,
+      gets_calls g.R.Read.remaining c.args.limit c.args.gap c.args.input.now c.advance.new.source
+          c.advance.new.self [] gets,
+    )
+
+pub returns-clause-reads : goal.returns-clause-reads
+returns-clause-reads g c =
+    let first = HasGot-none g.R.Read.remaining c.args.limit c.args.input.now c.in_ok-stream.stream
+    c.in_ok-stream.ensures.holds c.in_ok-stream.ensures.left in
+    record {
+      gap_is = sym c.gap.ensures ∙ same_gap c.gap.result c.args.gap c.if-ne.ensures;
+      size = omega (arith, c.in_default.ensures.size, c.in_ok-stream.ensures.size, c.requires);
+      gets = c.in_default.ensures.one c.args.limit c.args.input.now [] first;
+    }

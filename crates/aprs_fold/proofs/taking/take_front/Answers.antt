@@ -1,0 +1,31 @@
+use Rattle.aprs_fold.proofs.Common.{◌≡◌, ◌∙◌, None, Some, Row, sym, subst, millis_of, IfErr-weaker, IfOk-weaker, IsSoundRow}
+use Rattle.aprs_folding.specs.Folding.{TakesNext}
+use Rattle.aprs_fold.specs.Taking.{FailsTaking}
+use Rattle.aprs_fold.proofs.Fronts.{row_none, row_some}
+use Rattle.aprs_fold.proofs.taking.take_front.Goals as goal
+
+pub returns-in-Some-clause-takes : goal.returns-in-Some-clause-takes
+returns-in-Some-clause-takes g c =
+    let at = row_some c.args.streams.now c.args.index c.index-streams-index.result
+    c.requires.first.within c.index-streams-index.is c.in-Some.next c.in-Some.ensures.some in
+    IfOk-weaker c.take.result _ _ (λ wrote takes x is.
+    let same : c.in-Some.next ≡ x = (let e : Some c.in-Some.next ≡ Some x = sym at ∙ is in cc) in
+    subst (λ (z : Row). IsSoundRow z
+    × TakesNext wrote (millis_of c.args.gap) c.args.last.now z c.take.new.last) same
+    (c.in-Some.ensures.own.0, takes)) c.take.ensures.takes
+
+pub returns-in-Some-clause-fails : goal.returns-in-Some-clause-fails
+returns-in-Some-clause-fails g c =
+    let at = row_some c.args.streams.now c.args.index c.index-streams-index.result
+    c.requires.first.within c.index-streams-index.is c.in-Some.next c.in-Some.ensures.some in
+    IfErr-weaker c.take.result _ _ (λ fault fails x is.
+    let same : c.in-Some.next ≡ x = (let e : Some c.in-Some.next ≡ Some x = sym at ∙ is in cc) in
+    subst (λ (z : Row). IsSoundRow z × FailsTaking g.W.Write.contents (millis_of c.args.gap) fault
+    c.args.out.now c.take.new.out c.args.last.now z) same
+    (c.in-Some.ensures.own.0, fails)) c.take.ensures.fails
+
+pub returns-in-None-clause-takes : goal.returns-in-None-clause-takes
+returns-in-None-clause-takes g c = λ x is.
+    let none = row_none c.args.streams.now c.args.index c.index-streams-index.result
+    c.requires.first.within c.index-streams-index.is c.in-None.ensures.none in
+    absurd (let e : None ≡ Some x = sym none ∙ is in cc)

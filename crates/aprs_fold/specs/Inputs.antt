@@ -1,0 +1,56 @@
+-- What a fold of book files reads.
+use Rattle.std.specs.Prelude.{◌≡◌, ◌≢◌, ℕ, List, [], ◌∷◌, ◌++◌, Option, Some, Ok, Err, slice_get}
+use Rattle.std.specs.List.{flat_map}
+use Rattle.aprs_io.specs.Device.{Calls, Last}
+use Rattle.aprs_io.specs.declared.device.Counted.{Counted}
+use Rattle.aprs_laws.specs.BookValue.{BookValue}
+use Rattle.aprs_laws.specs.Gap.{millis_of}
+use Rattle.aprs_laws.specs.Row.{Row}
+use Rattle.aprs_laws.specs.Together.{book_together}
+use Rattle.aprs_booktext.specs.Reading.{IsAnswered}
+use Rattle.aprs_booktext.specs.RowLines.{ended_by_lf}
+use Rattle.aprs_booktext.specs.Version.{gap_of, header_of, IsVersion}
+use Rattle.aprs_booktext.specs.declared.version.Version.{Version}
+use Rattle.aprs_fold.specs.declared.fault.FoldFault.{FoldFault}
+use Rattle.aprs_fold.specs.declared.fault.FoldFault.TheVariants.{Input, OtherGap}
+
+-- Each input is the whole text of a book of this gap, and was read to its end; these are their
+-- rows.
+abbrev pub AreBooks : {R : Type 0} → (R → Option (List ℕ)) → ℕ → ℕ → List (Counted R)
+    → List (Counted R) → List (List Row) → Type 0
+AreBooks remaining limit gap [] [] [] = Unit {0}
+AreBooks remaining limit gap (f ∷ first) (n ∷ now) (own ∷ rows) =
+    IsAnswered remaining limit [] (Ok (record { gap = gap; rows = own })) f n
+    × AreBooks remaining limit gap first now rows
+AreBooks remaining limit gap first now rows = ⊥
+
+-- All rows of these lists.
+abbrev pub all_of : List (List Row) → List Row
+all_of = flat_map (λ rows. rows)
+
+-- The book of all these rows.
+abbrev pub book_of_all : ℕ → List (List Row) → BookValue
+book_of_all gap rows = record { gap = gap; rows = book_together (millis_of gap) (all_of rows) }
+
+-- The input begins as a book file of a gap that isn't this.
+abbrev pub BeginsOther : ℕ → Option (List ℕ) → Type 0
+BeginsOther gap (Some text) = (version : Version) × (rest : List ℕ) × IsVersion version
+    × (gap_of version ≢ gap) × (text ≡ ended_by_lf (header_of version) ++ rest)
+BeginsOther gap known = Unit {0}
+
+-- Why a fold ends before its end, by its inputs: the input of that number has this fault as a book
+-- file, where what was got of it was read, or it begins as one of another gap.
+abbrev pub IsRefused : {R : Type 0} → (R → Option (List ℕ)) → ℕ → ℕ → FoldFault
+    → List (Counted R) → List (Counted R) → Type 0
+IsRefused {R = R} remaining limit gap (Input index fault) old new =
+    (f : Counted R) × (n : Counted R) × (slice_get old index ≡ Some f)
+    × (slice_get new index ≡ Some n) × IsAnswered remaining limit [] (Err fault) f n
+IsRefused {R = R} remaining limit gap (OtherGap index) old new =
+    (f : Counted R) × (slice_get old index ≡ Some f) × BeginsOther gap (remaining f.device)
+IsRefused remaining limit gap fault old new = Unit {0}
+
+-- No input was asked after its end, nor after a fault.
+abbrev pub AreAsked : {R : Type 0} → List (Counted R) → List (Counted R) → Type 0
+AreAsked [] [] = Unit {0}
+AreAsked (f ∷ first) (n ∷ now) = ((last : Last) × Calls last f n) × AreAsked first now
+AreAsked first now = ⊥

@@ -1,0 +1,8 @@
+-- Definitions that contracts of folds cite.
+pub mod Inputs
+pub mod Fold
+pub mod Fronts
+pub mod Streams
+pub mod Taking
+-- What public clauses cite of lower crates.
+pub use Rattle.aprs_folding.specs.Folding

@@ -1,0 +1,86 @@
+-- The inputs of a fold, each of which is read a row at a time. No public clause cites this module.
+use Rattle.std.specs.Prelude.{◌≡◌, ℕ, ◌≤◌, ◌+◌, ◌⊎◌, zero, suc, if◌then◌else◌, false, List, [], ◌∷◌, ◌++◌, Option, Some, Err}
+use Rattle.std.specs.List.{flat_map}
+use Rattle.aprs_io.specs.Device.{Calls, Last}
+use Rattle.aprs_io.specs.declared.device.Counted.{Counted}
+use Rattle.aprs_laws.specs.Order.{IsUpTo}
+use Rattle.aprs_laws.specs.Row.{Row, row_cmp}
+use Rattle.aprs_booktext.specs.Reading.{IsAnswered}
+use Rattle.aprs_booktext.specs.RowReader.{most_stream}
+use Rattle.aprs_booktext.specs.RowStream.{front_of, gap_of_stream, GetsOne, is_ended, stream_ahead, stream_size}
+use Rattle.aprs_booktext.specs.declared.row_stream.RowStream.{RowStream}
+use Rattle.aprs_fold.specs.Fronts.{row_at}
+use Rattle.aprs_fold.specs.Inputs.{BeginsOther}
+use Rattle.aprs_fold.specs.declared.fault.FoldFault.{FoldFault}
+use Rattle.aprs_fold.specs.declared.fault.FoldFault.TheVariants.{Input, OtherGap, Memory, Write}
+
+-- Of an input that was `first` these rows were taken, and the next is in front; or they are all,
+-- and the input has ended.
+pub record IsReading {R A : Type 0} (remaining : R → Option (List ℕ)) (limit gap : ℕ)
+    (first now : Counted R) (stream : RowStream A) (taken : List Row) : Type 0 where
+  pub gap_is : gap_of_stream stream ≡ gap
+  pub size : stream_size stream ≤ most_stream
+  pub gets : GetsOne remaining limit first now stream taken
+
+-- So it is with each input.
+abbrev pub AreReading : {R A : Type 0} → (R → Option (List ℕ)) → ℕ → ℕ → List (Counted R)
+    → List (Counted R) → List (RowStream A) → List (List Row) → Type 0
+AreReading remaining limit gap [] [] [] [] = Unit {0}
+AreReading remaining limit gap (f ∷ first) (n ∷ now) (s ∷ streams) (t ∷ taken) =
+    IsReading remaining limit gap f n s t × AreReading remaining limit gap first now streams taken
+AreReading remaining limit gap first now streams taken = ⊥
+
+-- The first inputs have streams, of which no row was taken, and the others weren't asked.
+abbrev pub AreOpened : {R A : Type 0} → (R → Option (List ℕ)) → ℕ → ℕ → List (Counted R)
+    → List (Counted R) → List (RowStream A) → Type 0
+AreOpened remaining limit gap first now [] = now ≡ first
+AreOpened remaining limit gap (f ∷ first) (n ∷ now) (s ∷ streams) =
+    IsReading remaining limit gap f n s [] × AreOpened remaining limit gap first now streams
+AreOpened remaining limit gap first now streams = ⊥
+
+-- Why the stream of one input isn't opened, by the input, which has this number.
+abbrev pub IsOneRefused : {R : Type 0} → (R → Option (List ℕ)) → ℕ → ℕ → ℕ → FoldFault
+    → Counted R → Counted R → Type 0
+IsOneRefused remaining limit gap number (Input index fault) old new =
+    (index ≡ number) × IsAnswered remaining limit [] (Err fault) old new
+IsOneRefused remaining limit gap number (OtherGap index) old new =
+    (index ≡ number) × BeginsOther gap (remaining old.device)
+    × ((last : Last) × Calls last old new)
+IsOneRefused remaining limit gap number Memory old new = (last : Last) × Calls last old new
+IsOneRefused remaining limit gap number Write old new = ⊥
+
+-- The stream of this number has a row in front, and may be read on.
+abbrev pub IsReadyAt : {A : Type 0} → List (RowStream A) → ℕ → Type 0
+IsReadyAt [] index = ⊥
+IsReadyAt (s ∷ streams) zero = (stream_size s ≤ most_stream) × (is_ended s ≡ false)
+IsReadyAt (s ∷ streams) (suc index) = IsReadyAt streams index
+
+-- The row in front of the stream of this number is taken too.
+abbrev pub taken_at : {A : Type 0} → List (RowStream A) → ℕ → List (List Row) → List (List Row)
+taken_at (s ∷ streams) zero (t ∷ taken) = (t ++ front_of s) ∷ taken
+taken_at (s ∷ streams) (suc index) (t ∷ taken) = t ∷ taken_at streams index taken
+taken_at streams index taken = taken
+
+-- A fault that is no refusal of the output.
+abbrev pub IsOfInputs : FoldFault → Type 0
+IsOfInputs Write = ⊥
+IsOfInputs fault = Unit {0}
+
+-- After the stream of this number was read on, each row in front was there before, or it doesn't
+-- come before the one that was in front of this stream.
+abbrev pub GoesOn : {A : Type 0} → ℕ → List (RowStream A) → List (RowStream A) → Type 0
+GoesOn index old new = (k : ℕ) (x y : Row) → row_at old index ≡ Some x → row_at new k ≡ Some y
+    → (row_at old k ≡ Some y) ⊎ IsUpTo row_cmp x y
+
+-- What grows less with each row: nothing is ahead of a stream that has ended.
+abbrev pub ahead_of : {A : Type 0} → RowStream A → ℕ
+ahead_of stream = if is_ended stream then 0 else stream_ahead stream + 1
+
+-- And that of all streams.
+abbrev pub ahead_of_all : {A : Type 0} → List (RowStream A) → ℕ
+ahead_of_all [] = 0
+ahead_of_all (s ∷ streams) = ahead_of s + ahead_of_all streams
+
+-- The rows in front.
+abbrev pub fronts_of : {A : Type 0} → List (RowStream A) → List Row
+fronts_of = flat_map front_of

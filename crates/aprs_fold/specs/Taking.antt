@@ -1,0 +1,54 @@
+-- Rows that are taken in order and written, once no later row can join them. No public clause cites
+-- this module.
+use Rattle.std.specs.Prelude.{◌≡◌, ◌<◌, ℕ, Bool, true, false, List, [], ◌∷◌, length, Option, Ok, Err}
+use Rattle.std.specs.List.{flat_map}
+use Rattle.aprs_io.specs.Outlet.{Puts}
+use Rattle.aprs_io.specs.declared.outlet.Outlet.{Outlet}
+use Rattle.aprs_log.specs.declared.moment_form.MomentForm.TheVariants.{Millis}
+use Rattle.aprs_laws.specs.Lists.{◌∈◌}
+use Rattle.aprs_laws.specs.Row.{Row}
+use Rattle.aprs_booktext.specs.RowLines.{line_and_lf}
+use Rattle.aprs_booktext.specs.Text.{IsBookRow}
+use Rattle.aprs_folding.specs.Folding.{rows_put, TakesNext}
+use Rattle.aprs_fold.specs.declared.fault.FoldFault.{FoldFault}
+use Rattle.aprs_fold.specs.declared.fault.FoldFault.TheVariants.{Memory, Write}
+
+-- The lines of these rows.
+abbrev pub lines_of_rows : List Row → List ℕ
+lines_of_rows rows = flat_map line_and_lf rows
+
+-- There is a last row, or none.
+abbrev pub IsThere : Bool → List Row → Type 0
+IsThere true last = (own : Row) × (last ≡ own ∷ [])
+IsThere false last = last ≡ []
+
+-- A line can spell each of the rows that has a receiver.
+abbrev pub AreSpelled : List Row → Type 0
+AreSpelled rows = (x : Row) → x ∈ rows → 0 < length x.receivers → IsBookRow Millis x
+
+-- The lines of these rows were put.
+pub record HasPut {W : Type 0} (contents : W → Option (List ℕ)) (old new : Outlet W)
+    (rows : List Row) : Type 0 where
+  pub puts : Puts {E = Unit {0}} contents (Ok tt) old new (lines_of_rows rows)
+  pub spelled : AreSpelled rows
+
+-- The output was refused: a prefix of these lines went out.
+abbrev pub FailsPut : {W : Type 0} → (W → Option (List ℕ)) → FoldFault → Outlet W → Outlet W
+    → List Row → Type 0
+FailsPut contents fault old new rows =
+    (fault ≡ Write) × Puts {E = FoldFault} contents (Err Write) old new (lines_of_rows rows)
+
+-- Where the last row was closed, the next one is to be in its place.
+abbrev pub ClosesFor : Bool → ℕ → List Row → Row → Type 0
+ClosesFor true gap last next = TakesNext true gap last next (next ∷ [])
+ClosesFor false gap last next = Unit {0}
+
+-- At `Write` a prefix of the last row's line went out. At `Memory` that line was put, and no later
+-- row joins it; or nothing was. No other fault comes.
+abbrev pub FailsTaking : {W : Type 0} → (W → Option (List ℕ)) → ℕ → FoldFault → Outlet W
+    → Outlet W → List Row → Row → Type 0
+FailsTaking contents gap Write old new last next =
+    Puts {E = FoldFault} contents (Err Write) old new (lines_of_rows last)
+FailsTaking contents gap Memory old new last next = (wrote : Bool)
+    × HasPut contents old new (rows_put wrote last) × ClosesFor wrote gap last next
+FailsTaking contents gap fault old new last next = ⊥

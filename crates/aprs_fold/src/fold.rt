@@ -1,0 +1,131 @@
+//! The fold of book files.
+ghost use Rattle.std.specs.Prelude.{◌≡◌, ◌≤◌, [], List, IfErr, IfOk, OnOk};
+ghost use Rattle.aprs_io.specs.Device.{Sends};
+ghost use Rattle.aprs_io.specs.Outlet.{Puts, held_of};
+ghost use Rattle.aprs_laws.specs.Gap.{IsGap};
+ghost use Rattle.aprs_laws.specs.Row.{Row};
+ghost use Rattle.aprs_booktext.specs.RowLines.{ended_by_lf};
+ghost use Rattle.aprs_booktext.specs.RowReader.{most_stream};
+ghost use Rattle.aprs_booktext.specs.Text.{written_text};
+ghost use Rattle.aprs_booktext.specs.Version.{header_of};
+ghost use Rattle.aprs_booktext.specs.declared.version.Version.TheVariants.{Three};
+ghost use Rattle.aprs_fold.specs.Fold as Spec;
+ghost use Rattle.aprs_fold.specs.Inputs.{book_of_all, AreAsked, AreBooks, IsRefused};
+
+use crate::fault::FoldFault;
+use crate::first::first_of;
+use crate::opening::{advance, open_all};
+use crate::taking::{count_after, put_last, take_front};
+use aprs_booktext::{WrittenRow, end_line_and_lf, header_line};
+use aprs_io::{Counted, Outlet, WriteFault};
+use aprs_laws::Gap;
+use aprs_rows::OpenRow;
+use std::alloc::Allocator;
+use std::io::{Read, Write};
+
+/// The greatest limit that a caller may set for a book file that is folded: 2^63 - 1 bytes.
+pub const MAX_BOOK: u64 = 9_223_372_036_854_775_807;
+
+/// Writes the text of the book of all inputs, which have to be book files of this gap, of at most
+/// `limit` bytes each, in version 3. They are read side by side, and the rows are written as they
+/// come: memory is taken for each input (a piece of 16 KiB, its longest line and its longest row)
+/// and for one row more, whatever the number of rows. Requires a limit of at most `MAX_BOOK`
+/// (9,223,372,036,854,775,807). The header is sent before an input is read.
+/// Where an input is at fault or an allocation fails, the header and a part of the rows' lines were
+/// written, which are no book's text, since its last line isn't there. At `Write` a prefix of the
+/// text was written.
+pub fn fold_books<R: Read, W: Write, A: Allocator + Copy>(
+    alloc: A,
+    limit: u64,
+    gap: Gap,
+    inputs: &mut [Counted<R>],
+    w: &mut Counted<W>,
+) -> Result<(), FoldFault>
+    requires { limit ≤ most_stream }
+
+    // At `Ok` each input is the whole text of a book of this gap, and what was written is the text
+    // of the book of all their rows, which can be read back.
+    ensures folds { OnOk result ((rows : List (List Row))
+        × AreBooks R.remaining limit gap inputs.old inputs.new rows
+        × Sends W.contents result w.old w.new (written_text (book_of_all gap rows))
+        × Spec.IsWhole gap (book_of_all gap rows).rows) }
+
+    // At a fault of an input it is faulty so. What was written is a part of a book's text.
+    ensures refuses { IfErr result (λ fault.
+        IsRefused R.remaining limit gap fault inputs.old inputs.new) }
+    ensures left { IfErr result (λ fault. Spec.IsLeft W.contents gap fault w.old w.new) }
+
+    // No input is asked after its end or a fault.
+    ensures asks { AreAsked inputs.old inputs.new }
+{
+    let mut out = Outlet::new(w);
+    put_text(alloc, limit, gap, inputs, &mut out)?;
+    Ok(out.flush()?)
+}
+
+/// Puts the text of the book of all rows, from its header to its last line, into `out`, which sends
+/// the header before an input is read.
+fn put_text<R: Read, W: Write, A: Allocator + Copy>(
+    alloc: A,
+    limit: u64,
+    gap: Gap,
+    inputs: &mut [Counted<R>],
+    out: &mut Outlet<'_, W>,
+) -> Result<(), FoldFault>
+    requires few { limit ≤ most_stream }
+    requires range { IsGap gap }
+    ensures folds { OnOk result ((rows : List (List Row))
+        × AreBooks R.remaining limit gap inputs.old inputs.new rows
+        × Puts W.contents result out.old out.new (written_text (book_of_all gap rows))
+        × Spec.IsFoldedBook gap (book_of_all gap rows).rows) }
+    ensures refuses { IfErr result (λ fault.
+        IsRefused R.remaining limit gap fault inputs.old inputs.new) }
+    ensures left { IfErr result (λ fault. Spec.LeavesText W.contents gap fault out.old out.new) }
+    ensures asks { AreAsked inputs.old inputs.new }
+{
+    put_header(gap, out)?;
+    let count = put_rows(alloc, limit, gap, inputs, out)?;
+    Ok(out.put(end_line_and_lf(count).as_slice())?)
+}
+
+/// Puts the header of a book of this gap, and sends all that `out` holds.
+fn put_header<W: Write>(gap: Gap, out: &mut Outlet<'_, W>) -> Result<(), WriteFault>
+    ensures puts { Puts W.contents result out.old out.new (ended_by_lf (header_of (Three gap))) }
+    ensures empty { OnOk result (held_of out.new ≡ []) }
+{
+    out.put(header_line(gap).as_slice())?;
+    out.flush()
+}
+
+/// Puts the lines of the rows of the book of all inputs into `out`, and returns their number.
+fn put_rows<R: Read, W: Write, A: Allocator + Copy>(
+    alloc: A,
+    limit: u64,
+    gap: Gap,
+    inputs: &mut [Counted<R>],
+    out: &mut Outlet<'_, W>,
+) -> Result<usize, FoldFault>
+    requires few { limit ≤ most_stream }
+    requires range { IsGap gap }
+    ensures folds { IfOk result (λ count. (rows : List (List Row))
+        × AreBooks R.remaining limit gap inputs.old inputs.new rows
+        × Spec.PutsRows W.contents gap count out.old out.new (book_of_all gap rows).rows) }
+    ensures refuses { IfErr result (λ fault.
+        IsRefused R.remaining limit gap fault inputs.old inputs.new) }
+    ensures left { IfErr result (λ fault. Spec.LeavesRows W.contents gap fault out.old out.new) }
+    ensures asks { AreAsked inputs.old inputs.new }
+{
+    let mut opened = open_all(alloc, limit, gap, inputs)?;
+    let streams = opened.as_mut_slice();
+    let mut room = WrittenRow::new();
+    let mut last = OpenRow::new(alloc);
+    let mut count = 0;
+    while let Some(index) = first_of(streams) {
+        let wrote = take_front(gap, streams, index, &mut last, out, &mut room)?;
+        count = count_after(count, wrote)?;
+        advance(index, streams, inputs)?;
+    }
+    let all = count_after(count, last.row().is_some())?;
+    put_last(&last, out, &mut room)?;
+    Ok(all)
+}

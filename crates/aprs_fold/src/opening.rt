@@ -1,0 +1,110 @@
+//! The streams of several inputs: their first rows, and the next row of one.
+ghost use Rattle.std.specs.Prelude.{◌≡◌, ℕ, ◌<◌, ◌≤◌, ◌++◌, ◌∷◌, [], IfErr, IfOk, List, OnOk, length};
+ghost use Rattle.aprs_io.specs.declared.device.Counted.{Counted as CountedValue};
+ghost use Rattle.aprs_laws.specs.Row.{Row};
+ghost use Rattle.aprs_booktext.specs.RowReader.{most_stream};
+ghost use Rattle.aprs_fold.specs.Inputs as Spec;
+ghost use Rattle.aprs_fold.specs.Streams as Streams;
+
+use crate::fault::FoldFault;
+use aprs_booktext::RowStream;
+use aprs_io::Counted;
+use aprs_laws::Gap;
+use std::alloc::Allocator;
+use std::io::Read;
+
+/// A stream for each input, which was read to its first row, or to its end where it has none. Fails
+/// with the first input's fault, or where an input's gap is another. Requires a limit of at most
+/// 9,223,372,036,854,775,807.
+pub(crate) fn open_all<R: Read, A: Allocator + Copy>(
+    alloc: A,
+    limit: u64,
+    gap: Gap,
+    inputs: &mut [Counted<R>],
+) -> Result<Vec<RowStream<A>, A>, FoldFault>
+    requires { limit ≤ most_stream }
+    ensures reads { IfOk result (λ streams. Streams.AreOpened R.remaining limit gap inputs.old
+        inputs.new streams.items) }
+    ensures own { IfErr result Streams.IsOfInputs }
+    ensures all { IfOk result (λ streams. length streams.items ≡ length inputs.old) }
+    ensures refuses { IfErr result (λ fault.
+        Spec.IsRefused R.remaining limit gap fault inputs.old inputs.new) }
+    ensures asks { Spec.AreAsked inputs.old inputs.new }
+{
+    let mut streams = Vec::new(alloc);
+    for (index, input) in inputs.iter_mut().enumerate() {
+        let stream = open_one(alloc, limit, gap, index, input)?;
+        keep(&mut streams, stream)?;
+    }
+    Ok(streams)
+}
+
+/// Puts a stream after the others.
+fn keep<A: Allocator + Copy>(
+    streams: &mut Vec<RowStream<A>, A>,
+    stream: RowStream<A>,
+) -> Result<(), FoldFault>
+    ensures kept { OnOk result (streams.new.items ≡ streams.old.items ++ stream ∷ []) }
+    ensures memory { IfErr result (λ fault. fault ≡ FoldFault.Memory) }
+{
+    if streams.push(stream).is_err() {
+        return Err(FoldFault::Memory);
+    }
+    Ok(())
+}
+
+/// A stream of this input, which was read to its first row, or to its end where it has none.
+/// Fails with its fault, as that of this number, or where its gap is another.
+fn open_one<R: Read, A: Allocator + Copy>(
+    alloc: A,
+    limit: u64,
+    gap: Gap,
+    index: usize,
+    input: &mut Counted<R>,
+) -> Result<RowStream<A>, FoldFault>
+    requires { limit ≤ most_stream }
+    ensures reads { IfOk result (λ stream.
+        Streams.IsReading R.remaining limit gap input.old input.new stream []) }
+    ensures refuses { IfErr result (λ fault.
+        Streams.IsOneRefused R.remaining limit gap index fault input.old input.new) }
+{
+    let mut stream = RowStream::new(alloc, limit)?;
+    if let Err(fault) = stream.advance(input) {
+        return Err(FoldFault::Input { index, fault });
+    }
+    if stream.gap() != gap {
+        return Err(FoldFault::OtherGap { index });
+    }
+    Ok(stream)
+}
+
+/// Reads the next row of the input of this number, or reads to its end. Requires that this stream
+/// has a row in front.
+pub(crate) fn advance<R: Read, A: Allocator + Copy>(
+    index: usize,
+    streams: &mut [RowStream<A>],
+    inputs: &mut [Counted<R>],
+) -> Result<(), FoldFault>
+    requires ready { Streams.IsReadyAt streams.old index }
+    requires there { index < length streams.old }
+    requires within { index < length inputs.old }
+    ensures one { OnOk result ((limit gap : ℕ) (first : List (CountedValue R))
+        (taken : List (List Row))
+        → Streams.AreReading R.remaining limit gap first inputs.old streams.old taken
+        → Streams.AreReading R.remaining limit gap first inputs.new streams.new
+        (Streams.taken_at streams.old index taken)
+        × Streams.GoesOn index streams.old streams.new) }
+    ensures less { OnOk result
+        (Streams.ahead_of_all streams.new < Streams.ahead_of_all streams.old) }
+    ensures own { IfErr result Streams.IsOfInputs }
+    ensures fault { IfErr result (λ fault. (limit gap : ℕ) (first : List (CountedValue R))
+        (taken : List (List Row))
+        → Streams.AreReading R.remaining limit gap first inputs.old streams.old taken
+        → Spec.IsRefused R.remaining limit gap fault first inputs.new
+        × Spec.AreAsked first inputs.new) }
+{
+    match streams[index].advance(&mut inputs[index]) {
+        Ok(()) => Ok(()),
+        Err(fault) => Err(FoldFault::Input { index, fault }),
+    }
+}

@@ -1,0 +1,100 @@
+//! Rows that are taken in order and written, once no later row can join them.
+ghost use Rattle.std.specs.Prelude.{◌≡◌, ◌+◌, ◌∷◌, [], Some, IfErr, IfOk, if◌then◌else◌};
+ghost use Rattle.aprs_laws.specs.Gap.{millis_of};
+ghost use Rattle.aprs_laws.specs.Row.{Row};
+ghost use Rattle.aprs_laws.specs.Sound.{IsSoundRow};
+ghost use Rattle.aprs_rows.specs.Packed.{IsShort};
+ghost use Rattle.aprs_folding.specs.Folding.{rows_put, TakesNext};
+ghost use Rattle.aprs_fold.specs.Fronts.{IsFirst, row_at};
+ghost use Rattle.aprs_fold.specs.Taking as Spec;
+
+use crate::fault::FoldFault;
+use aprs_booktext::{RowStream, WrittenRow, put_row};
+use aprs_io::Outlet;
+use aprs_laws::Gap;
+use aprs_rows::{OpenRow, RowView};
+use std::alloc::Allocator;
+use std::io::Write;
+
+/// Takes the row in front of the stream of this number, as `take` does. Requires that there is one.
+pub(crate) fn take_front<W: Write, A: Allocator + Copy>(
+    gap: Gap,
+    streams: &[RowStream<A>],
+    index: usize,
+    last: &mut OpenRow<A>,
+    out: &mut Outlet<'_, W>,
+    room: &mut WrittenRow,
+) -> Result<bool, FoldFault>
+    requires first { IsFirst streams.now index }
+    ensures takes { IfOk result (λ wrote. (x : Row) → row_at streams.now index ≡ Some x
+        → IsSoundRow x × TakesNext wrote (millis_of gap) last.old x last.new) }
+    ensures puts { IfOk result (λ wrote.
+        Spec.HasPut W.contents out.old out.new (rows_put wrote last.old)) }
+    ensures fails { IfErr result (λ fault. (x : Row) → row_at streams.now index ≡ Some x
+        → IsSoundRow x
+        × Spec.FailsTaking W.contents (millis_of gap) fault out.old out.new last.old x) }
+{
+    match streams[index].row() {
+        Some(next) => take(gap, &next, last, out, room),
+        None => Ok(false),
+    }
+}
+
+/// Lets the next row join the last one where it is near. Otherwise puts the line of the last one
+/// into `out`, if there is one, and has the next in its place. Returns whether a line was put.
+fn take<W: Write, A: Allocator + Copy>(
+    gap: Gap,
+    next: &RowView<'_>,
+    last: &mut OpenRow<A>,
+    out: &mut Outlet<'_, W>,
+    room: &mut WrittenRow,
+) -> Result<bool, FoldFault>
+    requires sound { IsSoundRow next.now }
+    requires short { IsShort next.now }
+    ensures takes { IfOk result (λ wrote.
+        TakesNext wrote (millis_of gap) last.old next.now last.new) }
+    ensures puts { IfOk result (λ wrote.
+        Spec.HasPut W.contents out.old out.new (rows_put wrote last.old)) }
+    ensures fails { IfErr result (λ fault. Spec.FailsTaking W.contents (millis_of gap) fault
+        out.old out.new last.old next.now) }
+{
+    if last.join(gap, next)? {
+        return Ok(false);
+    }
+    let wrote = put_last(last, out, room)?;
+    last.put(next)?;
+    Ok(wrote)
+}
+
+/// Puts the line of the last row into `out`, if there is one. Returns whether there is.
+pub(crate) fn put_last<W: Write, A: Allocator + Copy>(
+    last: &OpenRow<A>,
+    out: &mut Outlet<'_, W>,
+    room: &mut WrittenRow,
+) -> Result<bool, FoldFault>
+    ensures wrote { IfOk result (λ wrote. Spec.IsThere wrote last.now) }
+    ensures puts { IfOk result (λ wrote.
+        Spec.HasPut W.contents out.old out.new (rows_put wrote last.now)) }
+    ensures fails { IfErr result (λ fault.
+        Spec.FailsPut W.contents fault out.old out.new last.now) }
+{
+    let Some(row) = last.row() else {
+        return Ok(false);
+    };
+    put_row(out, room, &row)?;
+    Ok(true)
+}
+
+/// One more, where a line was put. `Memory` where that is 2^64.
+pub(crate) fn count_after(count: usize, wrote: bool) -> Result<usize, FoldFault>
+    ensures counts { IfOk result (λ n. n ≡ (if wrote then count + 1 else count)) }
+    ensures fails { IfErr result (λ fault. fault ≡ FoldFault.Memory) }
+{
+    if !wrote {
+        return Ok(count);
+    }
+    match count.checked_add(1) {
+        Some(more) => Ok(more),
+        None => Err(FoldFault::Memory),
+    }
+}

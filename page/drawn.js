@@ -1,0 +1,9 @@
+// @ts-check
+// What the script that reads logs takes of the one that draws, which stands before it in the page.
+
+/** @type {typeof import("./begin.js").shared} */
+const shared = globalThis.aprsbook;
+export const {
+  age, alive, bring, byId, choose, chosen, count, fullText, make, page, printable, save, show,
+  tick,
+} = shared;

@@ -1,0 +1,163 @@
+// @ts-check
+// The files that a reader gives: what each is, what the program says of it, and what is left of it.
+
+import { count } from "./drawn.js";
+import { damagedLines, kindOf, READ, spelled, without } from "./kinds.js";
+import { shifted } from "./shift.js";
+import { run } from "./workers.js";
+
+/** @typedef {import("./kinds.js").Damage} Damage */
+/**
+ * A file that was given. `bytes` are its bytes as they are read, `taken` what goes into the book,
+ * or null; `unread` says why it can't be read at all.
+ * @typedef {{ name: string, kind: string, bytes: Uint8Array, unread: string, receiver: string,
+ *   moment: string, passed: string[], said: string, fault: string, reason: string,
+ *   spelling: string[], damage: Damage[], leftOut: string[], taken: Uint8Array | null,
+ *   row?: HTMLTableRowElement, whole?: Uint8Array, mark?: string, away?: string }} Given
+ */
+
+/**
+ * By how many seconds the clock of a receiver is put forward, or back.
+ * @type {Map<string, number>}
+ */
+export const shifts = new Map();
+/** So many bytes at the beginning of a file say what it is. */
+const HEAD = 65536;
+export const asText = (/** @type {Uint8Array} */ bytes) => new TextDecoder("latin1").decode(bytes);
+const EMPTY_BOOK = "is empty, which no book is";
+const NO_CAPTURE = "the receiver isn't written as RX1, or the moment as 2024-06-21T18:00:00Z";
+/**
+ * A fault of an input, as the program says it.
+ * @param {{ fault: string, line?: number }} got
+ */
+export const placeOf = got =>
+  (/^[A-Z]/.test(got.fault) ? `line ${got.line}: ` : "") + (got.fault || "out of memory");
+
+/**
+ * A file of the table of files.
+ * @param {string} name
+ * @param {string} kind
+ * @param {Uint8Array} bytes
+ * @param {Partial<Given>} [of]
+ * @returns {Given}
+ */
+export const fileOf = (name, kind, bytes, of = {}) => ({ name, kind, bytes, unread: "",
+  receiver: "RX1", moment: "", passed: [], said: "", fault: "", reason: "", spelling: [], damage: [],
+  leftOut: [], taken: null, ...of });
+
+/** @param {Blob} file */
+async function bytesOf(file) {
+  const head = new Uint8Array(await file.slice(0, HEAD).arrayBuffer());
+  if (head[0] !== 0x1f || head[1] !== 0x8b) return { head, all: () => file.arrayBuffer() };
+  const stream = file.stream().pipeThrough(new DecompressionStream("gzip"));
+  try {
+    const bytes = new Uint8Array(await new Response(stream).arrayBuffer());
+    return { head: bytes.subarray(0, HEAD), all: async () => bytes.buffer };
+  } catch {
+    throw new Error("can't be read: gzip can't unpack it");
+  }
+}
+/**
+ * Reads a file that was given; of one that is nothing of a net, no more than how it begins.
+ * @param {File} file @param {(name: string, text: string) => void} bring takes a map or a roster
+ * @returns {Promise<Given | null>}
+ */
+export async function take(file, bring) {
+  const unread = (/** @type {string} */ why, kind = "file") =>
+    fileOf(file.name, kind, new Uint8Array(), { unread: why });
+  try {
+    const { head, all } = await bytesOf(file), begin = spelled(head).bytes;
+    const kind = kindOf(begin, file.name.replace(/\.gz$/i, ""));
+    if (!READ.includes(kind)) return unread(`is ${kind}, which no log is`, kind);
+    if (kind === "log" && await isNoLog(begin)) return unread("is no log", "file");
+    const bytes = new Uint8Array(await all());
+    if (kind === "book" || kind === "KISS stream") return fileOf(file.name, kind, bytes);
+    const text = spelled(bytes);
+    if (kind === "log") return fileOf(file.name, kind, text.bytes, { spelling: text.spelling });
+    bring(file.name, new TextDecoder().decode(text.bytes));
+    return null;
+  } catch (fault) {
+    const { message } = /** @type {Error} */ (fault);
+    return unread(/^can't/.test(message) ? message : `can't be read: ${message}`);
+  }
+}
+/**
+ * How a log is refused.
+ * @param {Uint8Array} bytes
+ */
+async function checkOf(bytes) {
+  const got = await run("check", 30, [bytes]);
+  return got.status ? { line: got.line, why: got.fault } : null;
+}
+/**
+ * Whether a file that begins so is no log: most of its first lines are refused.
+ * @param {Uint8Array} begin
+ */
+async function isNoLog(begin) {
+  if (begin.length < HEAD / 2) return false;
+  const end = begin.lastIndexOf(10) + 1 || begin.length, head = begin.subarray(0, end);
+  const damage = await damagedLines(head, checkOf);
+  if (damage?.length === 0) return false;
+  const lines = asText(head).split("\n").length - 1;
+  return !damage || 2 * damage.length > lines;
+}
+
+/**
+ * Reads a file as what it is, and keeps what the program says of it.
+ * @param {Given} file
+ * @param {number} gap in seconds
+ */
+export async function look(file, gap) {
+  Object.assign(file, { fault: file.unread, said: "", reason: "", passed: [], damage: [],
+    taken: null });
+  try {
+    if (!file.unread) await lookInto(file, gap);
+  } catch (fault) {
+    file.fault = /** @type {Error} */ (fault).message;
+  }
+}
+/** @param {Given} file @param {number} gap */
+async function lookInto(file, gap) {
+  let { bytes } = file;
+  const refuse = (/** @type {{ fault: string, line?: number }} */ got) => { file.fault = placeOf(got); };
+  if (file.kind === "book" && !bytes.length) return refuse({ fault: EMPTY_BOOK });
+  if (file.kind === "KISS stream") {
+    if (!file.moment) return refuse({ fault: "give the receiver's name and the moment" });
+    const got = await run("convert capture", [file.receiver, file.moment], [bytes]);
+    if (got.status === 2) return refuse({ fault: NO_CAPTURE });
+    if (got.status) return refuse(got);
+    bytes = got.bytes;
+  }
+  if (file.kind === "book") {
+    const got = await run("merge", gap, [bytes]);
+    if (got.status) return refuse(got);
+    const rows = /END (\d+)\n$/.exec(asText(got.bytes.subarray(-20)))?.[1];
+    file.said = count(Number(rows), "transmission");
+  } else {
+    const got = await run("check", 30, [bytes]), lines = asText(got.bytes).trimEnd().split("\n");
+    if (!got.status) file.said = lines.pop() || "";
+    file.passed = lines.filter(Boolean);
+    if (got.status) {
+      file.reason = got.fault;
+      file.damage = await damagedLines(bytes, checkOf) || [];
+      return refuse(got);
+    }
+  }
+  // a book's moments stay: it no longer has what each receiver wrote
+  file.taken = file.kind === "book" ? bytes : shifted(bytes, shifts);
+}
+/**
+ * The text of a line that is refused.
+ * @param {Given} file
+ * @param {Damage} it
+ */
+export const lineText = (file, { begin, end }) =>
+  new TextDecoder().decode(file.bytes.subarray(begin, Math.min(end, begin + 200))).trimEnd();
+/**
+ * Leaves out the lines that are refused.
+ * @param {Given} file
+ */
+export function leaveOut(file) {
+  file.leftOut.push(...file.damage.map(it => `line ${it.line}: ${it.why}: ${lineText(file, it)}`));
+  file.bytes = without(file.bytes, file.damage);
+}

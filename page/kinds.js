@@ -1,0 +1,124 @@
+// @ts-check
+// What a file is, by its name and by how it begins, and how its text is spelled.
+
+import { isMap } from "./overlays.js";
+
+/**
+ * The first letters of a file, a byte each.
+ * @param {Uint8Array} bytes
+ */
+const lettersOf = (bytes, most = 2000) =>
+  String.fromCharCode(...bytes.subarray(0, most)).replace(/^\xef\xbb\xbf/, "");
+
+/**
+ * How files begin that are nothing of a net, and what they are.
+ * @type {[RegExp, string][]}
+ */
+const STRANGERS = [
+  [/^\x89PNG|^\xff\xd8\xff|^GIF8|^BM[^]{4}\0\0\0\0|^RIFF....WEBP|^II\*\0|^MM\0\*/s, "a picture"],
+  [/^\s*(<\?xml[^]*?\?>\s*)?(<!--[^]*?-->\s*)*<svg[\s>]/, "a picture"],
+  [/^%PDF/, "a PDF"], [/^PK\x03\x04/, "an archive (ZIP)"], [/^7z\xbc\xaf|^Rar!/, "an archive"],
+  [/^SQLite format 3\0/, "a database (SQLite)"], [/^PMTiles/, "an archive of maps (PMTiles)"],
+  [/^RIFF....WAVE|^OggS|^ID3|^fLaC/s, "a sound"], [/^....ftyp/s, "a film"],
+  [/^\x7fELF|^MZ/, "a program"],
+  [/^(\xd4\xc3\xb2\xa1|\xa1\xb2\xc3\xd4|\x0a\x0d\x0d\x0a)/, "a capture of packets (pcap)"],
+  [/^\s*(<!doctype html|<html)/i, "a web page"], [/^\s*<\?xml|^\s*<[a-z]/i, "XML"],
+];
+/** How a line of a roster begins: a call, or the head of a column. */
+const ROSTER = /^(?:\s*#[^\n]*\n|\s*\n)*\s*"?(?:[A-Za-z0-9]{1,6}(?:-(?:\d{1,2}|\*))?|call|callsign|station|name|tactical|who)"?([\s,;]|$)/i;
+
+/**
+ * What a file is: book, KISS stream, map, roster, log, or what else it is, such as `a picture`.
+ * @param {Uint8Array} bytes how it begins, as `spelled` gives it @param {string} name
+ */
+export function kindOf(bytes, name) {
+  const begin = lettersOf(bytes);
+  if (begin.startsWith("APRSBOOK") || !begin && /\.book$/i.test(name)) return "book";
+  if (bytes[0] === 0xc0 || /\.kiss$/i.test(name)) return "KISS stream";
+  if (isMap(begin)) return "map";
+  const stranger = STRANGERS.find(([form]) => form.test(begin));
+  if (stranger) return stranger[1];
+  if (!/^\d{4}-\d\d-\d\dT/.test(begin) && /\.(txt|csv|tsv)$/i.test(name) && ROSTER.test(begin))
+    return "roster";
+  return "log";
+}
+/** The kinds that this page reads. */
+export const READ = ["book", "KISS stream", "map", "roster", "log"];
+
+/**
+ * A text as this page reads it: what Windows may write is taken out, and named.
+ * @param {Uint8Array} bytes @returns {{ bytes: Uint8Array, spelling: string[] }}
+ */
+export function spelled(bytes) {
+  const spelling = [], [a, b, c] = bytes;
+  if (a === 0xff && b === 0xfe || a === 0xfe && b === 0xff) {
+    const text = new TextDecoder(a === 0xff ? "utf-16le" : "utf-16be").decode(bytes);
+    spelling.push("UTF-16");
+    bytes = new TextEncoder().encode(text);
+  } else if (a === 0xef && b === 0xbb && c === 0xbf) {
+    spelling.push("a byte order mark");
+    bytes = bytes.subarray(3);
+  }
+  const end = bytes.indexOf(10);
+  if (end < 1 || bytes[end - 1] !== 13) return { bytes, spelling };
+  spelling.push("CR LF");
+  const plain = bytes.filter((it, k) => it !== 13 || bytes[k + 1] !== 10);
+  return { bytes: plain, spelling };
+}
+
+/**
+ * What a refused line of a log lacks.
+ * @type {Record<string, string>}
+ */
+export const REASONS = {
+  LongLine: "it has more than 8,192 bytes",
+  Moment: "it doesn\u2019t begin with a moment such as 2024-06-21T18:00:00Z",
+  Receiver: "no receiver\u2019s name stands after its moment",
+  Hex: "its frame isn\u2019t written in hexadecimal digits",
+  NoNewline: "the log ends within it",
+};
+/**
+ * A line of a log that is refused: its number, where it stands, why.
+ * @typedef {{ line: number, begin: number, end: number, why: string }} Damage
+ */
+/** More refused lines than these aren't looked for: it is no log then. */
+export const MOST = 100;
+
+/**
+ * The lines that a log has to lose so that the rest is read. `check` says where and why bytes are
+ * refused, or gives null.
+ * @param {Uint8Array} bytes
+ * @param {(bytes: Uint8Array) => Promise<{ line: number, why: string } | null>} check
+ * @returns {Promise<Damage[] | null>} null where there are too many, or where it isn't for a line
+ */
+export async function damagedLines(bytes, check) {
+  /** @type {Damage[]} */
+  const found = [];
+  for (let at = 0, before = 0; at < bytes.length;) {
+    const fault = await check(bytes.subarray(at));
+    if (!fault) return found;
+    if (!REASONS[fault.why] || found.length === MOST) return null;
+    let begin = at;
+    for (let n = 1; n < fault.line; n++) begin = bytes.indexOf(10, begin) + 1;
+    const stop = bytes.indexOf(10, begin), end = stop < 0 ? bytes.length : stop + 1;
+    before += fault.line;
+    found.push({ line: before, begin, end, why: fault.why });
+    at = end;
+  }
+  return found;
+}
+/**
+ * The bytes without these lines.
+ * @param {Uint8Array} bytes
+ * @param {Damage[]} damage
+ */
+export function without(bytes, damage) {
+  const left = new Uint8Array(bytes.length - damage.reduce((n, it) => n + it.end - it.begin, 0));
+  let at = 0, from = 0;
+  for (const { begin, end } of [...damage, { begin: bytes.length, end: bytes.length }]) {
+    left.set(bytes.subarray(from, begin), at);
+    at += begin - from;
+    from = end;
+  }
+  return left;
+}

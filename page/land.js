@@ -1,0 +1,173 @@
+// @ts-check
+// The coasts of the world below the map (Natural Earth, in the public domain), as rings on a ball.
+
+import { RADIUS, vectorOf } from "./globe.js";
+
+/** @typedef {import("./globe.js").Projection} Projection */
+/**
+ * A coast: its places as vectors and in hundredths of a degree, and a cap around all of them.
+ * @typedef {{ line: Float32Array, places: Int32Array, middle: number[], wide: number }} Ring
+ */
+
+/** Of fewer metres for a pixel the coast is a line that is said to be rough, and then nothing. */
+const ROUGH = 100, NONE = 10;
+
+/**
+ * The rings of packed bytes: of each how many places it has, then the steps from one to the next.
+ * @param {Uint8Array} bytes
+ */
+export function ringsOf(bytes) {
+  let at = 0;
+  const next = () => {
+    let n = 0, by = 1, byte;
+    do {
+      byte = bytes[at++];
+      n += (byte & 127) * by;
+      by *= 128;
+    } while (byte > 127);
+    return n % 2 ? -(n + 1) / 2 : n / 2;
+  };
+  /** @type {Ring[]} */
+  const rings = [];
+  while (at < bytes.length) {
+    const places = new Int32Array(2 * next());
+    for (let k = 0, east = 0, north = 0; k < places.length; k += 2) {
+      east += next();
+      north += next();
+      places.set([east, north], k);
+    }
+    rings.push(ringOf(places));
+  }
+  return rings;
+}
+/**
+ * @param {Int32Array} places
+ * @returns {Ring}
+ */
+function ringOf(places) {
+  const line = new Float32Array(places.length / 2 * 3), middle = [0, 0, 0];
+  for (let k = 0; 2 * k < places.length; k++) {
+    line.set(vectorOf(places[2 * k + 1] / 100, places[2 * k] / 100), 3 * k);
+    for (const i of [0, 1, 2]) middle[i] += line[3 * k + i];
+  }
+  const long = Math.hypot(...middle) || 1;
+  for (const i of [0, 1, 2]) middle[i] /= long;
+  let wide = 0;
+  for (let k = 0; k < line.length; k += 3)
+    wide = Math.max(wide, Math.hypot(line[k] - middle[0], line[k + 1] - middle[1],
+      line[k + 2] - middle[2]));
+  return { line, places, middle, wide };
+}
+/** How often the way from a place to the north pole goes over a ring: odd within it. */
+export function crossings(/** @type {Ring} */ { places }, /** @type {number} */ north,
+  /** @type {number} */ east) {
+  const turned = (/** @type {number} */ e) => ((e - 100 * east) % 36000 + 54000) % 36000 - 18000;
+  let count = 0;
+  const last = places.length - 2;
+  for (let k = 0, a = turned(places[last]), n = places[last + 1]; k <= last; k += 2) {
+    const b = turned(places[k]), m = places[k + 1];
+    if (Math.abs(a - b) < 18000 && (a < 0) !== (b < 0) &&
+      n + (m - n) * a / (a - b) > 100 * north) count++;
+    [a, n] = [b, m];
+  }
+  return count;
+}
+
+/** The coasts, once they are unpacked. */
+export class Land {
+  constructor() {
+    /** @type {Ring[]} */
+    this.rings = [];
+  }
+  /**
+   * Unpacks the coasts of a text in base64.
+   * @param {string} text
+   */
+  async read(text) {
+    if (!text.trim()) return;
+    const packed = Uint8Array.from(atob(text.trim()), it => it.charCodeAt(0));
+    const stream = new Blob([packed]).stream().pipeThrough(new DecompressionStream("deflate"));
+    this.rings = ringsOf(new Uint8Array(await new Response(stream).arrayBuffer()));
+  }
+  /**
+   * The rings of which a part may be in view.
+   * @param {Projection} view
+   */
+  inView(view) {
+    const { width, height, scale } = view, half = Math.hypot(width, height) / 2;
+    return this.rings.filter(({ middle, wide }) => {
+      if (wide * scale < 1) return false;
+      if (wide >= 0.3) return true;
+      const near = view.put(middle);
+      return near && Math.hypot(view.x - width / 2, view.y - height / 2) - 1.6 * wide * scale < half;
+    });
+  }
+  /**
+   * Paints land, and says how exact it is.
+   * @param {CanvasRenderingContext2D} pen
+   * @param {Projection} view
+   * @param {{ land: string, shore: string }} colours
+   */
+  paint(pen, view, colours) {
+    const pixel = RADIUS / view.scale;
+    if (!this.rings.length || pixel < NONE) return "";
+    const rings = this.inView(view), { middle } = view;
+    Object.assign(pen, { fillStyle: colours.land, strokeStyle: colours.shore, lineWidth: 0.8 });
+    pen.beginPath();
+    if (pixel < ROUGH) {
+      pen.setLineDash([6, 4]);
+      for (const { line } of rings) traceInView(pen, view, line);
+      pen.stroke();
+      pen.setLineDash([]);
+      return "rough coast";
+    }
+    let odd = 0;
+    for (const ring of rings) {
+      trace(pen, view, ring.line);
+      odd += crossings(ring, -middle[0], middle[1] + 180);
+    }
+    pen.stroke();
+    // where the other side of the earth is land, its rings enclose all but the land
+    if (odd % 2) pen.arc(view.width / 2, view.height / 2, 2 * view.scale, 0, 2 * Math.PI);
+    pen.fill("evenodd");
+    return "";
+  }
+}
+/**
+ * A ring as a path; places that are nearer than a pixel are one.
+ * @param {CanvasRenderingContext2D} pen
+ * @param {Projection} view
+ * @param {Float32Array} line
+ */
+function trace(pen, view, line) {
+  let lastX = 0, lastY = 0;
+  for (let k = 0; 3 * k < line.length; k++) {
+    view.put(line, k);
+    if (k && Math.abs(view.x - lastX) + Math.abs(view.y - lastY) < 0.7) continue;
+    [lastX, lastY] = [view.x, view.y];
+    if (k) pen.lineTo(lastX, lastY);
+    else pen.moveTo(lastX, lastY);
+  }
+  pen.closePath();
+}
+/**
+ * The parts of a ring that are in view as a path, since a pen gives up dashes on a long one.
+ * @param {CanvasRenderingContext2D} pen
+ * @param {Projection} view
+ * @param {Float32Array} line
+ */
+function traceInView(pen, view, line) {
+  const { width, height } = view, last = line.length / 3 - 1;
+  view.put(line, last);
+  let lastX = view.x, lastY = view.y;
+  for (let k = 0; k <= last; k++) {
+    view.put(line, k);
+    const { x, y } = view;
+    if (Math.max(x, lastX) >= 0 && Math.min(x, lastX) <= width && Math.max(y, lastY) >= 0 &&
+      Math.min(y, lastY) <= height) {
+      pen.moveTo(lastX, lastY);
+      pen.lineTo(x, y);
+    }
+    [lastX, lastY] = [x, y];
+  }
+}

@@ -1,0 +1,80 @@
+// @ts-check
+// What wants doing: how bad it is, and in words.
+
+import { who } from "./roster.js";
+import { clockWords } from "./clockwords.js";
+import { age, count, timeText } from "./words.js";
+
+/** @typedef {import("./net.js").Thing} Thing */
+/**
+ * A word of news: where it stands, or what it is about; how bad it is; what it says.
+ * @typedef {{ href: string, grade: "alarm" | "bad" | "warn" | "good", text: string,
+ *   pick?: string }} Word
+ */
+
+/**
+ * Who is in need, and who said so before: an emergency first, then by time.
+ * @param {Thing[]} things
+ * @returns {Word[]}
+ */
+export function needsOf(things) {
+  const words = [], weight = (/** @type {Thing} */ it) => it.rows.urgent[it.lastUrgent];
+  const urgent = things.filter(it => it.lastUrgent >= 0);
+  urgent.sort((a, b) => Number(Boolean(b.urgent)) - Number(Boolean(a.urgent)) ||
+    weight(b) - weight(a) || b.last - a.last);
+  for (const it of urgent) {
+    const at = timeText(it.rows.last[it.lastUrgent]), level = weight(it) === 2 ? "emergency" : "priority";
+    /** @type {Word["grade"]} */
+    const grade = !it.urgent ? "warn" : level === "emergency" ? "alarm" : "bad";
+    words.push({ href: "#where", pick: it.key, grade, text: it.urgent
+      ? `${level === "emergency" ? "EMERGENCY" : "priority"}: ${who(it.name)}, ${at}`
+      : `${who(it.name)} said ${level} at ${at}, and no longer does` });
+  }
+  return words;
+}
+/**
+ * Wrong clocks, each in words. A pair that disagrees is said once.
+ * @returns {Word[]}
+ */
+function clocksOff(/** @type {import("./net.js").Receiver[]} */ receivers, /** @type {number} */ gap) {
+  /** @type {Word[]} */
+  const words = [];
+  for (const it of receivers) {
+    if (!it.clock) continue;
+    const clock = clockWords(it, gap);
+    if (Number.isNaN(it.clock.by))
+      for (const one of it.clock.from.filter(({ b }) => it.name < b))
+        words.push({ href: "#ears", grade: "bad", text: `the clocks of ${it.name} and ${one.b} are ` +
+          `${age(Math.abs(one.by))} apart` });
+    else if (clock.wrong)
+      words.push({ href: "#ears", grade: "bad",
+        text: `the clock of ${it.name} is ${clock.text} from the others` });
+  }
+  return words;
+}
+
+/**
+ * All news of a net, what matters most first.
+ * @param {{ things: Thing[], messages: { state: string }[], others: number,
+ *   receivers: import("./net.js").Receiver[] }} net
+ * @param {{ gap: number, silent: number, isSilent: (it: Thing) => boolean, missing: number,
+ *   expected: number }} of the gap in seconds, silence in minutes, who is expected
+ * @returns {Word[]}
+ */
+export function newsOf(net, { gap, silent, isSilent, missing, expected }) {
+  const of = (/** @type {string} */ state) => net.messages.filter(it => it.state === state).length;
+  const unanswered = of("unanswered"), rejected = of("rejected"), open = of("not judged");
+  const quiet = net.things.filter(isSilent).length, words = needsOf(net.things);
+  const unfixed = net.things.filter(it => it.unfixed).length;
+  /** @param {string} href @param {Word["grade"]} grade @param {string} text */
+  const say = (href, grade, text) => words.push({ href, grade, text });
+  say("#said", unanswered ? "bad" : "good", `${count(unanswered, "message")} unanswered`);
+  if (rejected) say("#said", "bad", `${count(rejected, "message")} rejected`);
+  if (open) say("#said", "warn", `${count(open, "message")} can\u2019t be judged`);
+  say("#list", quiet ? "warn" : "good", `${count(quiet, "station")} silent for over ${silent} min`);
+  if (expected) say("#roster", missing ? "bad" : "good", `${missing} of ${expected} expected not heard`);
+  words.push(...clocksOff(net.receivers, gap));
+  if (unfixed) say("#list", "warn", `${count(unfixed, "station")} at 0, 0, which is no fix`);
+  if (net.others) say("#list", "warn", `${count(net.others, "transmission")} of a kind that this page doesn\u2019t know`);
+  return words;
+}

@@ -1,0 +1,10 @@
+// @ts-check
+// The page that reads logs begins with its workers.
+
+import { add, beginReading, eventPage, files, madeNow } from "./drop.js";
+import { beginFollowing, pace } from "./follow.js";
+import { run } from "./workers.js";
+
+beginReading().then(can => can && beginFollowing());
+// for tests
+globalThis.aprsfiles = Object.freeze({ files, made: madeNow, run, eventPage, add, pace });

@@ -1,0 +1,155 @@
+// @ts-check
+// The roster: who is expected, by call, with a name, a group and a number. What tool and page read is
+// the same.
+
+import { printable, said } from "./words.js";
+
+/** @typedef {{ call: string, name: string, group: string, bib: string }} Expected */
+/** @typedef {{ line: number, why: string }} Fault */
+/** @typedef {{ list: Expected[], faults: Fault[] }} Roster */
+
+/** A call, perhaps with an SSID, or with `-*` for each of its SSIDs and none. */
+const CALL = /^[A-Z0-9]{1,6}(?:-(?:[0-9]|1[0-5]|\*))?$/;
+/**
+ * What a column of a roster may be headed, in lower case.
+ * @type {Record<keyof Expected, string[]>}
+ */
+const HEADS = { call: ["call", "callsign", "station"], name: ["name", "tactical", "who"],
+  group: ["group", "team", "class"], bib: ["bib", "number", "no"] };
+/** @type {(keyof Expected)[]} */
+const COLUMNS = ["call", "name", "group", "bib"];
+
+/**
+ * The fields of a line that this sign parts, some in quotes.
+ * @param {string} line
+ * @param {string} sign
+ */
+function fieldsOf(line, sign) {
+  const fields = [];
+  for (let at = 0; at <= line.length;) {
+    while (line[at] === " ") at++;
+    let field = "";
+    if (line[at] === '"') {
+      for (at++; at < line.length; at++) {
+        if (line[at] !== '"') field += line[at];
+        else if (line[at + 1] === '"') field += line[at++];
+        else break;
+      }
+      at++;
+    }
+    const end = line.indexOf(sign, at), stop = end < 0 ? line.length : end;
+    fields.push((field + line.slice(at, stop)).trim());
+    at = stop + 1;
+  }
+  return fields;
+}
+/**
+ * A line in fields: by the sign after its first word, or else the word and the rest.
+ * @param {string} line
+ */
+function splitLine(line) {
+  const sign = /^\s*(?:"[^"]*"|[^\s",;]+)[ ]*([,;\t])/.exec(line)?.[1];
+  if (sign) return fieldsOf(line, sign);
+  const [, call, name] = /^\s*"?([^\s"]+)"?\s*(.*)$/.exec(line) || [];
+  return [call || "", fieldsOf(name || "", "\0")[0]];
+}
+/**
+ * The places of the columns, where a line is a head.
+ * @param {string[]} fields
+ */
+function headOf(fields) {
+  const names = fields.map(it => it.toLowerCase());
+  if (!names.some(it => HEADS.call.includes(it))) return null;
+  return COLUMNS.map(column => names.findIndex(it => HEADS[column].includes(it)));
+}
+/**
+ * Reads a roster: lines of call, name, group and number.
+ * @param {string} text @returns {Roster}
+ */
+export function readRoster(text) {
+  /** @type {Expected[]} */
+  const list = [];
+  /** @type {Fault[]} */
+  const faults = [];
+  let places = [0, 1, 2, 3], isFirst = true;
+  for (const [n, line] of text.replace(/^\ufeff/, "").split(/\r\n|\n|\r/).entries()) {
+    if (!line.trim() || line.trim().startsWith("#")) continue;
+    const fields = splitLine(line), head = isFirst ? headOf(fields) : null;
+    isFirst = false;
+    if (head) {
+      places = head;
+      continue;
+    }
+    const [call, name, group, bib] = places.map(at => fields[at] ?? "");
+    const upper = call.toUpperCase().replace(/-0$/, "");
+    const fault = (/** @type {string} */ why) => faults.push({ line: n + 1, why });
+    if (!CALL.test(upper)) fault(`${call || "nothing"} is no call`);
+    else if (list.some(it => it.call === upper)) fault(`${upper} stands there twice`);
+    else list.push({ call: upper, name, group, bib });
+  }
+  return { list, faults };
+}
+/**
+ * Several rosters as one; of a call that stands in several, the first line counts.
+ * @param {Roster[]} all
+ */
+export function joined(all) {
+  const calls = new Set();
+  return all.flatMap(it => it.list).filter(({ call }) => {
+    const isNew = !calls.has(call);
+    calls.add(call);
+    return isNew;
+  });
+}
+const baseOf = (/** @type {string} */ call) => call.replace(/-\d+$/, "");
+
+/** Whom one knows: names by call. */
+export class Names {
+  /** @param {Expected[]} list */
+  constructor(list) {
+    this.by = new Map(list.map(it => [it.call, it]));
+  }
+  /**
+   * The line of a station: its own, or that of each of its SSIDs.
+   * @param {string} call
+   */
+  of(call) {
+    return this.by.get(call) || this.by.get(`${baseOf(call)}-*`);
+  }
+  /**
+   * A call as it is shown, with the name of whom it is: `Leader (Q1RUN-7)`.
+   * @param {string} call
+   */
+  shown(call) {
+    const name = this.of(call)?.name, own = said(call);
+    return name ? `${printable(name)} (${own})` : own;
+  }
+}
+/**
+ * When each expected station was last heard.
+ * @param {Expected[]} list @param {{ name: string, kind: string, last: number }[]} things
+ */
+export function expectedOf(list, things) {
+  const last = new Map();
+  for (const it of things) {
+    if (it.kind !== "station") continue;
+    for (const call of [it.name, `${baseOf(it.name)}-*`])
+      last.set(call, Math.max(last.get(call) ?? -Infinity, it.last));
+  }
+  return list.map(it => ({ ...it, last: last.get(it.call) ?? -Infinity }));
+}
+
+// who is known to this page
+let known = new Names([]);
+/**
+ * From now on these are known.
+ * @param {Expected[]} list
+ */
+export function know(list) {
+  known = new Names(list);
+}
+/**
+ * A station as it is shown everywhere: with its name, where the roster has one.
+ * @param {string} call
+ */
+export const who = call => known.shown(call);

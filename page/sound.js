@@ -1,0 +1,41 @@
+// @ts-check
+// A sound for who is in need, which the reader switches on.
+
+/** @type {AudioContext | null} */
+let context = null;
+/** Three short tones. */
+export function ring() {
+  context ||= new AudioContext();
+  const begin = context.currentTime;
+  for (const k of [0, 1, 2]) {
+    const tone = context.createOscillator(), volume = context.createGain();
+    tone.frequency.value = 880;
+    volume.gain.value = 0.2;
+    tone.connect(volume).connect(context.destination);
+    tone.start(begin + 0.3 * k);
+    tone.stop(begin + 0.3 * k + 0.2);
+  }
+}
+/** Rings for what wasn't there before: who is in need, by key and by what was said when. */
+export class Alarm {
+  constructor(play = ring) {
+    this.play = play;
+    this.isOn = false;
+    /** @type {Set<string> | null} */
+    this.known = null;
+  }
+  /** @param {string[]} needs */
+  hear(needs) {
+    const fresh = needs.filter(it => !this.known?.has(it));
+    this.known = new Set(needs);
+    if (fresh.length && this.isOn) this.play();
+  }
+  /**
+   * Switches it on or off; on, it is heard once, so that one knows it works.
+   * @param {boolean} on
+   */
+  turn(on, isHeard = true) {
+    this.isOn = on;
+    if (on && isHeard) this.play();
+  }
+}

@@ -1,0 +1,96 @@
+// @ts-check
+// Workers, each with the module: a run is given to one that is free.
+
+/**
+ * What a run gives: its status, which input and line it refused and why, and what it wrote; of a
+ * table its text, and of the rows of one their columns.
+ * @typedef {{ status: number, input: number, line: number, fault: string, bytes: Uint8Array,
+ *   text?: string, read?: import("./reading.js").Read }} Got
+ */
+/** @typedef {{ it: Worker, busy: number }} Hand */
+
+/** @type {Hand[]} */
+const hands = [];
+/** @type {Map<number, [(value: any) => void, (fault: Error) => void]>} */
+const asked = new Map();
+/** @type {(() => void)[]} */
+const queue = [];
+let last = 0;
+/** So many bytes are copied without a pause. */
+const PIECE = 2 ** 23;
+export const aMoment = () => new Promise(done => setTimeout(done));
+
+/** @param {string} script @param {(fault: string) => void} onStop */
+function addWorker(script, onStop) {
+  const url = URL.createObjectURL(new Blob([script], { type: "text/javascript" }));
+  const hand = { it: new Worker(url), busy: 1 };
+  hand.it.onmessage = ({ data: [id, value, fault] }) => {
+    const [done, fail] = asked.get(id) || [() => {}, () => {}];
+    asked.delete(id);
+    hand.busy--;
+    if (fault) fail(new Error(fault));
+    else done(value);
+    queue.shift()?.();
+  };
+  hand.it.onerror = event => onStop(event.message);
+  hands.push(hand);
+  return hand;
+}
+/**
+ * Asks a worker, which is busy already.
+ * @param {Hand} hand
+ * @param {string} what
+ * @param {any} given
+ * @param {ArrayBuffer[]} buffers
+ */
+function ask(hand, what, given, buffers = []) {
+  return new Promise((done, fail) => {
+    asked.set(++last, [done, fail]);
+    hand.it.postMessage([last, what, given], buffers);
+  });
+}
+/**
+ * Makes workers that run this module.
+ * @param {string} script
+ * @param {WebAssembly.Module} module
+ * @param {(fault: string) => void} onStop
+ */
+export async function beginWorkers(script, module, onStop) {
+  const many = Math.max(2, Math.min(3, navigator.hardwareConcurrency || 2));
+  await Promise.all(Array.from({ length: many }, () =>
+    ask(addWorker(script, onStop), "load", module)));
+}
+/**
+ * Copies, with a pause after some of them, so that the page doesn't stand still for large ones.
+ * @param {Uint8Array[]} inputs
+ */
+async function copiesOf(inputs) {
+  const copies = inputs.map(it => new Uint8Array(it.length));
+  let left = PIECE;
+  for (const [k, it] of inputs.entries())
+    for (let at = 0; at < it.length; at += PIECE) {
+      if (left <= 0) {
+        await aMoment();
+        left = PIECE;
+      }
+      const part = it.subarray(at, at + PIECE);
+      copies[k].set(part, at);
+      left -= part.length;
+    }
+  return copies;
+}
+/**
+ * A run of the module over inputs: a command of the program, or `rows` or `messages`, which gives a
+ * table.
+ * @param {string} command @param {number | string[]} options @param {Uint8Array[]} inputs
+ * @returns {Promise<Got>}
+ */
+export async function run(command, options, inputs) {
+  let free;
+  while (!(free = hands.find(it => !it.busy)))
+    await new Promise(done => queue.push(() => done(null)));
+  free.busy++;
+  // a copy that is handed over takes less time than what a browser copies itself
+  const copies = await copiesOf(inputs), buffers = copies.map(it => it.buffer);
+  return ask(free, "run", { command, options, inputs: copies }, buffers);
+}

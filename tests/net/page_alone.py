@@ -1,0 +1,355 @@
+#!/usr/bin/env python3
+"""Tries what the page that reads logs does by itself, in headless Chromium: what files are, damaged
+lines, Windows' spellings, folders, logs that are followed. The module is a stand-in.
+
+usage: page_alone.py [PICTURES]    needs Python 3 and chromium; PICTURES is a folder for pictures
+"""
+import http.server
+import json
+import pathlib
+import sys
+import tempfile
+import threading
+import time
+
+import browser
+import hostile
+from by_hand import together
+from serving import Server
+
+HERE = pathlib.Path(__file__).resolve().parent
+PICTURES = sys.argv[1] if len(sys.argv) > 1 else None
+TOLD = ("Object.fromEntries([...document.querySelectorAll('#files tbody tr')].map(it => "
+        "[it.cells[0].textContent, it.querySelector('.verdict').textContent]))")
+MORE = ("Object.fromEntries([...document.querySelectorAll('#files tbody tr')].map(it => "
+        "[it.cells[0].textContent, it.querySelector('.more').textContent]))")
+MADE = "aprsfiles.made() !== null"
+ROWS = "aprsbook.page.all.rows.length"
+EMPTY_MODULE = b"\0asm\1\0\0\0"
+
+
+def is_(got, wanted):
+    assert got == wanted, f"{got!r} is not {wanted!r}"
+
+
+def page_text():
+    """The page with the stand-in in place of the module and its host."""
+    own = together.read
+
+    def read(name):
+        return (HERE / "stand_in.js").read_text() if name == "host.js" else own(name)
+
+    together.read = read
+    try:
+        return together.whole(EMPTY_MODULE)
+    finally:
+        together.read = own
+
+
+def line(second, source, text, receiver="RX1"):
+    frame = hostile.address("APRS", 0xE0) + hostile.address(source, 0x60, 1) + b"\x03\xf0"
+    clock = f"2024-06-21T{18 + second // 3600:02}:{second // 60 % 60:02}:{second % 60:02}Z"
+    return hostile.line(clock, receiver, frame + text.encode())
+
+
+def place(second, source, minutes=30.0, receiver="RX1", text=""):
+    return line(second, source, f"!54{minutes:05.2f}N/00330.00W>{text}", receiver)
+
+
+def log(count, receiver="RX1"):
+    return "".join(place(100 * k, f"Q1A-{k % 15 + 1}", 30 + k % 20, receiver, f"no. {k}")
+                   for k in range(count))
+
+
+def fresh(page, folder, url=None):
+    path = folder / "page.html"
+    path.write_text(page_text(), encoding="utf-8")
+    page.open(url or path.as_uri(), 1280, 1100)
+    page.wait("!document.getElementById('choose').disabled")
+
+
+def give(page, folder, files):
+    for name, text in files.items():
+        (folder / name).write_bytes(text if isinstance(text, bytes) else text.encode())
+    page.give("#choose", *[folder / name for name in files])
+    page.wait(f"aprsfiles.files.length >= {len(files)} || told.textContent !== ''")
+    page.wait("document.getElementById('progress').hidden")
+
+
+def test_damaged(page, folder):
+    """All damaged lines are shown, and left out at a click; the rest is read."""
+    lines = log(20).splitlines(True)
+    lines[3] = lines[3].replace("c000", "c0zz", 1)
+    lines[10] = "torn by a power cut\n"
+    lines[12] = lines[12].replace(" RX1 ", " R!1 ")
+    fresh(page, folder)
+    give(page, folder, {"hill.log": "".join(lines)[:-9]})
+    is_(page.js(TOLD)["hill.log"], "line 4: Hex")
+    more = page.js(MORE)["hill.log"]
+    for word in ("hexadecimal", "4 damaged lines", "line 11: Moment: torn by a power cut",
+                 "line 13: Receiver", "line 20: NoNewline", "leave out these 4 lines"):
+        assert word in more, (word, more)
+    picture(page, "damaged")
+    page.js("document.querySelector('#files .leave').click()")
+    page.wait(f"{MADE} && {ROWS} === 16")
+    is_(page.js(TOLD)["hill.log"], "heard 16 passed 0")
+    assert "4 lines left out" in page.js(MORE)["hill.log"]
+    is_(page.js("aprsbook.page.data.notes"), ["hill.log: 4 damaged lines left out"])
+    is_(page.problems(), [])
+
+
+def test_strangers(page, folder):
+    """What is no log is named as what it is, and no more of it is read than its beginning."""
+    fresh(page, folder)
+    give(page, folder, {"photo.log": b"\x89PNG\r\n\x1a\n" + bytes(2000), "zeros.log": bytes(3 << 20),
+                        "words.log": "so much is written here\n" * 9000, "a.log": log(3)})
+    page.wait(MADE)
+    told = page.js(TOLD)
+    is_(told["photo.log"], "is a picture, which no log is")
+    is_([told["zeros.log"], told["words.log"]], ["is no log", "is no log"])
+    is_(page.js("aprsfiles.files.map(it => [it.name, it.bytes.length]).sort()")[1:],
+        [["photo.log", 0], ["words.log", 0], ["zeros.log", 0]])
+    is_(len(page.js("aprsbook.page.data.notes")), 3)
+
+
+def test_windows(page, folder):
+    """Logs as Windows writes them are read, and that is said."""
+    text = log(5).replace("\n", "\r\n")
+    fresh(page, folder)
+    give(page, folder, {"crlf.log": text, "mark.log": b"\xef\xbb\xbf" + text.encode(),
+                        "wide.log": b"\xff\xfe" + text.encode("utf-16-le"), "plain.log": log(5)})
+    page.wait(MADE)
+    is_(set(page.js(TOLD).values()), {"heard 5 passed 0"})
+    more = page.js(MORE)
+    is_(more, {"crlf.log": "as Windows writes it: CR LF", "plain.log": "",
+               "mark.log": "as Windows writes it: a byte order mark, CR LF",
+               "wide.log": "as Windows writes it: UTF-16, CR LF"})
+    is_(page.js(ROWS), 5)
+
+
+def test_names(page, folder):
+    """No name turns what stands beside it."""
+    name = "log\u202egnp.log"
+    fresh(page, folder)
+    give(page, folder, {name: log(2)})
+    is_(page.js("document.querySelector('#files th[scope=row]').textContent"),
+        "log\\xe2\\x80\\xaegnp.log")
+
+
+def drop(page, *paths):
+    data = {"items": [], "files": list(map(str, paths)), "dragOperationsMask": 1}
+    for kind in "dragEnter", "dragOver", "drop":
+        page.call("Input.dispatchDragEvent", type=kind, x=300, y=130, data=data)
+
+
+def test_folders(page, folder):
+    """Files in dropped folders are read, and squares of a web map are drawn below all else."""
+    (folder / "logs/day").mkdir(parents=True)
+    (folder / "logs/a.log").write_text(log(3))
+    (folder / "logs/day/b.log").write_text(log(4, "RX2"))
+    for x in range(2002, 2012):
+        (folder / f"tiles/12/{x}").mkdir(parents=True)
+        for y in range(1280, 1320):
+            (folder / f"tiles/12/{x}/{y}.png").write_bytes(SQUARE)
+    # a browser lets no page on a disk read a folder that is dropped
+    fresh(page, folder)
+    for _ in range(2):
+        drop(page, folder / "logs")
+        page.wait("document.getElementById('progress').hidden && aprsfiles.files.length === 1")
+        time.sleep(0.2)
+    is_(page.js(TOLD), {"logs": "drop the files in it, or choose it as a folder"})
+    page.give("#choose-folder", folder / "logs")
+    page.wait(f"{MADE} && aprsfiles.files.length === 3")
+    with Server(folder) as server:
+        fresh(page, folder, f"http://127.0.0.1:{server.port}/page.html")
+        drop(page, folder / "logs")
+        page.wait(f"{MADE} && aprsfiles.files.length === 2")
+        is_(sorted(page.js(TOLD)), ["a.log", "b.log"])
+        drop(page, folder / "tiles")
+        page.wait("aprsbook.page.map.tiles.size === 400")
+        squares(page)
+
+
+def squares(page):
+    """A red square lies below the middle of the map."""
+    page.js("(aprsbook.page.map.look('54.65,-3.5,20'), aprsbook.page.map.paint())")
+    page.wait("[...aprsbook.page.map.tiles.made.values()].some(Boolean)")
+    page.settle()
+    is_(page.js("(() => { const { map } = aprsbook.page, { width, height } = map.canvas; map.paint(); "
+                "return [...map.pen.getImageData(width / 3, height / 3, 1, 1).data.slice(0, 3)] })()"),
+        [200, 30, 30])
+    assert "400 squares" in page.js("document.getElementById('own-map').textContent")
+    picture(page, "tiles")
+
+
+def test_turns(page, folder):
+    """What an older turn has to say of its progress isn't said once another has come."""
+    fresh(page, folder)
+    slow = place(0, "Q1A", 30, "SLOW900")
+    give_slow = {"slow.log": slow, "a.log": log(3)}
+    for name, text in give_slow.items():
+        (folder / name).write_text(text)
+    page.give("#choose", *[folder / name for name in give_slow])
+    page.wait("document.getElementById('status').textContent.startsWith('merging')")
+    page.js("[...document.querySelectorAll('#files button')].at(-1).click()")
+    page.wait(f"{MADE} && aprsfiles.files.length === 1")
+    time.sleep(1.5)
+    is_(page.js("document.getElementById('progress').hidden"), True)
+    assert "merging" not in page.js("document.getElementById('status').textContent")
+
+
+def test_brought(page, folder):
+    """A roster of a spreadsheet and a KML beside a log; faults of the roster have their lines."""
+    kml = ("<?xml version='1.0'?><kml xmlns='http://www.opengis.net/kml/2.2'><Document><Placemark>"
+           "<name>pier</name><Point><coordinates>-3.5,54.5,0</coordinates></Point></Placemark>"
+           "<Placemark><LineString><coordinates>-3.5,54.5 -3.4,54.6</coordinates></LineString>"
+           "</Placemark></Document></kml>")
+    fresh(page, folder)
+    give(page, folder, {"a.log": log(3), "course.kml": kml,
+                        "who.csv": "\ufeffnumber;callsign;name\r\n1;Q1A-2;\"The; leader\"\r\n2;not a call;x\r\n"})
+    page.wait(MADE)
+    told = page.js("told.textContent")
+    assert "course.kml: a map" in told and "who.csv: 1 call, line 3: not a call is no call" in told, told
+    is_(page.js("aprsbook.page.bases.map(it => [it.lines.length, it.points.map(one => one.name)])"),
+        [[1, ["pier"]]])
+    page.wait("[...document.querySelectorAll('#things th bdi')].some(it => "
+              "it.textContent === 'The; leader (Q1A-2)')")
+
+
+def test_clock(page, folder):
+    """A clock that is off is put right, which is said and saved, and left as it was."""
+    fresh(page, folder)
+    late = "".join(place(100 * k + 3600, f"Q1A-{k % 15 + 1}", 30 + k % 20, "COAST", f"no. {k}")
+                   for k in range(9))
+    give(page, folder, {"a.log": log(9, "RX1"), "b.log": log(9, "RX2"), "coast.log": late})
+    page.wait(f"{MADE} && document.querySelectorAll('#receivers tr').length === 4")
+    is_(page.js(ROWS), 18)
+    page.js("document.querySelector('#receivers button.clock').click()")
+    page.wait(f"{MADE} && {ROWS} === 9")
+    is_(page.js("aprsbook.page.data.notes"), ["the clock of COAST was put 60 min back here"])
+    page.wait("document.querySelector('#receivers .clock')?.textContent === 'leave as it was'")
+    assert "put 60 min back here" in page.js(MORE)["coast.log"]
+    page.saves_in(folder)
+    page.js("document.querySelector('#files .moved').click()")
+    path = folder / "coast.put-right.log"
+    for _ in range(100):
+        if path.exists() and path.read_text().startswith("2024-06-21T18:00:00.000Z COAST"):
+            break
+        time.sleep(0.05)
+    else:
+        raise AssertionError("the log that is put right isn't saved")
+    page.js("document.querySelector('#receivers .clock').click()")
+    page.wait(f"{MADE} && {ROWS} === 18")
+    is_(page.js("aprsbook.page.data.notes"), [])
+
+
+FOLLOW = "(document.getElementById('follow').dispatchEvent(new Event('change')), 1)"
+
+
+class Hanging(http.server.ThreadingHTTPServer):
+    """A server that never answers for some paths, and with another status for others."""
+    daemon_threads = True
+
+
+def serve(folder, hang, fail):
+    class Handler(http.server.SimpleHTTPRequestHandler):
+        def __init__(self, *of):
+            super().__init__(*of, directory=str(folder))
+
+        def log_message(self, *_):
+            pass
+
+        def send_head(self):
+            name = self.path.rpartition("/")[2]
+            if name in hang:
+                time.sleep(8)
+            if name in fail:
+                self.send_error(fail[name])
+                return None
+            return super().send_head()
+
+    server = Hanging(("127.0.0.1", 0), Handler)
+    threading.Thread(target=server.serve_forever, daemon=True).start()
+    return server
+
+
+def follow_until(page, condition):
+    """Asks for all logs, again and again, until something holds."""
+    for _ in range(30):
+        page.js(FOLLOW)
+        try:
+            return page.wait(condition, 3)
+        except AssertionError:
+            pass
+    raise AssertionError("never came true: " + condition)
+
+
+def test_followed(page, folder):
+    """Each log by itself: one that hangs, fails, is damaged or is taken off the list is said, and
+    what was read of it stays."""
+    hang, fail = set(), {}
+    server = serve(folder, hang, fail)
+    names = ["a.log", "b.log", "c.log", "d.log"]
+    for k, name in enumerate(names):
+        (folder / name).write_text(log(5 + k, f"RX{k}"))
+    (folder / "logs.txt").write_text("\n".join(names))
+    fresh(page, folder, f"http://127.0.0.1:{server.server_port}/page.html")
+    page.js("(aprsfiles.pace.limit = 2000, 1)")
+    page.js("(() => { const it = document.getElementById('follow'); it.value = 'logs.txt'; "
+            "it.dispatchEvent(new Event('change')) })()")
+    follow_until(page, f"{MADE} && {ROWS} === 8")
+    hang.add("a.log")
+    fail["b.log"] = 500
+    # a bad line amid good ones, of a log that grows
+    (folder / "c.log").write_text(log(7, "RX2") + "torn\n" + place(5000, "Q1NEW", receiver="RX2"))
+    (folder / "logs.txt").write_text("\n".join(names[:3]))
+    follow_until(page, f"{MADE} && {ROWS} === 9")
+    follow_until(page, f"{MORE}['a.log'].startsWith('no answer within 2 s, since 20')")
+    more = page.js(MORE)
+    assert more["b.log"].startswith("the server answers 500, since 20"), more
+    assert "1 line left out" in more["c.log"], more
+    is_(more["d.log"], "no longer on the list; what was read of it stays")
+    is_(sorted(page.js("aprsbook.page.net.receivers.map(it => it.name)")), ["RX0", "RX1", "RX2", "RX3"])
+    fail["logs.txt"] = 503
+    follow_until(page, "stale.textContent.startsWith('logs.txt: the server answers 503, since 20')")
+    hang.clear()
+    fail.clear()
+    follow_until(page, f"{MORE}['a.log'] === '' && stale.textContent.indexOf('503') < 0")
+    server.shutdown()
+    server.server_close()
+
+
+def picture(page, name):
+    if PICTURES:
+        page.picture(f"{PICTURES}/{name}.png")
+
+
+def square():
+    """A red picture of 256 by 256."""
+    import struct
+    import zlib
+
+    def part(kind, data):
+        return (struct.pack(">I", len(data)) + kind + data +
+                struct.pack(">I", zlib.crc32(kind + data)))
+
+    rows = (b"\0" + bytes([200, 30, 30]) * 256) * 256
+    return (b"\x89PNG\r\n\x1a\n" + part(b"IHDR", struct.pack(">IIBBBBB", 256, 256, 8, 2, 0, 0, 0)) +
+            part(b"IDAT", zlib.compress(rows)) + part(b"IEND", b""))
+
+
+SQUARE = square()
+TESTS = (test_damaged, test_strangers, test_windows, test_names, test_folders, test_turns,
+         test_brought, test_clock, test_followed)
+
+if __name__ == "__main__":
+    page = browser.Browser()
+    try:
+        for test in TESTS:
+            with tempfile.TemporaryDirectory() as name:
+                test(page, pathlib.Path(name))
+                print(test.__name__, flush=True)
+    finally:
+        page.close()
+    print("the page that reads logs, by itself: what files are, damaged lines, Windows, folders, "
+          "logs that are followed")

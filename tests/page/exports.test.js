@@ -1,0 +1,52 @@
+import assert from "node:assert/strict";
+import { test } from "node:test";
+import { savedText } from "../../page/exports.js";
+import { cut, letterOf, printable, said } from "../../page/words.js";
+import { message, moment, netOfLines, place, row } from "./tables.js";
+
+test("places: a row for each, with what the table says, and no formula", () => {
+  const net = netOfLines([place(0, "Q1A", 49.0583333, -72.0291667, { course: 88, speed_knots: 36,
+    altitude_m: "376.1232", text: "=1+1", receivers: "RX1,RX2" }),
+  place(1, "Q1C", 1, 2, { compressed: "yes", ambiguity: "", text: "-1.5" })]);
+  assert.deepEqual(savedText("places (CSV)", net).split("\n"), [
+    "kind,name,state,first,last,receivers,source,lat,lon,ambiguity,symbol,course,speed_knots," +
+      "altitude_m,comment",
+    `station,Q1A,live,${moment(0)},${moment(0)},RX1 RX2,Q1A,49.0583333,-72.0291667,0,/>,88,36,` +
+      "376.1232,'=1+1",
+    `station,Q1C,live,${moment(1)},${moment(1)},RX1,Q1C,1,2,c,/>,,,,-1.5`, ""]);
+});
+test("messages: in the table's states, bulletins too", () => {
+  const net = netOfLines([], [message("Q1A", "Q1B", "hi", "acknowledged", 5, { id: "7" }),
+    message("Q1A", "BLN1", "' =2", "unnumbered", 4)]);
+  assert.deepEqual(savedText("messages (CSV)", net).split("\n"), ["time,from,number,to,message,state",
+    `${moment(4)},Q1A,,BLN1,'' =2,unnumbered`, `${moment(5)},Q1A,7,Q1B,hi,acknowledged`, ""]);
+});
+test("a track over the date line is cut there", () => {
+  const net = netOfLines([place(0, "Q1A", 0, 179.5), place(9, "Q1A", 0, -179.5)]);
+  const geojson = savedText("places and tracks (GeoJSON)", net);
+  assert.deepEqual(JSON.parse(geojson).features.at(-1).geometry.coordinates,
+    [[[179.5, 0], [180, 0]], [[-180, 0], [-179.5, 0]]]);
+});
+test("GeoJSON is one collection, of nothing too", () => {
+  for (const lines of [[], [place(0, "Q1A", 1, 2)]]) {
+    const it = JSON.parse(savedText("places and tracks (GeoJSON)", netOfLines(lines)));
+    assert.deepEqual([it.type, it.features.length], ["FeatureCollection", lines.length]);
+  }
+});
+test("a killed object ends a track's segment", () => {
+  const of = (second, state, east) => row("object", second, "Q1A", { name: "X", state, latitude: "1",
+    longitude: String(east), symbol: "/E" });
+  const net = netOfLines([of(0, "live", 1), of(1, "killed", 2), of(2, "live", 3), of(3, "live", 4)]);
+  const gpx = savedText("places and tracks (GPX)", net, { title: "x" });
+  assert.equal(gpx.split("<trkseg>").length - 1, 2);
+});
+test("texts off the air: UTF-8, else Latin-1, and what can't be printed as it is shown", () => {
+  assert.equal(said("caf\\xc3\\xa9"), "caf\u00e9");
+  assert.equal(said("caf\\xe9"), "caf\u00e9");
+  assert.equal(said("a\\x5cb"), "a\\b");
+  assert.equal(said("a\\\\b"), "a\\b");
+  assert.equal(said("\\xe2\\x80\\xaegnp"), "\\xe2\\x80\\xaegnp");
+  assert.equal(printable("a\u202eb c"), "a\\xe2\\x80\\xaeb c");
+  assert.equal(letterOf("\\x5c#"), "\\x5c");
+  assert.deepEqual(cut("a b c d", 2), ["a", "b", "c d"]);
+});

@@ -1,0 +1,66 @@
+import assert from "node:assert/strict";
+import { test } from "node:test";
+import { damagedLines, kindOf, READ, spelled, without } from "../../page/kinds.js";
+import { movedIn, shifted } from "../../page/shift.js";
+
+const bytesOf = text => Uint8Array.from(text, it => it.charCodeAt(0));
+const textOf = bytes => String.fromCharCode(...bytes);
+const LINE = "2024-06-21T18:00:00Z RX1 c000aac0\n";
+
+test("what is nothing of a net is named as what it is", () => {
+  const kinds = { "\x89PNG\r\n\x1a\n": "a picture", "\xff\xd8\xff\xe0": "a picture",
+    "%PDF-1.7": "a PDF", "PK\x03\x04": "an archive (ZIP)", "<!DOCTYPE html>": "a web page",
+    "<svg xmlns=''>": "a picture", "SQLite format 3\0": "a database (SQLite)" };
+  for (const [begin, kind] of Object.entries(kinds)) {
+    assert.equal(kindOf(bytesOf(begin), "x.log"), kind);
+    assert.equal(READ.includes(kind), false);
+  }
+});
+test("books, captures, maps, rosters and logs are known", () => {
+  const cases = [["APRSBOOK 3", "x", "book"], ["", "net.book", "book"], ["\xc0\0", "x", "KISS stream"],
+    ["<?xml version='1.0'?><kml>", "x.kml", "map"], ["<gpx >", "x", "map"], ["{", "x", "map"],
+    ["\xef\xbb\xbfcall,name\n", "x.csv", "roster"], ["# a\nQ1A-* x\n", "x.txt", "roster"],
+    [LINE, "x.txt", "log"], ["", "x.log", "log"], ["Q1A x", "x.log", "log"]];
+  for (const [text, name, kind] of cases) assert.equal(kindOf(bytesOf(text), name), kind, text);
+});
+test("Windows' spellings are read and named", () => {
+  const windows = LINE.replace("\n", "\r\n").repeat(2), plain = LINE.repeat(2);
+  const utf16 = order => bytesOf((order ? "\xfe\xff" : "\xff\xfe") +
+    [...windows].map(it => order ? "\0" + it : it + "\0").join(""));
+  assert.deepEqual(spelled(bytesOf(plain)), { bytes: bytesOf(plain), spelling: [] });
+  for (const [bytes, spelling] of [[bytesOf(windows), ["CR LF"]],
+    [bytesOf("\xef\xbb\xbf" + windows), ["a byte order mark", "CR LF"]],
+    [utf16(false), ["UTF-16", "CR LF"]], [utf16(true), ["UTF-16", "CR LF"]]]) {
+    const got = spelled(bytes);
+    assert.equal(textOf(got.bytes), plain);
+    assert.deepEqual(got.spelling, spelling);
+  }
+  // a CR that ends no line stays
+  assert.equal(textOf(spelled(bytesOf("a\rb\r\n")).bytes), "a\rb\n");
+});
+/** Refuses each line with an x, as a check does: the first alone. */
+async function check(bytes) {
+  const at = textOf(bytes).split("\n").findIndex(it => it.includes("x"));
+  return at < 0 ? null : { line: at + 1, why: "Hex" };
+}
+test("all lines that are refused are found, and the rest is left", async () => {
+  const bytes = bytesOf("a\nx1\nb\nx2\nx3\nc\n");
+  const damage = await damagedLines(bytes, check);
+  assert.deepEqual(damage.map(it => it.line), [2, 4, 5]);
+  assert.equal(textOf(without(bytes, damage)), "a\nb\nc\n");
+  assert.equal(textOf(without(bytes, [])), "a\nx1\nb\nx2\nx3\nc\n");
+  assert.equal(await damagedLines(bytesOf("x\n".repeat(200)), check), null);
+  assert.equal(await damagedLines(bytes, async () => ({ line: 1, why: "Memory" })), null);
+});
+
+test("the moments of one receiver are moved, in each spelling and over midnight", () => {
+  const log = "2024-06-21T23:59:50Z RX1 c0\n2024-06-21T23:59:50.250Z RX1 c0\n" +
+    "2024-06-21T23:59:50Z RX2 c0\n";
+  const moved = textOf(shifted(bytesOf(log), new Map([["RX1", 20]])));
+  assert.equal(moved, "2024-06-22T00:00:10.000Z RX1 c0\n2024-06-22T00:00:10.250Z RX1 c0\n" +
+    "2024-06-21T23:59:50Z RX2 c0\n");
+  assert.deepEqual(movedIn(bytesOf(log), new Map([["RX1", 1], ["RX", 1]])), ["RX1"]);
+  // what would be before 1970 stays
+  const early = "1970-01-01T00:00:05Z RX1 c0\n";
+  assert.equal(textOf(shifted(bytesOf(early), new Map([["RX1", -6]]))), early);
+});

@@ -1,0 +1,85 @@
+import assert from "node:assert/strict";
+import fs from "node:fs";
+import { test } from "node:test";
+import zlib from "node:zlib";
+import { capOf, distance, locatorOf, Projection, vectorOf } from "../../page/globe.js";
+import { rangeOf } from "../../page/grid.js";
+import { zoomOf } from "../../page/hands.js";
+import { crossings, ringsOf } from "../../page/land.js";
+import { Room, Sides } from "../../page/sides.js";
+import { squareOf } from "../../page/tiles.js";
+
+const line = spots => Float64Array.from(spots.flatMap(([north, east]) => vectorOf(north, east)));
+const wheel = of => zoomOf({ deltaX: 0, deltaY: 0, deltaMode: 0, ctrlKey: false, ...of });
+
+test("a wheel zooms by its size, and not sideways", () => {
+  assert.ok(Math.abs(wheel({ deltaY: -100 }) - 1.2) < 1e-9);
+  assert.ok(Math.abs(wheel({ deltaY: 100 }) * 1.2 - 1) < 1e-9);
+  // thirty small steps of a trackpad are as one of their sum
+  assert.ok(Math.abs(wheel({ deltaY: -4 }) ** 30 - wheel({ deltaY: -120 })) < 1e-9);
+  assert.ok(Math.abs(wheel({ deltaY: -3, deltaMode: 1 }) - 1.2) < 1e-9);
+  assert.equal(wheel({ deltaX: 40, deltaY: 3 }), 1);
+  assert.ok(wheel({ deltaY: -1e9 }) < 2);
+});
+test("the map opens on what is near most, and not on a few places far away", () => {
+  const near = line(Array.from({ length: 40 }, (_, k) => [54.5 + k / 1000, -3.5]));
+  const far = line([[10, 20], [-40, 170]]), isIn = capOf([near, far]);
+  assert.deepEqual([isIn(near, 0), isIn(near, 39), isIn(far, 0), isIn(far, 1)],
+    [true, true, false, false]);
+  const view = Object.assign(new Projection(), { width: 600, height: 400 });
+  view.fit([near, far], isIn);
+  assert.ok(distance(view.centre, vectorOf(54.52, -3.5)) < 1000);
+  assert.ok(6371008.8 / view.scale * 600 < 20000);
+  // a net all over the world stays whole
+  const world = line([[54, -3], [40, -74], [-33, 151], [35, 139], [-23, -43], [64, -22]]);
+  assert.ok([0, 1, 2, 3, 4, 5].every(k => capOf([world])(world, k)));
+});
+test("a view of the whole earth has all of its parallels and meridians", () => {
+  const view = Object.assign(new Projection(), { width: 569, height: 462, scale: 100 });
+  view.look(50, 10);
+  assert.deepEqual(rangeOf(view), { low: -90, high: 90, west: -170, east: 190, wide: true });
+  view.scale = 1e5;
+  assert.equal(rangeOf(view).wide, false);
+});
+test("names stay on their side while the map moves, also above a lone mark", () => {
+  const sides = new Sides(400, 300), name = { width: 60, reach: 10, isWanted: false };
+  const marks = { a: [100, 100], b: [160, 100], c: [165, 112], d: [200, 150], e: [120, 110] };
+  const sidesAt = (x, y) => {
+    const room = new Room(400, 300, { x, y });
+    for (const [left, top] of Object.values(marks))
+      room.take(left + x - 10, top + y - 10, left + x + 10, top + y + 10);
+    for (const [key, [left, top]] of Object.entries(marks))
+      sides.place(key, { x: left + x, y: top + y }, name, room);
+    return Object.fromEntries(sides.by);
+  };
+  const before = sidesAt(0, 0);
+  for (let k = 1; k <= 40; k++) assert.deepEqual(sidesAt(k, k / 2), before);
+  // above is free for a mark with others to its sides and below
+  const room = new Room(400, 300), lone = new Sides(400, 300);
+  room.take(90, 90, 110, 110);
+  for (const [left, top] of [[115, 80], [10, 80]]) room.take(left, top, left + 70, top + 60);
+  assert.deepEqual(lone.place("x", { x: 100, y: 100 }, { ...name, width: 10 }, room),
+    { left: 95, base: 82 });
+});
+test("coasts: what is land, and what isn't", () => {
+  const text = fs.readFileSync(new URL("../../page/coast.txt", import.meta.url), "latin1");
+  const rings = ringsOf(new Uint8Array(zlib.inflateSync(Buffer.from(text, "base64"))));
+  const isLand = (north, east) =>
+    rings.reduce((sum, it) => sum + crossings(it, north, east), 0) % 2 === 1;
+  const land = [[48.8, 2.3], [40, -100], [-25, 135], [-85, 0], [-85, 170], [65, 178], [66, -172],
+    [-10, -60], [55.9, -4]];
+  const sea = [[0, 0], [0, -150], [85, 20], [-50, 0], [54, 3], [54.6, -4], [70, -178.3], [36, 18]];
+  for (const [north, east] of land) assert.equal(isLand(north, east), true, `${north} ${east}`);
+  for (const [north, east] of sea) assert.equal(isLand(north, east), false, `${north} ${east}`);
+});
+test("which square a file of a web map has", () => {
+  assert.deepEqual(squareOf("tiles/12/2007/1300.png"), { z: 12, x: 2007, y: 1300 });
+  assert.deepEqual(squareOf("0/0/0.jpg"), { z: 0, x: 0, y: 0 });
+  for (const it of ["12/4096/0.png", "12/1.png", "a/b/c.png", "1/0/0.txt", "23/0/0.png"])
+    assert.equal(squareOf(it), null, it);
+});
+test("locators of known places", () => {
+  // Munich and Newington (both of the literature on Maidenhead locators)
+  assert.equal(locatorOf(48.14666, 11.60833), "JN58td");
+  assert.equal(locatorOf(41.714775, -72.727260), "FN31pr");
+});

@@ -1,0 +1,87 @@
+import assert from "node:assert/strict";
+import { test } from "node:test";
+import { needsOf, newsOf } from "../../page/news.js";
+import { know } from "../../page/roster.js";
+import { Alarm } from "../../page/sound.js";
+import { message, netOfLines, place, row, thing } from "./tables.js";
+
+const OF = { gap: 30, silent: 30, isSilent: () => false, missing: 0, expected: 0 };
+const micE = (second, source, says) => row("mic-e", second, source,
+  { latitude: "54.5", longitude: "-3.5", symbol: "/j", says });
+
+test("who is in need comes first of all news, an emergency before priority", () => {
+  const net = netOfLines([micE(0, "Q1A", "priority"), micE(1, "Q1B", "emergency"),
+    micE(2, "Q1C", "en-route")], [message("Q1A", "Q1B", "x", "unanswered", 0, { id: 1 })]);
+  const news = newsOf(net, OF);
+  assert.deepEqual(news.slice(0, 3).map(it => [it.grade, it.text]), [
+    ["alarm", "EMERGENCY: Q1B, 18:00:01"], ["bad", "priority: Q1A, 18:00:00"],
+    ["bad", "1 message unanswered"]]);
+  assert.equal(news[0].pick, "station Q1B");
+});
+
+test("an emergency that is over is said, and no longer as one", () => {
+  const net = netOfLines([micE(0, "Q1A", "emergency"), micE(9, "Q1A", "in-service")]);
+  assert.deepEqual(needsOf(net.things).map(it => [it.grade, it.text]),
+    [["warn", "Q1A said emergency at 18:00:00, and no longer does"]]);
+});
+
+test("rejected messages are counted, and kinds that aren't known", () => {
+  const net = netOfLines([row("beacon", 0, "Q1A"), place(0, "Q1Z", 0, 0)],
+    [message("Q1A", "Q1B", "x", "rejected", 0, { id: 1 })]);
+  const texts = newsOf(net, OF).map(it => it.text);
+  assert.ok(texts.includes("1 message rejected"));
+  assert.ok(texts.includes("1 transmission of a kind that this page doesn\u2019t know"));
+  assert.ok(texts.includes("1 station at 0, 0, which is no fix"));
+});
+
+test("the alarm rings for what is new, and only where it is on", () => {
+  let rung = 0;
+  const alarm = new Alarm(() => rung++);
+  alarm.hear(["a"]);
+  assert.equal(rung, 0);
+  alarm.turn(true);
+  assert.equal(rung, 1);
+  alarm.hear(["a"]);
+  assert.equal(rung, 1);
+  alarm.hear(["a", "b"]);
+  alarm.hear(["a", "b"]);
+  assert.equal(rung, 2);
+});
+
+test("two wrong clocks don't hide one another", () => {
+  const lines = [];
+  for (let k = 0; k < 9; k++)
+    for (const [name, ahead] of [["RX1", 0], ["RX2", 0], ["COAST", 7200], ["HILL", -3600]])
+      lines.push(place(200 * k + ahead + (name === "RX2" ? 31 : 0), "Q1A", 54, -3,
+        { receivers: name, text: `no. ${k}` }));
+  const net = netOfLines(lines, [], { gap: 40 });
+  const by = Object.fromEntries(net.receivers.map(it => [it.name, Math.round(it.clock.by)]));
+  assert.ok(Math.abs(by.RX1) <= 40 && Math.abs(by.RX2) <= 40);
+  assert.ok(Math.abs(by.COAST - 7200) <= 40 && Math.abs(by.HILL + 3600) <= 40, JSON.stringify(by));
+  const said = newsOf(net, { ...OF, gap: 40 }).map(it => it.text).filter(it => /clock/.test(it));
+  assert.equal(said.length, 2);
+});
+
+test("where no two clocks agree none is called right", () => {
+  const lines = [];
+  for (let k = 0; k < 5; k++)
+    for (const [name, ahead] of [["A", 0], ["B", 3600], ["C", 10800]])
+      lines.push(place(200 * k + ahead, "Q1A", 54, -3, { receivers: name, text: `no. ${k}` }));
+  const texts = newsOf(netOfLines(lines), OF).map(it => it.text).filter(it => /clock/.test(it));
+  assert.deepEqual(texts, ["the clocks of A and B are 60 min apart",
+    "the clocks of A and C are 3 h apart", "the clocks of B and C are 2 h apart"]);
+});
+
+test("a name of the roster stands wherever a station is in need", () => {
+  know([{ call: "Q1A-*", name: "Leader", group: "", bib: "" }]);
+  const net = netOfLines([micE(0, "Q1A-7", "emergency")]);
+  assert.equal(needsOf(net.things)[0].text, "EMERGENCY: Leader (Q1A-7), 18:00:00");
+  know([]);
+});
+
+test("weather and telemetry without a place are kept for their station", () => {
+  const net = netOfLines([row("weather", 0, "Q1W", { wind_mph: 4 }),
+    row("telemetry", 1, "Q1W", { a1: 199, bits: "01101001" })]);
+  assert.equal(thing(net, "Q1W").lastWeather, 0);
+  assert.equal(thing(net, "Q1W").lastTelemetry, 1);
+});

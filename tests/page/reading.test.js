@@ -1,0 +1,98 @@
+import assert from "node:assert/strict";
+import { test } from "node:test";
+import { tablesOf } from "../../page/history.js";
+import { detailsOf, readMessages } from "../../page/reading.js";
+import { wordsOf } from "../../page/details.js";
+import { COLUMNS, message, moment, netOfLines, place, row, rowsOf, table, thing } from "./tables.js";
+
+test("columns are taken by name, also in another order, with more of them, or fewer", () => {
+  const lines = [place(0, "Q1A", 49.0583333, -72.0291667, { text: "hi" })];
+  const plain = rowsOf(lines);
+  const more = rowsOf(lines.map(it => it.replace("\n", "\tnew\n")), [...COLUMNS, "later"]);
+  const turned = [...COLUMNS].reverse();
+  const reversed = rowsOf(lines.map(it => it.trimEnd().padEnd(0).split("\t").concat(
+    Array(COLUMNS.length).fill("")).slice(0, COLUMNS.length).reverse().join("\t") + "\n"), turned);
+  for (const rows of [plain, more, reversed]) {
+    assert.equal(rows.length, 1);
+    const at = rows.placeOf(0);
+    assert.deepEqual([at.north, at.east, at.comment, at.table, at.code, at.source],
+      [49.0583333, -72.0291667, "hi", "/", ">", "Q1A"]);
+  }
+  const few = ["kind", "first", "last", "source"];
+  const rows = rowsOf([["status", moment(0), moment(1), "Q1A"].join("\t") + "\n"], few);
+  assert.equal(rows.length, 1);
+  assert.equal(rows.hasPlace(0), false);
+});
+
+test("a row of a kind that isn't known is there, as other", () => {
+  const net = netOfLines([row("beacon", 0, "Q1A"), place(1, "Q1A", 54, -3)]);
+  assert.equal(net.rows.length, 2);
+  assert.equal(net.others, 1);
+  assert.equal(thing(net, "Q1A").sent, 2);
+  assert.equal(thing(net, "Q1A").rows.kindOf(0), "beacon");
+});
+
+test("0, 0 is no fix, and a degree beside it is one", () => {
+  const net = netOfLines([place(0, "Q1A", 0, 0), place(1, "Q1B", 0, 1)]);
+  assert.deepEqual(net.placed.map(it => it.name), ["Q1B"]);
+  assert.equal(thing(net, "Q1A").unfixed, 1);
+  assert.equal(thing(net, "Q1A").now, null);
+});
+
+test("what a row says comes from the table's columns and not from its comment", () => {
+  const said = { course: "88", speed_knots: "36", altitude_m: "376.1232", wind_from: "220",
+    wind_mph: "4", gust_mph: "5", temperature_f: "77", humidity: "50", pressure_tenths: "9900",
+    says: "returning" };
+  assert.deepEqual(wordsOf(detailsOf(said)), ["88\u00b0, 67 km/h", "wind from 220\u00b0, 1.8 m/s",
+    "gusts of 2.2 m/s", "25 \u00b0C", "humidity 50 %", "990.0 hPa", "376 m high", "returning"]);
+  assert.deepEqual(wordsOf(detailsOf({ text: "088/036/A=001234" })), []);
+  // empty isn't nought
+  assert.deepEqual(wordsOf(detailsOf({ wind_mph: "", temperature_f: "" })), []);
+  assert.deepEqual(wordsOf(detailsOf({ wind_mph: "0" })), ["calm"]);
+});
+
+test("at one moment the greater receiver decides which place is the last", () => {
+  const here = place(5, "Q1A", 54, -3, { receivers: "RX2" });
+  const there = place(5, "Q1A", 55, -3, { receivers: "RX1" });
+  for (const lines of [[here, there], [there, here]])
+    assert.equal(thing(netOfLines(lines), "Q1A").now.north, 54);
+});
+
+test("the state of a message is the table's, that of a reply-ack too", () => {
+  const columns = "source addressee id text state first last answer answer_source reply_ack".split(" ");
+  const [a, b, c] = readMessages(table([
+    message("Q1A", "Q1B", "help{01}", "unnumbered", 0, { reply_ack: "unanswered" }),
+    message("Q1A", "Q1B", "again{02}", "unnumbered", 0),
+    message("Q1A", "Q1B", "well", "acknowledged", 0, { answer: moment(4), answer_source: "Q1B" })],
+  columns));
+  assert.deepEqual([a.state, b.state, c.state], ["unanswered", "unnumbered", "acknowledged"]);
+  assert.equal(c.answered - c.first, 4);
+  assert.equal(c.answeredBy, "Q1B");
+});
+
+test("a place is found in symbols that are a backslash or a colon", () => {
+  const rows = rowsOf([place(0, "Q1A", 54, -3, { symbol: "\\x5c\\x5c" }),
+    place(0, "Q1B", 54, -3, { symbol: "/:" }), place(0, "Q1C", 54, -3, { symbol: "\\\\n" })]);
+  assert.deepEqual([0, 1, 2].map(k => [rows.placeOf(k).table, rows.placeOf(k).code]),
+    [["\\", "\\"], ["/", ":"], ["\\", "n"]]);
+});
+
+test("of a program without tables, history and listing give the same", () => {
+  const at = moment(0), told = tablesOf([
+    `position ${at} ${at} RX1,RX2 Q1A Q1D* 092345z 294350/6000 -432175/6000 0 />:088/036/A=001234 Hi`,
+    `object ${at} ${at} RX1 Q1A - CP1\\x20SHED killed - 294350/6000 -432175/6000 c \\x5cE:`,
+    `mic-e ${at} ${at} RX1 Q1M - 251 20 emergency - 199560/6000 -747000/6000 0 /j:hello`,
+    `message ${at} ${at} RX1 Q1A - Q1B 7:all: well`, `beacon ${at} ${at} RX1 Q1A - x y`, ""].join("\n"),
+  `station Q1A 1\nmessage Q1A Q1B - unnumbered ${at} ${at}:help{01}\n`);
+  const lines = told.rows.split("\n").slice(1, -1).map(it => it + "\n"), rows = rowsOf(lines);
+  const car = rows.placeOf(0);
+  assert.deepEqual([car.north.toFixed(4), car.course, car.knots, car.metres],
+    ["49.0583", 88, 36, 376.1232]);
+  assert.deepEqual(rows.things, ["station Q1A", "object CP1 SHED", "station Q1M"]);
+  assert.equal(rows.placeOf(1).compressed, true);
+  assert.equal(rows.urgent[2], 2);
+  assert.deepEqual([rows.record(3).name, rows.record(3).id, rows.record(3).text],
+    ["Q1B", "7", "all: well"]);
+  assert.equal(rows.kindOf(4), "beacon");
+  assert.equal(readMessages(told.messages)[0].state, "not judged");
+});

@@ -1,0 +1,38 @@
+import assert from "node:assert/strict";
+import { test } from "node:test";
+import { expectedOf, joined, Names, readRoster } from "../../page/roster.js";
+
+const calls = text => readRoster(text).list.map(it => [it.call, it.name, it.group, it.bib]);
+
+test("a line is a call and a name, or fields with commas, semicolons or tabs", () => {
+  assert.deepEqual(calls("Q1RUN-7 the leader, in red\nq1med;Medic;\"first; aid\";12\n" +
+    "Q1VAN-9\tVan\n\"Q1SEA-8\", \"the \"\"boat\"\"\"\n"), [
+    ["Q1RUN-7", "the leader, in red", "", ""], ["Q1MED", "Medic", "first; aid", "12"],
+    ["Q1VAN-9", "Van", "", ""], ["Q1SEA-8", "the \"boat\"", "", ""]]);
+});
+test("a head names columns in any order, and others are passed over", () => {
+  assert.deepEqual(calls("\ufeff# of the race\r\n\r\nNumber,Phone,Tactical,Callsign\r\n7,555,Leader,q1run-7\r\n"),
+    [["Q1RUN-7", "Leader", "", "7"]]);
+});
+test("what is no call, or stands there twice, is said with its line", () => {
+  const { list, faults } = readRoster("Q1A\n\n# no\nTOOLONGCALL x\nQ1A-0 again\nQ1B-16\nQ1B-15\n");
+  assert.deepEqual(list.map(it => it.call), ["Q1A", "Q1B-15"]);
+  assert.deepEqual(faults.map(it => it.line), [4, 5, 6]);
+});
+test("a call stands for itself alone, and with -* for each of its SSIDs and none", () => {
+  const heard = [{ name: "Q1A-7", kind: "station", last: 5 }, { name: "Q1B", kind: "station", last: 6 }];
+  const last = text => expectedOf(readRoster(text).list, heard).map(it => it.last);
+  assert.deepEqual(last("Q1A\nQ1A-*\nQ1A-7\nQ1B-*\nQ1B\nQ1B-1\n"),
+    [-Infinity, 5, 5, 6, 6, -Infinity]);
+});
+test("a station has the name of its own line before that of its -* line", () => {
+  const names = new Names(readRoster("Q1A-7 Leader\nQ1A-* Runner\nQ1B\n").list);
+  assert.deepEqual(["Q1A-7", "Q1A-8", "Q1A", "Q1B", "Q1C"].map(it => names.shown(it)),
+    ["Leader (Q1A-7)", "Runner (Q1A-8)", "Runner (Q1A)", "Q1B", "Q1C"]);
+  assert.equal(new Names([{ call: "Q1A", name: "x\u202ey", group: "", bib: "" }]).shown("Q1A"),
+    "x\\xe2\\x80\\xaey (Q1A)");
+});
+test("of several rosters the first line of a call counts", () => {
+  assert.deepEqual(joined([readRoster("Q1A one\n"), readRoster("Q1A two\nQ1B\n")]).map(it => it.name),
+    ["one", ""]);
+});

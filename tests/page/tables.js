@@ -1,0 +1,37 @@
+// Tables by hand, for the tests of the page's parts.
+import { atOnce } from "../../page/steps.js";
+import { netOf, rank } from "../../page/net.js";
+import { columnsOf, readMessages, Rows } from "../../page/reading.js";
+
+export const COLUMNS = ("kind first last receivers receiver source destination via gate name state " +
+  "id latitude longitude ambiguity compressed symbol stamp course speed_knots altitude_m wind_from " +
+  "wind_mph gust_mph temperature_f rain_hour rain_day rain_midnight humidity pressure_tenths " +
+  "luminosity telemetry_sequence a1 a2 a3 a4 a5 bits says text").split(" ");
+const MESSAGES = "source addressee id text state first last answer answer_source reply_ack".split(" ");
+
+/** A moment of 21 June 2024, so many seconds after six in the evening. */
+export const moment = seconds => new Date(Date.UTC(2024, 5, 21, 18) + 1000 * seconds).toISOString();
+const lineOf = (columns, fields) => columns.map(it => fields[it] ?? "").join("\t") + "\n";
+
+/** A row of a table, heard at a second by these. */
+export const row = (kind, second, source, { receivers = "RX1", ...fields } = {}) =>
+  lineOf(COLUMNS, { kind, first: moment(second), last: moment(second), receivers,
+    receiver: receivers.split(",").at(-1), source, destination: "APRS", ...fields });
+export const place = (second, source, north, east, fields = {}) => row("position", second, source, {
+  latitude: north.toFixed(7), longitude: east.toFixed(7), ambiguity: 0, compressed: "no",
+  symbol: "/>", ...fields });
+export const message = (source, addressee, text, state, second, fields = {}) => lineOf(MESSAGES,
+  { source, addressee, text, state, first: moment(second), last: moment(second), ...fields });
+
+export const table = (lines, columns = COLUMNS) => columns.join("\t") + "\n" + lines.join("");
+export const rowsOf = (lines, columns) => {
+  const text = table(lines, columns);
+  return new Rows(text, atOnce(columnsOf(text)));
+};
+/** The net of rows and messages. */
+export function netOfLines(lines, messages = [], { since = -Infinity, gap = 30 } = {}) {
+  const rows = rowsOf(lines), read = readMessages(table(messages, MESSAGES));
+  read.forEach(rank);
+  return atOnce(netOf({ rows, messages: read, end: rows.until }, since, gap));
+}
+export const thing = (net, name) => net.things.find(it => it.name === name);

@@ -1,0 +1,56 @@
+"""The table of a book as CSV for a spreadsheet."""
+import argparse
+import dataclasses
+import sys
+from typing import Any, List
+
+from aprsbook_tools import report, table
+from aprsbook_tools.commands import Subparsers
+from aprsbook_tools.spreadsheet import Cell, csv_text
+
+KINDS = {word: kind for kind, word in table.WORDS.items()}
+FIELDS = "fields"
+
+
+def add_parser(subparsers: Subparsers) -> None:
+    parser = subparsers.add_parser(
+        "csv",
+        help="transmissions, messages, stations or things as CSV",
+        description="The table of logs and books as CSV, in which no text off the air is a formula "
+        "to a spreadsheet. `fields` takes lines of fields with tabs between them, as of awk.",
+    )
+    parser.add_argument("table", choices=[*KINDS, FIELDS], help="which table")
+    report.add_arguments(parser)
+
+
+def cell_of(value: Any) -> Cell:
+    """A value of the table as a field."""
+    if isinstance(value, bool):
+        return "yes" if value else "no"
+    cell: Cell = ",".join(value) if isinstance(value, tuple) else value
+    return cell
+
+
+def fields_of(paths: List[str]) -> List[List[Cell]]:
+    """The fields of lines with tabs between them."""
+    texts = [sys.stdin.buffer.read()] if not paths else []
+    for path in paths:
+        with open(path, "rb") as file:
+            texts.append(file.read())
+    lines = b"".join(texts).decode("utf-8", "backslashreplace").split("\n")
+    return [[*line.rstrip("\r").split("\t")] for line in lines if line]
+
+
+def run(args: argparse.Namespace) -> int:
+    if args.table == FIELDS:
+        rows = fields_of(args.inputs)
+    else:
+        kind = KINDS[args.table]
+        names = [it.name for it in dataclasses.fields(kind)]
+        rows = [
+            [cell_of(getattr(it, name)) for name in names]
+            for it in table.of(kind, args.inputs, report.gap_of(args))
+        ]
+        rows.insert(0, [*names])
+    report.put(args, csv_text(rows))
+    return 0

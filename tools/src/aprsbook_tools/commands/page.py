@@ -1,0 +1,99 @@
+"""A page of a net or an event: a map with tracks, messages, who was heard when and by whom."""
+import argparse
+import sys
+from typing import Any, Dict, List, Optional, Sequence
+
+from aprsbook_tools import arguments, merged, page_files, report, text_file, whole
+from aprsbook_tools.commands import Subparsers
+from aprsbook_tools.roster import read_roster
+
+DESCRIPTION = """A page of logs and books in one file that asks for nothing else: open it as it is,
+mail it, or put it on a web server. The same inputs in any order give the same bytes. All that came
+off the air is text in the page, in which no script runs but its own."""
+
+
+def add_options(parser: argparse.ArgumentParser) -> None:
+    """What a page is told, beside its inputs."""
+    count = arguments.whole_number(0, 1_000_000)
+    parser.add_argument("--title", default="APRS net", help="the page's title")
+    parser.add_argument(
+        "--live",
+        type=count,
+        default=0,
+        metavar="SECONDS",
+        help="the page asks for itself again after so many seconds, and ages count to "
+        "now; without it they count to the last moment of the inputs",
+    )
+    parser.add_argument(
+        "--silent",
+        type=count,
+        default=30,
+        metavar="MINUTES",
+        help="a station that wasn't heard for so long is marked (30)",
+    )
+    parser.add_argument(
+        "--course",
+        action="append",
+        default=[],
+        metavar="FILE",
+        help="GPX or GeoJSON, drawn below all else, such as the course of a race",
+    )
+    parser.add_argument(
+        "--roster",
+        metavar="FILE",
+        help="who is expected: a call or a call with -* and a name in each line",
+    )
+    parser.add_argument(
+        "--note",
+        action="append",
+        default=[],
+        metavar="TEXT",
+        help="stands above all else, such as what was left out",
+    )
+
+
+def add_parser(subparsers: Subparsers) -> None:
+    parser = subparsers.add_parser(
+        "page", help="a page of a net or an event", description=DESCRIPTION
+    )
+    add_options(parser)
+    arguments.add_gap(parser)
+    arguments.add_output(parser)
+    arguments.add_inputs(parser)
+
+
+def brought(args: argparse.Namespace) -> Dict[str, Any]:
+    """The files and options of a page. What isn't understood of a roster is a note on the page."""
+    roster = text_file.read(args.roster) if args.roster else ""
+    faults = [f"{args.roster}: {it}" for it in read_roster(roster).faults]
+    for it in faults:
+        print(f"aprs-net: {it}", file=sys.stderr)
+    return {
+        "title": args.title,
+        "live": args.live,
+        "silent": args.silent,
+        "maps": [page_files.read_map(it) for it in args.course],
+        "roster": roster,
+        "notes": [*args.note, *faults],
+    }
+
+
+def page_of(book: str, gap: Optional[int], said: Dict[str, Any], notes: Sequence[str] = ()) -> str:
+    """The page of a book."""
+    data = {**said, "notes": [*said["notes"], *notes], "gap": gap or 30}
+    return page_files.page_of({**data, **page_files.texts_of(book, gap)})
+
+
+def files_of(args: argparse.Namespace) -> List[str]:
+    """The files that a page is made of, beside its inputs."""
+    return whole.all_of(args.roster, args.course)
+
+
+def run(args: argparse.Namespace) -> int:
+    if args.output and args.output != "-":
+        whole.check(args.output, [*args.inputs, *files_of(args)])
+    said, gap = brought(args), report.gap_of(args)
+    with merged.book(args.inputs, gap) as book:
+        text = page_of(book, gap, said)
+    whole.put(args.output, text, [*args.inputs, *files_of(args)])
+    return 0

@@ -1,0 +1,167 @@
+"""Tells of a net that runs: silent stations, unanswered messages, emergencies."""
+import argparse
+import json
+import os
+import shlex
+import subprocess
+import sys
+import time
+from typing import List, Optional, Set, Tuple
+
+from aprsbook_tools import arguments, merged, net_logs, table, watching, whole
+from aprsbook_tools.commands import Subparsers, follow
+from aprsbook_tools.errors import ARGUMENTS, FAULTY, Fault
+from aprsbook_tools.roster import roster_of
+from aprsbook_tools.table import Message, Row, Station
+from aprsbook_tools.watching import Alert
+
+PATIENCE = 60  # seconds that the user's command may take
+
+DESCRIPTION = """Tells, once each, of the logs LOGS/DAY/NAME.log: who of those expected (or of all
+that were heard) is silent, which message isn't answered, and who reports an emergency in Mic-E.
+It is told on standard output, or to COMMAND: the last of its arguments is what happened in words.
+APRS_KIND (silent, unanswered, emergency), APRS_CALL, APRS_SINCE and APRS_WORDS have it too. No
+shell reads these words. Where COMMAND fails, it is told again in the next turn."""
+
+
+def add_parser(subparsers: Subparsers) -> None:
+    parser = subparsers.add_parser(
+        "watch",
+        description=DESCRIPTION,
+        help="tell of silence, unanswered messages and emergencies",
+    )
+    minutes = arguments.whole_number(1, 100_000)
+    parser.add_argument(
+        "--silent", type=minutes, metavar="MINUTES", help="tell who is silent so long"
+    )
+    parser.add_argument(
+        "--unanswered",
+        type=minutes,
+        metavar="MINUTES",
+        help="tell of messages that nobody answered for so long",
+    )
+    parser.add_argument("--emergency", action="store_true", help="tell of emergencies in Mic-E")
+    parser.add_argument("--roster", metavar="FILE", help="who is expected, with their names")
+    parser.add_argument(
+        "--run", dest="command", metavar="COMMAND", help="a command and its first arguments"
+    )
+    parser.add_argument(
+        "--every",
+        type=arguments.whole_number(1, 86_400),
+        metavar="SECONDS",
+        help="again and again, with so many seconds between; otherwise once",
+    )
+    parser.add_argument("--state", metavar="FILE", help="keeps what was told, from run to run")
+    parser.add_argument(
+        "--now",
+        type=arguments.moment,
+        metavar="MOMENT",
+        help="ages count to this moment, and not to the clock's",
+    )
+    follow.add_days(parser)
+    arguments.add_gap(parser)
+    parser.add_argument("logs", metavar="LOGS", help="the folder of the logs")
+
+
+def now_of(args: argparse.Namespace) -> int:
+    said: Optional[int] = args.now
+    return said if said is not None else time.time_ns() // 1_000_000
+
+
+def alerts_of(args: argparse.Namespace) -> List[Alert]:
+    """All that is to be told now."""
+    roster, now = roster_of(args.roster), now_of(args)
+    found = net_logs.gather(args.logs, follow.days_of(args))
+    alerts: List[Alert] = []
+    with merged.book([], args.gap, found.log) as book:
+        if args.emergency:
+            alerts += watching.emergencies(table.of(Row, [book], args.gap), roster)
+        if args.unanswered:
+            messages = table.of(Message, [book], args.gap)
+            alerts += watching.unanswered(messages, roster, now, args.unanswered)
+        if args.silent:
+            stations = list(table.of(Station, [book], args.gap))
+            alerts += watching.silent(stations, roster, now, args.silent)
+    return alerts
+
+
+def tell(alert: Alert, command: Optional[str]) -> bool:
+    """Tells of an alert; whether that went well."""
+    if command is None:
+        print(f"{alert.kind}: {alert.words}", flush=True)
+        return True
+    said = {
+        "APRS_KIND": alert.kind,
+        "APRS_CALL": alert.call,
+        "APRS_SINCE": alert.since,
+        "APRS_WORDS": alert.words,
+    }
+    try:
+        done = subprocess.run(
+            [*shlex.split(command), f"{alert.kind}: {alert.words}"],
+            env={**os.environ, **said},
+            stdin=subprocess.DEVNULL,
+            timeout=PATIENCE,
+        )
+        fault = f"ended with status {done.returncode}" if done.returncode else ""
+    except subprocess.TimeoutExpired:
+        fault = f"took longer than {PATIENCE} seconds"
+    except OSError as refusal:
+        fault = refusal.strerror or str(refusal)
+    if fault:
+        print(f"aprs-net: {command}: {fault}", file=sys.stderr, flush=True)
+    return not fault
+
+
+def read_state(path: Optional[str]) -> Set[str]:
+    """What was told before."""
+    if path is None or not os.path.exists(path):
+        return set()
+    try:
+        with open(path, encoding="utf-8") as file:
+            told = json.load(file)
+    except ValueError:
+        told = None
+    if not isinstance(told, list) or not all(isinstance(it, str) for it in told):
+        raise Fault(f"{path} isn't what was told before, and isn't replaced", ARGUMENTS)
+    return set(told)
+
+
+def turn(args: argparse.Namespace, told: Set[str]) -> Tuple[Set[str], bool]:
+    """Tells what is new: what is told now, and whether all could be. What is over and comes again
+    is told again."""
+    now, went_well = set(), True
+    for alert in alerts_of(args):
+        if alert.key in told or tell(alert, args.command):
+            now.add(alert.key)
+        else:
+            went_well = False
+    if args.state:
+        whole.write(args.state, json.dumps(sorted(now), indent=0).encode(), [args.logs])
+    return now, went_well
+
+
+def check(args: argparse.Namespace) -> None:
+    """Refuses options that would never tell anything."""
+    if not (args.silent or args.unanswered or args.emergency):
+        raise Fault("nothing to tell: --silent, --unanswered or --emergency", ARGUMENTS)
+    if args.command is not None:
+        try:
+            words = shlex.split(args.command)
+        except ValueError as fault:
+            raise Fault(f"--run {args.command}: {fault}", ARGUMENTS) from fault
+        if not words:
+            raise Fault("--run: no command", ARGUMENTS)
+
+
+def run(args: argparse.Namespace) -> int:
+    check(args)
+    told = read_state(args.state)
+    if args.every is None:
+        return 0 if turn(args, told)[1] else FAULTY
+    while True:
+        try:
+            told, _ = turn(args, told)
+        except Fault as fault:  # the next turn may go well
+            print(str(fault), file=sys.stderr, flush=True)
+        time.sleep(args.every)

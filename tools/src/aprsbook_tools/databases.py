@@ -1,0 +1,134 @@
+"""A database of SQLite with the tables of a book, in which numbers are numbers."""
+import contextlib
+import dataclasses
+import os
+import sqlite3
+from typing import (
+    Any,
+    Dict,
+    Iterable,
+    Iterator,
+    Mapping,
+    Optional,
+    Sequence,
+    Type,
+    Union,
+    get_type_hints,
+)
+
+from aprsbook_tools import whole
+from aprsbook_tools.errors import ARGUMENTS, OUTPUT, Fault
+from aprsbook_tools.table import Message, Row, Station, Thing
+
+# the table's name for each kind of the book's table
+TABLES: Dict[str, Type[Any]] = {
+    "transmissions": Row,
+    "messages": Message,
+    "stations": Station,
+    "things": Thing,
+}
+MAGIC = b"SQLite format 3\0"
+WAIT = 10.0  # seconds for another program's writing
+# each place, and the last one of each thing
+VIEWS = {
+    "tracks": """create view tracks as select
+        case when kind in ('object', 'item') then kind else 'station' end as kind,
+        case when kind in ('object', 'item') then name else source end as name,
+        case when state = '' then 'live' else state end as state,
+        first, last, receivers, receiver, source, latitude, longitude, ambiguity, compressed,
+        symbol, course, speed_knots, altitude_m, text
+        from transmissions where latitude is not null""",
+    # of a group a column stands for the row that has the greatest
+    "places": """create view places as select kind, name, state, first, last, receivers, receiver,
+        source, latitude, longitude, ambiguity, compressed, symbol, course, speed_knots, altitude_m,
+        text, max(last || ' ' || receiver) as heard from tracks group by kind, name""",
+}
+INDICES = [
+    "create index transmissions_source on transmissions (source, first)",
+    "create index transmissions_first on transmissions (first)",
+]
+
+
+def sql_type(hint: Any) -> str:
+    """The column type of a field: a number where it is one, and otherwise text."""
+    if hint == Optional[int]:
+        return "integer"
+    return "real" if hint == Optional[float] else "text"
+
+
+def columns_of(kind: Type[Any]) -> Dict[str, str]:
+    """The columns of a kind, each with its type."""
+    hints = get_type_hints(kind)
+    return {it.name: sql_type(hints[it.name]) for it in dataclasses.fields(kind)}
+
+
+def value_of(value: Any) -> Union[str, int, float, None]:
+    """A value as the database takes it: what isn't known is null, or an empty text."""
+    if isinstance(value, bool):
+        return "yes" if value else "no"
+    if isinstance(value, tuple):
+        return ",".join(value)
+    known: Union[str, int, float, None] = value
+    return known
+
+
+def check(path: str, inputs: Sequence[str]) -> None:
+    """Refuses a file that is there and is no database, an input or a log."""
+    whole.check(path, inputs)
+    if os.path.exists(path) and os.path.getsize(path):
+        with open(path, "rb") as file:
+            if file.read(len(MAGIC)) != MAGIC:
+                raise Fault(f"{path} is no database of SQLite, and isn't replaced", ARGUMENTS)
+
+
+@contextlib.contextmanager
+def writing(path: str, inputs: Sequence[str]) -> Iterator[sqlite3.Connection]:
+    """A transaction, which is taken back where its block ends by a fault."""
+    check(path, inputs)
+    is_new = not os.path.exists(path)
+    try:
+        base = sqlite3.connect(path, timeout=WAIT, isolation_level=None)
+        try:
+            base.execute("begin immediate")
+            yield base
+            base.execute("commit")
+            is_new = False
+        finally:
+            base.close()  # what wasn't committed is taken back
+    except sqlite3.Error as fault:
+        raise Fault(f"{path}: {fault}", OUTPUT) from fault
+    finally:
+        if is_new:
+            with contextlib.suppress(OSError):
+                os.unlink(path)
+
+
+def drop(base: sqlite3.Connection, name: str) -> None:
+    """Takes a table or a view of this name away, if there is one."""
+    for (kind,) in base.execute("select type from sqlite_master where name = ?", [name]).fetchall():
+        base.execute(f'drop {kind} "{name}"')
+
+
+def fill(base: sqlite3.Connection, name: str, items: Iterable[Any]) -> None:
+    """Makes one table anew."""
+    columns = columns_of(TABLES[name])
+    drop(base, name)
+    base.execute(f"create table {name} ({', '.join(f'{it} {of}' for it, of in columns.items())})")
+    places = ", ".join("?" * len(columns))
+    base.executemany(
+        f"insert into {name} values ({places})",
+        ([value_of(getattr(it, of)) for of in columns] for it in items),
+    )
+
+
+def write(path: str, tables: Mapping[str, Iterable[Any]], inputs: Sequence[str]) -> None:
+    """Puts the tables in place of those that are there; all else of the database stays."""
+    with writing(path, inputs) as base:
+        for name in VIEWS:
+            drop(base, name)
+        for name, items in tables.items():
+            fill(base, name, items)
+        for view in VIEWS.values():
+            base.execute(view)
+        for index in INDICES:
+            base.execute(index)

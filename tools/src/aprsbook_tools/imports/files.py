@@ -1,0 +1,85 @@
+"""Files with frames as bytes: of atest, captures of packets, and books."""
+import re
+import struct
+from typing import IO, Iterator, Optional
+
+from aprsbook_tools import moments
+from aprsbook_tools.errors import Fault
+from aprsbook_tools.imports import Found, Heard, Options, Refused
+
+DECODED = re.compile(rb"DECODED\[\d+\]\s+(?:(\d+):)?(\d+):(\d\d)\.(\d{3})\s")
+BYTES = re.compile(rb"  [0-9a-f]{3}:  ((?:[0-9a-f]{2} ){1,16})")
+ROW = re.compile(rb"T \S+ (\S+) \S+ (\S+) ((?:[0-9a-f]{2})+)\n")
+AX25, AX25_KISS = 3, 202  # types of links in captures
+
+
+def atest(file: IO[bytes], options: Options) -> Iterator[Found]:
+    """What `atest -h` prints of a recording: frames, each with its time from the start."""
+    if options.start is None:
+        raise Fault("a recording needs --start MOMENT, such as 2024-06-21T18:00:00Z", 2)
+    at: Optional[int] = None
+    frame = b""
+    for number, line in enumerate(file, 1):
+        decoded, octets = DECODED.match(line), BYTES.match(line)
+        if decoded:
+            hours, minutes, seconds, fraction = (int(it or 0) for it in decoded.groups())
+            at = ((hours * 60 + minutes) * 60 + seconds) * 1000 + fraction
+            frame = b""
+        elif octets:
+            frame += bytes.fromhex(octets[1].decode())
+        elif line.startswith(b"------") and at is not None and frame:
+            moment = options.start + at
+            if moment < moments.END:
+                yield Heard(moment, options.name or "TAPE", frame)
+            else:
+                yield Refused(number, "a log's years are 1970 to 2099", line, untimed=True)
+            frame = b""
+
+
+def pcap(file: IO[bytes], options: Options) -> Iterator[Found]:
+    """A capture of packets, as of Wireshark, of AX.25 frames with or without KISS's first byte."""
+    head = file.read(24)
+    orders = {b"\xd4\xc3\xb2\xa1": ("<", 1000), b"\xa1\xb2\xc3\xd4": (">", 1000),
+              b"\x4d\x3c\xb2\xa1": ("<", 1_000_000), b"\xa1\xb2\x3c\x4d": (">", 1_000_000)}
+    if len(head) < 24 or head[:4] not in orders:
+        raise Fault("no capture of packets (a pcapng file becomes one by editcap -F pcap)")
+    order, fine = orders[head[:4]]
+    link = struct.unpack(order + "I", head[20:])[0] & 0xFFFF
+    if link not in (AX25, AX25_KISS):
+        raise Fault(f"a capture of another link than AX.25: {link}")
+    number = 0
+    while True:
+        number += 1
+        header = file.read(16)
+        if not header:
+            return
+        seconds, rest, size, _ = struct.unpack(order + "4I", header.ljust(16, b"\0"))
+        octets = file.read(size) if size <= 1 << 16 else b""
+        if len(header) < 16 or len(octets) < size:
+            raise Fault(f"the capture was cut short in packet {number}")
+        if link == AX25_KISS and octets[:1] and octets[0] & 15:
+            continue
+        frame = octets[1:] if link == AX25_KISS else octets
+        moment = seconds * 1000 + rest // fine
+        if 0 <= moment < moments.END and frame:
+            yield Heard(moment, options.name or "PCAP", frame)
+        else:
+            yield Refused(number, "no moment or no frame", octets, untimed=True)
+
+
+def book(file: IO[bytes], options: Options) -> Iterator[Found]:
+    """A book of version 2 or 3: the greatest reception of each transmission."""
+    first = file.readline(20)
+    if not re.fullmatch(rb"APRSBOOK (2|3 \d{1,4})\n", first):
+        raise Fault("no book of version 2 or 3: aprsbook merge writes one")
+    count = 0
+    for line in file:
+        row = ROW.fullmatch(line)
+        if not row:
+            if line != b"END %d\n" % count or file.read(1):
+                raise Fault(f"no book: line {count + 2}")
+            return
+        count += 1
+        yield Heard(moments.milliseconds(row[1].decode()), options.name or row[2].decode(),
+                    bytes.fromhex(row[3].decode()))
+    raise Fault("the book was cut short")

@@ -1,0 +1,165 @@
+"""Logs and books as files: those below folders, their days, and compressed ones unpacked."""
+import bz2
+import dataclasses
+import gzip
+import lzma
+import os
+import re
+import shutil
+import zlib
+from typing import IO, Callable, Dict, Iterable, Iterator, List, Optional, Set, cast
+
+from aprsbook_tools import errors, log_file
+from aprsbook_tools.errors import Fault, said
+
+PACKED: Dict[str, Callable[[str], IO[bytes]]] = {
+    ".gz": lambda path: cast(IO[bytes], gzip.open(path, "rb")),
+    ".xz": lambda path: cast(IO[bytes], lzma.open(path, "rb")),
+    ".bz2": lambda path: cast(IO[bytes], bz2.open(path, "rb")),
+}
+KIND = re.compile(r"[^.].*\.(log|book)(?:\.gz|\.xz|\.bz2)?", re.DOTALL)
+DAY = re.compile(r"(?:19|20)[0-9]{2}-[0-9]{2}-[0-9]{2}")
+
+
+@dataclasses.dataclass(frozen=True, order=True)
+class Input:
+    """A log or a book. `day` is that of its path, or else of a log's first line, or nothing.
+    `fault` says why it can't be read, where that is known."""
+    day: str
+    path: str
+    size: int
+    changed: int
+    fault: str = ""
+
+    @property
+    def is_book(self) -> bool:
+        found = KIND.fullmatch(os.path.basename(self.path))
+        return found is not None and found[1] == "book"
+
+    @property
+    def packing(self) -> str:
+        """The ending of a compressed file, or nothing."""
+        ending = os.path.splitext(self.path)[1]
+        return ending if ending in PACKED else ""
+
+
+def is_input(path: str) -> bool:
+    """Whether a name is that of a log or a book; what begins with a dot is none."""
+    return KIND.fullmatch(os.path.basename(path)) is not None
+
+
+def day_of(path: str) -> str:
+    """The day of a log or a book, as 2024-06-21, or nothing."""
+    found = DAY.findall(os.path.abspath(path))
+    if found:
+        return str(found[-1])
+    try:
+        with opened(path) as file:
+            begin = file.read(10).decode("ascii", "replace")
+    except (OSError, EOFError, lzma.LZMAError, zlib.error):
+        return ""
+    return begin if DAY.fullmatch(begin) else ""
+
+
+def look_at(path: str) -> Input:
+    """A file as an input."""
+    try:
+        status = os.stat(path)
+    except OSError:
+        return Input("", path, 0, 0, "no file")
+    if not os.path.isfile(path):
+        return Input("", path, 0, 0, "no file")
+    fault = ""
+    if not os.access(path, os.R_OK):
+        fault = "no leave to read it"
+    elif not status.st_size and re.search(r"\.book(\.[a-z0-9]+)?$", path):
+        fault = "empty, which no book is"
+    day = "" if fault else day_of(path)
+    return Input(day, path, status.st_size, status.st_mtime_ns, fault)
+
+
+def below(folder: str) -> List[Input]:
+    """The logs and books below a folder, behind links too, by day and path. A folder that a link
+    leads back to is looked at once, and so is a file of two names."""
+    def refuse(fault: OSError) -> None:
+        raise Fault(said(fault)) from fault
+
+    seen: Set[str] = set()
+    result: List[Input] = []
+    for at, folders, files in os.walk(folder, onerror=refuse, followlinks=True):
+        real = os.path.realpath(at)
+        folders[:] = sorted(it for it in folders if not it.startswith("."))
+        if real in seen:
+            folders.clear()
+            continue
+        seen.add(real)
+        for name in sorted(files):
+            path = os.path.join(at, name)
+            if is_input(path) and os.path.realpath(path) not in seen:
+                seen.add(os.path.realpath(path))
+                result.append(look_at(path))
+    return sorted(result)
+
+
+def of(paths: Iterable[str]) -> List[Input]:
+    """Files that are named, and those below folders that are named; each once."""
+    found: Dict[str, Input] = {}
+    for path in paths:
+        for it in below(path) if os.path.isdir(path) else [look_at(path)]:
+            found.setdefault(os.path.realpath(it.path), it)
+    return sorted(found.values())
+
+
+def opened(path: str) -> IO[bytes]:
+    """A file to read from, unpacked."""
+    return PACKED.get(os.path.splitext(path)[1], lambda it: open(it, "rb"))(path)
+
+
+def unpack(it: Input, into: str) -> None:
+    """Writes a compressed input, read to its end, into a file."""
+    try:
+        with opened(it.path) as packed, open(into, "wb") as file:
+            shutil.copyfileobj(packed, file)
+    except (EOFError, lzma.LZMAError, zlib.error, gzip.BadGzipFile) as fault:
+        raise Fault(f"{it.path}: can't be unpacked to its end: {fault}") from fault
+    except OSError as fault:
+        name = fault.filename if isinstance(fault.filename, str) else it.path
+        status = errors.OUTPUT if name == into else errors.FAULTY
+        raise Fault(f"{name}: {fault.strerror or fault}", status) from fault
+
+
+def no_option(path: str) -> str:
+    """A path that no program takes for an option."""
+    return os.path.join(".", path) if path.startswith("-") else path
+
+
+def plain(items: Iterable[Input], folder: str) -> Iterator[str]:
+    """The paths of inputs as programs read them: compressed ones are unpacked into a folder."""
+    for number, it in enumerate(items):
+        if it.packing:
+            path = os.path.join(folder, f"{number:06}.unpacked")
+            unpack(it, path)
+            yield path
+        else:
+            yield no_option(it.path)
+
+
+def whole_lines(octets: bytes) -> List[bytes]:
+    """The lines of a log that are whole, each with its line feed; carriage returns before it go."""
+    result = []
+    for line in octets.split(b"\n")[:-1]:
+        line = line[:-1] if line.endswith(b"\r") else line
+        if log_file.read_line(line) is not None:
+            result.append(line + b"\n")
+    return result
+
+
+def gap_of(path: str) -> Optional[int]:
+    """The gap of a book file in seconds, which its first line says; 30 where that says none, as in
+    books of an older program. None of what is no book."""
+    with opened(path) as file:
+        begin = file.read(20)
+    found = re.match(rb"APRSBOOK (?:[12]\n|3 ([0-9]{1,4})\n)", begin)
+    if not found:
+        return None
+    return int(found[1]) if found[1] else 30

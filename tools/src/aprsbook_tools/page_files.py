@@ -1,0 +1,108 @@
+"""The page of an event: the files that draw it, and maps that are drawn below all else."""
+import importlib.util
+import json
+import os
+import pathlib
+import xml.etree.ElementTree
+from types import ModuleType
+from typing import Any, Dict, List, Optional
+
+from aprsbook_tools import programs, text_file
+from aprsbook_tools.errors import Fault
+
+HERE = pathlib.Path(__file__).resolve().parent
+VARIABLE = "APRSBOOK_PAGE"
+# within the package, in the repository, and where it is installed
+FOLDERS = [
+    HERE / "page",
+    HERE.parent.parent.parent / "page",
+    pathlib.Path("/usr/local/share/aprsbook/page"),
+    pathlib.Path("/usr/share/aprsbook/page"),
+]
+GEOMETRIES = "Point MultiPoint LineString MultiLineString Polygon MultiPolygon".split()
+TYPES = [*GEOMETRIES, "GeometryCollection", "Feature", "FeatureCollection"]
+
+
+def folder() -> pathlib.Path:
+    """Where the page's files are."""
+    said = os.environ.get(VARIABLE)
+    for it in [pathlib.Path(said)] if said else FOLDERS:
+        if (it / "together.py").is_file():
+            return it
+    raise Fault(f"the folder of the page isn't there: {VARIABLE} says where it is")
+
+
+def together() -> ModuleType:
+    """What puts a page together of these files."""
+    spec = importlib.util.spec_from_file_location("together", folder() / "together.py")
+    if spec is None or spec.loader is None:
+        raise Fault(f"{folder()} can't be read")
+    module = importlib.util.module_from_spec(spec)
+    spec.loader.exec_module(module)
+    return module
+
+
+def check_spot(north: Any, east: Any) -> None:
+    """Refuses a place off the earth."""
+    if not (abs(float(north)) <= 90 and abs(float(east)) <= 540):
+        raise ValueError(f"a place off the earth: {north}, {east}")
+
+
+def check_gpx(text: str) -> None:
+    root = xml.etree.ElementTree.fromstring(text.encode())
+    if root.tag.rpartition("}")[2] != "gpx":
+        raise ValueError("no GPX")
+    for node in root.iter():
+        if node.tag.rpartition("}")[2] in ("trkpt", "rtept", "wpt"):
+            check_spot(node.get("lat", "nan"), node.get("lon", "nan"))
+
+
+def check_coordinates(value: List[Any]) -> None:
+    if isinstance(value[0], list):
+        for it in value:
+            check_coordinates(it)
+    else:
+        check_spot(value[1], value[0])
+
+
+def check_shape(it: Dict[str, Any]) -> None:
+    if it["type"] not in TYPES:
+        raise ValueError("no GeoJSON")
+    if it["type"] in GEOMETRIES:
+        check_coordinates(it["coordinates"])
+    for part in it.get("features", []) + it.get("geometries", []):
+        check_shape(part)
+    if it.get("geometry"):
+        check_shape(it["geometry"])
+
+
+def read_map(path: str) -> str:
+    """The text of a GPX or GeoJSON file, in which each place has been looked at."""
+    text = text_file.read(path)
+    try:
+        if text.lstrip().startswith("<"):
+            check_gpx(text)
+        else:
+            check_shape(json.loads(text))
+    except (xml.etree.ElementTree.ParseError, ValueError) as fault:
+        raise Fault(f"{path}: {fault}") from fault
+    except (AttributeError, IndexError, KeyError, TypeError, RecursionError) as fault:
+        raise Fault(f"{path}: no GeoJSON") from fault
+    return text
+
+
+def texts_of(book: str, gap: Optional[int]) -> Dict[str, str]:
+    """What the page has of a book: texts of the programs, as they are."""
+    commands = {"rows": ["aprsbook-table", "rows"], "messages": ["aprsbook-table", "messages"]}
+    if not getattr(together(), "TABLES", False):
+        commands = {"history": ["aprsbook-history"], "listing": ["aprsbook", "show"]}
+    return {
+        name: programs.run(*programs.with_gap(command, gap, [book])).decode("ascii")
+        for name, command in commands.items()
+    }
+
+
+def page_of(data: Dict[str, Any]) -> str:
+    """The page of these data."""
+    text: str = together().event(data)
+    return text

@@ -1,0 +1,114 @@
+"""Runs aprsbook, aprsbook-table and aprsbook-fold. Where one fails, its complaint and its status
+are those of the Fault."""
+import os
+import shutil
+import subprocess
+import tempfile
+from typing import IO, Iterator, List, Optional, Sequence, Union
+
+from aprsbook_tools import errors
+from aprsbook_tools.errors import Fault
+
+Given = Union[bytes, IO[bytes], None]  # None: standard input as it is
+
+
+def is_there(program: str) -> bool:
+    """Whether a program is in the PATH."""
+    return shutil.which(program) is not None
+
+
+def find(program: str) -> str:
+    """The path of a program."""
+    path = shutil.which(program)
+    if path is None:
+        raise Fault(f"the program {program} isn't in the PATH: install aprsbook")
+    return path
+
+
+def check_inputs(paths: Sequence[str]) -> None:
+    """Refuses a file whose name says that it is a book and that is empty, which no book is."""
+    for path in paths:
+        if path.endswith(".book") and os.path.isfile(path) and not os.path.getsize(path):
+            raise Fault(f"{path} is empty, which no book is: put back a copy")
+
+
+def open_many_files() -> None:
+    """Lets this process, and those that it starts, open as many files as the system allows."""
+    try:
+        import resource
+    except ImportError:  # not on Windows
+        return
+    soft, hard = resource.getrlimit(resource.RLIMIT_NOFILE)
+    if soft != hard:
+        try:
+            resource.setrlimit(resource.RLIMIT_NOFILE, (hard, hard))
+        except (OSError, ValueError):
+            pass
+
+
+def fault_of(command: Sequence[str], status: int, complaint: bytes) -> Fault:
+    """What a program's end means: its own words, and its status unless a signal ended it."""
+    program = os.path.basename(command[0])
+    words = complaint.decode("utf-8", "backslashreplace").strip()
+    if words.startswith(program + ": "):
+        words = words[len(program) + 2:]
+    if status < 0 or status > 125:
+        words = words or f"ended by signal {-status if status < 0 else status - 128}"
+        status = errors.FAULTY
+    return Fault(words or f"ended with status {status}", status, program)
+
+
+def run(*command: str, given: Given = b"", into: Optional[IO[bytes]] = None) -> bytes:
+    """What a program writes, or nothing where that goes `into` a file."""
+    open_many_files()
+    path = find(command[0])
+    octets = given if isinstance(given, bytes) else None
+    stdin: Union[int, IO[bytes], None] = subprocess.PIPE
+    if not isinstance(given, bytes):
+        stdin = given
+    out: Union[int, IO[bytes]] = subprocess.PIPE if into is None else into
+    process = subprocess.Popen(
+        [path, *command[1:]], stdin=stdin, stdout=out, stderr=subprocess.PIPE)
+    with process:
+        try:
+            written, complaint = process.communicate(octets)
+        except BaseException:
+            process.kill()
+            raise
+    if process.returncode:
+        raise fault_of(command, process.returncode, complaint)
+    return written or b""
+
+
+def lines(*command: str, given: Given = None) -> Iterator[str]:
+    """The lines that a program writes, as they come, each without its end. The Fault comes after
+    the last: write nothing before all have been read."""
+    open_many_files()
+    path = find(command[0])
+    with tempfile.TemporaryFile() as complaint, tempfile.TemporaryFile() as held:
+        stdin: Union[int, IO[bytes], None] = given if not isinstance(given, bytes) else held
+        if isinstance(given, bytes):
+            held.write(given)
+            held.seek(0)
+        process = subprocess.Popen(
+            [path, *command[1:]], stdin=stdin, stdout=subprocess.PIPE, stderr=complaint)
+        assert process.stdout is not None
+        try:
+            for line in process.stdout:
+                yield line.decode("ascii", "backslashreplace").rstrip("\n")
+        except BaseException:
+            process.kill()
+            raise
+        finally:
+            process.stdout.close()
+            status = process.wait()
+        if status:
+            complaint.seek(0)
+            raise fault_of(command, status, complaint.read())
+
+
+def with_gap(program: List[str], gap: Optional[int], inputs: Sequence[str]) -> List[str]:
+    """A command with its gap and its inputs; standard input is read where there are none."""
+    check_inputs(inputs)
+    option = ["--gap", str(gap)] if gap is not None else []
+    return [*program, *option, "--", *inputs] if inputs else [*program, *option]

@@ -1,0 +1,26 @@
+"""How far long work is, on standard error where that is a terminal, and nothing elsewhere."""
+import sys
+import time
+from typing import Iterable, Iterator, Optional, TypeVar
+
+T = TypeVar("T")
+STEP = 0.2  # seconds between two counts
+
+
+def counted(items: Iterable[T], words: str, total: Optional[int] = None) -> Iterator[T]:
+    """The items, with a line that counts them, such as `days: 3 of 20`."""
+    if sys.stderr is None or not sys.stderr.isatty():
+        yield from items
+        return
+    of = f" of {total}" if total is not None else ""
+    shown, number = 0.0, 0
+    try:
+        for number, item in enumerate(items, 1):
+            now = time.monotonic()
+            if now - shown >= STEP:
+                shown = now
+                print(f"\r{words}: {number}{of}\x1b[K", end="", file=sys.stderr, flush=True)
+            yield item
+    finally:
+        if shown:
+            print("\r\x1b[K", end="", file=sys.stderr, flush=True)

@@ -1,0 +1,52 @@
+"""Each reception of logs as a row of the table, where a book has one row for all copies.
+
+Who was heard direct is known of each copy alone. So the n-th line of a log is given to
+`aprsbook-table` with a moment of its own, two seconds after that of the line before, under a gap of
+one second: no two are copies of one transmission then. The row's moment says which line it was.
+"""
+from dataclasses import dataclass
+from typing import List, Sequence
+
+from aprsbook_tools import log_file, moments, table
+from aprsbook_tools.errors import Fault
+from aprsbook_tools.log_file import Line
+from aprsbook_tools.net_logs import octets_of
+from aprsbook_tools.table import Row
+
+APART = 2000  # milliseconds between two lines
+BOOK = b"APRSBOOK"
+
+
+@dataclass(frozen=True)
+class Reception:
+    """What a receiver heard at a moment in milliseconds."""
+
+    moment: int
+    row: Row
+
+
+def lines_of(path: str) -> List[Line]:
+    """The lines of a log, also of a compressed one, all of which are whole but for the last."""
+    octets, fault = octets_of(path)
+    if fault:
+        raise Fault(f"{path}: {fault}")
+    if octets.startswith(BOOK):
+        raise Fault(f"{path} is a book, which has one copy of each transmission: name logs")
+    found = []
+    texts = octets.split(b"\n")
+    for number, text in enumerate(texts[:-1], 1):
+        line = log_file.read_line(text[:-1] if text.endswith(b"\r") else text)
+        if line is None:
+            raise Fault(f"{path}: line {number} is no whole line of a log")
+        found.append(line)
+    return found
+
+
+def receptions_of(paths: Sequence[str]) -> List[Reception]:
+    """The receptions of logs, by moment."""
+    lines = sorted(line for path in paths for line in lines_of(path))
+    log = b"".join(
+        line._replace(moment=APART * number).write() for number, line in enumerate(lines)
+    )
+    rows = {moments.milliseconds(row.first) // APART: row for row in table.of(Row, [], 1, log)}
+    return [Reception(lines[number].moment, rows[number]) for number in sorted(rows)]

@@ -1,0 +1,168 @@
+"""The roster of a net: who is expected, by call, name and group.
+
+A line is a call, and after a blank the name of who or what has it: `Q1RUN-7 Leader`. `Q1RUN-*` is
+that call with any SSID or none, `Q1RUN` and `Q1RUN-0` are the call without one; letters may be
+small. Where a comma, a semicolon or a tab follows the call, the fields are call, name, group and
+bib, as a spreadsheet saves them, perhaps in quotes. A head line may name them in another order.
+Empty lines and lines that begin with # say nothing, and a byte order mark is passed over.
+"""
+import csv
+import re
+from dataclasses import dataclass
+from typing import Dict, Iterable, List, Optional, Sequence, Union
+
+from aprsbook_tools import text_file
+from aprsbook_tools.errors import Fault
+
+CALL = re.compile(r"([A-Za-z0-9]{1,6})(?:-([0-9]|1[0-5]|\*))?")
+BEGIN = re.compile(r'\s*(?:"[^"]*"|[^\s,;"]+) *([,;\t])')
+LINE_END = re.compile(r"\r\n|\n|\r")
+# the names of columns in a head line
+HEADS = {
+    "call": "call",
+    "callsign": "call",
+    "station": "call",
+    "name": "name",
+    "tactical": "name",
+    "who": "name",
+    "group": "group",
+    "team": "group",
+    "class": "group",
+    "bib": "bib",
+    "number": "bib",
+    "no": "bib",
+}
+ORDER = ("call", "name", "group", "bib")
+
+
+@dataclass(frozen=True)
+class Expected:
+    """Who is expected: a call such as Q1RUN-7, or Q1RUN-* for any SSID, and what is said of it."""
+
+    call: str
+    name: str = ""
+    group: str = ""
+    bib: str = ""
+
+    @property
+    def is_any(self) -> bool:
+        return self.call.endswith("-*")
+
+    def is_of(self, call: str) -> bool:
+        """Whether a station's call is one that this entry stands for."""
+        return base_of(call) == base_of(self.call) if self.is_any else call == self.call
+
+
+@dataclass(frozen=True)
+class LineFault:
+    """A line that isn't understood."""
+
+    line: int
+    reason: str
+
+    def __str__(self) -> str:
+        return f"line {self.line}: {self.reason}"
+
+
+def base_of(call: str) -> str:
+    """A call without its SSID."""
+    return call.partition("-")[0]
+
+
+def call_of(text: str) -> Optional[str]:
+    """A call as it is heard, in capitals and without -0; nothing where it is none."""
+    found = CALL.fullmatch(text.strip())
+    if not found:
+        return None
+    base, ssid = found[1].upper(), found[2]
+    return base if ssid in (None, "0") else f"{base}-{ssid}"
+
+
+class Roster:
+    """Who is expected, in the order of the lines, and the lines that aren't understood."""
+
+    def __init__(self, expected: Iterable[Expected] = (), faults: Iterable[LineFault] = ()) -> None:
+        self.expected = list(expected)
+        self.faults = list(faults)
+        self._by_call: Dict[str, Expected] = {it.call: it for it in self.expected}
+
+    def entry_of(self, call: str) -> Optional[Expected]:
+        """The entry of a station: that of its call, or else that of any SSID."""
+        return self._by_call.get(call) or self._by_call.get(base_of(call) + "-*")
+
+    def name_of(self, call: str) -> str:
+        """The tactical name of a station, empty where there is none."""
+        entry = self.entry_of(call)
+        return entry.name if entry else ""
+
+    def said(self, call: str) -> str:
+        """A call for a reader, with its tactical name before it: Leader (Q1RUN-7)."""
+        name = self.name_of(call)
+        return f"{name} ({call})" if name else call
+
+    @property
+    def has_names(self) -> bool:
+        return any(it.name for it in self.expected)
+
+
+def read_roster(text: str) -> Roster:
+    """The roster of a text; a fault for each line that isn't understood, or has a call again."""
+    order: Sequence[str] = ORDER
+    expected: List[Expected] = []
+    faults: List[LineFault] = []
+    seen: Dict[str, int] = {}
+    first = True
+    for number, line in enumerate(LINE_END.split(text.lstrip("\ufeff")), 1):
+        if not line.strip() or line.lstrip().startswith("#"):
+            continue
+        fields, head = fields_of(line), None
+        if first:
+            head, first = head_of(fields), False
+        if head:
+            order = head
+            continue
+        entry = entry_of(fields, order)
+        if isinstance(entry, str):
+            faults.append(LineFault(number, entry))
+        elif entry.call in seen:
+            faults.append(LineFault(number, f"{entry.call} is on line {seen[entry.call]} already"))
+        else:
+            seen[entry.call] = number
+            expected.append(entry)
+    return Roster(expected, faults)
+
+
+def fields_of(line: str) -> List[str]:
+    """The fields of a line: what a comma, semicolon or tab parts, or else a call and a name."""
+    begin = BEGIN.match(line)
+    if begin:
+        fields = csv.reader([line.strip(" ")], delimiter=begin[1], skipinitialspace=True)
+        return [it.strip() for it in next(fields)]
+    return [it.strip('" ') for it in line.split(None, 1)]
+
+
+def head_of(fields: Sequence[str]) -> Optional[List[str]]:
+    """The columns that a head line names, empty for one that means nothing here."""
+    names = [HEADS.get(it.lower(), "") for it in fields]
+    if len(names) == 2 and names[0] == "call" and not names[1]:
+        return list(ORDER)
+    return names if "call" in names else None
+
+
+def entry_of(fields: Sequence[str], order: Sequence[str]) -> Union[Expected, str]:
+    """The entry of a line, or why it is none."""
+    said = {name: field for name, field in zip(order, fields) if name}
+    call = call_of(said.get("call", ""))
+    if call is None:
+        return f"{said.get('call', '')!r} is no call"
+    return Expected(call, said.get("name", ""), said.get("group", ""), said.get("bib", ""))
+
+
+def roster_of(path: Optional[str]) -> Roster:
+    """The roster of a file, which has no fault; an empty one where there is no file."""
+    if path is None:
+        return Roster()
+    roster = read_roster(text_file.read(path))
+    if roster.faults:
+        raise Fault(f"{path}: " + "; ".join(map(str, roster.faults)))
+    return roster

@@ -1,0 +1,173 @@
+"""Writes a file whole or not at all.
+
+What is written lies beside the file under a name that begins with a dot and is no input of
+anything, and is renamed once it is on the disk. The file keeps its mode and its owner, and a link
+stays a link. Where the bytes are those that the file has, it isn't touched.
+"""
+import contextlib
+import errno
+import filecmp
+import os
+import re
+import stat
+import sys
+import tempfile
+import time
+from typing import IO, Iterator, List, Optional, Sequence, Union
+
+from aprsbook_tools import errors, log_file
+from aprsbook_tools.errors import Fault, said
+
+SUFFIX = ".aprs-net-new"
+DAY = 86_400  # seconds
+
+
+class Writing:
+    """A file that is being written; `changed` tells, at the end, whether it became another."""
+
+    def __init__(self, file: IO[bytes]) -> None:
+        self.file = file
+        self.changed = False
+
+
+def check(path: str, inputs: Sequence[str] = ()) -> str:
+    """Refuses a path that is no file, an input or a log; the path behind links is the result."""
+    real = os.path.realpath(path)
+    if os.path.basename(path) in ("", ".", "..") or os.path.islink(real):
+        raise Fault(f"'{path}' is no file, and can't become one", errors.OUTPUT)
+    for it in inputs:
+        if os.path.realpath(it) == real or is_same(it, real):
+            raise Fault(f"{path} is an input: it would be replaced", errors.ARGUMENTS)
+    if not os.path.exists(real):
+        if not os.path.isdir(os.path.dirname(real)):
+            raise Fault(f"{path}: no folder {os.path.dirname(path)} is there", errors.OUTPUT)
+        return real
+    if not os.path.isfile(real):
+        raise Fault(f"'{path}' is no file, and can't become one", errors.OUTPUT)
+    if is_log(real):
+        raise Fault(f"{path} is a log, and isn't replaced: take it away first", errors.ARGUMENTS)
+    return real
+
+
+def is_same(one: str, other: str) -> bool:
+    """Whether two paths lead to one file."""
+    try:
+        return os.path.samefile(one, other)
+    except OSError:
+        return False
+
+
+def is_log(path: str) -> bool:
+    """Whether a file is a log by its name or by its first line."""
+    if path.endswith(".log"):
+        return True
+    try:
+        with open(path, "rb") as file:
+            return log_file.begins_as_log(file.read(log_file.LINE + 1))
+    except OSError:
+        return False
+
+
+def remove_leftovers(real: str) -> None:
+    """Takes away what runs that were killed have left of this file, after a day."""
+    folder, name = os.path.split(real)
+    form = re.compile(re.escape("." + name) + r"\.[a-z0-9_]{8}" + re.escape(SUFFIX))
+    with contextlib.suppress(OSError):
+        for it in os.listdir(folder):
+            left = os.path.join(folder, it)
+            if form.fullmatch(it) and time.time() - os.lstat(left).st_mtime > DAY:
+                os.unlink(left)
+
+
+def take_over(file: int, real: str) -> None:
+    """Gives a file the owner and the mode of the one that it replaces, or those of a new file."""
+    try:
+        old = os.stat(real)
+    except FileNotFoundError:
+        mask = os.umask(0)
+        os.umask(mask)
+        mode = 0o666 & ~mask
+    else:
+        mode = stat.S_IMODE(old.st_mode)
+        with contextlib.suppress(OSError, AttributeError):
+            os.fchown(file, old.st_uid, old.st_gid)
+    with contextlib.suppress(AttributeError):
+        os.fchmod(file, mode)
+
+
+def sync_folder(folder: str) -> None:
+    """Waits until a new name is on the disk, on systems where a folder can be opened."""
+    with contextlib.suppress(OSError):
+        file = os.open(folder, os.O_RDONLY)
+        try:
+            os.fsync(file)
+        finally:
+            os.close(file)
+
+
+@contextlib.contextmanager
+def writing(path: str, inputs: Sequence[str] = ()) -> Iterator[Writing]:
+    """A file to write into, which becomes that of the path where the block ends without a fault."""
+    real = check(path, inputs)
+    folder, name = os.path.split(real)
+    remove_leftovers(real)
+    new = None
+    try:
+        number, new = tempfile.mkstemp(SUFFIX, f".{name}.", folder)
+        with open(number, "wb") as file:
+            result = Writing(file)
+            yield result
+            file.flush()
+            take_over(file.fileno(), real)
+            os.fsync(file.fileno())
+        if os.path.exists(real) and filecmp.cmp(new, real, shallow=False):
+            return
+        os.replace(new, real)
+        new, result.changed = None, True
+        sync_folder(folder)
+    except OSError as fault:
+        raise Fault(f"{path}: {fault.strerror or fault}", errors.OUTPUT) from fault
+    finally:
+        if new is not None:
+            with contextlib.suppress(OSError):
+                os.unlink(new)
+
+
+def write(path: str, octets: bytes, inputs: Sequence[str] = ()) -> bool:
+    """A file becomes these bytes; whether it was another before."""
+    with writing(path, inputs) as new:
+        new.file.write(octets)
+    return new.changed
+
+
+def write_out(octets: bytes) -> None:
+    """Writes bytes to standard output, all of them."""
+    try:
+        if sys.stdout is None:
+            raise OSError(errno.EBADF, "it is closed")
+        sys.stdout.flush()
+        left = memoryview(octets)
+        while left:
+            left = left[os.write(1, left):]
+    except OSError as fault:
+        raise Fault(f"standard output: {said(fault)}", errors.OUTPUT) from fault
+
+
+def put(path: Optional[str], output: Union[str, bytes], inputs: Sequence[str] = ()) -> None:
+    """Writes a text, in UTF-8, or bytes into a file; to standard output without one or for `-`."""
+    octets = output.encode("utf-8", "surrogateescape") if isinstance(output, str) else output
+    if path is None or path == "-":
+        write_out(octets)
+    else:
+        write(path, octets, inputs)
+
+
+def all_of(*paths: Union[str, None, Sequence[str]]) -> List[str]:
+    """What a command reads, for `inputs`: paths, lists of paths, and None for what isn't given."""
+    result: List[str] = []
+    for it in paths:
+        if isinstance(it, str):
+            result.append(it)
+        elif it is not None:
+            result.extend(it)
+    return result

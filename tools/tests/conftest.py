@@ -1,0 +1,75 @@
+"""What the tests share: the command, the examples, and what is left out without a program."""
+import os
+import pathlib
+import shutil
+import subprocess
+import sys
+import time
+from typing import Any, Callable, Dict, List, Optional
+
+import pytest
+from hypothesis import settings
+
+pytest_plugins = ["standing"]  # its fixture `programs`
+
+HERE = pathlib.Path(__file__).resolve().parent
+SOURCES = HERE.parent / "src"
+EXAMPLES = HERE.parent.parent / "examples"
+EVENING = sorted(str(it) for it in EXAMPLES.glob("evening/*.log"))
+
+settings.register_profile("net", deadline=None, max_examples=100)
+settings.load_profile("net")
+
+
+def environment(**more: str) -> Dict[str, str]:
+    """The environment in which the command runs from its sources."""
+    return {**os.environ, "PYTHONPATH": str(SOURCES), "PYTHONDONTWRITEBYTECODE": "1", **more}
+
+
+def command(*arguments: object) -> List[str]:
+    """aprs-net with arguments, as a process is given it."""
+    return [sys.executable, "-m", "aprsbook_tools", *map(str, arguments)]
+
+
+def tried(*arguments: object, given: bytes = b"", status: int = 0,
+          **keywords: Any) -> "subprocess.CompletedProcess[bytes]":
+    """What aprs-net, which ends so, prints and says."""
+    keywords.setdefault("env", environment())
+    done = subprocess.run(command(*arguments), input=given, capture_output=True, **keywords)
+    assert b"Traceback" not in done.stderr, done.stderr.decode()
+    assert done.returncode == status, (arguments, done)
+    return done
+
+
+def started(*arguments: object, **keywords: Any) -> "subprocess.Popen[bytes]":
+    """aprs-net, which runs on."""
+    keywords.setdefault("env", environment())
+    keywords.setdefault("stderr", subprocess.PIPE)
+    return subprocess.Popen(command(*arguments), **keywords)
+
+
+def wait_for(condition: Callable[[], Any], words: str = "", seconds: float = 20) -> Any:
+    """Waits until a condition holds; its value."""
+    end = time.monotonic() + seconds
+    while True:
+        value = condition()
+        if value:
+            return value
+        assert time.monotonic() < end, f"waited in vain: {words}"
+        time.sleep(0.02)
+
+
+def program(name: str) -> str:
+    """A program's path; the test is left out where it is missing."""
+    path: Optional[str] = shutil.which(name)
+    if path is None:
+        pytest.skip(f"needs {name}")
+    return path
+
+
+def run(*words: object, given: bytes = b"", status: int = 0) -> bytes:
+    """What one of aprsbook's programs prints; the test is left out where it is missing."""
+    done = subprocess.run([program(str(words[0])), *map(str, words[1:])], input=given,
+                          capture_output=True)
+    assert done.returncode == status, (words, done.stderr)
+    return done.stdout

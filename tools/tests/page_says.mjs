@@ -1,0 +1,29 @@
+// Says what the page makes of tables: node page_says.mjs PAGE < CASES > SAID. A case has the texts of
+// the tables rows and messages, and of a roster.
+import { readFileSync } from "node:fs";
+import { pathToFileURL } from "node:url";
+
+const page = name => import(pathToFileURL(`${process.argv[2]}/${name}.js`).href);
+const { SAVES } = await page("exports");
+const { netOf } = await page("net");
+const { columnsOf, readMessages, Rows } = await page("reading");
+const { expectedOf, readRoster } = await page("roster");
+
+function ended(steps) {
+  for (;;) {
+    const { done, value } = steps.next();
+    if (done) return value;
+  }
+}
+function saidOf({ rows, messages, roster }) {
+  const read = new Rows(rows, ended(columnsOf(rows)));
+  const all = { rows: read, messages: readMessages(messages), end: read.until };
+  const net = ended(netOf(all, -Infinity, 30)), said = {};
+  for (const [name, save] of Object.entries(SAVES)) said[name] = save(net, { title: "net", rows })[2];
+  const { list, faults } = readRoster(roster);
+  said.expected = expectedOf(list, net.things).map(it => [it.call, it.name, it.group, it.bib,
+    it.last === -Infinity ? "never" : new Date(it.last * 1000).toISOString()]);
+  said.faults = faults.map(it => it.line);
+  return said;
+}
+process.stdout.write(JSON.stringify(JSON.parse(readFileSync(0, "utf8")).map(saidOf)));

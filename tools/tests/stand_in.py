@@ -1,0 +1,59 @@
+#!/usr/bin/env python3
+"""A stand-in for aprsbook and aprsbook-fold in tests that are of what runs around them: its books
+are receptions, sorted, each once, which grow by merges as those of aprsbook do.
+
+usage: aprsbook merge|widen [--gap] SECONDS [--] FILE..    aprsbook-fold --gap SECONDS FILE..
+"""
+import os
+import re
+import sys
+from typing import List, Set
+
+PROGRAM = os.path.basename(sys.argv[0])
+
+
+def fail(words: str) -> None:
+    print(f"{PROGRAM}: {words}", file=sys.stderr)
+    sys.exit(1)
+
+
+def read_book(path: str, text: str, gap: int, widen: bool) -> Set[str]:
+    lines = text.splitlines()
+    found = re.fullmatch(r"APRSBOOK 3 (\d+)", lines[0])
+    if not found or lines[-1] != f"END {len(lines) - 2}" or not text.endswith("\n"):
+        fail(f"{path}: line {len(lines)}: Ending")
+    elif int(found[1]) > gap or int(found[1]) != gap and not widen:
+        fail(f"{path}: {'narrower' if widen else 'other gap'}")
+    return set(lines[1:-1])
+
+
+def read(path: str, gap: int, widen: bool) -> Set[str]:
+    try:
+        with open(path, encoding="ascii") as file:
+            text = file.read()
+    except OSError:
+        fail(f"{path}: cannot open")
+    if text.startswith("APRSBOOK"):
+        return read_book(path, text, gap, widen)
+    if PROGRAM == "aprsbook-fold":
+        fail(f"{path}: line 1: Header")
+    if text and not text.endswith("\n"):
+        fail(f"{path}: line {text.count(chr(10)) + 1}: NoNewline")
+    for number, line in enumerate(text.splitlines(), 1):
+        if not re.fullmatch(r"\S{20,24} \S{1,16} [0-9a-f]*", line):
+            fail(f"{path}: line {number}: Moment")
+    return {re.sub(r"(:\d\d)Z", r"\1.000Z", line) for line in text.splitlines()}
+
+
+def main() -> None:
+    words: List[str] = [it for it in sys.argv[1:] if it not in ("merge", "widen", "--gap", "--")]
+    gap = int(words.pop(0))
+    if os.environ.get("STAND_IN_RUNS"):
+        with open(os.environ["STAND_IN_RUNS"], "a", encoding="utf-8") as file:
+            file.write(" ".join(words) + "\n")
+    rows = sorted(set().union(*(read(it, gap, sys.argv[1] == "widen") for it in words)))
+    text = "".join(f"{it}\n" for it in [f"APRSBOOK 3 {gap}", *rows, f"END {len(rows)}"])
+    os.write(1, text.encode())
+
+
+main()

@@ -1,0 +1,402 @@
+"""aprs-net book: a book only grows, is written whole or not at all, and only where need is.
+
+Each test is run with a stand-in for aprsbook, and with aprsbook itself where it is there."""
+import bz2
+import gzip
+import lzma
+import os
+import pathlib
+import shutil
+import subprocess
+import time
+from typing import Callable, Dict, List, Set, Tuple
+
+import pytest
+
+from conftest import EVENING, HERE, command, environment, started, tried
+
+PATH = os.environ["PATH"]
+
+
+class Club:
+    """A folder with logs of the evening, and the programs."""
+
+    def __init__(self, folder: pathlib.Path, programs: str) -> None:
+        self.folder = folder
+        self.runs = folder / "runs.txt"
+        self.env = environment(PATH=programs, STAND_IN_RUNS=str(self.runs))
+
+    def path(self, name: str) -> pathlib.Path:
+        return self.folder / name
+
+    def lay(self, name: str, *of: str) -> pathlib.Path:
+        """A file of logs of the evening, one after another."""
+        text = b"".join(pathlib.Path(it).read_bytes() for it in EVENING
+                        if pathlib.Path(it).stem in of)
+        self.path(name).parent.mkdir(parents=True, exist_ok=True)
+        self.path(name).write_bytes(text)
+        return self.path(name)
+
+    def merged(self, gap: int, *names: str) -> bytes:
+        """The book of logs of the evening."""
+        paths = [it for it in EVENING if pathlib.Path(it).stem in names]
+        return subprocess.run(["aprsbook", "merge", "--gap", str(gap), "--", *paths], env=self.env,
+                              stdout=subprocess.PIPE, check=True).stdout
+
+    def book(self, *arguments: object, status: int = 0) -> str:
+        """What the command says."""
+        self.runs.write_bytes(b"")
+        done = tried("book", *arguments, cwd=self.folder, env=self.env, status=status)
+        assert done.stdout == b""
+        return done.stderr.decode()
+
+    def read(self, name: str = "net.book") -> bytes:
+        return self.path(name).read_bytes()
+
+    def names(self) -> Set[str]:
+        """All that lies there but the notes and locks beside books."""
+        return {str(it.relative_to(self.folder)) for it in self.folder.rglob("*")
+                if not (it.name.startswith(".") and it.suffix in (".of", ".lock"))
+                and it != self.runs}
+
+
+@pytest.fixture(params=["stand-in", "aprsbook"])
+def club(request: pytest.FixtureRequest, tmp_path_factory: pytest.TempPathFactory) -> Club:
+    folder, bin = tmp_path_factory.mktemp("club"), tmp_path_factory.mktemp("bin")
+    if request.param == "aprsbook":
+        if not shutil.which("aprsbook", path=PATH):
+            pytest.skip("needs aprsbook")
+        return Club(folder, PATH)
+    for name in "aprsbook", "aprsbook-fold":
+        shutil.copy(HERE / "stand_in.py", bin / name)
+        (bin / name).chmod(0o755)
+    rest = [it for it in PATH.split(os.pathsep)
+            if not os.path.exists(os.path.join(it, "aprsbook-fold"))]
+    return Club(folder, os.pathsep.join([str(bin), *rest]))
+
+
+ALL = "hill", "coast", "north"
+
+
+def test_all_logs_and_books_below_a_folder(club: Club) -> None:
+    club.lay("logs/a b/coast.log", "coast")
+    club.lay("logs/it's/north;echo.log", "north")
+    club.path("logs/hill.book").write_bytes(club.merged(30, "hill"))
+    assert club.book("net.book", "logs") == ""
+    assert club.read() == club.merged(30, *ALL)
+
+
+def test_nothing_is_made_again_without_need(club: Club) -> None:
+    club.lay("logs/hill.log", "hill")
+    club.book("net.book", "logs")
+    before = os.stat(club.path("net.book"))
+    assert club.book("net.book", "logs") == "" and club.runs.read_bytes() == b""
+    # also where a log was touched, or is there again under another name
+    shutil.copy(club.path("logs/hill.log"), club.path("logs/again.log"))
+    club.book("net.book", "logs")
+    after = os.stat(club.path("net.book"))
+    assert (after.st_ino, after.st_mtime_ns) == (before.st_ino, before.st_mtime_ns)
+
+
+@pytest.mark.parametrize("pack, ending", [
+    (gzip.compress, ".gz"), (lzma.compress, ".xz"), (bz2.compress, ".bz2")])
+def test_a_compressed_log_stays_in_the_book(
+        club: Club, pack: Callable[[bytes], bytes], ending: str) -> None:
+    club.lay("logs/2024-06-21/HILL.log", "hill")
+    coast = club.lay("logs/2024-06-21/COAST.log", "coast")
+    club.path(f"logs/2024-06-21/COAST.log{ending}").write_bytes(pack(coast.read_bytes()))
+    coast.unlink()
+    assert club.book("net.book", "logs") == ""
+    assert club.read() == club.merged(30, "hill", "coast")
+    # and where it was there before it was compressed
+    club.path("net.book").unlink()
+    club.lay("logs/2024-06-21/COAST.log", "coast")
+    club.path(f"logs/2024-06-21/COAST.log{ending}").rename(club.path("kept"))
+    club.book("--days", "days", "net.book", "logs")
+    club.path("kept").rename(club.path(f"logs/2024-06-21/COAST.log{ending}"))
+    coast.unlink()
+    assert club.book("--days", "days", "net.book", "logs") == ""
+    assert club.read() == club.merged(30, "hill", "coast")
+
+
+def test_a_compressed_log_that_was_cut_short_is_named(club: Club) -> None:
+    packed = gzip.compress(club.lay("kept", "hill").read_bytes())
+    club.path("logs").mkdir()
+    for cut in len(packed) // 2, len(packed) - 1:
+        club.path("logs/HILL.log.gz").write_bytes(packed[:cut])
+        said = club.book("net.book", "logs", status=1)
+        assert "logs/HILL.log.gz: can't be unpacked to its end" in said
+        assert not club.path("net.book").exists()
+
+
+@pytest.mark.parametrize("days", [[], ["--days", "days"]])
+def test_a_removed_log_stays_in_the_book(club: Club, days: List[str]) -> None:
+    club.lay("logs/2024-06-21/HILL.log", "hill")
+    coast = club.lay("logs/2024-06-21/COAST.log", "coast")
+    club.book(*days, "net.book", "logs")
+    coast.unlink()
+    said = club.book(*days, "net.book", "logs")
+    assert "logs/2024-06-21/COAST.log is gone: what " in said and said.count("\n") == 1
+    assert club.read() == club.merged(30, "hill", "coast")
+    # it is said once
+    assert club.book(*days, "net.book", "logs") == ""
+    shutil.rmtree(club.path("logs/2024-06-21"))
+    club.lay("logs/2024-06-22/NORTH.log", "north")
+    club.book(*days, "net.book", "logs")
+    assert club.read() == club.merged(30, *ALL)
+
+
+@pytest.mark.parametrize("days", [[], ["--days", "days"]])
+def test_an_emptied_log_stays_in_the_book(club: Club, days: List[str]) -> None:
+    hill = club.lay("logs/2024-06-21/HILL.log", "hill")
+    club.book(*days, "net.book", "logs")
+    hill.write_bytes(b"")
+    assert "logs/2024-06-21/HILL.log has become shorter" in club.book(*days, "net.book", "logs")
+    assert club.read() == club.merged(30, "hill")
+
+
+def test_anew_it_is_made_of_the_inputs_alone(club: Club) -> None:
+    club.lay("logs/HILL.log", "hill")
+    club.book("net.book", "logs")
+    club.lay("logs/HILL.log", "coast")
+    club.book("net.book", "logs")
+    assert club.read() == club.merged(30, "hill", "coast")
+    club.book("--anew", "net.book", "logs")
+    assert club.read() == club.merged(30, "coast")
+
+
+def test_a_log_that_was_changed_is_named(club: Club) -> None:
+    """It may be another receiver's of the same name: what the book has stays."""
+    hill = club.lay("logs/RX1.log", "hill")
+    club.book("net.book", "logs")
+    hill.write_bytes(hill.read_bytes() + club.lay("more", "coast").read_bytes())
+    assert club.book("net.book", "logs") == ""
+    club.lay("logs/RX1.log", *ALL)
+    assert "logs/RX1.log was changed, not only added to" in club.book("net.book", "logs")
+    assert club.read() == club.merged(30, *ALL)
+
+
+def test_without_the_program_that_folds(club: Club) -> None:
+    """aprsbook itself merges then."""
+    bin = pathlib.Path(club.env["PATH"].split(os.pathsep)[0])
+    if not (bin / "aprsbook-fold").exists() or not club.folder.parent.samefile(bin.parent):
+        pytest.skip("needs the stand-in")
+    (bin / "aprsbook-fold").unlink()
+    rest = [it for it in PATH.split(os.pathsep)
+            if not os.path.exists(os.path.join(it, "aprsbook-fold"))]
+    club.env["PATH"] = os.pathsep.join([str(bin), *rest])
+    for name in ALL:
+        club.lay(f"logs/{name}.log", name)
+    club.book("net.book", "logs")
+    assert club.read() == club.merged(30, *ALL)
+
+
+def test_another_gap(club: Club) -> None:
+    club.lay("logs/HILL.log", "hill")
+    gaps: List[Tuple[int, List[str]]] = [(60, ["--gap", "60"]), (60, []), (90, ["--gap", "90"])]
+    for gap, words in gaps:
+        assert club.book(*words, "net.book", "logs") == ""
+        assert club.read() == club.merged(gap, "hill")
+    said = club.book("--gap", "60", "net.book", "logs", status=1)
+    assert "narrower" in said and "--anew" in said and club.read() == club.merged(90, "hill")
+    club.book("--anew", "--gap", "60", "net.book", "logs")
+    assert club.read() == club.merged(60, "hill")
+
+
+def test_an_input_of_another_gap_is_refused(club: Club) -> None:
+    club.lay("logs/HILL.log", "hill")
+    club.path("logs/COAST.book").write_bytes(club.merged(60, "coast"))
+    assert "other gap" in club.book("net.book", "logs", status=1)
+    assert not club.path("net.book").exists()
+
+
+def test_a_log_is_never_replaced(club: Club) -> None:
+    """Also not one whose name begins with a dot, as of `merge-tree logs logs/..log`."""
+    club.lay("logs/HILL.log", "hill")
+    for name in "logs/..log", "logs/HILL.log", "other":
+        before = club.lay(name, "coast").read_bytes()
+        club.book(name, "logs", status=2)
+        assert club.read(name) == before
+
+
+@pytest.mark.parametrize("text", [b"", b"a letter\n", b"APRSBOOK 4 30\nEND 0\n"])
+def test_what_is_no_book_is_never_replaced(club: Club, text: bytes) -> None:
+    club.lay("logs/HILL.log", "hill")
+    club.path("net.book").write_bytes(text)
+    club.book("net.book", "logs", status=1)
+    assert club.read() == text
+
+
+def test_a_book_that_was_cut_short_is_refused_and_stays(club: Club) -> None:
+    club.lay("logs/HILL.log", "hill")
+    text = club.merged(30, "hill")[:-9]
+    club.path("net.book").write_bytes(text)
+    assert "Ending" in club.book("net.book", "logs", status=1) and club.read() == text
+
+
+def test_empty_and_missing_inputs_are_refused(club: Club) -> None:
+    club.path("none").mkdir()
+    assert "no logs and no books are in none" in club.book("net.book", "none", status=1)
+    club.lay("logs/HILL.log", "hill")
+    club.path("logs/empty.book").write_bytes(b"")
+    assert "logs/empty.book: empty, which no book is" in club.book("net.book", "logs", status=1)
+    club.path("logs/empty.book").unlink()
+    club.path("logs/COAST.log").symlink_to("nowhere")
+    assert "logs/COAST.log: no file" in club.book("net.book", "logs", status=1)
+    assert "nowhere: no file" in club.book("net.book", "nowhere", status=1)
+    assert not club.path("net.book").exists()
+
+
+def test_a_link_to_the_folder_itself(club: Club) -> None:
+    club.lay("logs/HILL.log", "hill")
+    club.path("logs/loop").symlink_to(".")
+    club.path("logs/up").symlink_to("..")
+    club.path("link").symlink_to("logs")
+    assert club.book("net.book", "link") == ""
+    assert club.read() == club.merged(30, "hill")
+
+
+def test_leftovers_are_no_inputs_and_a_users_files_stay(club: Club) -> None:
+    club.lay("logs/HILL.log", "hill")
+    for name in "net.book.new.backup", "net.book.new.AAAAAA", ".net.book.abcdefgh.aprs-net-new", \
+            ".net.book.abcdefgh.aprs-net-work", "net.book.tmp", "#net.book#":
+        club.path(f"logs/{name}").write_bytes(b"not a book\n")
+        os.utime(club.path(f"logs/{name}"), (0, 0))
+    club.book("logs/net.book", "logs")
+    assert club.read("logs/net.book") == club.merged(30, "hill")
+    # that of a run that was killed goes, after a day; nothing else does
+    assert club.names() == {"logs", "logs/HILL.log", "logs/net.book"} | {
+        f"logs/{it}" for it in ("net.book.new.backup", "net.book.new.AAAAAA", "net.book.tmp",
+                                "#net.book#", ".net.book.abcdefgh.aprs-net-work")}
+
+
+def test_more_than_1024_files(club: Club) -> None:
+    lines = club.lay("kept", *ALL).read_bytes().splitlines(True)
+    club.path("logs").mkdir()
+    for number in range(1100):
+        club.path(f"logs/{number:04}.log").write_bytes(lines[number % len(lines)])
+    limit = ["sh", "-c", 'ulimit -Sn 256; exec "$0" "$@"']
+    done = subprocess.run([*limit, *command("book", "net.book", "logs")], cwd=club.folder,
+                          env=club.env, capture_output=True)
+    assert done.returncode == 0, done.stderr
+    assert club.read() == club.merged(30, *ALL)
+
+
+def test_many_days_are_dealt_into_parts_and_each_day_is_whole(club: Club) -> None:
+    for day in range(10, 30):
+        for name in "hill", "coast":
+            club.lay(f"logs/2024-06-{day}/{name}.log", name)
+    club.book("net.book", "logs")
+    assert club.read() == club.merged(30, "hill", "coast")
+    runs = [it.split() for it in club.runs.read_text().splitlines() if "hill" in it]
+    if club.runs.stat().st_size:
+        assert len(runs) >= 16
+        for day in range(10, 30):
+            assert len([it for it in runs if any(f"06-{day}" in word for word in it)]) == 1
+
+
+# ---- books of days ----
+
+def test_a_faulty_log_leaves_its_day_and_the_book_of_all(club: Club) -> None:
+    hill = club.lay("logs/2024-06-21/HILL.log", "hill")
+    club.lay("logs/2024-06-21/COAST.log", "coast")
+    club.lay("logs/2024-06-22/NORTH.log", "north")
+    days = "--days", "days", "net.book", "logs"
+    assert club.book(*days) == ""
+    before = club.read()
+    assert before == club.merged(30, *ALL)
+    assert club.read("days/2024-06-22.book") == club.merged(30, "north")
+    text = hill.read_bytes()
+    hill.write_bytes(text[:-1])
+    club.lay("logs/2024-06-22/MORE.log", "hill")
+    for _ in range(2):
+        assert "HILL.log: line" in club.book(*days, status=1)
+        assert club.read("days/2024-06-21.book") == club.merged(30, "hill", "coast")
+        assert club.read("days/2024-06-22.book") == club.merged(30, "hill", "north")
+        assert club.read() == before
+    # mended by a log that is older than the book, as rsync may put it there
+    hill.write_bytes(text)
+    os.utime(hill, (0, 0))
+    assert club.book(*days) == ""
+    assert club.read() == club.merged(30, *ALL)
+    assert {it.name for it in club.path("days").iterdir() if not it.name.startswith(".")} == {
+        "2024-06-21.book", "2024-06-22.book"}
+
+
+def test_a_day_whose_logs_are_gone_keeps_its_book(club: Club) -> None:
+    club.lay("logs/2024-06-21/HILL.log", "hill")
+    club.lay("logs/2024-06-22/NORTH.log", "north")
+    days = "--days", "days", "net.book", "logs"
+    club.book(*days)
+    shutil.rmtree(club.path("logs/2024-06-21"))
+    for more in "--jobs=2", "--anew":
+        assert club.book(more, *days) == ""
+        assert club.read() == club.merged(30, "hill", "north")
+    # unless it is empty: then it is named, and the book of all stays
+    club.path("days/2024-06-21.book").write_bytes(b"")
+    assert "2024-06-21.book: empty" in club.book(*days, status=1)
+    assert club.read() == club.merged(30, "hill", "north")
+
+
+def test_logs_of_no_day_are_refused_by_days(club: Club) -> None:
+    club.lay("logs/HILL.log")
+    assert "its day is unknown" in club.book("--days", "days", "net.book", "logs", status=1)
+
+
+def test_two_runs_at_once(club: Club) -> None:
+    for name in ALL:
+        club.lay(f"logs/2024-06-21/{name}.log", name)
+    runs = [started("book", "--days", "days", "net.book", "logs", cwd=club.folder, env=club.env)
+            for _ in range(4)]
+    assert [it.wait() for it in runs] == [0] * 4
+    assert club.read() == club.merged(30, *ALL)
+
+
+# ---- books that come in ----
+
+def test_what_cannot_be_merged_is_passed_over(club: Club) -> None:
+    club.path("in").mkdir()
+    files: Dict[str, bytes] = {
+        "own.book": club.merged(60, "hill"), "in/a b=c.book": club.merged(60, "coast"),
+        "in/cut.book": club.merged(60, "north")[:-3], "in/other.book": club.merged(30, "north"),
+        "in/north.book": club.merged(60, "north"), "in/empty.book": b""}
+    for name, text in files.items():
+        club.path(name).write_bytes(text)
+    club.path("in/link.book").symlink_to("nowhere")
+    os.mkfifo(club.path("in/pipe.book"))
+    for _ in range(2):
+        said = club.book("--pass-over", "own.book", "in")
+        for name, words in ("cut", "line [0-9]*: Ending"), ("other", "other gap"), \
+                ("empty", "empty, which no book is"), ("link", "no file"), ("pipe", "no file"):
+            line = [it for it in said.splitlines() if f"in/{name}.book is passed over: " in it]
+            assert len(line) == 1, (name, words, said)
+        assert said.count("\n") == 5
+        assert club.read("own.book") == club.merged(60, *ALL)
+
+
+def test_a_fault_of_this_machine_is_no_fault_of_a_book(club: Club) -> None:
+    club.path("in").mkdir()
+    club.path("own.book").write_bytes(club.merged(60, "hill"))
+    club.path("in/coast.book").write_bytes(club.merged(60, "coast"))
+    if not (pathlib.Path(club.env["PATH"].split(os.pathsep)[0]) / "aprsbook-fold").exists():
+        pytest.skip("needs the stand-in")
+    program = pathlib.Path(club.env["PATH"].split(os.pathsep)[0]) / "aprsbook"
+    program.write_text("#!/bin/sh\necho 'aprsbook: cannot write' >&2\nexit 3\n")
+    said = club.book("--pass-over", "own.book", "in", status=3)
+    assert said == "aprsbook: cannot write\n"
+
+
+def test_a_killed_run_leaves_the_old_book_or_the_new_one(club: Club) -> None:
+    club.lay("logs/HILL.log", "hill")
+    club.book("net.book", "logs")
+    old = club.read()
+    club.lay("logs/COAST.log", "coast")
+    new = club.merged(30, "hill", "coast")
+    for delay in range(0, 480, 60):
+        process = started("book", "net.book", "logs", cwd=club.folder, env=club.env)
+        time.sleep(delay / 1000)
+        process.kill()
+        process.wait()
+        assert club.read() in (old, new)
+    club.book("net.book", "logs")
+    assert club.read() == new

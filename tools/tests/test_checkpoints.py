@@ -1,0 +1,191 @@
+"""Who came by a checkpoint: by the way between two places, and lap by lap."""
+import pathlib
+from typing import Any, List
+
+import pytest
+from hypothesis import given
+from hypothesis import strategies as st
+from standing import Programs, place, put
+
+from aprsbook_tools.checkpoints import Checkpoint, Visit, all_visits, read_checkpoints
+from aprsbook_tools.errors import Fault
+from aprsbook_tools.geo import DEGREE_METRES, Spot
+from aprsbook_tools.moments import milliseconds, text_of
+from aprsbook_tools.places import things_of
+from aprsbook_tools.table import Row
+
+QUARTER = 15 * 60_000
+TARN = Checkpoint("Tarn", Spot(54.5, -3.5), 60)
+
+
+def clocks(visits: List[Visit]) -> List[str]:
+    return [text_of(it.came)[11:19] for it in visits]
+
+
+def visits(*rows: Row, most: int = QUARTER) -> List[Visit]:
+    return all_visits(things_of(rows), [TARN], most)
+
+
+def north(metres: float) -> float:
+    """So many metres north of the tarn."""
+    return 54.5 + metres / DEGREE_METRES
+
+
+def test_who_crosses_the_circle_between_two_beacons_is_seen() -> None:
+    """The recipe saw nobody who was heard before and behind the circle alone."""
+    [visit] = visits(
+        place("18:00", "Q1A", north(-600), -3.5), place("18:10", "Q1A", north(600), -3.5)
+    )
+    # 600 seconds for 1,200 metres: it comes in after 540 metres, and goes after 660
+    assert (visit.came, visit.went) == (
+        milliseconds("2024-06-21T18:04:30Z"),
+        milliseconds("2024-06-21T18:05:30Z"),
+    )
+    assert not visit.was_heard and visit.metres < 0.01 and visit.lap == 1
+
+
+def test_later_laps_are_seen() -> None:
+    """The recipe took the first time alone."""
+    rows = [
+        place(f"18:{minute:02}", "Q1A", north(metres), -3.5)
+        for minute, metres in [(0, 0), (5, 600), (10, 0), (15, 600), (20, 0)]
+    ]
+    found = visits(*rows)
+    assert [it.lap for it in found] == [1, 2, 3] and clocks(found)[0] == "18:00:00"
+
+
+def test_who_stays_near_is_there_once() -> None:
+    """A place a little outside of the circle is no lap: a receiver of GPS wanders."""
+    rows = [
+        place(f"18:{minute:02}", "Q1A", north(metres), -3.5)
+        for minute, metres in [(0, 50), (1, 70), (2, 55), (3, 100), (4, 30)]
+    ]
+    [visit] = visits(*rows)
+    assert text_of(visit.went)[11:16] == "18:04" and visit.metres == pytest.approx(30, abs=0.1)
+
+
+def test_no_way_leads_over_a_long_silence() -> None:
+    rows = place("18:00", "Q1A", north(-600), -3.5), place("18:20", "Q1A", north(600), -3.5)
+    assert visits(*rows) == [] and len(visits(*rows, most=2 * QUARTER)) == 1
+
+
+def test_no_way_leads_over_a_kill() -> None:
+    before = put("18:00", "Q1NET", "CAR", north(-600), -3.5)
+    killed = put("18:01", "Q1NET", "CAR", north(-600), -3.5, state="killed")
+    assert visits(before, killed, put("18:02", "Q1NET", "CAR", north(600), -3.5)) == []
+    assert len(visits(before, put("18:02", "Q1NET", "CAR", north(600), -3.5))) == 1
+
+
+def test_digits_left_out_don_t_count() -> None:
+    assert visits(place("18:00", "Q1A", 54.5, -3.5, ambiguity=1)) == []
+    assert len(visits(place("18:00", "Q1A", 54.5, -3.5, ambiguity=None, compressed=True))) == 1
+
+
+def test_the_date_line() -> None:
+    at = Checkpoint("Line", Spot(0, 180), 200)
+    rows = [place("18:00", "Q1A", 0, 179.99), place("18:10", "Q1A", 0, -179.99)]
+    [visit] = all_visits(things_of(rows), [at], QUARTER)
+    assert text_of((visit.came + visit.went) // 2)[11:19] == "18:05:00"
+
+
+METRES = st.integers(-400, 400)
+TIMES = st.dictionaries(st.integers(0, 59), st.tuples(METRES, METRES), min_size=1, max_size=8)
+
+
+@given(TIMES, st.randoms(use_true_random=False))
+def test_rows_in_any_order_give_the_same(places: Any, some: Any) -> None:
+    rows = [
+        place(f"18:{minute:02}", "Q1A", north(y), -3.5 + x / DEGREE_METRES)
+        for minute, (y, x) in places.items()
+    ]
+    other = list(rows)
+    some.shuffle(other)
+    found = visits(*rows)
+    assert found == visits(*other)
+    assert [it.lap for it in found] == list(range(1, len(found) + 1))
+    assert all(it.came <= it.went and it.metres <= TARN.metres for it in found)
+    assert all(one.went <= other.came for one, other in zip(found, found[1:]))
+
+
+@pytest.mark.parametrize(
+    "line",
+    [
+        "Tarn 54.5 west 60",
+        "Tarn 54.5 -3.5",
+        "54.5 -3.5 60",
+        "Tarn 91 0 60",
+        "Tarn 0 181 60",
+        "Tarn 0 0 0",
+        "Tarn 54,5 3.5 60",
+    ],
+)
+def test_no_checkpoint_is_said_with_its_line(line: str) -> None:
+    with pytest.raises(Fault, match="points: line 3"):
+        read_checkpoints("points", f"# some\nEnd 54.5 -3.5 60\n{line}\n")
+
+
+def test_a_file_of_checkpoints() -> None:
+    text = "\ufeffHalf way 54.501 -3.5 60\r\n\r\n# none\r\nEnd +1 2. 3\r\n"
+    assert read_checkpoints("points", text) == [
+        Checkpoint("Half way", Spot(54.501, -3.5), 60),
+        Checkpoint("End", Spot(1, 2), 3),
+    ]
+
+
+LAPS = [
+    place(f"18:{minute:02}", call, north(metres), -3.5)
+    for call, minute, metres in [
+        ("Q1A", 0, 0),
+        ("Q1A", 5, 600),
+        ("Q1A", 10, 0),
+        ("Q1B", 3, 0),
+        ("Q1C", 4, 600),
+    ]
+]
+
+
+def test_the_command(programs: Programs, tmp_path: pathlib.Path) -> None:
+    (tmp_path / "points").write_text("Tarn 54.5 -3.5 60\nFar away 10 10 60\n")
+    programs.say(*LAPS)
+    assert [it[:7] for it in programs.lines("passed", "points", "net.log")[1:]] == [
+        [
+            "Tarn",
+            "1",
+            "2024-06-21T18:00:00.000Z",
+            "2024-06-21T18:00:30.000Z",
+            "station",
+            "Q1A",
+            "1",
+        ],
+        [
+            "Tarn",
+            "2",
+            "2024-06-21T18:03:00.000Z",
+            "2024-06-21T18:03:00.000Z",
+            "station",
+            "Q1B",
+            "1",
+        ],
+        [
+            "Tarn",
+            "3",
+            "2024-06-21T18:09:30.000Z",
+            "2024-06-21T18:10:00.000Z",
+            "station",
+            "Q1A",
+            "2",
+        ],
+    ]
+    programs.run("passed", "-o", "points", "points", "net.log", status=2)
+
+
+def test_a_matrix_by_bib(programs: Programs, tmp_path: pathlib.Path) -> None:
+    (tmp_path / "points").write_text("Tarn 54.5 -3.5 60\nEnd 54.505396 -3.5 60\n")
+    (tmp_path / "names").write_text("call,bib,name\nQ1A,118,Anna\nQ1B,9,Ben\n")
+    programs.say(*LAPS)
+    assert programs.lines("passed", "--roster", "names", "--matrix", "points", "net.log") == [
+        ["bib", "name", "tactical", "Tarn 1", "End 1", "Tarn 2"],
+        ["9", "Q1B", "Ben", "18:03:00", "", ""],
+        ["118", "Q1A", "Anna", "18:00:00", "18:04:30", "18:09:30"],
+        ["", "Q1C", "", "", "18:04:00", ""],
+    ]

@@ -1,0 +1,137 @@
+"""The tables of a book in SQLite and as CSV."""
+import pathlib
+import sqlite3
+import subprocess
+from typing import Any, List
+
+import pytest
+from standing import Programs, at, message, place, put, row, station
+
+from aprsbook_tools.spreadsheet import read_csv
+
+
+def asked(path: pathlib.Path, what: str) -> List[Any]:
+    base = sqlite3.connect(path)
+    try:
+        return base.execute(what).fetchall()
+    finally:
+        base.close()
+
+
+def fill(programs: Programs) -> pathlib.Path:
+    programs.say(
+        place("18:00", "Q1A", 9.5, -3.5, altitude_m=304.8, course=7, text="=1+1"),
+        place("18:01", "Q1A", 54.5, -3.5),
+        put("18:02", "Q1NET", "CP 1", 54.6, -3.4, state="killed"),
+        row("status", "18:03", "Q1NET", text="Käppeli", receivers=("RX1", "RX2")),
+        message("18:04", "Q1A", "Q1NET", "hi", id="1"),
+        station("18:01", "Q1A", 12),
+    )
+    programs.run("sqlite", "net.log", "net.db")
+    return programs.folder / "net.db"
+
+
+def test_numbers_are_numbers(programs: Programs) -> None:
+    """Latitude and longitude were text, so that 9.5 was north of 54.5."""
+    path = fill(programs)
+    assert asked(
+        path, "select max(latitude), typeof(latitude), typeof(course) from transmissions"
+    ) == [(54.5 + 0.1, "real", "null")]
+    assert asked(path, "select latitude from tracks where latitude > 10 order by latitude") == [
+        (54.5,),
+        (54.6,),
+    ]
+    assert asked(path, "select typeof(transmissions), transmissions from stations") == [
+        ("integer", 12)
+    ]
+
+
+def test_what_isn_t_known_is_null(programs: Programs) -> None:
+    path = fill(programs)
+    assert asked(
+        path, "select kind, text, receivers from transmissions where latitude is null"
+    ) == [("status", "Käppeli", "RX1,RX2")]
+    assert asked(
+        path, "select altitude_m, compressed from transmissions order by first limit 1"
+    ) == [(304.8, "no")]
+    assert asked(path, "select kind, name, state from places where name = 'CP 1'") == [
+        ("object", "CP 1", "killed")
+    ]
+    assert asked(path, "select state, id, text, first from messages") == [
+        ("unanswered", "1", "hi", at("18:04"))
+    ]
+
+
+def test_the_last_place_of_each(programs: Programs) -> None:
+    path = fill(programs)
+    assert asked(path, "select kind, name, latitude, first from places order by name") == [
+        ("object", "CP 1", 54.6, at("18:02")),
+        ("station", "Q1A", 54.5, at("18:01")),
+    ]
+
+
+def test_other_tables_stay(programs: Programs) -> None:
+    path = fill(programs)
+    base = sqlite3.connect(path)
+    base.execute("create table mine (a)")
+    base.execute("insert into mine values (1)")
+    base.execute("drop view places")
+    base.execute("create table places (old)")  # as an older program made it
+    base.commit()
+    base.close()
+    programs.say(place("18:00", "Q1A", 1, 2))
+    programs.run("sqlite", "net.log", "net.db")
+    assert asked(path, "select * from mine") == [(1,)]
+    assert (
+        asked(path, "select count(*) from transmissions")
+        == [(1,)]
+        == asked(path, "select count(*) from places")
+    )
+
+
+def test_a_fault_takes_nothing_away(programs: Programs) -> None:
+    path = fill(programs)
+    before = path.read_bytes()
+    (programs.folder / "bad.log").write_text("faulty\n")
+    programs.run("sqlite", "bad.log", "net.db", status=1)
+    programs.run("sqlite", "bad.log", "new.db", status=1)
+    assert path.read_bytes() == before and not (programs.folder / "new.db").exists()
+    (programs.folder / "messages.tsv").write_text("other\n")
+    programs.run("sqlite", "net.log", "net.db", status=1)
+    assert asked(path, "select count(*) from transmissions") == [(4,)]
+    assert "has no column" in programs.said
+
+
+@pytest.mark.parametrize("name", ["net.log", "net.book", "notes.txt", "other.log"])
+def test_what_is_no_database_is_kept(programs: Programs, name: str) -> None:
+    (programs.folder / "net.book").write_text("APRSBOOK 3 30\nEND 0\n")
+    (programs.folder / "notes.txt").write_text("notes\n")
+    (programs.folder / "other.log").write_text("")
+    before = (programs.folder / name).read_bytes()
+    programs.run("sqlite", "net.log", "net.book", name, status=2)
+    assert (programs.folder / name).read_bytes() == before
+
+
+def test_a_database_that_is_written_is_waited_for(programs: Programs) -> None:
+    path = fill(programs)
+    hold = (
+        "import sqlite3, sys, time\nb = sqlite3.connect(sys.argv[1], isolation_level=None)\n"
+        "b.execute('begin immediate')\nprint('held', flush=True)\ntime.sleep(1)\n"
+    )
+    with subprocess.Popen(["python3", "-c", hold, str(path)], stdout=subprocess.PIPE) as other:
+        assert other.stdout and other.stdout.readline() == b"held\n"
+        programs.run("sqlite", "net.log", "net.db")
+
+
+def test_csv_of_a_table(programs: Programs) -> None:
+    fill(programs)
+    rows = [dict(zip(line, line)) for line in read_csv(programs.run("csv", "rows", "net.log"))[:1]]
+    assert "latitude" in rows[0] and "receivers" in rows[0]
+    text = programs.run("csv", "rows", "net.log")
+    assert "'=1+1" in text and "Käppeli" in text and '"RX1,RX2"' in text
+    assert read_csv(programs.run("csv", "stations", "net.log"))[1][:2] == ["Q1A", "12"]
+
+
+def test_csv_of_fields(programs: Programs) -> None:
+    (programs.folder / "fields").write_text("call\tsaid\nQ1A\t=1+1\nQ1B\ta, b\n")
+    assert programs.run("csv", "fields", "fields") == 'call,said\nQ1A,\'=1+1\nQ1B,"a, b"\n'

@@ -1,0 +1,352 @@
+"""aprs-net log: streams, servers that end, serial ports, APRS-IS, full disks and signals."""
+import os
+import pathlib
+import resource
+import signal
+import socket
+import subprocess
+import time
+from typing import Any, Dict, List
+
+import pytest
+
+from aprsbook_tools import ax25, kiss, log_file, sources
+from aprsbook_tools.commands import log as log_command
+from conftest import started, tried, wait_for
+
+FRAME = bytes.fromhex("c00082a0a4a64040e09c60868298986f03f03e4869c0")
+FRAME_1 = FRAME[:1] + b"\x10" + FRAME[2:]
+
+
+def logs(folder: pathlib.Path, kind: str = "log") -> Dict[str, List[bytes]]:
+    """The lines of all logs below the folder, by name; each of them is whole."""
+    result: Dict[str, List[bytes]] = {}
+    for path in sorted(folder.glob(f"*/*.{kind}")):
+        text = path.read_bytes()
+        assert text.endswith(b"\n")
+        result[path.name] = text.splitlines()
+        assert all(map(log_file.read_line, result[path.name])), path
+    return result
+
+
+def count(folder: pathlib.Path) -> int:
+    """How many lines the one log has."""
+    return sum(map(len, logs(folder).values()))
+
+
+def run(folder: pathlib.Path, given: bytes, *options: object, **keywords: Any) -> str:
+    """What the command says of a stream."""
+    return tried("log", *options, "RX1", folder, given=given, **keywords).stderr.decode()
+
+
+def test_a_stream_from_standard_input(tmp_path: pathlib.Path) -> None:
+    assert run(tmp_path, b"torn\xc0" + FRAME * 3 + FRAME[:9]) == ""
+    [lines] = logs(tmp_path).values()
+    assert [it[24:] for it in lines] == [b" RX1 " + FRAME.hex().encode()] * 3
+
+
+def test_several_radios(tmp_path: pathlib.Path) -> None:
+    run(tmp_path, FRAME + FRAME_1 * 2, "--ports")
+    assert {name: len(it) for name, it in logs(tmp_path).items()} == {"RX1.log": 1, "RX1-1.log": 2}
+    run(tmp_path, FRAME_1)
+    assert len(logs(tmp_path)["RX1.log"]) == 2
+
+
+def test_what_a_station_of_ones_own_sent_is_kept_apart(tmp_path: pathlib.Path) -> None:
+    own = kiss.wrap(ax25.frame("Q0OWN", "APRS,WIDE1-1", b">sent"))
+    back = kiss.wrap(ax25.frame("Q0OWN", "APRS,Q1DIG*", b">sent"))
+    run(tmp_path, own + back + FRAME, "--own", "Q0OWN")
+    assert {name: len(it) for name, it in logs(tmp_path).items()} == {"RX1.log": 2}
+    assert {name: len(it) for name, it in logs(tmp_path, "own").items()} == {"RX1.own": 1}
+
+
+def test_a_full_disk(tmp_path: pathlib.Path) -> None:
+    def limit() -> None:
+        resource.setrlimit(resource.RLIMIT_FSIZE, (1000, 1000))
+    text = run(tmp_path, FRAME * 40, status=1, preexec_fn=limit)
+    before = count(tmp_path)
+    assert 900 < sum(len(it) + 1 for it in logs(tmp_path)["RX1.log"]) <= 1000
+    assert f"frames that are lost: {40 - before}" in text
+    assert run(tmp_path, FRAME) == "" and count(tmp_path) == before + 1
+
+
+@pytest.mark.parametrize("wrong", [
+    [], ["RX1"], ["RX1", "made", "more"], ["RX.1", "made"], ["", "made"], ["RX1", ""],
+    ["12345678901234567", "made"], ["RX1", "file/made"], ["RX1", "file"],
+    ["--ports", "12345678901234", "made"], ["--aprs-is", "h:1", "RX1", "made"],
+    ["--filter", "r/1/2/3", "RX1", "made"], ["--idle", "-1", "RX1", "made"],
+    ["--baud", "1", "RX1", "made"], ["--own", "q0own", "RX1", "made"],
+    ["--aprs-is", "h:1", "--call", "Q0X", "--filter", "a\nb", "RX1", "made"]])
+def test_wrong_arguments(tmp_path: pathlib.Path, wrong: List[str]) -> None:
+    (tmp_path / "file").write_bytes(b"")
+    assert tried("log", *wrong, status=2, cwd=tmp_path).stderr.count(b"error: ") == 1
+    assert [it.name for it in tmp_path.iterdir()] == ["file"]
+
+
+@pytest.mark.parametrize("place", [
+    "localhost:99999", "localhost:0", "localhost", ":8001", "localhost:http", "a..b:8001",
+    "[::1]", "::1:8001", "localhost:8001:1", "x" * 64 + ":8001"])
+def test_places_that_are_none_are_refused(tmp_path: pathlib.Path, place: str) -> None:
+    said = run(tmp_path, b"", "--connect", place, status=2)
+    assert "HOST:PORT" in said or "can't be a host's name" in said
+
+
+def test_places() -> None:
+    assert sources.place("[::1]:8001") == ("::1", 8001)
+    assert sources.place("localhost:65535") == ("localhost", 65535)
+    assert sources.place("host", 14580) == ("host", 14580)
+
+
+def test_a_host_of_ip_6(tmp_path: pathlib.Path) -> None:
+    try:
+        server = socket.create_server(("::1", 0), family=socket.AF_INET6)
+    except OSError:
+        pytest.skip("needs IPv6")
+    with server, started("log", "--connect", f"[::1]:{server.getsockname()[1]}", "RX1",
+                         tmp_path) as process:
+        with server.accept()[0] as connection:
+            connection.sendall(FRAME)
+            wait_for(lambda: logs(tmp_path))
+        process.terminate()
+        assert process.wait() == 0
+
+
+@pytest.mark.parametrize("name", ["-n", "a b", "$(touch pwned)`touch pwned`\";touch pwned;'"])
+def test_a_folder_with_text_for_a_shell(tmp_path: pathlib.Path, name: str) -> None:
+    tried("log", "RX1", "--", name, given=FRAME, cwd=tmp_path)
+    assert count(tmp_path / name) == 1 and len(list(tmp_path.iterdir())) == 1
+
+
+def test_closed_standard_input(tmp_path: pathlib.Path) -> None:
+    process = started("log", "RX1", tmp_path, preexec_fn=lambda: os.close(0))
+    _, said = process.communicate()
+    assert process.returncode == 1 and said.count(b"\n") == 1, said
+
+
+class Server:
+    """A KISS TNC, or a server of APRS-IS, as a test wants it, and the command that listens."""
+
+    def __init__(self, folder: pathlib.Path, monkeypatch: pytest.MonkeyPatch) -> None:
+        self.folder = folder
+        self.server = socket.create_server(("127.0.0.1", 0))
+        self.server.settimeout(20)
+        self.place = self.server.getsockname()
+        self.said = folder / "said.txt"
+
+    def start(self, *options: object, kind: str = "--connect") -> "subprocess.Popen[bytes]":
+        with open(self.said, "wb") as said:
+            return started("log", kind, f"127.0.0.1:{self.place[1]}", *options, "RX1",
+                           self.folder / "logs", stderr=said)
+
+    def accept(self) -> socket.socket:
+        connection, _ = self.server.accept()
+        connection.settimeout(20)
+        return connection
+
+    def count(self) -> int:
+        return count(self.folder / "logs")
+
+    def says(self, words: str) -> None:
+        wait_for(lambda: words in self.said.read_text(), f"{words}: {self.said.read_text()}")
+
+
+@pytest.fixture
+def server(tmp_path: pathlib.Path, monkeypatch: pytest.MonkeyPatch) -> Server:
+    return Server(tmp_path, monkeypatch)
+
+
+def test_a_server_that_ends_in_a_frame_and_comes_back(server: Server) -> None:
+    with server.start() as process:
+        with server.accept() as connection:
+            connection.sendall(FRAME * 2 + FRAME[:9])
+        server.says("the connection ended")
+        with server.accept() as connection:
+            connection.sendall(FRAME[5:] + FRAME)
+            wait_for(lambda: server.count() == 3)
+        process.terminate()
+        assert process.wait() == 0
+    assert server.said.read_text().count("connected\n") == 2
+
+
+def test_a_server_that_is_away(server: Server) -> None:
+    server.server.close()
+    with server.start() as process:
+        server.says("refused")
+        server.server = socket.create_server(server.place)
+        with server.accept() as connection:
+            connection.sendall(FRAME)
+            wait_for(server.count)
+        process.terminate()
+        assert process.wait() == 0
+
+
+def test_nothing_is_missed_after_an_idle_timeout() -> None:
+    """A connection that was idle is made again at once, not five seconds later."""
+    pauses: List[float] = []
+
+    class Waits(sources.Waiting):
+        def pause(self, seconds: float) -> None:
+            pauses.append(seconds)
+            raise sources.Ended
+
+    class Idle(sources.Source):
+        def open(self, waiting: sources.Waiting) -> sources.Input:
+            raise OSError("timed out")
+
+    moments = iter([100.0, 100.0 + 900])
+    patch = pytest.MonkeyPatch()
+    patch.setattr("aprsbook_tools.sources.time.monotonic", lambda: next(moments))
+    sources.listen(Idle(), Waits(), lambda _: None, lambda: None, lambda _: None)
+    patch.undo()
+    assert pauses == [100 + sources.AGAIN - 1000] and pauses[0] < 0
+    begun = time.monotonic()
+    sources.Waiting().pause(pauses[0])
+    assert time.monotonic() - begun < 1
+
+
+def test_a_silent_server_is_given_up(server: Server) -> None:
+    with server.start("--idle", "0.3") as process:
+        silent = server.accept()
+        server.says("nothing came for 0.3 seconds")
+        with server.accept() as connection:
+            connection.sendall(FRAME)
+            wait_for(server.count)
+        silent.close()
+        process.terminate()
+        assert process.wait() == 0
+
+
+def test_sigterm_while_frames_are_held(tmp_path: pathlib.Path) -> None:
+    """They are lost, which is said, and the status tells it."""
+    day = time.strftime("%Y-%m-%d", time.gmtime())
+    folder = tmp_path / "logs"
+    folder.mkdir()
+    for it in (day, time.strftime("%Y-%m-%d", time.gmtime(time.time() + 86400))):
+        (folder / it).write_bytes(b"in the way")
+    process = started("log", "RX1", folder, stdin=subprocess.PIPE)
+    assert process.stdin and process.stderr
+    process.stdin.write(FRAME * 3)
+    process.stdin.flush()
+    assert b"held: 1" in process.stderr.readline()
+    process.terminate()
+    assert process.wait() == 1
+    assert b"frames that are lost: 3" in process.stderr.read()
+
+
+def test_sigterm_with_nothing_held_ends_well(tmp_path: pathlib.Path) -> None:
+    process = started("log", "RX1", tmp_path, stdin=subprocess.PIPE)
+    assert process.stdin
+    process.stdin.write(FRAME)
+    process.stdin.flush()
+    wait_for(lambda: logs(tmp_path))
+    process.send_signal(signal.SIGTERM)
+    assert process.wait() == 0
+
+
+def test_standard_error_is_on_the_full_disk(tmp_path: pathlib.Path) -> None:
+    if not os.path.exists("/dev/full"):
+        pytest.skip("needs /dev/full")
+    noise = b"\xc0" + bytes(3000)
+    with open("/dev/full", "wb") as full:
+        tried_ = started("log", "RX1", tmp_path, stdin=subprocess.PIPE, stderr=full)
+    tried_.communicate(noise + FRAME * 2)
+    assert tried_.returncode == 0 and count(tmp_path) == 2
+
+
+def test_the_reader_of_standard_error_has_gone(tmp_path: pathlib.Path) -> None:
+    reads, writes = os.pipe()
+    process = started("log", "RX1", tmp_path, stdin=subprocess.PIPE, stderr=writes)
+    os.close(reads)
+    os.close(writes)
+    process.communicate(b"\xc0" + bytes(3000) + FRAME * 2)
+    assert process.returncode == 0 and count(tmp_path) == 2
+
+
+def test_the_reader_of_standard_error_is_stuck(tmp_path: pathlib.Path) -> None:
+    reads, writes = os.pipe()
+    os.set_blocking(writes, False)
+    try:
+        while True:
+            os.write(writes, b"x" * 4096)
+    except BlockingIOError:
+        os.set_blocking(writes, True)
+    process = started("log", "RX1", tmp_path, stdin=subprocess.PIPE, stderr=writes)
+    process.communicate(b"\xc0" + bytes(3000) + FRAME * 2, timeout=30)
+    assert process.returncode == 0 and count(tmp_path) == 2
+    os.close(reads)
+    os.close(writes)
+
+
+def test_a_serial_port_that_is_unplugged(tmp_path: pathlib.Path) -> None:
+    """The logger waits, and opens it again."""
+    device, said = tmp_path / "ttyUSB0", tmp_path / "said.txt"
+
+    def plug() -> int:
+        ours, theirs = os.openpty()
+        device.unlink(missing_ok=True)
+        device.symlink_to(os.ttyname(theirs))
+        os.close(theirs)
+        return ours
+
+    with open(said, "wb") as file:
+        process = started("log", "--serial", device, "--baud", "1200", "RX1", tmp_path / "logs",
+                          stderr=file)
+    wait_for(lambda: "No such file" in said.read_text())
+    ours = plug()
+    wait_for(lambda: "is open" in said.read_text())
+    os.write(ours, FRAME)
+    wait_for(lambda: count(tmp_path / "logs") == 1)
+    os.close(ours)
+    wait_for(lambda: "is gone" in said.read_text() or "Input/output" in said.read_text())
+    ours = plug()
+    wait_for(lambda: said.read_text().count("is open") == 2)
+    # bytes that a terminal would change
+    os.write(ours, kiss.wrap(b"\x03\x04\x0d\x0a\x11\x13\x1a\x7f\xff"))
+    wait_for(lambda: count(tmp_path / "logs") == 2)
+    process.terminate()
+    assert process.wait() == 0
+    os.close(ours)
+    last = logs(tmp_path / "logs")["RX1.log"][-1]
+    assert last.endswith(b" RX1 c00003040d0a11131a7fffc0")
+
+
+FEED = b"""# logresp Q0CALL unverified, server T2TEST\r
+Q1RUN-7>APDW17,Q1DIG,WIDE1*,WIDE2-1,qAR,Q0GATE-1:!5432.58N/00327.36W>caf\xc3\xa9 <0x41>\r
+Q1RUN-7>APDW17,qAO,Q0OTHER:!5432.58N/00327.36W>caf\xc3\xa9 <0x41>\r
+Q1NET>APDW17,TCPIP*,qAC,T2TEST:>sent over the net alone\r
+Q1NET>APDW17,TCPIP*,qAR,Q0GATE-1:>sent over the net alone\r
+Q1lower>APDW17,qAR,Q0GATE-1:>no call\r
+"""
+
+
+def test_a_feed_of_aprs_is(server: Server) -> None:
+    options = "--call", "Q0CALL", "--filter", "r/54.5/-3.5/50"
+    with server.start(*options, kind="--aprs-is") as process:
+        with server.accept() as connection:
+            login = connection.recv(200)
+            assert login.startswith(b"user Q0CALL pass -1 vers aprs-net ")
+            assert login.endswith(b" filter r/54.5/-3.5/50\r\n")
+            connection.sendall(FEED[:200])
+            connection.sendall(FEED[200:])
+            wait_for(lambda: server.count() == 2)
+        # a server that is started again doesn't end it, and what is there stays
+        with server.accept() as connection:
+            assert connection.recv(200) == login
+            connection.sendall(FEED)
+            wait_for(lambda: server.count() == 4)
+        process.terminate()
+        assert process.wait() == 0
+    lines = logs(server.folder / "logs")["RX1.log"]
+    assert [it.split()[1] for it in lines] == [b"Q0GATE-1", b"Q0OTHER"] * 2
+    frame = ax25.frame("Q1RUN-7", "APDW17,Q1DIG,WIDE1*,WIDE2-1",
+                       "!5432.58N/00327.36W>caf\xe9 <0x41>".encode())
+    assert lines[0].endswith(kiss.wrap(frame).hex().encode())
+    said = server.said.read_text()
+    assert "Q1lower is no call" in said and "unverified" in said
+
+
+def test_words_are_said_whatever_standard_error_is(monkeypatch: pytest.MonkeyPatch) -> None:
+    def refuse(*_: object) -> None:
+        raise OSError("full")
+    monkeypatch.setattr(os, "write", refuse)
+    log_command.say("nothing happens")

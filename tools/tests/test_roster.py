@@ -1,0 +1,123 @@
+"""One syntax of a roster."""
+import pytest
+from hypothesis import given
+from hypothesis import strategies as st
+
+from aprsbook_tools.roster import Expected, call_of, read_roster
+
+CALLS = st.from_regex(r"[A-Z0-9]{1,6}(-([1-9]|1[0-5]|\*))?", fullmatch=True)
+NAMES = st.text(st.characters(blacklist_categories=("C", "Z")), min_size=1, max_size=12)
+
+
+@pytest.mark.parametrize(
+    "line, wanted",
+    [
+        ("Q1RUN-7", Expected("Q1RUN-7")),
+        ("Q1RUN-7 Leader", Expected("Q1RUN-7", "Leader")),
+        ("  q1run-7\tLeader\t Front ", Expected("Q1RUN-7", "Leader", "Front")),
+        ("Q1RUN-0 Base camp", Expected("Q1RUN", "Base camp")),
+        ("q1run-* sweepers, 2", Expected("Q1RUN-*", "sweepers, 2")),
+        ("Q1RUN-7,Leader,Front,118", Expected("Q1RUN-7", "Leader", "Front", "118")),
+        ("Q1RUN-7;Leader;Front", Expected("Q1RUN-7", "Leader", "Front")),
+        ('"Q1RUN-7","Leader, the",Front', Expected("Q1RUN-7", "Leader, the", "Front")),
+        ("Q1RUN-7 , Leader", Expected("Q1RUN-7", "Leader")),
+        ("\ufeffQ1RUN-7 Leader", Expected("Q1RUN-7", "Leader")),
+        ("Q1RUN-15", Expected("Q1RUN-15")),
+    ],
+)
+def test_a_line(line: str, wanted: Expected) -> None:
+    roster = read_roster(line + "\r\n")
+    assert roster.faults == [] and roster.expected == [wanted]
+
+
+@pytest.mark.parametrize(
+    "line",
+    [
+        "Q1RUN-16",
+        "Q1RUN-07",
+        "Q1RUNNER",
+        "Q1RUN-",
+        "-7",
+        "Q1*",
+        "Q1RUN-**",
+        "Q1RÜN",
+        ",Leader",
+        "()",
+    ],
+)
+def test_a_line_that_is_no_call_is_said_with_its_number(line: str) -> None:
+    roster = read_roster(f"Q1NET control\n\n# more\n{line}\nQ1MED")
+    assert [it.call for it in roster.expected] == ["Q1NET", "Q1MED"]
+    assert [it.line for it in roster.faults] == [4]
+    assert "is no call" in str(roster.faults[0])
+
+
+def test_any_ssid_is_kept() -> None:
+    """`Q1RUN-*` was dropped without a word by the page, which then said 0 of 1 in green."""
+    [entry] = read_roster("Q1RUN-*").expected
+    assert entry.is_any
+    assert all(entry.is_of(call) for call in ("Q1RUN", "Q1RUN-1", "Q1RUN-15"))
+    assert not entry.is_of("Q1RUNS")
+
+
+def test_a_call_without_an_ssid_is_that_call_alone() -> None:
+    [entry] = read_roster("Q1RUN").expected
+    assert entry.is_of("Q1RUN") and not entry.is_of("Q1RUN-7")
+
+
+@pytest.mark.parametrize("head", ["call,name,group", "Callsign;Name;Team", "CALL\tWho\tclass"])
+def test_a_head_line_is_none_of_a_station(head: str) -> None:
+    between = next(it for it in ",;\t" if it in head)
+    roster = read_roster(f"# made by hand\n{head}\n" + between.join(["Q1RUN-7", "Leader", "Front"]))
+    assert roster.faults == [] and roster.expected == [Expected("Q1RUN-7", "Leader", "Front")]
+
+
+def test_a_head_line_names_the_order() -> None:
+    roster = read_roster("Bib,Name,Age,Call\n118,Anna,31,q1run-7\n")
+    assert roster.expected == [Expected("Q1RUN-7", "Anna", "", "118")]
+
+
+def test_a_head_line_of_words() -> None:
+    assert read_roster("call name\nQ1RUN-7 Leader").expected == [Expected("Q1RUN-7", "Leader")]
+
+
+def test_a_call_that_stands_twice_is_said() -> None:
+    roster = read_roster("Q1RUN-0 one\nq1run two\n")
+    assert [str(it) for it in roster.faults] == ["line 2: Q1RUN is on line 1 already"]
+
+
+def test_the_name_is_that_of_the_call_before_that_of_any_ssid() -> None:
+    roster = read_roster("Q1RUN-* sweepers\nQ1RUN-7 Leader\n")
+    assert roster.name_of("Q1RUN-7") == "Leader" and roster.name_of("Q1RUN-8") == "sweepers"
+    assert roster.said("Q1RUN-7") == "Leader (Q1RUN-7)" and roster.said("Q1NET") == "Q1NET"
+
+
+@given(CALLS)
+def test_each_call_is_itself(call: str) -> None:
+    assert call_of(call.lower()) == (call if call else None)
+
+
+@given(
+    st.dictionaries(CALLS, NAMES, min_size=1, max_size=5),
+    st.sampled_from([" ", ",", ";", "\t"]),
+    st.sampled_from(["\n", "\r\n", "\r"]),
+    st.booleans(),
+)
+def test_what_is_written_is_read(
+    names: "dict[str, str]", between: str, end: str, mark: bool
+) -> None:
+    def quoted(name: str) -> str:
+        return name if between == " " else '"' + name.replace('"', '""') + '"'
+
+    text = "".join(f"{call}{between}{quoted(name)}{end}" for call, name in names.items())
+    if between == " " and any(name[0] in ",;" for name in names.values()):
+        return  # then it parts the line
+    roster = read_roster("\ufeff" * mark + text)
+    assert {it.call: it.name for it in roster.expected} == names and not roster.faults
+
+
+@given(st.text(max_size=80))
+def test_each_line_is_an_entry_or_a_fault_or_says_nothing(text: str) -> None:
+    roster = read_roster(text)
+    assert all(call_of(it.call) == it.call for it in roster.expected)
+    assert all(it.line >= 1 for it in roster.faults)

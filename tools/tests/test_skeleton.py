@@ -1,0 +1,27 @@
+"""The parts that all commands share."""
+import os
+import pathlib
+
+import pytest
+
+from aprsbook_tools import table, whole
+from aprsbook_tools.errors import Fault
+
+
+def test_bytes_are_read_where_they_are_utf_8() -> None:
+    assert table.text_of("caf\\xc3\\xa9 \\\\ \\xff \\x0a") == "café \\ \\xff \\x0a"
+
+
+def test_a_file_is_written_whole(tmp_path: pathlib.Path) -> None:
+    path = tmp_path / "net.book"
+    assert whole.write(str(path), b"one")
+    assert not whole.write(str(path), b"one")
+    assert path.read_bytes() == b"one"
+    assert os.listdir(tmp_path) == ["net.book"]
+
+
+def test_a_log_is_never_replaced(tmp_path: pathlib.Path) -> None:
+    log = tmp_path / "log"
+    log.write_bytes(b"2024-05-01T12:00:00.000Z RX1 c0c0\n")
+    with pytest.raises(Fault):
+        whole.write(str(log), b"page")

@@ -1,0 +1,51 @@
+"""What was typed."""
+import os
+import pathlib
+import subprocess
+
+import pytest
+from standing import Programs, place
+
+from aprsbook_tools import cli, typed
+
+BIN = pathlib.Path(__file__).resolve().parent.parent / "bin"
+
+
+def test_each_link_is_there() -> None:
+    links = {it for it in os.listdir(BIN) if (BIN / it).is_symlink()}
+    assert links == set(typed.LINKS)
+    assert all(os.readlink(BIN / it) == "aprs-net" for it in links)
+
+
+def test_a_link_is_its_subcommand(programs: Programs) -> None:
+    programs.say(place("18:00", "Q1A", 1, 2))
+    done = subprocess.run([BIN / "tracks", "csv", "net.log"], capture_output=True, check=True)
+    assert b"Q1A" in done.stdout
+    (programs.folder / "fields").write_text("a\tb\n")
+    done = subprocess.run([BIN / "to-csv"], input=b"a\t=b\n", capture_output=True, check=True)
+    assert done.stdout == b"a,'=b\n"
+
+
+@pytest.mark.parametrize("words", [
+    ["tracks", "gpx", "-o", "out", "net.log"], ["tracks", "-o", "out", "gpx", "net.log"],
+    ["tracks", "gpx", "net.log", "-o", "out"],
+    ["tracks", "gpx", "net.log", "--gap", "60", "-o", "out"],
+    ["tracks", "-o", "out", "--", "gpx", "net.log"],
+    ["tracks", "gpx", "-o", "out", "--", "net.log"],
+    ["tracks", "gpx", "--", "net.log", "-x.log"], ["passed", "points", "--gap", "60", "net.log"]])
+def test_options_stand_anywhere(words: "list[str]") -> None:
+    args = typed.parse(cli.make_parser(), words)
+    assert args.inputs[0] == "net.log" and (words[0] == "passed" or args.form == "gpx")
+
+
+def test_what_stands_behind_two_dashes_is_no_option() -> None:
+    args = typed.parse(cli.make_parser(), ["page", "--gap", "60", "--", "-x.log", "--y", "z"])
+    assert args.inputs == [os.path.join(".", it) for it in ("-x.log", "--y")] + ["z"]
+    assert typed.parse(cli.make_parser(), ["page", "--", "-x.log"]).inputs == ["./-x.log"]
+
+
+def test_what_isn_t_known_is_refused(programs: Programs) -> None:
+    programs.run("tracks", "gpx", "net.log", "--nowhere", status=2)
+    programs.run("nothing", status=2)
+    programs.run(status=2)
+    assert "usage: aprs-net tracks" in programs.run("tracks", "--help")

@@ -1,0 +1,155 @@
+"""What a net's control is told."""
+import json
+import os
+import pathlib
+import sys
+from typing import List
+
+import pytest
+from standing import Programs, at, message, place, station
+
+from aprsbook_tools import watching
+from aprsbook_tools.moments import milliseconds
+from aprsbook_tools.roster import Roster, read_roster
+from aprsbook_tools.table import Row
+
+NOW = milliseconds(at("19:00"))
+
+
+def test_who_is_silent_of_all() -> None:
+    found = watching.silent([station("18:30", "Q1A"), station("18:31", "Q1B")], Roster(), NOW, 30)
+    assert [(it.call, it.words) for it in found] == [("Q1A", "Q1A wasn't heard since 18:30:00 UTC")]
+
+
+def test_who_is_silent_of_those_expected() -> None:
+    roster = read_roster("Q1RUN-* Sweepers\nQ1MED Medic\nQ1A")
+    heard = [
+        station("18:00", "Q1RUN-1"),
+        station("18:59", "Q1RUN-2"),
+        station("18:00", "Q1A"),
+        station("18:00", "Q1OTHR"),
+    ]
+    assert [it.words for it in watching.silent(heard, roster, NOW, 30)] == [
+        "Medic (Q1MED) was never heard",
+        "Q1A wasn't heard since 18:00:00 UTC",
+    ]
+
+
+def test_what_is_not_answered() -> None:
+    """The state is the table's: an ack of another message with this number is none of this one."""
+    some = [
+        message("18:00", "Q1A", "Q1B", "one", id="7", state="acknowledged"),
+        message("18:01", "Q1A", "Q1B", "two", id="7"),
+        message("18:50", "Q1A", "Q1B", "three", id="8"),
+        message("18:00", "Q1A", "Q1B", "four", state="unnumbered"),
+    ]
+    assert [it.words for it in watching.unanswered(some, read_roster("Q1B Base"), NOW, 30)] == [
+        "Base (Q1B) hasn't acknowledged message 7 of Q1A, 18:01:00 UTC: two"
+    ]
+
+
+def said(clock: str, says: str) -> Row:
+    return place(clock, "Q1A-9", 54.5, -3.5, kind="mic-e", says=says, text="help")
+
+
+@pytest.mark.parametrize(
+    "rows, since",
+    [
+        ([], []),
+        ([said("18:00", "emergency")], ["18:00"]),
+        ([said("18:00", "emergency"), said("18:05", "emergency")], ["18:00"]),
+        ([said("18:00", "emergency"), said("18:05", "en-route")], []),
+        (
+            [said("18:00", "emergency"), said("18:05", "en-route"), said("18:10", "emergency")],
+            ["18:10"],
+        ),
+        ([said("18:00", "priority")], []),
+    ],
+)
+def test_emergencies(rows: "list[Row]", since: List[str]) -> None:
+    found = watching.emergencies(reversed(rows), read_roster("Q1A-9 Rover"))
+    assert [it.since for it in found] == [at(it) for it in since]
+    assert all(
+        "Rover (Q1A-9) reports an emergency" in it.words and "54.50000" in it.words for it in found
+    )
+
+
+WORDS = [
+    "watch",
+    "--silent",
+    "30",
+    "--unanswered",
+    "30",
+    "--emergency",
+    "--day",
+    "2024-06-21",
+    "--now",
+    at("19:00"),
+]
+
+
+@pytest.fixture
+def net(programs: Programs) -> Programs:
+    folder = programs.folder / "logs/2024-06-21"
+    folder.mkdir(parents=True)
+    (folder / "RX1.log").write_text("2024-06-21T18:00:00.000Z RX1 c0c0\n2024-06-21T1")
+    programs.say(
+        station("18:00", "Q1A"),
+        message("18:00", "Q1A", "Q1B", "$(rm x) ; -rf", id="1"),
+        said("18:10", "emergency"),
+    )
+    return programs
+
+
+def test_it_is_told_in_lines(net: Programs) -> None:
+    lines = net.run(*WORDS, "logs").splitlines()
+    assert [it.partition(":")[0] for it in lines] == ["emergency", "unanswered", "silent"]
+
+
+def test_each_is_told_once(net: Programs) -> None:
+    assert net.run(*WORDS, "--state", "told", "logs") != ""
+    assert net.run(*WORDS, "--state", "told", "logs") == ""
+    # what is over and comes again is told again
+    net.say(station("18:40", "Q1A"))
+    assert net.run(*WORDS, "--state", "told", "logs") == ""
+    net.say(station("18:00", "Q1A"))
+    assert net.run(*WORDS, "--state", "told", "logs").startswith("silent: Q1A")
+
+
+def test_a_command_is_told_without_a_shell(net: Programs, tmp_path: pathlib.Path) -> None:
+    script = tmp_path / "tell"
+    script.write_text(
+        "import json, os, sys\nopen('heard', 'a').write(json.dumps([sys.argv[1:], "
+        "os.environ['APRS_KIND'], os.environ['APRS_CALL']]) + '\\n')\n"
+    )
+    net.run(*WORDS, "--run", f"{sys.executable} '{script}' --to me", "logs")
+    told = [json.loads(line) for line in (tmp_path / "heard").read_text().splitlines()]
+    assert [it[1] for it in told] == ["emergency", "unanswered", "silent"]
+    assert all(it[0][:2] == ["--to", "me"] and len(it[0]) == 3 for it in told)
+    assert told[1][0][2].endswith("$(rm x) ; -rf") and told[2][2] == "Q1A"
+
+
+@pytest.mark.parametrize("command", ["false", "/nowhere/command"])
+def test_what_a_command_refuses_is_told_again(net: Programs, command: str) -> None:
+    net.run(*WORDS, "--state", "told", "--run", command, "logs", status=1)
+    assert command in net.said
+    assert len(net.run(*WORDS, "--state", "told", "logs").splitlines()) == 3
+
+
+@pytest.mark.parametrize(
+    "words", [["logs"], ["--emergency", "--run", "", "logs"], ["--emergency", "--run", "'", "logs"]]
+)
+def test_what_would_tell_nothing_is_refused(net: Programs, words: List[str]) -> None:
+    net.run("watch", *words, status=2)
+
+
+def test_another_file_is_no_state(net: Programs, tmp_path: pathlib.Path) -> None:
+    (tmp_path / "notes").write_text("mine")
+    net.run(*WORDS, "--state", "notes", "logs", status=2)
+    assert (tmp_path / "notes").read_text() == "mine"
+
+
+def test_a_folder_without_logs_is_said(net: Programs) -> None:
+    os.rename(net.folder / "logs", net.folder / "other")
+    net.run(*WORDS, "logs", status=1)
+    assert "in logs is no log of 2024-06-21" in net.said

@@ -1,0 +1,258 @@
+"""The reports of logs, by aprsbook and aprsbook-table; left out where these are missing."""
+import csv
+import io
+import json
+import pathlib
+import random
+import sqlite3
+from typing import Any, Dict, Iterable, List, Tuple
+
+import pytest
+from conftest import EVENING, program, run, tried
+from hypothesis import given, settings
+from hypothesis import strategies as st
+
+from aprsbook_tools import ax25, kiss, log_file, moments
+from aprsbook_tools.spreadsheet import read_csv
+
+# moment of that evening, source, what it sends, and perhaps over whom, and who hears it
+Sent = Tuple[str, str, str]
+
+
+@pytest.fixture(autouse=True)
+def programs_are_there(tmp_path: pathlib.Path, monkeypatch: pytest.MonkeyPatch) -> None:
+    program("aprsbook")
+    program("aprsbook-table")
+    monkeypatch.chdir(tmp_path)
+
+
+def line(clock: str, source: str, text: str, path: str = "APRS", receiver: str = "RX1") -> bytes:
+    """A line of a log."""
+    frame = ax25.frame(source, path, text.encode())
+    moment = moments.milliseconds(f"2024-06-21T{clock}Z")
+    return log_file.of_frame(moment, receiver, kiss.wrap(frame)).write()
+
+
+def log_of(sent: Iterable[Sent]) -> bytes:
+    return b"".join(line(*it) for it in sent)
+
+
+def lines(*words: str, given: bytes = b"") -> List[List[str]]:
+    """The fields of the lines that a command prints, without the head."""
+    text = tried(*words, given=given).stdout.decode()
+    return [it.split("\t") for it in text.splitlines()[1:]]
+
+
+def test_an_ack_of_an_earlier_message_is_none_of_a_later_one() -> None:
+    """The form said `ack` of a message that nobody acknowledged: its number was used before."""
+    log = log_of(
+        [
+            ("18:00:00", "Q1A", ":Q1B      :one{7"),
+            ("18:01:00", "Q1B", ":Q1A      :ack7"),
+            ("19:00:00", "Q1A", ":Q1B      :two{7"),
+        ]
+    )
+    rows = read_csv(tried("ics-309", "--csv", given=log).stdout.decode())[1:]
+    state = {it[4]: it[5] for it in rows}
+    assert state["one"] == "acknowledged"
+    table = csv.reader(
+        io.StringIO(run("aprsbook-table", "messages", given=log).decode()),
+        delimiter="\t",
+        quoting=csv.QUOTE_NONE,
+    )
+    head = next(table)
+    assert state == {it[head.index("text")]: it[head.index("state")] for it in table}
+
+
+def test_a_message_that_was_rejected_and_acknowledged_later() -> None:
+    log = log_of(
+        [
+            ("18:00:00", "Q1A", ":Q1B      :one{8"),
+            ("18:01:00", "Q1B", ":Q1A      :rej8"),
+            ("18:02:00", "Q1B", ":Q1A      :ack8"),
+        ]
+    )
+    text = run("aprsbook-table", "messages", given=log).decode().splitlines()
+    state = dict(zip(text[0].split("\t"), text[1].split("\t")))["state"]
+    [row] = read_csv(tried("ics-309", "--csv", given=log).stdout.decode())[1:]
+    assert row[4:] == ["one", state]
+
+
+def test_messages_of_the_evening() -> None:
+    listed = []
+    for shown in run("aprsbook", "show", *EVENING).decode().splitlines():
+        if shown.startswith("message "):
+            _, source, to, number, state, first, tail = shown.split(" ", 6)
+            listed.append(
+                [first, source, "" if number == "-" else number, to, tail.partition("Z:")[2], state]
+            )
+    rows = read_csv(tried("ics-309", "--csv", *EVENING).stdout.decode())[1:]
+    assert sorted(rows) == sorted(listed) and len(rows) > 5
+
+
+def test_last_heard_of_the_evening() -> None:
+    last: Dict[str, str] = {}
+    for path in EVENING:
+        for text in run("aprsbook", "convert", "log", path).decode().splitlines():
+            moment, receiver, digits = text.split(" ")
+            call = ax25.call_of(kiss.unwrap(bytes.fromhex(digits)[1:-1])[7:14])
+            last[call] = max(last.get(call, ""), f"{moment} {receiver}")
+    told = {it[2]: f"{it[0]} {it[1]}" for it in lines("last-heard", *EVENING)}
+    assert told == last
+
+
+def test_a_roster(tmp_path: pathlib.Path) -> None:
+    log = log_of(
+        [("18:00:00", "Q1RUN-7", ">a"), ("18:01:00", "Q1RUN-8", ">c"), ("18:02:00", "Q1RUNS", ">d")]
+    ) + line("18:05:00", "Q1RUN", ">b", receiver="RX2")
+    (tmp_path / "names").write_text(
+        "Q1RUNS the other\n\nq1run-* sweepers, 2\nQ1GONE gone\nQ1RUN-0\n"
+    )
+    assert [it[:4] for it in lines("roster", "names", given=log)] == [
+        ["never", "", "Q1GONE", "0"],
+        ["2024-06-21T18:02:00.000Z", "RX1", "Q1RUNS", "1"],
+        ["2024-06-21T18:05:00.000Z", "RX2", "Q1RUN-*", "3"],
+        ["2024-06-21T18:05:00.000Z", "RX2", "Q1RUN", "1"],
+    ]
+
+
+def test_checkpoints(tmp_path: pathlib.Path) -> None:
+    # by thousandths of a degree of latitude, each of 111.2 metres
+    log = log_of(
+        (f"18:0{minute}:00", source, f"!54{30 + part:05.2f}N/00330.00W>")
+        for minute, source, part in [
+            (0, "Q1A", 0.00),
+            (1, "Q1A", 0.06),
+            (2, "Q1A", 0.12),
+            (3, "Q1B", 0.12),
+            (4, "Q1B", 0.06),
+        ]
+    )
+    log += line("18:07:00", "Q1SHIP", "!6000.00N/17959.94E>")
+    log += line("18:05:00", "Q1C", "!5430.  N/00330.  W>")
+    (tmp_path / "points").write_text("Half way 54.501 -3.5 60\nDate line 60 -179.999 200\n")
+    told = [[it[0], it[5], it[2][11:19], it[7]] for it in lines("passed", "points", given=log)]
+    # 111.2 metres a minute: 60 metres are 32.4 seconds
+    assert told == [
+        ["Half way", "Q1A", "18:00:27", "0"],
+        ["Half way", "Q1B", "18:03:27", "0"],
+        ["Date line", "Q1SHIP", "18:07:00", "111"],
+    ]
+
+
+def test_utf_8_and_heights() -> None:
+    log = log_of([("18:00:00", "Q1FLY", "!5432.58N/00327.36W'088/036/A=001000 Käppeli ☂")])
+    [row] = read_csv(tried("tracks", "csv", given=log).stdout.decode())[1:]
+    assert row[10:] == ["/'", "88", "36", "304.8", "088/036/A=001000 Käppeli ☂"]
+    assert "<ele>304.8</ele>" in tried("tracks", "gpx", given=log).stdout.decode()
+
+
+def test_the_database(tmp_path: pathlib.Path) -> None:
+    tried("sqlite", *EVENING, "net.db")
+    base = sqlite3.connect(tmp_path / "net.db")
+    [[n]] = base.execute("select count(*) from transmissions").fetchall()
+    book = run("aprsbook", "merge", *EVENING).decode().splitlines()
+    assert n == len(book) - 2
+    types = base.execute(
+        "select distinct typeof(latitude) from transmissions order by 1"
+    ).fetchall()
+    assert types == [("null",), ("real",)]
+    [[last]] = base.execute("select count(*) from places").fetchall()
+    things = lines("places", "--last", *EVENING)
+    assert last == len(things)
+    base.close()
+
+
+def test_a_book_of_another_gap_says_its_gap(tmp_path: pathlib.Path) -> None:
+    """Reports wanted --gap for such a book."""
+    (tmp_path / "wide.book").write_bytes(run("aprsbook", "merge", "--gap", "60", *EVENING))
+    assert lines("last-heard", "wide.book") == lines("last-heard", "--gap", "60", *EVENING)
+    tried("last-heard", "--gap", "30", "wide.book", status=1)
+
+
+def test_the_keeper(tmp_path: pathlib.Path) -> None:
+    log = (
+        line("18:00:00", "Q1A", "!5430.00N/00330.00W>")
+        + line("18:00:01", "Q1A", "!5430.00N/00330.00W>", "APRS,Q1DIG*,WIDE1*")
+        + line("18:00:02", "Q1A", "!5430.00N/00330.00W>", "APRS,Q1DIG*,Q1TOP*,WIDE2*")
+        + line("18:01:00", "Q1B", ">far", "APRS,Q1DIG*,WIDE1*")
+    )
+    (tmp_path / "rx.log").write_bytes(log)
+    # a book has one row of the first three, heard over two digipeaters
+    assert [it[:4] for it in lines("keeper", "--part", "direct", "rx.log")] == [
+        ["RX1", "Q1A", "1", "3"]
+    ]
+    assert lines("keeper", "--part", "hops", "rx.log") == [
+        ["RX1", "0", "1"],
+        ["RX1", "1", "2"],
+        ["RX1", "2", "1"],
+    ]
+    assert lines("keeper", "--part", "repeats", "rx.log") == [
+        ["Q1DIG", "Q1A", "2"],
+        ["Q1DIG", "Q1B", "1"],
+        ["Q1TOP", "Q1DIG", "1"],
+    ]
+    [far] = lines("keeper", "--part", "farthest", "--at", "55.5,-3.5", "rx.log")
+    assert far[1:4] == ["Q1A", "111.2", "180"]
+
+
+def test_an_emergency(tmp_path: pathlib.Path) -> None:
+    """Of Mic-E, with the message bits 000 (APRS Protocol Reference, chapter 10)."""
+    folder = tmp_path / "logs/2024-06-21"
+    folder.mkdir(parents=True)
+    # 54 degrees 30.00 minutes north, 3 degrees 30.00 minutes west, and the bits 0, 0, 0
+    log = line("18:00:00", "Q1A-9", "`y:\x1cl \x1c>/", "543PPP")
+    (folder / "RX1.log").write_bytes(log)
+    text = run("aprsbook-table", given=log).decode().splitlines()
+    row = dict(zip(text[0].split("\t"), text[1].split("\t")))
+    assert (row["says"], row["latitude"], row["longitude"]) == (
+        "emergency",
+        "54.5000000",
+        "-3.5000000",
+    )
+    told = tried("watch", "--emergency", "--day", "2024-06-21", "logs").stdout.decode()
+    assert told.startswith("emergency: Q1A-9 reports an emergency")
+
+
+TEXTS = [
+    "!5430.0%dN/00330.00W>",
+    ">status %d",
+    ";CP1      *111111z5430.0%dN/00330.00W>",
+    ";CP1      _111111z5430.0%dN/00330.00W>",
+    ")AID!5430.0%dN/00330.00W+",
+    ":Q1B      :hi{%d",
+    "!5430.0%dN/00330.00W_220/004g005t077",
+]
+HEARD = st.tuples(
+    st.integers(0, 200_000),
+    st.sampled_from(["Q1A", "Q1B-7"]),
+    st.sampled_from(TEXTS),
+    st.integers(0, 3),
+    st.sampled_from(["RX1", "RX2"]),
+)
+
+
+@settings(max_examples=5)
+@given(st.lists(HEARD, min_size=1, max_size=12), st.randoms(use_true_random=False))
+def test_tracks_of_a_log_in_any_order_are_the_same(heard: Any, some: random.Random) -> None:
+    log = []
+    for at, source, text, number, receiver in heard:
+        clock = moments.text_of(moments.milliseconds("2024-06-21T18:00:00Z") + at)[11:23]
+        log.append(line(clock, source, text % number, receiver=receiver))
+    other = list(log)
+    some.shuffle(other)
+    for form in "csv", "gpx":
+        one = tried("tracks", form, given=b"".join(log)).stdout
+        assert one == tried("tracks", form, given=b"".join(other)).stdout
+
+
+def test_tracks_of_the_evening_have_each_place() -> None:
+    text = run("aprsbook-table", *EVENING).decode().splitlines()
+    head = text[0].split("\t")
+    rows = [dict(zip(head, it.split("\t"))) for it in text[1:]]
+    placed = [it for it in rows if it["latitude"]]
+    features = json.loads(tried("tracks", "geojson", *EVENING).stdout)["features"]
+    points = [it for it in features if it["geometry"]["type"] == "Point"]
+    assert sorted(
+        (it["properties"]["first"], *it["geometry"]["coordinates"]) for it in points
+    ) == sorted((it["first"], float(it["longitude"]), float(it["latitude"])) for it in placed)
