@@ -117,7 +117,10 @@ def lower_crates(crate: str) -> List[str]:
 
 def verdict(folder: str, whole: bool) -> str:
     """What refuses the crate in this folder as it stands; empty where nothing does."""
-    only = [] if whole else ["--only", "examples", "--only", "laws"]
+    only: List[str] = []
+    for module in () if whole else ("example", "examples", "laws"):
+        if os.path.exists(f"{folder}/src/{module}.rt"):
+            only += ["--only", module]
     command = ["nice", "rt", "check", "--jobs", "1"] + only
     run = subprocess.run(command, cwd=folder, capture_output=True, text=True, check=False)
     said = run.stdout + run.stderr
