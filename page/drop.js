@@ -7,6 +7,7 @@ import {
   asText, fileOf, leaveOut, lineText, look, placeOf, shifts, take,
 } from "./intake.js";
 import { REASONS } from "./kinds.js";
+import { rosterText } from "./roster.js";
 import { movedIn } from "./shift.js";
 import { squareOf } from "./tiles.js";
 import { aMoment, beginWorkers, run } from "./workers.js";
@@ -275,10 +276,10 @@ const asHtml = text => text.replace(/[&<>"']/g, it =>
 /** The page of the event, the same that event-page makes of these files. */
 export function eventPage() {
   const { digests } = parts, { waits, ...data } = page.data;
-  for (const it of page.brought.filter(one => !one.fault)) {
-    if (it.base) data.maps = [...data.maps, it.text];
-    else data.roster += (data.roster && "\n") + it.text;
-  }
+  const brought = page.brought.filter(one => !one.fault), rosters = brought.filter(it => it.roster);
+  data.maps = [...data.maps, ...brought.filter(it => it.base).map(it => it.text)];
+  if (rosters.length + (data.roster ? 1 : 0) > 1) data.roster = rosterText(page.roster.list);
+  else if (rosters.length) data.roster = rosters[0].text;
   const values = { TITLE: asHtml(data.title), STYLE: document.querySelector("style").textContent,
     POLICY: `default-src 'none'; script-src ${digests.draws}; style-src ${digests.style}; ` +
       "base-uri 'none'; form-action 'none'",

@@ -6,7 +6,6 @@ import { air, byId, choose, chosen, make, momentOf, save } from "./dom.js";
 import { gathered, SAVES } from "./exports.js";
 import { detailLines } from "./facts.js";
 import { bearing, distance, locatorOf, minutesText } from "./globe.js";
-import { tablesOf } from "./history.js";
 import { cell, List, timeCell } from "./lists.js";
 import { NetMap } from "./map.js";
 import { bulletinList, fillForm, inOrder, messageList } from "./messages.js";
@@ -51,8 +50,7 @@ export const view = {
  * the reader chose stays. `read` are the columns of the rows, where they are made already.
  */
 export function show(data, read = null) {
-  const tables = data.rows === undefined ? tablesOf(data.history, data.listing) : {};
-  page.next = { data: { ...data, ...tables }, read, all: null };
+  page.next = { data, read, all: null };
   return refresh();
 }
 /** Draws all anew, for the part of the time that is shown. What is given up ends with the next. */

@@ -7,16 +7,13 @@ import { isBulletin } from "./net.js";
 import { who } from "./roster.js";
 import { fullText, zoneText } from "./words.js";
 
-const NOT_JUDGED = "it ends in a reply-ack such as {01}, of which nobody can say whether it came";
-
 /** What is said of a message's state beside the state. */
 function answerOf(it) {
-  if (it.state === "not judged") return NOT_JUDGED;
   if (Number.isNaN(it.answered)) return "";
   return `${it.answeredBy ? `by ${who(it.answeredBy)}, ` : ""}${fullText(it.answered)}`;
 }
 function messageRow(it) {
-  return make("tr", { className: it.state.replace(" ", "-") },
+  return make("tr", { className: it.state },
     make("td", { className: "state", textContent: it.state, title: answerOf(it) }),
     cell("call from", callIn(who(it.source))), cell("call to", callIn(who(it.addressee))),
     cell("text", air(it.text)), cell("id", it.id), timeCell(it.first), timeCell(it.last));

@@ -16,7 +16,7 @@ import { said } from "./words.js";
 /** @typedef {{ rows: Rows, messages: Message[], end: number }} All what was read of the tables */
 
 /** The states of messages, in the order in which they stand. */
-const STATES = ["unanswered", "rejected", "not judged", "unnumbered", "acknowledged"];
+const STATES = ["unanswered", "rejected", "unnumbered", "acknowledged"];
 export const isBulletin = (/** @type {Message} */ message) =>
   /^(BLN|NWS-)/.test(message.addressee);
 

@@ -63,14 +63,13 @@ function clocksOff(/** @type {import("./net.js").Receiver[]} */ receivers, /** @
  */
 export function newsOf(net, { gap, silent, isSilent, missing, expected }) {
   const of = (/** @type {string} */ state) => net.messages.filter(it => it.state === state).length;
-  const unanswered = of("unanswered"), rejected = of("rejected"), open = of("not judged");
+  const unanswered = of("unanswered"), rejected = of("rejected");
   const quiet = net.things.filter(isSilent).length, words = needsOf(net.things);
   const unfixed = net.things.filter(it => it.unfixed).length;
   /** @param {string} href @param {Word["grade"]} grade @param {string} text */
   const say = (href, grade, text) => words.push({ href, grade, text });
   say("#said", unanswered ? "bad" : "good", `${count(unanswered, "message")} unanswered`);
   if (rejected) say("#said", "bad", `${count(rejected, "message")} rejected`);
-  if (open) say("#said", "warn", `${count(open, "message")} can\u2019t be judged`);
   say("#list", quiet ? "warn" : "good", `${count(quiet, "station")} silent for over ${silent} min`);
   if (expected) say("#roster", missing ? "bad" : "good", `${missing} of ${expected} expected not heard`);
   words.push(...clocksOff(net.receivers, gap));

@@ -101,6 +101,16 @@ export function joined(all) {
     return isNew;
   });
 }
+/**
+ * The text of a roster, which is read as this one.
+ * @param {Expected[]} list
+ */
+export function rosterText(list) {
+  const field = (/** @type {string} */ text) =>
+    /[",;\t]|^\s|\s$/.test(text) ? `"${text.replaceAll('"', '""')}"` : text;
+  return ["call,name,group,number", ...list.map(it => COLUMNS.map(name => field(it[name])).join())]
+    .map(line => line + "\n").join("");
+}
 const baseOf = (/** @type {string} */ call) => call.replace(/-\d+$/, "");
 
 /** Whom one knows: names by call. */

@@ -96,7 +96,7 @@ def policy(scripts, style, more=""):
 
 def event(data):
     """The page of an event: title, live, silent, gap, maps, roster, notes; and of its book the tables
-    rows and messages, or where there are none its history and its listing."""
+    rows and messages."""
     draws, style = script(DRAWS), read("page.css")
     asks = "; connect-src 'self'" if data["live"] else ""
     return filled({

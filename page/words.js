@@ -9,20 +9,6 @@ const unprintable = /^[\p{C}\p{Z}]$/u;
  * @param {string} shown
  */
 export const letterOf = shown => /^\\(?:x..|\\)|^./s.exec(shown)?.[0] ?? "";
-/**
- * The first `n` words of a text, and what stands after them.
- * @param {string} text @param {number} n
- */
-export function cut(text, n) {
-  const words = [];
-  for (let at = 0; n > 0; n--) {
-    const end = text.indexOf(" ", at);
-    words.push(text.slice(at, end < 0 ? text.length : end));
-    at = end < 0 ? text.length : end + 1;
-    if (n === 1) words.push(text.slice(at));
-  }
-  return words;
-}
 /** The octets of a text as aprsbook shows it, with `\x..` for each that is no plain letter. */
 function octetsOf(shown) {
   const octets = [];

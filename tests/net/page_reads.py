@@ -15,7 +15,6 @@ import json
 import os
 import pathlib
 import random
-import re
 import shutil
 import subprocess
 import sys
@@ -39,12 +38,10 @@ BOOK = "btoa(String.fromCharCode(...aprsfiles.made().book))"
 # each file, and what is said of it
 TOLD = ("Object.fromEntries([...document.querySelectorAll('#files tbody tr')]"
         ".map(it => [it.cells[0].textContent, it.querySelector('.verdict').textContent]))")
+MORE = TOLD.replace("verdict", "more")
 # what a command of the program makes of the book that the page made
 OF_BOOK = ("aprsfiles.run(%r, 30, [aprsfiles.made().book])"
            ".then(it => btoa(String.fromCharCode(...it.bytes)))")
-# whether the module has the program's tables, or the page makes them of its other texts
-HAS_TABLES = "'table rows'" in (EXAMPLES.parent / "page/host.js").read_text().replace('"', "'")
-DATA = re.compile('<script type="application/json" id="data">(.*?)</script>', re.S)
 COMMANDS = ["check", "convert text", "convert kind", "convert kiss", "convert log",
             "convert capture", "merge", "merge", "show", "show", "history", "widen"]
 
@@ -52,6 +49,8 @@ COMMANDS = ["check", "convert text", "convert kind", "convert kiss", "convert lo
 def program(words, files=(), given=None):
     if words[0] == "history":
         words = ["aprsbook-history", *words[1:]]
+    elif words[0] in ("rows", "messages"):
+        words = ["aprsbook-table", *words]
     else:
         words = ["aprsbook", *words]
     return subprocess.run([*words, *map(str, files)], input=given, stdout=subprocess.PIPE,
@@ -64,15 +63,8 @@ def checked(path):
 
 
 def same_page(page, own):
-    """Whether the page of an event that the page makes is that of event-page: but for their data the
-    bytes, and what both have of the data."""
-    own, made = own.decode(), page.js("aprsfiles.eventPage()")
-    if own == made:
-        return True
-    data = [json.loads(DATA.search(it)[1]) for it in (own, made)]
-    both = data[0].keys() & data[1].keys()
-    return (DATA.sub("", own) == DATA.sub("", made) and {"title", "notes", "roster"} <= both and
-            all(data[0][it] == data[1][it] for it in both))
+    """Whether the page of an event that the page makes is that of event-page."""
+    return page.js("aprsfiles.eventPage()") == own.decode()
 
 
 def base64_of(text):
@@ -119,9 +111,8 @@ def test_same(page, _):
         (["rows 3", "merge 3"], ["check 1"] * 3 + ["messages 1"]))
     for command in "history", "show":
         is_(page.js(OF_BOOK % command), base64_of(program([command], EVENING).stdout))
-    if HAS_TABLES:
-        own = subprocess.run(["aprsbook-table", *EVENING], stdout=subprocess.PIPE, check=True)
-        is_(page.js("aprsbook.page.data.rows"), own.stdout.decode())
+    for table in "rows", "messages":
+        is_(page.js(f"aprsbook.page.data.{table}"), program([table], EVENING).stdout.decode())
     own = subprocess.run(["event-page", *EVENING], stdout=subprocess.PIPE, check=True).stdout
     is_(same_page(page, own), True)
     is_(page.js("(aprsbook.page.map.paint(), aprsbook.page.map.marks.length)"),
@@ -221,7 +212,7 @@ def test_faults(page, folder):
     is_(page.js("document.activeElement.textContent"), "take away")
     picture(page, "faults")
     # so does it where files are taken away
-    page.js("(document.querySelector('#files button').focus(), 1)")
+    page.js("(document.querySelector('#files td:last-child button').focus(), 1)")
     for k in range(9):
         page.key(" ", 32)
         page.wait(f"aprsfiles.files.length === {8 - k}")
@@ -345,10 +336,12 @@ def test_brought(page, folder):
     (folder / "their.txt").write_bytes(b"Q1WX-13\r\n")
     drop(page, folder / "their.txt")
     page.wait("told.textContent.startsWith('their.txt: 1 call; ')")
-    is_(page.js("aprsbook.page.roster.map(it => it.call).sort()"), ["Q1MED-7", "Q1RUN-*", "Q1WX-13"])
+    is_(page.js("aprsbook.page.roster.list.map(it => it.call).sort()"),
+        ["Q1MED-7", "Q1RUN-*", "Q1WX-13"])
     page.wait(MADE)
     roster = folder / "both.txt"
-    roster.write_bytes(files["ours.csv"] + b"\nQ1WX-13\r\n")
+    roster.write_text("call,name,group,number\nQ1RUN-*,leader,,\nQ1MED-7,second post,,\n"
+                      "Q1WX-13,,,\n")
     own = subprocess.run(["event-page", "--roster", roster, *EVENING], stdout=subprocess.PIPE,
                          check=True).stdout
     is_(same_page(page, own), True)
@@ -517,7 +510,7 @@ def test_missed(page, folder):
         # what was read once stays, though the server has it no longer
         (folder / "north.log").unlink()
         page.js(again)
-        page.wait(f"{MADE} && {TOLD}['north.log'] === 'the server answers 404'")
+        page.wait(f"{MADE} && {MORE}['north.log'].startsWith('the server answers 404, since 20')")
         is_(page.js(BOOK), base64_of(program(["merge"], EVENING).stdout))
         (folder / "north.log").write_bytes(logs["north.log"])
         (folder / "gone.log").write_bytes(b"")
@@ -569,11 +562,8 @@ def dropped(page, what, logs, wanted):
         return page.js("({ shown: came - went, still, task })")
 
     scale.judged(measure, wanted, f"{what} dropped in {page.name}")
-    own = [program(["merge"], logs).stdout]
-    if HAS_TABLES:
-        own.append(subprocess.run(["aprsbook-table", *logs], stdout=subprocess.PIPE,
-                                  check=True).stdout)
-    is_(page.js(DIGEST)[:len(own)], [list(hashlib.sha256(it).digest()) for it in own])
+    own = [program([command], logs).stdout for command in ("merge", "rows")]
+    is_(page.js(DIGEST), [list(hashlib.sha256(it).digest()) for it in own])
 
 
 def test_large(page, folder):

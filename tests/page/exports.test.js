@@ -1,7 +1,7 @@
 import assert from "node:assert/strict";
 import { test } from "node:test";
 import { savedText } from "../../page/exports.js";
-import { cut, letterOf, printable, said } from "../../page/words.js";
+import { letterOf, printable, said } from "../../page/words.js";
 import { message, moment, netOfLines, place, row } from "./tables.js";
 
 test("places: a row for each, with what the table says, and no formula", () => {
@@ -48,5 +48,4 @@ test("texts off the air: UTF-8, else Latin-1, and what can't be printed as it is
   assert.equal(said("\\xe2\\x80\\xaegnp"), "\\xe2\\x80\\xaegnp");
   assert.equal(printable("a\u202eb c"), "a\\xe2\\x80\\xaeb c");
   assert.equal(letterOf("\\x5c#"), "\\x5c");
-  assert.deepEqual(cut("a b c d", 2), ["a", "b", "c d"]);
 });

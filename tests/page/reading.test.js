@@ -1,6 +1,5 @@
 import assert from "node:assert/strict";
 import { test } from "node:test";
-import { tablesOf } from "../../page/history.js";
 import { detailsOf, readMessages } from "../../page/reading.js";
 import { wordsOf } from "../../page/details.js";
 import { COLUMNS, message, moment, netOfLines, place, row, rowsOf, table, thing } from "./tables.js";
@@ -75,24 +74,4 @@ test("a place is found in symbols that are a backslash or a colon", () => {
     place(0, "Q1B", 54, -3, { symbol: "/:" }), place(0, "Q1C", 54, -3, { symbol: "\\\\n" })]);
   assert.deepEqual([0, 1, 2].map(k => [rows.placeOf(k).table, rows.placeOf(k).code]),
     [["\\", "\\"], ["/", ":"], ["\\", "n"]]);
-});
-
-test("of a program without tables, history and listing give the same", () => {
-  const at = moment(0), told = tablesOf([
-    `position ${at} ${at} RX1,RX2 Q1A Q1D* 092345z 294350/6000 -432175/6000 0 />:088/036/A=001234 Hi`,
-    `object ${at} ${at} RX1 Q1A - CP1\\x20SHED killed - 294350/6000 -432175/6000 c \\x5cE:`,
-    `mic-e ${at} ${at} RX1 Q1M - 251 20 emergency - 199560/6000 -747000/6000 0 /j:hello`,
-    `message ${at} ${at} RX1 Q1A - Q1B 7:all: well`, `beacon ${at} ${at} RX1 Q1A - x y`, ""].join("\n"),
-  `station Q1A 1\nmessage Q1A Q1B - unnumbered ${at} ${at}:help{01}\n`);
-  const lines = told.rows.split("\n").slice(1, -1).map(it => it + "\n"), rows = rowsOf(lines);
-  const car = rows.placeOf(0);
-  assert.deepEqual([car.north.toFixed(4), car.course, car.knots, car.metres],
-    ["49.0583", 88, 36, 376.1232]);
-  assert.deepEqual(rows.things, ["station Q1A", "object CP1 SHED", "station Q1M"]);
-  assert.equal(rows.placeOf(1).compressed, true);
-  assert.equal(rows.urgent[2], 2);
-  assert.deepEqual([rows.record(3).name, rows.record(3).id, rows.record(3).text],
-    ["Q1B", "7", "all: well"]);
-  assert.equal(rows.kindOf(4), "beacon");
-  assert.equal(readMessages(told.messages)[0].state, "not judged");
 });

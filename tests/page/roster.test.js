@@ -1,6 +1,6 @@
 import assert from "node:assert/strict";
 import { test } from "node:test";
-import { expectedOf, joined, Names, readRoster } from "../../page/roster.js";
+import { expectedOf, joined, Names, readRoster, rosterText } from "../../page/roster.js";
 
 const calls = text => readRoster(text).list.map(it => [it.call, it.name, it.group, it.bib]);
 
@@ -35,4 +35,8 @@ test("a station has the name of its own line before that of its -* line", () => 
 test("of several rosters the first line of a call counts", () => {
   assert.deepEqual(joined([readRoster("Q1A one\n"), readRoster("Q1A two\nQ1B\n")]).map(it => it.name),
     ["one", ""]);
+});
+test("the text of a roster is read as that roster", () => {
+  const text = "Q1A \"the; \"\"leader\"\"\",\nQ1B-*;x;\"g,h\";7\n", { list } = readRoster(text);
+  assert.deepEqual(readRoster(rosterText(list)), { list, faults: [] });
 });
