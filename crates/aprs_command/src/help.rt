@@ -126,8 +126,7 @@ Exit status:
 pub const FOLDED: &str = "Book files of this gap; without any, standard input";
 
 /// What `aprsbook-fold` is for.
-pub const FOLD: &str =
-    "Writes the book of book files, in memory that doesn't grow with their size";
+pub const FOLD: &str = "Writes the book of book files, in memory that doesn't grow with their size";
 
 /// Examples of `aprsbook-fold`, and its exit statuses.
 pub const FOLD_EXAMPLES: &str = "Examples:

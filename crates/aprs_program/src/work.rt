@@ -11,8 +11,8 @@ use aprs_io::Counted;
 use aprs_laws::Gap;
 use aprs_log::MAX_INPUT;
 use aprs_tool::{
-    Form, Job, RunFault, Table, check_run, convert_run, history_run, merge_run, show_run, table_run,
-    widen_run,
+    Form, Job, RunFault, Table, check_run, convert_run, history_run, merge_run, show_run,
+    table_run, widen_run,
 };
 use std::alloc::Allocator;
 use std::io::{Read, Write};

@@ -84,11 +84,16 @@ module _ {R : Type 0} (remaining : R → Option (List ℕ)) (limit gap : ℕ) wh
       → AreBooks remaining limit gap first now rows
       → HoldsOfEach limit inputs (map (λ (r : Counted R). remaining r.device) now)
       (AreFilesOf gap limit rows)
-  files_of [] [] [] [] e h = ([], refl, refl, record {
-    files = tt;
-    union = refl;
-    sound = λ x k. absurd k;
-  })
+  files_of [] [] [] [] e h = (
+    [],
+    refl,
+    refl,
+    record {
+      files = tt;
+      union = refl;
+      sound = λ x k. absurd k;
+    },
+  )
   files_of [] [] [] (input ∷ inputs) e h = absurd (cc)
   files_of [] [] (own ∷ rows) inputs e h = absurd h
   files_of [] (n ∷ now) rows inputs e h = absurd h
@@ -137,17 +142,22 @@ module _ {R : Type 0} (remaining : R → Option (List ℕ)) (limit gap : ℕ) wh
     fold_writes first now rows old new books sent inputs e =
         let files = files_of first now rows inputs e books in
         let pos : 0 < millis_of gap = omega (arith, range.0) in
-        let book : IsBookOfAll gap (book_together (millis_of gap) (all_of rows)) files.0 =
-        (witnesses (all_of rows), files.3.union,
-        together (millis_of gap) (all_of rows) pos files.3.sound) in (
+        let book : IsBookOfAll gap (book_together (millis_of gap) (all_of rows)) files.0 = (
+          witnesses (all_of rows),
+          files.3.union,
+          together (millis_of gap) (all_of rows) pos files.3.sound,
+        ) in (
           files.0,
           files.1,
           files.2,
-          (files.3.files, text_went (IsToldOf (GiveUnion gap files.0) (IsTextOfBook gap)) contents old
-              new (written_text (book_of_all gap rows)) (
-            (book.0, book.1),
-            λ S gives. text_of_book gap (book_of_all gap rows) refl S
-                (book_of_union gap limit files.0 S (book_together (millis_of gap) (all_of rows)) gives
-                book),
-          ) sent),
+          (
+            files.3.files,
+            text_went (IsToldOf (GiveUnion gap files.0) (IsTextOfBook gap)) contents old
+                new (written_text (book_of_all gap rows)) (
+                  (book.0, book.1),
+                  λ S gives. text_of_book gap (book_of_all gap rows) refl S
+                      (book_of_union gap limit files.0 S (book_together (millis_of gap) (all_of rows)) gives
+                      book),
+                ) sent,
+          ),
         )
