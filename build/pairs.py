@@ -3,15 +3,16 @@
 example and no law refuses: such a definition is pinned by nothing, since its body can be changed
 with it.
 
-usage: build/pairs.py CRATE [WORD..]          changes the definitions, of these words if any is given
+usage: build/pairs.py CRATE [WORD..]          changes the definitions, with one of these words
        build/pairs.py --list CRATE [WORD..]   shows the changes, and tries none
-       build/pairs.py --edits CRATE FILE..    tries changes by hand: lines `file:`, `old:` and `new:`,
-                                              as an edit that must fail has them, of several files
+       build/pairs.py --edits CRATE FILE..    tries changes by hand: lines `file:`, `old:`, `new:`,
+                                              as in an edit that must fail, also of several files
 
-A change is one more in a number, `||` for `&&`, `<` for `<=` and the reverse, `false` for `true` and
-the reverse, or the answers of two cases exchanged. For each is told what refuses it: an example or a
-law by its name, or a lemma between (then the examples show nothing), or that it STANDS. Changes by
-hand that stand there are tried on the whole crate. One check a change, with one job. Needs rt, and the crate proved.
+A change is one more in a number, `||` for `&&`, `<` for `<=` and the reverse, `false` for `true`
+and the reverse, or the answers of two cases exchanged. For each is told what refuses it: an example
+or a law by its name, or a lemma between (then the examples show nothing), or that it STANDS.
+Changes by hand that stand there are tried on the whole crate. One check a change, with one job.
+Needs rt, and the crate proved.
 """
 import os
 import re
@@ -28,7 +29,9 @@ WORDS = {
     "&&": "||", "nat_le": "nat_lt", "nat_lt": "nat_le", "≤": "<", "<": "≤",
     "true": "false", "false": "true", "Less": "Greater", "Greater": "Less",
 }
-WORD = re.compile(r"(?<![\w.#'◌{])(&&|nat_le|nat_lt|≤|<|true|false|Less|Greater|0x[0-9A-Fa-f]+|\d+)(?![\w'◌])")
+WORD = re.compile(
+    r"(?<![\w.#'◌{])(&&|nat_le|nat_lt|≤|<|true|false|Less|Greater|0x[0-9A-Fa-f]+|\d+)(?![\w'◌])"
+)
 CASE = re.compile(r"^(\w[\w']*)( .*?)? = (.*)$")
 
 
@@ -117,7 +120,10 @@ def lower_crates(crate: str) -> List[str]:
 
 def verdict(folder: str, whole: bool) -> str:
     """What refuses the crate in this folder as it stands; empty where nothing does."""
-    only = [] if whole else ["--only", "examples", "--only", "laws"]
+    only: List[str] = []
+    for module in () if whole else ("example", "examples", "laws"):
+        if os.path.exists(f"{folder}/src/{module}.rt"):
+            only += ["--only", module]
     command = ["nice", "rt", "check", "--jobs", "1"] + only
     run = subprocess.run(command, cwd=folder, capture_output=True, text=True, check=False)
     said = run.stdout + run.stderr

@@ -79,9 +79,10 @@ for path in sorted(glob.glob("crates/*/src/**/*.rt", recursive=True)):
     if TESTS.search(path):
         continue
     code, short = code_of(path), path[len("crates/"):]
+    named = len(re.findall(r"\bAlloc(?:Error|Failed)\b(?![<>])", code))
     for what, found, known in (
         ("makes a fault of memory", made(code), MAKERS),
-        ("names an allocation's answer", len(re.findall(r"\bAlloc(?:Error|Failed)\b(?![<>])", code)), NAMERS),
+        ("names an allocation's answer", named, NAMERS),
     ):
         if found != known.get(short, 0):
             print(f"tests/memory.sh: {path} {what} {found} times, not {known.get(short, 0)}")

@@ -7,6 +7,7 @@ from hypothesis import given, strategies as st
 
 from aprsbook_tools import kiss, log_file, moments
 from aprsbook_tools.log_file import Line, Logs
+from conftest import run
 
 FRAME = bytes.fromhex("c00082a0a4a64040e09c60868298986f03f03e4869c0")
 DAY = "2024-06-21"
@@ -33,14 +34,10 @@ def test_what_is_logged_is_read_back(moment: int, receiver: str, frame: bytes) -
 
 
 # the first and the last of each range, and what is just beyond
-@pytest.mark.parametrize("text", [
+READ = [
     "2024-02-29T23:59:59Z RX1 c000", "2000-02-29T00:00:00.250Z a-Z_456789012345 00",
-    "1970-01-01T00:00:00Z RX1 cD", "2099-12-31T23:59:59.999Z RX1 00", "2024-05-01T12:00:00Z RX1 "])
-def test_lines_of_a_log_are_read(text: str) -> None:
-    assert log_file.read_line(text.encode()) is not None
-
-
-@pytest.mark.parametrize("text", [
+    "1970-01-01T00:00:00Z RX1 cD", "2099-12-31T23:59:59.999Z RX1 00", "2024-05-01T12:00:00Z RX1 "]
+NOT_READ = [
     "2024-02-30T12:00:00Z RX1 c0", "2023-02-29T12:00:00Z RX1 c0", "1900-05-01T12:00:00Z RX1 c0",
     "2100-01-01T00:00:00Z RX1 c0", "2024-00-01T12:00:00Z RX1 c0", "2024-13-01T12:00:00Z RX1 c0",
     "2024-04-31T12:00:00Z RX1 c0", "2024-05-00T12:00:00Z RX1 c0", "2024-05-01T24:00:00Z RX1 c0",
@@ -49,9 +46,24 @@ def test_lines_of_a_log_are_read(text: str) -> None:
     "2024-05-01T12:00:00Z 12345678901234567 c0", "2024-05-01T12:00:00Z  c0",
     "2024-05-01T12:00:00Z RX1  c0", "2024-05-01T12:00:00Z RX1 c", "2024-05-01T12:00:00Z RX1 g0",
     "2024-05-01T12:00:00Z RX1 c0 c0", "2024-05-01T12:00:00Z RX1 c0\0\0",
-    "\0\0" "2024-05-01T12:00:00Z RX1 c0", "", "2024-05-01T12:00:00Z RX1", "APRSBOOK 3 30"])
+    "\0\0" "2024-05-01T12:00:00Z RX1 c0", "", "2024-05-01T12:00:00Z RX1", "APRSBOOK 3 30"]
+
+
+@pytest.mark.parametrize("text", READ)
+def test_lines_of_a_log_are_read(text: str) -> None:
+    assert log_file.read_line(text.encode()) is not None
+
+
+@pytest.mark.parametrize("text", NOT_READ)
 def test_lines_that_are_none_are_not_read(text: str) -> None:
     assert log_file.read_line(text.encode()) is None
+
+
+def test_aprsbook_reads_the_same_lines(tmp_path: pathlib.Path) -> None:
+    log = tmp_path / "lines.log"
+    for text, status in [(it, 0) for it in READ] + [(it, 1) for it in NOT_READ]:
+        log.write_bytes(text.encode() + b"\n")
+        run("aprsbook", "check", log, status=status)
 
 
 @pytest.mark.parametrize("length, read", [(8192, True), (8194, False)])

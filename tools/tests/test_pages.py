@@ -4,9 +4,11 @@ import json
 import os
 import pathlib
 import re
+import signal
 from typing import Any, Dict
 
 import pytest
+from conftest import started, wait_for
 from hypothesis import given
 from hypothesis import strategies as st
 from standing import Programs, place
@@ -277,3 +279,36 @@ def test_whole_lines_are_whole_and_stay(lines: "list[bytes]", rest: bytes) -> No
     kept, torn, unended = net_logs.whole_lines(b"".join(lines) + rest)
     assert net_logs.whole_lines(kept) == (kept, 0, False)
     assert kept.count(b"\n") + torn == len(lines) and unended == bool(rest)
+
+
+def test_logs_of_other_machines_lie_in_folders_of_their_own(tmp_path: pathlib.Path) -> None:
+    """Two machines may call a receiver alike, and none takes the other's place."""
+    day = "2024-06-21"
+    for name in f"{day}/RX1.log", f"hill/{day}/RX1.log", f"coast/{day}/RX1.log.gz", \
+            "hill/2024-06-22/RX1.log", f".git/{day}/RX1.log", f"hill/more/{day}/RX1.log":
+        (tmp_path / name).parent.mkdir(parents=True, exist_ok=True)
+        (tmp_path / name).write_bytes(b"")
+    assert net_logs.logs_of(str(tmp_path), [day]) == [
+        (day, str(tmp_path / it)) for it in (
+            f"{day}/RX1.log", f"coast/{day}/RX1.log.gz", f"hill/{day}/RX1.log")]
+    assert net_logs.logs_of(str(tmp_path / "nowhere"), [day]) == []
+
+
+def test_again_and_again(net: Programs) -> None:
+    """A turn that fails doesn't end it, and what is new comes into the page."""
+    log = net.folder / "logs/2024-06-21/RX1.log"
+    log.rename(net.folder / "log")
+    with started("follow", "--every", "1", *NOW[1:]) as process:
+        try:
+            assert process.stderr is not None
+            assert b"is no log of 2024-06-21" in process.stderr.readline()
+            (net.folder / "log").rename(log)
+            wait_for(lambda: os.path.exists("out/index.html"), "a page")
+            before = made(net, "net.book")
+            with open(log, "a") as more:
+                more.write(LINE.replace("RX1", "RX2"))
+            wait_for(lambda: made(net, "net.book") == before + LINE.replace("RX1", "RX2"), "a row")
+        finally:
+            process.terminate()
+        assert process.wait(20) == -signal.SIGTERM
+    assert sorted(os.listdir("out")) == ["index.html", "net.book"]

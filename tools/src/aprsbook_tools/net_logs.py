@@ -33,18 +33,32 @@ def last_days() -> List[str]:
     return [f"{now - DAY:%Y-%m-%d}", f"{now:%Y-%m-%d}"]
 
 
+def hosts_of(folder: str) -> List[str]:
+    """A folder, and those in it that are no day's, as of other machines whose logs came here."""
+    try:
+        names = sorted(os.listdir(folder))
+    except (FileNotFoundError, NotADirectoryError):
+        return []
+    within = [os.path.join(folder, name) for name in names
+              if not name.startswith(".") and not inputs.DAY.fullmatch(name)]
+    return [folder, *(it for it in within if os.path.isdir(it))]
+
+
 def logs_of(folder: str, days: Iterable[str]) -> List[Tuple[str, str]]:
-    """The day and the path of each log, FOLDER/DAY/NAME.log, also a compressed one."""
+    """The day and the path of each log, FOLDER/DAY/NAME.log or FOLDER/HOST/DAY/NAME.log, also a
+    compressed one."""
     found = []
+    hosts = hosts_of(folder)
     for day in days:
-        try:
-            names = sorted(os.listdir(os.path.join(folder, day)))
-        except (FileNotFoundError, NotADirectoryError):
-            continue
-        for name in names:
-            path = os.path.join(folder, day, name)
-            if inputs.is_input(path) and not inputs.look_at(path).is_book:
-                found.append((day, path))
+        for host in hosts:
+            try:
+                names = sorted(os.listdir(os.path.join(host, day)))
+            except (FileNotFoundError, NotADirectoryError):
+                continue
+            for name in names:
+                path = os.path.join(host, day, name)
+                if inputs.is_input(path) and not inputs.look_at(path).is_book:
+                    found.append((day, path))
     return found
 
 

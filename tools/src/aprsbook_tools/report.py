@@ -2,12 +2,13 @@
 import argparse
 import os
 import sys
-from typing import List, Optional, Sequence
+from typing import Iterator, List, Optional, Sequence, Type, TypeVar
 
-from aprsbook_tools import arguments, inputs, whole
+from aprsbook_tools import arguments, inputs, merged, progress, table, whole
 from aprsbook_tools.spreadsheet import Cell, csv_text
 
 Rows = Sequence[Sequence[Cell]]
+T = TypeVar("T")
 
 
 def add_arguments(parser: argparse.ArgumentParser) -> None:
@@ -39,8 +40,16 @@ def gap_of(args: argparse.Namespace) -> Optional[int]:
     gap: Optional[int] = args.gap
     if gap is not None:
         return gap
-    gaps = {inputs.gap_of(it) for it in args.inputs if os.path.isfile(it)} - {None}
+    files = [it.path for it in inputs.of(args.inputs) if os.path.isfile(it.path)]
+    gaps = {inputs.gap_of(it) for it in files} - {None}
     return gaps.pop() if len(gaps) == 1 else None
+
+
+def items_of(kind: Type[T], args: argparse.Namespace) -> Iterator[T]:
+    """The table of the inputs, as a kind; counted for who waits at a terminal."""
+    with merged.plain(args.inputs) as files:
+        items = table.of(kind, files, gap_of(args))
+        yield from progress.counted(items, table.WORDS[kind])
 
 
 def plain(cell: Cell) -> str:

@@ -51,7 +51,7 @@ def run(args: argparse.Namespace) -> int:
         names = [it.name for it in dataclasses.fields(kind)]
         rows = [
             [cell_of(getattr(it, name)) for name in names]
-            for it in table.of(kind, args.inputs, report.gap_of(args))
+            for it in report.items_of(kind, args)
         ]
         rows.insert(0, [*names])
     report.put(args, csv_text(rows))

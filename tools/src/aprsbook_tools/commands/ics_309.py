@@ -3,7 +3,7 @@ import argparse
 import re
 from typing import List, Sequence
 
-from aprsbook_tools import moments, report, table
+from aprsbook_tools import moments, report
 from aprsbook_tools.commands import Subparsers
 from aprsbook_tools.roster import Expected, Roster, call_of, roster_of
 from aprsbook_tools.spreadsheet import csv_text
@@ -118,7 +118,7 @@ def form_of(messages: Sequence[Message], roster: Roster, net: str) -> str:
 
 def run(args: argparse.Namespace) -> int:
     roster = roster_of(args.roster)
-    messages = chosen(list(table.messages(args.inputs, report.gap_of(args))), args)
+    messages = chosen(list(report.items_of(Message, args)), args)
     if args.csv:
         report.put(args, csv_of(messages, roster))
     else:

@@ -1,10 +1,11 @@
 """Each station with the moment and the receiver that heard it last."""
 import argparse
 
-from aprsbook_tools import report, table
+from aprsbook_tools import report
 from aprsbook_tools.commands import Subparsers
 from aprsbook_tools.heard import heard_of
 from aprsbook_tools.roster import roster_of
+from aprsbook_tools.table import Row
 
 HEAD = ["last", "receiver", "call", "transmissions", "name"]
 
@@ -23,7 +24,7 @@ def add_parser(subparsers: Subparsers) -> None:
 def run(args: argparse.Namespace) -> int:
     roster = roster_of(args.roster)
     stations = sorted(
-        heard_of(table.rows(args.inputs, report.gap_of(args))),
+        heard_of(report.items_of(Row, args)),
         key=lambda it: (it.last, it.receiver, it.call),
     )
     report.put_table(

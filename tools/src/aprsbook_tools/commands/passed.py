@@ -3,12 +3,13 @@ import argparse
 import re
 from typing import Dict, List, Sequence, Tuple
 
-from aprsbook_tools import arguments, moments, report, table, text_file
+from aprsbook_tools import arguments, moments, report, text_file
 from aprsbook_tools.checkpoints import Checkpoint, Visit, all_visits, read_checkpoints
 from aprsbook_tools.commands import Subparsers
 from aprsbook_tools.places import Thing, things_of
 from aprsbook_tools.roster import Roster, roster_of
 from aprsbook_tools.spreadsheet import Cell
+from aprsbook_tools.table import Row
 
 HEAD = [
     "checkpoint",
@@ -127,7 +128,7 @@ def matrix_of(
 def run(args: argparse.Namespace) -> int:
     roster = roster_of(args.roster)
     points = read_checkpoints(args.points, text_file.read(args.points))
-    things = things_of(table.rows(args.inputs, report.gap_of(args)))
+    things = things_of(report.items_of(Row, args))
     visits = all_visits(things, points, args.apart * 60_000)
     if args.matrix:
         head, lines = matrix_of(visits, points, roster)

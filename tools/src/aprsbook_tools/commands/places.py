@@ -1,10 +1,11 @@
 """Every place, or the last one of each station, object and item."""
 import argparse
 
-from aprsbook_tools import report, table
+from aprsbook_tools import report
 from aprsbook_tools.commands import Subparsers
 from aprsbook_tools.places import things_of
 from aprsbook_tools.roster import roster_of
+from aprsbook_tools.table import Row
 from aprsbook_tools.track_files import HEAD, last_places_of, line_of, lines_of
 
 
@@ -25,7 +26,7 @@ def add_parser(subparsers: Subparsers) -> None:
 
 def run(args: argparse.Namespace) -> int:
     roster = roster_of(args.roster)
-    things = things_of(table.rows(args.inputs, report.gap_of(args)))
+    things = things_of(report.items_of(Row, args))
     if args.geojson:
         report.put(args, last_places_of(things, roster))
         return 0

@@ -2,11 +2,12 @@
 import argparse
 from typing import Iterable, List
 
-from aprsbook_tools import arguments, report, table
+from aprsbook_tools import arguments, report
 from aprsbook_tools.commands import Subparsers
 from aprsbook_tools.heard import Heard, heard_of
 from aprsbook_tools.roster import Expected, roster_of
 from aprsbook_tools.spreadsheet import Cell
+from aprsbook_tools.table import Row
 
 HEAD = ["last", "receiver", "call", "transmissions", "heard_as", "name", "group"]
 
@@ -39,7 +40,7 @@ def line_of(entry: Expected, stations: Iterable[Heard]) -> List[Cell]:
 
 def run(args: argparse.Namespace) -> int:
     expected = roster_of(args.roster).expected
-    stations = heard_of(table.rows(args.inputs, report.gap_of(args)))
+    stations = heard_of(report.items_of(Row, args))
     rows = [line_of(it, stations) for it in expected]
     rows.sort(key=lambda it: "" if it[0] == "never" else str(it[0]))
     report.put_table(args, HEAD, rows)

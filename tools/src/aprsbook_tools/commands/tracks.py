@@ -1,10 +1,11 @@
 """Places and tracks as CSV, GPX, GeoJSON or KML."""
 import argparse
 
-from aprsbook_tools import report, table
+from aprsbook_tools import report
 from aprsbook_tools.commands import Subparsers
 from aprsbook_tools.places import things_of
 from aprsbook_tools.roster import roster_of
+from aprsbook_tools.table import Row
 from aprsbook_tools.track_files import FORMS
 
 
@@ -24,6 +25,6 @@ def add_parser(subparsers: Subparsers) -> None:
 
 def run(args: argparse.Namespace) -> int:
     roster = roster_of(args.roster)
-    things = things_of(table.rows(args.inputs, report.gap_of(args)))
+    things = things_of(report.items_of(Row, args))
     report.put(args, FORMS[args.form](things, roster, args.title))
     return 0

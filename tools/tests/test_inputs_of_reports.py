@@ -1,0 +1,57 @@
+"""What a report is made of: logs and books, those of folders, and compressed ones."""
+import gzip
+
+from standing import Programs, at, place
+
+LINE = "2024-06-21T18:00:00.000Z RX1 c0c0\n"
+
+
+def last_call(programs: Programs) -> str:
+    return programs.calls[-1]
+
+
+def test_a_folder_is_its_logs_and_books(programs: Programs) -> None:
+    folder = programs.folder / "logs/2024-06-21"
+    folder.mkdir(parents=True)
+    for name in "RX1.log", "RX2.log", ".hidden.log", "notes.txt", "a.book":
+        (folder / name).write_text(LINE)
+    programs.say(place("18:00", "Q1A", 1, 2))
+    assert len(programs.lines("tracks", "csv", "logs")) == 2
+    assert last_call(programs).split(" -- ")[1].split() == [
+        f"logs/2024-06-21/{name}" for name in ("RX1.log", "RX2.log", "a.book")
+    ]
+
+
+def test_an_empty_folder_is_refused_and_not_standard_input(programs: Programs) -> None:
+    (programs.folder / "none").mkdir()
+    for command in ["last-heard"], ["page"], ["sqlite", "none"], ["ics-309"]:
+        end = ["net.db"] if command[0] == "sqlite" else []
+        programs.run(*command, "none", *end, status=1)
+        assert programs.said == "aprs-net: no logs and no books are in none" + (
+            " none\n" if end else "\n"
+        )
+    assert programs.calls == []
+
+
+def test_a_compressed_log_is_read(programs: Programs) -> None:
+    (programs.folder / "RX1.log.gz").write_bytes(gzip.compress(LINE.encode()))
+    programs.run("page", "-o", "page.html", "RX1.log.gz")
+    programs.say(place("18:00", "Q1A", 1, 2))
+    assert programs.lines("last-heard", "RX1.log.gz")[1][0] == at("18:00")
+    assert ".unpacked" in last_call(programs)
+
+
+def test_a_fault_of_a_compressed_log_has_its_name(programs: Programs) -> None:
+    (programs.folder / "RX1.log.gz").write_bytes(gzip.compress(b"faulty\n"))
+    programs.run("tracks", "gpx", "RX1.log.gz", status=1)
+    assert programs.said == "aprsbook-table: RX1.log.gz: line 1: Moment\n"
+    (programs.folder / "RX1.log.gz").write_bytes(gzip.compress(b"faulty\n")[:-9])
+    programs.run("tracks", "gpx", "RX1.log.gz", status=1)
+    assert "RX1.log.gz" in programs.said
+
+
+def test_an_empty_book_is_refused(programs: Programs) -> None:
+    (programs.folder / "net.book").write_bytes(b"")
+    for command in ["tracks", "gpx"], ["page"], ["last-heard"], ["ics-309"], ["csv", "rows"]:
+        programs.run(*command, "net.log", "net.book", status=1)
+        assert "net.book is empty, which no book is" in programs.said
