@@ -48,7 +48,9 @@ async function again() {
 export function tick() {
   if (!page.all) return;
   const now = Date.now() / 1000, quiet = now - page.all.end, words = [];
-  for (const it of /** @type {NodeListOf<HTMLElement>} */ (document.querySelectorAll(".age[data-v]")))
+  /** @type {NodeListOf<HTMLElement>} */
+  const ages = document.querySelectorAll(".age[data-v]");
+  for (const it of ages)
     it.textContent = age(now - Number(it.dataset.v));
   for (const row of byId("things-box").querySelectorAll("tr.station"))
     row.classList.toggle("silent", now - row.querySelector(".age").dataset.v > view.silent);

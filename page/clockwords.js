@@ -7,12 +7,14 @@ import { age } from "./words.js";
 const aheadText = seconds => `${seconds < 0 ? "\u2212" : "+"}${age(Math.abs(seconds))}`;
 /** @param {{ clock: import("./clocks.js").Clock | null }} it @param {number} gap in seconds */
 export function clockWords({ clock }, gap) {
-  if (!clock) return { text: "", title: "too few transmissions that others heard too", wrong: false };
+  const few = "too few transmissions that others heard too";
+  if (!clock) return { text: "", title: few, wrong: false };
   const { by, of, from } = clock;
   if (Number.isNaN(by)) {
     const text = from.map(one => `${aheadText(one.by)} from ${one.b}`).join(", ");
     return { text, title: "no two receivers agree, so none is known to be right", wrong: true };
   }
-  const title = `the middle of ${of} transmissions that others heard too`, wrong = Math.abs(by) > gap;
+  const title = `the middle of ${of} transmissions that others heard too`;
+  const wrong = Math.abs(by) > gap;
   return { text: wrong ? aheadText(by) : `within ${gap} s`, title, wrong };
 }

@@ -78,7 +78,7 @@ async function leaveOutOf(file) {
   await look(file, numberIn("gap"));
   work();
 }
-/** What else is said of a file: how it is spelled, lines that are passed over, refused, left out. */
+/** What else is said of a file: its spelling, and lines passed over, refused, left out. */
 function moreOf(file) {
   const { damage, leftOut, passed, spelling } = file, more = [];
   if (file.away) more.push(make("p", { className: "warn", textContent: file.away }));
@@ -112,8 +112,8 @@ function rowOf(file) {
   const [verdict, more] = told.children;
   verdict.className = `verdict ${file.fault ? "bad" : "good"}`;
   verdict.textContent = file.fault || file.said;
-  const state = [file.away, file.reason, file.damage.length, file.leftOut.length, file.passed.length,
-    file.spelling, [...shifts].join()].join();
+  const state = [file.away, file.reason, file.damage.length, file.leftOut.length,
+    file.passed.length, file.spelling, [...shifts].join()].join();
   if (more.dataset.state === state) return row;
   more.dataset.state = state;
   more.replaceChildren(...moreOf(file));
@@ -234,7 +234,8 @@ export async function add(dropped) {
   began = performance.now();
   tellProgress(0, "reading");
   const others = [...dropped].filter(it => !it.isFolder && !takeSquare(it));
-  const folders = [...dropped].filter(it => it.isFolder && !files.some(one => one.name === it.name));
+  const isNew = it => !files.some(one => one.name === it.name);
+  const folders = [...dropped].filter(it => it.isFolder && isNew(it));
   files.push(...folders.map(it => fileOf(it.name, "folder", new Uint8Array(),
     { unread: UNREAD, fault: UNREAD })));
   const taken = await Promise.all(others.map(it => take(it, bring)));
@@ -283,7 +284,8 @@ export function eventPage() {
   const values = { TITLE: asHtml(data.title), STYLE: document.querySelector("style").textContent,
     POLICY: `default-src 'none'; script-src ${digests.draws}; style-src ${digests.style}; ` +
       "base-uri 'none'; form-action 'none'",
-    FILES: "", COAST: byId("coast").textContent, FOOTER: "Made by event-page from a book of aprsbook.", DATA: asData(data),
+    FILES: "", COAST: byId("coast").textContent,
+    FOOTER: "Made by event-page from a book of aprsbook.", DATA: asData(data),
     SCRIPTS: `<script>${byId("draws").textContent}<\/script>` };
   return parts.shell.replace(/@([A-Z]+)@/g, (_, name) => values[name]);
 }

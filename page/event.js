@@ -324,7 +324,8 @@ const isBad = it => it.fault !== "" || it.roster?.faults.length > 0;
 /** What came of something that was brought. */
 function toldOf({ name, base, roster, fault }) {
   const faults = (roster?.faults || []).map(it => `line ${it.line}: ${it.why}`);
-  const told = fault || (base ? "a map" : [count(roster.list.length, "call"), ...faults].join(", "));
+  const told = fault ||
+    (base ? "a map" : [count(roster.list.length, "call"), ...faults].join(", "));
   return `${printable(name)}: ${told}`;
 }
 function tell(text, bad = false) {

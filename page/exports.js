@@ -31,7 +31,8 @@ function* placesCsv({ placed }) {
 function* messagesCsv(net) {
   yield csvOf([["time", "from", "number", "to", "message", "state"]]);
   for (const it of logOf(net))
-    yield csvOf([[isoText(it.first), it.source, it.id, said(it.addressee), said(it.text), it.state]]);
+    yield csvOf([[isoText(it.first), it.source, it.id, said(it.addressee), said(it.text),
+      it.state]]);
 }
 /** The runs of a thing's places, each but the last ended by a kill. */
 function segmentsOf(thing) {

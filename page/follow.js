@@ -149,7 +149,8 @@ async function growOne(file, url) {
   file.whole = await grownOf(file.whole || new Uint8Array(), url,
     Number(head.headers.get("content-length")));
   file.mark = marked;
-  const { bytes, spelling } = spelled(file.whole), kind = kindOf(bytes, file.name), before = file.taken;
+  const { bytes, spelling } = spelled(file.whole), kind = kindOf(bytes, file.name);
+  const before = file.taken;
   file.unread = READ.includes(kind) ? "" : `is ${kind}, which no log is`;
   file.kind = kind === "book" || kind === "KISS stream" ? kind : "log";
   Object.assign(file, { spelling, leftOut: [] });

@@ -71,7 +71,8 @@ export function capOf(lines) {
     for (let k = 0; k < line.length; k += 3)
       if (n++ % step === 0) places.push([line[k], line[k + 1], line[k + 2]]);
   if (places.length < 4) return () => true;
-  const middle = [0, 1, 2].map(i => places.map(it => it[i]).sort((a, b) => a - b)[places.length >> 1]);
+  const middle = [0, 1, 2].map(i =>
+    places.map(it => it[i]).sort((a, b) => a - b)[places.length >> 1]);
   const off = (/** @type {ArrayLike<number>} */ it, at = 0) =>
     Math.hypot(it[at] - middle[0], it[at + 1] - middle[1], it[at + 2] - middle[2]);
   const offs = places.map(it => off(it)).sort((a, b) => a - b);

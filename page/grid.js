@@ -55,7 +55,8 @@ export function paintGrid(pen, view, colours) {
 function apart(labels) {
   const kept = [];
   for (const it of labels)
-    if (kept.every(one => Math.abs(one.x - it.x) > 44 || Math.abs(one.y - it.y) > 12)) kept.push(it);
+    if (kept.every(one => Math.abs(one.x - it.x) > 44 || Math.abs(one.y - it.y) > 12))
+      kept.push(it);
   return kept;
 }
 function steps(from, to, by) {

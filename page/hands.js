@@ -20,7 +20,7 @@ function listenToKeys(map) {
     map.turn();
   });
 }
-/** So much a wheel zooms for a pixel of it; fingers on a trackpad that are drawn apart say `ctrl`. */
+/** So much a wheel zooms for a pixel of it; fingers drawn apart on a trackpad say `ctrl`. */
 const PER_PIXEL = Math.log(1.2) / 100, PINCHED = 0.01;
 /**
  * How much a turn of a wheel zooms, by its size; sideways it doesn't.

@@ -42,8 +42,8 @@ export const placeOf = got =>
  * @returns {Given}
  */
 export const fileOf = (name, kind, bytes, of = {}) => ({ name, kind, bytes, unread: "",
-  receiver: "RX1", moment: "", passed: [], said: "", fault: "", reason: "", spelling: [], damage: [],
-  leftOut: [], taken: null, ...of });
+  receiver: "RX1", moment: "", passed: [], said: "", fault: "", reason: "", spelling: [],
+  damage: [], leftOut: [], taken: null, ...of });
 
 /** @param {Blob} file */
 async function bytesOf(file) {
@@ -119,7 +119,9 @@ export async function look(file, gap) {
 /** @param {Given} file @param {number} gap */
 async function lookInto(file, gap) {
   let { bytes } = file;
-  const refuse = (/** @type {{ fault: string, line?: number }} */ got) => { file.fault = placeOf(got); };
+  const refuse = (/** @type {{ fault: string, line?: number }} */ got) => {
+    file.fault = placeOf(got);
+  };
   if (file.kind === "book" && !bytes.length) return refuse({ fault: EMPTY_BOOK });
   if (file.kind === "KISS stream") {
     if (!file.moment) return refuse({ fault: "give the receiver's name and the moment" });

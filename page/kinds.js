@@ -25,7 +25,8 @@ const STRANGERS = [
   [/^\s*(<!doctype html|<html)/i, "a web page"], [/^\s*<\?xml|^\s*<[a-z]/i, "XML"],
 ];
 /** How a line of a roster begins: a call, or the head of a column. */
-const ROSTER = /^(?:\s*#[^\n]*\n|\s*\n)*\s*"?(?:[A-Za-z0-9]{1,6}(?:-(?:\d{1,2}|\*))?|call|callsign|station|name|tactical|who)"?([\s,;]|$)/i;
+const WORD = "(?:[a-z0-9]{1,6}(?:-(?:\\d{1,2}|\\*))?|callsign|station|tactical)";
+const ROSTER = new RegExp(`^(?:\\s*#[^\\n]*\\n|\\s*\\n)*\\s*"?${WORD}"?([\\s,;]|$)`, "i");
 
 /**
  * What a file is: book, KISS stream, map, roster, log, or what else it is, such as `a picture`.

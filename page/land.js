@@ -98,8 +98,8 @@ export class Land {
     return this.rings.filter(({ middle, wide }) => {
       if (wide * scale < 1) return false;
       if (wide >= 0.3) return true;
-      const near = view.put(middle);
-      return near && Math.hypot(view.x - width / 2, view.y - height / 2) - 1.6 * wide * scale < half;
+      const near = view.put(middle), off = Math.hypot(view.x - width / 2, view.y - height / 2);
+      return near && off - 1.6 * wide * scale < half;
     });
   }
   /**

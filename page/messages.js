@@ -29,8 +29,9 @@ export function messageList(box) {
 export const inOrder = (a, b) => a.order - b.order || b.last - a.last;
 
 export function bulletinList(box) {
-  const row = it => make("tr", {}, cell("call", air(it.addressee)), cell("call", callIn(who(it.source))),
-    cell("text", air(it.text)), timeCell(it.first), timeCell(it.last));
+  const row = it => make("tr", {}, cell("call", air(it.addressee)),
+    cell("call", callIn(who(it.source))), cell("text", air(it.text)),
+    timeCell(it.first), timeCell(it.last));
   return new List(box, { id: "bulletins", caption: "bulletins", row, columns: [
     { title: "bulletin", value: it => it.addressee }, { title: "from", value: it => it.source },
     { title: "text", value: it => it.text },

@@ -23,7 +23,8 @@ export function needsOf(things) {
   urgent.sort((a, b) => Number(Boolean(b.urgent)) - Number(Boolean(a.urgent)) ||
     weight(b) - weight(a) || b.last - a.last);
   for (const it of urgent) {
-    const at = timeText(it.rows.last[it.lastUrgent]), level = weight(it) === 2 ? "emergency" : "priority";
+    const at = timeText(it.rows.last[it.lastUrgent]);
+    const level = weight(it) === 2 ? "emergency" : "priority";
     /** @type {Word["grade"]} */
     const grade = !it.urgent ? "warn" : level === "emergency" ? "alarm" : "bad";
     words.push({ href: "#where", pick: it.key, grade, text: it.urgent
@@ -34,9 +35,11 @@ export function needsOf(things) {
 }
 /**
  * Wrong clocks, each in words. A pair that disagrees is said once.
+ * @param {import("./net.js").Receiver[]} receivers
+ * @param {number} gap
  * @returns {Word[]}
  */
-function clocksOff(/** @type {import("./net.js").Receiver[]} */ receivers, /** @type {number} */ gap) {
+function clocksOff(receivers, gap) {
   /** @type {Word[]} */
   const words = [];
   for (const it of receivers) {
@@ -44,8 +47,8 @@ function clocksOff(/** @type {import("./net.js").Receiver[]} */ receivers, /** @
     const clock = clockWords(it, gap);
     if (Number.isNaN(it.clock.by))
       for (const one of it.clock.from.filter(({ b }) => it.name < b))
-        words.push({ href: "#ears", grade: "bad", text: `the clocks of ${it.name} and ${one.b} are ` +
-          `${age(Math.abs(one.by))} apart` });
+        words.push({ href: "#ears", grade: "bad",
+          text: `the clocks of ${it.name} and ${one.b} are ${age(Math.abs(one.by))} apart` });
     else if (clock.wrong)
       words.push({ href: "#ears", grade: "bad",
         text: `the clock of ${it.name} is ${clock.text} from the others` });
@@ -71,9 +74,12 @@ export function newsOf(net, { gap, silent, isSilent, missing, expected }) {
   say("#said", unanswered ? "bad" : "good", `${count(unanswered, "message")} unanswered`);
   if (rejected) say("#said", "bad", `${count(rejected, "message")} rejected`);
   say("#list", quiet ? "warn" : "good", `${count(quiet, "station")} silent for over ${silent} min`);
-  if (expected) say("#roster", missing ? "bad" : "good", `${missing} of ${expected} expected not heard`);
+  if (expected)
+    say("#roster", missing ? "bad" : "good", `${missing} of ${expected} expected not heard`);
   words.push(...clocksOff(net.receivers, gap));
   if (unfixed) say("#list", "warn", `${count(unfixed, "station")} at 0, 0, which is no fix`);
-  if (net.others) say("#list", "warn", `${count(net.others, "transmission")} of a kind that this page doesn\u2019t know`);
+  if (net.others)
+    say("#list", "warn", `${count(net.others, "transmission")} of a kind that this page ` +
+      "doesn\u2019t know");
   return words;
 }

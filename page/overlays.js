@@ -18,7 +18,8 @@ export const isMap = begin => /^\s*(\{|<([^]*<)?([\w-]+:)?(gpx|kml)[\s>])/.test(
  * @returns {Base}
  */
 export function readBase(text) {
-  const read = !/^\s*</.test(text) ? readGeoJson : /<([\w-]+:)?kml[\s>]/.test(text) ? readKml : readGpx;
+  const readXml = /<([\w-]+:)?kml[\s>]/.test(text) ? readKml : readGpx;
+  const read = /^\s*</.test(text) ? readXml : readGeoJson;
   const { lines, points } = read(text);
   return { lines: lines.map(it => Float64Array.from(it.flat())), points };
 }
@@ -63,7 +64,8 @@ function readKml(text) {
         base.points.push({ vector: spots(it)[0], name: nameOf(mark) });
       else base.lines.push(spots(it));
     }
-    const track = all("coord", mark).map(it => (it.textContent || "").trim().split(/\s+/).map(Number));
+    const track = all("coord", mark)
+      .map(it => (it.textContent || "").trim().split(/\s+/).map(Number));
     if (track.length) base.lines.push(track.map(([east, north]) => spotOf(north, east)));
   }
   return base;

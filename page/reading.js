@@ -287,8 +287,8 @@ function symbolIn(shown) {
 /**
  * What is known of a thing at a place.
  * @typedef {{ stamp: string, ambiguity: number, table: string, code: string, comment: string,
- *   compressed: boolean, north: number, east: number, first: number, last: number, receivers: string[], source: string,
- *   state: string, vector: number[] } & Details} Place
+ *   compressed: boolean, north: number, east: number, first: number, last: number,
+ *   receivers: string[], source: string, state: string, vector: number[] } & Details} Place
  */
 
 /** The transmissions of a table: numbers of rows, in `order` by their first moments. */
@@ -361,9 +361,10 @@ export class Rows {
   placeOf(k) {
     const it = this.record(k), north = this.north[k], east = this.east[k];
     return { stamp: it.stamp || "", ambiguity: Number(it.ambiguity || 0), ...symbolIn(it.symbol),
-      comment: it.text || "", compressed: it.compressed === "yes", north, east, first: this.first[k], last: this.last[k],
-      receivers: this.lists[this.heard[k]], source: nameIn(this.things[this.station[k]]),
-      state: this.killed[k] ? "killed" : "live", vector: vectorOf(north, east), ...detailsOf(it) };
+      comment: it.text || "", compressed: it.compressed === "yes", north, east,
+      first: this.first[k], last: this.last[k], receivers: this.lists[this.heard[k]],
+      source: nameIn(this.things[this.station[k]]), state: this.killed[k] ? "killed" : "live",
+      vector: vectorOf(north, east), ...detailsOf(it) };
   }
 }
 export const kindIn = (/** @type {string} */ thing) => thing.slice(0, thing.indexOf(" "));

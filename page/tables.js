@@ -89,8 +89,8 @@ export const shareText = (n, of) => `${n} of ${of} (${Math.round(n / of * 100)} 
 /** What puts a receiver's clock right, where the page has its log. */
 function clockButtons(it, clock, { clockOf }) {
   if (!clockOf) return [];
-  const button = (textContent, by) => make("button", { type: "button", className: "clock", textContent,
-    aria: { "aria-label": `${textContent} the clock of ${it.name}` },
+  const button = (textContent, by) => make("button", { type: "button", className: "clock",
+    textContent, aria: { "aria-label": `${textContent} the clock of ${it.name}` },
     onclick: () => clockOf.put(it.name, by) });
   const buttons = [];
   if (clock.wrong && !Number.isNaN(it.clock.by) && clockOf.can(it.name))

@@ -51,7 +51,8 @@ function withoutUnprintable(text, encode) {
   return Array.from(text, show).join("");
 }
 /** A text that didn't come off the air, such as the name of a file, so that it can't turn others. */
-export const printable = text => withoutUnprintable(text, letter => new TextEncoder().encode(letter));
+export const printable = text =>
+  withoutUnprintable(text, letter => new TextEncoder().encode(letter));
 
 /** How moments are written: in local time or UTC, and with the date where that matters. */
 export const clocks = { local: false, dated: false };
