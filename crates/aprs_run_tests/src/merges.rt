@@ -13,15 +13,15 @@ use std::test::Fail;
 
 /// A log of one line: a frame at the first moment, the same at the last, and half a minute after
 /// the first one that came over a digipeater.
-pub const FIRST: &[u8] = b"1970-01-01T00:00:00Z RX1 c00082a0a4a64040e09c60868298986f03f03e4869c0\n";
+const FIRST: &[u8] = b"1970-01-01T00:00:00Z RX1 c00082a0a4a64040e09c60868298986f03f03e4869c0\n";
 
-pub const LAST: &[u8] = b"2099-12-31T23:59:59Z RX2 c00082a0a4a64040e09c60868298986f03f03e4869c0\n";
+const LAST: &[u8] = b"2099-12-31T23:59:59Z RX2 c00082a0a4a64040e09c60868298986f03f03e4869c0\n";
 
-pub const NEAR: &[u8] =
+const NEAR: &[u8] =
     b"1970-01-01T00:00:30Z RX2 c00082a0a4a64040e09c60868298986eae92888a6240e303f03e4869c0\n";
 
 /// What a merge writes, if it goes well.
-pub fn merged(alloc: Global, texts: &[&[u8]]) -> Option<Vec<u8>> {
+fn merged(alloc: Global, texts: &[&[u8]]) -> Option<Vec<u8>> {
     let mut inputs = Vec::new(alloc);
     for text in texts {
         inputs.push(Counted::new(*text)).ok()?;
