@@ -44,8 +44,9 @@ for name in table fold; do
         if [ -x "$it" ]; then ln -sf "$(realpath "$it")" "$scratch/bin/aprsbook-$name"; fi
     done
 done
-tools=$(dirname "$here")/tools/bin
-export PATH="$scratch/bin:$tools:$here/recipes:$PATH"
+tools=$(dirname "$here")/tools
+if command -v python3 > /dev/null; then "$tools/old_names.py" "$scratch/bin" > /dev/null; fi
+export PATH="$scratch/bin:$tools/bin:$here/recipes:$PATH"
 export RECIPES="$here/recipes" EXAMPLES="$here"
 cp "$here"/evening/*.log "$work"
 cp "$here"/evening/*.log "$work/logs/2024-06-21"

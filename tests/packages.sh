@@ -42,9 +42,10 @@ runs() {
         done
     done
     # the recipes and aprs-net's names are in the PATH, and each unit names what is there
-    for recipe in "$repository"/examples/recipes/* "$repository"/tools/bin/*; do
-        [ -x "$recipe" ] || continue
-        name=${recipe##*/}
+    {
+        find "$repository"/examples/recipes "$repository"/tools/bin -type f -perm -1 | sed 's,.*/,,'
+        "$repository"/tools/old_names.py
+    } | while read -r name; do
         [ -x "$1/bin/$name" ] || fail "$1: $name isn't in bin"
         [ -e "$1/share/man/man1/$name.1" ] || [ -e "$1/share/man/man1/$name.1.gz" ] ||
             fail "$1: $name has no manual page"

@@ -8,21 +8,29 @@ from standing import Programs, place
 
 from aprsbook_tools import cli, typed
 
-BIN = pathlib.Path(__file__).resolve().parent.parent / "bin"
+TOOLS = pathlib.Path(__file__).resolve().parent.parent
 
 
-def test_each_link_is_there() -> None:
-    links = {it for it in os.listdir(BIN) if (BIN / it).is_symlink()}
-    assert links == set(typed.LINKS)
-    assert all(os.readlink(BIN / it) == "aprs-net" for it in links)
+@pytest.fixture()
+def links(tmp_path: pathlib.Path) -> pathlib.Path:
+    """A folder with a link of each old name."""
+    folder = tmp_path / "links"
+    folder.mkdir()
+    subprocess.run([TOOLS / "old_names.py", folder], stdout=subprocess.DEVNULL, check=True)
+    return folder
 
 
-def test_a_link_is_its_subcommand(programs: Programs) -> None:
+def test_each_link_is_there(links: pathlib.Path) -> None:
+    assert set(os.listdir(links)) == set(typed.LINKS)
+    assert all(os.path.samefile(links / it, TOOLS / "bin" / "aprs-net") for it in typed.LINKS)
+
+
+def test_a_link_is_its_subcommand(links: pathlib.Path, programs: Programs) -> None:
     programs.say(place("18:00", "Q1A", 1, 2))
-    done = subprocess.run([BIN / "tracks", "csv", "net.log"], capture_output=True, check=True)
+    done = subprocess.run([links / "tracks", "csv", "net.log"], capture_output=True, check=True)
     assert b"Q1A" in done.stdout
     (programs.folder / "fields").write_text("a\tb\n")
-    done = subprocess.run([BIN / "to-csv"], input=b"a\t=b\n", capture_output=True, check=True)
+    done = subprocess.run([links / "to-csv"], input=b"a\t=b\n", capture_output=True, check=True)
     assert done.stdout == b"a,'=b\n"
 
 
