@@ -70,6 +70,8 @@ runs() {
     sh -ex "$1" > printed 2>&1 < /dev/null || fail "$1: $(cat printed)"
 }
 cp rx1.log rx3.log
+cp net.book year.book
+cp net.book day.book
 # shellcheck disable=SC2016 # these are backquotes of the page
 sed -n 's/^| .* | .* | `\(aprsbook.*\)` |$/\1/p' "$page" > all
 while read -r command rest; do
