@@ -119,15 +119,13 @@ fn word_at(bytes: &[u8], place: usize) -> u64
     u64::from_le_bytes(word)
 }
 
-/// The second of the day that a text of 8 bytes says, as `12:00:00`. `None` decides nothing, and is
-/// to come only where the bytes aren't the text of a time.
+/// The second of the day that a text of 8 bytes says, as `12:00:00`. `None` decides nothing.
 fn second_of_text(text: &[u8]) -> Option<u32>
     requires { length text.now ≡ TIME_LEN }
     ensures { IfSome result (λ n. Spec.SecondText n text.now) }
 {
     let (hour, minute, second) = (number_at(text, 0), number_at(text, 3), number_at(text, 6));
-    let is_marked = text[2] == b':' && text[5] == b':';
-    if hour < 24 && minute < 60 && second < 60 && is_marked {
+    if text[2] == b':' && text[5] == b':' && hour < 24 && minute < 60 && second < 60 {
         Some(u32::from(hour) * 3600 + u32::from(minute) * 60 + u32::from(second))
     } else {
         None
@@ -135,18 +133,22 @@ fn second_of_text(text: &[u8]) -> Option<u32>
 }
 
 /// The millisecond that the end of a moment's text says: 0 for `Z`, and 0 to 999 for `.000Z` to
-/// `.999Z`. `None` decides nothing, and is to come only where it is neither. Requires 1 or 5 bytes.
+/// `.999Z`, or `None` where it is neither. Requires 1 or 5 bytes.
 fn milli_of_text(text: &[u8]) -> Option<u32>
     requires { (length text.now ≡ 1) ⊎ (length text.now ≡ 5) }
-    ensures { IfSome result (λ n. Spec.IsFractionText (Spec.form_of_end text.now) n text.now) }
+    ensures says { IfSome result
+        (λ n. Spec.IsFractionText (Spec.form_of_end text.now) n text.now) }
+    ensures reads { (n : ℕ) → Spec.IsFractionText (Spec.form_of_end text.now) n text.now
+        → result ≡ Some n }
 {
     if text.len() == 1 {
         return if text[0] == b'Z' { Some(0) } else { None };
     }
     let hundreds = text[1].wrapping_sub(b'0');
-    let rest = number_at(text, 2);
-    if text[0] == b'.' && hundreds < 10 && rest < 100 && text[4] == b'Z' {
-        Some(u32::from(hundreds) * 100 + u32::from(rest))
+    let tens = text[2].wrapping_sub(b'0');
+    let units = text[3].wrapping_sub(b'0');
+    if text[0] == b'.' && hundreds < 10 && tens < 10 && units < 10 && text[4] == b'Z' {
+        Some(u32::from(hundreds) * 100 + u32::from(tens) * 10 + u32::from(units))
     } else {
         None
     }
