@@ -5,6 +5,7 @@ with it.
 
 usage: build/pairs.py CRATE [WORD..]          changes the definitions, with one of these words
        build/pairs.py --list CRATE [WORD..]   shows the changes, and tries none
+       build/pairs.py --draw NUMBER CRATE     tries so many of them, drawn by lot
        build/pairs.py --edits CRATE FILE..    tries changes by hand: lines `file:`, `old:`, `new:`,
                                               as in an edit that must fail, also of several files
 
@@ -15,6 +16,7 @@ Changes by hand that stand there are tried on the whole crate. One check a chang
 Needs rt, and the crate proved.
 """
 import os
+import random
 import re
 import shutil
 import subprocess
@@ -173,6 +175,7 @@ def main(words: List[str]) -> int:
         print(__doc__)
         return 2
     way = words.pop(0) if words[0].startswith("--") else ""
+    drawn = int(words.pop(0)) if way == "--draw" else 0
     crate, rest = words[0], words[1:]
     if way == "--edits":
         return 1 if tried(crate, [edits_in(path, crate) for path in rest], True) else 0
@@ -186,6 +189,8 @@ def main(words: List[str]) -> int:
     if way == "--list":
         print("\n".join(change.said for change in changes))
         return 0
+    if drawn:
+        changes = random.Random(crate).sample(changes, min(drawn, len(changes)))
     # lemmas that are examples are checked with the whole crate alone
     whole = os.path.exists(f"crates/{crate}/proofs/Examples.antt")
     return 1 if tried(crate, changes, whole) else 0
