@@ -119,8 +119,8 @@ def test_the_box_of_an_event_leaves_out_what_is_far_from_all() -> None:
     # over the date line, and too wide, too far north, nothing
     over = coasts.box_around([Spot(-16.5, 179.9), Spot(-16.8, -179.9)])
     assert over is not None and over.west < 1_799_000 and over.east > 1_801_000
-    too_wide, too_far_north = [Spot(40, 0), Spot(46.1, 0)], [Spot(85.1, 0)]
-    assert not any(map(coasts.box_around, [[], too_wide, too_far_north]))
+    nothing: List[List[Spot]] = [[], [Spot(40, 0), Spot(46.1, 0)], [Spot(85.1, 0)]]
+    assert [coasts.box_around(it) for it in nothing] == [None] * 3
 
 
 def test_lines_of_gmt_over_the_date_line_are_whole() -> None:
