@@ -1,11 +1,14 @@
 // @ts-check
 // The page: what it has of the net, what the reader chose, and what is drawn of both.
 
+import { Colouring, wayFor } from "./colouring.js";
 import { wordsOf } from "./details.js";
 import { air, byId, choose, chosen, make, momentOf, save } from "./dom.js";
 import { gathered, SAVES } from "./exports.js";
 import { detailLines } from "./facts.js";
+import { frameList, numbersOf } from "./frames.js";
 import { bearing, distance, locatorOf, minutesText } from "./globe.js";
+import { graphNode, graphsOf } from "./graphs.js";
 import { cell, List, timeCell } from "./lists.js";
 import { NetMap } from "./map.js";
 import { bulletinList, fillForm, inOrder, messageList } from "./messages.js";
@@ -40,6 +43,7 @@ export const view = {
   get silent() { return page.data.silent * 60; },
   get gap() { return page.data.gap; },
   get picked() { return page.picked; },
+  get rows() { return page.all.rows; },
   get clockOf() { return page.clockOf; },
   isSilent: it => it.kind === "station" && presentOf() - it.last > page.data.silent * 60,
   onPick: key => pick(key),
@@ -115,12 +119,22 @@ function turnTo({ data, all }, net) {
   if (fresh) readBrought();
   for (const it of net.things) if (it.kind === "station" && it.name) it.label = who(it.name);
   page.map.take(net.placed);
+  colour();
   page.map.picked = net.things.some(it => it.key === page.picked) ? page.picked : null;
   page.finder.clear();
   byId("net").hidden = !all.rows.length;
   byId("controls").hidden = !all.rows.length && !page.follows;
 }
 
+/** Colours the map as the reader chose, or else as so many things need; says what colours mean. */
+function colour() {
+  const { net, map } = page, chosenWay = byId("colours").value;
+  map.colouring = new Colouring(chosenWay || wayFor(net.placed.length),
+    { receivers: net.receivers, silent: view.silent });
+  map.shown.things = null;
+  byId("legend").replaceChildren(...map.colouring.legend.map(({ colour, text }) =>
+    make("span", {}, make("span", { className: `key c-${colour}` }), text)));
+}
 function drawAbout() {
   const { net, all } = page, stations = net.things.filter(it => it.kind === "station").length;
   const zone = net.rows.length ? zoneText(net.end) : "UTC";
@@ -236,6 +250,10 @@ function drawOne() {
   byId("one-about").replaceChildren(...factsOf(thing).flatMap(([name, ...value]) =>
     [make("dt", { textContent: name }), make("dd", {}, ...value)]));
   page.lists.places.show(thing.places.reverse());
+  const numbers = numbersOf(thing, page.net.rows);
+  byId("one-graphs").replaceChildren(
+    ...graphsOf(page.all.rows, numbers).map(it => graphNode(it, page.net)));
+  page.lists.frames.show(numbers.reverse());
 }
 function factsOf(thing) {
   const { now } = thing, facts = [];
@@ -356,6 +374,11 @@ function listenToControls() {
   on("in", "click", () => { map.zoom(1.5); map.turn(); });
   on("out", "click", () => { map.zoom(1 / 1.5); map.turn(); });
   on("fit", "click", () => { map.fit(map.fitted && map.far > 0); map.turn(); });
+  on("colours", "change", () => {
+    choose("colours", byId("colours").value);
+    colour();
+    map.paintSoon();
+  });
   on("fill", "click", () => map.fill(!map.isFull));
   on("sound", "change", () => {
     choose("sound", byId("sound").checked ? "on" : "");
@@ -417,7 +440,8 @@ function listenToEscape() {
       it.open = false;
       if (it.contains(document.activeElement)) it.querySelector("summary")?.focus();
     }
-    if (!open.length && page.map.isFull) page.map.fill(false);
+    if (!open.length && page.map.fan.isOpen) page.map.unfold();
+    else if (!open.length && page.map.isFull) page.map.fill(false);
   });
   // a menu closes where one goes on beside it
   addEventListener("pointerdown", ({ target }) => {
@@ -452,11 +476,18 @@ function openForm(open) {
 export function begin() {
   page.map = new NetMap(byId("map"), { onPick: key => pick(key, true), onFill: fillWindow,
     onFit: () => page.map && tellFar(),
+    onDense(text) {
+      if (byId("dense").textContent === text) return;
+      byId("dense").textContent = text;
+      byId("legend").hidden = text !== "";
+    },
     onView(text) {
       choose("view", text);
       tellFar();
     } });
+  page.map.present = () => presentOf();
   page.picked = chosen.get("pick");
+  byId("colours").value = chosen.get("colours") || "";
   page.map.look(chosen.get("view") || "");
   byId("since").value = chosen.get("since") || "0";
   byId("local").checked = chosen.get("time") === "local";
@@ -468,7 +499,7 @@ export function begin() {
   page.lists = {
     messages: messageList(byId("messages-box")), bulletins: bulletinList(byId("bulletins-box")),
     things: thingList(byId("things-box"), view), places: placeList(byId("one-places")),
-    receivers: receiverList(byId("receivers-box"), view),
+    frames: frameList(byId("one-frames"), view), receivers: receiverList(byId("receivers-box"), view),
     roster: rosterList(byId("roster-box"), view),
   };
   drawSaves();
