@@ -3,7 +3,7 @@
 
 import { alive, beginAlive, tick } from "./alive.js";
 import { byId, choose, chosen, make, save } from "./dom.js";
-import { begin, beginClock, bring, page, refresh, show } from "./event.js";
+import { begin, beginClock, bring, bringLines, page, refresh, show } from "./event.js";
 import { SAVES, savedText } from "./exports.js";
 import { age, count, fullText, printable } from "./words.js";
 
@@ -14,6 +14,6 @@ if (byId("data").textContent.trim())
     if (page.data.live) beginAlive();
   });
 /** For the script that reads logs, and for tests. */
-export const shared = Object.freeze({ page, show, refresh, bring, make, byId, save, count, choose,
+export const shared = Object.freeze({ page, show, refresh, bring, bringLines, make, byId, save, count, choose,
   chosen, tick, SAVES, savedText, alive, printable, fullText, age });
 globalThis.aprsbook = shared;

@@ -9,12 +9,14 @@ import { detailLines } from "./facts.js";
 import { frameList, numbersOf } from "./frames.js";
 import { bearing, distance, locatorOf, minutesText } from "./globe.js";
 import { graphNode, graphsOf } from "./graphs.js";
+import { fieldOf, fillForm, momentIn } from "./ics309.js";
 import { cell, List, timeCell } from "./lists.js";
 import { NetMap } from "./map.js";
-import { bulletinList, fillForm, inOrder, messageList } from "./messages.js";
+import { bulletinList, inOrder, messageList } from "./messages.js";
 import { hearings, netOf, rank } from "./net.js";
 import { needsOf, newsOf } from "./news.js";
 import { readBase } from "./overlays.js";
+import { OwnLines } from "./ownlines.js";
 import { columnsOf, readMessages, Rows } from "./reading.js";
 import { expectedOf, joined, know, readRoster, who } from "./roster.js";
 import { Alarm } from "./sound.js";
@@ -31,7 +33,7 @@ import {
 export const page = { data: null, all: null, net: null, map: null, lists: {}, bases: [],
   roster: { list: [], faults: [] }, found: [], brought: [], until: Infinity, playing: null,
   typing: 0, finder: new Map(), next: null, turn: null, drawn: null, alarm: new Alarm(),
-  clockOf: null };
+  clockOf: null, own: new OwnLines() };
 /** Of rows of so many letters at most, some 10,000, all is drawn in one step. */
 const SMALL = 2 ** 20;
 
@@ -107,7 +109,7 @@ function* drawing(next) {
   sift();
   yield;
   drawLists();
-  if (!byId("ics").hidden) fillForm(net);
+  if (!byId("ics").hidden) drawForm();
 }
 /** From now on the page has these texts, and this net of them. */
 function turnTo({ data, all }, net) {
@@ -116,7 +118,10 @@ function turnTo({ data, all }, net) {
   byId("title").textContent = document.title = data.title;
   clocks.local = byId("local").checked;
   clocks.dated = net.rows.length > 0 && dateText(net.begin) !== dateText(net.end);
-  if (fresh) readBrought();
+  if (fresh) {
+    readBrought();
+    page.own.open(data.title, data.lines);
+  }
   for (const it of net.things) if (it.kind === "station" && it.name) it.label = who(it.name);
   page.map.take(net.placed);
   colour();
@@ -361,7 +366,7 @@ function drawSaves() {
 async function saveNow(name, as = SAVES[name][0]) {
   const [, type, piecesOf] = SAVES[name], { net, data } = page;
   const slow = setTimeout(() => tell(`making ${as}`), 300);
-  const pieces = await inSlices(gathered(piecesOf(net, data)), () => true);
+  const pieces = await inSlices(gathered(piecesOf(net, data, page.own.lines)), () => true);
   clearTimeout(slow);
   if (byId("told").textContent === `making ${as}`) tell("");
   save(as, pieces, type);
@@ -416,6 +421,14 @@ function listenToControls() {
   });
   on("ics-open", "click", () => openForm(true));
   on("ics-close", "click", () => openForm(false));
+  on("own-add", "click", addLine);
+  on("own-text", "keydown", event => event.key === "Enter" && addLine());
+  for (const id of ["ics-incident", "ics-net", "ics-operator"]) on(id, "change", drawForm);
+  addEventListener("storage", ({ key }) => {
+    if (key !== page.own.key || !page.data) return;
+    page.own.open(page.data.title, page.data.lines);
+    if (!byId("ics").hidden) drawForm();
+  });
   on("ics-print", "click", () => print());
   on("ics-save", "click", () => saveNow("messages (CSV)", "ics-309.csv"));
   addEventListener("beforeprint", () => {
@@ -465,11 +478,44 @@ function dressFor(paper) {
   page.map.readColours();
   page.map.measure();
 }
+/** Takes the operator's own lines of the pages of events. */
+export function bringLines(pages) {
+  const lines = pages.flatMap(it => it.lines);
+  tellKept(page.own.bring(lines));
+  tell(pages.map(it => `${printable(it.name)}: ${count(it.lines.length, "line")} of your own ` +
+    "for ICS-309").join("; "));
+  if (!byId("ics").hidden) drawForm();
+}
+/** Fills the form ICS-309. */
+export function drawForm() {
+  fillForm(page.net, page.own.lines, line => {
+    tellKept(page.own.remove(line));
+    drawForm();
+  });
+}
+const tellKept = kept => {
+  byId("own-told").textContent = kept ? ""
+    : "This browser keeps no lines: save the page of the event, which has them.";
+};
+/** Takes a line of the operator's own. */
+function addLine() {
+  const value = id => byId(id).value.trim(), at = momentIn(value("own-at"));
+  if (!Number.isFinite(at) || !value("own-text")) {
+    byId("own-told").textContent = "A line has a time and a message.";
+    return byId(value("own-text") ? "own-at" : "own-text").focus();
+  }
+  tellKept(page.own.add({ at, from: value("own-from"), to: value("own-to"), id: value("own-id"),
+    text: value("own-text") }));
+  for (const id of ["own-id", "own-text"]) byId(id).value = "";
+  drawForm();
+  byId("own-text").focus();
+}
 function openForm(open) {
   document.body.classList.toggle("ics", open);
   byId("ics").hidden = !open;
-  if (open) fillForm(page.net);
   byId("ics-incident").value ||= page.data.title;
+  if (open) drawForm();
+  byId("own-at").value = fieldOf(presentOf() > 0 ? presentOf() : Date.now() / 1000);
   byId(open ? "ics-incident" : "ics-open").focus();
 }
 /** Makes what is drawn into, with what was chosen before. */

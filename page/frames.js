@@ -45,7 +45,7 @@ export function frameList(box, view) {
   const record = k => view.rows.record(k);
   const row = k => {
     const it = record(k), rest = restOf(it);
-    return make("tr", {}, timeCell(view.rows.first[k]), cell("by", letters(it.receivers)),
+    return make("tr", {}, timeCell(view.rows.first[k]), cell("by", it.receivers.replaceAll(",", ", ")),
       cell("way", letters(said(wayOf(it)))), cell("kind", it.kind),
       cell("about", air(it.text), " ", rest ? make("small", {}, letters(rest)) : null));
   };

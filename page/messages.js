@@ -1,11 +1,10 @@
 // @ts-check
-// Messages, bulletins, and the communications log ICS-309 of them.
+// Messages and bulletins.
 
-import { air, byId, callIn, make } from "./dom.js";
+import { air, callIn, make } from "./dom.js";
 import { cell, List, timeCell } from "./lists.js";
-import { isBulletin } from "./net.js";
 import { who } from "./roster.js";
-import { fullText, zoneText } from "./words.js";
+import { fullText } from "./words.js";
 
 /** What is said of a message's state beside the state. */
 function answerOf(it) {
@@ -38,22 +37,4 @@ export function bulletinList(box) {
     { title: "first", number: true, value: it => it.first },
     { title: "last", number: true, value: it => it.last },
   ] });
-}
-
-/** The rows of ICS-309, all messages and bulletins by their first moment. */
-export function logOf(net) {
-  return [...net.messages, ...net.bulletins].sort((a, b) => a.first - b.first);
-}
-function ics309Row(it) {
-  return make("tr", {}, timeCell(it.first), cell("call", callIn(who(it.source))),
-    cell("id", it.id), cell("call", callIn(who(it.addressee))),
-    cell("text", air(it.text), isBulletin(it) || it.state === "unnumbered" ? ""
-      : make("small", { textContent: ` (${it.state})` })));
-}
-/** Fills the form ICS-309 with the messages that are shown. */
-export function fillForm(net) {
-  byId("ics-period").textContent = net.rows.length
-    ? `${fullText(net.begin)} to ${fullText(net.end)}` : "";
-  byId("ics-zone").textContent = net.rows.length ? zoneText(net.end) : "";
-  byId("ics-rows").replaceChildren(...logOf(net).map(ics309Row));
 }
