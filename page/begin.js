@@ -5,6 +5,7 @@ import { alive, beginAlive, tick } from "./alive.js";
 import { byId, choose, chosen, make, save } from "./dom.js";
 import { begin, beginClock, bring, bringLines, page, refresh, show } from "./event.js";
 import { SAVES, savedText } from "./exports.js";
+import { unpacked } from "./land.js";
 import { age, count, fullText, printable } from "./words.js";
 
 begin();
@@ -15,5 +16,6 @@ if (byId("data").textContent.trim())
   });
 /** For the script that reads logs, and for tests. */
 export const shared = Object.freeze({ page, show, refresh, bring, bringLines, make, byId, save, count, choose,
-  chosen, tick, SAVES, savedText, alive, printable, fullText, age });
+  chosen, tick, SAVES, savedText, alive, printable, fullText, age,
+  unpacked });
 globalThis.aprsbook = shared;

@@ -5,5 +5,5 @@
 const shared = globalThis.aprsbook;
 export const {
   age, alive, bring, bringLines, byId, choose, chosen, count, fullText, make, page, printable, save, show,
-  tick,
+  tick, unpacked,
 } = shared;

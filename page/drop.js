@@ -1,7 +1,7 @@
 // @ts-check
 // The page that reads logs: what is dropped on it goes through the module, and nothing leaves it.
 
-import { age, bring, bringLines, byId, count, make, page, printable, save, show } from "./drawn.js";
+import { age, bring, bringLines, byId, count, make, page, printable, save, show, unpacked } from "./drawn.js";
 import { filesOf } from "./folders.js";
 import {
   asText, fileOf, leaveOut, lineText, look, placeOf, shifts, take,
@@ -311,7 +311,13 @@ function drawOwnSaves() {
 
 // ---- begin
 
+/** Takes the example that is in the page: logs by their names, packed. */
+async function takeExample() {
+  const logs = JSON.parse(asText(await unpacked(parts.example)));
+  await add(Object.entries(logs).map(([name, text]) => new File([text], name)));
+}
 function listen() {
+  byId("example").onclick = takeExample;
   byId("choose").onchange = byId("choose-folder").onchange = ({ target }) => {
     add([...target.files].filter(it => !it.name.startsWith(".")));
     target.value = ""; // so that the same file can be chosen again

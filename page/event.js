@@ -11,6 +11,7 @@ import { bearing, distance, locatorOf, minutesText } from "./globe.js";
 import { graphNode, graphsOf } from "./graphs.js";
 import { fieldOf, fillForm, momentIn } from "./ics309.js";
 import { cell, List, timeCell } from "./lists.js";
+import { Looked } from "./looked.js";
 import { NetMap } from "./map.js";
 import { bulletinList, inOrder, messageList } from "./messages.js";
 import { hearings, netOf, rank } from "./net.js";
@@ -33,7 +34,8 @@ import {
 export const page = { data: null, all: null, net: null, map: null, lists: {}, bases: [],
   roster: { list: [], faults: [] }, found: [], brought: [], until: Infinity, playing: null,
   typing: 0, finder: new Map(), next: null, turn: null, drawn: null, alarm: new Alarm(),
-  clockOf: null, own: new OwnLines() };
+  clockOf: null, own: new OwnLines(), looked: new Looked(),
+  turned: false };
 /** Of rows of so many letters at most, some 10,000, all is drawn in one step. */
 const SMALL = 2 ** 20;
 
@@ -46,6 +48,8 @@ export const view = {
   get gap() { return page.data.gap; },
   get picked() { return page.picked; },
   get rows() { return page.all.rows; },
+  isNewThing: it => page.looked.isNewThing(it),
+  isNewMessage: it => page.looked.isNewMessage(it),
   get clockOf() { return page.clockOf; },
   isSilent: it => it.kind === "station" && presentOf() - it.last > page.data.silent * 60,
   onPick: key => pick(key),
@@ -103,6 +107,7 @@ function* drawing(next) {
   const net = yield* netOf(next.all, since, next.data.gap);
   turnTo(next, net);
   drawAbout();
+  drawLooked();
   drawNews();
   drawOne();
   turnClock();
@@ -154,6 +159,18 @@ function drawAbout() {
       `${zone} \u00b7 ${count(net.rows.length, "transmission")} of ` +
       `${count(stations, "station")} \u00b7 heard by ${by}`;
   }
+}
+/** Says what is new since the reader looked, where the page goes on. */
+function drawLooked() {
+  const { net, data, looked } = page, goesOn = Boolean(data.live || page.follows);
+  if (!goesOn) looked.forget();
+  else if (!looked.seen && net.rows.length) looked.look(net, Date.now() / 1000);
+  if (page.turned) looked.reveal(net);
+  page.turned = false;
+  const fresh = looked.count(net), button = byId("looked");
+  button.hidden = !fresh;
+  button.textContent = `${fresh} new since ${timeText(looked.at)}: seen`;
+  document.title = fresh ? `(${fresh}) ${data.title}` : data.title;
 }
 /** What wants doing, as links; what says the same stays, and keeps the focus. */
 export function drawNews() {
@@ -385,6 +402,11 @@ function listenToControls() {
     map.paintSoon();
   });
   on("fill", "click", () => map.fill(!map.isFull));
+  on("looked", "click", () => {
+    page.looked.look(page.net, Date.now() / 1000);
+    byId("news").focus();
+    refresh();
+  });
   on("sound", "change", () => {
     choose("sound", byId("sound").checked ? "on" : "");
     page.alarm.turn(byId("sound").checked);
@@ -400,6 +422,7 @@ function listenToControls() {
   on("kind", "change", sift);
   on("since", "change", () => {
     choose("since", byId("since").value === "0" ? "" : byId("since").value);
+    page.turned = true;
     refresh();
   });
   on("local", "change", () => {
@@ -543,7 +566,8 @@ export function begin() {
   byId("find").value = chosen.get("find") || "";
   byId("kind").value = chosen.get("kind") || "";
   page.lists = {
-    messages: messageList(byId("messages-box")), bulletins: bulletinList(byId("bulletins-box")),
+    messages: messageList(byId("messages-box"), view),
+    bulletins: bulletinList(byId("bulletins-box"), view),
     things: thingList(byId("things-box"), view), places: placeList(byId("one-places")),
     frames: frameList(byId("one-frames"), view), receivers: receiverList(byId("receivers-box"), view),
     roster: rosterList(byId("roster-box"), view),

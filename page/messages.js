@@ -2,7 +2,7 @@
 // Messages and bulletins.
 
 import { air, callIn, make } from "./dom.js";
-import { cell, List, timeCell } from "./lists.js";
+import { cell, List, newMark, timeCell } from "./lists.js";
 import { who } from "./roster.js";
 import { fullText } from "./words.js";
 
@@ -11,14 +11,16 @@ function answerOf(it) {
   if (Number.isNaN(it.answered)) return "";
   return `${it.answeredBy ? `by ${who(it.answeredBy)}, ` : ""}${fullText(it.answered)}`;
 }
-function messageRow(it) {
-  return make("tr", { className: it.state },
-    make("td", { className: "state", textContent: it.state, title: answerOf(it) }),
+function messageRow(it, { isNewMessage }) {
+  return make("tr", { className: it.state + (isNewMessage(it) ? " new" : "") },
+    make("td", { className: "state", textContent: it.state, title: answerOf(it) },
+      ...newMark(isNewMessage(it))),
     cell("call from", callIn(who(it.source))), cell("call to", callIn(who(it.addressee))),
     cell("text", air(it.text)), cell("id", it.id), timeCell(it.first), timeCell(it.last));
 }
-export function messageList(box) {
-  return new List(box, { id: "messages", caption: "messages", row: messageRow, columns: [
+export function messageList(box, view) {
+  const row = it => messageRow(it, view);
+  return new List(box, { id: "messages", caption: "messages", row, columns: [
     { title: "state", value: it => it.order }, { title: "from", value: it => it.source },
     { title: "to", value: it => it.addressee }, { title: "text", value: it => it.text },
     { title: "no.", value: it => it.id }, { title: "first", number: true, value: it => it.first },
@@ -27,8 +29,9 @@ export function messageList(box) {
 }
 export const inOrder = (a, b) => a.order - b.order || b.last - a.last;
 
-export function bulletinList(box) {
-  const row = it => make("tr", {}, cell("call", air(it.addressee)),
+export function bulletinList(box, { isNewMessage }) {
+  const row = it => make("tr", { className: isNewMessage(it) ? "new" : "" },
+    cell("call", air(it.addressee), ...newMark(isNewMessage(it))),
     cell("call", callIn(who(it.source))), cell("text", air(it.text)),
     timeCell(it.first), timeCell(it.last));
   return new List(box, { id: "bulletins", caption: "bulletins", row, columns: [
