@@ -91,6 +91,12 @@ function readBrought() {
   page.roster = { list: joined(rosters), faults: rosters[0].faults };
   know(page.roster.list);
   page.map.bases = page.bases;
+  readShore(page.data.coast || "");
+}
+/** Takes the fine coast of a page, which says whose it is. */
+async function readShore(text) {
+  byId("fine-coast").hidden = text === "";
+  if (await page.map.shore.read(text)) page.map.paintSoon();
 }
 /** What is read of the next texts. */
 function* allOf({ data, read }) {

@@ -9,6 +9,7 @@ import { capOf, degreesOf, NEAREST, Projection, RADIAN, RADIUS } from "./globe.j
 import { paintGrid, roundUp } from "./grid.js";
 import { listenToMap } from "./hands.js";
 import { Land } from "./land.js";
+import { Shore } from "./shore.js";
 import { Room, Sides } from "./sides.js";
 import { later, once } from "./steps.js";
 import { pathOf, symbolOf, TRACKS } from "./symbols.js";
@@ -50,6 +51,7 @@ export class NetMap {
     this.pen = /** @type {CanvasRenderingContext2D} */ (this.canvas.getContext("2d"));
     this.view = new Projection();
     this.land = new Land();
+    this.shore = new Shore();
     this.tiles = new Tiles();
     this.sides = new Sides(1, 1);
     /** @type {Thing[]} */
@@ -217,7 +219,8 @@ export class NetMap {
     pen.fillStyle = colours.sheet;
     pen.fillRect(0, 0, view.width, view.height);
     pen.lineJoin = "round";
-    const coast = this.land.paint(pen, view, /** @type {any} */ (colours));
+    const rough = this.land.paint(pen, view, colours, this.shore.of !== null);
+    const coast = this.shore.paint(pen, view, colours) ?? rough;
     this.tiles.paint(pen, view, this.paintSoon);
     const labels = paintGrid(pen, view, colours);
     for (const base of this.bases) this.paintBase(base);
