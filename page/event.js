@@ -1,17 +1,23 @@
 // @ts-check
 // The page: what it has of the net, what the reader chose, and what is drawn of both.
 
+import { Colouring, wayFor } from "./colouring.js";
 import { wordsOf } from "./details.js";
 import { air, byId, choose, chosen, make, momentOf, save } from "./dom.js";
 import { gathered, SAVES } from "./exports.js";
 import { detailLines } from "./facts.js";
+import { frameList, numbersOf } from "./frames.js";
 import { bearing, distance, locatorOf, minutesText } from "./globe.js";
+import { graphNode, graphsOf } from "./graphs.js";
+import { fieldOf, fillForm, momentIn } from "./ics309.js";
 import { cell, List, timeCell } from "./lists.js";
+import { Looked } from "./looked.js";
 import { NetMap } from "./map.js";
-import { bulletinList, fillForm, inOrder, messageList } from "./messages.js";
+import { bulletinList, inOrder, messageList } from "./messages.js";
 import { hearings, netOf, rank } from "./net.js";
 import { needsOf, newsOf } from "./news.js";
 import { readBase } from "./overlays.js";
+import { OwnLines } from "./ownlines.js";
 import { columnsOf, readMessages, Rows } from "./reading.js";
 import { expectedOf, joined, know, readRoster, who } from "./roster.js";
 import { Alarm } from "./sound.js";
@@ -28,7 +34,8 @@ import {
 export const page = { data: null, all: null, net: null, map: null, lists: {}, bases: [],
   roster: { list: [], faults: [] }, found: [], brought: [], until: Infinity, playing: null,
   typing: 0, finder: new Map(), next: null, turn: null, drawn: null, alarm: new Alarm(),
-  clockOf: null };
+  clockOf: null, own: new OwnLines(), looked: new Looked(),
+  turned: false };
 /** Of rows of so many letters at most, some 10,000, all is drawn in one step. */
 const SMALL = 2 ** 20;
 
@@ -40,6 +47,9 @@ export const view = {
   get silent() { return page.data.silent * 60; },
   get gap() { return page.data.gap; },
   get picked() { return page.picked; },
+  get rows() { return page.all.rows; },
+  isNewThing: it => page.looked.isNewThing(it),
+  isNewMessage: it => page.looked.isNewMessage(it),
   get clockOf() { return page.clockOf; },
   isSilent: it => it.kind === "station" && presentOf() - it.last > page.data.silent * 60,
   onPick: key => pick(key),
@@ -103,13 +113,14 @@ function* drawing(next) {
   const net = yield* netOf(next.all, since, next.data.gap);
   turnTo(next, net);
   drawAbout();
+  drawLooked();
   drawNews();
   drawOne();
   turnClock();
   sift();
   yield;
   drawLists();
-  if (!byId("ics").hidden) fillForm(net);
+  if (!byId("ics").hidden) drawForm();
 }
 /** From now on the page has these texts, and this net of them. */
 function turnTo({ data, all }, net) {
@@ -118,15 +129,28 @@ function turnTo({ data, all }, net) {
   byId("title").textContent = document.title = data.title;
   clocks.local = byId("local").checked;
   clocks.dated = net.rows.length > 0 && dateText(net.begin) !== dateText(net.end);
-  if (fresh) readBrought();
+  if (fresh) {
+    readBrought();
+    page.own.open(data.title, data.lines);
+  }
   for (const it of net.things) if (it.kind === "station" && it.name) it.label = who(it.name);
   page.map.take(net.placed);
+  colour();
   page.map.picked = net.things.some(it => it.key === page.picked) ? page.picked : null;
   page.finder.clear();
   byId("net").hidden = !all.rows.length;
   byId("controls").hidden = !all.rows.length && !page.follows;
 }
 
+/** Colours the map as the reader chose, or else as so many things need; says what colours mean. */
+function colour() {
+  const { net, map } = page, chosenWay = byId("colours").value;
+  map.colouring = new Colouring(chosenWay || wayFor(net.placed.length),
+    { receivers: net.receivers, silent: view.silent });
+  map.shown.things = null;
+  byId("legend").replaceChildren(...map.colouring.legend.map(({ colour, text }) =>
+    make("span", {}, make("span", { className: `key c-${colour}` }), text)));
+}
 function drawAbout() {
   const { net, all } = page, stations = net.things.filter(it => it.kind === "station").length;
   const zone = net.rows.length ? zoneText(net.end) : "UTC";
@@ -141,6 +165,18 @@ function drawAbout() {
       `${zone} \u00b7 ${count(net.rows.length, "transmission")} of ` +
       `${count(stations, "station")} \u00b7 heard by ${by}`;
   }
+}
+/** Says what is new since the reader looked, where the page goes on. */
+function drawLooked() {
+  const { net, data, looked } = page, goesOn = Boolean(data.live || page.follows);
+  if (!goesOn) looked.forget();
+  else if (!looked.seen && net.rows.length) looked.look(net, Date.now() / 1000);
+  if (page.turned) looked.reveal(net);
+  page.turned = false;
+  const fresh = looked.count(net), button = byId("looked");
+  button.hidden = !fresh;
+  button.textContent = `${fresh} new since ${timeText(looked.at)}: seen`;
+  document.title = fresh ? `(${fresh}) ${data.title}` : data.title;
 }
 /** What wants doing, as links; what says the same stays, and keeps the focus. */
 export function drawNews() {
@@ -242,6 +278,10 @@ function drawOne() {
   byId("one-about").replaceChildren(...factsOf(thing).flatMap(([name, ...value]) =>
     [make("dt", { textContent: name }), make("dd", {}, ...value)]));
   page.lists.places.show(thing.places.reverse());
+  const numbers = numbersOf(thing, page.net.rows);
+  byId("one-graphs").replaceChildren(
+    ...graphsOf(page.all.rows, numbers).map(it => graphNode(it, page.net)));
+  page.lists.frames.show(numbers.reverse());
 }
 function factsOf(thing) {
   const { now } = thing, facts = [];
@@ -349,7 +389,7 @@ function drawSaves() {
 async function saveNow(name, as = SAVES[name][0]) {
   const [, type, piecesOf] = SAVES[name], { net, data } = page;
   const slow = setTimeout(() => tell(`making ${as}`), 300);
-  const pieces = await inSlices(gathered(piecesOf(net, data)), () => true);
+  const pieces = await inSlices(gathered(piecesOf(net, data, page.own.lines)), () => true);
   clearTimeout(slow);
   if (byId("told").textContent === `making ${as}`) tell("");
   save(as, pieces, type);
@@ -362,7 +402,17 @@ function listenToControls() {
   on("in", "click", () => { map.zoom(1.5); map.turn(); });
   on("out", "click", () => { map.zoom(1 / 1.5); map.turn(); });
   on("fit", "click", () => { map.fit(map.fitted && map.far > 0); map.turn(); });
+  on("colours", "change", () => {
+    choose("colours", byId("colours").value);
+    colour();
+    map.paintSoon();
+  });
   on("fill", "click", () => map.fill(!map.isFull));
+  on("looked", "click", () => {
+    page.looked.look(page.net, Date.now() / 1000);
+    byId("news").focus();
+    refresh();
+  });
   on("sound", "change", () => {
     choose("sound", byId("sound").checked ? "on" : "");
     page.alarm.turn(byId("sound").checked);
@@ -378,6 +428,7 @@ function listenToControls() {
   on("kind", "change", sift);
   on("since", "change", () => {
     choose("since", byId("since").value === "0" ? "" : byId("since").value);
+    page.turned = true;
     refresh();
   });
   on("local", "change", () => {
@@ -399,6 +450,14 @@ function listenToControls() {
   });
   on("ics-open", "click", () => openForm(true));
   on("ics-close", "click", () => openForm(false));
+  on("own-add", "click", addLine);
+  on("own-text", "keydown", event => event.key === "Enter" && addLine());
+  for (const id of ["ics-incident", "ics-net", "ics-operator"]) on(id, "change", drawForm);
+  addEventListener("storage", ({ key }) => {
+    if (key !== page.own.key || !page.data) return;
+    page.own.open(page.data.title, page.data.lines);
+    if (!byId("ics").hidden) drawForm();
+  });
   on("ics-print", "click", () => print());
   on("ics-save", "click", () => saveNow("messages (CSV)", "ics-309.csv"));
   addEventListener("beforeprint", () => {
@@ -423,7 +482,8 @@ function listenToEscape() {
       it.open = false;
       if (it.contains(document.activeElement)) it.querySelector("summary")?.focus();
     }
-    if (!open.length && page.map.isFull) page.map.fill(false);
+    if (!open.length && page.map.fan.isOpen) page.map.unfold();
+    else if (!open.length && page.map.isFull) page.map.fill(false);
   });
   // a menu closes where one goes on beside it
   addEventListener("pointerdown", ({ target }) => {
@@ -447,22 +507,62 @@ function dressFor(paper) {
   page.map.readColours();
   page.map.measure();
 }
+/** Takes the operator's own lines of the pages of events. */
+export function bringLines(pages) {
+  const lines = pages.flatMap(it => it.lines);
+  tellKept(page.own.bring(lines));
+  tell(pages.map(it => `${printable(it.name)}: ${count(it.lines.length, "line")} of your own ` +
+    "for ICS-309").join("; "));
+  if (!byId("ics").hidden) drawForm();
+}
+/** Fills the form ICS-309. */
+export function drawForm() {
+  fillForm(page.net, page.own.lines, line => {
+    tellKept(page.own.remove(line));
+    drawForm();
+  });
+}
+const tellKept = kept => {
+  byId("own-told").textContent = kept ? ""
+    : "This browser keeps no lines: save the page of the event, which has them.";
+};
+/** Takes a line of the operator's own. */
+function addLine() {
+  const value = id => byId(id).value.trim(), at = momentIn(value("own-at"));
+  if (!Number.isFinite(at) || !value("own-text")) {
+    byId("own-told").textContent = "A line has a time and a message.";
+    return byId(value("own-text") ? "own-at" : "own-text").focus();
+  }
+  tellKept(page.own.add({ at, from: value("own-from"), to: value("own-to"), id: value("own-id"),
+    text: value("own-text") }));
+  for (const id of ["own-id", "own-text"]) byId(id).value = "";
+  drawForm();
+  byId("own-text").focus();
+}
 function openForm(open) {
   document.body.classList.toggle("ics", open);
   byId("ics").hidden = !open;
-  if (open) fillForm(page.net);
   byId("ics-incident").value ||= page.data.title;
+  if (open) drawForm();
+  byId("own-at").value = fieldOf(presentOf() > 0 ? presentOf() : Date.now() / 1000);
   byId(open ? "ics-incident" : "ics-open").focus();
 }
 /** Makes what is drawn into, with what was chosen before. */
 export function begin() {
   page.map = new NetMap(byId("map"), { onPick: key => pick(key, true), onFill: fillWindow,
     onFit: () => page.map && tellFar(),
+    onDense(text) {
+      if (byId("dense").textContent === text) return;
+      byId("dense").textContent = text;
+      byId("legend").hidden = text !== "";
+    },
     onView(text) {
       choose("view", text);
       tellFar();
     } });
+  page.map.present = () => presentOf();
   page.picked = chosen.get("pick");
+  byId("colours").value = chosen.get("colours") || "";
   page.map.look(chosen.get("view") || "");
   byId("since").value = chosen.get("since") || "0";
   byId("local").checked = chosen.get("time") === "local";
@@ -472,9 +572,10 @@ export function begin() {
   byId("find").value = chosen.get("find") || "";
   byId("kind").value = chosen.get("kind") || "";
   page.lists = {
-    messages: messageList(byId("messages-box")), bulletins: bulletinList(byId("bulletins-box")),
+    messages: messageList(byId("messages-box"), view),
+    bulletins: bulletinList(byId("bulletins-box"), view),
     things: thingList(byId("things-box"), view), places: placeList(byId("one-places")),
-    receivers: receiverList(byId("receivers-box"), view),
+    frames: frameList(byId("one-frames"), view), receivers: receiverList(byId("receivers-box"), view),
     roster: rosterList(byId("roster-box"), view),
   };
   drawSaves();

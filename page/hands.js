@@ -85,8 +85,7 @@ export function listenToMap(map) {
   addEventListener("pointerup", event => {
     if (!fingers.delete(event.pointerId)) return;
     if (moved > 6 || most > 1) return map.turn();
-    const thing = map.markAt(...pixel(event));
-    if (thing) map.onPick(thing.key);
+    map.tap(...pixel(event));
   });
   addEventListener("pointercancel", event => fingers.delete(event.pointerId));
   node.addEventListener("pointermove", event => hover(map, fingers.size ? null : pixel(event)));
@@ -94,7 +93,7 @@ export function listenToMap(map) {
 }
 /** Says beside the pointer what is under it. */
 function hover(map, at) {
-  const tip = map.node.querySelector(".tip"), thing = at && map.markAt(...at);
+  const tip = map.node.querySelector(".tip"), thing = at && map.markAt(...at)?.thing;
   map.node.style.cursor = thing ? "pointer" : "";
   tip.hidden = !thing;
   if (!thing) return;

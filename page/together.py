@@ -13,8 +13,10 @@ import json
 import pathlib
 import re
 import sys
+import zlib
 
 HERE = pathlib.Path(__file__).resolve().parent
+EXAMPLE = HERE.parent / "examples" / "evening"
 # what draws, in each page; what reads logs; and what runs the module, beside the page: each a module
 # that imports others
 DRAWS, READS, RUNS = "begin", "reads", "worker"
@@ -88,6 +90,12 @@ def coast():
     return read("coast.txt").strip()
 
 
+def example():
+    """The logs of an evening, which the page that reads logs has with it: names and texts, packed."""
+    logs = {it.name: it.read_text(encoding="ascii") for it in sorted(EXAMPLE.glob("*.log"))}
+    return base64.b64encode(zlib.compress(json.dumps(logs).encode(), 9)).decode()
+
+
 def policy(scripts, style, more=""):
     """No script runs but these, nothing is styled by others, and nothing is loaded."""
     return (f"default-src 'none'; script-src {' '.join(map(digest, scripts))}{more}; "
@@ -111,6 +119,7 @@ def whole(module):
     draws, reads, style = script(DRAWS), script(READS), read("page.css")
     parts = as_data({
         "worker": script(RUNS), "module": base64.b64encode(module).decode(),
+        "example": example(),
         "shell": read("shell.html"), "digests": {"draws": digest(draws), "style": digest(style)},
     })
     more = " 'wasm-unsafe-eval'; worker-src blob:; connect-src 'self'"

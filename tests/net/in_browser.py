@@ -294,7 +294,7 @@ def test_messages(page, folder):
     # the form, and what it saves
     page.js("document.getElementById('ics-open').click()")
     is_(page.js("document.querySelector('main').checkVisibility()"), False)
-    is_(page.js("document.querySelectorAll('#ics-rows tr').length"), 6)
+    is_(page.js("document.querySelectorAll('#ics-sheets tbody tr').length"), 6)
     picture(page, "ics-309")
     pdf = page.pdf()
     assert pdf.startswith(b"%PDF")
