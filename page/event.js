@@ -27,8 +27,9 @@ import {
   haystack, NO_FIX, pairList, receiverList, rosterList, shareText, thingList, whereOf,
 } from "./tables.js";
 import { timelineList } from "./timeline.js";
+import { far } from "./units.js";
 import {
-  clocks, count, dateText, far, printable, secondText, timeText, zoneText,
+  clocks, count, dateText, printable, secondText, timeText, zoneText,
 } from "./words.js";
 
 export const page = { data: null, all: null, net: null, map: null, lists: {}, bases: [],
