@@ -3,11 +3,13 @@
 
 import { Colouring, wayFor } from "./colouring.js";
 import { wordsOf } from "./details.js";
-import { air, byId, choose, chosen, make, momentOf, save } from "./dom.js";
+import { air, byId, choose, chosen, keep, kept, make, momentOf, save } from "./dom.js";
+import { listenToEdge } from "./edge.js";
 import { gathered, SAVES } from "./exports.js";
 import { detailLines } from "./facts.js";
 import { frameList, numbersOf } from "./frames.js";
-import { bearing, distance, locatorOf, minutesText } from "./globe.js";
+import { forms, placeFacts, spotText } from "./forms.js";
+import { bearing, distance } from "./globe.js";
 import { graphNode, graphsOf } from "./graphs.js";
 import { fieldOf, fillForm, momentIn } from "./ics309.js";
 import { cell, List, timeCell } from "./lists.js";
@@ -27,7 +29,7 @@ import {
   haystack, NO_FIX, pairList, receiverList, rosterList, shareText, thingList, whereOf,
 } from "./tables.js";
 import { timelineList } from "./timeline.js";
-import { far } from "./units.js";
+import { far, units } from "./units.js";
 import {
   clocks, count, dateText, printable, secondText, timeText, zoneText,
 } from "./words.js";
@@ -129,6 +131,8 @@ function turnTo({ data, all }, net) {
   Object.assign(page, { data, all, net });
   byId("title").textContent = document.title = data.title;
   clocks.local = byId("local").checked;
+  units.miles = byId("miles").checked;
+  forms.now = byId("form").value;
   clocks.dated = net.rows.length > 0 && dateText(net.begin) !== dateText(net.end);
   if (fresh) {
     readBrought();
@@ -292,8 +296,7 @@ function factsOf(thing) {
   if (now) {
     const word = symbolOf(now).word, words = wordsOf(now);
     if (word) facts.push(["symbol", word]);
-    facts.push(["place", `${now.north.toFixed(5)}, ${now.east.toFixed(5)}`],
-      ["", minutesText(now.north, now.east)], ["locator", locatorOf(now.north, now.east)]);
+    facts.push(...placeFacts(now.north, now.east));
     if (words.length) facts.push(["says", words.join(", ")]);
     if (now.comment) facts.push(["comment", air(now.comment)]);
     if (thing.kind !== "station") facts.push(["put by", who(now.source)]);
@@ -436,6 +439,17 @@ function listenToControls() {
     choose("time", byId("local").checked ? "local" : "");
     refresh();
   });
+  on("miles", "change", () => {
+    keep("miles", byId("miles").checked ? "on" : "");
+    refresh();
+    map.turnWay(() => {});
+  });
+  on("form", "change", () => {
+    keep("form", byId("form").value);
+    refresh();
+  });
+  on("measure", "click", () => map.turnWay(way => way.turn(!way.isOn)));
+  listenToEdge(byId("edge"), byId("map"));
   on("one-close", "click", () => pick(page.picked));
   on("bring", "change", ({ target }) => {
     bringAll([...target.files]);
@@ -483,7 +497,8 @@ function listenToEscape() {
       it.open = false;
       if (it.contains(document.activeElement)) it.querySelector("summary")?.focus();
     }
-    if (!open.length && page.map.fan.isOpen) page.map.unfold();
+    if (!open.length && page.map.way.isOn) page.map.turnWay(way => way.turn(false));
+    else if (!open.length && page.map.fan.isOpen) page.map.unfold();
     else if (!open.length && page.map.isFull) page.map.fill(false);
   });
   // a menu closes where one goes on beside it
@@ -557,6 +572,11 @@ export function begin() {
       byId("dense").textContent = text;
       byId("legend").hidden = text !== "";
     },
+    onWay(text) {
+      byId("way").textContent = text;
+      byId("measure").setAttribute("aria-pressed", String(page.map.way.isOn));
+    },
+    onSpot: vector => { byId("spot").textContent = vector ? spotText(vector) : ""; },
     onView(text) {
       choose("view", text);
       tellFar();
@@ -567,6 +587,9 @@ export function begin() {
   page.map.look(chosen.get("view") || "");
   byId("since").value = chosen.get("since") || "0";
   byId("local").checked = chosen.get("time") === "local";
+  byId("miles").checked = kept("miles") === "on";
+  byId("form").value = kept("form");
+  if (byId("form").selectedIndex < 0) byId("form").value = "";
   byId("sound").checked = chosen.get("sound") === "on";
   page.alarm.turn(byId("sound").checked, false);
   page.map.land.read(byId("coast").textContent).then(page.map.paintSoon);

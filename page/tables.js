@@ -4,6 +4,7 @@
 import { clockWords } from "./clockwords.js";
 import { wordsOf } from "./details.js";
 import { air, callIn, letters, make } from "./dom.js";
+import { placeText } from "./forms.js";
 import { ageCell, cell, List, newMark, number, timeCell } from "./lists.js";
 import { OPEN } from "./map.js";
 import { who } from "./roster.js";
@@ -42,7 +43,7 @@ function thingRow(it, view) {
 }
 export function whereOf(place) {
   if (!place) return [];
-  const text = `${place.north.toFixed(4)}, ${place.east.toFixed(4)}`;
+  const text = placeText(place.north, place.east);
   return [make("a", { href: `geo:${place.north.toFixed(6)},${place.east.toFixed(6)}`, tabIndex: -1,
     textContent: text }), OPEN[place.ambiguity] ? " (about)" : ""];
 }
