@@ -10,6 +10,7 @@ import { detailLines } from "./facts.js";
 import { frameList, numbersOf } from "./frames.js";
 import { forms, placeFacts, spotText } from "./forms.js";
 import { bearing, distance } from "./globe.js";
+import { Grounds } from "./grounds.js";
 import { graphNode, graphsOf } from "./graphs.js";
 import { fieldOf, fillForm, momentIn } from "./ics309.js";
 import { cell, List, timeCell } from "./lists.js";
@@ -38,7 +39,10 @@ export const page = { data: null, all: null, net: null, map: null, lists: {}, ba
   roster: { list: [], faults: [] }, found: [], brought: [], until: Infinity, playing: null,
   typing: 0, finder: new Map(), next: null, turn: null, drawn: null, alarm: new Alarm(),
   clockOf: null, own: new OwnLines(), looked: new Looked(),
-  turned: false };
+  turned: false,
+  /** @type {any} */
+  grounds: null };
+const NO_TILES = {};
 /** Of rows of so many letters at most, some 10,000, all is drawn in one step. */
 const SMALL = 2 ** 20;
 
@@ -95,6 +99,7 @@ function readBrought() {
   know(page.roster.list);
   page.map.bases = page.bases;
   readShore(page.data.coast || "");
+  page.map.tiles.carry(page.data.tiles || NO_TILES);
 }
 /** Takes the fine coast of a page, which says whose it is. */
 async function readShore(text) {
@@ -383,7 +388,19 @@ function tell(text, bad = false) {
   byId("told").className = bad ? "bad" : "";
 }
 async function bringAll(files) {
-  for (const it of files) bring(it.name, await it.text());
+  for (const it of files) {
+    const fault = await bringGround(it);
+    if (fault === null) bring(it.name, await it.text());
+    else if (fault) tell(`${printable(it.name)}: ${fault}`, true);
+  }
+}
+/** Takes a map of squares or a picture of one; null where it is none, or why it can't be drawn. */
+export async function bringGround(file) {
+  try {
+    return await page.grounds.take(file) ? "" : null;
+  } catch (fault) {
+    return `can\u2019t be drawn as a map: ${fault.message}`;
+  }
 }
 function drawSaves() {
   byId("saves").lastElementChild.replaceChildren(...Object.keys(SAVES).map(name =>
@@ -448,6 +465,7 @@ function listenToControls() {
     keep("form", byId("form").value);
     refresh();
   });
+  on("lay", "click", () => page.grounds.lay());
   on("measure", "click", () => map.turnWay(way => way.turn(!way.isOn)));
   listenToEdge(byId("edge"), byId("map"));
   on("one-close", "click", () => pick(page.picked));
@@ -457,8 +475,7 @@ function listenToControls() {
   });
   on("away", "click", () => {
     page.brought = [];
-    map.tiles.clear();
-    byId("own-map").textContent = "";
+    page.grounds.clear();
     tell("");
     readBrought();
     refresh();
@@ -582,6 +599,7 @@ export function begin() {
       tellFar();
     } });
   page.map.present = () => presentOf();
+  page.grounds = new Grounds(page.map, tell);
   page.picked = chosen.get("pick");
   byId("colours").value = chosen.get("colours") || "";
   page.map.look(chosen.get("view") || "");

@@ -10,6 +10,7 @@ import { paintGrid } from "./grid.js";
 import { listenToMap } from "./hands.js";
 import { Land } from "./land.js";
 import { Measure } from "./measure.js";
+import { paintSheets } from "./sheets.js";
 import { Shore } from "./shore.js";
 import { Room, Sides } from "./sides.js";
 import { later, once } from "./steps.js";
@@ -58,6 +59,8 @@ export class NetMap {
     this.land = new Land();
     this.shore = new Shore();
     this.tiles = new Tiles();
+    /** @type {import("./sheets.js").Sheet[]} */
+    this.sheets = [];
     this.sides = new Sides(1, 1);
     this.way = new Measure();
     /** @type {Thing[]} */
@@ -245,6 +248,7 @@ export class NetMap {
     const rough = this.land.paint(pen, view, colours, this.shore.of !== null);
     const coast = this.shore.paint(pen, view, colours) ?? rough;
     this.tiles.paint(pen, view, this.paintSoon);
+    paintSheets(pen, view, this.sheets);
     const labels = paintGrid(pen, view, colours);
     for (const base of this.bases) this.paintBase(base);
     const shown = this.shownNow(), density = this.place(shown);
