@@ -247,7 +247,7 @@ export class NetMap {
     pen.lineJoin = "round";
     const rough = this.land.paint(pen, view, colours, this.shore.of !== null);
     const coast = this.shore.paint(pen, view, colours) ?? rough;
-    this.tiles.paint(pen, view, this.paintSoon);
+    const isCovered = this.tiles.paint(pen, view, this.paintSoon);
     paintSheets(pen, view, this.sheets);
     const labels = paintGrid(pen, view, colours);
     for (const base of this.bases) this.paintBase(base);
@@ -263,7 +263,7 @@ export class NetMap {
     const room = this.paintMarks();
     this.writeTimes(tracks, shown, room);
     for (const label of labels) this.write(label.text, label.x, label.y, colours.soft, 11);
-    this.paintScale(coast);
+    this.paintScale(isCovered ? "" : coast);
   }
   /** What is on the map, in the order in which it is drawn. */
   shownNow() {

@@ -149,15 +149,17 @@ export class Tiles {
       : Math.max(this.least, Math.min(this.most, Math.round(wanted)));
   }
   /**
+   * Paints squares, and says whether there were some.
    * @param {CanvasRenderingContext2D} pen
    * @param {Projection} view
    * @param {() => void} again
    */
   paint(pen, view, again) {
     const z = this.least <= this.most ? this.sizeFor(view) : -1;
-    if (z < 0) return;
+    if (z < 0) return false;
     const { low, high, west, east } = rangeOf(view), n = 2 ** z;
-    if (east - west > 40) return;
+    if (east - west > 40) return false;
+    let painted = false;
     const row = (/** @type {number} */ north) =>
       (0.5 - Math.asinh(Math.tan(north * RADIAN)) / (2 * Math.PI)) * n;
     pen.save();
@@ -165,8 +167,10 @@ export class Tiles {
       for (let y = Math.floor(row(Math.min(85, high))); y <= row(Math.max(-85, low)); y++) {
         const picture = this.pictureOf(`${z}/${((x % n) + n) % n}/${y}`, again);
         if (picture) this.square(pen, view, picture, { x, y, z });
+        painted ||= picture !== null;
       }
     pen.restore();
+    return painted;
   }
   /**
    * @param {CanvasRenderingContext2D} pen
