@@ -15,7 +15,6 @@ if (byId("data").textContent.trim())
     if (page.data.live) beginAlive();
   });
 /** For the script that reads logs, and for tests. */
-export const shared = Object.freeze({ page, show, refresh, bring, bringLines, make, byId, save, count, choose,
-  chosen, tick, SAVES, savedText, alive, printable, fullText, age,
-  unpacked });
+export const shared = Object.freeze({ page, show, refresh, bring, bringLines, make, byId, save, count,
+  choose, chosen, tick, SAVES, savedText, alive, printable, fullText, age, unpacked });
 globalThis.aprsbook = shared;

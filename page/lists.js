@@ -141,7 +141,8 @@ export class List {
 const collator = new Intl.Collator("en", { numeric: true });
 
 /** What stands beside what is new since the reader looked. */
-export const newMark = isNew => isNew ? [" ", make("small", { className: "fresh", textContent: "new" })] : [];
+export const newMark = isNew =>
+  isNew ? [" ", make("small", { className: "fresh", textContent: "new" })] : [];
 export const cell = (className, ...inside) => make("td", { className }, ...inside);
 export const number = n => cell("num", n === undefined || n === 0 ? "" : n.toLocaleString("en"));
 export const timeCell = seconds => cell("num time", momentOf(seconds));

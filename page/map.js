@@ -33,8 +33,8 @@ const FONT = (size, bold) => `${bold ? "600 " : ""}${size}px system-ui, sans-ser
 
 export class NetMap {
   /**
-   * `onPick` is told of the thing that was picked, `onView` of a move, `onFill` whether the map fills
-   * the window, `onFit` that it shows all that is near, `onDense` what is said of marks that are
+   * `onPick` is told of the thing that was picked, `onView` of a move, `onFill` whether the map
+   * fills the window, `onFit` that it shows all that is near, `onDense` what is said of marks that are
    * shown as density.
    * @param {HTMLElement} node holds a canvas
    * @param {{ onPick: (key: string) => void, onView: (text: string) => void,
