@@ -175,7 +175,7 @@ function drawLooked() {
   page.turned = false;
   const fresh = looked.count(net), button = byId("looked");
   button.hidden = !fresh;
-  button.textContent = `${fresh} new since ${timeText(looked.at)}: seen`;
+  button.textContent = `${fresh} new since ${timeText(looked.at)}: mark as seen`;
   document.title = fresh ? `(${fresh}) ${data.title}` : data.title;
 }
 /** What wants doing, as links; what says the same stays, and keeps the focus. */
