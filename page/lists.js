@@ -30,7 +30,8 @@ export class List {
     const button = (textContent, n) =>
       make("button", { type: "button", textContent, onclick: () => this.turn(n) });
     this.heads = columns.map((it, n) =>
-      make("th", { scope: "col", className: it.number ? "num" : "" },
+      make("th", { scope: "col", className: it.number ? "num" : "",
+        data: typeof it.title === "string" ? { column: it.title } : {} },
         it.value ? button(it.title, n) : it.title));
     this.body = make("tbody");
     this.table = make("table", { id, className: "sorted" },

@@ -20,9 +20,9 @@ from serving import Server
 HERE = pathlib.Path(__file__).resolve().parent
 PICTURES = sys.argv[1] if len(sys.argv) > 1 else None
 TOLD = ("Object.fromEntries([...document.querySelectorAll('#files tbody tr')].map(it => "
-        "[it.cells[0].textContent, it.querySelector('.verdict').textContent]))")
+        "[it.querySelector('th').textContent, it.querySelector('.verdict').textContent]))")
 MORE = ("Object.fromEntries([...document.querySelectorAll('#files tbody tr')].map(it => "
-        "[it.cells[0].textContent, it.querySelector('.more').textContent]))")
+        "[it.querySelector('th').textContent, it.querySelector('.more').textContent]))")
 MADE = "aprsfiles.made() !== null"
 ROWS = "aprsbook.page.all.rows.length"
 EMPTY_MODULE = b"\0asm\1\0\0\0"
