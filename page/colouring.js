@@ -1,10 +1,11 @@
 // @ts-check
-// What the colours of marks and tracks mean: each thing its own, or its age, its receiver, its kind.
+// What the colours of marks and tracks mean: each thing's own, its age, its receiver or its kind. And
+// how dense marks are.
 
 import { count } from "./words.js";
 
 /** @typedef {import("./net.js").Thing} Thing */
-/** @typedef {{ colour: string, text: string }} Key a colour, by its name in the style, and its words */
+/** @typedef {{ colour: string, text: string }} Key a colour of the style, and its words */
 /** @typedef {"own" | "age" | "receiver" | "kind"} Way */
 
 /** Of more things than these, a colour for each says nothing. */

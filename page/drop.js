@@ -1,7 +1,9 @@
 // @ts-check
 // The page that reads logs: what is dropped on it goes through the module, and nothing leaves it.
 
-import { age, bring, bringGround, bringLines, byId, count, make, page, printable, save, show, unpacked } from "./drawn.js";
+import {
+  age, bring, bringGround, bringLines, byId, count, make, page, printable, save, show, unpacked,
+} from "./drawn.js";
 import { filesOf } from "./folders.js";
 import {
   asText, fileOf, leaveOut, lineText, look, placeOf, shifts, take,

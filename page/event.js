@@ -7,12 +7,11 @@ import { air, byId, choose, chosen, keep, kept, make, momentOf, save } from "./d
 import { listenToEdge } from "./edge.js";
 import { gathered, SAVES } from "./exports.js";
 import { detailLines } from "./facts.js";
+import { Form } from "./form.js";
 import { frameList, numbersOf } from "./frames.js";
-import { forms, placeFacts, spotText } from "./forms.js";
 import { bearing, distance } from "./globe.js";
 import { Grounds } from "./grounds.js";
 import { graphNode, graphsOf } from "./graphs.js";
-import { fieldOf, fillForm, momentIn } from "./ics309.js";
 import { cell, List, timeCell } from "./lists.js";
 import { Looked } from "./looked.js";
 import { NetMap } from "./map.js";
@@ -21,6 +20,7 @@ import { hearings, netOf, rank } from "./net.js";
 import { needsOf, newsOf } from "./news.js";
 import { readBase } from "./overlays.js";
 import { OwnLines } from "./ownlines.js";
+import { forms, placeFacts, spotText } from "./placeforms.js";
 import { columnsOf, readMessages, Rows } from "./reading.js";
 import { expectedOf, joined, know, readRoster, who } from "./roster.js";
 import { Alarm } from "./sound.js";
@@ -39,9 +39,7 @@ export const page = { data: null, all: null, net: null, map: null, lists: {}, ba
   roster: { list: [], faults: [] }, found: [], brought: [], until: Infinity, playing: null,
   typing: 0, finder: new Map(), next: null, turn: null, drawn: null, alarm: new Alarm(),
   clockOf: null, own: new OwnLines(), looked: new Looked(),
-  turned: false,
-  /** @type {any} */
-  grounds: null };
+  turned: false, form: null, grounds: null };
 const NO_TILES = {};
 /** Of rows of so many letters at most, some 10,000, all is drawn in one step. */
 const SMALL = 2 ** 20;
@@ -128,7 +126,7 @@ function* drawing(next) {
   sift();
   yield;
   drawLists();
-  if (!byId("ics").hidden) drawForm();
+  page.form.draw();
 }
 /** From now on the page has these texts, and this net of them. */
 function turnTo({ data, all }, net) {
@@ -137,7 +135,7 @@ function turnTo({ data, all }, net) {
   byId("title").textContent = document.title = data.title;
   clocks.local = byId("local").checked;
   units.miles = byId("miles").checked;
-  forms.now = byId("form").value;
+  forms.now = byId("place-form").value;
   clocks.dated = net.rows.length > 0 && dateText(net.begin) !== dateText(net.end);
   if (fresh) {
     readBrought();
@@ -185,7 +183,7 @@ function drawLooked() {
   page.turned = false;
   const fresh = looked.count(net), button = byId("looked");
   button.hidden = !fresh;
-  button.textContent = `${fresh} new since ${timeText(looked.at)}: seen`;
+  button.textContent = `${fresh} new since ${timeText(looked.at)}: mark as seen`;
   document.title = fresh ? `(${fresh}) ${data.title}` : data.title;
 }
 /** What wants doing, as links; what says the same stays, and keeps the focus. */
@@ -461,8 +459,8 @@ function listenToControls() {
     refresh();
     map.turnWay(() => {});
   });
-  on("form", "change", () => {
-    keep("form", byId("form").value);
+  on("place-form", "change", () => {
+    keep("form", byId("place-form").value);
     refresh();
   });
   on("lay", "click", () => page.grounds.lay());
@@ -480,18 +478,7 @@ function listenToControls() {
     readBrought();
     refresh();
   });
-  on("ics-open", "click", () => openForm(true));
-  on("ics-close", "click", () => openForm(false));
-  on("own-add", "click", addLine);
-  on("own-text", "keydown", event => event.key === "Enter" && addLine());
-  for (const id of ["ics-incident", "ics-net", "ics-operator"]) on(id, "change", drawForm);
-  addEventListener("storage", ({ key }) => {
-    if (key !== page.own.key || !page.data) return;
-    page.own.open(page.data.title, page.data.lines);
-    if (!byId("ics").hidden) drawForm();
-  });
-  on("ics-print", "click", () => print());
-  on("ics-save", "click", () => saveNow("messages (CSV)", "ics-309.csv"));
+  page.form.listen();
   addEventListener("beforeprint", () => {
     runAllWaiting();
     for (const list of Object.values(page.lists)) list.whole();
@@ -543,42 +530,10 @@ function dressFor(paper) {
 /** Takes the operator's own lines of the pages of events. */
 export function bringLines(pages) {
   const lines = pages.flatMap(it => it.lines);
-  tellKept(page.own.bring(lines));
-  tell(pages.map(it => `${printable(it.name)}: ${count(it.lines.length, "line")} of your own ` +
-    "for ICS-309").join("; "));
-  if (!byId("ics").hidden) drawForm();
-}
-/** Fills the form ICS-309. */
-export function drawForm() {
-  fillForm(page.net, page.own.lines, line => {
-    tellKept(page.own.remove(line));
-    drawForm();
-  });
-}
-const tellKept = kept => {
-  byId("own-told").textContent = kept ? ""
-    : "This browser keeps no lines: save the page of the event, which has them.";
-};
-/** Takes a line of the operator's own. */
-function addLine() {
-  const value = id => byId(id).value.trim(), at = momentIn(value("own-at"));
-  if (!Number.isFinite(at) || !value("own-text")) {
-    byId("own-told").textContent = "A line has a time and a message.";
-    return byId(value("own-text") ? "own-at" : "own-text").focus();
-  }
-  tellKept(page.own.add({ at, from: value("own-from"), to: value("own-to"), id: value("own-id"),
-    text: value("own-text") }));
-  for (const id of ["own-id", "own-text"]) byId(id).value = "";
-  drawForm();
-  byId("own-text").focus();
-}
-function openForm(open) {
-  document.body.classList.toggle("ics", open);
-  byId("ics").hidden = !open;
-  byId("ics-incident").value ||= page.data.title;
-  if (open) drawForm();
-  byId("own-at").value = fieldOf(presentOf() > 0 ? presentOf() : Date.now() / 1000);
-  byId(open ? "ics-incident" : "ics-open").focus();
+  page.form.tell(page.own.bring(lines));
+  tell(pages.map(it =>
+    `${printable(it.name)}: ${count(it.lines.length, "line")} of your own for ICS-309`).join("; "));
+  page.form.draw();
 }
 /** Makes what is drawn into, with what was chosen before. */
 export function begin() {
@@ -600,14 +555,16 @@ export function begin() {
     } });
   page.map.present = () => presentOf();
   page.grounds = new Grounds(page.map, tell);
+  page.form = new Form(page, { now: () => presentOf(),
+    save: () => saveNow("messages (CSV)", "ics-309.csv") });
   page.picked = chosen.get("pick");
   byId("colours").value = chosen.get("colours") || "";
   page.map.look(chosen.get("view") || "");
   byId("since").value = chosen.get("since") || "0";
   byId("local").checked = chosen.get("time") === "local";
   byId("miles").checked = kept("miles") === "on";
-  byId("form").value = kept("form");
-  if (byId("form").selectedIndex < 0) byId("form").value = "";
+  byId("place-form").value = kept("form");
+  if (byId("place-form").selectedIndex < 0) byId("place-form").value = "";
   byId("sound").checked = chosen.get("sound") === "on";
   page.alarm.turn(byId("sound").checked, false);
   page.map.land.read(byId("coast").textContent).then(page.map.paintSoon);
@@ -617,7 +574,8 @@ export function begin() {
     messages: messageList(byId("messages-box"), view),
     bulletins: bulletinList(byId("bulletins-box"), view),
     things: thingList(byId("things-box"), view), places: placeList(byId("one-places")),
-    frames: frameList(byId("one-frames"), view), receivers: receiverList(byId("receivers-box"), view),
+    frames: frameList(byId("one-frames"), view),
+    receivers: receiverList(byId("receivers-box"), view),
     roster: rosterList(byId("roster-box"), view),
   };
   drawSaves();

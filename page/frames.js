@@ -37,16 +37,16 @@ export const wayOf = it =>
  * @param {Record<string, string>} it
  */
 export const restOf = it => Object.entries(it)
-  .filter(([name, value]) => value && !SHOWN.has(name)).map(([name, value]) => `${name} ${said(value)}`)
-  .join(", ");
+  .filter(([name, value]) => value && !SHOWN.has(name))
+  .map(([name, value]) => `${name} ${said(value)}`).join(", ");
 
 /** A list of rows, by their numbers. */
 export function frameList(box, view) {
   const record = k => view.rows.record(k);
   const row = k => {
     const it = record(k), rest = restOf(it);
-    return make("tr", {}, timeCell(view.rows.first[k]), cell("by", it.receivers.replaceAll(",", ", ")),
-      cell("way", letters(said(wayOf(it)))), cell("kind", it.kind),
+    return make("tr", {}, timeCell(view.rows.first[k]),
+      cell("by", it.receivers.replaceAll(",", ", ")), cell("way", letters(said(wayOf(it)))), cell("kind", it.kind),
       cell("about", air(it.text), " ", rest ? make("small", {}, letters(rest)) : null));
   };
   return new List(box, { id: "frames", caption: "transmissions", row, none: "nothing", columns: [

@@ -66,10 +66,13 @@ export function partsOf(line) {
  * @param {number} most
  */
 export function ticksOf(least, most) {
-  const wide = most - least || Math.max(1, Math.abs(most) / 10), power = 10 ** Math.floor(Math.log10(wide / 2));
+  const wide = most - least || Math.max(1, Math.abs(most) / 10);
+  const power = 10 ** Math.floor(Math.log10(wide / 2));
   const step = [1, 2, 5, 10].map(it => it * power).find(it => wide / it <= 3) || 10 * power;
-  const first = Math.floor(least / step + 1e-9), last = Math.max(first + 1, Math.ceil(most / step - 1e-9));
-  return Array.from({ length: last - first + 1 }, (_, n) => Number(((first + n) * step).toPrecision(12)));
+  const first = Math.floor(least / step + 1e-9);
+  const last = Math.max(first + 1, Math.ceil(most / step - 1e-9));
+  return Array.from({ length: last - first + 1 },
+    (_, n) => Number(((first + n) * step).toPrecision(12)));
 }
 /** Of a graph's picture: its size, and the room beside and below its lines. */
 const SIZE = { width: 320, height: 120, left: 46, right: 8, top: 8, bottom: 20 };
@@ -81,33 +84,35 @@ const SIZE = { width: 320, height: 120, left: 46, right: 8, top: 8, bottom: 20 }
  */
 export function graphNode({ title, unit, lines }, time) {
   const all = lines.flat().map(it => it.value), last = lines[0][lines[0].length - 1];
-  const ticks = ticksOf(all.reduce((a, b) => Math.min(a, b)), all.reduce((a, b) => Math.max(a, b)));
+  const least = all.reduce((a, b) => Math.min(a, b)), most = all.reduce((a, b) => Math.max(a, b));
+  const ticks = ticksOf(least, most), high = ticks[ticks.length - 1] - ticks[0];
   const x = (/** @type {number} */ at) => SIZE.left + (SIZE.width - SIZE.left - SIZE.right) *
     (at - time.begin) / Math.max(1, time.end - time.begin);
   const y = (/** @type {number} */ value) => SIZE.height - SIZE.bottom -
-    (SIZE.height - SIZE.top - SIZE.bottom) * (value - ticks[0]) / (ticks[ticks.length - 1] - ticks[0]);
+    (SIZE.height - SIZE.top - SIZE.bottom) * (value - ticks[0]) / high;
   const latest = `${number(last.value)} ${unit === "as sent" ? "" : unit}`.trim();
-  const words = `${title} (${unit}): ${number(Math.min(...ends(all)))} to ` +
-    `${number(Math.max(...ends(all)))}, last ${latest} at ${timeText(last.at)}`;
+  const words = `${title} (${unit}): ${number(least)} to ${number(most)}, last ${latest} at ` +
+    timeText(last.at);
   return make("figure", { className: "graph" },
     make("figcaption", {}, `${title} `, make("small", { textContent: `${unit}, last ${latest}` })),
     svg("svg", { viewBox: `0 0 ${SIZE.width} ${SIZE.height}`, role: "img", "aria-label": words },
       ...ticks.map(value => tick(value, y(value))), ...hours(time, x),
       ...lines.map((line, n) => lineNode(line, n, x, y))));
 }
-/** The least and the greatest of a list. */
-const ends = (/** @type {number[]} */ list) =>
-  [list.reduce((a, b) => Math.min(a, b)), list.reduce((a, b) => Math.max(a, b))];
 const number = (/** @type {number} */ n) =>
   n.toLocaleString("en", { maximumFractionDigits: Math.abs(n) < 100 ? 1 : 0 });
 /** @param {number} value @param {number} at */
 function tick(value, at) {
   const text = svg("text", { x: SIZE.left - 4, y: at + 3.5, "text-anchor": "end" },
     value.toLocaleString("en", { maximumFractionDigits: 2 }));
-  return svg("g", {}, svg("path", { class: "rule", d: `M${SIZE.left} ${at}H${SIZE.width - SIZE.right}` }),
-    text);
+  const d = `M${SIZE.left} ${at}H${SIZE.width - SIZE.right}`;
+  return svg("g", {}, svg("path", { class: "rule", d }), text);
 }
-/** When the graph begins, its middle and its end. @param {Time} time @param {(at: number) => number} x */
+/**
+ * When the graph begins, its middle and its end.
+ * @param {Time} time
+ * @param {(at: number) => number} x
+ */
 function hours({ begin, end }, x) {
   const anchors = ["start", "middle", "end"];
   return anchors.map((anchor, n) => {

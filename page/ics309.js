@@ -30,8 +30,8 @@ export function entriesOf(net, lines = []) {
   return [...heard, ...own].sort((a, b) => a.at - b.at).map((it, n) => ({ number: n + 1, ...it }));
 }
 /**
- * Of a sheet of paper, A4 or Letter: points for rows, on the first sheet and on the others, of a row
- * and of each line in it; and how many letters a line of text and one of a name have.
+ * Of a sheet of paper, A4 or Letter: points for rows, on the first sheet and on the others, of a
+ * row and of each line in it; and how many letters a line of text and one of a name have.
  */
 const SHEET = { first: 430, next: 560, row: 3.5, line: 12.5, text: 48, name: 14 };
 /**
@@ -72,8 +72,8 @@ function rowOf(it, onRemove) {
   const remove = own && make("button", { type: "button", className: "no-print",
     textContent: "take away", aria: { "aria-label": `take line ${it.number} away` },
     onclick: () => onRemove(own) });
-  return make("tr", { className: own ? "own" : "" }, cell("num", String(it.number)), timeCell(it.at),
-    cell("call", callIn(name(it.from))), cell("id", own ? letters(printable(it.id)) : it.id),
+  return make("tr", { className: own ? "own" : "" }, cell("num", String(it.number)),
+    timeCell(it.at), cell("call", callIn(name(it.from))), cell("id", own ? letters(printable(it.id)) : it.id),
     cell("call", callIn(name(it.to))),
     cell("text", own ? letters(printable(it.text)) : air(it.text),
       it.note ? make("small", { textContent: ` (${it.note})` }) : null,

@@ -14,7 +14,8 @@ import { run } from "./workers.js";
  * @typedef {{ name: string, kind: string, bytes: Uint8Array, unread: string, receiver: string,
  *   moment: string, passed: string[], said: string, fault: string, reason: string,
  *   spelling: string[], damage: Damage[], leftOut: string[], taken: Uint8Array | null,
- *   lines?: import("./ownlines.js").Line[], row?: HTMLTableRowElement, whole?: Uint8Array, mark?: string, away?: string }} Given
+ *   lines?: import("./ownlines.js").Line[], row?: HTMLTableRowElement, whole?: Uint8Array,
+ *   mark?: string, away?: string }} Given
  */
 
 /**

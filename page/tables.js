@@ -4,9 +4,9 @@
 import { clockWords } from "./clockwords.js";
 import { wordsOf } from "./details.js";
 import { air, callIn, letters, make } from "./dom.js";
-import { placeText } from "./forms.js";
 import { ageCell, cell, List, newMark, number, timeCell } from "./lists.js";
 import { OPEN } from "./map.js";
+import { placeText } from "./placeforms.js";
 import { who } from "./roster.js";
 import { markOf, symbolOf } from "./symbols.js";
 import { printable, said } from "./words.js";

@@ -117,7 +117,8 @@ export class Tracks {
     const { pen } = this;
     pen.lineWidth = width;
     for (const [colour, list] of byColour(marks)) {
-      const parts = list.map(({ thing }) => ({ thing, begins: quartersOf(thing, this.until, time) }));
+      const parts = list.map(({ thing }) =>
+        ({ thing, begins: quartersOf(thing, this.until, time) }));
       Object.assign(pen, { strokeStyle: colour, fillStyle: colour });
       FADES.forEach((fade, quarter) => {
         pen.globalAlpha = fade * most;

@@ -20,9 +20,9 @@ from serving import Server
 HERE = pathlib.Path(__file__).resolve().parent
 PICTURES = sys.argv[1] if len(sys.argv) > 1 else None
 TOLD = ("Object.fromEntries([...document.querySelectorAll('#files tbody tr')].map(it => "
-        "[it.cells[0].textContent, it.querySelector('.verdict').textContent]))")
+        "[it.querySelector('th').textContent, it.querySelector('.verdict').textContent]))")
 MORE = ("Object.fromEntries([...document.querySelectorAll('#files tbody tr')].map(it => "
-        "[it.cells[0].textContent, it.querySelector('.more').textContent]))")
+        "[it.querySelector('th').textContent, it.querySelector('.more').textContent]))")
 MADE = "aprsfiles.made() !== null"
 ROWS = "aprsbook.page.all.rows.length"
 EMPTY_MODULE = b"\0asm\1\0\0\0"
@@ -243,6 +243,96 @@ def test_clock(page, folder):
     is_(page.js("aprsbook.page.data.notes"), [])
 
 
+def own_line(page, text, at="2024-06-21T18:05:00"):
+    """Adds a line of the operator's own to the form."""
+    for name, value in (("at", at), ("from", "CP1"), ("to", "Net"), ("text", text)):
+        page.js(f"(document.getElementById('own-{name}').value = {value!r}, 1)")
+    page.js("document.getElementById('own-add').click()")
+
+
+LOGGED = ("[...document.querySelectorAll('#ics-sheets tbody tr.own')]"
+          ".map(it => it.querySelector('.text bdi').textContent)")
+
+
+def test_example(page, folder):
+    """A first page that shows what a log looks like, and tries one."""
+    fresh(page, folder)
+    shown = "document.getElementById('first').checkVisibility()"
+    is_(page.js(shown), True)
+    picture(page, "first")
+    page.js("(document.getElementById('example').click(), 1)")
+    page.wait(f"{MADE} && aprsfiles.files.length === 3")
+    is_(page.js(shown), False)
+    assert page.js("aprsbook.page.net.placed.length") > 1
+    picture(page, "example")
+
+
+def test_own_lines(page, folder):
+    """The operator's own lines are kept, saved with the event, and read back of its page."""
+    # a page of its own origin keeps them; one on a disk may not
+    with Server(folder) as server:
+        url = f"http://127.0.0.1:{server.port}/page.html"
+        fresh(page, folder, url)
+        give(page, folder, {"a.log": log(3)})
+        page.wait(MADE)
+        page.js("document.getElementById('ics-open').click()")
+        own_line(page, "")
+        is_(page.js("document.getElementById('own-told').textContent"),
+            "A line has a time and a message.")
+        for text in ("by <b>voice</b>", "=1+1"):
+            own_line(page, text)
+        is_(page.js(LOGGED), ["by <b>voice</b>", "=1+1"])
+        csv = page.js("aprsbook.savedText('messages (CSV)', aprsbook.page.net, aprsbook.page.data, "
+                      "aprsbook.page.own.lines)")
+        assert "2024-06-21T18:05:00.000Z,CP1,,Net,'=1+1,own" in csv, csv
+        event = page.js("aprsfiles.eventPage()")
+        # loaded again, they are there
+        fresh(page, folder, url)
+        give(page, folder, {"a.log": log(3)})
+        page.wait(MADE)
+        page.js("document.getElementById('ics-open').click()")
+        is_(page.js(LOGGED), ["by <b>voice</b>", "=1+1"])
+        page.js("document.querySelector('#ics-sheets .own button').click()")
+        is_(page.js(LOGGED), ["=1+1"])
+    (folder / "event.html").write_text(event, encoding="utf-8")
+    page.open((folder / "event.html").as_uri())
+    page.wait("aprsbook.page.net !== null")
+    page.js("document.getElementById('ics-open').click()")
+    is_(page.js(LOGGED), ["by <b>voice</b>", "=1+1"])
+    # another browser: the page of the event brings them
+    fresh(page, folder)
+    page.js("(localStorage.clear(), 1)")
+    fresh(page, folder)
+    page.give("#choose", folder / "event.html", folder / "a.log")
+    page.wait(MADE)
+    is_(page.js("told.textContent"), "event.html: 2 lines of your own for ICS-309")
+    page.js("document.getElementById('ics-open').click()")
+    is_(page.js(LOGGED), ["by <b>voice</b>", "=1+1"])
+    page.js("(localStorage.clear(), 1)")
+
+
+def test_new(page, folder):
+    """What is new since one looked is marked and counted, where logs are followed."""
+    server = serve(folder, set(), {})
+    (folder / "logs.txt").write_text("a.log")
+    (folder / "a.log").write_text(log(4))
+    fresh(page, folder, f"http://127.0.0.1:{server.server_port}/page.html#logs=logs.txt")
+    page.wait(f"{MADE} && {ROWS} === 4")
+    new = "[...document.querySelectorAll('#things tr.new')].map(it => it.dataset.key)"
+    is_([page.js("document.getElementById('looked').hidden"), page.js(new)], [True, []])
+    (folder / "a.log").write_text(log(4) + place(900, "Q1NEW") + place(901, "Q1A-1", 31))
+    follow_until(page, f"{MADE} && {ROWS} === 6")
+    is_(page.js(new), ["station Q1NEW"])
+    assert page.js("document.getElementById('looked').textContent").startswith("1 new since ")
+    assert page.js("document.title").startswith("(1) ")
+    picture(page, "new")
+    page.js("document.getElementById('looked').click()")
+    page.wait(f"{new}.length === 0")
+    is_(page.js("document.getElementById('looked').hidden"), True)
+    server.shutdown()
+    server.server_close()
+
+
 FOLLOW = "(document.getElementById('follow').dispatchEvent(new Event('change')), 1)"
 
 
@@ -340,7 +430,7 @@ def square():
 
 SQUARE = square()
 TESTS = (test_damaged, test_strangers, test_windows, test_names, test_folders, test_turns,
-         test_brought, test_clock, test_followed)
+         test_brought, test_clock, test_followed, test_example, test_own_lines, test_new)
 
 if __name__ == "__main__":
     page = browser.Browser()
