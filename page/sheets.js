@@ -5,6 +5,8 @@ import { vectorOf } from "./globe.js";
 import { drawAt } from "./tiles.js";
 
 /** @typedef {import("./globe.js").Projection} Projection */
+/** The least sine of the angle at a corner, and how long a side is at most, in radii of the earth. */
+const LEAST_SINE = 0.05, MOST = 0.2;
 /**
  * A picture, and three of its corners as vectors: upper left, upper right, lower left.
  * @typedef {{ name: string, picture: ImageBitmap, corners: number[][] }} Sheet
@@ -30,8 +32,9 @@ export function cornersOf(texts) {
   const across = [0, 1, 2].map(k => b[k] - a[k]), down = [0, 1, 2].map(k => c[k] - a[k]);
   const area = Math.hypot(across[1] * down[2] - across[2] * down[1],
     across[2] * down[0] - across[0] * down[2], across[0] * down[1] - across[1] * down[0]);
-  if (area < 1e-14) throw new Error("the three corners lie in one line");
-  if (Math.max(Math.hypot(...across), Math.hypot(...down)) > 0.2)
+  const wide = Math.hypot(...across), high = Math.hypot(...down);
+  if (!(area > LEAST_SINE * wide * high)) throw new Error("the three corners lie in one line");
+  if (Math.max(wide, high) > MOST)
     throw new Error("the corners are more than 1,200 km apart");
   return corners;
 }
