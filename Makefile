@@ -90,8 +90,8 @@ page-tests:
 	else echo 'left out: the tests of the page (no node is there)'; fi
 	@if command -v tsc > /dev/null; then tsc -p page/jsconfig.json; \
 	else echo 'left out: the types of the page (no tsc is there)'; fi
-	@if command -v esbuild > /dev/null; then for it in begin reads worker; do \
-	    esbuild --bundle --log-level=error page/$$it.js > /dev/null || exit 1; done; \
+	@if command -v esbuild > /dev/null; then for it in begin reads worker command; do \
+	    esbuild --bundle --platform=node --log-level=error page/$$it.js > /dev/null || exit 1; done; \
 	else echo 'left out: the page by a bundler (no esbuild is there)'; fi
 
 # the tests of the command aprs-net, in tools, with the programs where they are built
@@ -138,9 +138,10 @@ cookbook: build
 	@$(MAKE) --no-print-directory elsewhere
 	$(tried) examples/cookbook.sh $(PROGRAM)
 	tests/tools.sh --all $(PROGRAM)
-	$(MAKE) --no-print-directory clib wasm
+	$(MAKE) --no-print-directory clib page
 	tests/clib.sh $(PROGRAM)
 	tests/module.sh $(PROGRAM)
+	tests/command.sh $(PROGRAM)
 
 bench: build
 	bench/run.sh $(PROGRAM)
@@ -148,11 +149,16 @@ bench: build
 	bench/library.sh
 	bench/history.sh $(PROGRAM) $(HISTORY)
 
-# the page that reads logs, out/aprsbook.html, with the module in it
+# the page that reads logs, out/aprsbook.html, and the command for Node, out/aprsbook.mjs, both with the
+# module in them; the command has the programs' texts of help
 .PHONY: page
-page: wasm
+page: wasm build
 	page/together.py out/aprsbook.wasm > out/aprsbook.html.new
 	mv out/aprsbook.html.new out/aprsbook.html
+	rm -rf out/named && mkdir -p out/named
+	$(foreach it,$(PROGRAMS),ln -s '$(CURDIR)/crates/$(call crate,$(it))/out/$(call crate,$(it))' out/named/$(it) && ) true
+	build/command.py out/aprsbook.wasm out/named > out/aprsbook.mjs.new
+	mv out/aprsbook.mjs.new out/aprsbook.mjs
 
 # the recipes of tracks, a page and a net that runs, each where its tools are there
 .PHONY: net
@@ -232,7 +238,7 @@ tarball:
 
 # all that a release has, in out/release: packages and tar files for both processors, aprs-net, the
 # page, the module that it runs, and sums. The same programs give the same packages, in any folder and on any day.
-PAGES = out/aprsbook.html out/aprsbook.wasm
+PAGES = out/aprsbook.html out/aprsbook.wasm out/aprsbook.mjs
 release:
 	@for it in $(PAGES); do [ -f $$it ] || { echo "there is no $$it yet: make page" >&2; exit 1; }; done
 	rm -rf out/release

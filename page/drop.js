@@ -1,7 +1,9 @@
 // @ts-check
 // The page that reads logs: what is dropped on it goes through the module, and nothing leaves it.
 
-import { age, bring, byId, count, make, page, printable, save, show } from "./drawn.js";
+import {
+  age, bring, bringGround, bringLines, byId, count, make, page, printable, save, show, unpacked,
+} from "./drawn.js";
 import { filesOf } from "./folders.js";
 import {
   asText, fileOf, leaveOut, lineText, look, placeOf, shifts, take,
@@ -224,9 +226,16 @@ function takeSquare(file) {
   const square = squareOf(file.way || file.webkitRelativePath || ""), { map } = page;
   if (!square) return false;
   map.tiles.take(square, file);
-  byId("own-map").textContent = `Own map: ${count(map.tiles.size, "square")}.`;
-  map.paintSoon();
+  page.grounds.show();
   return true;
+}
+/** Takes a map of squares or a picture of one, or else a file as what it is. */
+async function takeFile(file) {
+  const fault = await bringGround(file);
+  if (fault === "") return null;
+  const it = await take(file, bring);
+  if (it?.unread && fault) it.unread += `, and ${fault}`;
+  return it;
 }
 const UNREAD = "drop the files in it, or choose it as a folder";
 /** Takes files: each is checked while the runs over all of them go on. */
@@ -238,8 +247,9 @@ export async function add(dropped) {
   const folders = [...dropped].filter(it => it.isFolder && isNew(it));
   files.push(...folders.map(it => fileOf(it.name, "folder", new Uint8Array(),
     { unread: UNREAD, fault: UNREAD })));
-  const taken = await Promise.all(others.map(it => take(it, bring)));
-  const read = taken.filter(Boolean);
+  const taken = (await Promise.all(others.map(takeFile))).filter(Boolean);
+  const read = taken.filter(it => !it.lines), withLines = taken.filter(it => it.lines);
+  if (withLines.length) bringLines(withLines);
   const whole = [...files.filter(it => it.taken), ...read.filter(it => !it.unread)];
   if (read.length && whole.every(it => it.kind !== "KISS stream")) beginEarly(whole);
   let done = 0;
@@ -281,6 +291,7 @@ export function eventPage() {
   data.maps = [...data.maps, ...brought.filter(it => it.base).map(it => it.text)];
   if (rosters.length + (data.roster ? 1 : 0) > 1) data.roster = rosterText(page.roster.list);
   else if (rosters.length) data.roster = rosters[0].text;
+  if (page.own.lines.length) data.lines = page.own.lines;
   const values = { TITLE: asHtml(data.title), STYLE: document.querySelector("style").textContent,
     POLICY: `default-src 'none'; script-src ${digests.draws}; style-src ${digests.style}; ` +
       "base-uri 'none'; form-action 'none'",
@@ -309,7 +320,13 @@ function drawOwnSaves() {
 
 // ---- begin
 
+/** Takes the example that is in the page: logs by their names, packed. */
+async function takeExample() {
+  const logs = JSON.parse(asText(await unpacked(parts.example)));
+  await add(Object.entries(logs).map(([name, text]) => new File([text], name)));
+}
 function listen() {
+  byId("example").onclick = takeExample;
   byId("choose").onchange = byId("choose-folder").onchange = ({ target }) => {
     add([...target.files].filter(it => !it.name.startsWith(".")));
     target.value = ""; // so that the same file can be chosen again

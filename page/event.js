@@ -1,17 +1,26 @@
 // @ts-check
 // The page: what it has of the net, what the reader chose, and what is drawn of both.
 
+import { Colouring, wayFor } from "./colouring.js";
 import { wordsOf } from "./details.js";
-import { air, byId, choose, chosen, make, momentOf, save } from "./dom.js";
+import { air, byId, choose, chosen, keep, kept, make, momentOf, save } from "./dom.js";
+import { listenToEdge } from "./edge.js";
 import { gathered, SAVES } from "./exports.js";
 import { detailLines } from "./facts.js";
-import { bearing, distance, locatorOf, minutesText } from "./globe.js";
+import { Form } from "./form.js";
+import { frameList, numbersOf } from "./frames.js";
+import { bearing, distance } from "./globe.js";
+import { Grounds } from "./grounds.js";
+import { graphNode, graphsOf } from "./graphs.js";
 import { cell, List, timeCell } from "./lists.js";
+import { Looked } from "./looked.js";
 import { NetMap } from "./map.js";
-import { bulletinList, fillForm, inOrder, messageList } from "./messages.js";
+import { bulletinList, inOrder, messageList } from "./messages.js";
 import { hearings, netOf, rank } from "./net.js";
 import { needsOf, newsOf } from "./news.js";
 import { readBase } from "./overlays.js";
+import { OwnLines } from "./ownlines.js";
+import { forms, placeFacts, spotText } from "./placeforms.js";
 import { columnsOf, readMessages, Rows } from "./reading.js";
 import { expectedOf, joined, know, readRoster, who } from "./roster.js";
 import { Alarm } from "./sound.js";
@@ -21,14 +30,17 @@ import {
   haystack, NO_FIX, pairList, receiverList, rosterList, shareText, thingList, whereOf,
 } from "./tables.js";
 import { timelineList } from "./timeline.js";
+import { far, units } from "./units.js";
 import {
-  clocks, count, dateText, far, printable, secondText, timeText, zoneText,
+  clocks, count, dateText, printable, secondText, timeText, zoneText,
 } from "./words.js";
 
 export const page = { data: null, all: null, net: null, map: null, lists: {}, bases: [],
   roster: { list: [], faults: [] }, found: [], brought: [], until: Infinity, playing: null,
   typing: 0, finder: new Map(), next: null, turn: null, drawn: null, alarm: new Alarm(),
-  clockOf: null };
+  clockOf: null, own: new OwnLines(), looked: new Looked(),
+  turned: false, form: null, grounds: null };
+const NO_TILES = {};
 /** Of rows of so many letters at most, some 10,000, all is drawn in one step. */
 const SMALL = 2 ** 20;
 
@@ -40,6 +52,9 @@ export const view = {
   get silent() { return page.data.silent * 60; },
   get gap() { return page.data.gap; },
   get picked() { return page.picked; },
+  get rows() { return page.all.rows; },
+  isNewThing: it => page.looked.isNewThing(it),
+  isNewMessage: it => page.looked.isNewMessage(it),
   get clockOf() { return page.clockOf; },
   isSilent: it => it.kind === "station" && presentOf() - it.last > page.data.silent * 60,
   onPick: key => pick(key),
@@ -81,6 +96,13 @@ function readBrought() {
   page.roster = { list: joined(rosters), faults: rosters[0].faults };
   know(page.roster.list);
   page.map.bases = page.bases;
+  readShore(page.data.coast || "");
+  page.map.tiles.carry(page.data.tiles || NO_TILES);
+}
+/** Takes the fine coast of a page, which says whose it is. */
+async function readShore(text) {
+  byId("fine-coast").hidden = text === "";
+  if (await page.map.shore.read(text)) page.map.paintSoon();
 }
 /** What is read of the next texts. */
 function* allOf({ data, read }) {
@@ -97,13 +119,14 @@ function* drawing(next) {
   const net = yield* netOf(next.all, since, next.data.gap);
   turnTo(next, net);
   drawAbout();
+  drawLooked();
   drawNews();
   drawOne();
   turnClock();
   sift();
   yield;
   drawLists();
-  if (!byId("ics").hidden) fillForm(net);
+  page.form.draw();
 }
 /** From now on the page has these texts, and this net of them. */
 function turnTo({ data, all }, net) {
@@ -111,16 +134,31 @@ function turnTo({ data, all }, net) {
   Object.assign(page, { data, all, net });
   byId("title").textContent = document.title = data.title;
   clocks.local = byId("local").checked;
+  units.miles = byId("miles").checked;
+  forms.now = byId("place-form").value;
   clocks.dated = net.rows.length > 0 && dateText(net.begin) !== dateText(net.end);
-  if (fresh) readBrought();
+  if (fresh) {
+    readBrought();
+    page.own.open(data.title, data.lines);
+  }
   for (const it of net.things) if (it.kind === "station" && it.name) it.label = who(it.name);
   page.map.take(net.placed);
+  colour();
   page.map.picked = net.things.some(it => it.key === page.picked) ? page.picked : null;
   page.finder.clear();
   byId("net").hidden = !all.rows.length;
   byId("controls").hidden = !all.rows.length && !page.follows;
 }
 
+/** Colours the map as the reader chose, or else as so many things need; says what colours mean. */
+function colour() {
+  const { net, map } = page, chosenWay = byId("colours").value;
+  map.colouring = new Colouring(chosenWay || wayFor(net.placed.length),
+    { receivers: net.receivers, silent: view.silent });
+  map.shown.things = null;
+  byId("legend").replaceChildren(...map.colouring.legend.map(({ colour, text }) =>
+    make("span", {}, make("span", { className: `key c-${colour}` }), text)));
+}
 function drawAbout() {
   const { net, all } = page, stations = net.things.filter(it => it.kind === "station").length;
   const zone = net.rows.length ? zoneText(net.end) : "UTC";
@@ -135,6 +173,18 @@ function drawAbout() {
       `${zone} \u00b7 ${count(net.rows.length, "transmission")} of ` +
       `${count(stations, "station")} \u00b7 heard by ${by}`;
   }
+}
+/** Says what is new since the reader looked, where the page goes on. */
+function drawLooked() {
+  const { net, data, looked } = page, goesOn = Boolean(data.live || page.follows);
+  if (!goesOn) looked.forget();
+  else if (!looked.seen && net.rows.length) looked.look(net, Date.now() / 1000);
+  if (page.turned) looked.reveal(net);
+  page.turned = false;
+  const fresh = looked.count(net), button = byId("looked");
+  button.hidden = !fresh;
+  button.textContent = `${fresh} new since ${timeText(looked.at)}: mark as seen`;
+  document.title = fresh ? `(${fresh}) ${data.title}` : data.title;
 }
 /** What wants doing, as links; what says the same stays, and keeps the focus. */
 export function drawNews() {
@@ -236,6 +286,10 @@ function drawOne() {
   byId("one-about").replaceChildren(...factsOf(thing).flatMap(([name, ...value]) =>
     [make("dt", { textContent: name }), make("dd", {}, ...value)]));
   page.lists.places.show(thing.places.reverse());
+  const numbers = numbersOf(thing, page.net.rows);
+  byId("one-graphs").replaceChildren(
+    ...graphsOf(page.all.rows, numbers).map(it => graphNode(it, page.net)));
+  page.lists.frames.show(numbers.reverse());
 }
 function factsOf(thing) {
   const { now } = thing, facts = [];
@@ -245,8 +299,7 @@ function factsOf(thing) {
   if (now) {
     const word = symbolOf(now).word, words = wordsOf(now);
     if (word) facts.push(["symbol", word]);
-    facts.push(["place", `${now.north.toFixed(5)}, ${now.east.toFixed(5)}`],
-      ["", minutesText(now.north, now.east)], ["locator", locatorOf(now.north, now.east)]);
+    facts.push(...placeFacts(now.north, now.east));
     if (words.length) facts.push(["says", words.join(", ")]);
     if (now.comment) facts.push(["comment", air(now.comment)]);
     if (thing.kind !== "station") facts.push(["put by", who(now.source)]);
@@ -333,7 +386,19 @@ function tell(text, bad = false) {
   byId("told").className = bad ? "bad" : "";
 }
 async function bringAll(files) {
-  for (const it of files) bring(it.name, await it.text());
+  for (const it of files) {
+    const fault = await bringGround(it);
+    if (fault === null) bring(it.name, await it.text());
+    else if (fault) tell(`${printable(it.name)}: ${fault}`, true);
+  }
+}
+/** Takes a map of squares or a picture of one; null where it is none, or why it can't be drawn. */
+export async function bringGround(file) {
+  try {
+    return await page.grounds.take(file) ? "" : null;
+  } catch (fault) {
+    return `can\u2019t be drawn as a map: ${fault.message}`;
+  }
 }
 function drawSaves() {
   byId("saves").lastElementChild.replaceChildren(...Object.keys(SAVES).map(name =>
@@ -343,7 +408,7 @@ function drawSaves() {
 async function saveNow(name, as = SAVES[name][0]) {
   const [, type, piecesOf] = SAVES[name], { net, data } = page;
   const slow = setTimeout(() => tell(`making ${as}`), 300);
-  const pieces = await inSlices(gathered(piecesOf(net, data)), () => true);
+  const pieces = await inSlices(gathered(piecesOf(net, data, page.own.lines)), () => true);
   clearTimeout(slow);
   if (byId("told").textContent === `making ${as}`) tell("");
   save(as, pieces, type);
@@ -356,7 +421,17 @@ function listenToControls() {
   on("in", "click", () => { map.zoom(1.5); map.turn(); });
   on("out", "click", () => { map.zoom(1 / 1.5); map.turn(); });
   on("fit", "click", () => { map.fit(map.fitted && map.far > 0); map.turn(); });
+  on("colours", "change", () => {
+    choose("colours", byId("colours").value);
+    colour();
+    map.paintSoon();
+  });
   on("fill", "click", () => map.fill(!map.isFull));
+  on("looked", "click", () => {
+    page.looked.look(page.net, Date.now() / 1000);
+    byId("news").focus();
+    refresh();
+  });
   on("sound", "change", () => {
     choose("sound", byId("sound").checked ? "on" : "");
     page.alarm.turn(byId("sound").checked);
@@ -372,12 +447,25 @@ function listenToControls() {
   on("kind", "change", sift);
   on("since", "change", () => {
     choose("since", byId("since").value === "0" ? "" : byId("since").value);
+    page.turned = true;
     refresh();
   });
   on("local", "change", () => {
     choose("time", byId("local").checked ? "local" : "");
     refresh();
   });
+  on("miles", "change", () => {
+    keep("miles", byId("miles").checked ? "on" : "");
+    refresh();
+    map.turnWay(() => {});
+  });
+  on("place-form", "change", () => {
+    keep("form", byId("place-form").value);
+    refresh();
+  });
+  on("lay", "click", () => page.grounds.lay());
+  on("measure", "click", () => map.turnWay(way => way.turn(!way.isOn)));
+  listenToEdge(byId("edge"), byId("map"));
   on("one-close", "click", () => pick(page.picked));
   on("bring", "change", ({ target }) => {
     bringAll([...target.files]);
@@ -385,16 +473,12 @@ function listenToControls() {
   });
   on("away", "click", () => {
     page.brought = [];
-    map.tiles.clear();
-    byId("own-map").textContent = "";
+    page.grounds.clear();
     tell("");
     readBrought();
     refresh();
   });
-  on("ics-open", "click", () => openForm(true));
-  on("ics-close", "click", () => openForm(false));
-  on("ics-print", "click", () => print());
-  on("ics-save", "click", () => saveNow("messages (CSV)", "ics-309.csv"));
+  page.form.listen();
   addEventListener("beforeprint", () => {
     runAllWaiting();
     for (const list of Object.values(page.lists)) list.whole();
@@ -417,7 +501,9 @@ function listenToEscape() {
       it.open = false;
       if (it.contains(document.activeElement)) it.querySelector("summary")?.focus();
     }
-    if (!open.length && page.map.isFull) page.map.fill(false);
+    if (!open.length && page.map.way.isOn) page.map.turnWay(way => way.turn(false));
+    else if (!open.length && page.map.fan.isOpen) page.map.unfold();
+    else if (!open.length && page.map.isFull) page.map.fill(false);
   });
   // a menu closes where one goes on beside it
   addEventListener("pointerdown", ({ target }) => {
@@ -441,33 +527,54 @@ function dressFor(paper) {
   page.map.readColours();
   page.map.measure();
 }
-function openForm(open) {
-  document.body.classList.toggle("ics", open);
-  byId("ics").hidden = !open;
-  if (open) fillForm(page.net);
-  byId("ics-incident").value ||= page.data.title;
-  byId(open ? "ics-incident" : "ics-open").focus();
+/** Takes the operator's own lines of the pages of events. */
+export function bringLines(pages) {
+  const lines = pages.flatMap(it => it.lines);
+  page.form.tell(page.own.bring(lines));
+  tell(pages.map(it =>
+    `${printable(it.name)}: ${count(it.lines.length, "line")} of your own for ICS-309`).join("; "));
+  page.form.draw();
 }
 /** Makes what is drawn into, with what was chosen before. */
 export function begin() {
   page.map = new NetMap(byId("map"), { onPick: key => pick(key, true), onFill: fillWindow,
     onFit: () => page.map && tellFar(),
+    onDense(text) {
+      if (byId("dense").textContent === text) return;
+      byId("dense").textContent = text;
+      byId("legend").hidden = text !== "";
+    },
+    onWay(text) {
+      byId("way").textContent = text;
+      byId("measure").setAttribute("aria-pressed", String(page.map.way.isOn));
+    },
+    onSpot: vector => { byId("spot").textContent = vector ? spotText(vector) : ""; },
     onView(text) {
       choose("view", text);
       tellFar();
     } });
+  page.map.present = () => presentOf();
+  page.grounds = new Grounds(page.map, tell);
+  page.form = new Form(page, { now: () => presentOf(),
+    save: () => saveNow("messages (CSV)", "ics-309.csv") });
   page.picked = chosen.get("pick");
+  byId("colours").value = chosen.get("colours") || "";
   page.map.look(chosen.get("view") || "");
   byId("since").value = chosen.get("since") || "0";
   byId("local").checked = chosen.get("time") === "local";
+  byId("miles").checked = kept("miles") === "on";
+  byId("place-form").value = kept("form");
+  if (byId("place-form").selectedIndex < 0) byId("place-form").value = "";
   byId("sound").checked = chosen.get("sound") === "on";
   page.alarm.turn(byId("sound").checked, false);
   page.map.land.read(byId("coast").textContent).then(page.map.paintSoon);
   byId("find").value = chosen.get("find") || "";
   byId("kind").value = chosen.get("kind") || "";
   page.lists = {
-    messages: messageList(byId("messages-box")), bulletins: bulletinList(byId("bulletins-box")),
+    messages: messageList(byId("messages-box"), view),
+    bulletins: bulletinList(byId("bulletins-box"), view),
     things: thingList(byId("things-box"), view), places: placeList(byId("one-places")),
+    frames: frameList(byId("one-frames"), view),
     receivers: receiverList(byId("receivers-box"), view),
     roster: rosterList(byId("roster-box"), view),
   };

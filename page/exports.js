@@ -1,7 +1,7 @@
 // @ts-check
 // What the reader can save: CSV, GPX, GeoJSON, KML of what is shown.
 
-import { logOf } from "./messages.js";
+import { entriesOf } from "./ics309.js";
 import { isoText, said } from "./words.js";
 
 /** A text off the air for a spreadsheet, which must not take it as a formula. */
@@ -28,11 +28,11 @@ function* placesCsv({ placed }) {
   yield csvOf([COLUMNS]);
   for (const it of placed) yield csvOf(it.places.map(at => placeRow(it, at)));
 }
-function* messagesCsv(net) {
+function* messagesCsv(net, _, lines) {
   yield csvOf([["time", "from", "number", "to", "message", "state"]]);
-  for (const it of logOf(net))
-    yield csvOf([[isoText(it.first), it.source, it.id, said(it.addressee), said(it.text),
-      it.state]]);
+  const shown = it => it.own ? text => text : said;
+  for (const it of entriesOf(net, lines))
+    yield csvOf([[isoText(it.at), it.from, it.id, shown(it)(it.to), shown(it)(it.text), it.state]]);
 }
 /** The runs of a thing's places, each but the last ended by a kill. */
 function segmentsOf(thing) {
@@ -123,7 +123,7 @@ function* tableOf(net, data) {
 
 /**
  * What can be saved, by the name in the menu: a file's name, its type, and what it holds, in pieces.
- * @type {Record<string, [string, string, (net: any, data: any) => Generator<string>]>}
+ * @type {Record<string, [string, string, (net: any, data: any, lines?: any) => Generator<string>]>}
  */
 export const SAVES = {
   "places (CSV)": ["places.csv", "text/csv", placesCsv],
@@ -137,7 +137,8 @@ export const SAVES = {
  * The whole text of what can be saved.
  * @param {string} name
  */
-export const savedText = (name, net, data) => [...SAVES[name][2](net, data)].join("");
+export const savedText = (name, net, data, lines = []) =>
+  [...SAVES[name][2](net, data, lines)].join("");
 /**
  * The pieces of what can be saved, with pauses, so that the page doesn't stand still.
  * @param {Iterable<string>} pieces

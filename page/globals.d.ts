@@ -6,3 +6,9 @@ declare class DecompressionStream {
 }
 declare var aprsbook: any;
 declare var aprsfiles: any;
+// of Node
+declare module "node:fs";
+declare module "node:util";
+declare module "node:v8";
+declare var Buffer: any;
+declare var process: any;

@@ -5,6 +5,8 @@
 
 export const RADIUS = 6371008.8; // metres
 export const RADIAN = Math.PI / 180;
+/** The greatest scale of a map, in pixels for a radian. */
+export const NEAREST = 6.4e7;
 
 export function vectorOf(north, east) {
   const level = Math.cos(north * RADIAN);
@@ -130,7 +132,7 @@ export class Projection {
   /** Zooms, and the place under that pixel stays there. */
   zoom(by, x = this.width / 2, y = this.height / 2) {
     const under = this.at(x, y);
-    this.scale = Math.min(6.4e7, Math.max(60, this.scale * by));
+    this.scale = Math.min(NEAREST, Math.max(60, this.scale * by));
     for (let turn = 0; turn < 2; turn++) {
       this.put(under);
       this.move(x - this.x, y - this.y);

@@ -4,6 +4,7 @@
 import { count } from "./drawn.js";
 import { damagedLines, kindOf, READ, spelled, without } from "./kinds.js";
 import { shifted } from "./shift.js";
+import { linesIn } from "./ownlines.js";
 import { run } from "./workers.js";
 
 /** @typedef {import("./kinds.js").Damage} Damage */
@@ -13,7 +14,8 @@ import { run } from "./workers.js";
  * @typedef {{ name: string, kind: string, bytes: Uint8Array, unread: string, receiver: string,
  *   moment: string, passed: string[], said: string, fault: string, reason: string,
  *   spelling: string[], damage: Damage[], leftOut: string[], taken: Uint8Array | null,
- *   row?: HTMLTableRowElement, whole?: Uint8Array, mark?: string, away?: string }} Given
+ *   lines?: import("./ownlines.js").Line[], row?: HTMLTableRowElement, whole?: Uint8Array,
+ *   mark?: string, away?: string }} Given
  */
 
 /**
@@ -68,6 +70,10 @@ export async function take(file, bring) {
   try {
     const { head, all } = await bytesOf(file), begin = spelled(head).bytes;
     const kind = kindOf(begin, file.name.replace(/\.gz$/i, ""));
+    if (kind === "a web page") {
+      const lines = ownLinesIn(new TextDecoder().decode(await all()));
+      if (lines.length) return fileOf(file.name, "page of an event", new Uint8Array(), { lines });
+    }
     if (!READ.includes(kind)) return unread(`is ${kind}, which no log is`, kind);
     if (kind === "log" && await isNoLog(begin)) return unread("is no log", "file");
     const bytes = new Uint8Array(await all());
@@ -79,6 +85,18 @@ export async function take(file, bring) {
   } catch (fault) {
     const { message } = /** @type {Error} */ (fault);
     return unread(/^can't/.test(message) ? message : `can't be read: ${message}`);
+  }
+}
+/**
+ * The operator's own lines in the page of an event.
+ * @param {string} html
+ */
+function ownLinesIn(html) {
+  try {
+    const data = new DOMParser().parseFromString(html, "text/html").getElementById("data");
+    return linesIn(JSON.parse(data?.textContent || "{}").lines);
+  } catch {
+    return [];
   }
 }
 /**

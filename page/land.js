@@ -11,34 +11,54 @@ import { RADIUS, vectorOf } from "./globe.js";
 
 /** Of fewer metres for a pixel the coast is a line that is said to be rough, and then nothing. */
 const ROUGH = 100, NONE = 10;
+/** What is said of a coast that is drawn closer than its data are. */
+export const ROUGH_COAST = "rough coast";
 
-/**
- * The rings of packed bytes: of each how many places it has, then the steps from one to the next.
- * @param {Uint8Array} bytes
- */
-export function ringsOf(bytes) {
-  let at = 0;
-  const next = () => {
+/** The numbers of packed bytes: seven bits of each byte, lower ones first, and then the sign. */
+export class Numbers {
+  /** @param {Uint8Array} bytes */
+  constructor(bytes) {
+    this.bytes = bytes;
+    this.at = 0;
+  }
+  next() {
     let n = 0, by = 1, byte;
     do {
-      byte = bytes[at++];
+      byte = this.bytes[this.at++];
       n += (byte & 127) * by;
       by *= 128;
     } while (byte > 127);
     return n % 2 ? -(n + 1) / 2 : n / 2;
-  };
-  /** @type {Ring[]} */
-  const rings = [];
-  while (at < bytes.length) {
-    const places = new Int32Array(2 * next());
-    for (let k = 0, east = 0, north = 0; k < places.length; k += 2) {
-      east += next();
-      north += next();
-      places.set([east, north], k);
-    }
-    rings.push(ringOf(places));
   }
-  return rings;
+  /** The places of each ring that is left: how many they are, then the steps from one to the next. */
+  rings() {
+    const rings = [];
+    while (this.at < this.bytes.length) {
+      const places = new Int32Array(2 * this.next());
+      for (let k = 0, east = 0, north = 0; k < places.length; k += 2) {
+        east += this.next();
+        north += this.next();
+        places[k] = east;
+        places[k + 1] = north;
+      }
+      rings.push(places);
+    }
+    return rings;
+  }
+}
+/**
+ * The rings of packed bytes.
+ * @param {Uint8Array} bytes
+ */
+export const ringsOf = bytes => new Numbers(bytes).rings().map(ringOf);
+/**
+ * The bytes that a text in base64 has packed.
+ * @param {string} text
+ */
+export async function unpacked(text) {
+  const packed = Uint8Array.from(atob(text.trim()), it => it.charCodeAt(0));
+  const stream = new Blob([packed]).stream().pipeThrough(new DecompressionStream("deflate"));
+  return new Uint8Array(await new Response(stream).arrayBuffer());
 }
 /**
  * @param {Int32Array} places
@@ -84,10 +104,7 @@ export class Land {
    * @param {string} text
    */
   async read(text) {
-    if (!text.trim()) return;
-    const packed = Uint8Array.from(atob(text.trim()), it => it.charCodeAt(0));
-    const stream = new Blob([packed]).stream().pipeThrough(new DecompressionStream("deflate"));
-    this.rings = ringsOf(new Uint8Array(await new Response(stream).arrayBuffer()));
+    if (text.trim()) this.rings = ringsOf(await unpacked(text));
   }
   /**
    * The rings of which a part may be in view.
@@ -103,35 +120,47 @@ export class Land {
     });
   }
   /**
-   * Paints land, and says how exact it is.
+   * Paints land, and says how exact it is. Where that is rough, land has its colour only if `fills`
+   * says so.
    * @param {CanvasRenderingContext2D} pen
    * @param {Projection} view
-   * @param {{ land: string, shore: string }} colours
+   * @param {Record<string, string>} colours
+   * @param {boolean} fills
    */
-  paint(pen, view, colours) {
-    const pixel = RADIUS / view.scale;
+  paint(pen, view, colours, fills) {
+    const pixel = RADIUS / view.scale, isRough = pixel < ROUGH;
     if (!this.rings.length || pixel < NONE) return "";
-    const rings = this.inView(view), { middle } = view;
+    const rings = this.inView(view);
     Object.assign(pen, { fillStyle: colours.land, strokeStyle: colours.shore, lineWidth: 0.8 });
+    if (!isRough || fills) fill(pen, view, rings, !isRough);
+    if (!isRough) return "";
+    pen.setLineDash([6, 4]);
     pen.beginPath();
-    if (pixel < ROUGH) {
-      pen.setLineDash([6, 4]);
-      for (const { line } of rings) traceInView(pen, view, line);
-      pen.stroke();
-      pen.setLineDash([]);
-      return "rough coast";
-    }
-    let odd = 0;
-    for (const ring of rings) {
-      trace(pen, view, ring.line);
-      odd += crossings(ring, -middle[0], middle[1] + 180);
-    }
+    for (const { line } of rings) traceInView(pen, view, line);
     pen.stroke();
-    // where the other side of the earth is land, its rings enclose all but the land
-    if (odd % 2) pen.arc(view.width / 2, view.height / 2, 2 * view.scale, 0, 2 * Math.PI);
-    pen.fill("evenodd");
-    return "";
+    pen.setLineDash([]);
+    return ROUGH_COAST;
   }
+}
+/**
+ * Gives land its colour, and a line around it where `strokes` says so.
+ * @param {CanvasRenderingContext2D} pen
+ * @param {Projection} view
+ * @param {Ring[]} rings
+ * @param {boolean} strokes
+ */
+function fill(pen, view, rings, strokes) {
+  const { middle } = view;
+  let odd = 0;
+  pen.beginPath();
+  for (const ring of rings) {
+    trace(pen, view, ring.line);
+    odd += crossings(ring, -middle[0], middle[1] + 180);
+  }
+  if (strokes) pen.stroke();
+  // where the other side of the earth is land, its rings enclose all but the land
+  if (odd % 2) pen.arc(view.width / 2, view.height / 2, 2 * view.scale, 0, 2 * Math.PI);
+  pen.fill("evenodd");
 }
 /**
  * A ring as a path; places that are nearer than a pixel are one.

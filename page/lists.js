@@ -30,7 +30,8 @@ export class List {
     const button = (textContent, n) =>
       make("button", { type: "button", textContent, onclick: () => this.turn(n) });
     this.heads = columns.map((it, n) =>
-      make("th", { scope: "col", className: it.number ? "num" : "" },
+      make("th", { scope: "col", className: it.number ? "num" : "",
+        data: typeof it.title === "string" ? { column: it.title } : {} },
         it.value ? button(it.title, n) : it.title));
     this.body = make("tbody");
     this.table = make("table", { id, className: "sorted" },
@@ -140,6 +141,9 @@ export class List {
 }
 const collator = new Intl.Collator("en", { numeric: true });
 
+/** What stands beside what is new since the reader looked. */
+export const newMark = isNew =>
+  isNew ? [" ", make("small", { className: "fresh", textContent: "new" })] : [];
 export const cell = (className, ...inside) => make("td", { className }, ...inside);
 export const number = n => cell("num", n === undefined || n === 0 ? "" : n.toLocaleString("en"));
 export const timeCell = seconds => cell("num time", momentOf(seconds));

@@ -1,49 +1,68 @@
 // @ts-check
 // The map: a canvas on which all in view is drawn, once for each picture.
 
+import { Colouring, densityOf, densityText, isDense, paintDensity } from "./colouring.js";
 import { motionOf } from "./details.js";
 import { oncePerFrame } from "./dom.js";
-import { capOf, degreesOf, Projection, RADIAN, RADIUS } from "./globe.js";
-import { paintGrid, roundUp } from "./grid.js";
+import { Fan, MOST, pilesOf } from "./fans.js";
+import { capOf, degreesOf, NEAREST, Projection, RADIAN, RADIUS } from "./globe.js";
+import { paintGrid } from "./grid.js";
 import { listenToMap } from "./hands.js";
 import { Land } from "./land.js";
+import { Measure } from "./measure.js";
+import { paintSheets } from "./sheets.js";
+import { Shore } from "./shore.js";
 import { Room, Sides } from "./sides.js";
 import { later, once } from "./steps.js";
 import { pathOf, symbolOf, TRACKS } from "./symbols.js";
 import { Tiles } from "./tiles.js";
+import { byColour, trace, Tracks } from "./tracks.js";
+import { scaleOf } from "./units.js";
 
 /** Digits of the minutes that were left out leave so many metres open to each side. */
 export const OPEN = { 1: 93, 2: 926, 3: 9260, 4: 55560 };
+const COLOURS = [..."paper sheet ink soft line warn bad land shore station object item".split(" "),
+  ...Array.from({ length: TRACKS }, (_, k) => `t${k}`), "a0", "a1", "a2", "a3", "a4"];
 const RANK = { item: 1, object: 2, station: 3 };
-/** Of more places than these, tracks are thin. */
-const MANY = 8000;
+/** Of more marks than these, all are dots. */
+const SMALL = 250;
 const FONT = (size, bold) => `${bold ? "600 " : ""}${size}px system-ui, sans-serif`;
 
 /** @typedef {import("./net.js").Thing} Thing */
 /** @typedef {import("./reading.js").Place} Place */
 /** @typedef {import("./overlays.js").Base} Base */
-/** @typedef {{ thing: Thing, place: Place, picked: boolean, x: number, y: number }} Mark */
+/** @typedef {{ thing: Thing, place: Place, picked: boolean, colour: string, x: number,
+ *   y: number }} Mark */
 
 export class NetMap {
   /**
    * `onPick` is told of the thing that was picked, `onView` of a move, `onFill` whether the map fills
-   * the window, `onFit` that it shows all that is near.
+   * the window, `onFit` that it shows all that is near, `onDense` what is said of marks that are
+   * shown as density, `onWay` of what is measured, `onSpot` of the place below the pointer.
    * @param {HTMLElement} node holds a canvas
    * @param {{ onPick: (key: string) => void, onView: (text: string) => void,
-   *   onFill: (full: boolean) => void, onFit: () => void }} hears
+   *   onFill: (full: boolean) => void, onFit: () => void, onDense: (text: string) => void,
+   *   onWay: (text: string) => void, onSpot: (vector: number[] | null) => void }} hears
    */
-  constructor(node, { onPick, onView, onFill, onFit }) {
+  constructor(node, { onPick, onView, onFill, onFit, onDense, onWay, onSpot }) {
     this.node = node;
     this.onPick = onPick;
     this.onView = onView;
     this.onFill = onFill;
     this.onFit = onFit;
+    this.onDense = onDense;
+    this.onWay = onWay;
+    this.onSpot = onSpot;
     this.canvas = /** @type {HTMLCanvasElement} */ (node.querySelector("canvas"));
     this.pen = /** @type {CanvasRenderingContext2D} */ (this.canvas.getContext("2d"));
     this.view = new Projection();
     this.land = new Land();
+    this.shore = new Shore();
     this.tiles = new Tiles();
+    /** @type {import("./sheets.js").Sheet[]} */
+    this.sheets = [];
     this.sides = new Sides(1, 1);
+    this.way = new Measure();
     /** @type {Thing[]} */
     this.placed = [];
     /** @type {Thing[]} */
@@ -55,6 +74,11 @@ export class NetMap {
     /** @type {string | null} */
     this.from = null;
     this.until = Infinity;
+    /** The moment to which ages count, where the map shows all. */
+    this.present = () => -Infinity;
+    this.colouring = new Colouring("own");
+    this.fan = new Fan();
+    this.isDense = false;
     this.fitted = true;
     this.measured = false;
     this.isFull = false;
@@ -63,12 +87,10 @@ export class NetMap {
     this.marks = [];
     /** @type {Record<string, string>} */
     this.colours = {};
-    /** @type {string[]} */
-    this.tracks = [];
     /** @type {Map<string, number>} */
     this.widths = new Map();
-    /** @type {{ things: Thing[] | null, until: number, picked: string | null, list: Mark[] }} */
-    this.shown = { things: null, until: 0, picked: null, list: [] };
+    /** @type {{ things: Thing[] | null, of: string, list: Mark[] }} */
+    this.shown = { things: null, of: "", list: [] };
     this.paintSoon = oncePerFrame(() => this.paint());
     this.readColours();
     matchMedia("(prefers-color-scheme: dark)").addEventListener("change", () => {
@@ -95,10 +117,8 @@ export class NetMap {
   }
   readColours() {
     const style = getComputedStyle(document.documentElement);
-    for (const name of ["paper", "sheet", "ink", "soft", "line", "warn", "bad", "land", "shore"])
-      this.colours[name] = style.getPropertyValue("--" + name).trim();
-    this.tracks = Array.from({ length: TRACKS }, (_, k) =>
-      style.getPropertyValue("--t" + k).trim());
+    for (const name of COLOURS) this.colours[name] = style.getPropertyValue("--" + name).trim();
+    this.shown.things = null;
   }
   measure() {
     const { width, height } = this.node.getBoundingClientRect();
@@ -160,7 +180,7 @@ export class NetMap {
     if (![north, east, scale].every(Number.isFinite) || !(scale > 0)) return;
     this.fitted = false;
     this.view.look(north, east);
-    this.view.scale = Math.min(6.4e7, Math.max(60, scale * RADIUS / 1000));
+    this.view.scale = Math.min(NEAREST, Math.max(60, scale * RADIUS / 1000));
   }
   /** Brings a place into view where it isn't. */
   reach(vector) {
@@ -171,14 +191,51 @@ export class NetMap {
     this.view.look(north, east);
     this.turn();
   }
-  /** The thing whose mark is near a pixel. */
+  /** The mark that is near a pixel. */
   markAt(x, y) {
     let best = null, least = 16 * 16;
     for (const mark of this.marks) {
       const off = (mark.x - x) ** 2 + (mark.y - y) ** 2;
-      if (off <= least) [best, least] = [mark.thing, off];
+      if (off <= least) [best, least] = [mark, off];
     }
     return best;
+  }
+  /**
+   * Changes what is measured, and says so.
+   * @param {(way: Measure) => void} change
+   */
+  turnWay(change) {
+    change(this.way);
+    this.onWay(this.way.text);
+    this.node.classList.toggle("measures", this.way.isOn);
+    this.paintSoon();
+  }
+  /** The place below the pointer, where it is on the earth. */
+  point(at) {
+    const { width, height, scale } = this.view;
+    const isOn = at && Math.hypot(at[0] - width / 2, at[1] - height / 2) < 2 * scale;
+    this.onSpot(isOn ? this.view.at(...at) : null);
+  }
+  /** Puts what was fanned out together again. */
+  unfold() {
+    this.fan.close();
+    this.paintSoon();
+  }
+  /** Picks what is tapped on; what is covered by it fans out first, or comes closer. */
+  tap(x, y) {
+    if (this.way.isOn) return this.turnWay(way => way.add(this.view.at(x, y)));
+    const mark = this.markAt(x, y), { fan } = this;
+    if (mark && fan.keys.includes(mark.thing.key)) return this.onPick(mark.thing.key);
+    const piles = mark ? pilesOf(this.marks, this.marks.length > SMALL) : [];
+    const pile = piles.find(it => it.includes(mark)) || [];
+    if (pile.length === 1) return this.onPick(mark.thing.key);
+    if (mark ? pile.length > MOST && this.view.scale < NEAREST : this.isDense) {
+      this.zoom(2, x, y);
+      return this.turn();
+    }
+    if (!mark) return this.unfold();
+    fan.open(pile);
+    this.paintSoon();
   }
 
   paint() {
@@ -188,55 +245,67 @@ export class NetMap {
     pen.fillStyle = colours.sheet;
     pen.fillRect(0, 0, view.width, view.height);
     pen.lineJoin = "round";
-    const coast = this.land.paint(pen, view, /** @type {any} */ (colours));
-    this.tiles.paint(pen, view, this.paintSoon);
+    const rough = this.land.paint(pen, view, colours, this.shore.of !== null);
+    const coast = this.shore.paint(pen, view, colours) ?? rough;
+    const isCovered = this.tiles.paint(pen, view, this.paintSoon);
+    paintSheets(pen, view, this.sheets);
     const labels = paintGrid(pen, view, colours);
     for (const base of this.bases) this.paintBase(base);
-    const shown = this.shownNow();
-    this.paintTracks(shown);
+    const shown = this.shownNow(), density = this.place(shown);
+    const tracks = new Tracks(pen, view,
+      { until: this.until, isAnyPicked: this.picked !== null });
+    tracks.paint(density ? shown.filter(it => it.picked) : shown);
     this.paintRuler();
-    this.paintMarks(shown);
+    this.paintWay();
+    if (density) paintDensity(pen, density, colours.station);
+    this.onDense(density ? densityText(density) : "");
+    this.isDense = density !== null;
+    const room = this.paintMarks();
+    this.writeTimes(tracks, shown, room);
     for (const label of labels) this.write(label.text, label.x, label.y, colours.soft, 11);
-    this.paintScale(coast);
+    this.paintScale(isCovered ? "" : coast);
   }
   /** What is on the map, in the order in which it is drawn. */
   shownNow() {
-    const { things, until, picked, shown } = this;
-    if (shown.things === things && shown.until === until && shown.picked === picked)
-      return shown.list;
+    const { things, until, picked, shown, colouring, colours } = this;
+    const now = until === Infinity ? this.present() : until;
+    const of = [until, picked, colouring.way, Math.floor(now / 10)].join();
+    if (shown.things === things && shown.of === of) return shown.list;
+    /** @type {Mark[]} */
     const list = [];
     for (const thing of things) {
       const place = thing.at(until);
-      if (place) list.push({ thing, place, picked: thing.key === picked, x: 0, y: 0 });
+      if (!place) continue;
+      const last = until === Infinity ? thing.last : place.last;
+      const colour = place.state === "killed" ? colours.soft
+        : colours[colouring.of(thing, now - last)];
+      list.push({ thing, place, picked: thing.key === picked, colour, x: 0, y: 0 });
     }
-    // stations lie above the rest, and what is picked above all
-    const rank = it => it.picked ? 4 : it.place.state === "killed" ? 0 : RANK[it.thing.kind];
+    // stations lie above the rest, who is in need above these, and what is picked above all
+    const rank = it => it.picked ? 5 : it.place.state === "killed" ? 0
+      : it.thing.urgent ? 4 : RANK[it.thing.kind];
     list.sort((a, b) => rank(a) - rank(b));
-    this.shown = { things, until, picked, list };
+    this.shown = { things, of, list };
     return list;
+  }
+  /** Puts marks in their places; gives how many stand in each square, where these say more. */
+  place(shown) {
+    this.marks = [];
+    for (const it of shown) {
+      if (!this.isInView(it.place.vector)) continue;
+      it.x = this.view.x;
+      it.y = this.view.y;
+      this.marks.push(it);
+    }
+    if (this.marks.length <= SMALL) return null;
+    const density = densityOf(this.marks, this.view, this.anchor());
+    return isDense(this.marks.length, density) ? density : null;
   }
   /** Draws a line. */
   line(line) {
     this.pen.beginPath();
-    this.trace(line, line.length / 3, () => false);
+    trace(this.pen, this.view, line);
     this.pen.stroke();
-  }
-  /** A path of a line's first places, broken where `breaks` says so or it leaves this side. */
-  trace(line, count, breaks) {
-    const { pen, view } = this, { width, height } = view;
-    let lastX = 0, lastY = 0, drawn = false;
-    for (let k = 0; k < count; k++) {
-      const near = view.put(line, k), { x, y } = view;
-      const whole = drawn && near && !breaks(k);
-      // what lies wholly to one side of the map, or within half a pixel, needn't be drawn
-      const beside = Math.max(x, lastX) < 0 || Math.min(x, lastX) > width ||
-        Math.max(y, lastY) < 0 || Math.min(y, lastY) > height;
-      const still = Math.abs(x - lastX) + Math.abs(y - lastY) < 0.5 && k < count - 1;
-      if (whole && still) continue;
-      if (whole && !beside) pen.lineTo(x, y);
-      else pen.moveTo(x, y);
-      [lastX, lastY, drawn] = [x, y, near];
-    }
   }
   paintBase(base) {
     const { pen, colours } = this;
@@ -257,44 +326,6 @@ export class NetMap {
     const near = this.view.put(vector), { x, y, width, height } = this.view;
     return near && x > -10 && y > -10 && x < width + 10 && y < height + 10;
   }
-  /** The tracks of all: thinner ones where there are many places, which takes much less time. */
-  paintTracks(shown) {
-    const { pen } = this, byColour = Array.from({ length: TRACKS }, () => []);
-    let places = 0;
-    for (const { thing, picked } of shown) {
-      places += thing.placedBy.length;
-      if (!picked && thing.placedBy.length > 1) byColour[thing.colour].push(thing);
-    }
-    pen.lineJoin = "bevel";
-    pen.lineWidth = places > MANY ? 1 : 2;
-    pen.globalAlpha = this.picked ? 0.3 : 0.85;
-    byColour.forEach((things, colour) => this.strokeTracks(things, colour));
-    pen.globalAlpha = 1;
-    pen.lineWidth = 4;
-    for (const { thing, picked } of shown) if (picked) this.strokeTracks([thing], thing.colour);
-    pen.lineJoin = "round";
-  }
-  /** Tracks of one colour; many short paths are quicker than a long one. */
-  strokeTracks(things, colour) {
-    const { pen } = this;
-    pen.strokeStyle = this.tracks[colour];
-    pen.beginPath();
-    let places = 0;
-    for (const it of things) {
-      this.traceTrack(it);
-      places += it.placedBy.length;
-      if (places < 50) continue;
-      pen.stroke();
-      pen.beginPath();
-      places = 0;
-    }
-    pen.stroke();
-  }
-  traceTrack(thing) {
-    const { killed } = thing.rows, { placedBy } = thing;
-    // a kill ends a segment
-    this.trace(thing.track, thing.countAt(this.until), k => killed[placedBy[k - 1]] === 1);
-  }
   /** The line between what was picked before and what is picked. */
   paintRuler() {
     const [a, b] = [this.from, this.picked].map(key =>
@@ -305,55 +336,105 @@ export class NetMap {
     this.line([...a.vector, ...b.vector]);
     this.pen.setLineDash([]);
   }
-  paintMarks(shown) {
-    this.marks = [];
-    for (const it of shown) {
-      if (!this.isInView(it.place.vector)) continue;
-      it.x = this.view.x;
-      it.y = this.view.y;
-      this.marks.push(it);
+  /** The line that the reader measures. */
+  paintWay() {
+    const { pen, view, colours } = this, { places, ways } = this.way;
+    Object.assign(pen, { strokeStyle: colours.bad, fillStyle: colours.bad, lineWidth: 2 });
+    for (const it of ways) this.line(it);
+    for (const it of places) {
+      if (!this.isInView(it)) continue;
+      pen.beginPath();
+      pen.arc(view.x, view.y, 3.5, 0, 7);
+      pen.fill();
     }
-    const small = this.marks.length > 250, reach = small ? 4 : 10, room = this.room();
-    if (small) this.paintDots(this.marks.filter(it => !it.picked));
+  }
+  /** Draws marks and names; gives the room that is left. In density, what matters most alone. */
+  paintMarks() {
+    if (this.isDense) this.marks = this.marks.filter(it => it.picked || it.thing.urgent);
+    const small = this.marks.length > SMALL, reach = small ? 4 : 10, room = this.room();
+    const spread = this.spread();
+    if (small) this.paintDots(this.marks.filter(it => !it.picked && !spread.has(it)));
     for (const mark of this.marks) {
-      if (!small || mark.picked) this.paintMark(mark);
+      if (!small || mark.picked || spread.has(mark)) this.paintMark(mark);
       room.take(mark.x - reach, mark.y - reach, mark.x + reach, mark.y + reach);
     }
-    // the picked one comes first, so that its name has room, and then those that had a side before
-    const named = this.marks.slice(small ? -600 : 0).reverse();
-    const had = (/** @type {Mark} */ it) => it.picked || this.sides.by.has(it.thing.key);
-    for (const mark of [...named.filter(had), ...named.filter(it => !had(it))])
-      this.name(mark, room, reach, small);
+    if (!small)
+      for (const it of pilesOf(this.marks, small)) if (it.length > 1) this.paintCount(it);
+    // the picked one comes first, so that its name has room, then those that are fanned out, and
+    // then those that had a side before
+    const named = this.marks.slice(small ? -600 : 0).reverse(), { by } = this.sides;
+    const rank = it => it.picked || spread.has(it) ? 0 : by.has(it.thing.key) ? 1 : 2;
+    for (const turn of [0, 1, 2])
+      for (const mark of named) if (rank(mark) === turn) this.name(mark, room, reach, small);
+    return room;
+  }
+  /** Puts the marks that are fanned out in their places, above all others. */
+  spread() {
+    const { fan, pen, view, colours } = this;
+    if (!fan.isOpen || !view.put(fan.at)) return new Set();
+    const { x, y } = view, spread = fan.spread(this.marks, view);
+    Object.assign(pen, { strokeStyle: colours.soft, lineWidth: 1 });
+    pen.beginPath();
+    for (const it of spread) {
+      pen.moveTo(x, y);
+      pen.lineTo(it.x, it.y);
+    }
+    pen.stroke();
+    const mine = new Set(spread);
+    this.marks = [...this.marks.filter(it => !mine.has(it)), ...spread];
+    return mine;
+  }
+  /** How many marks lie in one place. */
+  paintCount(pile) {
+    const { pen, colours } = this, [{ x, y }] = pile, text = String(pile.length);
+    const width = Math.max(14, this.widthOf(text) + 6);
+    pen.fillStyle = colours.ink;
+    pen.beginPath();
+    pen.arc(x + 9 + width / 2 - 7, y - 10, width / 2, 0, 7);
+    pen.fill();
+    pen.font = FONT(10, true);
+    pen.fillStyle = colours.paper;
+    pen.fillText(text, x + 2 + width / 2 - pen.measureText(text).width / 2, y - 6.5);
+  }
+  /** When what is picked was where. */
+  writeTimes(tracks, shown, room) {
+    const { colours, pen } = this, thing = shown.find(it => it.picked)?.thing;
+    if (!thing) return;
+    tracks.writeTimes(thing, (text, x, y) => {
+      const width = this.widthOf(text);
+      if (!room.isFree(x + 5, y - 6, x + 5 + width, y + 8)) return;
+      room.take(x + 5, y - 6, x + 5 + width, y + 8);
+      pen.fillStyle = colours.ink;
+      pen.beginPath();
+      pen.arc(x, y, 2.5, 0, 7);
+      pen.fill();
+      this.write(text, x + 6, y + 4, colours.ink, 11);
+    });
+  }
+  /** A place of the map, in pixels, so that what is in squares moves with it. */
+  anchor() {
+    const anchor = this.placed[0]?.now, { view } = this;
+    if (anchor) view.put(anchor.vector);
+    return anchor ? { x: view.x, y: view.y } : { x: 0, y: 0 };
   }
   /** Room for names, in squares that move with the map. */
   room() {
-    const { width, height } = this.view, anchor = this.placed[0]?.now;
-    if (anchor) this.view.put(anchor.vector);
-    const room = new Room(width, height, anchor ? { x: this.view.x, y: this.view.y } : undefined);
+    const { width, height } = this.view, room = new Room(width, height, this.anchor());
     // the scale stands there
     room.take(width - 130, height - 52, width, height);
     return room;
   }
-  colourAt(thing, place) {
-    return place.state === "killed" ? this.colours.soft : this.tracks[thing.colour];
-  }
   /** Marks where there are many: dots, those of one colour at once. */
   paintDots(marks) {
-    const { pen } = this, byColour = new Map();
-    for (const mark of marks) {
-      const colour = this.colourAt(mark.thing, mark.place), list = byColour.get(colour);
-      if (list) list.push(mark);
-      else byColour.set(colour, [mark]);
-    }
-    for (const [colour, list] of byColour) {
+    const { pen } = this;
+    for (const [colour, list] of byColour(marks)) {
       pen.fillStyle = colour;
       // whole pixels are quicker
       for (const { x, y } of list) pen.fillRect(Math.round(x) - 3, Math.round(y) - 3, 6, 6);
     }
   }
-  paintMark({ thing, place, picked, x, y }) {
+  paintMark({ thing, place, picked, colour, x, y }) {
     const { pen, colours } = this, killed = place.state === "killed";
-    const colour = this.colourAt(thing, place);
     if (thing.urgent && !killed) this.urgentRing(x, y);
     if (OPEN[place.ambiguity]) this.ring(x, y, place, colour);
     pen.fillStyle = colour;
@@ -455,9 +536,8 @@ export class NetMap {
   }
   /** @param {string} coast what is said of it */
   paintScale(coast) {
-    const { pen, view, colours } = this, km = roundUp(70 / view.scale * RADIUS / 1000);
-    const long = km * 1000 / RADIUS * view.scale, x = view.width - 12, y = view.height - 22;
-    const text = km < 1 ? `${Math.round(km * 1000)} m` : `${km.toLocaleString("en")} km`;
+    const { pen, view, colours } = this, { metres, text } = scaleOf(70 / view.scale * RADIUS);
+    const long = metres / RADIUS * view.scale, x = view.width - 12, y = view.height - 22;
     this.write(text, x - this.widthOf(text), y - 5, colours.ink, 12);
     if (coast) this.write(coast, x - this.widthOf(coast), y - 22, colours.soft, 11);
     Object.assign(pen, { strokeStyle: colours.ink, lineWidth: 1.5 });

@@ -4,8 +4,9 @@
 import { clockWords } from "./clockwords.js";
 import { wordsOf } from "./details.js";
 import { air, callIn, letters, make } from "./dom.js";
-import { ageCell, cell, List, number, timeCell } from "./lists.js";
+import { ageCell, cell, List, newMark, number, timeCell } from "./lists.js";
 import { OPEN } from "./map.js";
+import { placeText } from "./placeforms.js";
 import { who } from "./roster.js";
 import { markOf, symbolOf } from "./symbols.js";
 import { printable, said } from "./words.js";
@@ -19,6 +20,7 @@ function thingRow(it, view) {
   if (view.isSilent(it)) marks.push("silent");
   if (it.urgent) marks.push(it.urgent);
   if (it.key === view.picked) marks.push("picked");
+  if (view.isNewThing(it)) marks.push("new");
   const pick = make("button", { type: "button", className: names, title: "show on the map",
     onclick: () => view.onPick(it.key) }, callIn(it.label));
   const about = [];
@@ -33,14 +35,15 @@ function thingRow(it, view) {
   if (it.kind !== "station" && now)
     kind.push(make("small", { textContent: ` of ${who(now.source)}` }));
   return make("tr", { className: marks.join(" "), data: { key: it.key } },
-    make("th", { scope: "row" }, now ? markOf(it) : make("span", { className: "mark" }), pick),
+    make("th", { scope: "row" }, now ? markOf(it) : make("span", { className: "mark" }), pick,
+      ...newMark(view.isNewThing(it))),
     cell("kind", ...kind), timeCell(it.last),
     ageCell(it.last, view), cell("by", it.by.join(", ")), cell("num sent", String(it.sent)),
     cell("where", ...whereOf(now)), cell("about", ...about));
 }
 export function whereOf(place) {
   if (!place) return [];
-  const text = `${place.north.toFixed(4)}, ${place.east.toFixed(4)}`;
+  const text = placeText(place.north, place.east);
   return [make("a", { href: `geo:${place.north.toFixed(6)},${place.east.toFixed(6)}`, tabIndex: -1,
     textContent: text }), OPEN[place.ambiguity] ? " (about)" : ""];
 }

@@ -13,8 +13,10 @@ import json
 import pathlib
 import re
 import sys
+import zlib
 
 HERE = pathlib.Path(__file__).resolve().parent
+EXAMPLE = HERE.parent / "examples" / "evening"
 # what draws, in each page; what reads logs; and what runs the module, beside the page: each a module
 # that imports others
 DRAWS, READS, RUNS = "begin", "reads", "worker"
@@ -23,6 +25,8 @@ EXPORT = re.compile(r"^export (?=(?:async )?(?:const|let|function\*?|class) +(\w
 LIST = re.compile(r"^export (\{[^}]*\});\n", re.M)
 # a caller gives the tables rows and messages
 TABLES = True
+# lines that are comments alone, which the joined page leaves out: they are a quarter of its script
+COMMENT = re.compile(r"^[ \t]*(?://.*|/\*\*(?:[^*]|\*(?!/))*\*/)[ \t]*\n", re.M)
 FOOTER = "Made by {} from a book of aprsbook."
 
 
@@ -36,7 +40,7 @@ def words_in(text):
 
 def scope(name, text):
     """A module as a scope of its own, which gives away what it exports."""
-    inside = IMPORT.sub(lambda it: f"const {it[1]} = in_{it[2]};\n", text)
+    inside = COMMENT.sub("", IMPORT.sub(lambda it: f"const {it[1]} = in_{it[2]};\n", text))
     exported = [word for it in EXPORT.findall(inside) + LIST.findall(inside) for word in words_in(it)]
     inside = LIST.sub("", EXPORT.sub("", inside))
     if re.search("^(?:import|export)", inside, re.M):
@@ -88,6 +92,12 @@ def coast():
     return read("coast.txt").strip()
 
 
+def example():
+    """The logs of an evening, which the page that reads logs has with it: names and texts, packed."""
+    logs = {it.name: it.read_text(encoding="ascii") for it in sorted(EXAMPLE.glob("*.log"))}
+    return base64.b64encode(zlib.compress(json.dumps(logs).encode(), 9)).decode()
+
+
 def policy(scripts, style, more=""):
     """No script runs but these, nothing is styled by others, and nothing is loaded."""
     return (f"default-src 'none'; script-src {' '.join(map(digest, scripts))}{more}; "
@@ -111,6 +121,7 @@ def whole(module):
     draws, reads, style = script(DRAWS), script(READS), read("page.css")
     parts = as_data({
         "worker": script(RUNS), "module": base64.b64encode(module).decode(),
+        "example": example(),
         "shell": read("shell.html"), "digests": {"draws": digest(draws), "style": digest(style)},
     })
     more = " 'wasm-unsafe-eval'; worker-src blob:; connect-src 'self'"

@@ -5,6 +5,7 @@ import { spawnSync } from "node:child_process";
 import fs from "node:fs";
 import path from "node:path";
 import { attempt, FUNCTIONS, run } from "../page/host.js";
+import { changedBy, picksBy } from "./changed.js";
 
 const [file, program, count, seed, ...files] = process.argv.slice(2);
 const code = new WebAssembly.Module(fs.readFileSync(file));
@@ -16,6 +17,7 @@ const NAME_OF = command => command === "history" ? "aprsbook-history"
   : TABLES.includes(command) ? "aprsbook-table" : "aprsbook";
 const CAPTURE = ["RX1", "2024-05-01T12:00:00Z"];
 let runs = 0, faults = 0;
+const { random, pick } = picksBy(Number(seed)), changed = changedBy({ random, pick });
 
 function fail(...words) {
   if (++faults < 9) console.error("tests/module.js:", ...words);
@@ -72,32 +74,6 @@ function tryFiles(texts) {
   for (const gap of [5, 60]) compare("widen", gap, [book]);
   for (const options of [["", CAPTURE[1]], ["RX 1", CAPTURE[1]], ["RX1", "today"]])
     compare("convert capture", options, [texts[0]]);
-}
-
-// ---- texts that were changed at random
-
-let state = Number(seed) >>> 0;
-function random(most) {
-  state = (Math.imul(state, 1664525) + 1013904223) >>> 0;
-  return Math.floor(state / 4294967296 * most);
-}
-const pick = list => list[random(list.length)];
-
-function changed(text) {
-  let it = Buffer.from(text);
-  // a few whole lines of a log, and then up to three changes
-  const lines = it.toString("latin1").split("\n"), from = random(lines.length);
-  if (random(2) && !it.subarray(0, 8).equals(Buffer.from("APRSBOOK"))) {
-    const part = lines.slice(from, from + 1 + random(40)).join("\n");
-    it = Buffer.from(part + (random(4) ? "\n" : ""), "latin1");
-  }
-  for (let n = random(4); n > 0 && it.length; n--) {
-    const at = random(it.length), kind = random(3);
-    if (kind === 0) it = Buffer.concat([it.subarray(0, at), it.subarray(at + 1 + random(9))]);
-    else if (kind === 1) it[at] = pick(Buffer.from("0123456789abcdefAF \nZ:-cR\0\xff", "latin1"));
-    else it = Buffer.concat([it.subarray(0, at), Buffer.from([random(256)]), it.subarray(at)]);
-  }
-  return new Uint8Array(it);
 }
 
 function tryDamaged(logs) {

@@ -27,7 +27,8 @@ EVENING = sorted(map(str, EXAMPLES.glob("evening/*.log")))
 CONTROLS = "button slider searchbox combobox checkbox link table img group textbox".split()
 texts = "[...document.querySelectorAll('%s')].map(it => it.textContent)"
 shown = texts % "#things tbody tr th"
-sorted_by_sent = "document.querySelectorAll('#things thead th')[5].getAttribute('aria-sort')"
+SENT = "document.querySelector('#things th[data-column=sent]')"
+sorted_by_sent = SENT + ".getAttribute('aria-sort')"
 FIND = "document.getElementById('find')"
 marks = "(aprsbook.page.map.paint(), aprsbook.page.map.marks.length)"
 BADGES = texts % "#news > *"
@@ -116,9 +117,9 @@ def test_controls(page, folder):
     is_(page.requests(), [url])
     is_(page.problems(), [])
     is_(page.js(marks), placed(*EVENING))
-    page.js("document.querySelectorAll('#things thead button')[5].click()")
+    page.js(SENT + ".firstChild.click()")
     is_(page.js(shown + "[0]"), "Q1NET")
-    page.js("document.querySelectorAll('#things thead button')[5].click()")
+    page.js(SENT + ".firstChild.click()")
     is_(page.js(sorted_by_sent), "ascending")
     change(page, "find", "q1med", "input")
     found = page.js(shown)
@@ -198,7 +199,7 @@ def test_names(page, folder):
         page.key("Tab", 9)
         reached.add(page.js("document.activeElement.id || document.activeElement.className "
                             "|| document.activeElement.parentNode.id"))
-    wanted = "in out fit fill sound play clock map find kind live since local saves adds ics-open".split()
+    wanted = "in out fit fill sound play clock colours map find kind live since local saves adds ics-open".split()
     assert reached >= {*wanted, "pick station"}, reached
     page.js("document.querySelector('.pick').focus()")
     page.key("ArrowDown", 40)
@@ -285,7 +286,7 @@ def test_messages(page, folder):
     is_(page.js(texts % "#bulletins td.text"), ["open at 18"])
     rows = {name: [where, about.strip()] for name, where, about in page.js(
         "[...document.querySelectorAll('#things tbody tr')]"
-        ".map(it => [0, 6, 7].map(k => it.cells[k].textContent))")}
+        ".map(it => ['th', '.where', '.about'].map(one => it.querySelector(one).textContent))")}
     is_(rows["Q1MIC-9"], ["33.2600, -124.5000", "251\u00b0, 37 km/h, en route hello\\"])
     is_(rows["Q1FIRE"][1], "here: it burns")
     is_(rows["Q1SHED"][1], "x")
@@ -294,7 +295,7 @@ def test_messages(page, folder):
     # the form, and what it saves
     page.js("document.getElementById('ics-open').click()")
     is_(page.js("document.querySelector('main').checkVisibility()"), False)
-    is_(page.js("document.querySelectorAll('#ics-rows tr').length"), 6)
+    is_(page.js("document.querySelectorAll('#ics-sheets tbody tr').length"), 6)
     picture(page, "ics-309")
     pdf = page.pdf()
     assert pdf.startswith(b"%PDF")
@@ -499,6 +500,61 @@ def test_keys(page, folder):
     is_(page.problems(), [])
 
 
+TAP = """(() => { const { map } = aprsbook.page; map.paint();
+    const it = map.marks.find(it => it.thing.name === %r); map.tap(it.x, it.y); map.paint();
+    return [map.fan.keys.length, aprsbook.page.picked] })()"""
+
+
+def test_marks(page, folder):
+    """Marks in one place have a number and fan out; colours are said; thousands are density."""
+    rows = "".join(place(k, f"Q1CLB-{k + 1}", 54.5, -3.5) for k in range(5))
+    rows += "".join(place(k, "Q1A", 54.5 + k / 900, -3.4, receivers="RX2") for k in range(40))
+    page.open(page_of(folder / "marks.html", rows), 1280, 900)
+    is_(page.js(TAP % "Q1CLB-2"), [5, None])
+    picture(page, "fan")
+    apart = page.js("aprsbook.page.map.marks.filter(it => it.thing.name !== 'Q1A').map(it => it.x)")
+    assert max(apart) - min(apart) > 30, apart
+    is_(page.js(TAP % "Q1CLB-3"), [5, "station Q1CLB-3"])
+    page.key("Escape", 27)
+    is_(page.js("aprsbook.page.map.fan.isOpen"), False)
+    is_(page.js(TAP % "Q1A"), [0, "station Q1A"])
+    picture(page, "track")
+    is_(page.js("legend.textContent"), "")
+    for way, words in (("receiver", "RX2RX1several"), ("kind", "stationobjectitem"),
+                       ("age", "heard within 5 minheard within 15 minheard within 30 min"
+                        "heard within 60 minbefore that")):
+        change(page, "colours", way)
+        is_(page.js("legend.textContent"), words)
+    many = "".join(place(n % 90, f"Q{n:04}", 54 + n % 71 / 300, -4 + n % 83 / 300) for n in range(3000))
+    page.open(page_of(folder / "dense.html", many), 1280, 900)
+    page.wait("aprsbook.page.map.isDense")
+    assert page.js("dense.textContent").startswith("Each square has 1 to ")
+    picture(page, "dense")
+    page.js("(aprsbook.page.map.look('54.1,-3.9,40'), aprsbook.page.map.paint())")
+    is_(page.js("[aprsbook.page.map.isDense, dense.textContent]"), [False, ""])
+    is_(page.problems(), [])
+
+
+def test_graphs(page, folder):
+    """What is picked has its transmissions, and graphs of what they say."""
+    rows = "".join(place(5 * k, "Q1WX", 54.5, -3.5, symbol="/_", temperature_f=50 + k, humidity=60 + k % 9,
+                         wind_mph=k, gust_mph=k + 3) for k in range(9) if k not in (3, 4, 5, 6))
+    rows += row("telemetry", 46, "Q1WX", a1=7) + row("telemetry", 47, "Q1WX", a1=9)
+    page.open(page_of(folder / "graphs.html", rows + place(1, "Q1A", 54.6, -3.5)), 1280, 900)
+    page.js("[...document.querySelectorAll('.pick')].find(it => it.textContent === 'Q1WX').click()")
+    is_(page.js(texts % "#one-graphs figcaption"),
+        ["temperature \u00b0C, last 14.4 \u00b0C", "wind, and gusts m/s, last 3.6 m/s",
+         "humidity %, last 68 %", "telemetry 1 as sent, last 9"])
+    # a gap isn't joined
+    is_(page.js("document.querySelector('.graph .line').getAttribute('d').split('M').length"), 3)
+    is_(page.js("document.querySelectorAll('#frames tbody tr').length"), 7)
+    assert "a1 9" in page.js("document.querySelector('#frames tbody tr').textContent")
+    picture(page, "graphs", whole=True)
+    page.open(page_of(folder / "graphs.html", rows) + "#pick=station+Q1WX", 360, 640, "dark")
+    is_(page.js("document.documentElement.scrollWidth"), 360)
+    is_(page.problems(), [])
+
+
 def test_coast(page, folder):
     """Coasts below the map, also across the date line, and whose they are."""
     rows = place(1, "Q1A", 51.5, -0.1) + place(2, "Q1B", 40.7, -74) + place(3, "Q1C", -33.9, 151.2)
@@ -625,7 +681,7 @@ def picture(page, name, whole=False):
 
 TESTS = (test_hostile, test_contained, test_controls, test_names, test_widths, test_times,
          test_messages, test_world, test_brought, test_clocks, test_needs, test_shown, test_far,
-         test_touch, test_keys, test_coast, test_saves, test_scale, test_slices, test_live, test_served)
+         test_touch, test_keys, test_marks, test_graphs, test_coast, test_saves, test_scale, test_slices, test_live, test_served)
 page = browser.Browser()
 try:
     with tempfile.TemporaryDirectory() as name:

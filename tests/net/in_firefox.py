@@ -93,7 +93,7 @@ def test_hostile(page, folder):
 def test_keys(page, folder):
     page.open(event_page(folder / "keys.html", *EVENING))
     page.wait("document.querySelectorAll('#timeline tbody tr').length > 10")
-    left = set("in out fit fill sound play clock map find kind since local saves adds ics-open".split())
+    left = set("in out fit fill sound play clock colours map find kind since local saves adds ics-open".split())
     left.add("pick station")
     for _ in range(40):  # more would leave the page
         page.key("Tab")

@@ -4,9 +4,11 @@ lines, Windows' spellings, folders, logs that are followed. The module is a stan
 
 usage: page_alone.py [PICTURES]    needs Python 3 and chromium; PICTURES is a folder for pictures
 """
+import contextlib
 import http.server
 import json
 import pathlib
+import sqlite3
 import sys
 import tempfile
 import threading
@@ -20,9 +22,9 @@ from serving import Server
 HERE = pathlib.Path(__file__).resolve().parent
 PICTURES = sys.argv[1] if len(sys.argv) > 1 else None
 TOLD = ("Object.fromEntries([...document.querySelectorAll('#files tbody tr')].map(it => "
-        "[it.cells[0].textContent, it.querySelector('.verdict').textContent]))")
+        "[it.querySelector('th').textContent, it.querySelector('.verdict').textContent]))")
 MORE = ("Object.fromEntries([...document.querySelectorAll('#files tbody tr')].map(it => "
-        "[it.cells[0].textContent, it.querySelector('.more').textContent]))")
+        "[it.querySelector('th').textContent, it.querySelector('.more').textContent]))")
 MADE = "aprsfiles.made() !== null"
 ROWS = "aprsbook.page.all.rows.length"
 EMPTY_MODULE = b"\0asm\1\0\0\0"
@@ -182,6 +184,146 @@ def squares(page):
     picture(page, "tiles")
 
 
+def mbtiles(path):
+    """An MBTiles file of red squares of level 12."""
+    with contextlib.closing(sqlite3.connect(path)) as base:
+        base.execute("CREATE TABLE tiles (zoom_level, tile_column, tile_row, tile_data)")
+        base.execute("CREATE INDEX it ON tiles (zoom_level, tile_column, tile_row)")
+        for x in range(2002, 2012):
+            for y in range(1280, 1320):
+                base.execute("INSERT INTO tiles VALUES (12, ?, ?, ?)", (x, 4095 - y, SQUARE))
+        base.commit()
+
+
+def own_map(page):
+    return page.js("document.getElementById('own-map').textContent")
+
+
+def is_red(page, words, where="54.65,-3.5,20"):
+    """The map is red beside its middle, and says of what."""
+    page.js(f"(aprsbook.page.map.look('{where}'), aprsbook.page.map.paint())")
+    page.wait("(() => { const { map } = aprsbook.page, { width, height } = map.canvas; map.paint(); "
+              "return map.pen.getImageData(width / 3, height / 3, 1, 1).data.slice(0, 3).join() "
+              "=== '200,30,30' })()")
+    is_(own_map(page), words)
+
+
+def test_archives(page, folder):
+    """Squares in a database are drawn by slices; a database of something else is named."""
+    fresh(page, folder)
+    mbtiles(folder / "map.mbtiles")
+    with contextlib.closing(sqlite3.connect(folder / "other.db")) as base:
+        base.execute("CREATE TABLE x (y)")
+    (folder / "a.log").write_text(log(3))
+    page.give("#choose", *[folder / name for name in ("a.log", "map.mbtiles", "other.db")])
+    page.wait(MADE)
+    is_(page.js(TOLD)["other.db"], "is a database (SQLite), which no log is, and can\u2019t be drawn as a "
+        "map: it has no table of tiles")
+    is_(sorted(page.js(TOLD)), ["a.log", "other.db"])
+    is_red(page, "Own map: map.mbtiles.")
+    page.js("document.getElementById('away').click()")
+    is_(own_map(page), "")
+
+
+def test_sheet(page, folder):
+    """A picture lies where three of its corners are, which are asked for or come in a file."""
+    fresh(page, folder)
+    (folder / "a.log").write_text(log(3))
+    (folder / "sheet.png").write_bytes(SQUARE)
+    # degrees for a pixel, and the middle of the first: 55 N 4 W, and a degree wide and high
+    size = 1 / 256
+    (folder / "sheet.pgw").write_text(f"{size}\n0\n0\n-{size}\n{-4 + size / 2}\n{55 - size / 2}\n")
+    page.give("#choose", folder / "a.log", folder / "sheet.png")
+    page.wait(f"{MADE} && !document.getElementById('sheet').hidden")
+    put = ("((...all) => { all.forEach((it, k) => { document.getElementById('corner-' + k).value = it });"
+           " document.getElementById('lay').click(); return told.textContent })")
+    is_(page.js(put + "('55, -4', '55, -3', '91, 0')"),
+        "sheet.png: a corner is written as 54.5, -3.6, and not as 91, 0")
+    is_(page.js(put + "('55, -4', '55, -3', '55, -2')"),
+        "sheet.png: the three corners lie in one line")
+    is_(page.js(put + "('55, -4', '55, -3', '54, -4')"), "")
+    is_red(page, "Own map: sheet.png.")
+    page.js("document.getElementById('away').click()")
+    page.give("#bring", folder / "sheet.pgw", folder / "sheet.png")
+    page.wait("aprsbook.page.map.sheets.length === 1")
+    is_red(page, "Own map: sheet.png.")
+
+
+def choose(page, name, value):
+    page.js(f"(() => {{ const it = document.getElementById('{name}'); "
+            f"if (it.type === 'checkbox') it.checked = {json.dumps(value)}; "
+            f"else it.value = {json.dumps(value)}; it.dispatchEvent(new Event('change')) }})()")
+
+
+def click(page, x, y, kind="mouse"):
+    for name in "Moved", "Pressed", "Released":
+        page.call("Input.dispatchMouseEvent", type="mouse" + name, x=x, y=y, button="left",
+                  clickCount=1, pointerType=kind)
+
+
+def test_units(page, folder):
+    """Miles and the form of places are kept by the browser; a line is measured by clicks."""
+    text = "/036/A=001000"
+    fresh(page, folder)
+    give(page, folder, {"a.log": place(0, "Q1A", 30, text=text)})
+    page.wait(MADE)
+    choose(page, "place-form", "mgrs")
+    choose(page, "miles", True)
+    page.wait("document.querySelector('#things .where').textContent === '30U VF 67619 39269'")
+    fresh(page, folder)
+    give(page, folder, {"a.log": place(0, "Q1A", 30, text=text)})
+    page.wait("document.querySelector('#things .where')?.textContent === '30U VF 67619 39269'")
+    is_(page.js("miles.checked"), True)
+    choose(page, "miles", False)
+    choose(page, "place-form", "")
+    page.wait("document.querySelector('#things .where').textContent === '54.5000, -3.5000'")
+    box = page.js("(aprsbook.page.map.look('54.5,-3.5,10'), aprsbook.page.map.paint(), "
+                  "document.getElementById('map').scrollIntoView({ block: 'center' }), "
+                  "measure.click(), document.getElementById('map').getBoundingClientRect().toJSON())")
+    middle = box["x"] + box["width"] / 2, box["y"] + box["height"] / 2
+    click(page, *middle)
+    click(page, middle[0] + 100, middle[1])
+    is_(page.js("way.textContent"), "10.0 km at 090\u00b0")
+    assert page.js("spot.textContent").startswith("54.49"), page.js("spot.textContent")
+    assert " \u00b7 30U VF 7" in page.js("spot.textContent"), page.js("spot.textContent")
+    page.js("dispatchEvent(new KeyboardEvent('keydown', { key: 'Escape' }))")
+    is_(page.js("[way.textContent, measure.getAttribute('aria-pressed')]"), ["", "false"])
+
+
+def test_edge(page, folder):
+    """The edge of the map is dragged, by keys too; on a wide screen lists stand beside."""
+    fresh(page, folder)
+    give(page, folder, {"a.log": log(3)})
+    page.wait(MADE)
+    sizes = ("(() => { const it = document.getElementById('map').getBoundingClientRect(), "
+             "beside = document.getElementById('said').getBoundingClientRect(); "
+             "return [it.width, it.height, beside.x > it.right, beside.y > it.bottom] })()")
+    key = ("(name => document.getElementById('edge').dispatchEvent(new KeyboardEvent('keydown', "
+           "{ key: name, cancelable: true })))")
+    for width, turned, back in ((1400, "ArrowLeft", 0), (900, "ArrowDown", 1)):
+        page.call("Emulation.setDeviceMetricsOverride", width=width, height=860,
+                  deviceScaleFactor=1, mobile=False)
+        page.settle()
+        before = page.js(sizes)
+        is_(before[2:], [back == 0, back == 1])
+        page.js(f"{key}('{turned}')")
+        page.settle()
+        after = page.js(sizes)
+        assert after[back] < before[back] if back == 0 else after[back] == before[back] + 40, after
+        page.js(f"{key}('Home')")
+        page.settle()
+        is_(page.js(sizes), before)
+    grip = page.js("(document.getElementById('edge').scrollIntoView({ block: 'center' }), "
+                   "document.getElementById('edge').getBoundingClientRect().toJSON())")
+    x, y = grip["x"] + grip["width"] / 2, grip["y"] + 4
+    for kind, down in (("Moved", 0), ("Pressed", 0), ("Moved", 60), ("Released", 60)):
+        page.call("Input.dispatchMouseEvent", type="mouse" + kind, x=x, y=y + down, button="left",
+                  buttons=1, clickCount=1)
+    page.settle()
+    assert abs(page.js(sizes)[1] - before[1] - 60) < 8, (page.js(sizes), before)
+    assert "high=" in page.js("location.hash")
+
+
 def test_turns(page, folder):
     """What an older turn has to say of its progress isn't said once another has come."""
     fresh(page, folder)
@@ -241,6 +383,96 @@ def test_clock(page, folder):
     page.js("document.querySelector('#receivers .clock').click()")
     page.wait(f"{MADE} && {ROWS} === 18")
     is_(page.js("aprsbook.page.data.notes"), [])
+
+
+def own_line(page, text, at="2024-06-21T18:05:00"):
+    """Adds a line of the operator's own to the form."""
+    for name, value in (("at", at), ("from", "CP1"), ("to", "Net"), ("text", text)):
+        page.js(f"(document.getElementById('own-{name}').value = {value!r}, 1)")
+    page.js("document.getElementById('own-add').click()")
+
+
+LOGGED = ("[...document.querySelectorAll('#ics-sheets tbody tr.own')]"
+          ".map(it => it.querySelector('.text bdi').textContent)")
+
+
+def test_example(page, folder):
+    """A first page that shows what a log looks like, and tries one."""
+    fresh(page, folder)
+    shown = "document.getElementById('first').checkVisibility()"
+    is_(page.js(shown), True)
+    picture(page, "first")
+    page.js("(document.getElementById('example').click(), 1)")
+    page.wait(f"{MADE} && aprsfiles.files.length === 3")
+    is_(page.js(shown), False)
+    assert page.js("aprsbook.page.net.placed.length") > 1
+    picture(page, "example")
+
+
+def test_own_lines(page, folder):
+    """The operator's own lines are kept, saved with the event, and read back of its page."""
+    # a page of its own origin keeps them; one on a disk may not
+    with Server(folder) as server:
+        url = f"http://127.0.0.1:{server.port}/page.html"
+        fresh(page, folder, url)
+        give(page, folder, {"a.log": log(3)})
+        page.wait(MADE)
+        page.js("document.getElementById('ics-open').click()")
+        own_line(page, "")
+        is_(page.js("document.getElementById('own-told').textContent"),
+            "A line has a time and a message.")
+        for text in ("by <b>voice</b>", "=1+1"):
+            own_line(page, text)
+        is_(page.js(LOGGED), ["by <b>voice</b>", "=1+1"])
+        csv = page.js("aprsbook.savedText('messages (CSV)', aprsbook.page.net, aprsbook.page.data, "
+                      "aprsbook.page.own.lines)")
+        assert "2024-06-21T18:05:00.000Z,CP1,,Net,'=1+1,own" in csv, csv
+        event = page.js("aprsfiles.eventPage()")
+        # loaded again, they are there
+        fresh(page, folder, url)
+        give(page, folder, {"a.log": log(3)})
+        page.wait(MADE)
+        page.js("document.getElementById('ics-open').click()")
+        is_(page.js(LOGGED), ["by <b>voice</b>", "=1+1"])
+        page.js("document.querySelector('#ics-sheets .own button').click()")
+        is_(page.js(LOGGED), ["=1+1"])
+    (folder / "event.html").write_text(event, encoding="utf-8")
+    page.open((folder / "event.html").as_uri())
+    page.wait("aprsbook.page.net !== null")
+    page.js("document.getElementById('ics-open').click()")
+    is_(page.js(LOGGED), ["by <b>voice</b>", "=1+1"])
+    # another browser: the page of the event brings them
+    fresh(page, folder)
+    page.js("(localStorage.clear(), 1)")
+    fresh(page, folder)
+    page.give("#choose", folder / "event.html", folder / "a.log")
+    page.wait(MADE)
+    is_(page.js("told.textContent"), "event.html: 2 lines of your own for ICS-309")
+    page.js("document.getElementById('ics-open').click()")
+    is_(page.js(LOGGED), ["by <b>voice</b>", "=1+1"])
+    page.js("(localStorage.clear(), 1)")
+
+
+def test_new(page, folder):
+    """What is new since one looked is marked and counted, where logs are followed."""
+    server = serve(folder, set(), {})
+    (folder / "logs.txt").write_text("a.log")
+    (folder / "a.log").write_text(log(4))
+    fresh(page, folder, f"http://127.0.0.1:{server.server_port}/page.html#logs=logs.txt")
+    page.wait(f"{MADE} && {ROWS} === 4")
+    new = "[...document.querySelectorAll('#things tr.new')].map(it => it.dataset.key)"
+    is_([page.js("document.getElementById('looked').hidden"), page.js(new)], [True, []])
+    (folder / "a.log").write_text(log(4) + place(900, "Q1NEW") + place(901, "Q1A-1", 31))
+    follow_until(page, f"{MADE} && {ROWS} === 6")
+    is_(page.js(new), ["station Q1NEW"])
+    assert page.js("document.getElementById('looked').textContent").startswith("1 new since ")
+    assert page.js("document.title").startswith("(1) ")
+    picture(page, "new")
+    page.js("document.getElementById('looked').click()")
+    page.wait(f"{new}.length === 0")
+    is_(page.js("document.getElementById('looked').hidden"), True)
+    server.shutdown()
+    server.server_close()
 
 
 FOLLOW = "(document.getElementById('follow').dispatchEvent(new Event('change')), 1)"
@@ -339,8 +571,8 @@ def square():
 
 
 SQUARE = square()
-TESTS = (test_damaged, test_strangers, test_windows, test_names, test_folders, test_turns,
-         test_brought, test_clock, test_followed)
+TESTS = (test_damaged, test_strangers, test_windows, test_names, test_folders, test_archives,
+         test_sheet, test_units, test_edge, test_turns, test_brought, test_clock, test_followed, test_example, test_own_lines, test_new)
 
 if __name__ == "__main__":
     page = browser.Browser()

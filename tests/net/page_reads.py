@@ -37,7 +37,7 @@ MADE = "aprsfiles.made() !== null"
 BOOK = "btoa(String.fromCharCode(...aprsfiles.made().book))"
 # each file, and what is said of it
 TOLD = ("Object.fromEntries([...document.querySelectorAll('#files tbody tr')]"
-        ".map(it => [it.cells[0].textContent, it.querySelector('.verdict').textContent]))")
+        ".map(it => [it.querySelector('th').textContent, it.querySelector('.verdict').textContent]))")
 MORE = TOLD.replace("verdict", "more")
 # what a command of the program makes of the book that the page made
 OF_BOOK = ("aprsfiles.run(%r, 30, [aprsfiles.made().book])"

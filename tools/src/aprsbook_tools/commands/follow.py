@@ -1,12 +1,13 @@
 """The book and the page of a net that runs."""
 import argparse
+import functools
 import os
 import re
 import sys
 import time
 from typing import List, Optional
 
-from aprsbook_tools import arguments, merged, net_logs, whole
+from aprsbook_tools import arguments, ground, merged, net_logs, whole
 from aprsbook_tools.commands import Subparsers, page
 from aprsbook_tools.errors import FAULTY, Fault
 
@@ -74,7 +75,8 @@ def make(args: argparse.Namespace) -> bool:
     whole.check(text, read)
     with whole.writing(place, read) as new:
         merged.write_book(new.file, [], args.gap, found.log)
-    whole.put(text, page.page_of(place, args.gap, said, found.notes), read)
+    below = functools.partial(ground.of, args)
+    whole.put(text, page.page_of(place, args.gap, said, below, found.notes), read)
     return not found.is_faulty
 
 

@@ -1,9 +1,11 @@
 """A page of a net or an event: a map with tracks, messages, who was heard when and by whom."""
 import argparse
+import functools
+import os
 import sys
-from typing import Any, Dict, List, Optional, Sequence
+from typing import Any, Callable, Dict, List, Optional, Sequence
 
-from aprsbook_tools import arguments, merged, page_files, report, text_file, whole
+from aprsbook_tools import arguments, ground, merged, page_files, report, text_file, whole
 from aprsbook_tools.commands import Subparsers
 from aprsbook_tools.roster import read_roster
 
@@ -50,6 +52,7 @@ def add_options(parser: argparse.ArgumentParser) -> None:
         metavar="TEXT",
         help="stands above all else, such as what was left out",
     )
+    ground.add_options(parser)
 
 
 def add_parser(subparsers: Subparsers) -> None:
@@ -78,18 +81,27 @@ def brought(args: argparse.Namespace) -> Dict[str, Any]:
     }
 
 
-def page_of(book: str, gap: Optional[int], said: Dict[str, Any], notes: Sequence[str] = ()) -> str:
-    """The page of a book."""
+def page_of(
+    book: str,
+    gap: Optional[int],
+    said: Dict[str, Any],
+    below: Callable[[str], Dict[str, Any]],
+    notes: Sequence[str] = (),
+) -> str:
+    """The page of a book; what lies below its marks is made of the table of rows."""
     # in the order of a page that the page saves
     data: Dict[str, Any] = {"title": said["title"], "gap": gap or 30, **said}
     data["notes"] = [*said["notes"], *notes]
-    data.update(page_files.texts_of(book, gap))
+    texts = page_files.texts_of(book, gap)
+    data.update(below(texts["rows"]) if "rows" in texts else {})
+    data.update(texts)
     return page_files.page_of(data)
 
 
 def files_of(args: argparse.Namespace) -> List[str]:
     """The files that a page is made of, beside its inputs."""
-    return whole.all_of(args.roster, args.course)
+    tiles = [args.tiles] if args.tiles and os.path.isfile(args.tiles) else []
+    return [*whole.all_of(args.roster, args.course), *tiles]
 
 
 def run(args: argparse.Namespace) -> int:
@@ -97,6 +109,6 @@ def run(args: argparse.Namespace) -> int:
         whole.check(args.output, [*args.inputs, *files_of(args)])
     said, gap = brought(args), report.gap_of(args)
     with merged.book(args.inputs, gap) as book:
-        text = page_of(book, gap, said)
+        text = page_of(book, gap, said, functools.partial(ground.of, args))
     whole.put(args.output, text, [*args.inputs, *files_of(args)])
     return 0

@@ -1,0 +1,82 @@
+// @ts-check
+// The form ICS-309 as it is used: opened, filled, added to, printed and saved.
+
+import { byId } from "./dom.js";
+import { fieldOf, fillForm, momentIn } from "./ics309.js";
+
+/** @typedef {import("./ownlines.js").Line} Line */
+
+/** The form of a page, with the operator's own lines. */
+export class Form {
+  /**
+   * @param {{ net: any, data: any, own: import("./ownlines.js").OwnLines }} page
+   * @param {{ now: () => number, save: () => void }} of the moment of the page, and what saves the
+   *   log as CSV
+   */
+  constructor(page, { now, save }) {
+    this.page = page;
+    this.now = now;
+    this.save = save;
+  }
+  get isOpen() {
+    return !byId("ics").hidden;
+  }
+  /** Draws it where it is open. */
+  draw() {
+    if (this.isOpen) fillForm(this.page.net, this.page.own.lines, line => this.remove(line));
+  }
+  /** @param {boolean} open */
+  open(open) {
+    document.body.classList.toggle("ics", open);
+    byId("ics").hidden = !open;
+    byId("ics-incident").value ||= this.page.data.title;
+    const now = this.now();
+    byId("own-at").value = fieldOf(Number.isFinite(now) ? now : Date.now() / 1000);
+    this.draw();
+    byId(open ? "ics-incident" : "ics-open").focus();
+  }
+  /** @param {Line} line */
+  remove(line) {
+    this.tell(this.page.own.remove(line));
+    this.draw();
+  }
+  /** Takes a line of the operator's own. */
+  add() {
+    const value = (/** @type {string} */ id) => byId(id).value.trim();
+    const at = momentIn(value("own-at")), text = value("own-text");
+    if (!Number.isFinite(at) || !text) {
+      byId("own-told").textContent = "A line has a time and a message.";
+      return byId(text ? "own-at" : "own-text").focus();
+    }
+    this.tell(this.page.own.add({ at, from: value("own-from"), to: value("own-to"),
+      id: value("own-id"), text }));
+    for (const id of ["own-id", "own-text"]) byId(id).value = "";
+    this.draw();
+    byId("own-text").focus();
+  }
+  /** @param {boolean} isKept whether the browser keeps what was changed */
+  tell(isKept) {
+    byId("own-told").textContent = isKept ? ""
+      : "This browser keeps no lines: save the page of the event, which has them.";
+  }
+  /** What another window of this net has changed. @param {string | null} key */
+  hear(key) {
+    const { own, data } = this.page;
+    if (key !== own.key || !data) return;
+    own.open(data.title, data.lines);
+    this.draw();
+  }
+  listen() {
+    const on = (/** @type {string} */ id, /** @type {string} */ kind,
+      /** @type {(event: any) => void} */ run) => byId(id).addEventListener(kind, run);
+    on("ics-open", "click", () => this.open(true));
+    on("ics-close", "click", () => this.open(false));
+    on("ics-print", "click", () => print());
+    on("ics-save", "click", this.save);
+    on("own-add", "click", () => this.add());
+    on("own-text", "keydown", event => event.key === "Enter" && this.add());
+    for (const id of ["ics-incident", "ics-net", "ics-operator"])
+      on(id, "change", () => this.draw());
+    addEventListener("storage", ({ key }) => this.hear(key));
+  }
+}

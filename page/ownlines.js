@@ -1,0 +1,119 @@
+// @ts-check
+// The operator's own lines of the communications log, such as voice traffic. The browser keeps them
+// by the title of the net, where it can; what it keeps may be damaged, and then counts as nothing.
+
+/**
+ * A line: a moment in seconds since 1970, from whom to whom, the message's number and its text.
+ * @typedef {{ at: number, from: string, to: string, id: string, text: string }} Line
+ */
+/** @typedef {{ lines: Line[], gone: string[] }} Kept lines, and the keys of those taken away */
+
+const NAMES = /** @type {("from" | "to" | "id" | "text")[]} */ (["from", "to", "id", "text"]);
+const keyOf = (/** @type {Line} */ it) => JSON.stringify([it.at, ...NAMES.map(name => it[name])]);
+
+/**
+ * The lines among values of any form.
+ * @param {unknown} values
+ * @returns {Line[]}
+ */
+export function linesIn(values) {
+  if (!Array.isArray(values)) return [];
+  return values.filter(it => Number.isFinite(it?.at) && NAMES.every(name =>
+    typeof it[name] === "string" && it[name].length <= 2000))
+    .map(it => ({ at: it.at, from: it.from, to: it.to, id: it.id, text: it.text }));
+}
+/** This browser's store, where it has one. */
+function storeOf() {
+  try {
+    return globalThis.localStorage || null;
+  } catch {
+    return null; // it is forbidden here
+  }
+}
+
+/** The lines of a net. */
+export class OwnLines {
+  /** @param {Pick<Storage, "getItem" | "setItem"> | null} store */
+  constructor(store = storeOf()) {
+    this.store = store;
+    this.key = "";
+    /** @type {Line[]} those that stand in the page itself */
+    this.given = [];
+    /** @type {Kept} */
+    this.kept = { lines: [], gone: [] };
+    /** @type {Line[]} those of pages that were dropped here */
+    this.brought = [];
+  }
+  /** All of them, by time. */
+  get lines() {
+    const gone = new Set(this.kept.gone);
+    const all = new Map([...this.given, ...this.kept.lines].map(it => [keyOf(it), it]));
+    return [...all].filter(([key]) => !gone.has(key)).map(it => it[1]).sort((a, b) => a.at - b.at);
+  }
+  /**
+   * Opens the lines of a net: those in its page, and those that the browser keeps. A net that gets
+   * another title takes its lines along, where there are none of that title.
+   * @param {string} title
+   * @param {unknown} given
+   */
+  open(title, given = []) {
+    const key = `aprsbook lines: ${title}`, before = this.key && this.key !== key ? this.lines : [];
+    this.key = key;
+    this.given = linesIn(given);
+    this.kept = this.read();
+    if (before.length) this.add(...this.lines.length ? this.brought : before);
+  }
+  /**
+   * Takes the lines of pages that were dropped here.
+   * @param {Line[]} lines
+   */
+  bring(lines) {
+    this.brought.push(...lines);
+    return this.add(...lines);
+  }
+  /** @returns {Kept} */
+  read() {
+    try {
+      const { lines, gone } = JSON.parse(this.store?.getItem(this.key) || "{}");
+      return { lines: linesIn(lines),
+        gone: Array.isArray(gone) ? gone.filter(it => typeof it === "string") : [] };
+    } catch {
+      return { lines: [], gone: [] };
+    }
+  }
+  /**
+   * Keeps lines; says whether the browser does.
+   * @param {Line[]} lines
+   */
+  add(...lines) {
+    if (!lines.length) return true;
+    const keys = new Set(lines.map(keyOf));
+    return this.change(({ lines: before, gone }) =>
+      ({ lines: [...before.filter(it => !keys.has(keyOf(it))), ...lines],
+        gone: gone.filter(it => !keys.has(it)) }));
+  }
+  /** @param {Line} line */
+  remove(line) {
+    const key = keyOf(line);
+    this.brought = this.brought.filter(it => keyOf(it) !== key);
+    return this.change(({ lines, gone }) =>
+      ({ lines: lines.filter(it => keyOf(it) !== key), gone: [...gone, key] }));
+  }
+  /**
+   * Changes what is kept, as another window of this net left it.
+   * @param {(kept: Kept) => Kept} change
+   */
+  change(change) {
+    const stored = this.read(), { lines, gone } = this.kept;
+    const keys = new Set([...stored.lines.map(keyOf), ...stored.gone]);
+    this.kept = change({ lines: [...stored.lines, ...lines.filter(it => !keys.has(keyOf(it)))],
+      gone: [...new Set([...stored.gone, ...gone])] });
+    try {
+      if (!this.store) return false;
+      this.store.setItem(this.key, JSON.stringify(this.kept));
+      return true;
+    } catch {
+      return false; // it is full, or forbidden
+    }
+  }
+}

@@ -1,0 +1,110 @@
+import assert from "node:assert/strict";
+import { test } from "node:test";
+import { savedText } from "../../page/exports.js";
+import { entriesOf, fieldOf, momentIn, sheetsOf } from "../../page/ics309.js";
+import { linesIn, OwnLines } from "../../page/ownlines.js";
+import { message, moment, netOfLines } from "./tables.js";
+
+const AT = Date.UTC(2024, 5, 21, 18) / 1000;
+const own = (second, text, fields = {}) => ({ at: AT + second, from: "Net", to: "CP1", id: "", text,
+  ...fields });
+/** A store as a browser has it; it may be full. */
+class Store {
+  constructor(isFull = false) {
+    this.isFull = isFull;
+    this.by = new Map();
+  }
+  getItem(key) {
+    return this.by.get(key) ?? null;
+  }
+  setItem(key, value) {
+    if (this.isFull) throw new Error("QuotaExceededError");
+    this.by.set(key, value);
+  }
+}
+const opened = (store, given = [], title = "Race") => {
+  const lines = new OwnLines(store);
+  lines.open(title, given);
+  return lines;
+};
+const textsOf = lines => lines.lines.map(it => it.text);
+
+test("the log has messages, bulletins and own lines by time, each with a number", () => {
+  const net = netOfLines([], [message("Q1A", "Q1B", "hi", "acknowledged", 5, { id: "7" }),
+    message("Q1A", "BLN1", "all", "unnumbered", 4)]);
+  assert.deepEqual(entriesOf(net, [own(4.5, "by voice")]).map(it =>
+    [it.number, it.id, it.text, it.note]),
+  [[1, "", "all", ""], [2, "", "by voice", ""], [3, "7", "hi", "acknowledged"]]);
+  assert.equal(savedText("messages (CSV)", net, {}, [own(4.5, "\\x41=1")]).split("\n")[2],
+    `${moment(4.5)},Net,,CP1,\\x41=1,own`);
+});
+test("a log goes on over sheets, a long text takes more room, and there is one sheet of nothing", () => {
+  const net = netOfLines([]), many = (n, text) => sheetsOf(entriesOf(net,
+    Array.from({ length: n }, (_, k) => own(k, text))));
+  assert.equal(many(0, "").length, 1);
+  assert.equal(many(26, "short").length, 1);
+  const short = many(100, "short"), long = many(100, "long ".repeat(40));
+  assert.ok(short.length < long.length);
+  assert.deepEqual(short.flat().map(it => it.number), Array.from({ length: 100 }, (_, k) => k + 1));
+  // one that no sheet holds has one to itself
+  assert.deepEqual(many(2, "x".repeat(5000)).map(it => it.length), [1, 1]);
+});
+test("own lines outlive the page, and belong to one net", () => {
+  const store = new Store(), lines = opened(store);
+  assert.equal(lines.add(own(2, "b"), own(1, "a")), true);
+  assert.deepEqual(textsOf(opened(store)), ["a", "b"]);
+  assert.deepEqual(textsOf(opened(store, [], "Other")), []);
+  lines.remove(own(1, "a"));
+  assert.deepEqual(textsOf(opened(store)), ["b"]);
+});
+test("lines in a page of an event are there too, once, and can be taken away", () => {
+  const store = new Store(), lines = opened(store, [own(1, "a"), own(2, "b")]);
+  lines.add(own(2, "b"), own(3, "c"));
+  assert.deepEqual(textsOf(lines), ["a", "b", "c"]);
+  lines.remove(own(2, "b"));
+  assert.deepEqual(textsOf(opened(store, [own(1, "a"), own(2, "b")])), ["a", "c"]);
+  lines.add(own(2, "b"));
+  assert.deepEqual(textsOf(lines), ["a", "b", "c"]);
+});
+test("a net that gets another title takes its lines along, but not into another net", () => {
+  const store = new Store(), lines = opened(store, [], "aprsbook");
+  lines.bring([own(1, "a")]);
+  lines.open("Race");
+  assert.deepEqual(textsOf(opened(store)), ["a"]);
+  opened(store, [], "Other").add(own(2, "b"));
+  lines.add(own(3, "c"));
+  lines.open("Other");
+  // what was dropped here comes along all the same
+  assert.deepEqual(textsOf(lines), ["a", "b"]);
+});
+test("two windows of one net lose nothing of each other", () => {
+  const store = new Store(), one = opened(store), two = opened(store);
+  one.add(own(1, "a"));
+  two.add(own(2, "b"));
+  one.add(own(3, "c"));
+  assert.deepEqual(textsOf(opened(store)), ["a", "b", "c"]);
+  two.remove(own(1, "a"));
+  one.add(own(4, "d"));
+  assert.deepEqual(textsOf(opened(store)), ["b", "c", "d"]);
+});
+test("without a store, with a full or a damaged one, lines stay in the page", () => {
+  for (const store of [null, new Store(true)]) {
+    const lines = opened(store, [own(1, "a")]);
+    assert.equal(lines.add(own(2, "b")), false);
+    assert.deepEqual(textsOf(lines), ["a", "b"]);
+  }
+  for (const text of ["{", "null", "7", "{\"lines\":7,\"gone\":{}}", "{\"lines\":[null,{\"at\":\"1\"}]}"]) {
+    const store = new Store();
+    store.setItem("aprsbook lines: Race", text);
+    const lines = opened(store);
+    assert.deepEqual(textsOf(lines), []);
+    lines.add(own(1, "a"));
+    assert.deepEqual(textsOf(opened(store)), ["a"]);
+  }
+  assert.deepEqual(linesIn([own(1, "x".repeat(2001)), own(2, "b", { more: 1 })]), [own(2, "b")]);
+});
+test("a field for date and time gives back its moment", () => {
+  assert.equal(fieldOf(AT), "2024-06-21T18:00:00");
+  assert.equal(momentIn(fieldOf(AT)), AT);
+  assert.ok(Number.isNaN(momentIn("")));
+});

@@ -1,0 +1,72 @@
+import assert from "node:assert/strict";
+import { test } from "node:test";
+import zlib from "node:zlib";
+import { degreesOf, Projection, RADIUS } from "../../page/globe.js";
+import { Numbers } from "../../page/land.js";
+import { Shore, shoreOf } from "../../page/shore.js";
+
+/** Numbers as the tool packs them. */
+const packed = numbers => Uint8Array.from(numbers.flatMap(it => {
+  let n = it >= 0 ? 2 * it : -2 * it - 1;
+  const bytes = [];
+  for (; n > 127; n = Math.floor(n / 128)) bytes.push(n % 128 + 128);
+  return [...bytes, n];
+}));
+// of a box from 4 W to 3 W and 54 N to 55 N its eastern half, with a lake
+const SHORE = [10000, -40000, 540000, -30000, 550000,
+  4, -35000, 540000, 5000, 0, 0, 10000, -5000, 0,
+  3, -32000, 545000, 1000, 0, 0, 1000];
+const text = numbers => zlib.deflateSync(packed(numbers)).toString("base64");
+/** A pen that keeps what it is told. */
+function recorder() {
+  const told = [], names = "save restore beginPath moveTo lineTo closePath clip fill stroke setLineDash";
+  const pen = Object.fromEntries(names.split(" ").map(it => [it, (...of) => told.push([it, ...of])]));
+  return { pen, told, of: name => told.filter(it => it[0] === name) };
+}
+const viewOf = (north, east, metres) => {
+  const view = Object.assign(new Projection(), { width: 600, height: 400 });
+  view.look(north, east);
+  view.scale = RADIUS / metres;
+  return view;
+};
+const COLOURS = { sheet: "sea", land: "land", shore: "line" };
+
+test("numbers are unpacked as they were packed", () => {
+  const numbers = [0, -1, 1, 63, 64, -64, -65, 2 ** 40, -(2 ** 40)], read = new Numbers(packed(numbers));
+  assert.deepEqual(numbers.map(() => read.next()), numbers);
+  assert.equal(read.at, read.bytes.length);
+});
+test("a fine coast has its box, its rings, and which of their sides are no coast", () => {
+  const { box, rings } = shoreOf(packed(SHORE));
+  assert.equal(box.length, 3 * 64);
+  const [north, east] = degreesOf([...box.slice(0, 3)]);
+  assert.ok(Math.abs(north - 54) < 1e-5 && Math.abs(east + 4) < 1e-5);
+  assert.deepEqual(rings.map(it => it.isSide), [[false, true, true, true], [false, false, false]]);
+});
+test("a fine coast is taken once, also where another comes meanwhile, and is taken away", async () => {
+  const shore = new Shore();
+  assert.equal(await shore.read(text(SHORE)), true);
+  assert.equal(await shore.read(text(SHORE)), false);
+  assert.equal(shore.of.rings.length, 2);
+  const late = shore.read(text(SHORE.slice(0, 5)));
+  assert.equal(await shore.read(""), true);
+  await late;
+  assert.equal(shore.of, null);
+  assert.equal(shore.paint(recorder().pen, viewOf(54.5, -3.5, 50), COLOURS), null);
+});
+test("a fine coast is drawn by how close one looks, and says so where it is all of the map", async () => {
+  const shore = new Shore();
+  await shore.read(text(SHORE));
+  const tried = view => {
+    const { pen, of } = recorder();
+    return [shore.paint(pen, view, COLOURS), of("fill").length, of("stroke").length];
+  };
+  assert.deepEqual(tried(viewOf(54.5, -3.5, 50)), ["", 2, 1]);
+  assert.deepEqual(tried(viewOf(54.5, -3.5, 9.9)), ["rough coast", 1, 1]);
+  assert.deepEqual(tried(viewOf(54.5, -3.5, 1.9)), ["", 1, 0]);
+  // the map shows more than the box, and nothing of it
+  assert.deepEqual(tried(viewOf(54.5, -3.5, 500)), [null, 2, 1]);
+  assert.deepEqual(tried(viewOf(54.05, -3.95, 50)), [null, 2, 1]);
+  assert.deepEqual(tried(viewOf(50, 10, 50)), [null, 0, 0]);
+  assert.deepEqual(tried(viewOf(-54.5, 176.5, 5000)), [null, 0, 0]);
+});

@@ -1,0 +1,183 @@
+"""What lies below the marks of a page: a fine coast, and squares of a web map."""
+import argparse
+import base64
+import contextlib
+import functools
+import math
+import os
+import re
+import sqlite3
+import sys
+from typing import Any, Callable, Dict, Iterator, List, NamedTuple, Optional, Sequence, Tuple
+
+from aprsbook_tools import arguments, coasts, page_files, places, table
+from aprsbook_tools.errors import Fault
+from aprsbook_tools.geo import Spot
+from aprsbook_tools.rings import Box
+
+# as the page draws them
+MOST_LEVEL = 22
+PICTURES = (b"\x89PNG", b"\xff\xd8\xff", b"RIFF")
+FILE = re.compile(r"(\d{1,7})\.(?:png|jpe?g|webp)", re.IGNORECASE | re.ASCII)
+NUMBER = re.compile(r"\d{1,7}", re.ASCII)
+
+
+class Square(NamedTuple):
+    """A square of a web map: its level, and its column and row from the north-west."""
+
+    z: int
+    x: int
+    y: int
+
+
+def add_options(parser: argparse.ArgumentParser) -> None:
+    parser.add_argument(
+        "--coast",
+        choices=("fine", "rough"),
+        default="fine",
+        help="the coast around the places: fine where GMT and its data are installed (Debian: "
+        f"{coasts.PACKAGES}), or else that of the world alone",
+    )
+    parser.add_argument(
+        "--tiles",
+        metavar="FOLDER",
+        help="squares of a web map that the page carries, FOLDER/Z/X/Y.png or a file .mbtiles",
+    )
+    parser.add_argument(
+        "--most-mb",
+        type=arguments.whole_number(1, 1000),
+        default=5,
+        metavar="MB",
+        help="the squares of a page have so many megabytes at most: finer levels are left out (5)",
+    )
+
+
+def columns_and_rows(box: Box, z: int) -> Tuple[Sequence[int], Sequence[int]]:
+    """The columns and rows of a level between which a box lies."""
+    wide = 1 << z
+
+    def row(north: float) -> int:
+        up = math.asinh(math.tan(math.radians(max(-85.05, min(85.05, north)))))
+        return min(wide - 1, max(0, math.floor((0.5 - up / (2 * math.pi)) * wide)))
+
+    west, south, east, north = (it / coasts.UNIT for it in box)
+    first, last = (math.floor((it + 180) / 360 * wide) for it in (west, east))
+    columns = sorted({it % wide for it in range(first, min(last, first + wide) + 1)})
+    return columns, range(row(north), row(south) + 1)
+
+
+def squares_in_folder(folder: str) -> Callable[[int, Box], Iterator[Tuple[Square, bytes]]]:
+    """What reads the squares of a level and a box from FOLDER/Z/X/Y.png."""
+
+    def read(z: int, box: Box) -> Iterator[Tuple[Square, bytes]]:
+        columns, rows = columns_and_rows(box, z)
+        for x in columns:
+            place = os.path.join(folder, str(z), str(x))
+            files = sorted(os.listdir(place)) if os.path.isdir(place) else []
+            for found in filter(None, map(FILE.fullmatch, files)):
+                if int(found[1]) in rows:
+                    with open(os.path.join(place, found[0]), "rb") as file:
+                        yield Square(z, x, int(found[1])), file.read()
+
+    return read
+
+
+def squares_in_database(
+    database: sqlite3.Connection,
+) -> Callable[[int, Box], Iterator[Tuple[Square, bytes]]]:
+    """What reads the squares of a level and a box from MBTiles, whose rows count from the south."""
+
+    def read(z: int, box: Box) -> Iterator[Tuple[Square, bytes]]:
+        columns, rows = columns_and_rows(box, z)
+        top = (1 << z) - 1
+        for x in columns:
+            found = database.execute(
+                "SELECT tile_row, tile_data FROM tiles WHERE zoom_level = ? AND tile_column = ? "
+                "AND tile_row BETWEEN ? AND ? ORDER BY tile_row DESC",
+                (z, x, top - rows[-1], top - rows[0]))
+            for row, data in found:
+                yield Square(z, x, top - row), bytes(data)
+
+    return read
+
+
+def within(
+    read: Callable[[int, Box], Iterator[Tuple[Square, bytes]]], levels: Sequence[int], box: Box,
+    most: int,
+) -> Dict[str, str]:
+    """The squares of these levels in a box, as long as a whole level has room in so many bytes."""
+    kept: Dict[str, str] = {}
+    room = most
+    for z in levels:
+        level = {}
+        for square, data in read(z, box):
+            if not data.startswith(PICTURES):
+                raise Fault(f"the square {'/'.join(map(str, square))} is no picture (PNG, JPEG, "
+                            "WebP)")
+            text = base64.b64encode(data).decode()
+            room -= len(text)
+            if room < 0:
+                print(f"aprs-net: level {z} of the tiles, and what is finer, is left out: it takes "
+                      f"more than --most-mb", file=sys.stderr)
+                return kept
+            level["/".join(map(str, square))] = text
+        kept.update(level)
+    return kept
+
+
+def tiles_in(path: str, box: Box, most: int) -> Dict[str, str]:
+    """The squares of a folder or of an MBTiles file in a box."""
+    if os.path.isdir(path):
+        names = sorted(int(it) for it in os.listdir(path) if NUMBER.fullmatch(it))
+        levels = [it for it in names if it <= MOST_LEVEL]
+        return within(squares_in_folder(path), levels, box, most)
+    if not os.path.exists(path):
+        raise Fault(f"{path}: No such file or directory")
+    try:
+        with contextlib.closing(
+                sqlite3.connect(f"file:{quoted(path)}?mode=ro", uri=True)) as database:
+            found = database.execute("SELECT DISTINCT zoom_level FROM tiles ORDER BY zoom_level")
+            levels = [it for (it,) in found if 0 <= it <= MOST_LEVEL]
+            return within(squares_in_database(database), levels, box, most)
+    except sqlite3.Error as fault:
+        raise Fault(f"{path}: no folder Z/X/Y.png, and no MBTiles: {fault}") from fault
+
+
+def quoted(path: str) -> str:
+    """A path as it stands in a URI of SQLite."""
+    return path.replace("%", "%25").replace("?", "%3f").replace("#", "%23")
+
+
+def spots_of(rows: str) -> List[Spot]:
+    """The places of a table of rows."""
+    return [it.spot for it in places.places_of(table.read(table.Row, rows.splitlines()))]
+
+
+@functools.lru_cache(maxsize=None)
+def say(words: str) -> None:
+    """Says something once, however often a page is made."""
+    print(f"aprs-net: {words}", file=sys.stderr, flush=True)
+
+
+def of(args: argparse.Namespace, rows: str) -> Dict[str, Any]:
+    """What a page of this table has below its marks."""
+    ground: Dict[str, Any] = {}
+    spots = spots_of(rows) if args.coast == "fine" or args.tiles else []
+    if args.coast == "fine":
+        try:
+            coast = coasts.around(spots, page_files.together().coast())
+        except Fault as fault:
+            say(fault.words)
+            coast = ""
+        if coast:
+            ground["coast"] = coast
+    box: Optional[Box] = coasts.box_around(spots) if args.tiles else None
+    if args.tiles and not box:
+        say("no tiles: the places are too far apart, or there are none")
+    if box:
+        tiles = tiles_in(args.tiles, box, args.most_mb * 1_000_000)
+        if tiles:
+            ground["tiles"] = tiles
+        else:
+            say(f"{args.tiles} has no square around the places that fits in --most-mb")
+    return ground
