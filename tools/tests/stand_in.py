@@ -2,7 +2,8 @@
 """A stand-in for aprsbook and aprsbook-fold in tests that are of what runs around them: its books
 are receptions, sorted, each once, which grow by merges as those of aprsbook do.
 
-usage: aprsbook merge|widen [--gap] SECONDS [--] FILE..    aprsbook-fold --gap SECONDS FILE..
+usage: aprsbook merge|widen [--gap] SECONDS [--] [FILE..]    aprsbook-fold --gap SECONDS FILE..
+       aprsbook --version
 """
 import os
 import re
@@ -29,10 +30,11 @@ def read_book(path: str, text: str, gap: int, widen: bool) -> Set[str]:
 
 def read(path: str, gap: int, widen: bool) -> Set[str]:
     try:
-        with open(path, encoding="ascii") as file:
+        with open(path or 0, encoding="ascii") as file:
             text = file.read()
     except OSError:
         fail(f"{path}: cannot open")
+    path = path or "standard input"
     if text.startswith("APRSBOOK"):
         return read_book(path, text, gap, widen)
     if PROGRAM == "aprsbook-fold":
@@ -46,12 +48,16 @@ def read(path: str, gap: int, widen: bool) -> Set[str]:
 
 
 def main() -> None:
+    if sys.argv[1:] == ["--version"]:
+        print(f"{PROGRAM} 0")
+        return
     words: List[str] = [it for it in sys.argv[1:] if it not in ("merge", "widen", "--gap", "--")]
     gap = int(words.pop(0))
     if os.environ.get("STAND_IN_RUNS"):
         with open(os.environ["STAND_IN_RUNS"], "a", encoding="utf-8") as file:
             file.write(" ".join(words) + "\n")
-    rows = sorted(set().union(*(read(it, gap, sys.argv[1] == "widen") for it in words)))
+    widen = sys.argv[1] == "widen"
+    rows = sorted(set().union(*(read(it, gap, widen) for it in words or [""])))
     text = "".join(f"{it}\n" for it in [f"APRSBOOK 3 {gap}", *rows, f"END {len(rows)}"])
     os.write(1, text.encode())
 
