@@ -8,14 +8,14 @@ usage: aprsbook merge|widen [--gap] SECONDS [--] [FILE..]    aprsbook-fold --gap
 import os
 import re
 import sys
-from typing import List, Set
+from typing import List, NoReturn, Set
 
 PROGRAM = os.path.basename(sys.argv[0])
 
 
-def fail(words: str) -> None:
+def fail(words: str, status: int = 1) -> NoReturn:
     print(f"{PROGRAM}: {words}", file=sys.stderr)
-    sys.exit(1)
+    sys.exit(status)
 
 
 def read_book(path: str, text: str, gap: int, widen: bool) -> Set[str]:
@@ -42,13 +42,17 @@ def read(path: str, gap: int, widen: bool) -> Set[str]:
     if text and not text.endswith("\n"):
         fail(f"{path}: line {text.count(chr(10)) + 1}: NoNewline")
     for number, line in enumerate(text.splitlines(), 1):
+        if len(line) > 8192:
+            fail(f"{path}: line {number}: LongLine")
         if not re.fullmatch(r"\S{20,24} \S{1,16} [0-9a-f]*", line):
             fail(f"{path}: line {number}: Moment")
+        if len(line.split(" ")[2]) % 2:
+            fail(f"{path}: line {number}: Hex")
     return {re.sub(r"(:\d\d)Z", r"\1.000Z", line) for line in text.splitlines()}
 
 
 def main() -> None:
-    if sys.argv[1:] == ["--version"]:
+    if sys.argv[1:] in (["--version"], ["--help"]):
         print(f"{PROGRAM} 0")
         return
     words: List[str] = [it for it in sys.argv[1:] if it not in ("merge", "widen", "--gap", "--")]
@@ -59,7 +63,11 @@ def main() -> None:
     widen = sys.argv[1] == "widen"
     rows = sorted(set().union(*(read(it, gap, widen) for it in words or [""])))
     text = "".join(f"{it}\n" for it in [f"APRSBOOK 3 {gap}", *rows, f"END {len(rows)}"])
-    os.write(1, text.encode())
+    try:
+        with open(1, "wb", closefd=False) as out:
+            out.write(text.encode())
+    except OSError:
+        fail("cannot write", 3)
 
 
 main()

@@ -252,6 +252,8 @@ def make_parts(path: str, items: Sequence[Input], parts: int, wish: Wish, say: S
     """A new folder gets the book of inputs in parts, each with the rows of some stations."""
     if os.path.lexists(path):
         raise Fault(f"{path} is there: parts are made in a new folder", errors.OUTPUT)
+    if not jobs.has_ranges():
+        raise Fault("parts need an aprsbook-fold that has --from and --until")
     gap = wish.gap or GAP
     items = usable(items, wish, say)
     with work_folder(path, wish, gap, items) as folder:

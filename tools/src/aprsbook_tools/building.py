@@ -170,8 +170,11 @@ def write_book(plan: Plan, books: Sequence[str], into: IO[bytes]) -> None:
 def bounds_of(plan: Plan, books: Sequence[str], parts: int) -> List[Tuple[str, str]]:
     """Bounds of parts that have about as many transmissions each, of a sample: stations, which are
     in the order of the book, of some books, which together are read in the memory of a piece."""
-    step = max(1, sum(map(os.path.getsize, books)) // max(1, plan.piece))
-    sample = books[::step]
+    small = [it for it in books if os.path.getsize(it) <= 2 * plan.piece]
+    if not small:
+        raise Fault("books are too large to look at: make parts of their logs")
+    step = max(1, sum(map(os.path.getsize, small)) // plan.piece)
+    sample = small[::step]
     counts = [(it.source, it.transmissions or 0) for it in table.stations(sample, plan.gap)]
     total, before = sum(count for _, count in counts), 0
     sources: List[str] = []
@@ -184,8 +187,6 @@ def bounds_of(plan: Plan, books: Sequence[str], parts: int) -> List[Tuple[str, s
 
 def parts_of(engine: Engine, plan: Plan, books: List[str], parts: int) -> List[str]:
     """Books of the rows of some sources each, in the order of the sources."""
-    if not jobs.has_ranges():
-        raise Fault("parts need an aprsbook-fold that has --from and --until")
     bounds = bounds_of(plan, books, parts)
     lists: List[List[str]] = [books for _ in bounds]
     level = 0

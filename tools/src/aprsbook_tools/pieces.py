@@ -71,7 +71,7 @@ def of(paths: Sequence[str], size: int) -> List[List[Range]]:
             raise Fault(said(fault)) from fault
     result: List[List[Range]] = []
     held = 0
-    for _, it in sorted(found):
+    for _, it in sorted(found, key=lambda one: (one[0], one[1].start, one[1].path)):
         if not result or held + it.end - it.start > size + size // 8:
             result.append([])
             held = 0
