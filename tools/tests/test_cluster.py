@@ -57,8 +57,7 @@ class Hosts:
             self.address = f"tcp://127.0.0.1:{free.getsockname()[1]}"
         self.started: List["subprocess.Popen[bytes]"] = []
         self.logs = write_logs(folder)
-        self.expected = subprocess.run(["aprsbook", "merge", "--gap", "30", *self.logs], env=self.env,
-                                       stdout=subprocess.PIPE, check=True).stdout
+        self.expected = self.merged(*self.logs).stdout
         self.workers: List["subprocess.Popen[bytes]"] = []
         self.begin()
 
@@ -75,6 +74,11 @@ class Hosts:
             (self.bin / name).write_text(text)
             (self.bin / name).chmod(0o755)
         (self.bin / "aprs-net").symlink_to(HERE.parent / "bin/aprs-net")
+
+    def merged(self, *logs: str) -> "subprocess.CompletedProcess[bytes]":
+        """What one merge of logs writes and says."""
+        return subprocess.run(["aprsbook", "merge", "--gap", "30", *logs], env=self.env,
+                              cwd=self.folder, capture_output=True)
 
     def start(self, *words: object, **more: str) -> "subprocess.Popen[bytes]":
         with open(self.said_of(len(self.started)), "wb") as said:
@@ -144,9 +148,7 @@ def test_the_bytes_of_one_merge(hosts: Hosts) -> None:
     assert hosts.ends(hosts.merge("equal", "equal.book"), 0) == ""
     hosts.is_book("equal.book")
     # a book of half of it grows
-    (hosts.folder / "grown.book").write_bytes(subprocess.run(
-        ["aprsbook", "merge", "--gap", "30", hosts.logs[0]], env=hosts.env, stdout=subprocess.PIPE,
-        check=True).stdout)
+    (hosts.folder / "grown.book").write_bytes(hosts.merged(hosts.logs[0]).stdout)
     hosts.ends(hosts.merge("equal", "grown.book", *hosts.logs[1:], "grown.book"), 0)
     hosts.is_book("grown.book")
 
@@ -259,9 +261,7 @@ def test_a_faulty_log(hosts: Hosts, name: str) -> None:
     (hosts.folder / f"{name}.log").write_bytes(b"\n".join(lines) + end)
     given = hosts.logs[0], f"{name}.log"
     said = hosts.ends(hosts.merge(name, f"{name}.book", *given), 1)
-    plain = subprocess.run(["aprsbook", "merge", "--gap", "30", *given], env=hosts.env, cwd=hosts.folder,
-                           stderr=subprocess.PIPE).stderr.decode()
-    assert said == plain and f"{name}.log: line {at}: " in said
+    assert said == hosts.merged(*given).stderr.decode() and f"{name}.log: line {at}: " in said
     assert not (hosts.folder / f"{name}.book").exists()
 
 

@@ -260,17 +260,41 @@ def make_parts(path: str, items: Sequence[Input], parts: int, wish: Wish, say: S
         plan = Plan(gap, folder, wish.piece, wish.most)
         made, given = building.books_of(wish.engine, plan, items)
         books = building.parts_of(wish.engine, plan, made + given, parts)
-        new = os.path.join(folder, "parts")
-        shutil.rmtree(new, ignore_errors=True)
-        try:
-            os.mkdir(new)
+        with new_folder(path) as new:
             for number, book in enumerate(books, 1):
                 into = os.path.join(new, f"{number:04}.book")
-                os.link(book, into)
+                put_beside(book, into)
                 say_what_is_large(into, say)
-            os.rename(new, path)
-        except OSError as fault:
-            raise Fault(f"{path}: {fault.strerror}", errors.OUTPUT) from fault
+
+
+@contextlib.contextmanager
+def new_folder(path: str) -> Iterator[str]:
+    """A folder that gets its name once it is whole."""
+    real = os.path.realpath(path)
+    new = ""
+    try:
+        new = tempfile.mkdtemp(whole.SUFFIX, f".{os.path.basename(real)}.", os.path.dirname(real))
+        yield new
+        mask = os.umask(0)
+        os.umask(mask)
+        os.chmod(new, 0o777 & ~mask)
+        whole.sync_folder(new)
+        os.rename(new, real)
+    except OSError as fault:
+        raise Fault(f"{path}: {fault.strerror}", errors.OUTPUT) from fault
+    finally:
+        if new:
+            shutil.rmtree(new, ignore_errors=True)
+
+
+def put_beside(path: str, into: str) -> None:
+    """A file gets another name too, or a copy where that can't be; it is on the disk then."""
+    try:
+        os.link(path, into)
+    except OSError:
+        shutil.copyfile(path, into)
+    with open(into, "rb+") as file:
+        os.fsync(file.fileno())
 
 
 # ---- a book of each day ----

@@ -185,7 +185,8 @@ class Turn:
                 fault = future.exception(timeout=ANSWER)
                 return errors.OUTPUT, f"aprs-net: {fault}"
             ended = future.result(timeout=ANSWER)
-        except (self.cluster.dask.TimeoutError, OSError, KeyError, concurrent.futures.CancelledError):
+        except (self.cluster.dask.TimeoutError, concurrent.futures.CancelledError, OSError,
+                KeyError):
             return GONE, "the worker is gone"  # or frozen since: then the file is there
         words = ended.stderr.decode("utf-8", "backslashreplace").strip()
         return ended.returncode, words or f"ended with status {ended.returncode}"

@@ -1,4 +1,4 @@
-"""Where jobs are done. An engine does them side by side, and tells the first fault in their order."""
+"""Where jobs are done. An engine does them side by side, and tells the first of their faults."""
 import concurrent.futures
 import os
 from typing import Callable, Optional, Sequence

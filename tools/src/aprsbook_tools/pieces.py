@@ -1,5 +1,5 @@
-"""Logs cut into pieces of whole lines, each of what several logs have of about the same time, so that
-copies of a transmission meet at once. Where logs or clocks don't fit, that costs time alone."""
+"""Logs cut into pieces of whole lines, each of what several logs have of about the same time, so
+that copies of a transmission meet at once. Where clocks don't fit, that costs time alone."""
 import os
 import threading
 from typing import IO, Iterator, List, NamedTuple, Optional, Sequence, Tuple
@@ -81,8 +81,8 @@ def of(paths: Sequence[str], size: int) -> List[List[Range]]:
 
 
 class Feeder(threading.Thread):
-    """Writes the lines of ranges into a pipe, up to a line that was cut short. A range that can't be
-    read must not look like one that ended: `fault` says so."""
+    """Writes the lines of ranges into a pipe, up to a line that was cut short. A range that can't
+    be read must not look like one that ended: `fault` says so."""
 
     def __init__(self, ranges: Sequence[Range], into: int) -> None:
         super().__init__()

@@ -23,9 +23,10 @@ is made stays there, and a run that was cut goes on: take it away afterwards.
 With --parts N the book is made in a new folder BOOK, in about so many files: 0001.book and more,
 each with the rows of some stations.
 
-With --days FOLDER it keeps a book of each day there, and makes those again whose logs have changed;
-paths say the day, as logs/2024-06-21/RX1.log, or else first lines. Where a log is faulty, its day's book and BOOK stay, the other days' books are made, and the status
-is 1. A day whose logs are gone keeps its book."""
+With --days FOLDER it keeps a book of each day there, and makes those again whose logs have changed.
+Paths say the day, as logs/2024-06-21/RX1.log, or else first lines. Where a log is faulty, its day's
+book and BOOK stay, the other days' books are made, and the status is 1. A day whose logs are gone
+keeps its book."""
 
 
 def add_parser(subparsers: Subparsers) -> None:
