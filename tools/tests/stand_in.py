@@ -1,16 +1,23 @@
 #!/usr/bin/env python3
-"""A stand-in for aprsbook and aprsbook-fold in tests that are of what runs around them: its books
-are receptions, sorted, each once, which grow by merges as those of aprsbook do.
+"""A stand-in for the programs in tests that are of what runs around them: its books are receptions,
+sorted, each once, which grow by merges as those of aprsbook do. A station is all of one minute.
 
-usage: aprsbook merge|widen [--gap] SECONDS [--] [FILE..]    aprsbook-fold --gap SECONDS FILE..
-       aprsbook --version
+usage: aprsbook merge|widen [--gap] SECONDS [--] [FILE..]
+       aprsbook-fold --gap SECONDS [--from SOURCE] [--until SOURCE] FILE..
+       aprsbook-table stations --gap SECONDS -- FILE..
+       any of them: --version, --help
 """
+import argparse
+import collections
 import os
 import re
 import sys
 from typing import List, NoReturn, Set
 
 PROGRAM = os.path.basename(sys.argv[0])
+COLUMNS = ("source transmissions last receiver stamp latitude longitude ambiguity compressed "
+           "symbol text status_last status_receiver status_stamp status_text").split()
+SOURCE = 16  # characters of a row
 
 
 def fail(words: str, status: int = 1) -> NoReturn:
@@ -51,23 +58,46 @@ def read(path: str, gap: int, widen: bool) -> Set[str]:
     return {re.sub(r"(:\d\d)Z", r"\1.000Z", line) for line in text.splitlines()}
 
 
-def main() -> None:
-    if sys.argv[1:] in (["--version"], ["--help"]):
-        print(f"{PROGRAM} 0")
-        return
-    words: List[str] = [it for it in sys.argv[1:] if it not in ("merge", "widen", "--gap", "--")]
-    gap = int(words.pop(0))
-    if os.environ.get("STAND_IN_RUNS"):
-        with open(os.environ["STAND_IN_RUNS"], "a", encoding="utf-8") as file:
-            file.write(" ".join(words) + "\n")
-    widen = sys.argv[1] == "widen"
-    rows = sorted(set().union(*(read(it, gap, widen) for it in words or [""])))
-    text = "".join(f"{it}\n" for it in [f"APRSBOOK 3 {gap}", *rows, f"END {len(rows)}"])
+def stations(rows: List[str]) -> str:
+    """The table of stations, in the order of their rows."""
+    counts = collections.Counter(it[:SOURCE] for it in rows)
+    lines = [COLUMNS, *([source, str(count), *[""] * 13] for source, count in counts.items())]
+    return "".join("\t".join(line) + "\n" for line in lines)
+
+
+def write(text: str) -> None:
     try:
         with open(1, "wb", closefd=False) as out:
             out.write(text.encode())
     except OSError:
         fail("cannot write", 3)
+
+
+def main() -> None:
+    parser = argparse.ArgumentParser(PROGRAM)
+    parser.add_argument("--version", action="version", version=f"{PROGRAM} 0")
+    parser.add_argument("--gap", type=int)
+    if PROGRAM == "aprsbook-fold" and not os.environ.get("STAND_IN_WITHOUT_RANGES"):
+        parser.add_argument("--from", dest="since", default="")
+        parser.add_argument("--until", default="~")
+    parser.add_argument("words", nargs="*")
+    given = sys.argv[1:]
+    command = given.pop(0) if given and not given[0].startswith("-") else ""
+    if PROGRAM == "aprsbook-fold":
+        command, given = "", sys.argv[1:]
+    args = parser.parse_args(given)
+    words: List[str] = args.words
+    gap = int(words.pop(0)) if command == "widen" else args.gap or 30
+    if os.environ.get("STAND_IN_RUNS"):
+        with open(os.environ["STAND_IN_RUNS"], "a", encoding="utf-8") as file:
+            file.write(" ".join(words) + "\n")
+    rows = sorted(set().union(*(read(it, gap, command == "widen") for it in words or [""])))
+    if command == "stations":
+        write(stations(rows))
+        return
+    if "since" in args:
+        rows = [it for it in rows if args.since <= it[:SOURCE] < args.until]
+    write("".join(f"{it}\n" for it in [f"APRSBOOK 3 {gap}", *rows, f"END {len(rows)}"]))
 
 
 main()

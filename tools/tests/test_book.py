@@ -70,7 +70,7 @@ def club(request: pytest.FixtureRequest, tmp_path_factory: pytest.TempPathFactor
         if not shutil.which("aprsbook", path=PATH):
             pytest.skip("needs aprsbook")
         return Club(folder, PATH)
-    for name in "aprsbook", "aprsbook-fold":
+    for name in "aprsbook", "aprsbook-fold", "aprsbook-table":
         shutil.copy(HERE / "stand_in.py", bin / name)
         (bin / name).chmod(0o755)
     rest = [it for it in PATH.split(os.pathsep)
@@ -375,6 +375,7 @@ def test_a_book_that_few_programs_read_is_named(tmp_path: pathlib.Path) -> None:
 def test_parts_need_a_program_that_has_them(club: Club) -> None:
     club.lay("logs/HILL.log", "hill")
     club.book("--parts", "2", "--days", "days", "parts", "logs", status=2)
+    club.env["STAND_IN_WITHOUT_RANGES"] = "yes"
     if club.bin is not None:
         assert "--from" in club.book("--parts", "2", "parts", "logs", status=1)
         assert not club.path("parts").exists()
@@ -386,14 +387,21 @@ def test_parts_are_the_book(club: Club) -> None:
         pytest.skip("needs aprsbook-fold --from")
     for name in ALL:
         club.lay(f"logs/{name}.log", name)
-    assert club.book("--parts", "3", "parts", "logs") == ""
+    # and a book as it is, and one that is compressed
+    club.path("logs/hill.book").write_bytes(club.merged(30, "hill"))
+    club.path("logs/coast.book.gz").write_bytes(gzip.compress(club.merged(30, "coast")))
+    club.path("logs/coast.log").unlink()
+    assert club.book("--fan", "2", "--parts", "3", "parts", "logs") == ""
     parts = sorted(club.path("parts").iterdir())
-    assert 2 <= len(parts) <= 3
+    assert [it.name for it in parts] == ["0001.book", "0002.book", "0003.book"]
     done = subprocess.run(["aprsbook-fold", *parts], env=club.env, stdout=subprocess.PIPE)
     assert done.stdout == club.merged(30, *ALL)
-    # each row is in one part
+    # each row is in one part, and parts are about alike
     rows = [it.read_bytes().count(b"\n") - 2 for it in parts]
-    assert sum(rows) == done.stdout.count(b"\n") - 2 and min(rows) > 0
+    total = done.stdout.count(b"\n") - 2
+    assert sum(rows) == total and min(rows) > total // 6
+    assert club.names() == {"logs", "parts"} | {f"parts/{it.name}" for it in parts} | {
+        f"logs/{it}" for it in ("hill.log", "north.log", "hill.book", "coast.book.gz")}
     assert "is there" in club.book("--parts", "3", "parts", "logs", status=3)
 
 

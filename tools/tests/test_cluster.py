@@ -63,7 +63,7 @@ class Hosts:
 
     def lay_programs(self) -> None:
         """The programs, slow enough to be hit while they work."""
-        for name in "aprsbook", "aprsbook-fold":
+        for name in "aprsbook", "aprsbook-fold", "aprsbook-table":
             real = shutil.which(name)
             if not real or not shutil.which("aprsbook"):
                 real = str(self.bin / f"{name}.d" / name)
@@ -151,6 +151,21 @@ def test_the_bytes_of_one_merge(hosts: Hosts) -> None:
     (hosts.folder / "grown.book").write_bytes(hosts.merged(hosts.logs[0]).stdout)
     hosts.ends(hosts.merge("equal", "grown.book", *hosts.logs[1:], "grown.book"), 0)
     hosts.is_book("grown.book")
+
+
+def test_parts(hosts: Hosts) -> None:
+    """Parts stay as files, and their fold is the book."""
+    done = subprocess.run(["aprsbook-fold", "--help"], env=hosts.env, stdout=subprocess.PIPE)
+    if b"--from" not in done.stdout:
+        pytest.skip("needs aprsbook-fold --from")
+    run = hosts.start(*command("cluster", "--piece", 1, "--fan", 2, "--parts", 4, hosts.address,
+                               "equal", "parts", *hosts.logs))
+    hosts.ends(run, 0)
+    parts = sorted((hosts.folder / "parts").iterdir())
+    assert len(parts) == 4
+    done = subprocess.run(["aprsbook-fold", "--gap", "30", *parts], env=hosts.env,
+                          stdout=subprocess.PIPE)
+    assert done.stdout == hosts.expected
 
 
 def test_a_run_that_was_cut_goes_on(hosts: Hosts) -> None:
