@@ -27,6 +27,7 @@ except ImportError:  # not on Windows
 GAP = 30  # seconds, where nothing says another gap
 READ = 1 << 30  # bytes: no more of an input is read by programs that hold a book in memory
 Say = Callable[[str], None]
+PassOver = Callable[[str, str], None]  # is told of an input, and why it is passed over
 
 
 @dataclasses.dataclass
@@ -169,14 +170,14 @@ def old_book(path: str, wish: Wish) -> Optional[int]:
     return None if wish.anew else gap
 
 
-def usable(items: Sequence[Input], wish: Wish, say: Say) -> List[Input]:
+def usable(items: Sequence[Input], pass_over: Optional[PassOver] = None) -> List[Input]:
     """The inputs that can be read; others are passed over, where that is asked for."""
     result = []
     for it in items:
         if not it.fault:
             result.append(it)
-        elif wish.pass_over:
-            say(f"{it.path} is passed over: {it.fault}")
+        elif pass_over:
+            pass_over(it.path, it.fault)
         else:
             raise Fault(f"{it.path}: {it.fault}")
     return result
@@ -196,36 +197,40 @@ def make_locked(path: str, items: Sequence[Input], wish: Wish, say: Say) -> bool
         raise Fault(f"{path} has the gap {old}, and can't get the narrower one {gap}: "
                     "make it of the logs, with --anew")
     items = [it for it in items if not whole.is_same(it.path, path)]
-    made, count = made_of(gap, items), len(items)
+    made = made_of(gap, items)
     before = remembered(path) if wish.noted else {}
     if wish.noted and not wish.anew and made == {key: before.get(key) for key in made}:
         return False
-    items = usable(items, wish, say)
+    passed: List[str] = []
+
+    def pass_over(name: str, why: str) -> None:
+        say(f"{name} is passed over: {why}")
+        passed.append(name)
+
+    items = usable(items, pass_over if wish.pass_over else None)
     if wish.noted and not wish.anew:
         say_what_is_gone(path, before, items, say)
     with work_folder(path, wish, gap, items) as folder:
         plan = Plan(gap, folder, wish.piece, wish.most)
-        books = books_of(plan, items, wish, say)
-        passed_over = wish.pass_over and len(books) < count
+        books = books_of(plan, items, wish, pass_over)
         if old is not None:
             books.append(widened(path, old, gap, folder))
         if not books:
             return False
         with whole.writing(path) as new:
             building.write_book(plan, books, new.file)
-    if wish.noted and not passed_over:
+    if wish.noted and not passed:
         remember(path, made, before)
     say_what_is_large(path, say)
     return new.changed
 
 
-def books_of(plan: Plan, items: Sequence[Input], wish: Wish, say: Say) -> List[str]:
-    """At most so many books as are folded at once: of all inputs, or those that aren't passed
-    over."""
-    if not wish.pass_over:
-        return building.narrow(wish.engine, plan, *building.books_of(wish.engine, plan, items))
-    found = building.books_of_each(wish.engine, plan, items, say)
-    return building.narrow(wish.engine, plan, found, [])
+def books_of(plan: Plan, items: Sequence[Input], wish: Wish, pass_over: PassOver) -> List[str]:
+    """Books of inputs, at most so many as are folded at once."""
+    if wish.pass_over:
+        made = building.books_of_each(wish.engine, plan, items, pass_over)
+        return building.narrow(wish.engine, plan, made, [])
+    return building.narrow(wish.engine, plan, *building.books_of(wish.engine, plan, items))
 
 
 def say_what_is_large(path: str, say: Say) -> None:
@@ -240,8 +245,8 @@ def widened(path: str, old: int, gap: int, folder: str) -> str:
     """The book that is there, under a gap that may be wider."""
     if gap == old:
         return os.path.realpath(path)
-    into = os.path.join(folder, "widened.book")
-    with open(into, "wb") as file:
+    number, into = tempfile.mkstemp(".book", "widened-", folder)
+    with open(number, "wb") as file:
         programs.run("aprsbook", "widen", str(gap), os.path.realpath(path), into=file)
     return into
 
@@ -255,7 +260,7 @@ def make_parts(path: str, items: Sequence[Input], parts: int, wish: Wish, say: S
     if not jobs.has_ranges():
         raise Fault("parts need an aprsbook-fold that has --from and --until")
     gap = wish.gap or GAP
-    items = usable(items, wish, say)
+    items = usable(items)
     with work_folder(path, wish, gap, items) as folder:
         plan = Plan(gap, folder, wish.piece, wish.most)
         made, given = building.books_of(wish.engine, plan, items)

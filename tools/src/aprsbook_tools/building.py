@@ -69,8 +69,8 @@ def books_of(engine: Engine, plan: Plan, items: Sequence[Input]) -> Tuple[List[s
 
 
 def books_of_each(engine: Engine, plan: Plan, items: Sequence[Input],
-                  say: Callable[[str], None]) -> List[str]:
-    """A book of each input; what can't be one is named, and passed over."""
+                  pass_over: Callable[[str, str], None]) -> List[str]:
+    """Books of each input alone. An input that can't be one is passed over, with the reason."""
     todo: List[Job] = []
     names: Dict[str, str] = {}
     for number, it in enumerate(items):
@@ -86,7 +86,7 @@ def books_of_each(engine: Engine, plan: Plan, items: Sequence[Input],
     def passed(job: Job, fault: Fault) -> None:
         name = names[job.path]
         if name not in bad:
-            say(f"{name} is passed over: " + fault.words.replace(f"{name}: ", ""))
+            pass_over(name, fault.words.replace(f"{name}: ", ""))
         bad.add(name)
 
     engine.do("inputs", todo, passed)

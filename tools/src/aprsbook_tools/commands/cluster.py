@@ -55,7 +55,7 @@ def run(args: argparse.Namespace) -> int:
     except Fault as fault:
         # as they were typed
         for path, name in names.items():
-            if fault.words.startswith(path):
+            if fault.words.startswith((f"{path}:", os.path.join(path, ""))):
                 fault.words = name + fault.words[len(path):]
                 break
         raise
