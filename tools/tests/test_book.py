@@ -264,6 +264,10 @@ def test_leftovers_are_no_inputs_and_a_users_files_stay(club: Club) -> None:
             ".net.book.abcdefgh.aprs-net-work", "net.book.tmp", "#net.book#":
         club.path(f"logs/{name}").write_bytes(b"not a book\n")
         os.utime(club.path(f"logs/{name}"), (0, 0))
+    left = club.path("logs/.net.book.abcd0123.aprs-net-work")
+    left.mkdir()
+    (left / "piece-000000.book").write_bytes(b"a piece\n")
+    os.utime(left, (0, 0))
     club.book("logs/net.book", "logs")
     assert club.read("logs/net.book") == club.merged(30, "hill")
     # that of a run that was killed goes, after a day; nothing else does

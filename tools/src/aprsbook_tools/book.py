@@ -8,8 +8,10 @@ import dataclasses
 import hashlib
 import json
 import os
+import re
 import shutil
 import tempfile
+import time
 from typing import Any, Callable, Dict, Iterator, List, Optional, Sequence
 
 from aprsbook_tools import building, engines, errors, inputs, jobs, programs, progress, whole
@@ -26,6 +28,7 @@ except ImportError:  # not on Windows
 
 GAP = 30  # seconds, where nothing says another gap
 READ = 1 << 30  # bytes: no more of an input is read by programs that hold a book in memory
+WORK = ".aprs-net-work"  # with which the name of a folder ends that goes away
 Say = Callable[[str], None]
 PassOver = Callable[[str, str], None]  # is told of an input, and why it is passed over
 
@@ -85,15 +88,26 @@ def work_folder(path: str, wish: Wish, gap: int, items: Sequence[Input]) -> Iter
         yield folder
         return
     real = os.path.realpath(path)
+    remove_leftovers(real)
     try:
-        folder = tempfile.mkdtemp(".aprs-net-work", f".{os.path.basename(real)}.",
-                                  os.path.dirname(real))
+        folder = tempfile.mkdtemp(WORK, f".{os.path.basename(real)}.", os.path.dirname(real))
     except OSError as fault:
         raise Fault(f"{path}: {fault.strerror}", 3) from fault
     try:
         yield folder
     finally:
         shutil.rmtree(folder, ignore_errors=True)
+
+
+def remove_leftovers(real: str) -> None:
+    """Takes away the folders that runs which were killed have left of this book, after a day."""
+    at, name = os.path.split(real)
+    form = re.compile(re.escape("." + name) + r"\.[a-z0-9_]{8}" + re.escape(WORK))
+    with contextlib.suppress(OSError):
+        for it in os.scandir(at):
+            if form.fullmatch(it.name) and it.is_dir(follow_symlinks=False) \
+                    and time.time() - it.stat().st_mtime > whole.DAY:
+                shutil.rmtree(it.path, ignore_errors=True)
 
 
 # ---- of what a book was made ----
