@@ -1,11 +1,11 @@
 #!/usr/bin/env python3
-"""Merges of logs, and of the book files of their days, by one process and by aprs-net book with one
-to four processors, and places of the logs: seconds, beside the one process, and the greatest memory
-of a process.
+"""Merges of logs, and of the book files of their days, by one process, by aprs-net book with one to
+four processors, and by aprs-net cluster with 1, 2 and 4 workers, where Dask is there; and places of
+the logs: seconds, those of processors, and the greatest memory of a process.
 
-usage: engines.py PROGRAM HISTORY FOLDER LINES..    needs taskset and aprsbook-table. The inputs
-                                                    of so many lines stay in FOLDER, and aren't made
-                                                    again
+usage: engines.py PROGRAM FOLDER LINES..    needs taskset; the other programs lie beside PROGRAM or
+                                            where they are built. The inputs of so many lines stay
+                                            in FOLDER, and aren't made again
        engines.py --inputs PROGRAM FOLDER LINES..   makes the inputs alone
 """
 import os
@@ -18,19 +18,32 @@ import time
 
 HERE = pathlib.Path(__file__).resolve().parent
 DAYS = 16
+SCHEDULER = "127.0.0.1:8799"
+NAMES = "aprsbook", "aprsbook-table", "aprsbook-fold"
 
 
-def run(*command, to=None):
-    """Seconds, and MiB of the greatest process that it starts."""
-    begin = time.monotonic()
-    with open(to or os.devnull, "wb") as out:
-        # held, since what nobody holds is waited for by itself
-        started = subprocess.Popen(list(map(str, command)), stdout=out)
-        _, status, used = os.wait4(started.pid, 0)
-        started.returncode = status
-    if status:
-        sys.exit(f"engines.py: {command[:4]} failed")
-    return time.monotonic() - begin, used.ru_maxrss / 1024
+class Run:
+    """A process: the seconds that it took, those of processors, and MiB of the greatest process
+    that it started."""
+
+    def __init__(self, *command, to=os.devnull):
+        self.begin = time.monotonic()
+        with open(to, "wb") as out:
+            # held, since what nobody holds is waited for by itself
+            self.started = subprocess.Popen(list(map(str, command)), stdout=out)
+
+    def wait(self, may_fail=False):
+        _, status, used = os.wait4(self.started.pid, 0)
+        self.started.returncode = status
+        if status and not may_fail:
+            sys.exit(f"engines.py: {self.started.args[:4]} failed")
+        self.took = time.monotonic() - self.begin
+        self.used = used.ru_utime + used.ru_stime
+        self.most = used.ru_maxrss / 1024
+        return self
+
+    def __str__(self):
+        return f"{self.took:.1f} s, {self.used:.1f} of processors, {self.most:.0f} MiB"
 
 
 def days_of(folder, lines):
@@ -45,7 +58,7 @@ def days_of(folder, lines):
         log.unlink()
 
 
-def make_inputs(program, folder, lines):
+def make_inputs(folder, lines):
     if folder.is_dir():
         return
     new = folder.with_name(folder.name + ".new")
@@ -53,36 +66,72 @@ def make_inputs(program, folder, lines):
     (new / "books").mkdir(parents=True)
     days_of(new, lines)
     for day in (new / "logs").iterdir():
-        run(program, "merge", *sorted(day.iterdir()), to=new / "books" / (day.name + ".book"))
+        book = new / "books" / f"{day.name}.book"
+        Run("aprsbook", "merge", *sorted(day.iterdir()), to=book).wait()
     new.rename(folder)
+
+
+def same(folder, path):
+    # not read here: a process begins with the memory of the one that starts it
+    subprocess.run(["cmp", folder / "one", path], check=True)
 
 
 def measure(folder, lines):
     for kind in "logs", "books":
         inputs = sorted(path for path in (folder / kind).rglob("*") if path.is_file())
-        one, memory = run("aprsbook", "merge", *inputs, to=folder / "one")
-        print(f"{lines} lines, {kind}: one process {one:.1f} s, {memory:.0f} MiB", flush=True)
+        one = Run("aprsbook", "merge", *inputs, to=folder / "one").wait()
+        print(f"{lines} lines, {kind}: one process {one}", flush=True)
         for n in 1, 2, 3, 4:
-            took, most = run("taskset", "-c", f"0-{n - 1}", "aprs-net", "book",
-                             "--anew", "--jobs", n, folder / "tree.book", folder / kind)
-            # not read here: a process begins with the memory of the one that starts it
-            subprocess.run(["cmp", folder / "one", folder / "tree.book"], check=True)
-            print(f"    {n} processors: {took:.1f} s ({one / took:.2f} times as fast), {most:.0f} MiB",
-                  flush=True)
+            book = folder / "tree.book"
+            book.unlink(missing_ok=True)
+            some = "taskset", "-c", f"0-{n - 1}"
+            run = Run(*some, "aprs-net", "book", "--jobs", n, book, folder / kind).wait()
+            same(folder, book)
+            print(f"    {n} processors: {run}", flush=True)
         if kind == "logs":
-            took, most = run("aprs-net", "places", *inputs)
-            print(f"    places: {took:.1f} s ({took / one:.2f} of the merge), {most:.0f} MiB", flush=True)
+            if shutil.which("dask-worker"):
+                measure_cluster(folder)
+            print(f"    places: {Run('aprs-net', 'places', *inputs).wait()}", flush=True)
+
+
+def measure_cluster(folder):
+    """The book by workers of this machine; their sums are those of all that they started."""
+    for n in 1, 2, 4:
+        with tempfile.TemporaryDirectory(dir=folder) as work:
+            host, port = SCHEDULER.split(":")
+            hosts = [Run("dask-scheduler", "--host", host, "--port", port, "--no-dashboard")]
+            for _ in range(n):
+                hosts.append(Run("dask-worker", f"tcp://{SCHEDULER}", "--nthreads", 1, "--no-nanny",
+                                 "--no-dashboard", "--memory-limit", 0, "--local-directory",
+                                 tempfile.mkdtemp(dir=work)))
+            time.sleep(10)
+            book = folder / "cluster.book"
+            book.unlink(missing_ok=True)
+            client = Run("aprs-net", "cluster", "--piece", 64, f"tcp://{SCHEDULER}", f"{work}/work",
+                         book, folder / "logs").wait()
+            same(folder, book)
+            for it in hosts:
+                it.started.kill()
+                it.wait(may_fail=True)
+            used = sum(it.used for it in [client, *hosts])
+            most = max(it.most for it in [client, *hosts])
+            print(f"    {n} workers: {client.took:.1f} s, {used:.1f} of processors, {most:.0f} MiB",
+                  flush=True)
 
 
 def main():
     made_alone = sys.argv[1] == "--inputs"
-    *programs, folder = map(pathlib.Path, sys.argv[2:4] if made_alone else sys.argv[1:4])
-    with tempfile.TemporaryDirectory() as name:
-        for path, program in zip(programs, ("aprsbook", "aprsbook-table")):
-            pathlib.Path(name, program).symlink_to(path.resolve())
-        os.environ["PATH"] = f"{name}:{HERE.parent}/tools/bin:{HERE.parent}/examples/recipes:" + os.environ["PATH"]
-        for text in sys.argv[4:]:
-            make_inputs(programs[0], folder / text, int(text))
+    program, folder = map(pathlib.Path, sys.argv[2:4] if made_alone else sys.argv[1:3])
+    program = program.resolve()
+    with tempfile.TemporaryDirectory() as bin_folder:
+        for name in NAMES:
+            crate = name.replace("-", "_")
+            for path in program.parent / name, program.parents[2] / crate / "out" / crate:
+                if path.is_file() and not pathlib.Path(bin_folder, name).exists():
+                    pathlib.Path(bin_folder, name).symlink_to(path)
+        os.environ["PATH"] = f"{bin_folder}:{HERE.parent}/tools/bin:" + os.environ["PATH"]
+        for text in sys.argv[4 if made_alone else 3:]:
+            make_inputs(folder / text, int(text))
             if not made_alone:
                 measure(folder / text, int(text))
 

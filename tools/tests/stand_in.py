@@ -1,20 +1,28 @@
 #!/usr/bin/env python3
-"""A stand-in for aprsbook and aprsbook-fold in tests that are of what runs around them: its books
-are receptions, sorted, each once, which grow by merges as those of aprsbook do.
+"""A stand-in for the programs in tests that are of what runs around them: its books are receptions,
+sorted, each once, which grow by merges as those of aprsbook do. A station is all of one minute.
 
-usage: aprsbook merge|widen [--gap] SECONDS [--] FILE..    aprsbook-fold --gap SECONDS FILE..
+usage: aprsbook merge|widen [--gap] SECONDS [--] [FILE..]
+       aprsbook-fold --gap SECONDS [--from SOURCE] [--until SOURCE] FILE..
+       aprsbook-table stations --gap SECONDS -- FILE..
+       any of them: --version, --help
 """
+import argparse
+import collections
 import os
 import re
 import sys
-from typing import List, Set
+from typing import List, NoReturn, Set
 
 PROGRAM = os.path.basename(sys.argv[0])
+COLUMNS = ("source transmissions last receiver stamp latitude longitude ambiguity compressed "
+           "symbol text status_last status_receiver status_stamp status_text").split()
+SOURCE = 16  # characters of a row
 
 
-def fail(words: str) -> None:
+def fail(words: str, status: int = 1) -> NoReturn:
     print(f"{PROGRAM}: {words}", file=sys.stderr)
-    sys.exit(1)
+    sys.exit(status)
 
 
 def read_book(path: str, text: str, gap: int, widen: bool) -> Set[str]:
@@ -29,10 +37,11 @@ def read_book(path: str, text: str, gap: int, widen: bool) -> Set[str]:
 
 def read(path: str, gap: int, widen: bool) -> Set[str]:
     try:
-        with open(path, encoding="ascii") as file:
+        with open(path or 0, encoding="ascii") as file:
             text = file.read()
     except OSError:
         fail(f"{path}: cannot open")
+    path = path or "standard input"
     if text.startswith("APRSBOOK"):
         return read_book(path, text, gap, widen)
     if PROGRAM == "aprsbook-fold":
@@ -40,20 +49,55 @@ def read(path: str, gap: int, widen: bool) -> Set[str]:
     if text and not text.endswith("\n"):
         fail(f"{path}: line {text.count(chr(10)) + 1}: NoNewline")
     for number, line in enumerate(text.splitlines(), 1):
+        if len(line) > 8192:
+            fail(f"{path}: line {number}: LongLine")
         if not re.fullmatch(r"\S{20,24} \S{1,16} [0-9a-f]*", line):
             fail(f"{path}: line {number}: Moment")
+        if len(line.split(" ")[2]) % 2:
+            fail(f"{path}: line {number}: Hex")
     return {re.sub(r"(:\d\d)Z", r"\1.000Z", line) for line in text.splitlines()}
 
 
+def stations(rows: List[str]) -> str:
+    """The table of stations, in the order of their rows."""
+    counts = collections.Counter(it[:SOURCE] for it in rows)
+    lines = [COLUMNS, *([source, str(count), *[""] * 13] for source, count in counts.items())]
+    return "".join("\t".join(line) + "\n" for line in lines)
+
+
+def write(text: str) -> None:
+    try:
+        with open(1, "wb", closefd=False) as out:
+            out.write(text.encode())
+    except OSError:
+        fail("cannot write", 3)
+
+
 def main() -> None:
-    words: List[str] = [it for it in sys.argv[1:] if it not in ("merge", "widen", "--gap", "--")]
-    gap = int(words.pop(0))
+    parser = argparse.ArgumentParser(PROGRAM)
+    parser.add_argument("--version", action="version", version=f"{PROGRAM} 0")
+    parser.add_argument("--gap", type=int)
+    if PROGRAM == "aprsbook-fold" and not os.environ.get("STAND_IN_WITHOUT_RANGES"):
+        parser.add_argument("--from", dest="since", default="")
+        parser.add_argument("--until", default="~")
+    parser.add_argument("words", nargs="*")
+    given = sys.argv[1:]
+    command = given.pop(0) if given and not given[0].startswith("-") else ""
+    if PROGRAM == "aprsbook-fold":
+        command, given = "", sys.argv[1:]
+    args = parser.parse_args(given)
+    words: List[str] = args.words
+    gap = int(words.pop(0)) if command == "widen" else args.gap or 30
     if os.environ.get("STAND_IN_RUNS"):
         with open(os.environ["STAND_IN_RUNS"], "a", encoding="utf-8") as file:
             file.write(" ".join(words) + "\n")
-    rows = sorted(set().union(*(read(it, gap, sys.argv[1] == "widen") for it in words)))
-    text = "".join(f"{it}\n" for it in [f"APRSBOOK 3 {gap}", *rows, f"END {len(rows)}"])
-    os.write(1, text.encode())
+    rows = sorted(set().union(*(read(it, gap, command == "widen") for it in words or [""])))
+    if command == "stations":
+        write(stations(rows))
+        return
+    if "since" in args:
+        rows = [it for it in rows if args.since <= it[:SOURCE] < args.until]
+    write("".join(f"{it}\n" for it in [f"APRSBOOK 3 {gap}", *rows, f"END {len(rows)}"]))
 
 
 main()

@@ -13,7 +13,8 @@ from typing import Callable, Dict, List, Optional, Set, Tuple
 
 import pytest
 
-from conftest import EVENING, HERE, command, environment, started, tried
+from aprsbook_tools import book, moments
+from conftest import EVENING, HERE, command, environment, started, tried, wait_for
 
 PATH = os.environ["PATH"]
 
@@ -69,7 +70,7 @@ def club(request: pytest.FixtureRequest, tmp_path_factory: pytest.TempPathFactor
         if not shutil.which("aprsbook", path=PATH):
             pytest.skip("needs aprsbook")
         return Club(folder, PATH)
-    for name in "aprsbook", "aprsbook-fold":
+    for name in "aprsbook", "aprsbook-fold", "aprsbook-table":
         shutil.copy(HERE / "stand_in.py", bin / name)
         (bin / name).chmod(0o755)
     rest = [it for it in PATH.split(os.pathsep)
@@ -263,6 +264,10 @@ def test_leftovers_are_no_inputs_and_a_users_files_stay(club: Club) -> None:
             ".net.book.abcdefgh.aprs-net-work", "net.book.tmp", "#net.book#":
         club.path(f"logs/{name}").write_bytes(b"not a book\n")
         os.utime(club.path(f"logs/{name}"), (0, 0))
+    left = club.path("logs/.net.book.abcd0123.aprs-net-work")
+    left.mkdir()
+    (left / "piece-000000.book").write_bytes(b"a piece\n")
+    os.utime(left, (0, 0))
     club.book("logs/net.book", "logs")
     assert club.read("logs/net.book") == club.merged(30, "hill")
     # that of a run that was killed goes, after a day; nothing else does
@@ -283,17 +288,125 @@ def test_more_than_1024_files(club: Club) -> None:
     assert club.read() == club.merged(30, *ALL)
 
 
-def test_many_days_are_dealt_into_parts_and_each_day_is_whole(club: Club) -> None:
-    for day in range(10, 30):
-        for name in "hill", "coast":
-            club.lay(f"logs/2024-06-{day}/{name}.log", name)
-    club.book("net.book", "logs")
-    assert club.read() == club.merged(30, "hill", "coast")
-    runs = [it.split() for it in club.runs.read_text().splitlines() if "hill" in it]
-    if club.runs.stat().st_size:
-        assert len(runs) >= 16
-        for day in range(10, 30):
-            assert len([it for it in runs if any(f"06-{day}" in word for word in it)]) == 1
+def write_large(club: Club, name: str, megabytes: int) -> List[bytes]:
+    """A log of many lines of the evening, each at another moment; its lines."""
+    line, moment = club.lay("kept", "hill").read_bytes().splitlines()[0], 1_718_992_800_000
+    frame = line.split(b" ", 1)[1] + b"\n"
+    lines = []
+    for number in range(megabytes * 1_100_000 // (25 + len(frame))):
+        moment += 31_000
+        lines.append(moments.text_of(moment).encode() + b" " + frame)
+    club.path(name).parent.mkdir(parents=True, exist_ok=True)
+    club.path(name).write_bytes(b"".join(lines))
+    return lines
+
+
+def runs_of(club: Club) -> int:
+    return len(club.runs.read_text().splitlines())
+
+
+@pytest.mark.parametrize("fan", ["2", "64"])
+def test_a_large_log_in_pieces(club: Club, fan: str) -> None:
+    write_large(club, "logs/HILL.log", 5)
+    few = "--piece", "1", "--fan", fan, "net.book", "logs"
+    assert club.book(*few) == ""
+    if club.bin is not None:
+        assert runs_of(club) >= 6
+    whole = subprocess.run(["aprsbook", "merge", "--gap", "30", club.path("logs/HILL.log")],
+                           env=club.env, stdout=subprocess.PIPE, check=True).stdout
+    assert club.read() == whole
+    # compressed too
+    with gzip.open(club.path("logs/HILL.log.gz"), "wb", 1) as packed:
+        packed.write(club.path("logs/HILL.log").read_bytes())
+    club.path("logs/HILL.log").unlink()
+    club.book("--anew", *few)
+    assert club.read() == whole and club.names() >= {"net.book", "logs/HILL.log.gz"}
+    assert not [it for it in club.names() if "work" in it]
+
+
+@pytest.mark.parametrize("packed", [False, True])
+@pytest.mark.parametrize("at", [3, -3])
+def test_a_fault_in_a_piece_is_named_as_in_the_whole_log(club: Club, at: int, packed: bool) -> None:
+    lines = write_large(club, "HILL.log", 4)
+    lines[at] = b"noise\n"
+    club.path("HILL.log").write_bytes(b"".join(lines))
+    if packed:
+        with gzip.open(club.path("HILL.log.gz"), "wb", 1) as file:
+            file.write(b"".join(lines))
+    name = "HILL.log.gz" if packed else "HILL.log"
+    number = at + 1 if at > 0 else len(lines) + at + 1
+    said = club.book("--piece", "1", "net.book", name, status=1)
+    assert said == f"aprsbook: {name}: line {number}: Moment\n"
+    assert not club.path("net.book").exists()
+
+
+def test_a_book_within_a_log_is_no_book(club: Club) -> None:
+    """Also where a piece begins with it."""
+    lines = write_large(club, "HILL.log", 3)
+    book = club.merged(30, "coast")
+    for at in len(lines) // 3, len(lines) * 2 // 3:
+        text = b"".join([*lines[:at], book, *lines[at:]])
+        club.path("HILL.log").write_bytes(text)
+        said = club.book("--piece", "1", "net.book", "HILL.log", status=1)
+        assert said == f"aprsbook: HILL.log: line {at + 1}: Moment\n"
+
+
+def test_a_run_that_was_killed_goes_on(club: Club) -> None:
+    write_large(club, "logs/HILL.log", 4)
+    words = "book", "--piece", "1", "--jobs", "1", "--work", "work", "net.book", "logs"
+    run = started(*words, cwd=club.folder, env=club.env)
+    wait_for(lambda: list(club.folder.glob("work/*/*.sum")), "a piece", 60)
+    run.kill()
+    run.wait()
+    made = {it: it.stat().st_mtime_ns for it in club.folder.glob("work/*/*.sum")}
+    assert made and not club.path("net.book").exists()
+    club.book(*words[1:])
+    assert all(it.stat().st_mtime_ns == made[it] for it in made)
+    whole = subprocess.run(["aprsbook", "merge", "--gap", "30", club.path("logs/HILL.log")],
+                           env=club.env, stdout=subprocess.PIPE, check=True).stdout
+    assert club.read() == whole
+
+
+def test_a_book_that_few_programs_read_is_named(tmp_path: pathlib.Path) -> None:
+    said: List[str] = []
+    for size in (1 << 30) + 1, 1 << 30:
+        with open(tmp_path / "net.book", "wb") as file:
+            file.truncate(size)
+        book.say_what_is_large(str(tmp_path / "net.book"), said.append)
+    assert len(said) == 1 and "aprsbook-fold" in said[0] and "--parts" in said[0]
+
+
+def test_parts_need_a_program_that_has_them(club: Club) -> None:
+    club.lay("logs/HILL.log", "hill")
+    club.book("--parts", "2", "--days", "days", "parts", "logs", status=2)
+    club.env["STAND_IN_WITHOUT_RANGES"] = "yes"
+    if club.bin is not None:
+        assert "--from" in club.book("--parts", "2", "parts", "logs", status=1)
+        assert not club.path("parts").exists()
+
+
+def test_parts_are_the_book(club: Club) -> None:
+    done = subprocess.run(["aprsbook-fold", "--help"], env=club.env, capture_output=True)
+    if b"--from" not in done.stdout:
+        pytest.skip("needs aprsbook-fold --from")
+    for name in ALL:
+        club.lay(f"logs/{name}.log", name)
+    # and a book as it is, and one that is compressed
+    club.path("logs/hill.book").write_bytes(club.merged(30, "hill"))
+    club.path("logs/coast.book.gz").write_bytes(gzip.compress(club.merged(30, "coast")))
+    club.path("logs/coast.log").unlink()
+    assert club.book("--fan", "2", "--parts", "3", "parts", "logs") == ""
+    parts = sorted(club.path("parts").iterdir())
+    assert [it.name for it in parts] == ["0001.book", "0002.book", "0003.book"]
+    done = subprocess.run(["aprsbook-fold", *parts], env=club.env, stdout=subprocess.PIPE)
+    assert done.stdout == club.merged(30, *ALL)
+    # each row is in one part, and parts are about alike
+    rows = [it.read_bytes().count(b"\n") - 2 for it in parts]
+    total = done.stdout.count(b"\n") - 2
+    assert sum(rows) == total and min(rows) > total // 6
+    assert club.names() == {"logs", "parts"} | {f"parts/{it.name}" for it in parts} | {
+        f"logs/{it}" for it in ("hill.log", "north.log", "hill.book", "coast.book.gz")}
+    assert "is there" in club.book("--parts", "3", "parts", "logs", status=3)
 
 
 # ---- books of days ----
@@ -381,10 +494,10 @@ def test_a_fault_of_this_machine_is_no_fault_of_a_book(club: Club) -> None:
     club.path("in/coast.book").write_bytes(club.merged(60, "coast"))
     if club.bin is None:
         pytest.skip("needs the stand-in")
-    program = club.bin / "aprsbook"
-    program.write_text("#!/bin/sh\necho 'aprsbook: cannot write' >&2\nexit 3\n")
+    program = club.bin / "aprsbook-fold"
+    program.write_text("#!/bin/sh\necho 'aprsbook-fold: cannot write' >&2\nexit 3\n")
     said = club.book("--pass-over", "own.book", "in", status=3)
-    assert said == "aprsbook: cannot write\n"
+    assert said == "aprsbook-fold: cannot write\n"
 
 
 def test_a_killed_run_leaves_the_old_book_or_the_new_one(club: Club) -> None:

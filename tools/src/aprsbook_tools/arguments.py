@@ -45,3 +45,13 @@ def add_output(parser: argparse.ArgumentParser) -> None:
     """-o FILE, in `output`; standard output where it isn't given."""
     parser.add_argument("-o", dest="output", metavar="FILE",
                         help="write there, whole or not at all; otherwise to standard output")
+
+
+def add_pieces(parser: argparse.ArgumentParser, megabytes: int) -> None:
+    """How a book is made of pieces of logs: --piece, --fan and --parts."""
+    parser.add_argument("--piece", type=whole_number(1, 1000), default=megabytes, metavar="MB",
+                        help=f"merge so many megabytes of logs at once ({megabytes})")
+    parser.add_argument("--fan", type=whole_number(2, 1000), default=64, metavar="N",
+                        help="fold at most so many books at once (64)")
+    parser.add_argument("--parts", type=whole_number(1, 9999), default=0, metavar="N",
+                        help="make a folder of about so many parts, by stations")

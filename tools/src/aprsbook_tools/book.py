@@ -1,4 +1,4 @@
-"""Makes books of logs and books: in parts, side by side, and only where something has changed.
+"""Makes books of logs and books, only where something has changed.
 
 A book only grows: what it has stays, also where a log is gone, unless it is made anew.
 """
@@ -8,13 +8,18 @@ import dataclasses
 import hashlib
 import json
 import os
+import re
 import shutil
 import tempfile
+import time
 from typing import Any, Callable, Dict, Iterator, List, Optional, Sequence
 
-from aprsbook_tools import inputs, programs, progress, whole
-from aprsbook_tools.errors import FAULTY, Fault
+from aprsbook_tools import building, engines, errors, inputs, jobs, programs, progress, whole
+from aprsbook_tools.building import MOST, Plan
+from aprsbook_tools.engines import Engine
+from aprsbook_tools.errors import Fault
 from aprsbook_tools.inputs import Input
+from aprsbook_tools.pieces import MEGABYTE
 
 try:
     import fcntl
@@ -22,19 +27,26 @@ except ImportError:  # not on Windows
     fcntl = None  # type: ignore[assignment]
 
 GAP = 30  # seconds, where nothing says another gap
-MOST = 64  # inputs of one merge
-PARTS = 16  # at least so many parts, where there are so many days
+READ = 1 << 30  # bytes: no more of an input is read by programs that hold a book in memory
+WORK = ".aprs-net-work"  # with which the name of a folder ends that goes away
 Say = Callable[[str], None]
+PassOver = Callable[[str, str], None]  # is told of an input, and why it is passed over
 
 
 @dataclasses.dataclass
 class Wish:
-    """What is asked for: the gap, or None for that of the book; how many merges side by side;
-    whether books are made anew; and whether faulty inputs are passed over."""
+    """What is asked for: the gap, or None for that of the book; where jobs are done; whether books
+    are made anew, and whether faulty inputs are passed over. How many bytes of logs are merged at
+    once, and how many books folded; the folder in which a run that was cut goes on, or nothing; and
+    whether it is noted of what a book was made."""
     gap: Optional[int] = None
-    jobs: int = 1
+    engine: Engine = dataclasses.field(default_factory=lambda: engines.Here(1))
     anew: bool = False
     pass_over: bool = False
+    piece: int = 64 * MEGABYTE
+    most: int = MOST
+    work: str = ""
+    noted: bool = True
 
 
 def beside(path: str, ending: str) -> str:
@@ -61,18 +73,41 @@ def locked(path: str) -> Iterator[None]:
 
 
 @contextlib.contextmanager
-def work_folder(path: str) -> Iterator[str]:
-    """A folder that goes away, beside a book, since parts are as large as the book."""
+def work_folder(path: str, wish: Wish, gap: int, items: Sequence[Input]) -> Iterator[str]:
+    """A folder that goes away, beside a book, since pieces are as large as the book; or a folder
+    that stays, in the one that is asked for, with a name for these inputs and wishes."""
+    if wish.work:
+        alike = [jobs.version(), gap, wish.piece, wish.most, [
+            (os.path.abspath(it.path), it.size, it.changed) for it in items]]
+        name = hashlib.sha256(json.dumps(alike).encode()).hexdigest()[:16]
+        folder = os.path.join(os.path.abspath(wish.work), name)
+        try:
+            os.makedirs(folder, exist_ok=True)
+        except OSError as fault:
+            raise Fault(f"{wish.work}: {fault.strerror}", 3) from fault
+        yield folder
+        return
     real = os.path.realpath(path)
+    remove_leftovers(real)
     try:
-        folder = tempfile.mkdtemp(".aprs-net-work", f".{os.path.basename(real)}.",
-                                  os.path.dirname(real))
+        folder = tempfile.mkdtemp(WORK, f".{os.path.basename(real)}.", os.path.dirname(real))
     except OSError as fault:
         raise Fault(f"{path}: {fault.strerror}", 3) from fault
     try:
         yield folder
     finally:
         shutil.rmtree(folder, ignore_errors=True)
+
+
+def remove_leftovers(real: str) -> None:
+    """Takes away the folders that runs which were killed have left of this book, after a day."""
+    at, name = os.path.split(real)
+    form = re.compile(re.escape("." + name) + r"\.[a-z0-9_]{8}" + re.escape(WORK))
+    with contextlib.suppress(OSError):
+        for it in os.scandir(at):
+            if form.fullmatch(it.name) and it.is_dir(follow_symlinks=False) \
+                    and time.time() - it.stat().st_mtime > whole.DAY:
+                shutil.rmtree(it.path, ignore_errors=True)
 
 
 # ---- of what a book was made ----
@@ -135,98 +170,6 @@ def say_what_is_gone(path: str, before: Dict[str, Any], items: Sequence[Input], 
                 "made --anew")
 
 
-# ---- merges ----
-
-def merge(gap: int, paths: Sequence[str], into: str) -> None:
-    """The book of logs and books, by aprsbook."""
-    with open(into, "wb") as file:
-        programs.run("aprsbook", "merge", "--gap", str(gap), "--", *paths, into=file)
-
-
-def fold(gap: int, paths: Sequence[str], file: Any) -> None:
-    """The book of books: by aprsbook-fold, which holds a row of each, or else by aprsbook."""
-    if programs.is_there("aprsbook-fold"):
-        programs.run("aprsbook-fold", "--gap", str(gap), *paths, into=file)
-    else:
-        programs.run("aprsbook", "merge", "--gap", str(gap), "--", *paths, into=file)
-
-
-def deal(items: Sequence[Input], parts: int) -> List[List[Input]]:
-    """Deals inputs, in the order of their days, into parts of like size. Days stay whole where
-    there are enough of them, so that a part has what all receivers heard of a transmission."""
-    total = sum(it.size for it in items) + 1
-    days = len({it.day for it in items})
-    result: List[List[Input]] = []
-    before, at, last = 0, -1, None
-    now = 0
-    for it in items:
-        if it.day != last or days < parts:
-            now = before * parts // total
-        if not result or now != at or len(result[-1]) == MOST:
-            result.append([])
-        result[-1].append(it)
-        last, at, before = it.day, now, before + it.size
-    return result
-
-
-def make_part(gap: int, items: Sequence[Input], folder: str, number: int) -> str:
-    """A part's book, in a folder of its own."""
-    at = os.path.join(folder, f"{number:06}")
-    os.mkdir(at)
-    into = f"{at}.book"
-    try:
-        merge(gap, list(inputs.plain(items, at)), into)
-    except Fault as fault:
-        # a file that was unpacked is known by its own name
-        names = {os.path.join(at, f"{n:06}.unpacked"): it.path for n, it in enumerate(items)}
-        for unpacked, name in names.items():
-            fault.words = fault.words.replace(unpacked, name)
-        raise
-    finally:
-        shutil.rmtree(at, ignore_errors=True)
-    return into
-
-
-def make_parts(parts: Sequence[Sequence[Input]], gap: int, folder: str, wish: Wish,
-               say: Say) -> List[str]:
-    """The books of all parts, as many at a time as are asked for."""
-    books: List[str] = []
-    with concurrent.futures.ThreadPoolExecutor(wish.jobs) as pool:
-        waiting = [pool.submit(make_part, gap, part, folder, number)
-                   for number, part in enumerate(parts)]
-        try:
-            for part, it in progress.counted(zip(parts, waiting), "parts", len(parts)):
-                try:
-                    books.append(it.result())
-                except Fault as fault:
-                    if not (wish.pass_over and fault.status == FAULTY):
-                        raise
-                    words = fault.words.replace(f"{part[0].path}: ", "")
-                    say(f"{part[0].path} is passed over: {words}")
-        finally:
-            for it in waiting:
-                it.cancel()
-    return books
-
-
-def fold_rounds(gap: int, books: List[str], folder: str) -> List[str]:
-    """At most MOST books of which the result is the same."""
-    number = 0
-    while len(books) > MOST:
-        groups = [books[at:at + MOST] for at in range(0, len(books), MOST)]
-        books = []
-        for group in groups:
-            into = os.path.join(folder, f"round{number:06}.book")
-            with open(into, "wb") as file:
-                fold(gap, group, file)
-            books.append(into)
-            number += 1
-            for it in group:
-                if os.path.dirname(it) == folder:
-                    os.unlink(it)
-    return books
-
-
 # ---- a book ----
 
 def old_book(path: str, wish: Wish) -> Optional[int]:
@@ -241,14 +184,14 @@ def old_book(path: str, wish: Wish) -> Optional[int]:
     return None if wish.anew else gap
 
 
-def usable(items: Sequence[Input], wish: Wish, say: Say) -> List[Input]:
+def usable(items: Sequence[Input], pass_over: Optional[PassOver] = None) -> List[Input]:
     """The inputs that can be read; others are passed over, where that is asked for."""
     result = []
     for it in items:
         if not it.fault:
             result.append(it)
-        elif wish.pass_over:
-            say(f"{it.path} is passed over: {it.fault}")
+        elif pass_over:
+            pass_over(it.path, it.fault)
         else:
             raise Fault(f"{it.path}: {it.fault}")
     return result
@@ -268,42 +211,109 @@ def make_locked(path: str, items: Sequence[Input], wish: Wish, say: Say) -> bool
         raise Fault(f"{path} has the gap {old}, and can't get the narrower one {gap}: "
                     "make it of the logs, with --anew")
     items = [it for it in items if not whole.is_same(it.path, path)]
-    made, before, count = made_of(gap, items), remembered(path), len(items)
-    if not wish.anew and made == {key: before.get(key) for key in made}:
+    made = made_of(gap, items)
+    before = remembered(path) if wish.noted else {}
+    if wish.noted and not wish.anew and made == {key: before.get(key) for key in made}:
         return False
-    items = usable(items, wish, say)
-    if not wish.anew:
+    passed: List[str] = []
+
+    def pass_over(name: str, why: str) -> None:
+        say(f"{name} is passed over: {why}")
+        passed.append(name)
+
+    items = usable(items, pass_over if wish.pass_over else None)
+    if wish.noted and not wish.anew:
         say_what_is_gone(path, before, items, say)
-    with work_folder(path) as folder:
-        books: List[str] = []
+    with work_folder(path, wish, gap, items) as folder:
+        plan = Plan(gap, folder, wish.piece, wish.most)
+        books = books_of(plan, items, wish, pass_over)
         if old is not None:
             books.append(widened(path, old, gap, folder))
-        if wish.pass_over:
-            parts = [[it] for it in items]
-        elif all(it.is_book and not it.packing for it in items):
-            parts, books = [], books + [inputs.no_option(it.path) for it in items]
-        else:
-            parts = deal(items, max(PARTS, wish.jobs))
-        books += make_parts(parts, gap, folder, wish, say)
         if not books:
             return False
-        passed_over = wish.pass_over and len(books) < count + (old is not None)
-        books = fold_rounds(gap, books, folder)
         with whole.writing(path) as new:
-            fold(gap, books, new.file)
-    if not passed_over:
+            building.write_book(plan, books, new.file)
+    if wish.noted and not passed:
         remember(path, made, before)
+    say_what_is_large(path, say)
     return new.changed
+
+
+def books_of(plan: Plan, items: Sequence[Input], wish: Wish, pass_over: PassOver) -> List[str]:
+    """Books of inputs, at most so many as are folded at once."""
+    if wish.pass_over:
+        made = building.books_of_each(wish.engine, plan, items, pass_over)
+        return building.narrow(wish.engine, plan, made, [])
+    return building.narrow(wish.engine, plan, *building.books_of(wish.engine, plan, items))
+
+
+def say_what_is_large(path: str, say: Say) -> None:
+    """Names a book that is too large for the programs that hold one in memory."""
+    size = os.path.getsize(path)
+    if size > READ:
+        say(f"{path} has {size / 1e9:.1f} GB: aprsbook-fold reads it, and the other programs read "
+            "1 GiB at most. Make parts of it, with --parts")
 
 
 def widened(path: str, old: int, gap: int, folder: str) -> str:
     """The book that is there, under a gap that may be wider."""
     if gap == old:
         return os.path.realpath(path)
-    into = os.path.join(folder, "widened.book")
-    with open(into, "wb") as file:
+    number, into = tempfile.mkstemp(".book", "widened-", folder)
+    with open(number, "wb") as file:
         programs.run("aprsbook", "widen", str(gap), os.path.realpath(path), into=file)
     return into
+
+
+# ---- parts of a book ----
+
+def make_parts(path: str, items: Sequence[Input], parts: int, wish: Wish, say: Say) -> None:
+    """A new folder gets the book of inputs in parts, each with the rows of some stations."""
+    if os.path.lexists(path):
+        raise Fault(f"{path} is there: parts are made in a new folder", errors.OUTPUT)
+    if not jobs.has_ranges():
+        raise Fault("parts need an aprsbook-fold that has --from and --until")
+    gap = wish.gap or GAP
+    items = usable(items)
+    with work_folder(path, wish, gap, items) as folder:
+        plan = Plan(gap, folder, wish.piece, wish.most)
+        made, given = building.books_of(wish.engine, plan, items)
+        books = building.parts_of(wish.engine, plan, made + given, parts)
+        with new_folder(path) as new:
+            for number, book in enumerate(books, 1):
+                into = os.path.join(new, f"{number:04}.book")
+                put_beside(book, into)
+                say_what_is_large(into, say)
+
+
+@contextlib.contextmanager
+def new_folder(path: str) -> Iterator[str]:
+    """A folder that gets its name once it is whole."""
+    real = os.path.realpath(path)
+    new = ""
+    try:
+        new = tempfile.mkdtemp(whole.SUFFIX, f".{os.path.basename(real)}.", os.path.dirname(real))
+        yield new
+        mask = os.umask(0)
+        os.umask(mask)
+        os.chmod(new, 0o777 & ~mask)
+        whole.sync_folder(new)
+        os.rename(new, real)
+    except OSError as fault:
+        raise Fault(f"{path}: {fault.strerror}", errors.OUTPUT) from fault
+    finally:
+        if new:
+            shutil.rmtree(new, ignore_errors=True)
+
+
+def put_beside(path: str, into: str) -> None:
+    """A file gets another name too, or a copy where that can't be; it is on the disk then."""
+    try:
+        os.link(path, into)
+    except OSError:
+        shutil.copyfile(path, into)
+    with open(into, "rb+") as file:
+        os.fsync(file.fileno())
 
 
 # ---- a book of each day ----
@@ -321,8 +331,8 @@ def make_days(folder: str, items: Sequence[Input], wish: Wish, say: Say) -> List
             raise Fault(f"{it.path}: {it.fault or 'its day is unknown'}")
         days.setdefault(it.day, []).append(it)
     faults: List[Fault] = []
-    alone = dataclasses.replace(wish, jobs=1)
-    with concurrent.futures.ThreadPoolExecutor(wish.jobs) as pool:
+    alone = dataclasses.replace(wish, engine=engines.Here(1))
+    with concurrent.futures.ThreadPoolExecutor(wish.engine.width) as pool:
         waiting = [pool.submit(make, os.path.join(folder, f"{day}.book"), of_day, alone, say)
                    for day, of_day in sorted(days.items())]
         for done in progress.counted(waiting, "days", len(waiting)):

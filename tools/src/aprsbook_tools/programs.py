@@ -1,10 +1,11 @@
 """Runs aprsbook, aprsbook-table and aprsbook-fold. Where one fails, its complaint and its status
 are those of the Fault."""
 import os
+import re
 import shutil
 import subprocess
 import tempfile
-from typing import IO, Iterator, List, Optional, Sequence, Union
+from typing import IO, Iterator, List, Optional, Sequence, Tuple, Union
 
 from aprsbook_tools import errors
 from aprsbook_tools.errors import Fault
@@ -56,6 +57,12 @@ def fault_of(command: Sequence[str], status: int, complaint: bytes) -> Fault:
         words = words or f"ended by signal {-status if status < 0 else status - 128}"
         status = errors.FAULTY
     return Fault(words or f"ended with status {status}", status, program)
+
+
+def fault_line(fault: Fault, place: str) -> Optional[Tuple[int, str]]:
+    """The number of the line of an input at which a program failed, and the cause; or None."""
+    found = re.fullmatch(re.escape(place) + r": line ([0-9]+): (\w+)", fault.words)
+    return (int(found[1]), found[2]) if found else None
 
 
 def run(*command: str, given: Given = b"", into: Optional[IO[bytes]] = None) -> bytes:

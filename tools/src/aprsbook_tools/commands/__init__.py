@@ -29,4 +29,6 @@ NAMES: List[str] = [
     "csv",
     "watch",
     "keeper",
+    "cluster",
+    "job",
 ]

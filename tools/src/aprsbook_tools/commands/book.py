@@ -4,10 +4,11 @@ import os
 import sys
 from typing import List
 
-from aprsbook_tools import arguments, book, inputs, whole
+from aprsbook_tools import arguments, book, engines, inputs, whole
 from aprsbook_tools.commands import Subparsers
-from aprsbook_tools.errors import FAULTY, Fault
+from aprsbook_tools.errors import ARGUMENTS, FAULTY, Fault
 from aprsbook_tools.inputs import Input
+from aprsbook_tools.pieces import MEGABYTE
 
 TEXT = """\
 BOOK becomes the book of itself and of all logs and books that are named or lie below folders that
@@ -15,12 +16,17 @@ are named (*.log, *.book, also *.gz, *.xz and *.bz2, behind links too; no name t
 dot). It is written whole or not at all, and left as it is where nothing has changed. What it has
 stays, also where a log is gone, which is said, unless --anew makes it of the inputs alone.
 
-Logs are merged in parts side by side, by their days, which their paths say, as
-logs/2024-06-21/RX1.log, or else their first lines. Runs at one time wait for each other.
+Logs are merged in pieces of whole lines side by side, and the books of pieces are folded: logs and
+books may be larger than the memory. Runs at one time wait for each other. With --work FOLDER what
+is made stays there, and a run that was cut goes on: take it away afterwards.
+
+With --parts N the book is made in a new folder BOOK, in about so many files: 0001.book and more,
+each with the rows of some stations.
 
 With --days FOLDER it keeps a book of each day there, and makes those again whose logs have changed.
-Where a log is faulty, its day's book and BOOK stay, the other days' books are made, and the status
-is 1. A day whose logs are gone keeps its book."""
+Paths say the day, as logs/2024-06-21/RX1.log, or else first lines. Where a log is faulty, its day's
+book and BOOK stay, the other days' books are made, and the status is 1. A day whose logs are gone
+keeps its book."""
 
 
 def add_parser(subparsers: Subparsers) -> None:
@@ -29,11 +35,14 @@ def add_parser(subparsers: Subparsers) -> None:
         formatter_class=argparse.RawDescriptionHelpFormatter)
     arguments.add_gap(parser)
     parser.add_argument("-j", "--jobs", type=arguments.whole_number(1, 1024), metavar="N",
-                        default=os.cpu_count() or 1,
-                        help="merge so many parts side by side (as many as there are processors)")
+                        default=engines.processors(),
+                        help="merge so many pieces side by side (as many as there are processors)")
+    arguments.add_pieces(parser, 64)
     parser.add_argument("--anew", action="store_true", help="make the book of the inputs alone")
     parser.add_argument("--pass-over", action="store_true",
                         help="name an input that can't be merged, and go on without it")
+    parser.add_argument("--work", metavar="FOLDER", default="",
+                        help="keep there what is made of pieces, and go on with it")
     parser.add_argument("--days", metavar="FOLDER", help="keep a book of each day there")
     parser.add_argument("book", metavar="BOOK")
     parser.add_argument("inputs", nargs="+", metavar="INPUT", help="a log, a book or a folder")
@@ -44,15 +53,23 @@ def say(text: str) -> None:
 
 
 def run(args: argparse.Namespace) -> int:
-    wish = book.Wish(args.gap, args.jobs, args.anew, args.pass_over)
+    wish = book.Wish(args.gap, engines.Here(args.jobs, bool(args.work)), args.anew, args.pass_over,
+                     args.piece * MEGABYTE, args.fan, args.work)
     if args.book.endswith(".log"):
         raise Fault(f"{args.book}: a book isn't called .log, or it would become an input", 2)
+    if args.parts and (args.days or args.anew or args.pass_over):
+        raise Fault("--parts goes without --days, --anew and --pass-over", ARGUMENTS)
+    if args.work and (args.days or args.pass_over):
+        raise Fault("--work goes without --days and --pass-over", ARGUMENTS)
     if args.days:
         return run_days(args, wish)
     items = inputs.of(args.inputs)
     if not items and not args.pass_over:
         raise Fault(f"no logs and no books are in {' '.join(args.inputs)}")
-    book.make(args.book, items, wish, say)
+    if args.parts:
+        book.make_parts(args.book, items, args.parts, wish, say)
+    else:
+        book.make(args.book, items, wish, say)
     return 0
 
 

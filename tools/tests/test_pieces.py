@@ -1,0 +1,64 @@
+"""Pieces of logs: each line is in one of them, whole, and a fault is found again in its log."""
+import os
+import pathlib
+import tempfile
+from typing import List
+
+from hypothesis import given
+from hypothesis import strategies as st
+
+from aprsbook_tools import building, pieces
+
+LINES = st.lists(st.sampled_from([b"", b"a", b"2024-06-21T18:00:00Z RX1 c0c0", b"APRSBOOK 3 30",
+                                  b"x" * 9000, b"\xff\r"]))
+
+
+@given(LINES, st.booleans(), st.integers(1, 20_000))
+def test_ranges_are_the_log(lines: List[bytes], is_whole: bool, step: int) -> None:
+    text = b"\n".join(lines) + b"\n" * is_whole
+    with tempfile.TemporaryDirectory() as folder:
+        path = os.path.join(folder, "log")
+        pathlib.Path(path).write_bytes(text)
+        found = [it for _, it in pieces.cut(path, step)]
+        assert b"".join(b"".join(pieces.blocks(it)) for it in found) == text
+        ends = [it.end for it in found]
+        assert [it.start for it in found] == [0, *ends][:-1] and (ends or [0])[-1] == len(text)
+        for it in found[1:]:
+            assert text[it.start - 1:it.start] == b"\n"
+            assert text[it.start:it.start + 8] != b"APRSBOOK"
+        total = sum(map(pieces.lines_of, found))
+        assert total == len(text.splitlines(True)) or b"\r" in text
+        for number in range(1, total + 1):
+            assert pieces.place(found, number) == (path, number)
+
+
+def test_a_piece_has_what_all_heard_of_a_time(tmp_path: pathlib.Path) -> None:
+    days = [f"2024-06-{day}T00:00:00Z RX1 c0c0\n".encode() for day in range(10, 30)]
+    for name in "a", "b", "c":
+        (tmp_path / name).write_bytes(b"".join(line * (3 << 15) for line in days))
+    paths = [str(tmp_path / it) for it in "abc"]
+    size = 6 << 20
+    found = pieces.of(paths, size)
+    for piece in found[:-1]:
+        assert {it.path for it in piece} == set(paths)
+        assert size // 2 < sum(it.end - it.start for it in piece) <= size * 9 // 8
+    assert sum(it.end - it.start for piece in found for it in piece) == \
+        sum(map(os.path.getsize, paths))
+
+
+def test_a_log_that_grows_while_it_is_read(tmp_path: pathlib.Path) -> None:
+    """The rest of a line that was being written is read, and no further line."""
+    log = tmp_path / "log"
+    log.write_bytes(b"one\ntwo\nthr")
+    [(_, it)] = pieces.cut(str(log), 100)
+    log.write_bytes(b"one\ntwo\nthree\nfour\n")
+    assert b"".join(pieces.blocks(it)) == b"one\ntwo\nthree\n"
+
+
+@given(st.integers(0, 300), st.integers(2, 70))
+def test_groups(count: int, most: int) -> None:
+    books = [str(it) for it in range(count)]
+    found = building.groups(books, most)
+    assert [it for group in found for it in group] == books
+    assert all(0 < len(it) <= most for it in found)
+    assert len(found) == -(-count // most)
