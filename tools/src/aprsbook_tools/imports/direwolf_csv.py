@@ -45,7 +45,8 @@ def frame(row: Dict[str, str]) -> Optional[bytes]:
         information = (">" + row["comment"]).encode("utf-8", "surrogateescape")[:ax25.MOST]
     else:
         return None
-    by = "" if row["heard"] in ("", row["source"]) else f",{row['heard']}*"
+    heard = row["heard"].rstrip("?")  # a guess, where the last address is WIDE1 or the like
+    by = "" if heard in ("", row["source"]) else f",{heard}*"
     return ax25.frame(row["source"], DESTINATION + by, information)
 
 
