@@ -293,6 +293,19 @@ def test_dire_wolfs_csv_becomes_frames_that_say_so() -> None:
     assert b"has no column" in tried("import", "direwolf-csv", given=b"a,b\n", status=1).stderr
 
 
+@pytest.mark.parametrize("torn", [
+    b'0,1718992800,2024-06-21T18:00:00Z,Q1A,Q1A,,0,>,Q1A,,,,,,,,,,,,,"cut sh',
+    b"0,1718992800,2024-06-21T18:00:00Z,Q1A", b"\0" * 200,
+    b"0,1718992800,2024-06-21T18:00:00Z,Q1A,Q1A,,0,>,Q1A,,,,,,,,,,,,,cut\0\0",
+    b'0,1718992800,2024-06-21T18:00:00Z,Q1A,Q1A,,0,>,Q1A,,,,,,,,,,,,,"' + b"x" * 200_000],
+    ids=["quote", "fields", "nul", "end", "long"])
+def test_a_line_of_a_csv_that_was_cut_short_takes_no_other_in(torn: bytes) -> None:
+    """What a power cut left; and files of days, one after another, have a head each."""
+    lines, said = imported(CSV + torn + b"\n" + CSV, "direwolf-csv", "--name", "HILL")
+    assert len(lines) == 4 and "line 5: no whole line of 22 fields" in said
+    assert said.count("\n") == 3
+
+
 ATEST = b"""DECODED[1] 1:02.345 N0CALL audio level = 50(21/22)     |||||||||
   000:  82 a0 a4 a6 40 40 e0 9c 60 86 82 98 98 6f 03 f0  ....@@..`....o..
   010:  3e 48 69                                         >Hi

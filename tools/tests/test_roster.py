@@ -121,3 +121,10 @@ def test_each_line_is_an_entry_or_a_fault_or_says_nothing(text: str) -> None:
     roster = read_roster(text)
     assert all(call_of(it.call) == it.call for it in roster.expected)
     assert all(it.line >= 1 for it in roster.faults)
+
+
+def test_a_field_without_end_is_said_with_its_line() -> None:
+    roster = read_roster('call,name\nQ1A,"' + "x" * 200_000 + '"\nQ1B,Back\n')
+    assert [it.line for it in roster.faults] == [2] and [it.call for it in roster.expected] == [
+        "Q1B"
+    ]

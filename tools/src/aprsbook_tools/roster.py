@@ -115,7 +115,11 @@ def read_roster(text: str) -> Roster:
     for number, line in enumerate(LINE_END.split(text.lstrip("\ufeff")), 1):
         if not line.strip() or line.lstrip().startswith("#"):
             continue
-        fields, head = fields_of(line), None
+        try:
+            fields, head = fields_of(line), None
+        except csv.Error as fault:
+            faults.append(LineFault(number, str(fault)))
+            continue
         if first:
             head, first = head_of(fields), False
         if head:
