@@ -110,8 +110,8 @@ def test_what_is_written_is_read(
         return name if between == " " else '"' + name.replace('"', '""') + '"'
 
     text = "".join(f"{call}{between}{quoted(name)}{end}" for call, name in names.items())
-    if between == " " and any(name[0] in ",;" for name in names.values()):
-        return  # then it parts the line
+    if between == " " and any(name[0] in ',;"' for name in names.values()):
+        return  # then it parts the line, or begins a field in quotes
     roster = read_roster("\ufeff" * mark + text)
     assert {it.call: it.name for it in roster.expected} == names and not roster.faults
 
