@@ -123,6 +123,15 @@ def test_a_zone_that_is_none_is_refused(zone: str) -> None:
     assert b"is no zone" in tried("import", "--zone", zone, "monitor", status=2).stderr
 
 
+def test_where_no_zones_are_known_by_name_it_is_said(tmp_path: pathlib.Path) -> None:
+    """As on Windows."""
+    nowhere = environment(PYTHONTZPATH=str(tmp_path))
+    words = ["import", "--zone", "Europe/Berlin", "monitor"]
+    assert b"pip install tzdata" in tried(*words, status=2, env=nowhere).stderr
+    text = b"2024-06-21 18:00:00 Q1NET>APRS:>Hi\n"
+    tried("import", "--zone", "+02:00", "monitor", given=text, env=nowhere)
+
+
 # whole minutes: a time shown in a zone of whole minutes comes back
 @given(st.integers(0, (moments.END - 1) // 60_000), st.integers(-14 * 60 + 1, 14 * 60 - 1))
 def test_a_moment_comes_back_from_any_zone(minute: int, offset: int) -> None:
