@@ -6,7 +6,7 @@ import { vectorOf } from "./globe.js";
 import { kindIn, nameIn, URGENT } from "./reading.js";
 import { each } from "./steps.js";
 import { colourOf } from "./symbols.js";
-import { said } from "./words.js";
+import { byLetters, said } from "./words.js";
 
 /** @typedef {import("./reading.js").Rows} Rows */
 /** @typedef {import("./reading.js").Place} Place */
@@ -137,7 +137,7 @@ export class Thing {
 /** @type {Record<string, number>} */
 const ORDER = { station: 0, object: 1, item: 2 };
 const byKindAndName = (/** @type {Thing} */ a, /** @type {Thing} */ b) =>
-  ORDER[a.kind] - ORDER[b.kind] || (a.name < b.name ? -1 : a.name > b.name ? 1 : 0);
+  ORDER[a.kind] - ORDER[b.kind] || byLetters(said(a.name), said(b.name));
 
 /**
  * What a station's row says beside a place.

@@ -2,7 +2,8 @@
 // Texts off the air, moments, ages and counts, in words.
 
 const strictUtf8 = new TextDecoder("utf-8", { fatal: true, ignoreBOM: true });
-const unprintable = /^[\p{C}\p{Z}]$/u;
+// controls, ends of lines, halves of letters, and what turns the direction of a text
+const unreadable = /^[\p{Cc}\p{Cs}\p{Zl}\p{Zp}\p{Bidi_Control}]$/u;
 
 /**
  * The first letter of a text as aprsbook shows it.
@@ -26,33 +27,47 @@ function octetsOf(shown) {
 
 const hexOf = octets => Array.from(octets, it => "\\x" + it.toString(16).padStart(2, "0")).join("");
 
+/** How many octets a letter of UTF-8 has that begins so; those that begin none have one. */
+const sizeOf = octet => octet < 0xc2 ? 1 : octet < 0xe0 ? 2 : octet < 0xf0 ? 3 : 4;
+/** The letter of UTF-8 at a place of octets; nothing where there is none. */
+function letterAt(octets, at) {
+  try {
+    return strictUtf8.decode(octets.subarray(at, at + sizeOf(octets[at])));
+  } catch {
+    return "";
+  }
+}
 /**
- * A text off the air, of the form in which aprsbook shows it: in UTF-8, or else in Latin-1. What
- * can't be printed stays as it is shown.
+ * A text off the air, of the form in which aprsbook shows it: in UTF-8. What is none, and what can't
+ * be read, stays as it is shown. The tool reads the same.
  */
 export function said(shown) {
   if (!shown.includes("\\")) return shown;
   const octets = octetsOf(shown);
-  /** @type {(letter: string) => ArrayLike<number>} */
-  let encode = letter => new TextEncoder().encode(letter);
-  let text;
-  try {
-    text = strictUtf8.decode(octets);
-  } catch {
-    text = Array.from(octets, it => String.fromCharCode(it)).join("");
-    encode = letter => [letter.charCodeAt(0)];
+  let text = "";
+  for (let at = 0; at < octets.length;) {
+    const letter = letterAt(octets, at), size = letter ? sizeOf(octets[at]) : 1;
+    text += letter ? readable(letter) : hexOf(octets.subarray(at, at + size));
+    at += size;
   }
-  return withoutUnprintable(text, encode);
+  return text;
 }
-/** A text with each letter in hexadecimal that can't be printed. */
-function withoutUnprintable(text, encode) {
-  const show = letter =>
-    letter !== " " && unprintable.test(letter) ? hexOf(encode(letter)) : letter;
-  return Array.from(text, show).join("");
-}
+const readable = letter =>
+  unreadable.test(letter) ? hexOf(new TextEncoder().encode(letter)) : letter;
 /** A text that didn't come off the air, such as the name of a file, so that it can't turn others. */
-export const printable = text =>
-  withoutUnprintable(text, letter => new TextEncoder().encode(letter));
+export const printable = text => Array.from(text, readable).join("");
+/**
+ * The order of texts by the numbers of their letters, as the tool has it.
+ * @param {string} a
+ * @param {string} b
+ */
+export function byLetters(a, b) {
+  let at = 0;
+  while (at < a.length && a[at] === b[at]) at++;
+  // the second half of a letter has no place before what begins one
+  const of = (/** @type {string} */ text) => text.codePointAt(at) ?? -1;
+  return of(a) - of(b);
+}
 
 /** How moments are written: in local time or UTC, and with the date where that matters. */
 export const clocks = { local: false, dated: false };

@@ -40,9 +40,9 @@ test("a killed object ends a track's segment", () => {
   const gpx = savedText("places and tracks (GPX)", net, { title: "x" });
   assert.equal(gpx.split("<trkseg>").length - 1, 2);
 });
-test("texts off the air: UTF-8, else Latin-1, and what can't be printed as it is shown", () => {
+test("texts off the air: UTF-8, and what is none or can't be read as it is shown", () => {
   assert.equal(said("caf\\xc3\\xa9"), "caf\u00e9");
-  assert.equal(said("caf\\xe9"), "caf\u00e9");
+  assert.equal(said("caf\\xe9 caf\\xc3\\xa9"), "caf\\xe9 caf\u00e9");
   assert.equal(said("a\\x5cb"), "a\\b");
   assert.equal(said("a\\\\b"), "a\\b");
   assert.equal(said("\\xe2\\x80\\xaegnp"), "\\xe2\\x80\\xaegnp");

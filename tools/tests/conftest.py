@@ -14,6 +14,7 @@ pytest_plugins = ["standing"]  # its fixture `programs`
 
 HERE = pathlib.Path(__file__).resolve().parent
 SOURCES = HERE.parent / "src"
+SAMPLES = HERE / "samples"  # what other programs wrote themselves
 EXAMPLES = HERE.parent.parent / "examples"
 EVENING = sorted(str(it) for it in EXAMPLES.glob("evening/*.log"))
 

@@ -1,9 +1,10 @@
-// Says what the page makes of tables: node page_says.mjs PAGE < CASES > SAID. A case has the texts of
-// the tables rows and messages, and of a roster.
+// Says what the page makes of tables: node page_says.mjs PAGE < CASES > SAID. A case has the texts
+// of the tables rows and messages, and of a roster.
 import { readFileSync } from "node:fs";
 import { pathToFileURL } from "node:url";
 
 const page = name => import(pathToFileURL(`${process.argv[2]}/${name}.js`).href);
+const { pairsOf } = await page("clocks");
 const { SAVES, savedText } = await page("exports");
 const { netOf } = await page("net");
 const { columnsOf, readMessages, Rows } = await page("reading");
@@ -24,6 +25,9 @@ function saidOf({ rows, messages, roster }) {
   said.expected = expectedOf(list, net.things).map(it => [it.call, it.name, it.group, it.bib,
     it.last === -Infinity ? "never" : new Date(it.last * 1000).toISOString()]);
   said.faults = faults.map(it => it.line);
+  const count = n => read.heard.filter(it => it === n).length;
+  const heard = read.lists.map((names, n) => ({ names, heard: count(n) }));
+  said.clocks = ended(pairsOf(read, read.since(-Infinity), heard));
   return said;
 }
 process.stdout.write(JSON.stringify(JSON.parse(readFileSync(0, "utf8")).map(saidOf)));

@@ -151,5 +151,8 @@ def test_csv_of_a_table(programs: Programs) -> None:
 
 
 def test_csv_of_fields(programs: Programs) -> None:
-    (programs.folder / "fields").write_text("call\tsaid\nQ1A\t=1+1\nQ1B\ta, b\n")
-    assert programs.run("csv", "fields", "fields") == 'call,said\nQ1A,\'=1+1\nQ1B,"a, b"\n'
+    text = "call\tsaid\nQ1A\t=1+1\nQ1B\ta, b\nQ1C\tK\\xc3\\xa4ppeli \\xe9\n"
+    (programs.folder / "fields").write_text(text)
+    assert programs.run("csv", "fields", "fields") == (
+        'call,said\nQ1A,\'=1+1\nQ1B,"a, b"\nQ1C,Käppeli \\xe9\n'
+    )

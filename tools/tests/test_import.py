@@ -11,7 +11,7 @@ from hypothesis import given, strategies as st
 
 from aprsbook_tools import ax25, kiss, log_file, moments, zones
 from aprsbook_tools.imports import Heard, Options, lines as line_formats
-from conftest import EVENING, command, environment, program, run, tried
+from conftest import EVENING, SAMPLES, command, environment, program, run, tried
 
 
 def imported(text: bytes, *options: object, status: int = 0) -> Tuple[List[bytes], str]:
@@ -22,13 +22,19 @@ def imported(text: bytes, *options: object, status: int = 0) -> Tuple[List[bytes
     return lines, done.stderr.decode()
 
 
+def read(line: bytes) -> log_file.Line:
+    found = log_file.read_line(line)
+    assert found is not None, line
+    return found
+
+
 def heads(lines: List[bytes]) -> List[str]:
-    """The moments of lines, without their days' first part, and the receivers."""
-    return [b" ".join(it.split()[:2]).decode() for it in lines]
+    """The moments and the receivers of lines."""
+    return [f"{moments.text_of(it.moment)} {it.receiver}" for it in map(read, lines)]
 
 
 def frame(line: bytes) -> bytes:
-    return kiss.unwrap(bytes.fromhex(line.split()[2].decode())[1:-1])
+    return kiss.unwrap(bytes.fromhex(read(line).digits.decode())[1:-1])
 
 
 CALLS = st.from_regex(r"[A-Z0-9]{1,6}(-([1-9]|1[0-5]))?", fullmatch=True)
@@ -51,12 +57,12 @@ def test_what_dire_wolf_prints_is_read_back(
 def test_the_evenings_logs_come_back_byte_for_byte(path: str) -> None:
     program("aprsbook")
     log, text = (run("aprsbook", "convert", form, path) for form in ("log", "text"))
-    own, wolf = b"", b""
-    for head, line in zip(log.splitlines(), text.splitlines()):
-        own += head[:24] + b" " + line + b"\n"
+    own, wolf, name = b"", b"", ""
+    for head, line in zip(map(read, log.splitlines()), text.splitlines()):
+        name, moment = head.receiver, moments.text_of(head.moment).encode()
+        own += moment + b" " + line + b"\n"
         line = re.sub(rb"\\x(..)", rb"<0x\1>", re.sub(rb"\*(?=,[^:]*\*)", b"", line))
-        wolf += b"\nQ1DIG audio level = 50(12/12)\n[0.3 " + head[:23] + b"] " + line + b"\n"
-    name = log.split(b" ")[1].decode()
+        wolf += b"\nQ1DIG audio level = 50(12/12)\n[0.3 " + moment[:-1] + b"] " + line + b"\n"
     for words, given_ in (["monitor", "--bytes", "aprsbook"], own), (["direwolf"], wolf):
         assert imported(given_, *words, "--name", name) == (log.splitlines(), "")
 
@@ -117,6 +123,15 @@ def test_a_zone_that_is_none_is_refused(zone: str) -> None:
     assert b"is no zone" in tried("import", "--zone", zone, "monitor", status=2).stderr
 
 
+def test_where_no_zones_are_known_by_name_it_is_said(tmp_path: pathlib.Path) -> None:
+    """As on Windows."""
+    nowhere = environment(PYTHONTZPATH=str(tmp_path))
+    words = ["import", "--zone", "Europe/Berlin", "monitor"]
+    assert b"pip install tzdata" in tried(*words, status=2, env=nowhere).stderr
+    text = b"2024-06-21 18:00:00 Q1NET>APRS:>Hi\n"
+    tried("import", "--zone", "+02:00", "monitor", given=text, env=nowhere)
+
+
 # whole minutes: a time shown in a zone of whole minutes comes back
 @given(st.integers(0, (moments.END - 1) // 60_000), st.integers(-14 * 60 + 1, 14 * 60 - 1))
 def test_a_moment_comes_back_from_any_zone(minute: int, offset: int) -> None:
@@ -154,7 +169,8 @@ def test_what_dire_wolf_sent_itself_is_left_out(tmp_path: pathlib.Path) -> None:
 APRX = b"""2024-06-21 18:00:00.123 Q0GATE-1  R Q1NET>APRS,Q1DIG*:>heard
 2024-06-21 18:00:01.000 Q0GATE-1  T Q0GATE-1>APRX29:>sent
 2024-06-21 18:00:02.000 APRSIS    R Q1NET>APRS,TCPIP*,qAC,T2TEST:>of the Internet
-2024-06-21 18:00:03.000 Q0GATE-1 *R Q1NET>APRS:>discarded, but heard
+2024-06-21 18:00:03.000 Q0GATE-1  d *Q1NET>APRS,NOGATE:>not passed on, but heard
+2024-06-21 18:00:03.500 Q0GATE-1  d #Q1NET>APRS:>a copy, but heard: <0xffffffe4><0x07>
 2024-06-21 18:00:04.000 APRSIS    T Q0GATE-1>APRX29,TCPIP*:>sent there
 """
 
@@ -162,11 +178,59 @@ APRX = b"""2024-06-21 18:00:00.123 Q0GATE-1  R Q1NET>APRS,Q1DIG*:>heard
 def test_what_aprx_sent_and_what_came_of_aprs_is_is_left_out(tmp_path: pathlib.Path) -> None:
     own = tmp_path / "own.log"
     lines, said = imported(APRX, "aprx", "--own", own)
-    assert (heads(lines), said) == (
-        ["2024-06-21T18:00:00.123Z Q0GATE-1", "2024-06-21T18:00:03.000Z Q0GATE-1"], "")
+    assert (heads(lines), said) == ([f"2024-06-21T18:00:{it}Z Q0GATE-1"
+                                     for it in ("00.123", "03.000", "03.500")], "")
+    assert frame(lines[2]).endswith(b"heard: \xe4\x07")
     assert heads(own.read_bytes().splitlines()) == ["2024-06-21T18:00:01.000Z Q0GATE-1"]
-    [first, _] = imported(APRX, "aprx", "--zone", "+02:00")[0]
+    [first, *_] = imported(APRX, "aprx", "--zone", "+02:00")[0]
     assert first.startswith(b"2024-06-21T16:00:00.123Z")
+
+
+# ---- what the programs themselves wrote of these frames ----
+
+HALF = "!5432.58N/00327.36W"
+FRAMES = [ax25.frame(source, path, text.encode()) for source, path, text in (
+    ("Q1RUN-7", "APDW17,Q1DIG*,WIDE2-1", HALF + ">088/036/A=001234Käppeli <b> ☂"),
+    ("Q1NET", "APRS,WIDE1-1", '>Net control, "Base"'),
+    ("Q1NET", "APRS,Q1DIG*,WIDE1*", '>Net control, "Base"'),
+    ("Q1DIG", "APRS,WIDE1*,WIDE2*", ";START    *211800z5432.58N/00327.36WEStart"),
+    ("Q1A-9", "543PPP,WIDE1-1", "`y:\x1cl \x1c>/"),
+    ("Q1NET", "APRS", "):AID!5432.58N/00327.36W+"),
+    ("Q1NET", "APRS", ":Q1RUN-7  :Water is low{01"),
+    ("Q1RUN-7", "APRS,TCPIP*", ">third party not"),
+    ("Q1NET", "APRS,NOGATE", ">not for the Internet"))]
+
+
+@pytest.mark.parametrize("name, words, first, last, end", [
+    ("aprx-2.9.1.rf", ["aprx"], "2026-11-28T13:03:44.822Z Q0GATE-1",
+     "2026-11-28T13:03:47.932Z Q0GATE-1", b""),
+    # the line feeds were sent
+    ("direwolf-1.6.txt", ["direwolf", "--zone", "Europe/Berlin"], "2026-11-28T13:04:10.000Z TEXT",
+     "2026-11-28T13:04:10.000Z TEXT", b"\n"),
+    ("xastir-2.1.8.tnc", ["xastir"], "2026-11-28T13:08:21.000Z TEXT",
+     "2026-11-28T13:08:23.000Z TEXT", b"")])
+def test_all_frames_of_a_programs_own_text(
+        name: str, words: List[str], first: str, last: str, end: bytes) -> None:
+    lines, _ = imported((SAMPLES / name).read_bytes(), *words)
+    assert [frame(it) for it in lines] == [it + end for it in FRAMES]
+    assert [heads(lines)[0], heads(lines)[-1]] == [first, last]
+
+
+def test_dire_wolfs_own_csv() -> None:
+    """`Q1DIG?` stands there for a digipeater that is known by WIDE1* alone."""
+    lines, said = imported((SAMPLES / "direwolf-1.6.csv").read_bytes(), "direwolf-csv")
+    status = '>Net control, "Base"'.encode()
+    made = [("Q1RUN-7", ",Q1DIG*", (HALF + ">088/036/A=001234Käppeli <b> ☂").encode()),
+            ("Q1NET", "", status), ("Q1NET", ",Q1DIG*", status),
+            ("Q1A-9", "", b"!5430.00N/00330.00W>"), ("Q1RUN-7", ",TCPIP*", b">third party not"),
+            ("Q1NET", "", b">not for the Internet")]
+    assert [frame(it) for it in lines] == [
+        ax25.frame(source, "APZCSV" + path, text) for source, path, text in made]
+    assert said.count("isn't made anew") == said.count("\n") == 3
+
+
+def test_xastirs_own_log_of_the_internet_has_nothing_that_was_heard() -> None:
+    assert imported((SAMPLES / "xastir-2.1.8.net").read_bytes(), "xastir") == ([], "")
 
 
 # ---- feeds, and other programs ----
@@ -184,7 +248,7 @@ Q1NET>APDW17,qAR,ABCDEFGHIJKLMNOPQ:>a gate of 17 letters
 
 def test_a_feed_has_the_gates_as_receivers() -> None:
     lines, said = imported(FEED, "monitor", "--igate", "--now", "--bytes", "raw")
-    assert [it.split()[1] for it in lines] == [b"Q0GATE-1", b"Q0OTHER"]
+    assert [read(it).receiver for it in lines] == ["Q0GATE-1", "Q0OTHER"]
     text = "!5432.58N/00327.36W>café <0x41> \\x41".encode()
     assert frame(lines[0]) == ax25.frame("Q1RUN-7", "APDW17,Q1DIG*,WIDE1*,WIDE2-1", text)
     for name in "Q1lower is no", "Q1NETTOOLONG is no", "Q1ABC-A is no", "ABCDEFGHIJKLMNOPQ can't":
@@ -236,6 +300,19 @@ def test_dire_wolfs_csv_becomes_frames_that_say_so() -> None:
         ax25.frame("Q1NET", "APZCSV", b">net control")]
     assert "line 4: a report that begins with ';'" in said and said.count("\n") == 1
     assert b"has no column" in tried("import", "direwolf-csv", given=b"a,b\n", status=1).stderr
+
+
+@pytest.mark.parametrize("torn", [
+    b'0,1718992800,2024-06-21T18:00:00Z,Q1A,Q1A,,0,>,Q1A,,,,,,,,,,,,,"cut sh',
+    b"0,1718992800,2024-06-21T18:00:00Z,Q1A", b"\0" * 200,
+    b"0,1718992800,2024-06-21T18:00:00Z,Q1A,Q1A,,0,>,Q1A,,,,,,,,,,,,,cut\0\0",
+    b'0,1718992800,2024-06-21T18:00:00Z,Q1A,Q1A,,0,>,Q1A,,,,,,,,,,,,,"' + b"x" * 200_000],
+    ids=["quote", "fields", "nul", "end", "long"])
+def test_a_line_of_a_csv_that_was_cut_short_takes_no_other_in(torn: bytes) -> None:
+    """What a power cut left; and files of days, one after another, have a head each."""
+    lines, said = imported(CSV + torn + b"\n" + CSV, "direwolf-csv", "--name", "HILL")
+    assert len(lines) == 4 and "line 5: no whole line of 22 fields" in said
+    assert said.count("\n") == 3
 
 
 ATEST = b"""DECODED[1] 1:02.345 N0CALL audio level = 50(21/22)     |||||||||

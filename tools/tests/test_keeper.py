@@ -6,7 +6,7 @@ from typing import List
 import pytest
 from standing import Programs, place, row
 
-from aprsbook_tools import keeping, moments, receptions, table
+from aprsbook_tools import keeping, log_file, moments, receptions, table
 from aprsbook_tools.geo import DEGREE_METRES, Spot
 from aprsbook_tools.receptions import Reception
 
@@ -126,7 +126,7 @@ def test_each_line_has_a_moment_of_its_own(
     given = []
 
     def of(kind: type, inputs: List[str], gap: int, log: bytes) -> "list[table.Row]":
-        given.append((gap, log.decode().splitlines()))
+        given.append((gap, [log_file.read_line(line) for line in log.splitlines()]))
         return [
             row("status", "18:00", f"Q1A-{line[20]}", first=line[:24], last=line[:24])
             for line in log.decode().splitlines()[1:]
@@ -137,12 +137,12 @@ def test_each_line_has_a_moment_of_its_own(
     (programs.folder / "b.log.gz").write_bytes(gzip.compress((LINES[0] + "\n").encode()))
     found = receptions.receptions_of(["b.log.gz", "a.log"])
     [(gap, lines)] = given
-    firsts = [moments.milliseconds(line.split()[0]) for line in lines]
+    firsts = [line.moment for line in lines if line]
     assert all(other - one > 1000 * gap for one, other in zip(firsts, firsts[1:]))
-    assert [line.split()[1:] for line in lines] == [
-        ["RX1", "c000c0"],
-        ["RX1", "c000c0"],
-        ["RX2", "c0c0"],
+    assert [(line.receiver, line.digits) for line in lines if line] == [
+        ("RX1", b"c000c0"),
+        ("RX1", b"c000c0"),
+        ("RX2", b"c0c0"),
     ]
     # the first held no frame
     assert [moments.text_of(it.moment)[17:23] for it in found] == ["00.500", "01.000"]

@@ -1,4 +1,5 @@
-"""The page and the tool say the same of 200 random tables: tracks, messages and rosters."""
+"""The page and the tool say the same of 200 random logs, and of as many tables: tracks, messages,
+rosters, clocks and texts. Logs need the programs, and tables none."""
 import dataclasses
 import json
 import pathlib
@@ -6,13 +7,17 @@ import random
 import shutil
 import subprocess
 import xml.etree.ElementTree
-from typing import Any, Dict, List, NamedTuple
+from typing import Any, Dict, List, NamedTuple, Tuple
 
 import pytest
-from standing import at, message, place, put, row, table_text
+from conftest import run
+from random_logs import TEXTS, log_of
+from standing import at, message, place, put, row, shown, table_text
 
 from aprsbook_tools import page_files, table
+from aprsbook_tools.commands.clocks import spans_of
 from aprsbook_tools.commands.ics_309 import csv_of as messages_csv
+from aprsbook_tools.commands.ics_309 import in_order
 from aprsbook_tools.commands.roster import line_of
 from aprsbook_tools.heard import heard_of
 from aprsbook_tools.places import things_of
@@ -21,27 +26,13 @@ from aprsbook_tools.table import Message, Row
 from aprsbook_tools.track_files import FORMS
 
 CASES = 200
+GAP = 30  # seconds
+FEWEST = 2  # transmissions, of which the page says something
+WITHIN = 6  # seconds by which clocks of random logs that are right differ
 GPX = "{http://www.topografix.com/GPX/1/1}"
 KML = "{http://www.opengis.net/kml/2.2}"
 CALLS = ["Q1A", "Q1A-7", "Q1B", "Q1B-15", "Q1NET"]
-TEXTS = [
-    "",
-    "ok",
-    "=1+1",
-    "-5",
-    "'=x",
-    'a "b", c',
-    "Käppeli ☂",
-    "a\\b",
-    "<b>&amp;",
-    " lead",
-    "@me",
-    "a\tb\x07",
-    "\u202eright",
-    "+1",
-    "x" * 40,
-]
-NAMES = ["CP 1", "LEADER", "=A", "<x>", "ü"]
+NAMES = ["CP 1", "LEADER", "=A", "<x>", "ü", "\u202ex", "a\udce9b", "\ufeff", "\U0001f3c3"]
 STATES = ["unnumbered", "unanswered", "acknowledged", "rejected"]
 LINES = [
     "Q1A Leader",
@@ -53,6 +44,16 @@ LINES = [
     "Q1TOOLONG x",
     "Q1GONE\tGone\tBack\t118",
     "Q1A-0 again",
+    'Q1C Leader "Bob"',
+    '"Q1D" "Back, ""two""" x',
+    'Q1E "',
+    '"""',
+    'Q1F"x y"',
+    "Q1G ",
+    "call,bib,name",
+    "Q1H  a  b ",
+    ",Q1I",
+    'Q1K,"a',
     "q1b-15",
     "-7",
 ]
@@ -60,11 +61,20 @@ EASTS = [-180.0, -179.5, -3.5, 0.0, 3.25, 179.5, 180.0]
 
 
 class Case(NamedTuple):
-    """What both are given."""
+    """What both are given: tables as texts, and a roster; a log, where the tables are of one."""
 
-    rows: List[Row]
-    messages: List[Message]
+    rows_text: str
+    messages_text: str
     roster: str
+    log: bytes = b""
+
+    @property
+    def rows(self) -> List[Row]:
+        return [*table.read(Row, self.rows_text.splitlines())]
+
+    @property
+    def messages(self) -> List[Message]:
+        return in_order(table.read(Message, self.messages_text.splitlines()))
 
 
 def clock(some: random.Random) -> str:
@@ -96,49 +106,46 @@ def row_of(some: random.Random) -> Row:
     return dataclasses.replace(it, last=later, receivers=ears, receiver=ears[-1])
 
 
-def case_of(seed: int) -> Case:
+def roster_of(some: random.Random) -> str:
+    lines = some.sample(LINES, some.randrange(len(LINES)))
+    return some.choice(["\n", "\r\n"]).join(lines)
+
+
+def tables_of(seed: int) -> Case:
+    """Tables made up, whatever the programs can say."""
     some = random.Random(seed)
     rows = [row_of(some) for _ in range(some.randrange(12))]
-    times = some.sample(range(86_400), some.randrange(6))
     messages = [
         message(
-            f"{it // 3600:02}:{it // 60 % 60:02}:{it % 60:02}",
+            clock(some),
             some.choice(CALLS),
             some.choice([*CALLS, "BLN1", "NWS-X"]),
             some.choice(TEXTS),
             id=some.choice(["", "7"]),
             state=some.choice(STATES),
         )
-        for it in times
+        for _ in range(some.randrange(6))
     ]
-    some.shuffle(LINES)
-    end = some.choice(["\n", "\r\n"])
-    return Case(rows, messages, end.join(LINES[: some.randrange(len(LINES))]))
+    return Case(table_text(Row, rows), table_text(Message, messages), roster_of(some))
 
 
-@pytest.fixture(scope="module")
-def both() -> List[Any]:
+def logged(seed: int) -> Case:
+    """The tables of a log."""
+    some = random.Random(seed)
+    log = log_of(some)
+    of = {word: run("aprsbook-table", word, given=log).decode() for word in ("rows", "messages")}
+    return Case(of["rows"], of["messages"], roster_of(some), log)
+
+
+@pytest.fixture(scope="module", params=[tables_of, logged])
+def both(request: pytest.FixtureRequest) -> List[Tuple[Case, Any]]:
     """Cases, each with what the page says of it."""
     folder = page_files.folder()
     if shutil.which("node") is None or not (folder / "roster.js").is_file():
         pytest.skip("needs node, and the page that reads tables")
-    made_up = [case_of(seed) for seed in range(CASES)]
+    cases = [request.param(seed) for seed in range(CASES)]
     given = [
-        {
-            "rows": table_text(Row, it.rows),
-            "messages": table_text(Message, it.messages),
-            "roster": it.roster,
-        }
-        for it in made_up
-    ]
-    # as the table shows them
-    cases = [
-        Case(
-            [*table.read(Row, it["rows"].splitlines())],
-            [*table.read(Message, it["messages"].splitlines())],
-            it["roster"],
-        )
-        for it in given
+        {"rows": it.rows_text, "messages": it.messages_text, "roster": it.roster} for it in cases
     ]
     script = pathlib.Path(__file__).resolve().parent / "page_says.mjs"
     done = subprocess.run(
@@ -159,8 +166,7 @@ def test_csv_of_places(both: List[Any]) -> None:
 
 def test_csv_of_messages(both: List[Any]) -> None:
     for case, said in both:
-        messages = sorted(case.messages, key=lambda it: str(it.first))
-        assert messages_csv(messages, Roster()) == said["messages (CSV)"], case
+        assert messages_csv(case.messages, Roster()) == said["messages (CSV)"], case
 
 
 def features(text: str) -> List[Any]:
@@ -234,3 +240,45 @@ def test_roster(both: List[Any]) -> None:
         ]
         assert told == said["expected"], case
         assert [it.line for it in roster.faults] == said["faults"], case
+
+
+def test_clocks(both: List[Any], tmp_path: pathlib.Path) -> None:
+    """A row says when the first of its receivers heard it: within it none differs from another."""
+    compared = 0
+    for case, said in both:
+        if not case.log:
+            continue
+        (tmp_path / "net.log").write_bytes(case.log)
+        spans = spans_of([str(tmp_path / "net.log")], 5)
+        assert len({(it.one, it.other) for it in spans}) == len(spans), case
+        told = {(it.one, it.other): it.ahead for it in spans if len(it.frames) >= FEWEST}
+        page = {(it["a"], it["b"]): it["by"] for it in said["clocks"]}
+        far = {names for names, ahead in told.items() if abs(ahead) > GAP}
+        assert far == {names for names, by in page.items() if abs(by) > GAP}, case
+        assert all(abs(told[names] - page[names]) < WITHIN for names in far), (told, page)
+        compared += len(far)
+    assert compared > 100 or not both[0][0].log
+
+
+def test_bytes_as_texts() -> None:
+    """Any bytes, as the table shows them."""
+    some = random.Random(71)
+    pieces = [it.encode("utf-8", "surrogateescape") for it in TEXTS]
+    octets = [b"".join(some.choices(pieces, k=3)) for _ in range(CASES)]
+    octets += [some.randbytes(some.randrange(1, 12)) for _ in range(10 * CASES)]
+    texts = [shown(it.decode("utf-8", "surrogateescape")) for it in octets]
+    folder = page_files.folder()
+    if shutil.which("node") is None or not (folder / "words.js").is_file():
+        pytest.skip("needs node, and the page that reads tables")
+    script = (
+        'import { readFileSync } from "node:fs"; import { pathToFileURL } from "node:url";'
+        "const { said } = await import(pathToFileURL(process.argv[1]).href);"
+        'process.stdout.write(JSON.stringify(JSON.parse(readFileSync(0, "utf8")).map(said)));'
+    )
+    done = subprocess.run(
+        ["node", "--input-type=module", "-e", script, folder / "words.js"],
+        input=json.dumps(texts).encode(),
+        capture_output=True,
+    )
+    assert done.returncode == 0, done.stderr.decode()
+    assert json.loads(done.stdout) == [table.text_of(it) for it in texts]

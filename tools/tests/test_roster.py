@@ -110,8 +110,8 @@ def test_what_is_written_is_read(
         return name if between == " " else '"' + name.replace('"', '""') + '"'
 
     text = "".join(f"{call}{between}{quoted(name)}{end}" for call, name in names.items())
-    if between == " " and any(name[0] in ",;" for name in names.values()):
-        return  # then it parts the line
+    if between == " " and any(name[0] in ',;"' for name in names.values()):
+        return  # then it parts the line, or begins a field in quotes
     roster = read_roster("\ufeff" * mark + text)
     assert {it.call: it.name for it in roster.expected} == names and not roster.faults
 
@@ -121,3 +121,10 @@ def test_each_line_is_an_entry_or_a_fault_or_says_nothing(text: str) -> None:
     roster = read_roster(text)
     assert all(call_of(it.call) == it.call for it in roster.expected)
     assert all(it.line >= 1 for it in roster.faults)
+
+
+def test_a_field_without_end_is_said_with_its_line() -> None:
+    roster = read_roster('call,name\nQ1A,"' + "x" * 200_000 + '"\nQ1B,Back\n')
+    assert [it.line for it in roster.faults] == [2] and [it.call for it in roster.expected] == [
+        "Q1B"
+    ]

@@ -141,7 +141,7 @@ SOME = st.builds(
     st.sampled_from(["Q1A", "Q1B-7"]),
     st.floats(1, 80),  # 0, 0 is no place
     st.floats(-180, 180),
-    text=st.text(max_size=5),
+    text=st.text(st.characters(blacklist_categories=("Cs", "Cc")), max_size=5),
 )
 
 

@@ -1,19 +1,20 @@
 """The reports of logs, by aprsbook and aprsbook-table; left out where these are missing."""
-import csv
-import io
 import json
 import pathlib
 import random
 import sqlite3
-from typing import Any, Dict, Iterable, List, Tuple
+from typing import Any, Dict, Iterable, List, Tuple, Type, TypeVar
 
 import pytest
 from conftest import EVENING, program, run, tried
 from hypothesis import given, settings
 from hypothesis import strategies as st
 
-from aprsbook_tools import ax25, kiss, log_file, moments
+from aprsbook_tools import ax25, kiss, log_file, moments, table
 from aprsbook_tools.spreadsheet import read_csv
+from aprsbook_tools.table import Message, Row
+
+T = TypeVar("T")
 
 # moment of that evening, source, what it sends, and perhaps over whom, and who hears it
 Sent = Tuple[str, str, str]
@@ -43,6 +44,12 @@ def lines(*words: str, given: bytes = b"") -> List[List[str]]:
     return [it.split("\t") for it in text.splitlines()[1:]]
 
 
+def table_of(kind: Type[T], *inputs: str, given: bytes = b"") -> List[T]:
+    """The table itself."""
+    text = run("aprsbook-table", table.WORDS[kind], *inputs, given=given).decode()
+    return [*table.read(kind, text.splitlines())]
+
+
 def test_an_ack_of_an_earlier_message_is_none_of_a_later_one() -> None:
     """The form said `ack` of a message that nobody acknowledged: its number was used before."""
     log = log_of(
@@ -54,14 +61,8 @@ def test_an_ack_of_an_earlier_message_is_none_of_a_later_one() -> None:
     )
     rows = read_csv(tried("ics-309", "--csv", given=log).stdout.decode())[1:]
     state = {it[4]: it[5] for it in rows}
-    assert state["one"] == "acknowledged"
-    table = csv.reader(
-        io.StringIO(run("aprsbook-table", "messages", given=log).decode()),
-        delimiter="\t",
-        quoting=csv.QUOTE_NONE,
-    )
-    head = next(table)
-    assert state == {it[head.index("text")]: it[head.index("state")] for it in table}
+    assert state == {"one": "acknowledged", "two": "unanswered"}
+    assert state == {it.text: it.state for it in table_of(Message, given=log)}
 
 
 def test_a_message_that_was_rejected_and_acknowledged_later() -> None:
@@ -72,31 +73,30 @@ def test_a_message_that_was_rejected_and_acknowledged_later() -> None:
             ("18:02:00", "Q1B", ":Q1A      :ack8"),
         ]
     )
-    text = run("aprsbook-table", "messages", given=log).decode().splitlines()
-    state = dict(zip(text[0].split("\t"), text[1].split("\t")))["state"]
+    [told] = table_of(Message, given=log)
     [row] = read_csv(tried("ics-309", "--csv", given=log).stdout.decode())[1:]
-    assert row[4:] == ["one", state]
+    assert row[4:] == ["one", "acknowledged"] == [told.text, told.state]
 
 
 def test_messages_of_the_evening() -> None:
-    listed = []
-    for shown in run("aprsbook", "show", *EVENING).decode().splitlines():
-        if shown.startswith("message "):
-            _, source, to, number, state, first, tail = shown.split(" ", 6)
-            listed.append(
-                [first, source, "" if number == "-" else number, to, tail.partition("Z:")[2], state]
-            )
+    told = [
+        [it.first, it.source, it.id, it.addressee, it.text, it.state]
+        for it in table_of(Message, *EVENING)
+    ]
     rows = read_csv(tried("ics-309", "--csv", *EVENING).stdout.decode())[1:]
-    assert sorted(rows) == sorted(listed) and len(rows) > 5
+    assert sorted(rows) == sorted(told) and len(rows) > 5
+    assert [it[0] for it in rows] == sorted(it[0] for it in rows)
 
 
 def test_last_heard_of_the_evening() -> None:
     last: Dict[str, str] = {}
     for path in EVENING:
-        for text in run("aprsbook", "convert", "log", path).decode().splitlines():
-            moment, receiver, digits = text.split(" ")
-            call = ax25.call_of(kiss.unwrap(bytes.fromhex(digits)[1:-1])[7:14])
-            last[call] = max(last.get(call, ""), f"{moment} {receiver}")
+        for text in run("aprsbook", "convert", "log", path).splitlines():
+            read = log_file.read_line(text)
+            assert read is not None
+            call = ax25.call_of(kiss.unwrap(bytes.fromhex(read.digits.decode())[1:-1])[7:14])
+            heard = f"{moments.text_of(read.moment)} {read.receiver}"
+            last[call] = max(last.get(call, ""), heard)
     told = {it[2]: f"{it[0]} {it[1]}" for it in lines("last-heard", *EVENING)}
     assert told == last
 
@@ -203,13 +203,8 @@ def test_an_emergency(tmp_path: pathlib.Path) -> None:
     # 54 degrees 30.00 minutes north, 3 degrees 30.00 minutes west, and the bits 0, 0, 0
     log = line("18:00:00", "Q1A-9", "`y:\x1cl \x1c>/", "543PPP")
     (folder / "RX1.log").write_bytes(log)
-    text = run("aprsbook-table", given=log).decode().splitlines()
-    row = dict(zip(text[0].split("\t"), text[1].split("\t")))
-    assert (row["says"], row["latitude"], row["longitude"]) == (
-        "emergency",
-        "54.5000000",
-        "-3.5000000",
-    )
+    [row] = table_of(Row, given=log)
+    assert (row.says, row.latitude, row.longitude) == ("emergency", 54.5, -3.5)
     told = tried("watch", "--emergency", "--day", "2024-06-21", "logs").stdout.decode()
     assert told.startswith("emergency: Q1A-9 reports an emergency")
 
@@ -247,12 +242,9 @@ def test_tracks_of_a_log_in_any_order_are_the_same(heard: Any, some: random.Rand
 
 
 def test_tracks_of_the_evening_have_each_place() -> None:
-    text = run("aprsbook-table", *EVENING).decode().splitlines()
-    head = text[0].split("\t")
-    rows = [dict(zip(head, it.split("\t"))) for it in text[1:]]
-    placed = [it for it in rows if it["latitude"]]
+    placed = [it for it in table_of(Row, *EVENING) if it.latitude is not None]
     features = json.loads(tried("tracks", "geojson", *EVENING).stdout)["features"]
     points = [it for it in features if it["geometry"]["type"] == "Point"]
     assert sorted(
         (it["properties"]["first"], *it["geometry"]["coordinates"]) for it in points
-    ) == sorted((it["first"], float(it["longitude"]), float(it["latitude"])) for it in placed)
+    ) == sorted((it.first, it.longitude, it.latitude) for it in placed)

@@ -16,6 +16,7 @@ from aprsbook_tools.errors import Fault
 
 CALL = re.compile(r"([A-Za-z0-9]{1,6})(?:-([0-9]|1[0-5]|\*))?")
 BEGIN = re.compile(r'\s*(?:"[^"]*"|[^\s,;"]+) *([,;\t])')
+PLAIN = re.compile(r'\s*"?([^\s"]+)"?\s*(.*)')
 LINE_END = re.compile(r"\r\n|\n|\r")
 # the names of columns in a head line
 HEADS = {
@@ -115,7 +116,11 @@ def read_roster(text: str) -> Roster:
     for number, line in enumerate(LINE_END.split(text.lstrip("\ufeff")), 1):
         if not line.strip() or line.lstrip().startswith("#"):
             continue
-        fields, head = fields_of(line), None
+        try:
+            fields, head = fields_of(line), None
+        except csv.Error as fault:
+            faults.append(LineFault(number, str(fault)))
+            continue
         if first:
             head, first = head_of(fields), False
         if head:
@@ -136,9 +141,14 @@ def fields_of(line: str) -> List[str]:
     """The fields of a line: what a comma, semicolon or tab parts, or else a call and a name."""
     begin = BEGIN.match(line)
     if begin:
-        fields = csv.reader([line.strip(" ")], delimiter=begin[1], skipinitialspace=True)
-        return [it.strip() for it in next(fields)]
-    return [it.strip('" ') for it in line.split(None, 1)]
+        return parted(line.strip(" "), begin[1])
+    plain = PLAIN.match(line)
+    return [plain[1], *parted(plain[2], "\x1f")] if plain else []
+
+
+def parted(line: str, sign: str) -> List[str]:
+    """The fields that a sign parts, some in quotes."""
+    return [it.strip() for it in next(csv.reader([line], delimiter=sign, skipinitialspace=True))]
 
 
 def head_of(fields: Sequence[str]) -> Optional[List[str]]:

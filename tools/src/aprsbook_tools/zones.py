@@ -34,6 +34,9 @@ def zone_of(text: str) -> Zone:
     try:
         return zoneinfo.ZoneInfo(text)
     except (zoneinfo.ZoneInfoNotFoundError, ValueError, OSError):
+        if not zoneinfo.available_timezones():  # as on Windows
+            raise ValueError(f"{text} is not known: zones by name need Python's tzdata, "
+                             "python3 -m pip install tzdata")
         raise ValueError(f"{text} is no zone, such as UTC, +02:00 or Europe/Berlin")
 
 

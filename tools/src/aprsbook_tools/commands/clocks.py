@@ -4,7 +4,7 @@ import contextlib
 import os
 import sys
 import tempfile
-from typing import IO, Dict, List, Tuple
+from typing import IO, Dict, List, Sequence, Tuple
 
 from aprsbook_tools import arguments, book, clocks, inputs, log_file, table, whole
 from aprsbook_tools.commands import Subparsers
@@ -65,8 +65,9 @@ def add_lines(path: str, file: IO[bytes], lines: Dict[str, List[bytes]], places:
         of_receiver.setdefault(read.moment, len(of_receiver))
 
 
-def run(args: argparse.Namespace) -> int:
-    items = inputs.of(args.inputs)
+def spans_of(paths: Sequence[str], step: int) -> List[clocks.Span]:
+    """The spans of each two receivers of logs; a change of more than so many seconds ends one."""
+    items = inputs.of(paths)
     for it in items:
         if it.is_book:
             raise Fault(f"{it.path}: a book has no longer what each receiver's clock said: give "
@@ -74,14 +75,18 @@ def run(args: argparse.Namespace) -> int:
     with contextlib.ExitStack() as stack:
         try:
             folder = stack.enter_context(tempfile.TemporaryDirectory())
-            paths, places = split(items, folder)
+            logs, places = split(items, folder)
         except OSError as fault:
             raise Fault(f"{fault.filename}: {fault.strerror}", OUTPUT) from fault
         # a gap of a second: the copies of a transmission stay apart where they can
-        heard = {receiver: table.rows([path], 1) for receiver, path in sorted(paths.items())}
+        heard = {receiver: table.rows([path], 1) for receiver, path in sorted(logs.items())}
         pairs = clocks.pairs(heard, places)
-    found = [span for (one, other), frames in pairs.items()
-             for span in clocks.spans(one, other, frames, args.step * 1000)]
+    return [span for (one, other), frames in pairs.items()
+            for span in clocks.spans(one, other, frames, step * 1000)]
+
+
+def run(args: argparse.Namespace) -> int:
+    found = spans_of(args.inputs, args.step)
     lines = [clocks.COLUMNS, *(span.words() for span in found)]
     whole.put(args.output, "".join("\t".join(it) + "\n" for it in lines), args.inputs)
     gap = args.gap or book.GAP

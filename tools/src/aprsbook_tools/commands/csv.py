@@ -17,7 +17,8 @@ def add_parser(subparsers: Subparsers) -> None:
         "csv",
         help="transmissions, messages, stations or things as CSV",
         description="The table of logs and books as CSV, in which no text off the air is a formula "
-        "to a spreadsheet. `fields` takes lines of fields with tabs between them, as of awk.",
+        "to a spreadsheet. `fields` takes lines of the table's fields with tabs between them, as "
+        "of awk or cut.",
     )
     parser.add_argument("table", choices=[*KINDS, FIELDS], help="which table")
     arguments.add_gap(parser)
@@ -34,13 +35,13 @@ def cell_of(value: Any) -> Cell:
 
 
 def fields_of(paths: List[str]) -> List[List[Cell]]:
-    """The fields of lines with tabs between them."""
+    """The fields of lines with tabs between them, as the table shows them."""
     texts = [sys.stdin.buffer.read()] if not paths else []
     for path in paths:
         with open(path, "rb") as file:
             texts.append(file.read())
     lines = b"".join(texts).decode("utf-8", "backslashreplace").split("\n")
-    return [[*line.rstrip("\r").split("\t")] for line in lines if line]
+    return [[*map(table.text_of, line.rstrip("\r").split("\t"))] for line in lines if line]
 
 
 def run(args: argparse.Namespace) -> int:

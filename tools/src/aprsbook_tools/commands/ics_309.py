@@ -1,7 +1,7 @@
 """The communications log of a net, as the form ICS 309 has it."""
 import argparse
 import re
-from typing import List, Sequence
+from typing import Iterable, List, Sequence
 
 from aprsbook_tools import moments, report
 from aprsbook_tools.commands import Subparsers
@@ -16,6 +16,7 @@ NAMES = ["from_name", "to_name"]
 ANSWERS = {"acknowledged": "ack", "rejected": "rej", "unanswered": "no ack"}
 # what completes the beginning of a moment
 WHOLE = "0000-01-01T00:00:00.000Z"
+BULLETIN = re.compile("BLN|NWS-")
 MOMENT = re.compile(r"\d{4}-\d\d-\d\d(T\d\d(:\d\d(:\d\d(\.\d{3})?)?)?)?Z?", re.ASCII)
 
 
@@ -71,7 +72,12 @@ def chosen(messages: Sequence[Message], args: argparse.Namespace) -> List[Messag
             station is None or station.is_of(it.source) or station.is_of(it.addressee)
         )
 
-    return sorted(filter(is_asked, messages), key=lambda it: it.first)
+    return in_order(filter(is_asked, messages))
+
+
+def in_order(messages: Iterable[Message]) -> List[Message]:
+    """Messages by their first moment; at one moment bulletins come last, as on the page."""
+    return sorted(messages, key=lambda it: (it.first, BULLETIN.match(it.addressee) is not None))
 
 
 def csv_of(messages: Sequence[Message], roster: Roster) -> str:

@@ -3,8 +3,7 @@
 So positions and statuses become frames anew, addressed to APZCSV: who reads the book sees that.
 """
 import csv
-import io
-from typing import IO, Dict, Iterator, Optional
+from typing import IO, Dict, Iterator, List, Optional
 
 from aprsbook_tools import ax25, moments
 from aprsbook_tools.errors import Fault
@@ -45,27 +44,46 @@ def frame(row: Dict[str, str]) -> Optional[bytes]:
         information = (">" + row["comment"]).encode("utf-8", "surrogateescape")[:ax25.MOST]
     else:
         return None
-    by = "" if row["heard"] in ("", row["source"]) else f",{row['heard']}*"
+    heard = row["heard"].rstrip("?")  # a guess, where the last address is WIDE1 or the like
+    by = "" if heard in ("", row["source"]) else f",{heard}*"
     return ax25.frame(row["source"], DESTINATION + by, information)
 
 
+def row_of(names: List[str], line: bytes) -> Dict[str, str]:
+    """A line by the names of the columns; ValueError of one that was cut short."""
+    text = line.decode("utf-8", "surrogateescape")
+    try:
+        [fields] = csv.reader([text], strict=True)
+    except (csv.Error, ValueError):
+        fields = []
+    if len(fields) != len(names) or "\0" in text:
+        raise ValueError(f"no whole line of {len(names)} fields")
+    return dict(zip(names, fields))
+
+
+def heard_of(row: Dict[str, str], options: Options) -> Heard:
+    """A row's frame; ValueError of one that isn't made anew."""
+    moment = int(row["utime"]) * 1000
+    moments.text_of(moment)
+    made = frame(row)
+    if made is None:
+        raise ValueError(f"a report that begins with {row['dti']!r} isn't made anew")
+    return Heard(moment, packets.receiver(options.name or "TEXT"), made)
+
+
 def read(file: IO[bytes], options: Options) -> Iterator[Found]:
-    """Dire Wolf's log in CSV, of positions and statuses."""
-    text = io.TextIOWrapper(file, "utf-8-sig", "surrogateescape", newline="")
-    table = csv.DictReader(text, restval="")
+    """Dire Wolf's log in CSV, of positions and statuses. A text there has no end of a line, so that
+    a line that was cut short takes none of the next ones in."""
+    head = file.readline()
+    names = head.decode("utf-8-sig", "replace").strip().split(",")
     for column in NEEDED:
-        if column not in (table.fieldnames or []):
+        if column not in names:
             raise Fault(f"no log of Dire Wolf in CSV: it has no column {column}")
-    for number, row in enumerate(table, 2):
-        line = ",".join(str(it) for it in row.values()).encode("utf-8", "surrogateescape")
+    for number, line in enumerate(file, 2):
+        line = line.rstrip(b"\r\n")
+        if not line or line == head.strip():  # of another day's log
+            continue
         try:
-            moment = int(row["utime"]) * 1000
-            moments.text_of(moment)
-            made = frame(row)
-            if made is None:
-                raise ValueError(f"a report that begins with {row['dti']!r} isn't made anew")
-            name = packets.receiver(options.name or "TEXT")
+            yield heard_of(row_of(names, line), options)
         except (ValueError, OverflowError) as fault:
             yield Refused(number, str(fault), line)
-            continue
-        yield Heard(moment, name, made)

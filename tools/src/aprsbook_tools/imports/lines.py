@@ -7,12 +7,13 @@ from typing import Callable, Iterable, Iterator, NamedTuple, Optional
 from aprsbook_tools import ax25, moments, zones
 from aprsbook_tools.imports import Found, Heard, Options, Refused, packets
 
-# where a packet begins in a line
-BEGIN = re.compile(rb"(?:^|[ \t\]|,])([A-Za-z0-9/-]+>[A-Za-z0-9*,_/-]+:.+)$", re.DOTALL)
+# where a packet begins in a line, perhaps behind aprx's mark of one that it didn't pass on
+BEGIN = re.compile(rb"(?:^|[ \t\]|,])[*#]?([A-Za-z0-9/-]+>[A-Za-z0-9*,_/-]+:.+)$", re.DOTALL)
 # Dire Wolf's marks: what it sent, and what didn't come by radio
 SENT = re.compile(rb"\[\d+[HL][^\]]*\]\s*$")
-NET = re.compile(rb"\[(?:\d+\.is\b|ig\b|ig>tx|rx>ig)[^\]]*\]\s*$")
-APRX = re.compile(rb"(\S+)\s+(?:([*#]?)([A-Za-z])\s+)$")
+NET = re.compile(rb"\[(?:\d+\.(?:is|AIS)\b|ig\b|ig>tx|rx>ig)[^\]]*\]\s*$")
+# aprx's interface, and R for received, d for received and not passed on, or T for sent
+APRX = re.compile(rb"(\S+)\s+([A-Za-z])\s+[*#]?$")
 EPOCH = re.compile(rb"^\s*(\d{10})(?:[.](\d{1,9})|(\d{3}))?(?![\d-])")
 # what aprs.fi says behind a packet
 SAYS = re.compile(rb" \[(?:Duplicate|Rate limited|Location changes|Invalid|Unsupported|Delayed|"
@@ -107,16 +108,14 @@ def monitor(file: Iterable[bytes], options: Options) -> Iterator[Found]:
 
 
 def aprx(file: Iterable[bytes], options: Options) -> Iterator[Found]:
-    """aprx's rf.log: a time, the interface, R for received or T for sent, and the packet."""
+    """aprx's rf.log: a time in UTC, the interface, R or d or T, and the packet."""
     def marks(part: Part) -> Mark:
         found = APRX.search(part.before)
-        if not found:
-            return Mark(left_out=True)
-        if found[1] == b"APRSIS" or found[3] not in (b"R", b"T"):
+        if not found or found[1] == b"APRSIS" or found[2] not in (b"R", b"d", b"T"):
             return Mark(left_out=True)
         time = part.before[:found.start(1)].rstrip()
-        return Mark(found[1].decode("ascii", "replace"), own=found[3] == b"T", time=time)
-    return read(file, options, marks, "raw")
+        return Mark(found[1].decode("ascii", "replace"), own=found[2] == b"T", time=time)
+    return read(file, options, marks, "direwolf")
 
 
 def aprs_fi(file: Iterable[bytes], options: Options) -> Iterator[Found]:

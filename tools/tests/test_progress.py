@@ -1,0 +1,42 @@
+"""How far long work is: said at a terminal, and nowhere else."""
+import io
+import os
+import select
+import sys
+import time
+from typing import Iterator, List, Optional
+
+import pytest
+
+from aprsbook_tools import progress
+
+
+def slowly() -> Iterator[int]:
+    for number in range(3):
+        time.sleep(1.5 * progress.STEP)
+        yield number
+
+
+@pytest.mark.parametrize("total, of", [(3, " of 3"), (None, "")])
+def test_items_are_counted_at_a_terminal(
+    monkeypatch: pytest.MonkeyPatch, total: Optional[int], of: str
+) -> None:
+    ours, theirs = os.openpty()
+    with open(theirs, "w", encoding="ascii") as terminal:
+        monkeypatch.setattr(sys, "stderr", terminal)
+        assert [*progress.counted(slowly(), "days", total)] == [0, 1, 2]
+        said = ""
+        while select.select([ours], [], [], 0.1)[0]:
+            said += os.read(ours, 1000).decode()
+    os.close(ours)
+    # each count takes the place of the one before, and at last the line is empty
+    counts = [f"\rdays: {number}{of}\x1b[K" for number in (1, 2, 3)]
+    assert said == "".join([*counts, "\r\x1b[K"])
+
+
+@pytest.mark.parametrize("there", [True, False])
+def test_nothing_is_said_elsewhere(monkeypatch: pytest.MonkeyPatch, there: bool) -> None:
+    said = io.StringIO()
+    monkeypatch.setattr(sys, "stderr", said if there else None)
+    found: List[int] = [*progress.counted(slowly(), "days")]
+    assert (found, said.getvalue()) == ([0, 1, 2], "")
