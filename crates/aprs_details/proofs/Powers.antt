@@ -1,9 +1,9 @@
 -- The products of powers of 1.002 in two tables.
 use Rattle.aprs_details.proofs.Common.{◌≡◌, ℕ, zero, suc, ◌+◌, ◌*◌, ◌^◌, ◌<◌, ◌≤◌, true, List, [], ◌∷◌, length, get_or, refl, sym, ap, subst, ◌∙◌, arith, eqb-true, and_parts}
-use Rattle.std.proofs.Math.Nat.{pow-zero, pow-succ', pow-suc, mul-one, mul-le-mul_right, div-eq_of_lt-le}
+use Rattle.std.proofs.Math.Nat.{pow-zero, pow-succ', pow-suc, mul-one, mul-le-mul_right, div-eq_of_lt-le, div-mul-le_self, lt-div-mul-add}
 use Rattle.std.proofs.lemmas.Nat.{mul-le, pow-add}
 use Rattle.std.proofs.lemmas.Bool.{ltb-true, leb-true}
-use Rattle.aprs_details.specs.Decimal.{nearest}
+use Rattle.aprs_details.specs.Decimal.{nearest, IsNearest}
 use Rattle.aprs_details.specs.GgaAltitude.{feet_of_cs, has_powers, rounded, is_settled, is_settled_by, are_settled}
 
 -- x is a / b cut off
@@ -109,3 +109,21 @@ pub multiplied_small : (c s : ℕ) (high low : List ℕ) → c < length high →
 multiplied_small c s high low lc ls h =
     let lt = ltb-true (get_or high c 0 * get_or low s 0) 39614081257132168796771975168 (and_parts _ _ (settled_at c s high low lc ls h)).0 in
     omega (arith, lt)
+
+-- ---- what is rounded is the nearest
+
+pow_positive : (k : ℕ) → 0 < 1000 ^ k
+pow_positive zero = omega (arith, pow-zero 1000)
+pow_positive (suc k) = omega (arith, pow-suc 1000 k, pow_positive k)
+
+nearest_is : (n d : ℕ) → 0 < d → IsNearest n d (nearest n d)
+nearest_is n d pos =
+    let twice : 0 < d * 2 = omega (arith, pos) in
+    record {
+      not_above = div-mul-le_self (n * 2 + d) (d * 2);
+      not_below = lt-div-mul-add {a = n * 2 + d} {b = d * 2} twice;
+    }
+
+pub altitude_is_nearest : (cs : ℕ) → IsNearest (1002 ^ cs) (1000 ^ cs) (feet_of_cs cs)
+unfolding feet_of_cs
+altitude_is_nearest cs = nearest_is (1002 ^ cs) (1000 ^ cs) (pow_positive cs)
