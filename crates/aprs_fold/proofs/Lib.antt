@@ -1,5 +1,6 @@
 pub mod Common
 pub mod Fronts
+pub mod Matches
 pub mod Reading
 pub mod Streamed
 pub mod Puttings

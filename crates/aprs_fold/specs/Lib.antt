@@ -2,6 +2,7 @@
 pub mod Inputs
 pub mod Fold
 pub mod Fronts
+pub mod Matches
 pub mod Streams
 pub mod Taking
 -- What public clauses cite of lower crates.

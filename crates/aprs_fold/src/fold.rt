@@ -13,9 +13,9 @@ ghost use Rattle.aprs_fold.specs.Fold as Spec;
 ghost use Rattle.aprs_fold.specs.Inputs.{book_of_all, AreAsked, AreBooks, IsRefused};
 
 use crate::fault::FoldFault;
-use crate::first::first_of;
 use crate::opening::{advance, open_all};
 use crate::taking::{count_after, put_last, take_front};
+use crate::tournament::Tournament;
 use aprs_booktext::{WrittenRow, end_line_and_lf, header_line};
 use aprs_io::{Counted, Outlet, WriteFault};
 use aprs_laws::Gap;
@@ -117,13 +117,15 @@ fn put_rows<R: Read, W: Write, A: Allocator + Copy>(
 {
     let mut opened = open_all(alloc, limit, gap, inputs)?;
     let streams = opened.as_mut_slice();
+    let mut tournament = Tournament::new(alloc, streams)?;
     let mut room = WrittenRow::new();
     let mut last = OpenRow::new(alloc);
     let mut count = 0;
-    while let Some(index) = first_of(streams) {
+    while let Some(index) = tournament.first(streams) {
         let wrote = take_front(gap, streams, index, &mut last, out, &mut room)?;
         count = count_after(count, wrote)?;
         advance(index, streams, inputs)?;
+        tournament.play_again(streams, index);
     }
     let all = count_after(count, last.row().is_some())?;
     put_last(&last, out, &mut room)?;

@@ -1,5 +1,6 @@
 use Rattle.aprs_fold.proofs.Common.{get_or, inl, inr, slice_get-get_or}
-use Rattle.aprs_fold.proofs.Reading.{ahead_less, ready_is, row_at-set, AreReading-after, AreReading-faulty, AreReading-on}
+use Rattle.std.proofs.lemmas.List.{length-set}
+use Rattle.aprs_fold.proofs.Reading.{ahead_less, ready_is, row_at-other, row_at-set, AreReading-after, AreReading-faulty, AreReading-on}
 use Rattle.aprs_fold.proofs.opening.advance.Goals as goal
 
 pub advance-requires-clause-few : goal.advance-requires-clause-few
@@ -36,6 +37,14 @@ returns-in-Ok-clause-one g c =
         | inr new ↦ inr (AreReading-after g.R.Read.remaining limit gap i first n s taken
             c.advance.new.source c.advance.new.self x y at h reading new)
       ],
+    )
+
+pub returns-in-Ok-clause-stays : goal.returns-in-Ok-clause-stays
+returns-in-Ok-clause-stays g c =
+    let s = c.args.streams.now in
+    let i = c.args.index in (
+      length-set s i c.advance.new.self,
+      λ k unlike. row_at-other s i k c.advance.new.self unlike,
     )
 
 pub returns-in-Ok-clause-less : goal.returns-in-Ok-clause-less
