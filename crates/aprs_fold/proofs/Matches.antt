@@ -1,6 +1,6 @@
 -- Matches between the rows in front of several streams.
 use Rattle.aprs_fold.proofs.Common.{◌≡◌, ◌≢◌, ◌<◌, ◌≤◌, ◌+◌, ◌-◌, ◌⊎◌, ◌∙◌, ℕ, zero, suc, List, [], ◌∷◌, length, get_or, set, Option, inl, inr, refl, sym, ap, subst, arith, cases_lt, Row}
-use Rattle.std.proofs.Common.{◌*◌, ◌/◌}
+use Rattle.std.proofs.Common.{◌*◌, ◌/◌, ◌==◌, true, false}
 use Rattle.aprs_booktext.specs.declared.row_stream.RowStream.{RowStream}
 use Rattle.aprs_fold.specs.Fronts.{row_at, NotAfter}
 use Rattle.aprs_fold.specs.Matches.{halved, winner_of, AreWithin, IsAbove, IsPlayed, IsPlayedBut, IsWon}
@@ -70,6 +70,26 @@ above_after number k h = elim h [
   | inl e ↦ (zero, omega (arith, e))
   | inr e ↦ (zero, omega (arith, e))
 ]
+
+-- ---- the matches before a number
+
+pub fewer_to_play : (number k : ℕ) → 1 < number → k < number
+    → (k ≡ number - 1) ⊎ (k < number - 1)
+fewer_to_play number k more lt = elim (cases_lt k (number - 1)) [
+  | inl less ↦ inr less
+  | inr up ↦ inl (omega (arith, up, lt, more))
+]
+
+pub second_to_play : (number k : ℕ) → 0 < k → (2 * k ≡ number) ⊎ (2 * k + 1 ≡ number)
+    → k < number
+second_to_play number k some h = elim h [
+  | inl e ↦ omega (arith, e, some)
+  | inr e ↦ omega (arith, e, some)
+]
+
+pub some_of : (count : ℕ) → (count == 0) ≡ false → 0 < count
+some_of zero e = absurd (let f : true ≡ false = e in cc)
+some_of (suc count) e = omega arith
 
 module _ {A : Type 0} (streams : List (RowStream A)) where
   not_after : (i j k l : ℕ) → i ≡ j → k ≡ l → NotAfter (row_at streams i) (row_at streams k)
