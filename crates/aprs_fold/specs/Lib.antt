@@ -1,5 +1,6 @@
 -- Definitions that contracts of folds cite.
 pub mod Inputs
+pub mod Begun
 pub mod Fold
 pub mod Fronts
 pub mod Matches

@@ -61,6 +61,13 @@ taken_at (s ∷ streams) zero (t ∷ taken) = (t ++ front_of s) ∷ taken
 taken_at (s ∷ streams) (suc index) (t ∷ taken) = t ∷ taken_at streams index taken
 taken_at streams index taken = taken
 
+-- Another element may stand at this place, and nowhere else.
+abbrev pub ChangesAt : {X : Type 0} → ℕ → List X → List X → Type 0
+ChangesAt index [] [] = Unit {0}
+ChangesAt zero (x ∷ old) (y ∷ new) = old ≡ new
+ChangesAt (suc index) (x ∷ old) (y ∷ new) = (x ≡ y) × ChangesAt index old new
+ChangesAt index old new = ⊥
+
 -- A fault that is no refusal of the output.
 abbrev pub IsOfInputs : FoldFault → Type 0
 IsOfInputs Write = ⊥

@@ -98,6 +98,7 @@ pub(crate) fn advance<R: Read, A: Allocator + Copy>(
     ensures less { OnOk result
         (Streams.ahead_of_all streams.new < Streams.ahead_of_all streams.old) }
     ensures own { IfErr result Streams.IsOfInputs }
+    ensures changes { Streams.ChangesAt index inputs.old inputs.new }
     ensures fault { IfErr result (λ fault. (limit gap : ℕ) (first : List (CountedValue R))
         (taken : List (List Row))
         → Streams.AreReading R.remaining limit gap first inputs.old streams.old taken

@@ -3,6 +3,7 @@ use Rattle.aprs_booktext.specs.declared.row_stream.RowStream.{RowStream}
 use Rattle.aprs_fold.specs.Streams.{AreReading}
 use Rattle.aprs_fold.specs.Taking.{IsThere}
 use Rattle.aprs_fold.specs.declared.fault.FoldFault.TheVariants.{Memory}
+use Rattle.aprs_fold.proofs.Begun.{ChangesAt-none}
 use Rattle.aprs_fold.proofs.Matches.{opened_again}
 use Rattle.aprs_fold.proofs.Puttings.{HasPut-fails}
 use Rattle.aprs_fold.proofs.Reading.{AreReading-asked, AreReading-len, AreReading-ready}
@@ -13,15 +14,16 @@ use Rattle.aprs_fold.proofs.fold.put_rows.Goals as goal
 pub returns-in_err-opened-clause-left : goal.returns-in_err-opened-clause-left
 returns-in_err-opened-clause-left g c =
     let p = err_from_is_err_and c.from_residual.result c.from_residual.ensures.1 in
-    rw (p.1, p.2) (leaves_none g.W.Write.contents c.args.gap _ c.args.out.now c.requires.range
+    rw (p.1, p.2) (leaves_none g.R.Read.remaining g.W.Write.contents c.args.limit c.args.gap
+    c.args.inputs.now c.open_all.new.inputs _ c.args.out.now c.requires.range
     c.in_err-opened.ensures.own)
 
 pub returns-in_err-tournament-clause-left : goal.returns-in_err-tournament-clause-left
 returns-in_err-tournament-clause-left g c =
     let p = err_from_is_err_and c.from_residual-in_err-tournament.result
     c.from_residual-in_err-tournament.ensures.1 in
-    rw (p.1, p.2) (leaves_none g.W.Write.contents c.args.gap Memory c.args.out.now c.requires.range
-    tt)
+    rw (p.1, p.2) (leaves_none g.R.Read.remaining g.W.Write.contents c.args.limit c.args.gap
+    c.args.inputs.now c.open_all.new.inputs Memory c.args.out.now c.requires.range tt)
 
 pub loop-index-init : goal.loop-index-init
 loop-index-init g c = record {
@@ -78,7 +80,8 @@ returns-in_err-count-clause-left g c =
     rw (p.1, p.2) (leaves_taken g.R.Read.remaining g.W.Write.contents c.args.limit c.args.gap c.args.inputs.now
     c.args.out.now c.requires.range c.loop-index.inputs c.loop-index.streams
     c.loop-index.out c.loop-index.last c.loop-index.count c.loop-index.invariant.walks c.in-Some.index f c.in_ok-wrote.wrote c.take_front.new.out t.0 c.in_ok-wrote.ensures.puts
-    c.take_front.new.last t.1 _ (memory_own _ c.in_err-count.ensures.fails))
+    c.take_front.new.last t.1 _ (memory_own _ c.in_err-count.ensures.fails) c.loop-index.inputs
+    (ChangesAt-none c.in-Some.index c.loop-index.inputs))
 
 pub returns-in_err-count-clause-asks : goal.returns-in_err-count-clause-asks
 returns-in_err-count-clause-asks g c =
@@ -114,7 +117,8 @@ returns-in_err-advance-clause-left g c =
     rw (p.1, p.2) (leaves_taken g.R.Read.remaining g.W.Write.contents c.args.limit c.args.gap c.args.inputs.now
     c.args.out.now c.requires.range c.loop-index.inputs c.loop-index.streams
     c.loop-index.out c.loop-index.last c.loop-index.count c.loop-index.invariant.walks c.in-Some.index f c.in_ok-wrote.wrote c.take_front.new.out t.0 c.in_ok-wrote.ensures.puts
-    c.take_front.new.last t.1 _ c.in_err-advance.ensures.own)
+    c.take_front.new.last t.1 _ c.in_err-advance.ensures.own c.advance.new.inputs
+    c.in_err-advance.ensures.changes)
 
 pub returns-in_err-advance-clause-asks : goal.returns-in_err-advance-clause-asks
 returns-in_err-advance-clause-asks g c =

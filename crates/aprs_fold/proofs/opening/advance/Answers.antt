@@ -1,5 +1,6 @@
 use Rattle.aprs_fold.proofs.Common.{get_or, inl, inr, slice_get-get_or}
 use Rattle.std.proofs.lemmas.List.{length-set}
+use Rattle.aprs_fold.proofs.Begun.{ChangesAt-set}
 use Rattle.aprs_fold.proofs.Reading.{ahead_less, ready_is, row_at-other, row_at-set, AreReading-after, AreReading-faulty, AreReading-on}
 use Rattle.aprs_fold.proofs.opening.advance.Goals as goal
 
@@ -55,6 +56,12 @@ returns-in-Ok-clause-less g c =
     let there = slice_get-get_or s i d c.requires.there in
     ahead_less i s (get_or s i d) c.advance.new.self there
     (ready_is i s (get_or s i d) there c.requires.ready).1 c.in-Ok.ensures.less
+
+pub returns-in-Ok-clause-changes : goal.returns-in-Ok-clause-changes
+returns-in-Ok-clause-changes g c = ChangesAt-set c.args.index c.args.inputs.now c.advance.new.source
+
+pub returns-in-Err-clause-changes : goal.returns-in-Err-clause-changes
+returns-in-Err-clause-changes g c = ChangesAt-set c.args.index c.args.inputs.now c.advance.new.source
 
 pub returns-in-Err-clause-fault : goal.returns-in-Err-clause-fault
 returns-in-Err-clause-fault g c =
