@@ -1,5 +1,5 @@
 -- How far the inputs' rows were taken, by the streams that read them.
-use Rattle.aprs_fold.proofs.Common.{◌≡◌, ◌∙◌, ℕ, zero, suc, false, true, List, [], ◌∷◌, ◌++◌, map, set, Option, None, Some, Ok, inl, inr, refl, sym, ap, subst, append_assoc, last_or, Counted, Row, millis_of}
+use Rattle.aprs_fold.proofs.Common.{◌≡◌, ◌∙◌, ℕ, zero, suc, false, List, [], ◌∷◌, ◌++◌, map, set, Option, None, Some, Ok, inl, inr, refl, sym, ap, subst, append_assoc, last_or, Counted, Row, millis_of}
 use Rattle.aprs_log.specs.LogText.{text_of_lines}
 use Rattle.aprs_booktext.specs.Piece.{bytes_left}
 use Rattle.aprs_booktext.specs.Reader.{gap_in, is_done, HasReadLines}

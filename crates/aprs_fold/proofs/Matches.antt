@@ -239,7 +239,7 @@ module _ {A : Type 0} (streams : List (RowStream A)) where
         subst (λ (n : ℕ). (each : length ws ≡ n) → AreWithin ws n
         → ((k : ℕ) → 0 < k → k < n → IsWon others ws k ⊎ IsAbove (n + s) k)
         → IsPlayedBut others ws (IsAbove (length others + s))) len
-        (λ each within won. record { each = each; within = within; won = won; })
+        (λ each within won. record { each = each; within = within; won = won })
         h.each h.within
         (λ k some lt. elim (same_or_not (winner_of ws k) s) [
           | inl e ↦ inr (after_own s k e some lt)

@@ -325,21 +325,21 @@ module _ {R W A : Type 0} (remaining : R → Option (List ℕ)) (contents : W �
           AreReading-ended remaining limit gap first now streams w.taken none w.reading,
           subst (λ (l : List Row). PutsRows remaining contents limit gap first now n begun next l)
               book (record {
-            counted = counted
-                ∙ count_put some count (length w.written) (length last) w.counted
-                (len_there some last known)
-                ∙ sym (length-append w.written last);
-            puts = both.puts;
-            book = record {
-              written = w.written;
-              last = last;
-              begun = here;
-              before = folded_whole gap range (all_of w.taken) (fronts_of streams) w.written last
-                  w.folding w.put.spelled;
-              all = refl;
-              whole = whole;
-            };
-          }),
+                counted = counted
+                    ∙ count_put some count (length w.written) (length last) w.counted
+                    (len_there some last known)
+                    ∙ sym (length-append w.written last);
+                puts = both.puts;
+                book = record {
+                  written = w.written;
+                  last = last;
+                  begun = here;
+                  before = folded_whole gap range (all_of w.taken) (fronts_of streams) w.written last
+                      w.folding w.put.spelled;
+                  all = refl;
+                  whole = whole;
+                };
+              }),
         ) where
           len_there : (wrote : Bool) (last : List Row) → IsThere wrote last
               → length last ≡ cond wrote 1 0

@@ -41,7 +41,7 @@ returns-clause-folds g c =
       h.0,
       h.1,
       Puts-ok (text_ends g.R.Read.remaining g.W.Write.contents c.args.limit c.args.gap
-    c.args.inputs.now c.put_rows.new.inputs (Ok tt) c.args.out.now c.put_header.new.out
+          c.args.inputs.now c.put_rows.new.inputs (Ok tt) c.args.out.now c.put_header.new.out
           c.put_rows.new.out c.put.new.self c.in_ok-count.count _
           (Puts-ok c.in_ok-put_header.ensures.puts) h.2 (Puts-is c.in_ok-put.ensures (cc))),
       h.2.book,
