@@ -1,6 +1,8 @@
 pub mod Common
 pub mod Fronts
+pub mod Matches
 pub mod Reading
+pub mod Begun
 pub mod Streamed
 pub mod Puttings
 pub mod Walking

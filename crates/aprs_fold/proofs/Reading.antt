@@ -1,5 +1,5 @@
 -- Several streams of rows, of which one is read on.
-use Rattle.aprs_fold.proofs.Common.{◌≡◌, ◌<◌, ◌≤◌, ◌+◌, ◌⊎◌, ◌∙◌, ℕ, zero, suc, Bool, true, false, cond, List, [], ◌∷◌, ◌++◌, length, set, Option, None, Some, Ok, Err, inl, inr, refl, sym, ap, subst, arith, last_or, slice_get, in_either, in_left, in_right, Calls, Going, Fault, End, Last, Counted, Row, row_cmp, IsUpTo, IsBelow, Ordered, SameMembers, ◌∈◌}
+use Rattle.aprs_fold.proofs.Common.{◌≡◌, ◌≢◌, ◌<◌, ◌≤◌, ◌+◌, ◌⊎◌, ◌∙◌, ℕ, zero, suc, Bool, true, false, cond, List, [], ◌∷◌, ◌++◌, length, set, Option, None, Some, Ok, Err, inl, inr, refl, sym, ap, subst, arith, last_or, slice_get, in_either, in_left, in_right, Calls, Going, Fault, End, Last, Counted, Row, row_cmp, IsUpTo, IsBelow, Ordered, SameMembers, ◌∈◌}
 use Rattle.std.specs.Ordering.{is_gt}
 use Rattle.aprs_booktext.specs.Asking.{AsksAt}
 use Rattle.aprs_booktext.specs.Reader.{gap_in, HoldsIn}
@@ -386,6 +386,16 @@ row_at-set (s ∷ streams) zero zero r y e = inr e
 row_at-set (s ∷ streams) zero (suc k) r y e = inl e
 row_at-set (s ∷ streams) (suc i) zero r y e = inl e
 row_at-set (s ∷ streams) (suc i) (suc k) r y e = row_at-set streams i k r y e
+
+-- the others are as before
+pub row_at-other : {A : Type 0} (streams : List (RowStream A)) (i k : ℕ) (r : RowStream A) → k ≢ i
+    → row_at (set streams i r) k ≡ row_at streams k
+row_at-other [] i k r unlike = refl
+row_at-other (s ∷ streams) zero zero r unlike = absurd (unlike refl)
+row_at-other (s ∷ streams) zero (suc k) r unlike = refl
+row_at-other (s ∷ streams) (suc i) zero r unlike = refl
+row_at-other (s ∷ streams) (suc i) (suc k) r unlike =
+    row_at-other streams i k r (λ e. unlike (ap suc e))
 
 -- less is ahead
 less_ahead : (b c : Bool) (m n : ℕ) → b ≡ false → (c ≡ false → m < n)

@@ -1,5 +1,5 @@
 -- The text of a fold, from its header to its last line.
-use Rattle.aprs_fold.proofs.Common.{◌≡◌, ◌∙◌, ℕ, List, [], ◌∷◌, ◌++◌, append-nil, length, map, Option, Result, Ok, Err, refl, sym, ap, subst, Puts, Puts-fails, Puts-is, Puts-then, Sends-unput, Counted, Row, IsGap, millis_of}
+use Rattle.aprs_fold.proofs.Common.{◌≡◌, ◌∙◌, inl, ℕ, List, [], ◌∷◌, ◌++◌, append-nil, length, map, Option, Result, Ok, Err, refl, sym, ap, subst, Puts, Puts-fails, Puts-is, Puts-then, Sends-unput, Counted, Row, IsGap, millis_of}
 use Rattle.std.specs.Io.KnownBytes.{Appends}
 use Rattle.aprs_io.proofs.Common.{Appends-trans}
 use Rattle.aprs_io.proofs.Sends.{left_of_both}
@@ -33,17 +33,16 @@ row_lines : (rows : List Row) → text_of_lines (map (row_line Millis) rows) ≡
 row_lines [] = refl
 row_lines (x ∷ rows) = ap (λ l. line_and_lf x ++ l) (row_lines rows)
 
-module _ {W : Type 0} (contents : W → Option (List ℕ)) (gap : ℕ) where
+module _ {R W : Type 0} (remaining : R → Option (List ℕ)) (contents : W → Option (List ℕ))
+    (limit gap : ℕ) (begun now : List (Counted R)) where
   -- the header was refused
   pub leaves_header : {E : Type 0} {e : E} (old new : Outlet W) → IsGap gap
       → Puts {E = E} contents (Err e) old new (header_text gap)
-      → LeavesText contents gap Write old new
+      → LeavesText remaining contents limit gap Write begun now old new
   leaves_header old new range put = record {
-    read = [];
-    front = [];
     rows = [];
     last = [];
-    folding = begins (millis_of gap) [];
+    begun = inl (refl, refl);
     rows_are = folded_whole gap range [] [] [] [] (begins (millis_of gap) []) (λ x h. absurd h);
     put = Puts-is (Puts-fails (Err Write) refl put (ended_by_lf (end_line 0)))
         (sym (text_is gap [] 0 refl));
@@ -52,14 +51,13 @@ module _ {W : Type 0} (contents : W → Option (List ℕ)) (gap : ℕ) where
   module _ (old mid new : Outlet W) (header : Puts {E = Unit {0}} contents (Ok tt) old mid
       (header_text gap)) where
     -- the fold ended within the rows
-    pub leaves_rows : (fault : FoldFault) → held_of mid ≡ [] → LeavesRows contents gap fault mid new
-        → LeavesText contents gap fault old new
+    pub leaves_rows : (fault : FoldFault) → held_of mid ≡ []
+        → LeavesRows remaining contents limit gap fault begun now mid new
+        → LeavesText remaining contents limit gap fault begun now old new
     leaves_rows fault none h = record {
-      read = h.read;
-      front = h.front;
       rows = h.rows;
       last = h.last;
-      folding = h.folding;
+      begun = h.begun;
       rows_are = h.rows_are;
       put = by_fault fault h.rows h.last h.put;
     } where
@@ -77,7 +75,7 @@ module _ {W : Type 0} (contents : W → Option (List ℕ)) (gap : ℕ) where
   -- the last line was put, or not
   pub text_ends : {E : Type 0} (r : Result (Unit {0}) E) (old mid put new : Outlet W) (count : ℕ)
       (rows : List Row) → Puts {E = Unit {0}} contents (Ok tt) old mid (header_text gap)
-      → PutsRows contents gap count mid put rows
+      → PutsRows remaining contents limit gap begun now count mid put rows
       → Puts contents r put new (ended_by_lf (end_line count))
       → Puts contents r old new (written_text (book_of gap rows))
   text_ends r old mid put new count rows header lines end =
@@ -86,15 +84,13 @@ module _ {W : Type 0} (contents : W → Option (List ℕ)) (gap : ℕ) where
 
   -- where the output was refused after all rows, a prefix of the text went out
   pub leaves_all : {E : Type 0} {e : E} (old new : Outlet W) (rows : List Row)
-      → IsFoldedBook gap rows
+      → IsFoldedBook remaining limit gap begun now rows
       → Puts {E = E} contents (Err e) old new (written_text (book_of gap rows))
-      → LeavesText contents gap Write old new
+      → LeavesText remaining contents limit gap Write begun now old new
   leaves_all old new rows book put = record {
-    read = book.read;
-    front = book.front;
     rows = book.written;
     last = book.last;
-    folding = book.folding;
+    begun = book.begun;
     rows_are = book.before;
     put = Puts-is (Puts-fails (Err Write) refl put [])
         (append-nil (written_text (book_of gap rows))
@@ -135,29 +131,26 @@ module _ {W : Type 0} (contents : W → Option (List ℕ)) (gap : ℕ) where
     parts (OtherGap index) rows last whole put = sent_part rows whole put.0 put.1 put.2 put.3
     parts Memory rows last whole put = sent_part rows whole put.0 put.1 put.2 put.3
 
-    pub leaves_text : (fault : FoldFault) → LeavesText contents gap fault o p
-        → IsLeft contents gap fault first (writer_of p)
+    pub leaves_text : (fault : FoldFault)
+        → LeavesText remaining contents limit gap fault begun now o p
+        → IsLeft remaining contents limit gap fault begun now first (writer_of p)
     leaves_text fault h = record {
-      read = h.read;
-      front = h.front;
       rows = h.rows;
       last = h.last;
-      folding = h.folding;
+      begun = h.begun;
       rows_are = h.rows_are;
       part = parts fault h.rows h.last h.rows_are h.put;
     }
 
   -- the whole text was put, but not sent
   pub leaves_sent : {E : Type 0} {e : E} (first last : Counted W) (rows : List Row)
-      → IsFoldedBook gap rows
+      → IsFoldedBook remaining limit gap begun now rows
       → Sends {E = E} contents (Err e) first last (written_text (book_of gap rows))
-      → IsLeft contents gap Write first last
+      → IsLeft remaining contents limit gap Write begun now first last
   leaves_sent first last rows book sent = record {
-    read = book.read;
-    front = book.front;
     rows = book.written;
     last = book.last;
-    folding = book.folding;
+    begun = book.begun;
     rows_are = book.before;
     part = subst (λ (l : List Row). AppendsPrefix (contents first.device) (contents last.device)
         (written_text (book_of gap l))) book.all sent.prefix;

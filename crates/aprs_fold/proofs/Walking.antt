@@ -13,13 +13,15 @@ use Rattle.aprs_booktext.specs.declared.version.Version.TheVariants.{Three}
 use Rattle.aprs_booktext.proofs.BookRows.{rows_are}
 use Rattle.aprs_folding.specs.Folding.{rows_put, IsFolding, NoneIsBefore, TakesNext}
 use Rattle.aprs_folding.proofs.Steps.{begins, ends_as_book, takes_on}
+use Rattle.aprs_fold.specs.Begun.{IsBegun}
 use Rattle.aprs_fold.specs.Fold.{IsWhole, LeavesRows, PutsPart, PutsRows}
 use Rattle.aprs_fold.specs.Fronts.{row_at, IsFirst, NotAfter}
 use Rattle.aprs_fold.specs.Inputs.{all_of, book_of_all, AreBooks, IsRefused}
-use Rattle.aprs_fold.specs.Streams.{fronts_of, taken_at, AreReading, GoesOn, IsOfInputs}
+use Rattle.aprs_fold.specs.Streams.{fronts_of, taken_at, AreReading, ChangesAt, GoesOn, IsOfInputs}
 use Rattle.aprs_fold.specs.Taking.{lines_of_rows, AreSpelled, ClosesFor, FailsTaking, HasPut, IsThere}
 use Rattle.aprs_fold.specs.declared.fault.FoldFault.{FoldFault}
 use Rattle.aprs_fold.specs.declared.fault.FoldFault.TheVariants.{Input, OtherGap, Memory, Write}
+use Rattle.aprs_fold.proofs.Begun.{folded_all, folded_one, ChangesAt-none}
 use Rattle.aprs_fold.proofs.Puttings.{HasPut-fails, HasPut-none, HasPut-then, there_put}
 use Rattle.aprs_fold.proofs.Reading.{AreReading-ended, AreReading-front, AreReading-in, AreReading-taken}
 
@@ -115,14 +117,14 @@ parts_by contents Memory rows last old new is put = put
 parts_by contents Write rows last old new is put = absurd is
 
 -- before the first row nothing was put
-pub leaves_none : {W : Type 0} (contents : W → Option (List ℕ)) (gap : ℕ) (fault : FoldFault)
-    (o : Outlet W) → IsGap gap → IsOfInputs fault → LeavesRows contents gap fault o o
-leaves_none contents gap fault o range is = record {
-  read = [];
-  front = [];
+pub leaves_none : {R W : Type 0} (remaining : R → Option (List ℕ))
+    (contents : W → Option (List ℕ)) (limit gap : ℕ) (first now : List (Counted R))
+    (fault : FoldFault) (o : Outlet W) → IsGap gap → IsOfInputs fault
+    → LeavesRows remaining contents limit gap fault first now o o
+leaves_none remaining contents limit gap first now fault o range is = record {
   rows = [];
   last = [];
-  folding = begins (millis_of gap) [];
+  begun = inl (refl, refl);
   rows_are = folded_whole gap range [] [] [] [] (begins (millis_of gap) []) (λ x h. absurd h);
   put = parts_by contents fault [] [] o o is (HasPut-none {contents = contents} o).puts;
 }
@@ -168,14 +170,16 @@ module _ {R W A : Type 0} (remaining : R → Option (List ℕ)) (contents : W �
       (out : Outlet W) (last : List Row) (count : ℕ)
       (w : Walking remaining contents limit gap first now streams begun out last count) where
     -- a fault of the inputs, where no row was taken any more
+    here : IsBegun remaining limit gap first now w.written last
+    here = inr (folded_all remaining limit gap first now streams w.taken w.written last w.reading
+        w.folding)
+
     pub leaves_here : (fault : FoldFault) → IsOfInputs fault
-        → LeavesRows contents gap fault begun out
+        → LeavesRows remaining contents limit gap fault first now begun out
     leaves_here fault is = record {
-      read = all_of w.taken;
-      front = fronts_of streams;
       rows = w.written;
       last = last;
-      folding = w.folding;
+      begun = here;
       rows_are = folded_whole gap range (all_of w.taken) (fronts_of streams) w.written last w.folding
           w.put.spelled;
       put = parts_by contents fault w.written last begun out is w.put.puts;
@@ -185,13 +189,11 @@ module _ {R W A : Type 0} (remaining : R → Option (List ℕ)) (contents : W �
     pub leaves_write : {E : Type 0} {e : E} (next : Outlet W)
         → Puts {E = E} contents (Err e) out next (lines_of_rows last)
         → Puts {E = FoldFault} contents (Err Write) begun next (lines_of_rows (w.written ++ last))
-        → LeavesRows contents gap Write begun next
+        → LeavesRows remaining contents limit gap Write first now begun next
     leaves_write {E} {e} next put all = record {
-      read = all_of w.taken;
-      front = fronts_of streams;
       rows = w.written;
       last = last;
-      folding = w.folding;
+      begun = here;
       rows_are = folded_whole gap range (all_of w.taken) (fronts_of streams) w.written last w.folding
           w.put.spelled;
       put = all;
@@ -209,27 +211,31 @@ module _ {R W A : Type 0} (remaining : R → Option (List ℕ)) (contents : W �
           (put : HasPut contents out next (rows_put wrote last)) where
         -- with it the rows that are written are final, whatever stays in front
         takes_here : (new : List Row) → TakesNext wrote (millis_of gap) last f.row new
-            → IsFolding (millis_of gap) (f.row ∷ all_of w.taken) (fronts_of streams)
+            → IsFolding (millis_of gap) (all_of (taken_at streams i w.taken)) (fronts_of streams)
             (w.written ++ rows_put wrote last) new
         takes_here new takes = takes_on (millis_of gap) (all_of w.taken) (fronts_of streams)
-            w.written last f.row wrote (f.row ∷ all_of w.taken) (fronts_of streams) new w.folding
+            w.written last f.row wrote (all_of (taken_at streams i w.taken)) (fronts_of streams) new
+            w.folding
             (AreReading-in remaining limit gap i first now streams w.taken f.row f.is w.reading)
-            sound (λ z. ((λ h. h), (λ h. h))) none_before takes
+            sound
+            (AreReading-taken remaining limit gap i first now streams w.taken f.row f.is w.reading)
+            none_before takes
 
         -- a fault of the inputs after it was taken
         pub leaves_taken : (new : List Row) → TakesNext wrote (millis_of gap) last f.row new
-            → (fault : FoldFault) → IsOfInputs fault → LeavesRows contents gap fault begun next
-        leaves_taken new takes fault is =
+            → (fault : FoldFault) → IsOfInputs fault → (others : List (Counted R))
+            → ChangesAt i now others
+            → LeavesRows remaining contents limit gap fault first others begun next
+        leaves_taken new takes fault is others changes =
             let both = HasPut-then begun out next w.written (rows_put wrote last) w.put put in
             let folding = takes_here new takes in
             record {
-              read = f.row ∷ all_of w.taken;
-              front = fronts_of streams;
               rows = w.written ++ rows_put wrote last;
               last = new;
-              folding = folding;
-              rows_are = folded_whole gap range (f.row ∷ all_of w.taken) (fronts_of streams)
-                  (w.written ++ rows_put wrote last) new folding both.spelled;
+              begun = inr (folded_one remaining limit gap i first now others streams w.taken f.row
+                  (w.written ++ rows_put wrote last) new changes f.is w.reading folding);
+              rows_are = folded_whole gap range (all_of (taken_at streams i w.taken))
+                  (fronts_of streams) (w.written ++ rows_put wrote last) new folding both.spelled;
               put = parts_by contents fault (w.written ++ rows_put wrote last) new begun next is
                   both.puts;
             }
@@ -271,18 +277,16 @@ module _ {R W A : Type 0} (remaining : R → Option (List ℕ)) (contents : W �
       leaves_by : (fault : FoldFault) (next : Outlet W) → IsSoundRow f.row → (wrote : Bool)
           → HasPut contents out next (rows_put wrote last)
           → ClosesFor wrote (millis_of gap) last f.row → IsOfInputs fault
-          → LeavesRows contents gap fault begun next
+          → LeavesRows remaining contents limit gap fault first now begun next
       leaves_by fault next sound true put closes is =
-          leaves_taken true next sound put (f.row ∷ []) closes fault is
+          leaves_taken true next sound put (f.row ∷ []) closes fault is now (ChangesAt-none i now)
       leaves_by fault next sound false put closes is =
           let both = HasPut-then begun out next w.written [] w.put put in
           let same : w.written ++ [] ≡ w.written = append-nil w.written in
           record {
-            read = all_of w.taken;
-            front = fronts_of streams;
             rows = w.written;
             last = last;
-            folding = w.folding;
+            begun = here;
             rows_are = folded_whole gap range (all_of w.taken) (fronts_of streams) w.written last
                 w.folding w.put.spelled;
             put = parts_by contents fault w.written last begun next is
@@ -293,7 +297,7 @@ module _ {R W A : Type 0} (remaining : R → Option (List ℕ)) (contents : W �
       -- a fault as it was taken
       pub leaves_taking : (fault : FoldFault) (next : Outlet W) → IsSoundRow f.row
           → FailsTaking contents (millis_of gap) fault out next last f.row
-          → LeavesRows contents gap fault begun next
+          → LeavesRows remaining contents limit gap fault first now begun next
       leaves_taking Write next sound fails =
           leaves_write next fails (HasPut-fails begun out next w.written last w.put fails)
       leaves_taking (Input index fault) next sound fails = absurd fails
@@ -307,7 +311,7 @@ module _ {R W A : Type 0} (remaining : R → Option (List ℕ)) (contents : W �
         → HasPut contents out next (rows_put wrote last)
         → n ≡ cond some (count + 1) count
         → (rows : List (List Row)) × AreBooks remaining limit gap first now rows
-        × PutsRows contents gap n begun next (book_of_all gap rows).rows
+        × PutsRows remaining contents limit gap first now n begun next (book_of_all gap rows).rows
     walk_ends none some wrote next n known there put counted =
         let both = HasPut-then begun out next w.written last w.put
         (subst (λ (l : List Row). HasPut contents out next l) (there_put wrote last there) put) in
@@ -319,24 +323,23 @@ module _ {R W A : Type 0} (remaining : R → Option (List ℕ)) (contents : W �
         both.spelled in (
           w.taken,
           AreReading-ended remaining limit gap first now streams w.taken none w.reading,
-          subst (λ (l : List Row). PutsRows contents gap n begun next l) book (record {
-            counted = counted
-                ∙ count_put some count (length w.written) (length last) w.counted
-                (len_there some last known)
-                ∙ sym (length-append w.written last);
-            puts = both.puts;
-            book = record {
-              read = all_of w.taken;
-              front = fronts_of streams;
-              written = w.written;
-              last = last;
-              folding = w.folding;
-              before = folded_whole gap range (all_of w.taken) (fronts_of streams) w.written last
-                  w.folding w.put.spelled;
-              all = refl;
-              whole = whole;
-            };
-          }),
+          subst (λ (l : List Row). PutsRows remaining contents limit gap first now n begun next l)
+              book (record {
+                counted = counted
+                    ∙ count_put some count (length w.written) (length last) w.counted
+                    (len_there some last known)
+                    ∙ sym (length-append w.written last);
+                puts = both.puts;
+                book = record {
+                  written = w.written;
+                  last = last;
+                  begun = here;
+                  before = folded_whole gap range (all_of w.taken) (fronts_of streams) w.written last
+                      w.folding w.put.spelled;
+                  all = refl;
+                  whole = whole;
+                };
+              }),
         ) where
           len_there : (wrote : Bool) (last : List Row) → IsThere wrote last
               → length last ≡ cond wrote 1 0

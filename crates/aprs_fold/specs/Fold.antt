@@ -7,7 +7,6 @@ use Rattle.aprs_io.specs.Outlet.{held_of, Puts}
 use Rattle.aprs_io.specs.declared.device.Counted.{Counted}
 use Rattle.aprs_io.specs.declared.outlet.Outlet.{Outlet}
 use Rattle.aprs_io.specs.declared.input.InputEnd.TheVariants as how
-use Rattle.aprs_laws.specs.Gap.{millis_of}
 use Rattle.aprs_laws.specs.Row.{Row}
 use Rattle.aprs_booktext.specs.RowLines.{ended_by_lf, line_and_lf}
 use Rattle.aprs_booktext.specs.Text.{written_text, IsBookRows}
@@ -15,7 +14,7 @@ use Rattle.aprs_booktext.specs.TextFault.{HasBookFault}
 use Rattle.aprs_booktext.specs.Version.{header_of}
 use Rattle.aprs_booktext.specs.declared.fault.BookCause.TheVariants as why
 use Rattle.aprs_booktext.specs.declared.version.Version.TheVariants.{Three}
-use Rattle.aprs_folding.specs.Folding.{IsFolding}
+use Rattle.aprs_fold.specs.Begun.{IsBegun}
 use Rattle.aprs_fold.specs.Taking.{lines_of_rows}
 use Rattle.aprs_fold.specs.declared.fault.FoldFault.{FoldFault}
 use Rattle.aprs_fold.specs.declared.fault.FoldFault.TheVariants.{Write}
@@ -46,37 +45,36 @@ IsPart contents gap fault rows last old new = (part : List ℕ) × (rest : List 
     × LacksEnd (header_text gap ++ part)
 
 -- What was written before the fold ended early: a part of such a text. Of the rows that were taken
--- these are final (`BeginsBook`): whatever the inputs go on to be, they begin the book of all; with
--- the last they are the book of those that were taken (`EndsAsBook`).
-pub record IsLeft {W : Type 0} (contents : W → Option (List ℕ)) (gap : ℕ) (fault : FoldFault)
-    (old new : Counted W) : Type 0 where
-  pub read : List Row
-  pub front : List Row
+-- of the inputs these are final (`BeginsBook`): whatever the inputs go on to be, they begin the book
+-- of all; with the last they are the book of those that were taken (`EndsAsBook`).
+pub record IsLeft {R W : Type 0} (remaining : R → Option (List ℕ))
+    (contents : W → Option (List ℕ)) (limit gap : ℕ) (fault : FoldFault)
+    (first now : List (Counted R)) (old new : Counted W) : Type 0 where
   pub rows : List Row
   pub last : List Row
-  pub folding : IsFolding (millis_of gap) read front rows last
+  pub begun : IsBegun remaining limit gap first now rows last
   pub rows_are : IsWhole gap rows
   pub part : IsPart contents gap fault rows last old new
 
 -- ---- the same of what was put
 
 -- The rows are those of a book, which were taken and written one after another.
-pub record IsFoldedBook (gap : ℕ) (rows : List Row) : Type 0 where
-  pub read : List Row
-  pub front : List Row
+pub record IsFoldedBook {R : Type 0} (remaining : R → Option (List ℕ)) (limit gap : ℕ)
+    (first now : List (Counted R)) (rows : List Row) : Type 0 where
   pub written : List Row
   pub last : List Row
-  pub folding : IsFolding (millis_of gap) read front written last
+  pub begun : IsBegun remaining limit gap first now written last
   pub before : IsWhole gap written
   pub all : rows ≡ written ++ last
   pub whole : IsWhole gap rows
 
 -- The lines of these rows were put, and there are so many.
-pub record PutsRows {W : Type 0} (contents : W → Option (List ℕ)) (gap count : ℕ)
+pub record PutsRows {R W : Type 0} (remaining : R → Option (List ℕ))
+    (contents : W → Option (List ℕ)) (limit gap : ℕ) (first now : List (Counted R)) (count : ℕ)
     (old new : Outlet W) (rows : List Row) : Type 0 where
   pub counted : count ≡ length rows
   pub puts : Puts {E = Unit {0}} contents (Ok tt) old new (lines_of_rows rows)
-  pub book : IsFoldedBook gap rows
+  pub book : IsFoldedBook remaining limit gap first now rows
 
 -- The lines of the rows were put; at `Write` a prefix of them and of the last row's line went out.
 abbrev pub PutsPart : {W : Type 0} → (W → Option (List ℕ)) → FoldFault → List Row → List Row
@@ -87,13 +85,12 @@ PutsPart contents fault rows last old new =
     Puts {E = Unit {0}} contents (Ok tt) old new (lines_of_rows rows)
 
 -- What was put of the rows before the fold ended early.
-pub record LeavesRows {W : Type 0} (contents : W → Option (List ℕ)) (gap : ℕ) (fault : FoldFault)
-    (old new : Outlet W) : Type 0 where
-  pub read : List Row
-  pub front : List Row
+pub record LeavesRows {R W : Type 0} (remaining : R → Option (List ℕ))
+    (contents : W → Option (List ℕ)) (limit gap : ℕ) (fault : FoldFault)
+    (first now : List (Counted R)) (old new : Outlet W) : Type 0 where
   pub rows : List Row
   pub last : List Row
-  pub folding : IsFolding (millis_of gap) read front rows last
+  pub begun : IsBegun remaining limit gap first now rows last
   pub rows_are : IsWhole gap rows
   pub put : PutsPart contents fault rows last old new
 
@@ -107,12 +104,11 @@ PutsTextPart {W = W} contents gap fault rows last old new = (mid : Outlet W)
     × Puts {E = Unit {0}} contents (Ok tt) mid new (lines_of_rows rows)
 
 -- What was put of the text before the fold ended early.
-pub record LeavesText {W : Type 0} (contents : W → Option (List ℕ)) (gap : ℕ) (fault : FoldFault)
-    (old new : Outlet W) : Type 0 where
-  pub read : List Row
-  pub front : List Row
+pub record LeavesText {R W : Type 0} (remaining : R → Option (List ℕ))
+    (contents : W → Option (List ℕ)) (limit gap : ℕ) (fault : FoldFault)
+    (first now : List (Counted R)) (old new : Outlet W) : Type 0 where
   pub rows : List Row
   pub last : List Row
-  pub folding : IsFolding (millis_of gap) read front rows last
+  pub begun : IsBegun remaining limit gap first now rows last
   pub rows_are : IsWhole gap rows
   pub put : PutsTextPart contents gap fault rows last old new

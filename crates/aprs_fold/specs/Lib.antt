@@ -1,7 +1,9 @@
 -- Definitions that contracts of folds cite.
 pub mod Inputs
+pub mod Begun
 pub mod Fold
 pub mod Fronts
+pub mod Matches
 pub mod Streams
 pub mod Taking
 -- What public clauses cite of lower crates.

@@ -1,5 +1,5 @@
 -- The inputs of a fold, each of which is read a row at a time. No public clause cites this module.
-use Rattle.std.specs.Prelude.{◌≡◌, ℕ, ◌≤◌, ◌+◌, ◌⊎◌, zero, suc, if◌then◌else◌, false, List, [], ◌∷◌, ◌++◌, Option, Some, Err}
+use Rattle.std.specs.Prelude.{◌≡◌, ◌≢◌, ℕ, ◌≤◌, ◌+◌, ◌⊎◌, zero, suc, if◌then◌else◌, false, List, [], ◌∷◌, ◌++◌, length, Option, Some, Err}
 use Rattle.std.specs.List.{flat_map}
 use Rattle.aprs_io.specs.Device.{Calls, Last}
 use Rattle.aprs_io.specs.declared.device.Counted.{Counted}
@@ -61,6 +61,13 @@ taken_at (s ∷ streams) zero (t ∷ taken) = (t ++ front_of s) ∷ taken
 taken_at (s ∷ streams) (suc index) (t ∷ taken) = t ∷ taken_at streams index taken
 taken_at streams index taken = taken
 
+-- Another element may stand at this place, and nowhere else.
+abbrev pub ChangesAt : {X : Type 0} → ℕ → List X → List X → Type 0
+ChangesAt index [] [] = Unit {0}
+ChangesAt zero (x ∷ old) (y ∷ new) = old ≡ new
+ChangesAt (suc index) (x ∷ old) (y ∷ new) = (x ≡ y) × ChangesAt index old new
+ChangesAt index old new = ⊥
+
 -- A fault that is no refusal of the output.
 abbrev pub IsOfInputs : FoldFault → Type 0
 IsOfInputs Write = ⊥
@@ -71,6 +78,11 @@ IsOfInputs fault = Unit {0}
 abbrev pub GoesOn : {A : Type 0} → ℕ → List (RowStream A) → List (RowStream A) → Type 0
 GoesOn index old new = (k : ℕ) (x y : Row) → row_at old index ≡ Some x → row_at new k ≡ Some y
     → (row_at old k ≡ Some y) ⊎ IsUpTo row_cmp x y
+
+-- After the stream of this number was read on, the others have the rows in front that they had.
+abbrev pub OthersStay : {A : Type 0} → ℕ → List (RowStream A) → List (RowStream A) → Type 0
+OthersStay index old new =
+    (length new ≡ length old) × ((k : ℕ) → k ≢ index → row_at new k ≡ row_at old k)
 
 -- What grows less with each row: nothing is ahead of a stream that has ended.
 abbrev pub ahead_of : {A : Type 0} → RowStream A → ℕ

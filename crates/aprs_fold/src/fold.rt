@@ -13,9 +13,9 @@ ghost use Rattle.aprs_fold.specs.Fold as Spec;
 ghost use Rattle.aprs_fold.specs.Inputs.{book_of_all, AreAsked, AreBooks, IsRefused};
 
 use crate::fault::FoldFault;
-use crate::first::first_of;
 use crate::opening::{advance, open_all};
 use crate::taking::{count_after, put_last, take_front};
+use crate::tournament::Tournament;
 use aprs_booktext::{WrittenRow, end_line_and_lf, header_line};
 use aprs_io::{Counted, Outlet, WriteFault};
 use aprs_laws::Gap;
@@ -50,10 +50,12 @@ pub fn fold_books<R: Read, W: Write, A: Allocator + Copy>(
         × Sends W.contents result w.old w.new (written_text (book_of_all gap rows))
         × Spec.IsWhole gap (book_of_all gap rows).rows) }
 
-    // At a fault of an input it is faulty so. What was written is a part of a book's text.
+    // At a fault of an input it is faulty so. What was written is a part of a book's text: of the
+    // book of the rows that were taken of the inputs, those that are final.
     ensures refuses { IfErr result (λ fault.
         IsRefused R.remaining limit gap fault inputs.old inputs.new) }
-    ensures left { IfErr result (λ fault. Spec.IsLeft W.contents gap fault w.old w.new) }
+    ensures left { IfErr result (λ fault. Spec.IsLeft R.remaining W.contents limit gap fault
+        inputs.old inputs.new w.old w.new) }
 
     // No input is asked after its end or a fault.
     ensures asks { AreAsked inputs.old inputs.new }
@@ -77,10 +79,12 @@ fn put_text<R: Read, W: Write, A: Allocator + Copy>(
     ensures folds { OnOk result ((rows : List (List Row))
         × AreBooks R.remaining limit gap inputs.old inputs.new rows
         × Puts W.contents result out.old out.new (written_text (book_of_all gap rows))
-        × Spec.IsFoldedBook gap (book_of_all gap rows).rows) }
+        × Spec.IsFoldedBook R.remaining limit gap inputs.old inputs.new
+        (book_of_all gap rows).rows) }
     ensures refuses { IfErr result (λ fault.
         IsRefused R.remaining limit gap fault inputs.old inputs.new) }
-    ensures left { IfErr result (λ fault. Spec.LeavesText W.contents gap fault out.old out.new) }
+    ensures left { IfErr result (λ fault. Spec.LeavesText R.remaining W.contents limit gap fault
+        inputs.old inputs.new out.old out.new) }
     ensures asks { AreAsked inputs.old inputs.new }
 {
     put_header(gap, out)?;
@@ -109,21 +113,25 @@ fn put_rows<R: Read, W: Write, A: Allocator + Copy>(
     requires range { IsGap gap }
     ensures folds { IfOk result (λ count. (rows : List (List Row))
         × AreBooks R.remaining limit gap inputs.old inputs.new rows
-        × Spec.PutsRows W.contents gap count out.old out.new (book_of_all gap rows).rows) }
+        × Spec.PutsRows R.remaining W.contents limit gap inputs.old inputs.new count out.old out.new
+        (book_of_all gap rows).rows) }
     ensures refuses { IfErr result (λ fault.
         IsRefused R.remaining limit gap fault inputs.old inputs.new) }
-    ensures left { IfErr result (λ fault. Spec.LeavesRows W.contents gap fault out.old out.new) }
+    ensures left { IfErr result (λ fault. Spec.LeavesRows R.remaining W.contents limit gap fault
+        inputs.old inputs.new out.old out.new) }
     ensures asks { AreAsked inputs.old inputs.new }
 {
     let mut opened = open_all(alloc, limit, gap, inputs)?;
     let streams = opened.as_mut_slice();
+    let mut tournament = Tournament::new(alloc, streams)?;
     let mut room = WrittenRow::new();
     let mut last = OpenRow::new(alloc);
     let mut count = 0;
-    while let Some(index) = first_of(streams) {
+    while let Some(index) = tournament.first(streams) {
         let wrote = take_front(gap, streams, index, &mut last, out, &mut room)?;
         count = count_after(count, wrote)?;
         advance(index, streams, inputs)?;
+        tournament.play_again(streams, index);
     }
     let all = count_after(count, last.row().is_some())?;
     put_last(&last, out, &mut room)?;

@@ -2,10 +2,10 @@
 #![tactic(auto)]
 
 mod fault;
-mod first;
 mod fold;
 mod opening;
 mod taking;
+mod tournament;
 
 pub use fault::FoldFault;
 pub use fold::{MAX_BOOK, fold_books};

@@ -94,9 +94,11 @@ pub(crate) fn advance<R: Read, A: Allocator + Copy>(
         → Streams.AreReading R.remaining limit gap first inputs.new streams.new
         (Streams.taken_at streams.old index taken)
         × Streams.GoesOn index streams.old streams.new) }
+    ensures stays { OnOk result (Streams.OthersStay index streams.old streams.new) }
     ensures less { OnOk result
         (Streams.ahead_of_all streams.new < Streams.ahead_of_all streams.old) }
     ensures own { IfErr result Streams.IsOfInputs }
+    ensures changes { Streams.ChangesAt index inputs.old inputs.new }
     ensures fault { IfErr result (λ fault. (limit gap : ℕ) (first : List (CountedValue R))
         (taken : List (List Row))
         → Streams.AreReading R.remaining limit gap first inputs.old streams.old taken

@@ -26,11 +26,11 @@ run_fault_of fold.Memory = run.Memory
 run_fault_of fold.Write = run.Write
 
 -- The run's fault is that of a fold: the input is refused for it, and a part of a book's text was
--- written.
+-- written, of the book of rows that were taken of the inputs.
 pub record EndsEarly {R W : Type 0} (remaining : R → Option (List ℕ))
     (contents : W → Option (List ℕ)) (limit gap : ℕ) (answer : RunFault)
     (old new : List (Counted R)) (first last : Counted W) : Type 0 where
   pub fault : FoldFault
   pub is : answer ≡ run_fault_of fault
   pub refused : IsRefused remaining limit gap fault old new
-  pub left : IsLeft contents gap fault first last
+  pub left : IsLeft remaining contents limit gap fault old new first last

@@ -11,8 +11,9 @@ use Rattle.aprs_fold.proofs.fold.fold_books.Goals as goal
 pub returns-in_err-put_text-clause-left : goal.returns-in_err-put_text-clause-left
 returns-in_err-put_text-clause-left g c =
     let p = err_from_is_err_and c.from_residual.result c.from_residual.ensures.1 in
-    rw (p.1, p.2) (subst (λ w. IsLeft g.W.Write.contents c.args.gap c.in_err-put_text.field-0.0
-    c.args.w.now w) (search rules) (leaves_text g.W.Write.contents c.args.gap c.args.w.now
+    rw (p.1, p.2) (subst (λ w. IsLeft g.R.Read.remaining g.W.Write.contents c.args.limit c.args.gap
+    c.in_err-put_text.field-0.0 c.args.inputs.now c.put_text.new.inputs c.args.w.now w) (search rules) (leaves_text g.R.Read.remaining
+    g.W.Write.contents c.args.limit c.args.gap c.args.inputs.now c.put_text.new.inputs c.args.w.now
     c.new-out.result c.put_text.new.out c.new-out.ensures.nothing c.in_err-put_text.field-0.0
     c.in_err-put_text.ensures.left))
 
@@ -21,8 +22,10 @@ returns-in_err-flush-clause-left g c =
     let p = err_from_is_err_and c.from_residual-in_err-flush.result
     c.from_residual-in_err-flush.ensures.1 in
     let h = c.in_ok-put_text.ensures.folds in
-    rw (p.1, p.2) (subst (λ w. IsLeft g.W.Write.contents c.args.gap Write c.args.w.now w)
-    (search rules) (leaves_sent g.W.Write.contents c.args.gap c.args.w.now _ _ h.3
+    rw (p.1, p.2) (subst (λ w. IsLeft g.R.Read.remaining g.W.Write.contents c.args.limit c.args.gap Write
+    c.args.inputs.now c.put_text.new.inputs c.args.w.now w)
+    (search rules) (leaves_sent g.R.Read.remaining g.W.Write.contents c.args.limit
+    c.args.gap c.args.inputs.now c.put_text.new.inputs c.args.w.now _ _ h.3
     (Sends-put c.new-out.ensures.nothing h.2 c.in_err-flush.ensures.sent)))
 
 pub returns-clause-folds : goal.returns-clause-folds

@@ -2,6 +2,9 @@ use Rattle.aprs_fold.proofs.Common.{[], List, Row, map, sym, subst, arith, err_f
 use Rattle.aprs_booktext.specs.declared.row_stream.RowStream.{RowStream}
 use Rattle.aprs_fold.specs.Streams.{AreReading}
 use Rattle.aprs_fold.specs.Taking.{IsThere}
+use Rattle.aprs_fold.specs.declared.fault.FoldFault.TheVariants.{Memory}
+use Rattle.aprs_fold.proofs.Begun.{ChangesAt-none}
+use Rattle.aprs_fold.proofs.Matches.{opened_again}
 use Rattle.aprs_fold.proofs.Puttings.{HasPut-fails}
 use Rattle.aprs_fold.proofs.Reading.{AreReading-asked, AreReading-len, AreReading-ready}
 use Rattle.aprs_fold.proofs.Streamed.{memory_own, AreOpened-all}
@@ -11,20 +14,31 @@ use Rattle.aprs_fold.proofs.fold.put_rows.Goals as goal
 pub returns-in_err-opened-clause-left : goal.returns-in_err-opened-clause-left
 returns-in_err-opened-clause-left g c =
     let p = err_from_is_err_and c.from_residual.result c.from_residual.ensures.1 in
-    rw (p.1, p.2) (leaves_none g.W.Write.contents c.args.gap _ c.args.out.now c.requires.range
+    rw (p.1, p.2) (leaves_none g.R.Read.remaining g.W.Write.contents c.args.limit c.args.gap
+    c.args.inputs.now c.open_all.new.inputs _ c.args.out.now c.requires.range
     c.in_err-opened.ensures.own)
 
+pub returns-in_err-tournament-clause-left : goal.returns-in_err-tournament-clause-left
+returns-in_err-tournament-clause-left g c =
+    let p = err_from_is_err_and c.from_residual-in_err-tournament.result
+    c.from_residual-in_err-tournament.ensures.1 in
+    rw (p.1, p.2) (leaves_none g.R.Read.remaining g.W.Write.contents c.args.limit c.args.gap
+    c.args.inputs.now c.open_all.new.inputs Memory c.args.out.now c.requires.range tt)
+
 pub loop-index-init : goal.loop-index-init
-loop-index-init g c =
-    subst (λ (last : List Row). Walking g.R.Read.remaining g.W.Write.contents c.args.limit c.args.gap
-    c.args.inputs.now c.open_all.new.inputs c.as_mut_slice-streams.result.now c.args.out.now
-    c.args.out.now last 0) (sym c.new-last.ensures)
-    (walk_begins g.R.Read.remaining g.W.Write.contents c.args.limit c.args.gap c.args.inputs.now
-    c.args.out.now _ _ (subst (λ (l : List (RowStream _)). AreReading
-    g.R.Read.remaining c.args.limit c.args.gap c.args.inputs.now c.open_all.new.inputs l
-    (map (λ (s : RowStream _). []) l)) (sym c.as_mut_slice-streams.ensures.value)
-    (AreOpened-all g.R.Read.remaining c.args.limit c.args.gap c.args.inputs.now c.open_all.new.inputs
-    c.in_ok-opened.opened.items c.in_ok-opened.ensures.all c.in_ok-opened.ensures.reads)))
+loop-index-init g c = record {
+  walks = subst (λ (last : List Row). Walking g.R.Read.remaining g.W.Write.contents c.args.limit
+      c.args.gap c.args.inputs.now c.open_all.new.inputs c.as_mut_slice-streams.result.now
+      c.args.out.now c.args.out.now last 0) (sym c.new-last.ensures)
+      (walk_begins g.R.Read.remaining g.W.Write.contents c.args.limit c.args.gap c.args.inputs.now
+      c.args.out.now _ _ (subst (λ (l : List (RowStream _)). AreReading
+      g.R.Read.remaining c.args.limit c.args.gap c.args.inputs.now c.open_all.new.inputs l
+      (map (λ (s : RowStream _). []) l)) (sym c.as_mut_slice-streams.ensures.value)
+      (AreOpened-all g.R.Read.remaining c.args.limit c.args.gap c.args.inputs.now
+      c.open_all.new.inputs c.in_ok-opened.opened.items c.in_ok-opened.ensures.all
+      c.in_ok-opened.ensures.reads)));
+  played = c.in_ok-tournament.ensures;
+}
 
 pub returns-in_err-wrote-clause-refuses : goal.returns-in_err-wrote-clause-refuses
 returns-in_err-wrote-clause-refuses g c =
@@ -43,12 +57,12 @@ returns-in_err-wrote-clause-left g c =
     let t = c.in_err-wrote.ensures.fails f.row f.is in
     rw (p.1, p.2) (leaves_taking g.R.Read.remaining g.W.Write.contents c.args.limit c.args.gap c.args.inputs.now
     c.args.out.now c.requires.range c.loop-index.inputs c.loop-index.streams
-    c.loop-index.out c.loop-index.last c.loop-index.count c.loop-index.invariant c.in-Some.index f _ c.take_front.new.out t.0 t.1)
+    c.loop-index.out c.loop-index.last c.loop-index.count c.loop-index.invariant.walks c.in-Some.index f _ c.take_front.new.out t.0 t.1)
 
 pub returns-in_err-wrote-clause-asks : goal.returns-in_err-wrote-clause-asks
 returns-in_err-wrote-clause-asks g c =
     AreReading-asked g.R.Read.remaining c.args.limit c.args.gap c.args.inputs.now c.loop-index.inputs
-    c.loop-index.streams c.loop-index.invariant.taken c.loop-index.invariant.reading
+    c.loop-index.streams c.loop-index.invariant.walks.taken c.loop-index.invariant.walks.reading
 
 pub returns-in_err-count-clause-refuses : goal.returns-in_err-count-clause-refuses
 returns-in_err-count-clause-refuses g c =
@@ -65,24 +79,25 @@ returns-in_err-count-clause-left g c =
     let t = c.in_ok-wrote.ensures.takes f.row f.is in
     rw (p.1, p.2) (leaves_taken g.R.Read.remaining g.W.Write.contents c.args.limit c.args.gap c.args.inputs.now
     c.args.out.now c.requires.range c.loop-index.inputs c.loop-index.streams
-    c.loop-index.out c.loop-index.last c.loop-index.count c.loop-index.invariant c.in-Some.index f c.in_ok-wrote.wrote c.take_front.new.out t.0 c.in_ok-wrote.ensures.puts
-    c.take_front.new.last t.1 _ (memory_own _ c.in_err-count.ensures.fails))
+    c.loop-index.out c.loop-index.last c.loop-index.count c.loop-index.invariant.walks c.in-Some.index f c.in_ok-wrote.wrote c.take_front.new.out t.0 c.in_ok-wrote.ensures.puts
+    c.take_front.new.last t.1 _ (memory_own _ c.in_err-count.ensures.fails) c.loop-index.inputs
+    (ChangesAt-none c.in-Some.index c.loop-index.inputs))
 
 pub returns-in_err-count-clause-asks : goal.returns-in_err-count-clause-asks
 returns-in_err-count-clause-asks g c =
     AreReading-asked g.R.Read.remaining c.args.limit c.args.gap c.args.inputs.now c.loop-index.inputs
-    c.loop-index.streams c.loop-index.invariant.taken c.loop-index.invariant.reading
+    c.loop-index.streams c.loop-index.invariant.walks.taken c.loop-index.invariant.walks.reading
 
 pub advance-requires-clause-ready : goal.advance-requires-clause-ready
 advance-requires-clause-ready g c =
     let f = c.in-Some.ensures.some in
     AreReading-ready g.R.Read.remaining c.args.limit c.args.gap c.in-Some.index c.args.inputs.now c.loop-index.inputs
-    c.loop-index.streams c.loop-index.invariant.taken f.row f.is c.loop-index.invariant.reading
+    c.loop-index.streams c.loop-index.invariant.walks.taken f.row f.is c.loop-index.invariant.walks.reading
 
 pub advance-requires-clause-within : goal.advance-requires-clause-within
 advance-requires-clause-within g c =
     let len = AreReading-len g.R.Read.remaining c.args.limit c.args.gap c.args.inputs.now c.loop-index.inputs
-    c.loop-index.streams c.loop-index.invariant.taken c.loop-index.invariant.reading in
+    c.loop-index.streams c.loop-index.invariant.walks.taken c.loop-index.invariant.walks.reading in
     let within = c.in-Some.ensures.some.within in
     omega (arith, len, within)
 
@@ -91,7 +106,7 @@ returns-in_err-advance-clause-refuses g c =
     let p = err_from_is_err_and c.from_residual-in_err-advance.result
     c.from_residual-in_err-advance.ensures.1 in
     rw (p.1, p.2) (c.in_err-advance.ensures.fault c.args.limit c.args.gap c.args.inputs.now
-    c.loop-index.invariant.taken c.loop-index.invariant.reading).0
+    c.loop-index.invariant.walks.taken c.loop-index.invariant.walks.reading).0
 
 pub returns-in_err-advance-clause-left : goal.returns-in_err-advance-clause-left
 returns-in_err-advance-clause-left g c =
@@ -101,25 +116,42 @@ returns-in_err-advance-clause-left g c =
     let t = c.in_ok-wrote.ensures.takes f.row f.is in
     rw (p.1, p.2) (leaves_taken g.R.Read.remaining g.W.Write.contents c.args.limit c.args.gap c.args.inputs.now
     c.args.out.now c.requires.range c.loop-index.inputs c.loop-index.streams
-    c.loop-index.out c.loop-index.last c.loop-index.count c.loop-index.invariant c.in-Some.index f c.in_ok-wrote.wrote c.take_front.new.out t.0 c.in_ok-wrote.ensures.puts
-    c.take_front.new.last t.1 _ c.in_err-advance.ensures.own)
+    c.loop-index.out c.loop-index.last c.loop-index.count c.loop-index.invariant.walks c.in-Some.index f c.in_ok-wrote.wrote c.take_front.new.out t.0 c.in_ok-wrote.ensures.puts
+    c.take_front.new.last t.1 _ c.in_err-advance.ensures.own c.advance.new.inputs
+    c.in_err-advance.ensures.changes)
 
 pub returns-in_err-advance-clause-asks : goal.returns-in_err-advance-clause-asks
 returns-in_err-advance-clause-asks g c =
     (c.in_err-advance.ensures.fault c.args.limit c.args.gap c.args.inputs.now
-    c.loop-index.invariant.taken c.loop-index.invariant.reading).1
+    c.loop-index.invariant.walks.taken c.loop-index.invariant.walks.reading).1
+
+pub play_again-requires-clause-there : goal.play_again-requires-clause-there
+play_again-requires-clause-there g c =
+    let len = c.in_ok-advance.ensures.stays.0 in
+    let within = c.in-Some.ensures.some.within in
+    omega (arith, len, within)
+
+pub play_again-requires-clause-played : goal.play_again-requires-clause-played
+play_again-requires-clause-played g c =
+    let stays = c.in_ok-advance.ensures.stays in
+    opened_again c.loop-index.streams c.loop-index.tournament.winners.items
+    c.loop-index.invariant.played c.advance.new.streams c.in-Some.index stays.0 stays.1
 
 pub loop-index-preserved : goal.loop-index-preserved
 loop-index-preserved g c =
     let f = c.in-Some.ensures.some in
     let t = c.in_ok-wrote.ensures.takes f.row f.is in
     let one = c.in_ok-advance.ensures.one c.args.limit c.args.gap c.args.inputs.now
-    c.loop-index.invariant.taken c.loop-index.invariant.reading in
-    walks_on g.R.Read.remaining g.W.Write.contents c.args.limit c.args.gap c.args.inputs.now
-    c.args.out.now c.requires.range c.loop-index.inputs c.loop-index.streams
-    c.loop-index.out c.loop-index.last c.loop-index.count c.loop-index.invariant c.in-Some.index f c.in_ok-wrote.wrote c.take_front.new.out t.0 c.in_ok-wrote.ensures.puts
-    c.take_front.new.last c.advance.new.inputs c.advance.new.streams c.in_ok-count.count t.1
-    c.in_ok-count.ensures.counts one.0 one.1
+    c.loop-index.invariant.walks.taken c.loop-index.invariant.walks.reading in
+    record {
+      walks = walks_on g.R.Read.remaining g.W.Write.contents c.args.limit c.args.gap
+          c.args.inputs.now c.args.out.now c.requires.range c.loop-index.inputs
+          c.loop-index.streams c.loop-index.out c.loop-index.last c.loop-index.count
+          c.loop-index.invariant.walks c.in-Some.index f c.in_ok-wrote.wrote c.take_front.new.out
+          t.0 c.in_ok-wrote.ensures.puts c.take_front.new.last c.advance.new.inputs
+          c.advance.new.streams c.in_ok-count.count t.1 c.in_ok-count.ensures.counts one.0 one.1;
+      played = c.play_again.ensures;
+    }
 
 pub returns-in_err-all-clause-refuses : goal.returns-in_err-all-clause-refuses
 returns-in_err-all-clause-refuses g c =
@@ -134,12 +166,12 @@ returns-in_err-all-clause-left g c =
     c.from_residual-in_err-all.ensures.1 in
     rw (p.1, p.2) (leaves_here g.R.Read.remaining g.W.Write.contents c.args.limit c.args.gap c.args.inputs.now
     c.args.out.now c.requires.range c.loop-index.inputs c.loop-index.streams
-    c.loop-index.out c.loop-index.last c.loop-index.count c.loop-index.invariant _ (memory_own _ c.in_err-all.ensures.fails))
+    c.loop-index.out c.loop-index.last c.loop-index.count c.loop-index.invariant.walks _ (memory_own _ c.in_err-all.ensures.fails))
 
 pub returns-in_err-all-clause-asks : goal.returns-in_err-all-clause-asks
 returns-in_err-all-clause-asks g c =
     AreReading-asked g.R.Read.remaining c.args.limit c.args.gap c.args.inputs.now c.loop-index.inputs
-    c.loop-index.streams c.loop-index.invariant.taken c.loop-index.invariant.reading
+    c.loop-index.streams c.loop-index.invariant.walks.taken c.loop-index.invariant.walks.reading
 
 pub returns-in_err-put_last-clause-refuses : goal.returns-in_err-put_last-clause-refuses
 returns-in_err-put_last-clause-refuses g c =
@@ -152,23 +184,23 @@ pub returns-in_err-put_last-clause-left : goal.returns-in_err-put_last-clause-le
 returns-in_err-put_last-clause-left g c =
     let p = err_from_is_err_and c.from_residual-in_err-put_last.result
     c.from_residual-in_err-put_last.ensures.1 in
-    let w = c.loop-index.invariant in
+    let w = c.loop-index.invariant.walks in
     rw (p.1, p.2, c.in_err-put_last.ensures.fails.0) (leaves_write g.R.Read.remaining g.W.Write.contents c.args.limit c.args.gap c.args.inputs.now
     c.args.out.now c.requires.range c.loop-index.inputs c.loop-index.streams
-    c.loop-index.out c.loop-index.last c.loop-index.count c.loop-index.invariant c.put_last.new.out
+    c.loop-index.out c.loop-index.last c.loop-index.count c.loop-index.invariant.walks c.put_last.new.out
     c.in_err-put_last.ensures.fails.1 (HasPut-fails c.args.out.now c.loop-index.out c.put_last.new.out
     w.written c.loop-index.last w.put c.in_err-put_last.ensures.fails.1))
 
 pub returns-in_err-put_last-clause-asks : goal.returns-in_err-put_last-clause-asks
 returns-in_err-put_last-clause-asks g c =
     AreReading-asked g.R.Read.remaining c.args.limit c.args.gap c.args.inputs.now c.loop-index.inputs
-    c.loop-index.streams c.loop-index.invariant.taken c.loop-index.invariant.reading
+    c.loop-index.streams c.loop-index.invariant.walks.taken c.loop-index.invariant.walks.reading
 
 pub returns-clause-folds : goal.returns-clause-folds
 returns-clause-folds g c =
     walk_ends g.R.Read.remaining g.W.Write.contents c.args.limit c.args.gap c.args.inputs.now
     c.args.out.now c.requires.range c.loop-index.inputs c.loop-index.streams
-    c.loop-index.out c.loop-index.last c.loop-index.count c.loop-index.invariant c.in_default.ensures.none c.is_some.result c.in_ok-put_last.field-0
+    c.loop-index.out c.loop-index.last c.loop-index.count c.loop-index.invariant.walks c.in_default.ensures.none c.is_some.result c.in_ok-put_last.field-0
     c.put_last.new.out c.in_ok-all.all
     (subst (λ b. IsThere b c.loop-index.last) (sym c.is_some.ensures)
     (there_is c.loop-index.last c.row.result c.row.ensures.some c.row.ensures.none))
@@ -177,4 +209,4 @@ returns-clause-folds g c =
 pub returns-clause-asks : goal.returns-clause-asks
 returns-clause-asks g c =
     AreReading-asked g.R.Read.remaining c.args.limit c.args.gap c.args.inputs.now c.loop-index.inputs
-    c.loop-index.streams c.loop-index.invariant.taken c.loop-index.invariant.reading
+    c.loop-index.streams c.loop-index.invariant.walks.taken c.loop-index.invariant.walks.reading

@@ -1,11 +1,14 @@
+use Rattle.aprs_fold.specs.Matches.{IsPlayed}
 use Rattle.aprs_fold.specs.Streams.{ahead_of_all}
 use Rattle.aprs_fold.proofs.Walking.{Walking}
 use Rattle.aprs_fold.proofs.fold.put_rows.Given as goal
 
 abbrev pub invariant-loop-index : goal.invariant-loop-index
-invariant-loop-index g l =
-    Walking g.R.Read.remaining g.W.Write.contents l.limit l.gap l.fn.inputs l.inputs l.streams
-    l.fn.out l.out l.last l.count
+invariant-loop-index g l = record {
+  walks : Walking g.R.Read.remaining g.W.Write.contents l.limit l.gap l.fn.inputs l.inputs
+      l.streams l.fn.out l.out l.last l.count;
+  played : IsPlayed l.streams l.tournament.winners.items;
+}
 
 abbrev pub decreases-loop-index : goal.decreases-loop-index
 decreases-loop-index g l = ahead_of_all l.streams

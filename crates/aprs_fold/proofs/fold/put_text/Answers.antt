@@ -7,7 +7,8 @@ use Rattle.aprs_fold.proofs.fold.put_text.Goals as goal
 pub returns-in_err-put_header-clause-left : goal.returns-in_err-put_header-clause-left
 returns-in_err-put_header-clause-left g c =
     let p = err_from_is_err_and c.from_residual.result c.from_residual.ensures.1 in
-    rw (p.1, p.2) (leaves_header g.W.Write.contents c.args.gap c.args.out.now c.put_header.new.out
+    rw (p.1, p.2) (leaves_header g.R.Read.remaining g.W.Write.contents c.args.limit c.args.gap
+    c.args.inputs.now c.args.inputs.now c.args.out.now c.put_header.new.out
     c.requires.range c.in_err-put_header.ensures.puts)
 
 pub returns-in_err-put_header-clause-asks : goal.returns-in_err-put_header-clause-asks
@@ -17,7 +18,8 @@ pub returns-in_err-count-clause-left : goal.returns-in_err-count-clause-left
 returns-in_err-count-clause-left g c =
     let p = err_from_is_err_and c.from_residual-in_err-count.result
     c.from_residual-in_err-count.ensures.1 in
-    rw (p.1, p.2) (leaves_rows g.W.Write.contents c.args.gap c.args.out.now c.put_header.new.out
+    rw (p.1, p.2) (leaves_rows g.R.Read.remaining g.W.Write.contents c.args.limit c.args.gap
+    c.args.inputs.now c.put_rows.new.inputs c.args.out.now c.put_header.new.out
     c.put_rows.new.out (Puts-ok c.in_ok-put_header.ensures.puts) _ c.in_ok-put_header.ensures.empty
     c.in_err-count.ensures.left)
 
@@ -26,8 +28,10 @@ returns-in_err-put-clause-left g c =
     let p = err_from_is_err_and c.from_residual-in_err-put.result
     c.from_residual-in_err-put.ensures.1 in
     let h = c.in_ok-count.ensures.folds in
-    rw (p.1, p.2) (leaves_all g.W.Write.contents c.args.gap c.args.out.now c.put.new.self _ h.2.book
-    (text_ends g.W.Write.contents c.args.gap (Err c.in_err-put.field-0.0) c.args.out.now
+    rw (p.1, p.2) (leaves_all g.R.Read.remaining g.W.Write.contents c.args.limit c.args.gap
+    c.args.inputs.now c.put_rows.new.inputs c.args.out.now c.put.new.self _ h.2.book
+    (text_ends g.R.Read.remaining g.W.Write.contents c.args.limit c.args.gap
+    c.args.inputs.now c.put_rows.new.inputs (Err c.in_err-put.field-0.0) c.args.out.now
     c.put_header.new.out c.put_rows.new.out c.put.new.self c.in_ok-count.count _
     (Puts-ok c.in_ok-put_header.ensures.puts) h.2 (Puts-is c.in_err-put.ensures (cc))))
 
@@ -36,7 +40,8 @@ returns-clause-folds g c =
     let h = c.in_ok-count.ensures.folds in (
       h.0,
       h.1,
-      Puts-ok (text_ends g.W.Write.contents c.args.gap (Ok tt) c.args.out.now c.put_header.new.out
+      Puts-ok (text_ends g.R.Read.remaining g.W.Write.contents c.args.limit c.args.gap
+          c.args.inputs.now c.put_rows.new.inputs (Ok tt) c.args.out.now c.put_header.new.out
           c.put_rows.new.out c.put.new.self c.in_ok-count.count _
           (Puts-ok c.in_ok-put_header.ensures.puts) h.2 (Puts-is c.in_ok-put.ensures (cc))),
       h.2.book,

@@ -1,5 +1,7 @@
 use Rattle.aprs_fold.proofs.Common.{get_or, inl, inr, slice_get-get_or}
-use Rattle.aprs_fold.proofs.Reading.{ahead_less, ready_is, row_at-set, AreReading-after, AreReading-faulty, AreReading-on}
+use Rattle.std.proofs.lemmas.List.{length-set}
+use Rattle.aprs_fold.proofs.Begun.{ChangesAt-set}
+use Rattle.aprs_fold.proofs.Reading.{ahead_less, ready_is, row_at-other, row_at-set, AreReading-after, AreReading-faulty, AreReading-on}
 use Rattle.aprs_fold.proofs.opening.advance.Goals as goal
 
 pub advance-requires-clause-few : goal.advance-requires-clause-few
@@ -38,6 +40,14 @@ returns-in-Ok-clause-one g c =
       ],
     )
 
+pub returns-in-Ok-clause-stays : goal.returns-in-Ok-clause-stays
+returns-in-Ok-clause-stays g c =
+    let s = c.args.streams.now in
+    let i = c.args.index in (
+      length-set s i c.advance.new.self,
+      λ k unlike. row_at-other s i k c.advance.new.self unlike,
+    )
+
 pub returns-in-Ok-clause-less : goal.returns-in-Ok-clause-less
 returns-in-Ok-clause-less g c =
     let s = c.args.streams.now in
@@ -46,6 +56,12 @@ returns-in-Ok-clause-less g c =
     let there = slice_get-get_or s i d c.requires.there in
     ahead_less i s (get_or s i d) c.advance.new.self there
     (ready_is i s (get_or s i d) there c.requires.ready).1 c.in-Ok.ensures.less
+
+pub returns-in-Ok-clause-changes : goal.returns-in-Ok-clause-changes
+returns-in-Ok-clause-changes g c = ChangesAt-set c.args.index c.args.inputs.now c.advance.new.source
+
+pub returns-in-Err-clause-changes : goal.returns-in-Err-clause-changes
+returns-in-Err-clause-changes g c = ChangesAt-set c.args.index c.args.inputs.now c.advance.new.source
 
 pub returns-in-Err-clause-fault : goal.returns-in-Err-clause-fault
 returns-in-Err-clause-fault g c =

@@ -1,7 +1,7 @@
 use Rattle.aprs_fold.proofs.Common.{◌∙◌, sym}
 use Rattle.aprs_fold.specs.Fronts.{row_at}
 use Rattle.aprs_fold.proofs.Fronts.{less_up_to, not_less_up_to, row_none, row_some, NotAfter-itself, NotAfter-none, NotAfter-some}
-use Rattle.aprs_fold.proofs.first.earlier.Goals as goal
+use Rattle.aprs_fold.proofs.tournament.earlier.Goals as goal
 
 pub returns-in_default-clause-one : goal.returns-in_default-clause-one
 returns-in_default-clause-one g c = NotAfter-itself (row_at c.args.streams.now c.args.one)
