@@ -2,23 +2,19 @@
 // What a place says of course, height, weather and need, in words. The comment itself is shown too,
 // as it came.
 
+import { far, inWords } from "./units.js";
+
 /** @typedef {import("./reading.js").Details} Details */
 
-const metric = {
-  knots: (/** @type {number} */ n) => `${Math.round(n * 1.852)} km/h`,
-  miles: (/** @type {number} */ n) => `${(n * 0.44704).toFixed(n < 10 ? 1 : 0)} m/s`,
-  fahrenheit: (/** @type {number} */ n) => `${((n - 32) / 1.8).toFixed(0)} \u00b0C`,
-  inches: (/** @type {number} */ n) => `${(n * 0.254).toFixed(1)} mm`,
-};
 /**
  * Each value of the weather but the wind, in words.
  * @type {[keyof Details, (n: number) => string][]}
  */
 const WEATHER = [
-  ["gust", n => `gusts of ${metric.miles(n)}`], ["fahrenheit", metric.fahrenheit],
-  ["rainHour", n => `${metric.inches(n)} of rain in an hour`],
-  ["rainDay", n => `${metric.inches(n)} of rain in 24 hours`],
-  ["rainMidnight", n => `${metric.inches(n)} of rain since midnight`],
+  ["gust", n => `gusts of ${inWords("mph", n)}`], ["fahrenheit", n => inWords("fahrenheit", n)],
+  ["rainHour", n => `${inWords("rain", n)} of rain in an hour`],
+  ["rainDay", n => `${inWords("rain", n)} of rain in 24 hours`],
+  ["rainMidnight", n => `${inWords("rain", n)} of rain since midnight`],
   ["humidity", n => `humidity ${n} %`], ["pressure", n => `${(n / 10).toFixed(1)} hPa`],
   ["luminosity", n => `${n} W/m\u00b2`],
 ];
@@ -29,7 +25,7 @@ export function weatherWords(of) {
   if (of.wind === 0) words.push("calm");
   else if (of.wind !== undefined) {
     const from = of.windFrom === undefined ? "" : `from ${of.windFrom}\u00b0, `;
-    words.push(`wind ${from}${metric.miles(of.wind)}`);
+    words.push(`wind ${from}${inWords("mph", of.wind)}`);
   }
   for (const [name, say] of WEATHER) {
     const value = of[name];
@@ -52,11 +48,11 @@ export function wordsOf(of) {
   const words = [], motion = motionOf(of);
   if (motion) {
     const course = motion.course === undefined ? "" : `${motion.course % 360}\u00b0, `;
-    words.push(course + metric.knots(motion.knots));
+    words.push(course + inWords("knots", motion.knots));
   }
   words.push(...weatherWords(of));
-  if (of.metres !== undefined) words.push(`${Math.round(of.metres)} m high`);
-  if (of.range !== undefined) words.push(`range ${Math.round(of.range * 1.609344)} km`);
+  if (of.metres !== undefined) words.push(`${inWords("metres", of.metres)} high`);
+  if (of.range !== undefined) words.push(`range ${far(of.range * 1609.344)}`);
   if (of.says && of.says !== "unknown") words.push(of.says.replaceAll("-", " "));
   return words;
 }

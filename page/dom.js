@@ -75,3 +75,21 @@ export function choose(key, value) {
     // a browser takes so many changes in a while; the next one goes through
   }
 }
+/** What the reader chose for each page, which the browser keeps where it can. */
+export function keep(key, value) {
+  choose(key, value);
+  try {
+    localStorage.setItem(`aprsbook ${key}`, value);
+  } catch {
+    // it is forbidden here; the address has it
+  }
+}
+/** What was kept; the address comes first. */
+export function kept(key) {
+  if (chosen.has(key)) return chosen.get(key) || "";
+  try {
+    return localStorage.getItem(`aprsbook ${key}`) || "";
+  } catch {
+    return "";
+  }
+}

@@ -2,7 +2,7 @@
 // The page that reads logs: what is dropped on it goes through the module, and nothing leaves it.
 
 import {
-  age, bring, bringLines, byId, count, make, page, printable, save, show, unpacked,
+  age, bring, bringGround, bringLines, byId, count, make, page, printable, save, show, unpacked,
 } from "./drawn.js";
 import { filesOf } from "./folders.js";
 import {
@@ -226,9 +226,16 @@ function takeSquare(file) {
   const square = squareOf(file.way || file.webkitRelativePath || ""), { map } = page;
   if (!square) return false;
   map.tiles.take(square, file);
-  byId("own-map").textContent = `Own map: ${count(map.tiles.size, "square")}.`;
-  map.paintSoon();
+  page.grounds.show();
   return true;
+}
+/** Takes a map of squares or a picture of one, or else a file as what it is. */
+async function takeFile(file) {
+  const fault = await bringGround(file);
+  if (fault === "") return null;
+  const it = await take(file, bring);
+  if (it?.unread && fault) it.unread += `, and ${fault}`;
+  return it;
 }
 const UNREAD = "drop the files in it, or choose it as a folder";
 /** Takes files: each is checked while the runs over all of them go on. */
@@ -240,7 +247,7 @@ export async function add(dropped) {
   const folders = [...dropped].filter(it => it.isFolder && isNew(it));
   files.push(...folders.map(it => fileOf(it.name, "folder", new Uint8Array(),
     { unread: UNREAD, fault: UNREAD })));
-  const taken = (await Promise.all(others.map(it => take(it, bring)))).filter(Boolean);
+  const taken = (await Promise.all(others.map(takeFile))).filter(Boolean);
   const read = taken.filter(it => !it.lines), withLines = taken.filter(it => it.lines);
   if (withLines.length) bringLines(withLines);
   const whole = [...files.filter(it => it.taken), ...read.filter(it => !it.unread)];

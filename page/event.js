@@ -3,12 +3,14 @@
 
 import { Colouring, wayFor } from "./colouring.js";
 import { wordsOf } from "./details.js";
-import { air, byId, choose, chosen, make, momentOf, save } from "./dom.js";
+import { air, byId, choose, chosen, keep, kept, make, momentOf, save } from "./dom.js";
+import { listenToEdge } from "./edge.js";
 import { gathered, SAVES } from "./exports.js";
 import { detailLines } from "./facts.js";
 import { Form } from "./form.js";
 import { frameList, numbersOf } from "./frames.js";
-import { bearing, distance, locatorOf, minutesText } from "./globe.js";
+import { bearing, distance } from "./globe.js";
+import { Grounds } from "./grounds.js";
 import { graphNode, graphsOf } from "./graphs.js";
 import { cell, List, timeCell } from "./lists.js";
 import { Looked } from "./looked.js";
@@ -18,6 +20,7 @@ import { hearings, netOf, rank } from "./net.js";
 import { needsOf, newsOf } from "./news.js";
 import { readBase } from "./overlays.js";
 import { OwnLines } from "./ownlines.js";
+import { forms, placeFacts, spotText } from "./placeforms.js";
 import { columnsOf, readMessages, Rows } from "./reading.js";
 import { expectedOf, joined, know, readRoster, who } from "./roster.js";
 import { Alarm } from "./sound.js";
@@ -27,15 +30,17 @@ import {
   haystack, NO_FIX, pairList, receiverList, rosterList, shareText, thingList, whereOf,
 } from "./tables.js";
 import { timelineList } from "./timeline.js";
+import { far, units } from "./units.js";
 import {
-  clocks, count, dateText, far, printable, secondText, timeText, zoneText,
+  clocks, count, dateText, printable, secondText, timeText, zoneText,
 } from "./words.js";
 
 export const page = { data: null, all: null, net: null, map: null, lists: {}, bases: [],
   roster: { list: [], faults: [] }, found: [], brought: [], until: Infinity, playing: null,
   typing: 0, finder: new Map(), next: null, turn: null, drawn: null, alarm: new Alarm(),
   clockOf: null, own: new OwnLines(), looked: new Looked(),
-  turned: false, form: null };
+  turned: false, form: null, grounds: null };
+const NO_TILES = {};
 /** Of rows of so many letters at most, some 10,000, all is drawn in one step. */
 const SMALL = 2 ** 20;
 
@@ -92,6 +97,7 @@ function readBrought() {
   know(page.roster.list);
   page.map.bases = page.bases;
   readShore(page.data.coast || "");
+  page.map.tiles.carry(page.data.tiles || NO_TILES);
 }
 /** Takes the fine coast of a page, which says whose it is. */
 async function readShore(text) {
@@ -128,6 +134,8 @@ function turnTo({ data, all }, net) {
   Object.assign(page, { data, all, net });
   byId("title").textContent = document.title = data.title;
   clocks.local = byId("local").checked;
+  units.miles = byId("miles").checked;
+  forms.now = byId("place-form").value;
   clocks.dated = net.rows.length > 0 && dateText(net.begin) !== dateText(net.end);
   if (fresh) {
     readBrought();
@@ -291,8 +299,7 @@ function factsOf(thing) {
   if (now) {
     const word = symbolOf(now).word, words = wordsOf(now);
     if (word) facts.push(["symbol", word]);
-    facts.push(["place", `${now.north.toFixed(5)}, ${now.east.toFixed(5)}`],
-      ["", minutesText(now.north, now.east)], ["locator", locatorOf(now.north, now.east)]);
+    facts.push(...placeFacts(now.north, now.east));
     if (words.length) facts.push(["says", words.join(", ")]);
     if (now.comment) facts.push(["comment", air(now.comment)]);
     if (thing.kind !== "station") facts.push(["put by", who(now.source)]);
@@ -379,7 +386,19 @@ function tell(text, bad = false) {
   byId("told").className = bad ? "bad" : "";
 }
 async function bringAll(files) {
-  for (const it of files) bring(it.name, await it.text());
+  for (const it of files) {
+    const fault = await bringGround(it);
+    if (fault === null) bring(it.name, await it.text());
+    else if (fault) tell(`${printable(it.name)}: ${fault}`, true);
+  }
+}
+/** Takes a map of squares or a picture of one; null where it is none, or why it can't be drawn. */
+export async function bringGround(file) {
+  try {
+    return await page.grounds.take(file) ? "" : null;
+  } catch (fault) {
+    return `can\u2019t be drawn as a map: ${fault.message}`;
+  }
 }
 function drawSaves() {
   byId("saves").lastElementChild.replaceChildren(...Object.keys(SAVES).map(name =>
@@ -435,6 +454,18 @@ function listenToControls() {
     choose("time", byId("local").checked ? "local" : "");
     refresh();
   });
+  on("miles", "change", () => {
+    keep("miles", byId("miles").checked ? "on" : "");
+    refresh();
+    map.turnWay(() => {});
+  });
+  on("place-form", "change", () => {
+    keep("form", byId("place-form").value);
+    refresh();
+  });
+  on("lay", "click", () => page.grounds.lay());
+  on("measure", "click", () => map.turnWay(way => way.turn(!way.isOn)));
+  listenToEdge(byId("edge"), byId("map"));
   on("one-close", "click", () => pick(page.picked));
   on("bring", "change", ({ target }) => {
     bringAll([...target.files]);
@@ -442,8 +473,7 @@ function listenToControls() {
   });
   on("away", "click", () => {
     page.brought = [];
-    map.tiles.clear();
-    byId("own-map").textContent = "";
+    page.grounds.clear();
     tell("");
     readBrought();
     refresh();
@@ -471,7 +501,8 @@ function listenToEscape() {
       it.open = false;
       if (it.contains(document.activeElement)) it.querySelector("summary")?.focus();
     }
-    if (!open.length && page.map.fan.isOpen) page.map.unfold();
+    if (!open.length && page.map.way.isOn) page.map.turnWay(way => way.turn(false));
+    else if (!open.length && page.map.fan.isOpen) page.map.unfold();
     else if (!open.length && page.map.isFull) page.map.fill(false);
   });
   // a menu closes where one goes on beside it
@@ -513,11 +544,17 @@ export function begin() {
       byId("dense").textContent = text;
       byId("legend").hidden = text !== "";
     },
+    onWay(text) {
+      byId("way").textContent = text;
+      byId("measure").setAttribute("aria-pressed", String(page.map.way.isOn));
+    },
+    onSpot: vector => { byId("spot").textContent = vector ? spotText(vector) : ""; },
     onView(text) {
       choose("view", text);
       tellFar();
     } });
   page.map.present = () => presentOf();
+  page.grounds = new Grounds(page.map, tell);
   page.form = new Form(page, { now: () => presentOf(),
     save: () => saveNow("messages (CSV)", "ics-309.csv") });
   page.picked = chosen.get("pick");
@@ -525,6 +562,9 @@ export function begin() {
   page.map.look(chosen.get("view") || "");
   byId("since").value = chosen.get("since") || "0";
   byId("local").checked = chosen.get("time") === "local";
+  byId("miles").checked = kept("miles") === "on";
+  byId("place-form").value = kept("form");
+  if (byId("place-form").selectedIndex < 0) byId("place-form").value = "";
   byId("sound").checked = chosen.get("sound") === "on";
   page.alarm.turn(byId("sound").checked, false);
   page.map.land.read(byId("coast").textContent).then(page.map.paintSoon);

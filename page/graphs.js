@@ -3,6 +3,7 @@
 // belong together, with its scale and its unit. A gap in time isn't joined.
 
 import { make, svg } from "./dom.js";
+import { unitOf } from "./units.js";
 import { timeText } from "./words.js";
 
 /** @typedef {import("./reading.js").Rows} Rows */
@@ -11,16 +12,17 @@ import { timeText } from "./words.js";
 /** @typedef {{ begin: number, end: number }} Time */
 
 /**
- * What there is a graph of: columns of the table, and how their numbers become those of the unit.
- * @type {{ title: string, unit: string, columns: string[], of?: (n: number) => number }[]}
+ * What there is a graph of: its columns of the table, and a quantity of units, or its own unit and how
+ * their numbers become those of it.
+ * @type {{ title: string, columns: string[], quantity?: import("./units.js").Quantity, unit?: string,
+ *   of?: (n: number) => number }[]}
  */
 const GRAPHS = [
-  { title: "height", unit: "m", columns: ["altitude_m"] },
-  { title: "speed", unit: "km/h", columns: ["speed_knots"], of: n => n * 1.852 },
-  { title: "temperature", unit: "\u00b0C", columns: ["temperature_f"], of: n => (n - 32) / 1.8 },
-  { title: "wind, and gusts", unit: "m/s", columns: ["wind_mph", "gust_mph"],
-    of: n => n * 0.44704 },
-  { title: "rain in an hour", unit: "mm", columns: ["rain_hour"], of: n => n * 0.254 },
+  { title: "height", quantity: "metres", columns: ["altitude_m"] },
+  { title: "speed", quantity: "knots", columns: ["speed_knots"] },
+  { title: "temperature", quantity: "fahrenheit", columns: ["temperature_f"] },
+  { title: "wind, and gusts", quantity: "mph", columns: ["wind_mph", "gust_mph"] },
+  { title: "rain in an hour", quantity: "rain", columns: ["rain_hour"] },
   { title: "humidity", unit: "%", columns: ["humidity"] },
   { title: "pressure", unit: "hPa", columns: ["pressure_tenths"], of: n => n / 10 },
   { title: "luminosity", unit: "W/m\u00b2", columns: ["luminosity"] },
@@ -36,7 +38,8 @@ const GRAPHS = [
  */
 export function graphsOf(rows, numbers) {
   const records = numbers.map(k => ({ at: rows.first[k], of: rows.record(k) }));
-  return GRAPHS.map(({ title, unit, columns, of = n => n }) => {
+  return GRAPHS.map(({ title, columns, quantity, ...own }) => {
+    const { unit = "", of = n => n } = quantity ? unitOf(quantity) : own;
     const lines = columns.map(name => records.filter(it => it.of[name])
       .map(it => ({ at: it.at, value: of(Number(it.of[name])) })));
     return { title, unit, lines: lines.filter(it => it.length > 1) };

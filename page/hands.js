@@ -11,6 +11,7 @@ const KEYS = {
   ArrowUp: map => map.move(0, 60), ArrowDown: map => map.move(0, -60),
   "+": map => map.zoom(1.3), "=": map => map.zoom(1.3), "-": map => map.zoom(1 / 1.3),
   0: map => map.fit(), f: map => map.fill(!map.isFull),
+  m: map => map.turnWay(way => way.turn(!way.isOn)), Backspace: map => map.turnWay(way => way.back()),
 };
 function listenToKeys(map) {
   map.node.addEventListener("keydown", event => {
@@ -89,10 +90,12 @@ export function listenToMap(map) {
   });
   addEventListener("pointercancel", event => fingers.delete(event.pointerId));
   node.addEventListener("pointermove", event => hover(map, fingers.size ? null : pixel(event)));
-  node.addEventListener("pointerleave", () => hover(map, null));
+  // after a finger the place stays, since it can't hover
+  node.addEventListener("pointerleave", event => hover(map, null, event.pointerType === "touch"));
 }
 /** Says beside the pointer what is under it. */
-function hover(map, at) {
+function hover(map, at, stays = false) {
+  if (!stays) map.point(at);
   const tip = map.node.querySelector(".tip"), thing = at && map.markAt(...at)?.thing;
   map.node.style.cursor = thing ? "pointer" : "";
   tip.hidden = !thing;

@@ -24,6 +24,12 @@ const STRANGERS = [
   [/^(\xd4\xc3\xb2\xa1|\xa1\xb2\xc3\xd4|\x0a\x0d\x0d\x0a)/, "a capture of packets (pcap)"],
   [/^\s*(<!doctype html|<html)/i, "a web page"], [/^\s*<\?xml|^\s*<[a-z]/i, "XML"],
 ];
+/**
+ * Whether bytes begin as a picture does that a browser draws.
+ * @param {Uint8Array} bytes
+ */
+export const isPicture = bytes =>
+  /^\x89PNG|^\xff\xd8\xff|^RIFF....WEBP/s.test(String.fromCharCode(...bytes.subarray(0, 12)));
 /** How a line of a roster begins: a call, or the head of a column. */
 const WORD = "(?:[a-z0-9]{1,6}(?:-(?:\\d{1,2}|\\*))?|callsign|station|tactical)";
 const ROSTER = new RegExp(`^(?:\\s*#[^\\n]*\\n|\\s*\\n)*\\s*"?${WORD}"?([\\s,;]|$)`, "i");

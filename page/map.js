@@ -6,15 +6,18 @@ import { motionOf } from "./details.js";
 import { oncePerFrame } from "./dom.js";
 import { Fan, MOST, pilesOf } from "./fans.js";
 import { capOf, degreesOf, NEAREST, Projection, RADIAN, RADIUS } from "./globe.js";
-import { paintGrid, roundUp } from "./grid.js";
+import { paintGrid } from "./grid.js";
 import { listenToMap } from "./hands.js";
 import { Land } from "./land.js";
+import { Measure } from "./measure.js";
+import { paintSheets } from "./sheets.js";
 import { Shore } from "./shore.js";
 import { Room, Sides } from "./sides.js";
 import { later, once } from "./steps.js";
 import { pathOf, symbolOf, TRACKS } from "./symbols.js";
 import { Tiles } from "./tiles.js";
 import { byColour, trace, Tracks } from "./tracks.js";
+import { scaleOf } from "./units.js";
 
 /** Digits of the minutes that were left out leave so many metres open to each side. */
 export const OPEN = { 1: 93, 2: 926, 3: 9260, 4: 55560 };
@@ -33,27 +36,33 @@ const FONT = (size, bold) => `${bold ? "600 " : ""}${size}px system-ui, sans-ser
 
 export class NetMap {
   /**
-   * `onPick` is told of the thing that was picked, `onView` of a move, `onFill` whether the map
-   * fills the window, `onFit` that it shows all that is near, `onDense` what is said of marks that are
-   * shown as density.
+   * `onPick` is told of the thing that was picked, `onView` of a move, `onFill` whether the map fills
+   * the window, `onFit` that it shows all that is near, `onDense` what is said of marks that are
+   * shown as density, `onWay` of what is measured, `onSpot` of the place below the pointer.
    * @param {HTMLElement} node holds a canvas
    * @param {{ onPick: (key: string) => void, onView: (text: string) => void,
-   *   onFill: (full: boolean) => void, onFit: () => void, onDense: (text: string) => void }} hears
+   *   onFill: (full: boolean) => void, onFit: () => void, onDense: (text: string) => void,
+   *   onWay: (text: string) => void, onSpot: (vector: number[] | null) => void }} hears
    */
-  constructor(node, { onPick, onView, onFill, onFit, onDense }) {
+  constructor(node, { onPick, onView, onFill, onFit, onDense, onWay, onSpot }) {
     this.node = node;
     this.onPick = onPick;
     this.onView = onView;
     this.onFill = onFill;
     this.onFit = onFit;
     this.onDense = onDense;
+    this.onWay = onWay;
+    this.onSpot = onSpot;
     this.canvas = /** @type {HTMLCanvasElement} */ (node.querySelector("canvas"));
     this.pen = /** @type {CanvasRenderingContext2D} */ (this.canvas.getContext("2d"));
     this.view = new Projection();
     this.land = new Land();
     this.shore = new Shore();
     this.tiles = new Tiles();
+    /** @type {import("./sheets.js").Sheet[]} */
+    this.sheets = [];
     this.sides = new Sides(1, 1);
+    this.way = new Measure();
     /** @type {Thing[]} */
     this.placed = [];
     /** @type {Thing[]} */
@@ -191,6 +200,22 @@ export class NetMap {
     }
     return best;
   }
+  /**
+   * Changes what is measured, and says so.
+   * @param {(way: Measure) => void} change
+   */
+  turnWay(change) {
+    change(this.way);
+    this.onWay(this.way.text);
+    this.node.classList.toggle("measures", this.way.isOn);
+    this.paintSoon();
+  }
+  /** The place below the pointer, where it is on the earth. */
+  point(at) {
+    const { width, height, scale } = this.view;
+    const isOn = at && Math.hypot(at[0] - width / 2, at[1] - height / 2) < 2 * scale;
+    this.onSpot(isOn ? this.view.at(...at) : null);
+  }
   /** Puts what was fanned out together again. */
   unfold() {
     this.fan.close();
@@ -198,6 +223,7 @@ export class NetMap {
   }
   /** Picks what is tapped on; what is covered by it fans out first, or comes closer. */
   tap(x, y) {
+    if (this.way.isOn) return this.turnWay(way => way.add(this.view.at(x, y)));
     const mark = this.markAt(x, y), { fan } = this;
     if (mark && fan.keys.includes(mark.thing.key)) return this.onPick(mark.thing.key);
     const piles = mark ? pilesOf(this.marks, this.marks.length > SMALL) : [];
@@ -221,7 +247,8 @@ export class NetMap {
     pen.lineJoin = "round";
     const rough = this.land.paint(pen, view, colours, this.shore.of !== null);
     const coast = this.shore.paint(pen, view, colours) ?? rough;
-    this.tiles.paint(pen, view, this.paintSoon);
+    const isCovered = this.tiles.paint(pen, view, this.paintSoon);
+    paintSheets(pen, view, this.sheets);
     const labels = paintGrid(pen, view, colours);
     for (const base of this.bases) this.paintBase(base);
     const shown = this.shownNow(), density = this.place(shown);
@@ -229,13 +256,14 @@ export class NetMap {
       { until: this.until, isAnyPicked: this.picked !== null });
     tracks.paint(density ? shown.filter(it => it.picked) : shown);
     this.paintRuler();
+    this.paintWay();
     if (density) paintDensity(pen, density, colours.station);
     this.onDense(density ? densityText(density) : "");
     this.isDense = density !== null;
     const room = this.paintMarks();
     this.writeTimes(tracks, shown, room);
     for (const label of labels) this.write(label.text, label.x, label.y, colours.soft, 11);
-    this.paintScale(coast);
+    this.paintScale(isCovered ? "" : coast);
   }
   /** What is on the map, in the order in which it is drawn. */
   shownNow() {
@@ -307,6 +335,18 @@ export class NetMap {
     this.pen.setLineDash([2, 4]);
     this.line([...a.vector, ...b.vector]);
     this.pen.setLineDash([]);
+  }
+  /** The line that the reader measures. */
+  paintWay() {
+    const { pen, view, colours } = this, { places, ways } = this.way;
+    Object.assign(pen, { strokeStyle: colours.bad, fillStyle: colours.bad, lineWidth: 2 });
+    for (const it of ways) this.line(it);
+    for (const it of places) {
+      if (!this.isInView(it)) continue;
+      pen.beginPath();
+      pen.arc(view.x, view.y, 3.5, 0, 7);
+      pen.fill();
+    }
   }
   /** Draws marks and names; gives the room that is left. In density, what matters most alone. */
   paintMarks() {
@@ -496,9 +536,8 @@ export class NetMap {
   }
   /** @param {string} coast what is said of it */
   paintScale(coast) {
-    const { pen, view, colours } = this, km = roundUp(70 / view.scale * RADIUS / 1000);
-    const long = km * 1000 / RADIUS * view.scale, x = view.width - 12, y = view.height - 22;
-    const text = km < 1 ? `${Math.round(km * 1000)} m` : `${km.toLocaleString("en")} km`;
+    const { pen, view, colours } = this, { metres, text } = scaleOf(70 / view.scale * RADIUS);
+    const long = metres / RADIUS * view.scale, x = view.width - 12, y = view.height - 22;
     this.write(text, x - this.widthOf(text), y - 5, colours.ink, 12);
     if (coast) this.write(coast, x - this.widthOf(coast), y - 22, colours.soft, 11);
     Object.assign(pen, { strokeStyle: colours.ink, lineWidth: 1.5 });

@@ -6,6 +6,7 @@ import { wordsOf } from "./details.js";
 import { air, callIn, letters, make } from "./dom.js";
 import { ageCell, cell, List, newMark, number, timeCell } from "./lists.js";
 import { OPEN } from "./map.js";
+import { placeText } from "./placeforms.js";
 import { who } from "./roster.js";
 import { markOf, symbolOf } from "./symbols.js";
 import { printable, said } from "./words.js";
@@ -42,7 +43,7 @@ function thingRow(it, view) {
 }
 export function whereOf(place) {
   if (!place) return [];
-  const text = `${place.north.toFixed(4)}, ${place.east.toFixed(4)}`;
+  const text = placeText(place.north, place.east);
   return [make("a", { href: `geo:${place.north.toFixed(6)},${place.east.toFixed(6)}`, tabIndex: -1,
     textContent: text }), OPEN[place.ambiguity] ? " (about)" : ""];
 }

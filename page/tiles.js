@@ -1,6 +1,7 @@
 // @ts-check
-// The reader's own map: pictures of squares of a web map (Z/X/Y.png), each drawn by the affine map of
-// three of its corners, which is below a pixel off up to some 100 km.
+// The reader's own map: pictures of squares of a web map, of files (Z/X/Y.png), of archives or of the
+// page itself. Each is drawn by the affine map of three of its corners, which is below a pixel off up
+// to some 100 km.
 
 import { RADIAN, vectorOf } from "./globe.js";
 import { rangeOf } from "./grid.js";
@@ -20,11 +21,35 @@ const northOf = (/** @type {number} */ y, /** @type {number} */ z) =>
   Math.atan(Math.sinh(Math.PI * (1 - 2 * y / 2 ** z))) / RADIAN;
 /** So many squares stay unpacked. */
 const KEPT = 400;
+/**
+ * Squares that are read when they are asked for: their levels, and the picture of one.
+ * @typedef {{ least: number, most: number,
+ *   read: (z: number, x: number, y: number) => Promise<Blob | null> }} Archive
+ */
+/**
+ * Draws a picture, of which three corners lie at these pixels: upper left, upper right, lower left.
+ * @param {CanvasRenderingContext2D} pen
+ * @param {ImageBitmap} picture
+ * @param {number[][]} corners
+ * @param {number} over so many pixels of the picture it is drawn too large, against seams
+ */
+export function drawAt(pen, picture, [[x0, y0], [x1, y1], [x2, y2]], over) {
+  const { width, height } = picture, ratio = devicePixelRatio || 1;
+  pen.setTransform(ratio * (x1 - x0) / width, ratio * (y1 - y0) / width,
+    ratio * (x2 - x0) / height, ratio * (y2 - y0) / height, ratio * x0, ratio * y0);
+  pen.drawImage(picture, 0, 0, width + over, height + over);
+}
+/** @param {string} text in base64 */
+const blobOf = text => new Blob([Uint8Array.from(atob(text), it => it.charCodeAt(0))]);
 
 export class Tiles {
   constructor() {
     /** @type {Map<string, Blob>} */
     this.blobs = new Map();
+    /** @type {Record<string, string>} those of the page itself, in base64 */
+    this.carried = {};
+    /** @type {Map<string, Archive>} */
+    this.archives = new Map();
     /** @type {Map<string, ImageBitmap | null>} */
     this.made = new Map();
     this.least = 99;
@@ -36,16 +61,64 @@ export class Tiles {
    */
   take({ z, x, y }, blob) {
     this.blobs.set(`${z}/${x}/${y}`, blob);
-    this.least = Math.min(this.least, z);
-    this.most = Math.max(this.most, z);
+    this.widen(z, z);
   }
+  /**
+   * @param {string} name
+   * @param {Archive} archive
+   */
+  open(name, archive) {
+    this.archives.set(name, archive);
+    this.made.clear();
+    this.widen(archive.least, archive.most);
+  }
+  /**
+   * Takes the squares that the page itself has.
+   * @param {Record<string, string>} tiles
+   */
+  carry(tiles) {
+    if (tiles === this.carried) return;
+    this.carried = tiles;
+    this.made.clear();
+    this.levels();
+  }
+  /** @param {number} least @param {number} most */
+  widen(least, most) {
+    this.least = Math.min(this.least, least);
+    this.most = Math.max(this.most, most);
+  }
+  /** The levels of all that is there. */
+  levels() {
+    Object.assign(this, { least: 99, most: 0 });
+    for (const it of this.archives.values()) this.widen(it.least, it.most);
+    for (const way of [...Object.keys(this.carried), ...this.blobs.keys()]) {
+      const z = Number.parseInt(way, 10);
+      this.widen(z, z);
+    }
+  }
+  /** How many squares the reader brought as files. */
   get size() {
     return this.blobs.size;
   }
+  /** Takes away what the reader brought. */
   clear() {
     this.blobs.clear();
+    this.archives.clear();
     this.made.clear();
-    Object.assign(this, { least: 99, most: 0 });
+    this.levels();
+  }
+  /**
+   * The packed picture of a square; what the reader brought comes first.
+   * @param {string} key
+   */
+  async find(key) {
+    const [z, x, y] = key.split("/").map(Number), own = this.blobs.get(key);
+    if (own) return own;
+    for (const it of this.archives.values()) {
+      const blob = z >= it.least && z <= it.most ? await it.read(z, x, y) : null;
+      if (blob) return blob;
+    }
+    return Object.hasOwn(this.carried, key) ? blobOf(this.carried[key]) : null;
   }
   /**
    * The picture of a square, once it is unpacked; `again` is called then.
@@ -53,14 +126,16 @@ export class Tiles {
    * @param {() => void} again
    */
   pictureOf(key, again) {
-    const got = this.made.get(key), blob = this.blobs.get(key);
-    if (got !== undefined || !blob) return got || null;
-    if (this.made.size >= KEPT) this.made.delete([...this.made.keys()][0]);
-    this.made.set(key, null);
-    createImageBitmap(blob).then(it => {
-      this.made.set(key, it);
+    const { made } = this, got = made.get(key);
+    if (got !== undefined) return got;
+    if (made.size >= KEPT) made.delete([...made.keys()][0]);
+    made.set(key, null);
+    // a square that can't be read or drawn is as one that isn't there
+    this.find(key).then(blob => blob && createImageBitmap(blob)).then(it => {
+      if (!it || !made.has(key)) return;
+      made.set(key, it);
       again();
-    }, () => this.blobs.delete(key));
+    }, () => {});
     return null;
   }
   /**
@@ -74,41 +149,40 @@ export class Tiles {
       : Math.max(this.least, Math.min(this.most, Math.round(wanted)));
   }
   /**
+   * Paints squares, and says whether there were some.
    * @param {CanvasRenderingContext2D} pen
    * @param {Projection} view
    * @param {() => void} again
    */
   paint(pen, view, again) {
-    const z = this.size ? this.sizeFor(view) : -1;
-    if (z < 0) return;
+    const z = this.least <= this.most ? this.sizeFor(view) : -1;
+    if (z < 0) return false;
     const { low, high, west, east } = rangeOf(view), n = 2 ** z;
-    if (east - west > 40) return;
+    if (east - west > 40) return false;
+    let painted = false;
     const row = (/** @type {number} */ north) =>
       (0.5 - Math.asinh(Math.tan(north * RADIAN)) / (2 * Math.PI)) * n;
-    const ratio = devicePixelRatio || 1;
     pen.save();
     for (let x = Math.floor((west + 180) / 360 * n); x <= (east + 180) / 360 * n; x++)
       for (let y = Math.floor(row(Math.min(85, high))); y <= row(Math.max(-85, low)); y++) {
         const picture = this.pictureOf(`${z}/${((x % n) + n) % n}/${y}`, again);
-        if (picture) this.square(pen, view, picture, { x, y, z, ratio });
+        if (picture) this.square(pen, view, picture, { x, y, z });
+        painted ||= picture !== null;
       }
     pen.restore();
+    return painted;
   }
   /**
    * @param {CanvasRenderingContext2D} pen
    * @param {Projection} view
    * @param {ImageBitmap} picture
-   * @param {{ x: number, y: number, z: number, ratio: number }} of
+   * @param {{ x: number, y: number, z: number }} of
    */
-  square(pen, view, picture, { x, y, z, ratio }) {
+  square(pen, view, picture, { x, y, z }) {
     const corner = (/** @type {number} */ a, /** @type {number} */ b) => {
       view.put(vectorOf(northOf(y + b, z), (x + a) / 2 ** z * 360 - 180));
       return [view.x, view.y];
     };
-    const [x0, y0] = corner(0, 0), [x1, y1] = corner(1, 0), [x2, y2] = corner(0, 1);
-    const { width, height } = picture;
-    pen.setTransform(ratio * (x1 - x0) / width, ratio * (y1 - y0) / width,
-      ratio * (x2 - x0) / height, ratio * (y2 - y0) / height, ratio * x0, ratio * y0);
-    pen.drawImage(picture, 0, 0, width + 0.6, height + 0.6);
+    drawAt(pen, picture, [corner(0, 0), corner(1, 0), corner(0, 1)], 0.6);
   }
 }

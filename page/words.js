@@ -101,9 +101,3 @@ export function age(passed) {
   return `${Math.floor(passed / size)} ${unit}`;
 }
 export const count = (n, word) => `${n.toLocaleString("en")} ${word}${n === 1 ? "" : "s"}`;
-
-/** Metres, or kilometres where that says enough. */
-export function far(metres) {
-  if (metres < 1000) return `${Math.round(metres)} m`;
-  return `${(metres / 1000).toFixed(metres < 1e5 ? 1 : 0)} km`;
-}

@@ -4,9 +4,11 @@ lines, Windows' spellings, folders, logs that are followed. The module is a stan
 
 usage: page_alone.py [PICTURES]    needs Python 3 and chromium; PICTURES is a folder for pictures
 """
+import contextlib
 import http.server
 import json
 import pathlib
+import sqlite3
 import sys
 import tempfile
 import threading
@@ -180,6 +182,146 @@ def squares(page):
         [200, 30, 30])
     assert "400 squares" in page.js("document.getElementById('own-map').textContent")
     picture(page, "tiles")
+
+
+def mbtiles(path):
+    """An MBTiles file of red squares of level 12."""
+    with contextlib.closing(sqlite3.connect(path)) as base:
+        base.execute("CREATE TABLE tiles (zoom_level, tile_column, tile_row, tile_data)")
+        base.execute("CREATE INDEX it ON tiles (zoom_level, tile_column, tile_row)")
+        for x in range(2002, 2012):
+            for y in range(1280, 1320):
+                base.execute("INSERT INTO tiles VALUES (12, ?, ?, ?)", (x, 4095 - y, SQUARE))
+        base.commit()
+
+
+def own_map(page):
+    return page.js("document.getElementById('own-map').textContent")
+
+
+def is_red(page, words, where="54.65,-3.5,20"):
+    """The map is red beside its middle, and says of what."""
+    page.js(f"(aprsbook.page.map.look('{where}'), aprsbook.page.map.paint())")
+    page.wait("(() => { const { map } = aprsbook.page, { width, height } = map.canvas; map.paint(); "
+              "return map.pen.getImageData(width / 3, height / 3, 1, 1).data.slice(0, 3).join() "
+              "=== '200,30,30' })()")
+    is_(own_map(page), words)
+
+
+def test_archives(page, folder):
+    """Squares in a database are drawn by slices; a database of something else is named."""
+    fresh(page, folder)
+    mbtiles(folder / "map.mbtiles")
+    with contextlib.closing(sqlite3.connect(folder / "other.db")) as base:
+        base.execute("CREATE TABLE x (y)")
+    (folder / "a.log").write_text(log(3))
+    page.give("#choose", *[folder / name for name in ("a.log", "map.mbtiles", "other.db")])
+    page.wait(MADE)
+    is_(page.js(TOLD)["other.db"], "is a database (SQLite), which no log is, and can\u2019t be drawn as a "
+        "map: it has no table of tiles")
+    is_(sorted(page.js(TOLD)), ["a.log", "other.db"])
+    is_red(page, "Own map: map.mbtiles.")
+    page.js("document.getElementById('away').click()")
+    is_(own_map(page), "")
+
+
+def test_sheet(page, folder):
+    """A picture lies where three of its corners are, which are asked for or come in a file."""
+    fresh(page, folder)
+    (folder / "a.log").write_text(log(3))
+    (folder / "sheet.png").write_bytes(SQUARE)
+    # degrees for a pixel, and the middle of the first: 55 N 4 W, and a degree wide and high
+    size = 1 / 256
+    (folder / "sheet.pgw").write_text(f"{size}\n0\n0\n-{size}\n{-4 + size / 2}\n{55 - size / 2}\n")
+    page.give("#choose", folder / "a.log", folder / "sheet.png")
+    page.wait(f"{MADE} && !document.getElementById('sheet').hidden")
+    put = ("((...all) => { all.forEach((it, k) => { document.getElementById('corner-' + k).value = it });"
+           " document.getElementById('lay').click(); return told.textContent })")
+    is_(page.js(put + "('55, -4', '55, -3', '91, 0')"),
+        "sheet.png: a corner is written as 54.5, -3.6, and not as 91, 0")
+    is_(page.js(put + "('55, -4', '55, -3', '55, -2')"),
+        "sheet.png: the three corners lie in one line")
+    is_(page.js(put + "('55, -4', '55, -3', '54, -4')"), "")
+    is_red(page, "Own map: sheet.png.")
+    page.js("document.getElementById('away').click()")
+    page.give("#bring", folder / "sheet.pgw", folder / "sheet.png")
+    page.wait("aprsbook.page.map.sheets.length === 1")
+    is_red(page, "Own map: sheet.png.")
+
+
+def choose(page, name, value):
+    page.js(f"(() => {{ const it = document.getElementById('{name}'); "
+            f"if (it.type === 'checkbox') it.checked = {json.dumps(value)}; "
+            f"else it.value = {json.dumps(value)}; it.dispatchEvent(new Event('change')) }})()")
+
+
+def click(page, x, y, kind="mouse"):
+    for name in "Moved", "Pressed", "Released":
+        page.call("Input.dispatchMouseEvent", type="mouse" + name, x=x, y=y, button="left",
+                  clickCount=1, pointerType=kind)
+
+
+def test_units(page, folder):
+    """Miles and the form of places are kept by the browser; a line is measured by clicks."""
+    text = "/036/A=001000"
+    fresh(page, folder)
+    give(page, folder, {"a.log": place(0, "Q1A", 30, text=text)})
+    page.wait(MADE)
+    choose(page, "place-form", "mgrs")
+    choose(page, "miles", True)
+    page.wait("document.querySelector('#things .where').textContent === '30U VF 67619 39269'")
+    fresh(page, folder)
+    give(page, folder, {"a.log": place(0, "Q1A", 30, text=text)})
+    page.wait("document.querySelector('#things .where')?.textContent === '30U VF 67619 39269'")
+    is_(page.js("miles.checked"), True)
+    choose(page, "miles", False)
+    choose(page, "place-form", "")
+    page.wait("document.querySelector('#things .where').textContent === '54.5000, -3.5000'")
+    box = page.js("(aprsbook.page.map.look('54.5,-3.5,10'), aprsbook.page.map.paint(), "
+                  "document.getElementById('map').scrollIntoView({ block: 'center' }), "
+                  "measure.click(), document.getElementById('map').getBoundingClientRect().toJSON())")
+    middle = box["x"] + box["width"] / 2, box["y"] + box["height"] / 2
+    click(page, *middle)
+    click(page, middle[0] + 100, middle[1])
+    is_(page.js("way.textContent"), "10.0 km at 090\u00b0")
+    assert page.js("spot.textContent").startswith("54.49"), page.js("spot.textContent")
+    assert " \u00b7 30U VF 7" in page.js("spot.textContent"), page.js("spot.textContent")
+    page.js("dispatchEvent(new KeyboardEvent('keydown', { key: 'Escape' }))")
+    is_(page.js("[way.textContent, measure.getAttribute('aria-pressed')]"), ["", "false"])
+
+
+def test_edge(page, folder):
+    """The edge of the map is dragged, by keys too; on a wide screen lists stand beside."""
+    fresh(page, folder)
+    give(page, folder, {"a.log": log(3)})
+    page.wait(MADE)
+    sizes = ("(() => { const it = document.getElementById('map').getBoundingClientRect(), "
+             "beside = document.getElementById('said').getBoundingClientRect(); "
+             "return [it.width, it.height, beside.x > it.right, beside.y > it.bottom] })()")
+    key = ("(name => document.getElementById('edge').dispatchEvent(new KeyboardEvent('keydown', "
+           "{ key: name, cancelable: true })))")
+    for width, turned, back in ((1400, "ArrowLeft", 0), (900, "ArrowDown", 1)):
+        page.call("Emulation.setDeviceMetricsOverride", width=width, height=860,
+                  deviceScaleFactor=1, mobile=False)
+        page.settle()
+        before = page.js(sizes)
+        is_(before[2:], [back == 0, back == 1])
+        page.js(f"{key}('{turned}')")
+        page.settle()
+        after = page.js(sizes)
+        assert after[back] < before[back] if back == 0 else after[back] == before[back] + 40, after
+        page.js(f"{key}('Home')")
+        page.settle()
+        is_(page.js(sizes), before)
+    grip = page.js("(document.getElementById('edge').scrollIntoView({ block: 'center' }), "
+                   "document.getElementById('edge').getBoundingClientRect().toJSON())")
+    x, y = grip["x"] + grip["width"] / 2, grip["y"] + 4
+    for kind, down in (("Moved", 0), ("Pressed", 0), ("Moved", 60), ("Released", 60)):
+        page.call("Input.dispatchMouseEvent", type="mouse" + kind, x=x, y=y + down, button="left",
+                  buttons=1, clickCount=1)
+    page.settle()
+    assert abs(page.js(sizes)[1] - before[1] - 60) < 8, (page.js(sizes), before)
+    assert "high=" in page.js("location.hash")
 
 
 def test_turns(page, folder):
@@ -429,8 +571,8 @@ def square():
 
 
 SQUARE = square()
-TESTS = (test_damaged, test_strangers, test_windows, test_names, test_folders, test_turns,
-         test_brought, test_clock, test_followed, test_example, test_own_lines, test_new)
+TESTS = (test_damaged, test_strangers, test_windows, test_names, test_folders, test_archives,
+         test_sheet, test_units, test_edge, test_turns, test_brought, test_clock, test_followed, test_example, test_own_lines, test_new)
 
 if __name__ == "__main__":
     page = browser.Browser()

@@ -35,8 +35,8 @@ def near(spots: Sequence[Spot]) -> List[Spot]:
 
 
 def box_around(spots: Sequence[Spot]) -> Optional[Box]:
-    """A box around most of these places that is twice as wide and high, or None where that is too
-    wide. Its east may lie beyond 180 degrees."""
+    """A box around most of these places that is twice as high and three times as wide, as a window
+    is, or None where that is too wide. Its east may lie beyond 180 degrees."""
     spots = near(spots)
     if not spots:
         return None
@@ -48,7 +48,7 @@ def box_around(spots: Sequence[Spot]) -> Optional[Box]:
         return None
     level = math.cos(math.radians((low + high) / 2))
     side = max(high - low, (right - west) * level, LEAST_MARGIN)
-    above, beside = side - (high - low) / 2, (side - (right - west) * level / 2) / level
+    above, beside = side - (high - low) / 2, (1.5 * side - (right - west) * level / 2) / level
     box = Box(*(round(it * UNIT) for it in (west - beside, low - above, right + beside,
                                             high + above)))
     wide = max(box.east - box.west, box.north - box.south) > MOST_DEGREES * UNIT

@@ -1,0 +1,64 @@
+// @ts-check
+// A line that the reader measures: the shortest ways over the earth between the places that are
+// clicked on.
+
+import { bearing, distance, RADIUS } from "./globe.js";
+import { far } from "./units.js";
+
+/** Between two places of a way that is drawn lie so many metres at most. */
+const STEP = 50000;
+
+/**
+ * The shortest way from one place to another, as a line of places.
+ * @param {number[]} from
+ * @param {number[]} to
+ */
+export function wayOf(from, to) {
+  const angle = distance(from, to) / RADIUS, steps = Math.max(1, Math.ceil(angle * RADIUS / STEP));
+  // between opposite places any way is the shortest
+  if (Math.sin(angle) < 1e-9) return [...from, ...to];
+  return Array.from({ length: steps + 1 }, (_, k) => {
+    const [a, b] = [1 - k / steps, k / steps].map(it => Math.sin(it * angle) / Math.sin(angle));
+    return from.map((it, n) => a * it + b * to[n]);
+  }).flat();
+}
+
+export class Measure {
+  constructor() {
+    this.isOn = false;
+    /** @type {number[][]} */
+    this.places = [];
+  }
+  /** @param {boolean} on */
+  turn(on) {
+    this.isOn = on;
+    this.places = [];
+  }
+  /**
+   * Goes on to a place.
+   * @param {number[]} vector
+   */
+  add(vector) {
+    this.places.push(vector);
+  }
+  /** Takes the last place back. */
+  back() {
+    this.places.pop();
+  }
+  /** The ways between the places. */
+  get ways() {
+    return this.places.slice(1).map((to, k) => wayOf(this.places[k], to));
+  }
+  get metres() {
+    return this.places.slice(1).reduce((sum, to, k) => sum + distance(this.places[k], to), 0);
+  }
+  /** What is measured, in words: the last way and its course as it begins, and all of them. */
+  get text() {
+    const { places } = this, [from, to] = places.slice(-2);
+    if (!this.isOn) return "";
+    if (!to) return from ? "measure: click where it ends" : "measure: click where it begins";
+    const course = `${Math.round(bearing(from, to)) % 360}\u00b0`.padStart(4, "0");
+    const all = places.length > 2 ? `, all ${far(this.metres)}` : "";
+    return `${far(distance(from, to))} at ${course}${all}`;
+  }
+}

@@ -1,0 +1,167 @@
+import assert from "node:assert/strict";
+import { execFileSync, spawnSync } from "node:child_process";
+import fs from "node:fs";
+import os from "node:os";
+import path from "node:path";
+import { test } from "node:test";
+import zlib from "node:zlib";
+import { openMbtiles } from "../../page/mbtiles.js";
+import { entriesOf, numberOf, openPmtiles } from "../../page/pmtiles.js";
+import { openSqlite } from "../../page/sqlite.js";
+
+const PNG = [0x89, 0x50, 0x4e, 0x47, 13, 10, 26, 10];
+const squares = (z, wide) => Array.from({ length: wide * wide }, (_, k) =>
+  [z, k % wide, Math.floor(k / wide)]);
+
+// ---- PMTiles (github.com/protomaps/PMTiles, spec/v3)
+
+test("squares are numbered as the specification has them", () => {
+  for (const [z, x, y, number] of [[0, 0, 0, 0], [1, 0, 0, 1], [1, 0, 1, 2], [1, 1, 1, 3],
+    [1, 1, 0, 4], [2, 0, 0, 5], [12, 3423, 1763, 19078479]])
+    assert.equal(numberOf(z, x, y), number);
+  const all = [...squares(0, 1), ...squares(1, 2), ...squares(2, 4), ...squares(3, 8)];
+  assert.deepEqual(all.map(it => numberOf(...it)).sort((a, b) => a - b), all.map((_, k) => k));
+  assert.equal(numberOf(22, 2 ** 22 - 1, 0), (4 ** 23 - 1) / 3 - 1);
+});
+const numbers = list => list.flatMap(it => {
+  const bytes = [];
+  for (; it > 127; it = Math.floor(it / 128)) bytes.push(it % 128 + 128);
+  return [...bytes, it];
+});
+/** A directory as the specification writes it; where `joined`, an offset that goes on is 0. */
+function directory(entries, joined = true) {
+  const ids = entries.map((it, k) => it.id - (k ? entries[k - 1].id : 0));
+  const offsets = entries.map((it, k) => {
+    const before = entries[k - 1];
+    return joined && before && it.offset === before.offset + before.length ? 0 : it.offset + 1;
+  });
+  return Uint8Array.from(numbers([entries.length, ...ids, ...entries.map(it => it.run),
+    ...entries.map(it => it.length), ...offsets]));
+}
+test("directories are read as they are written", () => {
+  const entries = [{ id: 0, run: 1, length: 9, offset: 0 }, { id: 5, run: 3, length: 200, offset: 9 },
+    { id: 300, run: 0, length: 7, offset: 2 ** 33 }];
+  for (const joined of [true, false]) assert.deepEqual(entriesOf(directory(entries, joined)), entries);
+  for (let cut = 0; cut < directory(entries).length; cut++)
+    assert.throws(() => entriesOf(directory(entries).subarray(0, cut)), /cut short/);
+});
+/** An archive of pictures of levels 0 to 3 with leaves of ten, and a run of three equal ones. */
+function archive({ type = 2, version = 3, packing = 2, packed = 1 } = {}) {
+  const all = [0, 1, 2, 3].flatMap(z => squares(z, 2 ** z)).map(it => numberOf(...it))
+    .sort((a, b) => a - b).filter(it => it !== 84); // the last one isn't there
+  const data = [];
+  const entries = all.filter(it => it !== 21 && it !== 22).map(id => {
+    const picture = [...PNG, id], offset = data.length;
+    data.push(...picture);
+    return { id, run: id === 20 ? 3 : 1, length: picture.length, offset };
+  });
+  const pack = bytes => packing === 2 ? zlib.gzipSync(bytes) : bytes;
+  const leaves = [], root = [];
+  for (let k = 0; k < entries.length; k += 10) {
+    const leaf = pack(directory(entries.slice(k, k + 10)));
+    root.push({ id: entries[k].id, run: 0, length: leaf.length, offset: leaves.length });
+    leaves.push(...leaf);
+  }
+  const head = new DataView(new ArrayBuffer(127)), rootBytes = pack(directory(root));
+  "PMTiles".split("").forEach((it, k) => head.setUint8(k, it.charCodeAt(0)));
+  head.setUint8(7, version);
+  const spans = [[8, 127, rootBytes.length], [40, 127 + rootBytes.length, leaves.length],
+    [56, 127 + rootBytes.length + leaves.length, data.length]];
+  for (const [at, offset, length] of spans) {
+    head.setBigUint64(at, BigInt(offset), true);
+    head.setBigUint64(at + 8, BigInt(length), true);
+  }
+  [1, packing, packed, type, 0, 3].forEach((it, k) => head.setUint8(96 + k, it));
+  return new Blob([head.buffer, rootBytes, Uint8Array.from(leaves), Uint8Array.from(data)]);
+}
+test("the squares of an archive are read by slices", async () => {
+  for (const packing of [1, 2]) {
+    const it = await openPmtiles(archive({ packing }));
+    assert.deepEqual([it.least, it.most], [0, 3]);
+    for (const [z, x, y] of [0, 1, 2, 3].flatMap(level => squares(level, 2 ** level))) {
+      const blob = await it.read(z, x, y), id = numberOf(z, x, y);
+      if (id === 84) assert.equal(blob, null);
+      else {
+        const bytes = [...new Uint8Array(await blob.arrayBuffer())];
+        assert.deepEqual(bytes, [...PNG, [21, 22].includes(id) ? 20 : id]);
+        assert.equal(blob.type, "image/png");
+      }
+    }
+    assert.equal(await it.read(4, 0, 0), null);
+  }
+});
+test("an archive that can't be drawn says why", async () => {
+  const refused = (of, why) => assert.rejects(openPmtiles(of), why);
+  await refused(archive({ type: 1 }), /no pictures/);
+  await refused(archive({ packed: 2 }), /no pictures/);
+  await refused(archive({ version: 2 }), /version 2/);
+  await refused(archive({ packing: 3 }), /no browser/);
+  await refused(archive().slice(0, 100), /cut short/);
+  await refused(archive().slice(0, 130), /cut short/);
+});
+
+// ---- MBTiles, made by SQLite itself
+
+const MAKE = `
+import sqlite3, sys
+path, form, size = sys.argv[1:4]
+base = sqlite3.connect(path)
+base.execute("PRAGMA page_size = " + size)
+picture = lambda z, x, y: bytes([0x89, 80, 78, 71, z, x, y]) * (1 + 97 * (x + y))
+if form == "vector": picture = lambda z, x, y: bytes([31, 139])
+base.execute("CREATE TABLE metadata (name text, value text)")
+all = [(z, x, y) for z in range(2, 6) for x in range(2 ** z) for y in range(2 ** z) if x or y]
+if form == "map":
+    base.execute("CREATE TABLE map (zoom_level INTEGER, tile_column INTEGER, tile_row INTEGER, "
+                 "tile_id TEXT, grid_id TEXT)")
+    base.execute("CREATE TABLE images (tile_data blob, tile_id text)")
+    base.execute("CREATE UNIQUE INDEX map_index ON map (zoom_level, tile_column, tile_row)")
+    base.execute("CREATE UNIQUE INDEX images_id ON images (tile_id)")
+    base.execute("CREATE VIEW tiles AS SELECT map.zoom_level, map.tile_column, map.tile_row, "
+                 "images.tile_data FROM map JOIN images ON images.tile_id = map.tile_id")
+    for z, x, y in all:
+        name = f"{z}/{x}/{y}"
+        base.execute("INSERT INTO map VALUES (?, ?, ?, ?, NULL)", (z, x, 2 ** z - 1 - y, name))
+        base.execute("INSERT INTO images VALUES (?, ?)", (picture(z, x, y), name))
+else:
+    words = {"key": ", PRIMARY KEY (zoom_level, tile_column, tile_row)"}.get(form, "")
+    base.execute("CREATE TABLE tiles (zoom_level integer, tile_column integer, tile_row integer, "
+                 "tile_data blob" + words + ")")
+    if form in ("index", "vector"):
+        base.execute("CREATE UNIQUE INDEX tile_index on tiles (zoom_level, tile_column, tile_row)")
+    for z, x, y in all if form != "empty" else []:
+        base.execute("INSERT INTO tiles VALUES (?, ?, ?, ?)", (z, x, 2 ** z - 1 - y, picture(z, x, y)))
+base.commit()
+`;
+const hasPython = spawnSync("python3", ["-c", "import sqlite3"]).status === 0;
+function made(form, size = 4096) {
+  const folder = fs.mkdtempSync(path.join(os.tmpdir(), "mbtiles-")), name = path.join(folder, "it");
+  execFileSync("python3", ["-c", MAKE, name, form, String(size)]);
+  const blob = new Blob([fs.readFileSync(name)]);
+  fs.rmSync(folder, { recursive: true });
+  return blob;
+}
+for (const [form, size] of [["index", 4096], ["key", 512], ["map", 1024], ["index", 65536]])
+  test(`squares of MBTiles, ${form} in pages of ${size}`, { skip: !hasPython }, async () => {
+    const it = await openMbtiles(made(form, size));
+    assert.deepEqual([it.least, it.most], [2, 5]);
+    for (const [z, x, y] of [2, 3, 4, 5].flatMap(level => squares(level, 2 ** level))) {
+      const blob = await it.read(z, x, y);
+      if (!x && !y) assert.equal(blob, null);
+      else {
+        const bytes = new Uint8Array(await blob.arrayBuffer()), count = 1 + 97 * (x + y);
+        assert.equal(bytes.length, 7 * count);
+        assert.deepEqual([...bytes.subarray(-7)], [0x89, 80, 78, 71, z, x, y]);
+      }
+    }
+    assert.equal(await it.read(1, 0, 0), null);
+    assert.equal(await it.read(6, 63, 0), null);
+  });
+test("a database that can't be drawn says why", { skip: !hasPython }, async () => {
+  await assert.rejects(openMbtiles(made("vector")), /no pictures/);
+  await assert.rejects(openMbtiles(made("none")), /no index by zoom_level, tile_column, tile_row/);
+  await assert.rejects(openSqlite(made("index").slice(0, 99)), /cut short/);
+  const torn = openMbtiles(made("index").slice(0, 40960));
+  await assert.rejects(torn.then(it => it.read(5, 31, 31)), /cut short/);
+  await assert.rejects(openMbtiles(made("index").slice(0, 4096)), /cut short|damaged/);
+});
