@@ -55,6 +55,8 @@ export function tick() {
   for (const row of byId("things-box").querySelectorAll("tr.station"))
     row.classList.toggle("silent", now - row.querySelector(".age").dataset.v > view.silent);
   drawNews();
+  // colours of ages go on too
+  if (Math.floor(now) % 10 === 0 && page.map.colouring.way === "age") page.map.paintSoon();
   if (alive.refused) words.push(alive.refused);
   if (alive.away) words.push(`the server has been away since ${fullText(alive.away / 1000)}`);
   if (page.all.rows.length && quiet > 600) words.push(`nothing was heard for ${age(quiet)}`);

@@ -127,4 +127,4 @@ export function paintDensity(pen, { counts, across, left, top, most }, colour) {
 }
 /** @param {Density} density */
 export const densityText = ({ most }) =>
-  `Each square has 1 to ${count(most, "mark")}; tracks come closer.`;
+  `Each square has 1 to ${count(most, "mark")}. Tracks are shown closer.`;

@@ -41,13 +41,15 @@ const wrong = (/** @type {string} */ text) => new End(`error: ${text}\n`, STATUS
 // ---- what is asked for
 
 /**
- * The options and the other words of a command, in order; each of them at most once.
+ * The options and the other words of a command, each judged in its turn: what is wrong comes before
+ * help that is asked for behind it.
  * @param {string[]} words
  * @param {string[]} names of its options
  * @param {Help} help
  * @param {string} version what `--version` says, where it is asked for here
+ * @param {(words: string[]) => void} judge the words so far that are no options
  */
-function parsed(words, names, help, version) {
+function parsed(words, names, help, version, judge = () => {}) {
   const options = Object.fromEntries(names.map(name => [name, { type: "string" }]));
   const { tokens } = parseArgs({ args: words, strict: false, tokens: true,
     options: /** @type {any} */ ({ ...options, help: { type: "boolean", short: "h" },
@@ -56,7 +58,10 @@ function parsed(words, names, help, version) {
   const values = {};
   const others = [];
   for (const it of /** @type {any[]} */ (tokens)) {
-    if (it.kind === "positional") others.push(it.value);
+    if (it.kind === "positional") {
+      others.push(it.value);
+      judge(others);
+    }
     if (it.kind !== "option") continue;
     const { name, rawName, value, inlineValue } = it;
     if (name === "help" && value === undefined)
@@ -69,6 +74,7 @@ function parsed(words, names, help, version) {
     if (Object.hasOwn(values, name))
       throw wrong(`the argument '${rawName}' cannot be used multiple times`);
     values[name] = value;
+    if (name === "gap") secondsIn(value);
   }
   return { values, others };
 }
@@ -79,16 +85,15 @@ function secondsIn(text) {
   return Number(text);
 }
 /**
- * The row of a program that these words ask for, and the words that are left.
+ * The row of a program that these words ask for, the longest one.
  * @param {Row[]} rows
  * @param {string[]} words
- * @returns {{ row: Row, left: string[] }}
  */
 function rowFor(rows, words) {
   const fits = rows.filter(it => it.words.every((word, n) => word === words[n]));
   const row = fits.sort((a, b) => b.words.length - a.words.length)[0];
   if (!row) throw wrong(words.length > 1 ? `invalid value '${words[1]}'` : "FORM is missing");
-  return { row, left: words.slice(row.words.length) };
+  return row;
 }
 /**
  * What a program is asked for by its words.
@@ -101,7 +106,8 @@ export function jobOf(program, words, { rows: all, helps, version }) {
   const rows = all[program], of = `${program} ${version}\n`;
   if (program !== "aprsbook") return readJob(program, rows, [], words, helps[program], of);
   const [name, ...rest] = words;
-  if (name === undefined) return { run: "convert text", options: [], paths: [] };
+  if (name === undefined || name === "--" && !rest.length)
+    return { run: "convert text", options: [], paths: [] };
   if (name === "help") return helpOn(rest, helps);
   if (name.startsWith("-")) parsed([name], [], helps[program], of);
   const own = rows.filter(it => it.words[0] === name);
@@ -128,13 +134,18 @@ function helpOn(words, helps) {
  * @returns {Job}
  */
 function readJob(program, rows, before, words, help, version) {
-  const names = [...new Set(rows.flatMap(it => it.options))];
-  const { values, others } = parsed(words, names, help, version);
-  const { row, left } = rowFor(rows, [...before, ...others]);
-  const seconds = row.seconds ? left.shift() : values.gap;
-  if (row.seconds && seconds === undefined) throw wrong("SECONDS is missing");
-  const gap = seconds === undefined ? GAP : secondsIn(seconds);
-  if (!row.many && left.length > 1) throw wrong(`unexpected argument '${left[1]}' found`);
+  const names = [...new Set(rows.flatMap(it => it.options))], [{ seconds, many }] = rows;
+  const rowOf = (/** @type {string[]} */ others) => rowFor(rows, [...before, ...others]);
+  /** How many words aren't inputs. */
+  const taken = (/** @type {Row} */ row) => row.words.length - before.length + (seconds ? 1 : 0);
+  const { values, others } = parsed(words, names, help, version, others => {
+    if (seconds) secondsIn(others[0]);
+    if (!many && others.length > taken(rowOf(others)) + 1)
+      throw wrong(`unexpected argument '${others[others.length - 1]}' found`);
+  });
+  const row = rowOf(others), left = others.slice(taken(row));
+  if (seconds && !others.length) throw wrong("SECONDS is missing");
+  const gap = seconds ? secondsIn(others[0]) : values.gap ? secondsIn(values.gap) : GAP;
   const isBad = row.required.some(it => values[it] === undefined) ||
     Object.keys(values).some(it => !row.options.includes(it));
   if (isBad) throw new End("aprsbook: bad capture options\n", STATUS.words);
