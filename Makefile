@@ -82,13 +82,16 @@ words:
 	@$(MAKE) --no-print-directory page-tests
 
 # the parts of the page that need no browser, their types, and that a bundler reads them too, each
-# where its tool is there
+# where its tool is there; the types of each module are strict, but for those of LOOSE
+LOOSE = alive|begin|clocks|command|dom|drop|event|exports|fans|follow|form|frames|host|lists|map|messages|net|\
+steps|symbols|tables|timeline|words|worker
 page-tests:
 	@mkdir -p out
 	@if command -v node > /dev/null; then node --test tests/page/*.test.js > out/page-tests.txt || \
 	    { cat out/page-tests.txt; exit 1; }; echo "page: $$(grep -c '^ok' out/page-tests.txt) tests"; \
 	else echo 'left out: the tests of the page (no node is there)'; fi
-	@if command -v tsc > /dev/null; then tsc -p page/jsconfig.json; \
+	@if command -v tsc > /dev/null; then tsc -p page/jsconfig.json && \
+	    ! tsc --strict -p page/jsconfig.json | grep -v -E '^page/($(LOOSE))[.]js|^ '; \
 	else echo 'left out: the types of the page (no tsc is there)'; fi
 	@if command -v esbuild > /dev/null; then for it in begin reads worker command; do \
 	    esbuild --bundle --platform=node --log-level=error page/$$it.js > /dev/null || exit 1; done; \

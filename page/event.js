@@ -420,7 +420,7 @@ function listenToControls() {
   const { map } = page, on = (id, kind, run) => byId(id).addEventListener(kind, run);
   on("in", "click", () => { map.zoom(1.5); map.turn(); });
   on("out", "click", () => { map.zoom(1 / 1.5); map.turn(); });
-  on("fit", "click", () => { map.fit(map.fitted && map.far > 0); map.turn(); });
+  on("fit", "click", () => { map.fit(map.fitted && !map.isAll && map.far > 0); map.turn(); });
   on("colours", "change", () => {
     choose("colours", byId("colours").value);
     colour();

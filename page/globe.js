@@ -8,6 +8,10 @@ export const RADIAN = Math.PI / 180;
 /** The greatest scale of a map, in pixels for a radian. */
 export const NEAREST = 6.4e7;
 
+/**
+ * @param {number} north
+ * @param {number} east
+ */
 export function vectorOf(north, east) {
   const level = Math.cos(north * RADIAN);
   return [level * Math.cos(east * RADIAN), level * Math.sin(east * RADIAN),
@@ -20,34 +24,57 @@ export function vectorOf(north, east) {
 export function degreesOf({ 0: x, 1: y, 2: z }) {
   return [Math.atan2(z, Math.hypot(x, y)) / RADIAN, Math.atan2(y, x) / RADIAN];
 }
+/**
+ * Metres from one place to another.
+ * @param {ArrayLike<number>} a
+ * @param {ArrayLike<number>} b
+ */
 export function distance(a, b) {
   const half = Math.hypot(a[0] - b[0], a[1] - b[1], a[2] - b[2]) / 2;
   return 2 * RADIUS * Math.asin(Math.min(1, half));
 }
+/** @param {ArrayLike<number>} a @param {ArrayLike<number>} b */
 const dot = (a, b) => a[0] * b[0] + a[1] * b[1] + a[2] * b[2];
 
-/** East and north at a place, as vectors. */
+/**
+ * East and north at a place, as vectors.
+ * @param {number} north
+ * @param {number} east
+ */
 function frameAt(north, east) {
   const [sinN, cosN] = [Math.sin(north * RADIAN), Math.cos(north * RADIAN)];
   const [sinE, cosE] = [Math.sin(east * RADIAN), Math.cos(east * RADIAN)];
   return { east: [-sinE, cosE, 0], north: [-sinN * cosE, -sinN * sinE, cosN] };
 }
-/** The course from one place to another as it begins, in degrees from north by east. */
+/**
+ * The course from one place to another as it begins, in degrees from north by east.
+ * @param {ArrayLike<number>} from
+ * @param {ArrayLike<number>} to
+ */
 export function bearing(from, to) {
   const [north, east] = degreesOf(from), frame = frameAt(north, east);
   return (Math.atan2(dot(frame.east, to), dot(frame.north, to)) / RADIAN + 360) % 360;
 }
-/** The Maidenhead locator of a place, with six letters. */
+/**
+ * The Maidenhead locator of a place, with six letters.
+ * @param {number} north
+ * @param {number} east
+ */
 export function locatorOf(north, east) {
   const a = Math.min(359.9999, Math.max(0, east + 180)), b = Math.min(179.9999, north + 90);
-  const letter = (n, first) => String.fromCharCode(first.charCodeAt(0) + n);
+  const letter = (/** @type {number} */ n, /** @type {string} */ first) => String.fromCharCode(first.charCodeAt(0) + n);
   return letter(Math.floor(a / 20), "A") + letter(Math.floor(b / 10), "A") +
     Math.floor(a % 20 / 2) + Math.floor(b % 10) +
     letter(Math.floor(a % 2 * 12), "a") + letter(Math.floor(b % 1 * 24), "a");
 }
-/** A place in degrees and minutes, as radio amateurs say it. */
+/**
+ * A place in degrees and minutes, as radio amateurs say it.
+ * @param {number} north
+ * @param {number} east
+ */
 export function minutesText(north, east) {
-  const one = (value, digits, marks) => {
+  const one = (/** @type {number} */ value, /** @type {number} */ digits,
+    /** @type {string} */ marks) => {
     const all = Math.round(Math.abs(value) * 6000);
     return `${String(Math.floor(all / 6000)).padStart(digits, "0")}\u00b0` +
       `${(all % 6000 / 100).toFixed(2).padStart(5, "0")}\u2032${marks[value < 0 ? 1 : 0]}`;
@@ -90,6 +117,7 @@ export class Projection {
     this.scale = 1;
     this.x = 0;
     this.y = 0;
+    /** @type {[number, number]} north and east */
     this.middle = [0, 0];
     this.centre = [1, 0, 0];
     this.frame = frameAt(0, 0);
@@ -106,6 +134,7 @@ export class Projection {
   /**
    * Puts the pixel of the nth place of a line into x and y; says whether it is on this side of the
    * earth. A line has x, y, z of its places after each other, as a vector has of one.
+   * @param {ArrayLike<number>} line
    */
   put(line, n = 0) {
     const a = line[3 * n], b = line[3 * n + 1], c = line[3 * n + 2], { centre } = this;
@@ -115,7 +144,11 @@ export class Projection {
     this.y = this.height / 2 - k * (north[0] * a + north[1] * b + north[2] * c);
     return near > -0.9;
   }
-  /** The place under a pixel; beyond the earth's rim, that of the rim. */
+  /**
+   * The place under a pixel; beyond the earth's rim, that of the rim.
+   * @param {number} x
+   * @param {number} y
+   */
   at(x, y) {
     const right = (x - this.width / 2) / this.scale, up = (this.height / 2 - y) / this.scale;
     const out = Math.hypot(right, up), angle = 2 * Math.asin(Math.min(1, out / 2));
@@ -124,12 +157,19 @@ export class Projection {
     return [0, 1, 2].map(k =>
       a * this.centre[k] + b * this.frame.east[k] + c * this.frame.north[k]);
   }
-  /** Moves the picture so many pixels to the right and down. */
+  /**
+   * Moves the picture so many pixels to the right and down.
+   * @param {number} right
+   * @param {number} down
+   */
   move(right, down) {
     const [north, east] = degreesOf(this.at(this.width / 2 - right, this.height / 2 - down));
     this.look(north, east);
   }
-  /** Zooms, and the place under that pixel stays there. */
+  /**
+   * Zooms, and the place under that pixel stays there.
+   * @param {number} by
+   */
   zoom(by, x = this.width / 2, y = this.height / 2) {
     const under = this.at(x, y);
     this.scale = Math.min(NEAREST, Math.max(60, this.scale * by));

@@ -3,13 +3,22 @@
 
 import { degreesOf, RADIAN, vectorOf } from "./globe.js";
 
-/** 1, 2 or 5 times a power of ten. */
+/** @typedef {import("./globe.js").Projection} Projection */
+/** @typedef {{ text: string, x: number, y: number }} Label a name, and the pixel where it begins */
+
+/**
+ * 1, 2 or 5 times a power of ten.
+ * @param {number} atLeast
+ */
 export function roundUp(atLeast) {
   const ten = 10 ** Math.floor(Math.log10(atLeast));
-  return [1, 2, 5, 10].map(k => k * ten).find(size => size >= atLeast * 0.999);
+  return [1, 2, 5].map(k => k * ten).find(size => size >= atLeast * 0.999) ?? 10 * ten;
 }
 
-/** The parallels and meridians between which the map lies, in degrees; `wide` if all around. */
+/**
+ * The parallels and meridians between which the map lies, in degrees; `wide` if all around.
+ * @param {Projection} view
+ */
 export function rangeOf(view) {
   const { width, height, scale } = view, edge = [], mid = view.middle[1];
   // beyond the rim of the earth's picture there is nothing, and within it all
@@ -29,7 +38,12 @@ export function rangeOf(view) {
   const [west, east] = wide ? [-180, 180] : [Math.min(...turned), Math.max(...turned)];
   return { low, high, west: mid + west, east: mid + east, wide };
 }
-/** Draws parallels and meridians, and returns their names for the edge of the map. */
+/**
+ * Draws parallels and meridians, and returns their names for the edge of the map.
+ * @param {CanvasRenderingContext2D} pen
+ * @param {Projection} view
+ * @param {Record<string, string>} colours
+ */
 export function paintGrid(pen, view, colours) {
   const { width, height, scale } = view, { low, high, west, east, wide } = rangeOf(view);
   const labels = [];
@@ -51,28 +65,44 @@ export function paintGrid(pen, view, colours) {
   }
   return apart(labels);
 }
-/** Names that don't run over one another: of two that would, the first. */
+/**
+ * Names that don't run over one another: of two that would, the first.
+ * @param {Label[]} labels
+ */
 function apart(labels) {
+  /** @type {Label[]} */
   const kept = [];
   for (const it of labels)
     if (kept.every(one => Math.abs(one.x - it.x) > 44 || Math.abs(one.y - it.y) > 12))
       kept.push(it);
   return kept;
 }
+/** @param {number} from @param {number} to @param {number} by */
 function steps(from, to, by) {
   const first = Math.ceil(from / by), last = Math.floor(to / by);
   return Array.from({ length: Math.max(0, Math.min(200, last - first + 1)) },
     (_, k) => (first + k) * by);
 }
+/** @param {number} at @param {number} by @param {string} marks */
 function degreeText(at, by, marks) {
   const digits = Math.max(0, -Math.floor(Math.log10(by) + 1e-9));
   const text = Math.abs(at).toFixed(digits);
   const mark = +text === 0 || marks === "EW" && +text === 180 ? "" : marks[at < 0 ? 1 : 0];
   return `${text}\u00b0${mark}`;
 }
-/** Draws the curve of `place` from 0 to 1, and says where it crosses x or y = `edge`. */
+/**
+ * Draws the curve of `place` from 0 to 1, and says where it crosses x or y = `edge`.
+ * @param {CanvasRenderingContext2D} pen
+ * @param {Projection} view
+ * @param {(t: number) => [number, number]} place north and east
+ * @param {"x" | "y"} axis
+ * @param {number} edge
+ */
 function gridLine(pen, view, place, axis, edge) {
-  let last = null, crossing = null;
+  /** @type {{ x: number, y: number } | null} */
+  let last = null;
+  /** @type {{ x: number, y: number } | null} */
+  let crossing = null;
   pen.beginPath();
   for (let k = 0; k <= 48; k++) {
     const near = view.put(vectorOf(...place(k / 48))), now = { x: view.x, y: view.y };

@@ -6,6 +6,8 @@ import { make } from "./dom.js";
 import { symbolOf } from "./symbols.js";
 import { timeText } from "./words.js";
 
+/** @typedef {import("./map.js").NetMap} NetMap */
+/** @type {Record<string, (map: NetMap) => void>} */
 const KEYS = {
   ArrowLeft: map => map.move(60, 0), ArrowRight: map => map.move(-60, 0),
   ArrowUp: map => map.move(0, 60), ArrowDown: map => map.move(0, -60),
@@ -13,6 +15,7 @@ const KEYS = {
   0: map => map.fit(), f: map => map.fill(!map.isFull),
   m: map => map.turnWay(way => way.turn(!way.isOn)), Backspace: map => map.turnWay(way => way.back()),
 };
+/** @param {NetMap} map */
 function listenToKeys(map) {
   map.node.addEventListener("keydown", event => {
     if (!Object.hasOwn(KEYS, event.key) || event.ctrlKey || event.altKey || event.metaKey) return;
@@ -34,6 +37,7 @@ export function zoomOf({ deltaX, deltaY, deltaMode, ctrlKey }) {
   const most = 3 * 100 * PER_PIXEL, by = pixels * (ctrlKey ? PINCHED : PER_PIXEL);
   return Math.exp(-Math.max(-most, Math.min(most, by)));
 }
+/** @param {NetMap} map @param {(event: MouseEvent) => [number, number]} pixel */
 function listenToWheel(map, pixel) {
   map.node.addEventListener("wheel", event => {
     event.preventDefault();
@@ -46,19 +50,26 @@ function listenToWheel(map, pixel) {
 /**
  * One finger scrolls the page, and two move the map, but where the map fills the window. The mouse
  * and a pen move it at once.
+ * @param {NetMap} map
+ * @param {PointerEvent} event
+ * @param {number} fingers
  */
 const mayMove = (map, event, fingers) =>
   event.pointerType !== "touch" || fingers > 1 || map.isFull;
+/** @param {NetMap} map */
 export function listenToMap(map) {
   listenToKeys(map);
-  const { node } = map, fingers = new Map();
+  const { node } = map;
+  /** @type {Map<number, [number, number]>} */
+  const fingers = new Map();
   let moved = 0, most = 0;
+  /** @type {(event: MouseEvent) => [number, number]} */
   const pixel = event => {
     const box = node.getBoundingClientRect();
     return [event.clientX - box.left, event.clientY - box.top];
   };
   listenToWheel(map, pixel);
-  for (const kind of ["touchstart", "touchmove"])
+  for (const kind of /** @type {const} */ (["touchstart", "touchmove"]))
     node.addEventListener(kind, event => {
       if (event.touches.length > 1 || map.isFull) event.preventDefault();
       else if (kind === "touchmove") map.hint();
@@ -77,7 +88,7 @@ export function listenToMap(map) {
     moved += Math.hypot(now[0] - before[0], now[1] - before[1]);
     if (!mayMove(map, event, fingers.size)) return;
     if (other) {
-      const off = spot => Math.hypot(spot[0] - other[0], spot[1] - other[1]) || 1;
+      const off = (/** @type {[number, number]} */ spot) => Math.hypot(spot[0] - other[0], spot[1] - other[1]) || 1;
       map.move((now[0] - before[0]) / 2, (now[1] - before[1]) / 2);
       map.zoom(off(now) / off(before), (now[0] + other[0]) / 2, (now[1] + other[1]) / 2);
     } else map.move(now[0] - before[0], now[1] - before[1]);
@@ -93,14 +104,18 @@ export function listenToMap(map) {
   // after a finger the place stays, since it can't hover
   node.addEventListener("pointerleave", event => hover(map, null, event.pointerType === "touch"));
 }
-/** Says beside the pointer what is under it. */
+/**
+ * Says beside the pointer what is under it.
+ * @param {NetMap} map
+ * @param {[number, number] | null} at
+ */
 function hover(map, at, stays = false) {
   if (!stays) map.point(at);
-  const tip = map.node.querySelector(".tip"), thing = at && map.markAt(...at)?.thing;
+  const tip = /** @type {HTMLElement} */ (map.node.querySelector(".tip"));
+  const thing = at && map.markAt(...at)?.thing, place = thing?.at(map.until);
   map.node.style.cursor = thing ? "pointer" : "";
-  tip.hidden = !thing;
-  if (!thing) return;
-  const place = thing.at(map.until);
+  tip.hidden = !place;
+  if (!at || !thing || !place) return;
   tip.replaceChildren(make("b", { textContent: thing.label }), ` ${timeText(place.last)}`,
     ...[place.state === "killed" ? "killed" : "", symbolOf(place).word, ...wordsOf(place)]
       .filter(Boolean).map(it => make("div", { textContent: it })));

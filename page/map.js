@@ -80,6 +80,8 @@ export class NetMap {
     this.fan = new Fan();
     this.isDense = false;
     this.fitted = true;
+    /** Whether what is far away is fitted too. */
+    this.isAll = false;
     this.measured = false;
     this.isFull = false;
     this.far = 0;
@@ -131,7 +133,7 @@ export class NetMap {
     this.pen.setTransform(ratio, 0, 0, ratio, 0, 0);
     Object.assign(this.view, { width, height });
     Object.assign(this.sides, { width, height });
-    if (this.fitted) this.fit();
+    if (this.fitted) this.fit(this.isAll);
     // at first there is much else to do before the next picture
     if (isFirst) this.paintSoon();
     else this.paint();
@@ -139,7 +141,7 @@ export class NetMap {
   /** All that the map may show; `show` says what of it. */
   take(placed) {
     this.placed = placed;
-    if (this.fitted && this.measured) this.fit();
+    if (this.fitted && this.measured) this.fit(this.isAll);
   }
   show(things) {
     this.things = things.filter(it => it.lastPlace >= 0);
@@ -148,7 +150,7 @@ export class NetMap {
   }
   /** Looks at what is near most; what is far away from it, in `far`, only where it is asked for. */
   fit(isAll = false) {
-    this.fitted = true;
+    Object.assign(this, { fitted: true, isAll });
     const tracks = this.placed.map(it => it.track);
     const isIn = isAll ? () => true : capOf(tracks);
     const bases = this.bases.flatMap(it => [...it.lines,
@@ -210,7 +212,10 @@ export class NetMap {
     this.node.classList.toggle("measures", this.way.isOn);
     this.paintSoon();
   }
-  /** The place below the pointer, where it is on the earth. */
+  /**
+   * Tells of the place below a pixel, where it is on the earth.
+   * @param {[number, number] | null} at
+   */
   point(at) {
     const { width, height, scale } = this.view;
     const isOn = at && Math.hypot(at[0] - width / 2, at[1] - height / 2) < 2 * scale;

@@ -70,21 +70,28 @@ function readKml(text) {
   }
   return base;
 }
+/** @param {string} text @returns {Places} */
 function readGeoJson(text) {
-  const base = { lines: [], points: [] }, spot = ([east, north]) => spotOf(north, east);
-  const line = list => base.lines.push(list.map(spot));
+  /** @type {Places} */
+  const base = { lines: [], points: [] };
+  const spot = (/** @type {number[]} */ [east, north]) => spotOf(north, east);
+  const line = (/** @type {number[][]} */ list) => base.lines.push(list.map(spot));
+  /** @type {Record<string, (it: any, name: string) => unknown>} */
   const takes = {
     Point: (it, name) => base.points.push({ vector: spot(it.coordinates), name }),
-    MultiPoint: (it, name) => it.coordinates.forEach(one =>
+    MultiPoint: (it, name) => it.coordinates.forEach((/** @type {number[]} */ one) =>
       base.points.push({ vector: spot(one), name })),
     LineString: it => line(it.coordinates),
     MultiLineString: it => it.coordinates.forEach(line),
     Polygon: it => it.coordinates.forEach(line),
-    MultiPolygon: it => it.coordinates.forEach(one => one.forEach(line)),
-    GeometryCollection: (it, name) => it.geometries.forEach(one => take(one, name)),
+    MultiPolygon: it => it.coordinates.flat().forEach(line),
+    GeometryCollection: (it, name) =>
+      it.geometries.forEach((/** @type {unknown} */ one) => take(one, name)),
     Feature: it => it.geometry && take(it.geometry, String(it.properties?.name ?? "")),
-    FeatureCollection: it => it.features.forEach(one => take(one, "")),
+    FeatureCollection: it =>
+      it.features.forEach((/** @type {unknown} */ one) => take(one, "")),
   };
+  /** @param {any} it @param {string} name */
   function take(it, name) {
     if (!Object.hasOwn(takes, it?.type)) throw new Error("no GeoJSON");
     takes[it.type](it, name);
