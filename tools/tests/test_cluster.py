@@ -1,5 +1,5 @@
 """aprs-net cluster: whatever happens to workers, scheduler and disks, the bytes of one merge, or a
-status and no book. With aprsbook where it is there, and else with the stand-in."""
+status and no book. With the programs where they are there, and else with the stand-in."""
 import glob
 import importlib.util
 import os
@@ -63,9 +63,9 @@ class Hosts:
 
     def lay_programs(self) -> None:
         """The programs, slow enough to be hit while they work."""
-        for name in "aprsbook", "aprsbook-fold", "aprsbook-table":
-            real = shutil.which(name)
-            if not real or not shutil.which("aprsbook"):
+        found = {it: shutil.which(it) for it in ("aprsbook", "aprsbook-fold", "aprsbook-table")}
+        for name, real in found.items():
+            if not all(found.values()) or real is None:
                 real = str(self.bin / f"{name}.d" / name)
                 os.mkdir(os.path.dirname(real))
                 shutil.copy(HERE / "stand_in.py", real)
@@ -278,6 +278,18 @@ def test_a_faulty_log(hosts: Hosts, name: str) -> None:
     said = hosts.ends(hosts.merge(name, f"{name}.book", *given), 1)
     assert said == hosts.merged(*given).stderr.decode() and f"{name}.log: line {at}: " in said
     assert not (hosts.folder / f"{name}.book").exists()
+
+
+def test_a_faulty_book(hosts: Hosts) -> None:
+    """Also where a worker folds it."""
+    for name in "one", "two", "cut":
+        (hosts.folder / f"{name}.book").write_bytes(hosts.merged(hosts.logs[0]).stdout)
+    with open(hosts.folder / "cut.book", "rb+") as file:
+        file.truncate(1000)
+    run = hosts.merge("books", "books.book", "cut.book", "one.book", "two.book")
+    said = hosts.ends(run, 1)
+    assert said.startswith("aprsbook-fold: cut.book: line ") and "Ending" in said
+    assert not (hosts.folder / "books.book").exists()
 
 
 def test_no_scheduler(hosts: Hosts) -> None:

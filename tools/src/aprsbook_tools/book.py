@@ -122,17 +122,9 @@ def made_of(gap: int, items: Sequence[Input]) -> Dict[str, Any]:
     return {"gap": gap, "inputs": {it.path: [it.size, it.changed] for it in items}}
 
 
-def sum_of(path: str, size: int) -> str:
+def sum_of(path: str, size: int) -> int:
     """The checksum of a file's first bytes."""
-    result = hashlib.blake2b(digest_size=16)
-    with open(path, "rb") as file:
-        while size > 0:
-            block = file.read(min(size, 1 << 20))
-            if not block:
-                break
-            result.update(block)
-            size -= len(block)
-    return result.hexdigest()
+    return jobs.sum_of(path, size)[1]
 
 
 def remembered(path: str) -> Dict[str, Any]:

@@ -19,6 +19,7 @@ from aprsbook_tools.jobs import Job
 TRIES = 6  # of a job, before the run ends
 STRIKES = 2  # failed jobs of a worker, before others are asked
 SLOWEST = 1 << 22  # bytes a second of a job, as long as none has told better
+SMALL = 1 << 24  # bytes: a smaller job tells nothing of larger ones
 LATER = 4  # times the longest: what takes longer is late
 ANSWER = 5  # seconds to get an answer that a worker holds
 CONNECT = 10  # seconds to find the scheduler
@@ -175,7 +176,7 @@ class Turn:
     def note_time(self, it: Running) -> None:
         """How long a job took says how long others may take."""
         if not it.late:
-            took = (time.monotonic() - it.since) / max(1, self.sizes[it.number])
+            took = (time.monotonic() - it.since) / max(SMALL, self.sizes[it.number])
             self.cluster.slowest = max(self.cluster.slowest, took)
 
     def answer(self, future: Any) -> Tuple[int, str]:

@@ -5,6 +5,7 @@ import contextlib
 import dataclasses
 import json
 import os
+import sys
 import tempfile
 import zlib
 from typing import IO, Any, Dict, Iterator, List, Sequence, Tuple, Type, Union
@@ -51,8 +52,19 @@ class Fold:
         return size_of(self.books)
 
     def write(self, into: IO[bytes]) -> None:
-        with unpacked(self.books, self.path) as books:
-            fold(self.gap, books, into, self.since, self.until)
+        try:
+            with unpacked(self.books, self.path) as books:
+                fold(self.gap, books, into, self.since, self.until)
+        except Fault as fault:
+            raise self.of_given(fault) from fault
+
+    def of_given(self, fault: Fault) -> Fault:
+        """A fault of a book that was given, and wasn't made beside this one, is its own."""
+        for it in self.books:
+            is_given = os.path.dirname(it) != os.path.dirname(self.path)
+            if is_given and fault.words.startswith((f"{it}: line ", f"{it}: other gap")):
+                return pieces.FaultyLog(fault.words, fault.status, fault.by)
+        return fault
 
 
 @dataclasses.dataclass(frozen=True)
@@ -143,12 +155,15 @@ def unpacked(paths: Sequence[str], beside: str) -> Iterator[List[str]]:
             raise
 
 
-def sum_of(path: str) -> Tuple[int, int]:
-    """The size and the checksum of a file: against accidents, since one against people costs more
-    than the merge."""
+def sum_of(path: str, most: int = sys.maxsize) -> Tuple[int, int]:
+    """The size and the checksum of a file, or of its first bytes: against accidents, since one
+    against people costs as much as a merge."""
     size, made = 0, 0
     with open(path, "rb", buffering=0) as file:
-        for block in iter(lambda: file.read(1 << 20), b""):
+        while size < most:
+            block = file.read(min(1 << 20, most - size))
+            if not block:
+                break
             size, made = size + len(block), zlib.crc32(block, made)
     return size, made
 

@@ -22,7 +22,7 @@ class Range(NamedTuple):
 
 
 class FaultyLog(Fault):
-    """A log has a line that is none, which nothing but a change of the log mends."""
+    """A log or a book has a line that is none, which nothing but a change of it mends."""
 
 
 def begins(path: str, octets: bytes) -> bool:
