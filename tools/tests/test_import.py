@@ -1,5 +1,6 @@
 """aprs-net import: what other programs have written down, each with its zone."""
 import datetime
+import importlib.util
 import pathlib
 import re
 import struct
@@ -123,6 +124,7 @@ def test_a_zone_that_is_none_is_refused(zone: str) -> None:
     assert b"is no zone" in tried("import", "--zone", zone, "monitor", status=2).stderr
 
 
+@pytest.mark.skipif(importlib.util.find_spec("tzdata") is not None, reason="has tzdata")
 def test_where_no_zones_are_known_by_name_it_is_said(tmp_path: pathlib.Path) -> None:
     """As on Windows."""
     nowhere = environment(PYTHONTZPATH=str(tmp_path))

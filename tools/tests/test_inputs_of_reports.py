@@ -1,6 +1,8 @@
 """What a report is made of: logs and books, those of folders, and compressed ones."""
 import gzip
+import os
 
+import pytest
 from standing import Programs, at, place
 
 LINE = "2024-06-21T18:00:00.000Z RX1 c0c0\n"
@@ -31,6 +33,39 @@ def test_an_empty_folder_is_refused_and_not_standard_input(programs: Programs) -
             " none\n" if end else "\n"
         )
     assert programs.calls == []
+
+
+def test_an_empty_folder_has_no_logs(programs: Programs) -> None:
+    (programs.folder / "none").mkdir()
+    for command in "clocks", "keeper":
+        assert programs.run(command, "none", status=1) == ""
+        assert programs.said == "aprs-net: no logs are in none\n"
+
+
+def test_a_keeper_takes_a_folder(programs: Programs) -> None:
+    (programs.folder / "logs").mkdir()
+    (programs.folder / "logs/RX1.log").write_text(LINE)
+    assert programs.run("keeper", "--part", "hops", "logs") == "receiver\thops\tframes\n"
+    programs.run("keeper", "gone.log", status=1)
+    assert programs.said == "aprs-net: gone.log: no file\n"
+    (programs.folder / "logs/zero.book").write_bytes(b"")
+    programs.run("keeper", "logs", status=1)
+    assert "logs/zero.book is a book" in programs.said
+
+
+def test_a_path_that_is_no_utf_8_is_read(programs: Programs) -> None:
+    """The programs refuse such a path."""
+    name = os.fsdecode(b"l\xe4.log")
+    try:
+        (programs.folder / name).write_text(LINE)
+    except OSError:
+        pytest.skip("no such names here")
+    programs.say(place("18:00", "Q1A", 1, 2))
+    assert programs.lines("last-heard", name)[1][0] == at("18:00")
+    assert ".named" in last_call(programs)
+    (programs.folder / name).write_text("faulty\n")
+    programs.run("last-heard", name, status=1)
+    assert ".log: line 1: Moment" in programs.said and ".named" not in programs.said
 
 
 def test_a_compressed_log_is_read(programs: Programs) -> None:

@@ -337,7 +337,8 @@ def test_a_feed_of_aprs_is(server: Server) -> None:
         process.terminate()
         assert process.wait() == 0
     lines = logs(server.folder / "logs")["RX1.log"]
-    assert [it.receiver for it in map(log_file.read_line, lines) if it] == ["Q0GATE-1", "Q0OTHER"] * 2
+    heard = [it.receiver for it in map(log_file.read_line, lines) if it]
+    assert heard == ["Q0GATE-1", "Q0OTHER"] * 2
     frame = ax25.frame("Q1RUN-7", "APDW17,Q1DIG,WIDE1*,WIDE2-1",
                        "!5432.58N/00327.36W>caf\xe9 <0x41>".encode())
     assert lines[0].endswith(kiss.wrap(frame).hex().encode())

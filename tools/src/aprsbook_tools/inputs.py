@@ -133,12 +133,26 @@ def no_option(path: str) -> str:
     return os.path.join(".", path) if path.startswith("-") else path
 
 
+def is_utf_8(path: str) -> bool:
+    """Whether the bytes of a path are UTF-8: the programs take no other."""
+    try:
+        path.encode("utf-8")
+    except UnicodeEncodeError:
+        return False
+    return True
+
+
 def plain(items: Iterable[Input], folder: str) -> Iterator[str]:
-    """The paths of inputs as programs read them: compressed ones are unpacked into a folder."""
+    """The paths of inputs as programs read them: compressed ones are unpacked into a folder, and
+    where a path isn't UTF-8 there is a link to it."""
     for number, it in enumerate(items):
         if it.packing:
             path = os.path.join(folder, f"{number:06}.unpacked")
             unpack(it, path)
+            yield path
+        elif not is_utf_8(it.path):
+            path = os.path.join(folder, f"{number:06}.named")
+            os.symlink(os.path.abspath(it.path), path)
             yield path
         else:
             yield no_option(it.path)

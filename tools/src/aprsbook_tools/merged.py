@@ -24,7 +24,7 @@ def plain(paths: Sequence[str]) -> Iterator[List[str]]:
         except Fault as fault:
             words = fault.words
             for it, file in zip(found, files):
-                if it.packing:
+                if file.startswith(folder):
                     words = words.replace(file, it.path)
             raise Fault(words, fault.status, fault.by) from fault
 

@@ -7,7 +7,7 @@ one second: no two are copies of one transmission then. The row's moment says wh
 from dataclasses import dataclass
 from typing import List, Sequence
 
-from aprsbook_tools import log_file, moments, table
+from aprsbook_tools import inputs, log_file, moments, table
 from aprsbook_tools.errors import Fault
 from aprsbook_tools.log_file import Line
 from aprsbook_tools.net_logs import octets_of
@@ -23,6 +23,19 @@ class Reception:
 
     moment: int
     row: Row
+
+
+def logs_of(paths: Sequence[str]) -> List[str]:
+    """The logs that are named, and those below folders that are named."""
+    found = inputs.of(paths)
+    for it in found:
+        if it.is_book:
+            raise Fault(f"{it.path} is a book, which has one copy of each transmission: name logs")
+        if it.fault:
+            raise Fault(f"{it.path}: {it.fault}")
+    if not found:
+        raise Fault(f"no logs are in {' '.join(paths)}")
+    return [it.path for it in found]
 
 
 def lines_of(path: str) -> List[Line]:
@@ -44,7 +57,7 @@ def lines_of(path: str) -> List[Line]:
 
 def receptions_of(paths: Sequence[str]) -> List[Reception]:
     """The receptions of logs, by moment."""
-    lines = sorted(line for path in paths for line in lines_of(path))
+    lines = sorted(line for path in logs_of(paths) for line in lines_of(path))
     log = b"".join(
         line._replace(moment=APART * number).write() for number, line in enumerate(lines)
     )

@@ -68,6 +68,8 @@ def add_lines(path: str, file: IO[bytes], lines: Dict[str, List[bytes]], places:
 def spans_of(paths: Sequence[str], step: int) -> List[clocks.Span]:
     """The spans of each two receivers of logs; a change of more than so many seconds ends one."""
     items = inputs.of(paths)
+    if not items:
+        raise Fault(f"no logs are in {' '.join(paths)}")
     for it in items:
         if it.is_book:
             raise Fault(f"{it.path}: a book has no longer what each receiver's clock said: give "

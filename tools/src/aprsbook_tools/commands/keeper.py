@@ -99,7 +99,7 @@ def add_parser(subparsers: Subparsers) -> None:
     report.add_roster(parser)
     arguments.add_output(parser)
     parser.add_argument(
-        "inputs", nargs="+", metavar="LOG", help="a log, also a compressed one (.gz)"
+        "inputs", nargs="+", metavar="LOG", help="a log, or a folder of logs"
     )
 
 

@@ -7,7 +7,8 @@ NAME = re.compile(r"[A-Za-z0-9_-]{1,16}")
 GATE = re.compile(r",qA[ROro],([^,]+)")
 NET = re.compile(r",qA[A-Za-z](?:,.*)?$")
 # how a byte that can't be printed stands in a text; aprx writes <0xffffffe4> where chars are signed
-ESCAPES = {"direwolf": rb"<0x(?:f{6})?([0-9a-f]{2})>", "aprsbook": rb"\\x([0-9a-f]{2})", "raw": rb"(?!)"}
+ESCAPES = {"direwolf": rb"<0x(?:f{6})?([0-9a-f]{2})>", "aprsbook": rb"\\x([0-9a-f]{2})",
+           "raw": rb"(?!)"}
 
 
 class Packet(NamedTuple):
