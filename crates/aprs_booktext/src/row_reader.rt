@@ -100,8 +100,8 @@ impl<A: Allocator + Copy> RowReader<A> {
     }
 
     /// Judges the line that is the kept bytes and then `part`, and then keeps nothing. Returns
-    /// whether it is a row's, which then is the last row. Fails where the line is wrong, or where an
-    /// allocation failed.
+    /// whether it is a row's, which then is the last row. Fails where the line is wrong, or
+    /// where an allocation failed.
     pub fn end_line(&mut self, part: &[u8]) -> Result<bool, BookFault>
         requires few { size_read self.old + length part.now ≤ most_stream }
         requires going { Spec.is_done self.old.stage ≡ false }
@@ -196,8 +196,8 @@ impl<A: Allocator + Copy> RowReader<A> {
         is_row
     }
 
-    /// `Ok` where the last line was read and the input ended after it (`End`). Otherwise the fault of
-    /// a text that ends in this way.
+    /// `Ok` where the last line was read and the input ended after it (`End`). Otherwise the fault
+    /// of a text that ends in this way.
     pub fn finish(&self, ending: InputEnd) -> Result<(), BookFault>
         requires { self.now.count ≤ most_stream }
         ensures reads { (rows : List Row) (t : List ℕ) → HasReadTo self.now rows t

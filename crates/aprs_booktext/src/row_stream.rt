@@ -63,8 +63,8 @@ impl<A: Allocator + Copy> RowStream<A> {
     }
 
     /// Reads on to the next row, or to the end of the book and of the source, and then there is no
-    /// row. Fails with the text's first fault, or with `Memory` where an allocation failed. Requires
-    /// that the end wasn't reached before, and that no fault came.
+    /// row. Fails with the text's first fault, or with `Memory` where an allocation failed.
+    /// Requires that the end wasn't reached before, and that no fault came.
     pub fn advance<R: Read>(&mut self, source: &mut Counted<R>) -> Result<(), BookFault>
         requires few { Spec.stream_size self.old ≤ most_stream }
         requires going { Spec.is_ended self.old ≡ false }
@@ -92,7 +92,8 @@ impl<A: Allocator + Copy> RowStream<A> {
     fn step<R: Read>(&mut self, source: &mut Counted<R>) -> Result<bool, BookFault>
         requires few { Spec.stream_size self.old ≤ most_stream }
         requires going { Spec.is_ended self.old ≡ false }
-        ensures steps { IfOk result (λ is_row. (limit : ℕ) (first : CountedValue R) (rows : List Row)
+        ensures steps { IfOk result (λ is_row. (limit : ℕ) (first : CountedValue R)
+            (rows : List Row)
             → Spec.HasGot R.remaining limit first source.old self.old rows
             → Spec.StepsTo R.remaining is_row limit first source.new self.new rows) }
         ensures version { OnOk result
@@ -130,8 +131,8 @@ impl<A: Allocator + Copy> RowStream<A> {
         requires done { Spec.is_ended self.old ≡ true }
         ensures ends { OnOk result ((limit : ℕ) (first : CountedValue R) (rows : List Row)
             → Spec.HasGot R.remaining limit first source.old self.old rows
-            → IsAnswered R.remaining limit [] (Ok (record { gap = Spec.gap_of_stream self.old; rows = rows }))
-            first source.new) }
+            → IsAnswered R.remaining limit []
+            (Ok (record { gap = Spec.gap_of_stream self.old; rows = rows })) first source.new) }
         ensures reader { self.new.reader ≡ self.old.reader }
         ensures size { OnOk result (Spec.stream_size self.new ≤ Spec.stream_size self.old) }
         ensures fault { IfErr result (λ fault.
