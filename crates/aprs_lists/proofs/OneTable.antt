@@ -1,5 +1,5 @@
 -- Sets with the same members have one text of each table.
-use Rattle.aprs_lists.proofs.Common.{◌≡◌, ◌∙◌, ◌++◌, ◌∷◌, [], ℕ, Bool, List, None, Option, Some, ap, arith, codes, flat_map, refl, subst, sym, call_text, moment_text, shown_text, bytes_total, bool_cmp_total, on_total, then_total, IsTotalOrder, BookOf, Received, Row, SameMembers, ◌∈◌, Key, call_total, known_once, not_both, key_of}
+use Rattle.aprs_lists.proofs.Common.{◌≡◌, ◌∙◌, ◌++◌, ◌∷◌, [], ℕ, List, None, Option, Some, ap, arith, refl, subst, sym, call_text, moment_text, shown_text, bytes_total, bool_cmp_total, on_total, then_total, IsTotalOrder, BookOf, Received, Row, SameMembers, ◌∈◌, Key, call_total, known_once, not_both}
 use Rattle.std.specs.Fmt.{decimal}
 use Rattle.std.specs.List.{count_by}
 use Rattle.aprs_ax25.specs.Callsign.{Call, call_cmp}
@@ -18,7 +18,6 @@ use Rattle.aprs_book.specs.Reports.{has_source, reports_position, reports_status
 use Rattle.aprs_book.specs.Stations.{AreStations}
 use Rattle.aprs_book.specs.declared.lists.message.MessageRow.{MessageRow}
 use Rattle.aprs_book.specs.declared.lists.message.MessageState.{MessageState}
-use Rattle.aprs_book.specs.declared.lists.message.MessageState.TheVariants.{Unnumbered}
 use Rattle.aprs_book.specs.declared.lists.named.Named.{Named}
 use Rattle.aprs_book.specs.declared.lists.station.Station.{Station}
 use Rattle.aprs_lists.specs.Lines.{tabbed_line}
