@@ -52,10 +52,10 @@ picks kind latitude longitude ambiguity compressed symbol stamp gate < "$scratch
 # ---- the other tables of the sample ----
 
 cat > "$scratch/wanted" << 'end'
-N0CALL-7 WU2Z 003 Testing acknowledged 2024-05-01T12:02:10.000Z 2024-05-01T12:02:10.000Z 2024-05-01T12:02:12.000Z WU2Z
+N0CALL-7 WU2Z 003 Testing acknowledged 2024-05-01T12:02:10.000Z 2024-05-01T12:02:10.000Z 2024-05-01T12:02:12.000Z WU2Z - -
 end
 aprsbook-table messages sample.log | tee "$scratch/messages" |
-    picks source addressee id text state first last answer answer_source |
+    picks source addressee id text state first last answer answer_source reply_ack reply_answer |
     wanted 'the messages of the sample'
 cat > "$scratch/wanted" << 'end'
 N0CALL-7 2 - - - - - - - - - 2024-05-01T12:00:02.000Z RX2 - Hi
@@ -71,6 +71,12 @@ end
 aprsbook-table things sample.log | tee "$scratch/things" |
     picks kind name state last receiver source stamp latitude longitude ambiguity compressed symbol \
         text | wanted 'the things of the sample'
+
+# ---- the messages of random conversations ----
+
+if has 'random messages' python3; then
+    python3 "$repository/tests/replies.py" "$table" || fail 'random messages differ'
+fi
 
 # ---- the words ----
 

@@ -43,19 +43,21 @@ pub use Rattle.aprs_rows.specs.KeyPrefix.{HasKeyPrefix}
 pub use Rattle.aprs_rows.specs.KeyPrefixSteps.{head_cmp}
 pub use Rattle.aprs_rows.specs.Refusal.{is_ascending, is_of_last, is_out_of_order, is_same_name, is_too_near, refusal}
 pub use Rattle.aprs_rows.specs.declared.row.key_prefix.KeyPrefix.{KeyPrefix}
-pub use Rattle.std.proofs.Common.{All, Bool, Bor, Err, IfOk, IfSome, IsOkUnless, IsTrue, List, MatchOption, None, Ok, OnErr, OnOk, Option, Result, Some, [], add-one, ap, append-nil, append_assoc, arith, codes, cond, drop, drop-cons, eqb-true, false, get_or, if◌then◌else◌, inl, inr, is_ok, is_some, length, length-drop, ltb, map, max, min, not, refl, rules, slice_set, subst, suc, sym, take, take-append-drop, take-take, true, unwrap_or, zero, ℕ, ◌&&◌, ◌++◌, ◌+◌, ◌-◌, ◌<◌, ◌==◌, ◌↔◌, ◌∙◌, ◌∷◌, ◌≡◌, ◌≢◌, ◌≤◌, ◌⊎◌}
+pub use Rattle.std.proofs.Common.{All, Bool, Bor, Err, IfOk, IfSome, IsOkUnless, IsTrue, List, MatchOption, None, Ok, OnErr, OnOk, Option, Result, Some, [], add-one, ap, append-nil, append_assoc, arith, codes, cond, drop, drop-cons, eqb, eqb-true, false, leb, get_or, if◌then◌else◌, inl, inr, is_ok, is_some, length, length-drop, ltb, map, max, min, not, refl, rules, slice_set, subst, suc, sym, take, take-append-drop, take-take, true, unwrap_or, zero, ℕ, ◌&&◌, ◌++◌, ◌+◌, ◌-◌, ◌<◌, ◌==◌, ◌↔◌, ◌∙◌, ◌∷◌, ◌≡◌, ◌≢◌, ◌≤◌, ◌⊎◌}
 pub use Rattle.std.proofs.Math.Bool.{and-false, and-true}
+pub use Rattle.std.proofs.lemmas.Bool.{and_from, and_left, and_parts, and_right, eq-eqb, le-leb, leb-true}
+pub use Rattle.std.proofs.lemmas.List.Folds.{list_all-append}
 pub use Rattle.std.proofs.lemmas.Bool.{cases_lt}
 pub use Rattle.std.proofs.lemmas.Bool.Decides.{nat_tests}
 pub use Rattle.std.proofs.lemmas.Cmp.{on_total, then_total, tied_itself, upto}
-pub use Rattle.std.proofs.lemmas.List.{drop-set-lt, drop_all, get_or-set_other, get_or-set_same, length-set, map-append, set_split, take_more, take_more_set}
+pub use Rattle.std.proofs.lemmas.List.{drop-set-lt, drop_all, get_or-set_other, get_or-set_same, length-append, length-set, map-append, set_split, take_more, take_more_set}
 pub use Rattle.std.proofs.lemmas.Map.Iter.{rest_all, rest_more}
 pub use Rattle.std.proofs.lemmas.Map.Keys.{sorted_head, sorted_tail}
 pub use Rattle.std.proofs.lemmas.Map.Lookups.{CmpEqualImpliesEq, exact_pairs}
 pub use Rattle.std.specs.BTreeMap.{insert_entry, is_at}
 pub use Rattle.std.specs.Cmp.{IsTotalOrder, bool_cmp_total}
 pub use Rattle.std.specs.Cmp.Lexicographic.{bytes_decides, options_total, pointwise_decides}
-pub use Rattle.std.specs.List.{AllByRecursion, count_by, flat_map, join_with_byte, last_or, list_any, remove, slice_get}
+pub use Rattle.std.specs.List.{AllByRecursion, count_by, flat_map, join_with_byte, last_or, list_all, list_any, remove, slice_get}
 pub use Rattle.std.specs.List.Sorted.{IsPartitionPoint, IsPartitionedBy}
 pub use Rattle.std.specs.Map.{keys_of, lookup, set_value, values_of}
 pub use Rattle.std.specs.Map.Iter.{deref_pair}

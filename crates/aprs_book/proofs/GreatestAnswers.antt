@@ -1,5 +1,5 @@
 -- The answers to messages in rows.
-use Rattle.aprs_book.proofs.Common.{◌≡◌, ◌∙◌, ℕ, List, ◌↔◌, Option, Some, None, sym, ap, refl, subst, inl, inr, Bor, option_copied, lookup, keys_of, is_at, insert_entry, IsTotalOrder, ordering_then, Ordering, upto, on_total, then_total, CmpEqualImpliesEq, exact_pairs, Call, call_cmp, Received, bytes_cmp, heard_cmp, ◌∈◌, IsUpTo, Row, row_key, greater_known, greater, is_greater_of, call_total, call_exact, bytes_total, bytes_exact, heard_total, up_to_itself}
+use Rattle.aprs_book.proofs.Common.{◌≡◌, ◌∙◌, ℕ, Bool, bool_cmp, bool_cmp_total, true, false, List, ◌↔◌, Option, Some, None, sym, ap, refl, subst, inl, inr, Bor, option_copied, lookup, keys_of, is_at, insert_entry, IsTotalOrder, ordering_then, Ordering, upto, on_total, then_total, CmpEqualImpliesEq, exact_pairs, Call, call_cmp, Received, bytes_cmp, heard_cmp, ◌∈◌, IsUpTo, Row, row_key, greater_known, greater, is_greater_of, call_total, call_exact, bytes_total, bytes_exact, heard_total, up_to_itself}
 use Rattle.std.specs.List.Sorted.{IsStrictlySortedBy}
 use Rattle.aprs_book.specs.declared.lists.message_key.AnswerKey.{AnswerKey}
 use Rattle.aprs_book.specs.MessageRows.{Answer, answer_of, answer_cmp, GivesAnswer, IsGreatestAnswer, AreAnswers, IsFor, ReportsAnswer}
@@ -10,15 +10,26 @@ pub answer_total : IsTotalOrder answer_cmp
 answer_total =
     then_total (on_total (λ (a : Answer). a.source) call_total)
     (then_total (on_total (λ (a : Answer). a.addressee) call_total)
-    (on_total (λ (a : Answer). a.id) bytes_total))
+    (then_total (on_total (λ (a : Answer). a.id) bytes_total)
+    (on_total (λ (a : Answer). a.is_reply) bool_cmp_total)))
+
+bools_exact : CmpEqualImpliesEq bool_cmp
+bools_exact true true h = refl
+bools_exact true false h = absurd (cc)
+bools_exact false true h = absurd (cc)
+bools_exact false false h = refl
 
 pub answer_exact : CmpEqualImpliesEq answer_cmp
 answer_exact a b h =
-    ap (λ (p : Call × (Call × List ℕ)). record { source = p.0; addressee = p.1.0; id = p.1.1 })
+    ap (λ (p : Call × (Call × (List ℕ × Bool))). record
+    { source = p.0; addressee = p.1.0; id = p.1.1.0; is_reply = p.1.1.1 })
     (exact_pairs call_cmp
-    (λ (x y : Call × List ℕ). ordering_then (call_cmp x.0 y.0) (bytes_cmp x.1 y.1)) call_exact
-    (exact_pairs call_cmp bytes_cmp call_exact bytes_exact) (a.source, (a.addressee, a.id))
-    (b.source, (b.addressee, b.id)) h)
+    (λ (x y : Call × (List ℕ × Bool)). ordering_then (call_cmp x.0 y.0)
+    (ordering_then (bytes_cmp x.1.0 y.1.0) (bool_cmp x.1.1 y.1.1))) call_exact
+    (exact_pairs call_cmp
+    (λ (x y : List ℕ × Bool). ordering_then (bytes_cmp x.0 y.0) (bool_cmp x.1 y.1)) call_exact
+    (exact_pairs bytes_cmp bool_cmp bytes_exact bools_exact))
+    (a.source, (a.addressee, (a.id, a.is_reply))) (b.source, (b.addressee, (b.id, b.is_reply))) h)
 
 module _ (rows more : List Row) (x : Row) (adds : Adds rows x more) (a : Answer) where
   abbrev pub Q : Row → Type 0
@@ -59,7 +70,8 @@ module _ (rows more : List Row) (x : Row) (adds : Adds rows x more) (a : Answer)
 -- the order of the keys that code has
 pub answer_keys_alike : (x y : AnswerKey)
     → ordering_then (call_cmp x.source y.source)
-    (ordering_then (call_cmp x.addressee y.addressee) (bytes_cmp x.id.now y.id.now))
+    (ordering_then (call_cmp x.addressee y.addressee)
+    (ordering_then (bytes_cmp x.id.now y.id.now) (bool_cmp x.is_reply y.is_reply)))
     ≡ answer_cmp (answer_of x) (answer_of y)
 answer_keys_alike x y = refl
 
@@ -116,25 +128,27 @@ kept_greater r o m x y e f h = e ∙ (ap (λ t. greater_known t x) f ∙ ap (gre
 -- ---- the answer that a look-up finds
 
 module _ (es : List (AnswerKey × Received)) (k : AnswerKey) (m : Message) (id : List ℕ)
-    (f : IsFor m id (answer_of k)) (u : (a : Answer) → IsFor m id a → a ≡ answer_of k) where
+    (kind : Bool) (f : IsFor m id kind (answer_of k))
+    (u : (a : Answer) → IsFor m id kind a → a ≡ answer_of k) where
   report_bytes : (known : Option Received) → lookup (is_at (answer_key_cmp k)) es ≡ known
-      → ReportsAnswer es m id known
+      → ReportsAnswer es m id kind known
   report_bytes None h = λ e j g.
       absent answer_of answer_cmp answer_total answer_exact k es h e j (sym (u (answer_of e.0) g))
   report_bytes (Some v) h =
       let t = found answer_of answer_cmp answer_total answer_exact k v es h in
-      (t.0, t.1, subst (IsFor m id) t.2 f, λ a g. u a g ∙ t.2, t.3)
+      (t.0, t.1, subst (IsFor m id kind) t.2 f, λ a g. u a g ∙ t.2, t.3)
 
   pub answer_reported_by : (R : AnswerKey → AnswerKey → Ordering)
       → ((a b : AnswerKey) → R a b ≡ answer_key_cmp a b)
       → (o : Option Received) → o ≡ lookup (is_at (R k)) es
-      → ReportsAnswer es m id o
+      → ReportsAnswer es m id kind o
   answer_reported_by R same o e =
-      subst (λ t. ReportsAnswer es m id t)
+      subst (λ t. ReportsAnswer es m id kind t)
       (sym (e ∙ same_lookup answer_of answer_cmp R same k es))
       (report_bytes (lookup (is_at (answer_key_cmp k)) es) refl)
 
 -- an answer is known by its parts
 pub same_answer : (a b : Answer) → a.source ≡ b.source → a.addressee ≡ b.addressee → a.id ≡ b.id
-    → a ≡ b
-same_answer a b s t d = λ i. record { source = s i; addressee = t i; id = d i }
+    → a.is_reply ≡ b.is_reply → a ≡ b
+same_answer a b s t d r =
+    λ i. record { source = s i; addressee = t i; id = d i; is_reply = r i }

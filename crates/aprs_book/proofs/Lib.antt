@@ -23,4 +23,7 @@ pub mod MessagesOfSets
 pub mod Things
 pub mod Noting
 pub mod Exchanges
+pub mod ReplyTexts
 pub mod Worked
+pub mod WorkedReplies
+pub mod OneReplyAck

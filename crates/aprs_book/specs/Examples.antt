@@ -1,5 +1,5 @@
 -- Receptions and rows of the lists that the worked examples are about.
-use Rattle.std.specs.Prelude.{ℕ, ◌+◌, ◌*◌, Bool, List, [], ◌∷◌, Option, Some, codes}
+use Rattle.std.specs.Prelude.{ℕ, ◌+◌, ◌*◌, Bool, List, [], ◌∷◌, Option, None, Some, codes}
 use denote.Ref.{Bor}
 use Rattle.aprs_log.specs.Reception.{Received}
 use Rattle.aprs_laws.specs.Row.{Row}
@@ -7,6 +7,7 @@ use Rattle.aprs_laws.specs.Examples.{n0call, rx1, reception_at, example_row}
 use Rattle.aprs_book.specs.declared.lists.message.MessageRow.{MessageRow}
 use Rattle.aprs_book.specs.declared.lists.message.MessageState.{MessageState}
 use Rattle.aprs_book.specs.declared.lists.named.Named.{Named}
+use Rattle.aprs_book.specs.declared.lists.reply_ack.ReplyAck.TheVariants.{NotAwaited}
 use Rattle.aprs_book.specs.declared.lists.station.Station.{Station}
 use Rattle.aprs_book.specs.Messages.{Message}
 
@@ -62,11 +63,28 @@ hi_listed first last state answered = record {
   last = last;
   state = state;
   answered = answered;
+  reply_ack = NotAwaited;
 }
 
 -- It is sent, acknowledged, and sent once more.
 abbrev pub asked_again : List Received
 asked_again = asked_at 0 ∷ acknowledged_at 10 ∷ asked_at 20 ∷ []
+
+-- A message from N0CALL-7 to N0CALL-8 whose text has the number 19.
+abbrev pub numbered_message : Message
+numbered_message = message_by 7 (codes "N0CALL-8") (codes "Hi{19}") None
+
+-- That message, as it is heard.
+abbrev pub numbered_at : ℕ → Received
+numbered_at moment = heard_by 7 moment (codes ":N0CALL-8 :Hi{19}")
+
+-- A message that acknowledges it.
+abbrev pub replied_at : ℕ → Received
+replied_at moment = heard_by 8 moment (codes ":N0CALL-7 :Yes{20}19")
+
+-- An acknowledgement of the id 19, which no message has.
+abbrev pub other_ack_at : ℕ → Received
+other_ack_at moment = heard_by 8 moment (codes ":N0CALL-7 :ack19")
 
 -- ---- stations
 

@@ -13,6 +13,8 @@ pub mod Reports
 pub mod LastKnown
 pub mod Stations
 pub mod Messages
+pub mod ReplyAcks
+pub mod ReplyTexts
 pub mod Exchange
 pub mod SummaryBuilder
 pub mod MessageRows
@@ -41,5 +43,6 @@ pub use Rattle.aprs_laws.specs.BestLaws
 pub use Rattle.aprs_laws.specs.Spans
 pub use Rattle.aprs_rows.specs.Refusal
 pub use Rattle.aprs_ax25.specs.CallText
+pub use Rattle.aprs_report.specs.Bytes
 pub use Rattle.aprs_report.specs.Reading
 pub use Rattle.aprs_report.specs.Reader

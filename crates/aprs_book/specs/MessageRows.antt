@@ -1,8 +1,8 @@
 -- Which rows report a message, and which an answer to one. No public clause cites this
 -- module.
-use Rattle.std.specs.Prelude.{◌≡◌, ◌==◌, ◌⊎◌, ℕ, Bool, false, min, max, List, [], ◌∷◌, Option, Some, None}
+use Rattle.std.specs.Prelude.{◌≡◌, ◌==◌, ◌⊎◌, ℕ, Bool, true, false, min, max, List, [], ◌∷◌, Option, Some, None}
 use Rattle.std.specs.Option.{option_map}
-use Rattle.std.specs.Ordering.{on, then_cmp}
+use Rattle.std.specs.Ordering.{bool_cmp, on, then_cmp}
 use Rattle.std.specs.declared.cmp.Ordering.{Ordering}
 use Rattle.aprs_ax25.specs.Callsign.{Call, call_cmp}
 use Rattle.aprs_ax25.specs.CallText.{SpellsCall}
@@ -20,7 +20,10 @@ use Rattle.aprs_book.specs.Reports.{report_of}
 use Rattle.aprs_book.specs.declared.lists.message.MessageRow.{MessageRow}
 use Rattle.aprs_book.specs.declared.lists.message.MessageState.{MessageState}
 use Rattle.aprs_book.specs.declared.lists.message.MessageState.TheVariants.{Unnumbered}
-use Rattle.aprs_book.specs.Messages.{Message, ReportsIt, answered_by, message_cmp, shown_message, state_by}
+use Rattle.aprs_book.specs.declared.lists.reply_ack.ReplyAck.{ReplyAck}
+use Rattle.aprs_book.specs.declared.lists.reply_ack.ReplyAck.TheVariants.{NotAwaited}
+use Rattle.aprs_book.specs.Messages.{HasNumber, Message, ReportsIt, answered_by, message_cmp, message_in, reply_ack_by, shown_message, state_by}
+use Rattle.aprs_book.specs.ReplyAcks.{IsReply}
 
 -- Whether information begins with a colon, as that of messages and their answers does.
 abbrev pub begins_with_colon : List ℕ → Bool
@@ -60,33 +63,56 @@ reported_answer (ack addressee id) = Some (addressee, id)
 reported_answer (rej addressee id) = Some (addressee, id)
 reported_answer v = None
 
--- Whose message is answered, who answers, and the id.
+-- Whose message is answered, who answers, the id or the number, and whether by a reply-ack.
 pub record Answer : Type 0 where
   pub source : Call
   pub addressee : Call
   pub id : List ℕ
+  pub is_reply : Bool
 
 -- The answer that a key of the code stands for.
 abbrev pub answer_of : AnswerKey → Answer
-answer_of x = record { source = x.source; addressee = x.addressee; id = x.id.now }
+answer_of x = record {
+  source = x.source;
+  addressee = x.addressee;
+  id = x.id.now;
+  is_reply = x.is_reply;
+}
 
--- A key that gives this answer: who answers sent it to the station whose message it is, and it
--- acknowledges or rejects the id.
-pub record GivesAnswer (a : Answer) (k : Key) : Type 0 where
+-- A key that gives this answer by itself: who answers sent it to the station whose message it is,
+-- and it acknowledges or rejects the id.
+pub record IsOfAnswer (a : Answer) (k : Key) : Type 0 where
   pub addressee : List ℕ
   pub sender : k.source ≡ a.addressee
   pub to : SpellsCall a.source addressee
   pub answer : (report_of k ≡ ack addressee a.id) ⊎ (report_of k ≡ rej addressee a.id)
+  pub no_reply : a.is_reply ≡ false
+
+-- A message that gives this answer by a reply-ack: who answers sent it to the station whose message
+-- it is, and its text, without an id, acknowledges the number.
+pub record GivesReply (a : Answer) (m : Message) : Type 0 where
+  pub sender : m.source ≡ a.addressee
+  pub to : SpellsCall a.source m.addressee
+  pub no_id : m.id ≡ None
+  pub acknowledges : IsReply a.id m.text
+  pub is_reply : a.is_reply ≡ true
+
+-- A key that gives this answer, by itself or as a message.
+abbrev pub GivesAnswer : Answer → Key → Type 0
+GivesAnswer a k =
+    IsOfAnswer a k ⊎ ((m : Message) × (message_in k ≡ Some m) × GivesReply a m)
 
 -- g is the greatest of the greatest receptions of the rows that answer.
 pub record IsGreatestAnswer (rows : List Row) (a : Answer) (g : Received) : Type 0 where
   pub row : (x : Row) × (x ∈ rows) × GivesAnswer a (row_key x) × (x.greatest ≡ g)
   pub greatest : (x : Row) → x ∈ rows → GivesAnswer a (row_key x) → IsUpTo heard_cmp x.greatest g
 
--- The order of answers: by the station whose message it is, the one that answers, and the id.
+-- The order of answers: by the station whose message it is, the one that answers, the id, and
+-- whether it is a reply-ack.
 abbrev pub answer_cmp : Answer → Answer → Ordering
 answer_cmp = then_cmp (on (λ a. a.source) call_cmp)
-    (then_cmp (on (λ a. a.addressee) call_cmp) (on (λ a. a.id) bytes_cmp))
+    (then_cmp (on (λ a. a.addressee) call_cmp)
+    (then_cmp (on (λ a. a.id) bytes_cmp) (on (λ a. a.is_reply) bool_cmp)))
 
 -- ---- entries, one for each message or answer of the rows
 
@@ -108,27 +134,30 @@ AreAnswers rows entries = IsCollected answer_of GivesAnswer IsGreatestAnswer row
 
 -- ---- rows of the listing
 
--- An answer that is one to this id of a message.
-pub record IsFor (m : Message) (id : List ℕ) (a : Answer) : Type 0 where
+-- An answer that is one to this id of a message, or a reply-ack to this number of it.
+pub record IsFor (m : Message) (id : List ℕ) (is_reply : Bool) (a : Answer) : Type 0 where
   pub source : a.source ≡ m.source
   pub addressee : SpellsCall a.addressee m.addressee
   pub same_id : a.id ≡ id
+  pub same_kind : a.is_reply ≡ is_reply
 
--- The greatest answer to this id of a message: that of the one entry which is for it, or none
--- where no entry is.
-abbrev pub ReportsAnswer : List (AnswerKey × Received) → Message → List ℕ → Option Received → Type 0
-ReportsAnswer entries m id None =
-    (e : AnswerKey × Received) → e ∈ entries → IsFor m id (answer_of e.0) → ⊥
-ReportsAnswer entries m id (Some g) =
-    (e : AnswerKey × Received) × (e ∈ entries) × IsFor m id (answer_of e.0)
-    × ((a : Answer) → IsFor m id a → a ≡ answer_of e.0) × (e.1 ≡ g)
+-- The greatest answer to this id of a message, or the greatest reply-ack to this number: that of
+-- the one entry which is for it, or none where no entry is.
+abbrev pub ReportsAnswer : List (AnswerKey × Received) → Message → List ℕ → Bool → Option Received
+    → Type 0
+ReportsAnswer entries m id is_reply None =
+    (e : AnswerKey × Received) → e ∈ entries → IsFor m id is_reply (answer_of e.0) → ⊥
+ReportsAnswer entries m id is_reply (Some g) =
+    (e : AnswerKey × Received) × (e ∈ entries) × IsFor m id is_reply (answer_of e.0)
+    × ((a : Answer) → IsFor m id is_reply a → a ≡ answer_of e.0) × (e.1 ≡ g)
 
 -- The state of a message of this first moment and id, by the greatest answer among the entries.
 abbrev pub StateFrom : List (AnswerKey × Received) → Message → ℕ → Option (List ℕ) → MessageState
     → Type 0
 StateFrom entries m first None state = state ≡ Unnumbered
 StateFrom entries m first (Some id) state =
-    (answer : Option Received) × ReportsAnswer entries m id answer × (state ≡ state_by first answer)
+    (answer : Option Received) × ReportsAnswer entries m id false answer
+    × (state ≡ state_by first answer)
 
 -- When a message of this first moment and id was answered, by the greatest answer among the
 -- entries.
@@ -136,8 +165,15 @@ abbrev pub AnsweredFrom : List (AnswerKey × Received) → Message → ℕ → O
     → Type 0
 AnsweredFrom entries m first None answered = answered ≡ None
 AnsweredFrom entries m first (Some id) answered =
-    (answer : Option Received) × ReportsAnswer entries m id answer
+    (answer : Option Received) × ReportsAnswer entries m id false answer
     × (answered ≡ answered_by first answer)
+
+-- What reply-acks say of a message of this first moment, by the greatest one among the entries.
+abbrev pub ReplyAckFrom : List (AnswerKey × Received) → Message → ℕ → ReplyAck → Type 0
+ReplyAckFrom entries m first reply_ack =
+    (((number : List ℕ) → HasNumber m number → ⊥) × (reply_ack ≡ NotAwaited))
+    ⊎ ((number : List ℕ) × HasNumber m number × (reply : Option Received)
+    × ReportsAnswer entries m number true reply × (reply_ack ≡ reply_ack_by first reply))
 
 -- The row of a message and its span.
 pub record IsRowOfMessage (entries : List (AnswerKey × Received)) (e : MessageKey × Span)
@@ -147,6 +183,7 @@ pub record IsRowOfMessage (entries : List (AnswerKey × Received)) (e : MessageK
   pub last : x.last ≡ e.1.last
   pub state : StateFrom entries (message_of e.0) e.1.first (message_of e.0).id x.state
   pub answered : AnsweredFrom entries (message_of e.0) e.1.first (message_of e.0).id x.answered
+  pub reply_ack : ReplyAckFrom entries (message_of e.0) e.1.first x.reply_ack
 
 -- Both lists are of one length, and R holds of each two that stand at one place.
 abbrev pub Zipped : {X Y : Type 0} → (X → Y → Type 0) → List X → List Y → Type 0

@@ -17,6 +17,9 @@ use Rattle.aprs_laws.specs.Spans.{IsFirstMoment, IsLastMoment}
 use Rattle.aprs_book.specs.declared.lists.message.MessageRow.{MessageRow}
 use Rattle.aprs_book.specs.declared.lists.message.MessageState.{MessageState}
 use Rattle.aprs_book.specs.declared.lists.message.MessageState.TheVariants.{Unnumbered, Unanswered, Acknowledged, Rejected}
+use Rattle.aprs_book.specs.declared.lists.reply_ack.ReplyAck.{ReplyAck}
+use Rattle.aprs_book.specs.declared.lists.reply_ack.ReplyAck.TheVariants.{NotAwaited, Awaited, Heard}
+use Rattle.aprs_book.specs.ReplyAcks.{IsNumberedText, IsReply}
 use Rattle.aprs_book.specs.Reports.{report_of}
 
 -- The word for what came of a message.
@@ -96,6 +99,38 @@ IsAnsweredAt S m first (Some id) answered =
     (reply : Option Received) × LastKnown S (AnswersIt m id) reply
     × (answered ≡ answered_by first reply)
 
+-- ---- what acknowledges a message by a reply-ack
+
+-- A message without an id, whose text has this number.
+abbrev pub HasNumber : Message → List ℕ → Type 0
+HasNumber m number =
+    (m.id ≡ None) × ((acknowledged : List ℕ) × IsNumberedText number acknowledged m.text)
+
+-- A key that acknowledges this number of a message by a reply-ack: its sender is the message's
+-- addressee, it is addressed to the message's sender, and its text, without an id, acknowledges the
+-- number.
+pub record RepliesTo (m : Message) (number : List ℕ) (k : Key) : Type 0 where
+  pub addressee : List ℕ
+  pub text : List ℕ
+  pub sender : SpellsCall k.source m.addressee
+  pub to : SpellsCall m.source addressee
+  pub says : report_of k ≡ message addressee text None
+  pub acknowledges : IsReply number text
+
+-- What came of a message's number by its greatest reply-ack, which counts only if it was heard at
+-- the message's first moment or later.
+abbrev pub reply_ack_by : ℕ → Option Received → ReplyAck
+reply_ack_by first None = Awaited
+reply_ack_by first (Some a) = if nat_lt a.moment first then Awaited else Heard a.moment
+
+-- What reply-acks say of a message of S with this first moment: without a number none is awaited;
+-- otherwise its greatest reply-ack in S says it.
+abbrev pub IsReplyAckOf : List Received → Message → ℕ → ReplyAck → Type 0
+IsReplyAckOf S m first reply_ack =
+    (((number : List ℕ) → HasNumber m number → ⊥) × (reply_ack ≡ NotAwaited))
+    ⊎ ((number : List ℕ) × HasNumber m number × (reply : Option Received)
+    × LastKnown S (RepliesTo m number) reply × (reply_ack ≡ reply_ack_by first reply))
+
 -- ---- all messages
 
 -- The message of a row of the list.
@@ -115,12 +150,14 @@ IsSent S m = (s : Received) × (s ∈ S) × ReportsIt m (key_of s.frame)
 abbrev pub IsListedBefore : MessageRow → MessageRow → Type 0
 IsListedBefore x y = IsBelow message_cmp (shown_message x) (shown_message y)
 
--- A row of the list has the message's first and last moment in S, what came of it in S, and when.
+-- A row of the list has the message's first and last moment in S, what came of it in S, and when,
+-- and what reply-acks in S say of it.
 pub record IsMessageRow (S : List Received) (x : MessageRow) : Type 0 where
   pub first : IsFirstMoment S (ReportsIt (shown_message x)) x.first
   pub last : IsLastMoment S (ReportsIt (shown_message x)) x.last
   pub state : IsStateOf S (shown_message x) x.first (shown_message x).id x.state
   pub answered : IsAnsweredAt S (shown_message x) x.first (shown_message x).id x.answered
+  pub reply_ack : IsReplyAckOf S (shown_message x) x.first x.reply_ack
 
 -- One row for each message in S, in order.
 pub record AreMessages (S : List Received) (xs : List MessageRow) : Type 0 where

@@ -2,5 +2,6 @@
 
 pub(crate) mod messages;
 pub(crate) mod named;
+pub(crate) mod reply_acks;
 pub(crate) mod reports;
 pub(crate) mod stations;

@@ -20,6 +20,7 @@ pub use lists::heard_room::HeardRoom;
 pub use lists::message::{MessageRow, MessageState};
 pub use lists::named::Named;
 pub use lists::named_walk::NamedWalk;
+pub use lists::reply_ack::ReplyAck;
 pub use lists::station::Station;
 pub use lists::station_walk::StationWalk;
 pub use lists::summary::Summary;

@@ -6,6 +6,8 @@ pub(crate) mod message;
 pub(crate) mod message_key;
 pub(crate) mod named;
 pub(crate) mod named_walk;
+pub(crate) mod reply_ack;
+pub(crate) mod reply_text;
 pub(crate) mod sender;
 pub(crate) mod station;
 pub(crate) mod station_walk;

@@ -3,3 +3,4 @@ pub mod Lines
 pub mod ThingLines
 pub mod Once
 pub mod OneTable
+pub mod Shapes

@@ -1,5 +1,5 @@
 -- Sets with the same members have one text of each table.
-use Rattle.aprs_lists.proofs.Common.{◌≡◌, ◌∙◌, ◌++◌, ◌∷◌, [], ℕ, Bool, List, None, Option, Some, ap, arith, codes, flat_map, refl, subst, sym, call_text, moment_text, shown_text, bytes_total, bool_cmp_total, on_total, then_total, IsTotalOrder, BookOf, Received, Row, SameMembers, ◌∈◌, Key, call_total, known_once, not_both, key_of}
+use Rattle.aprs_lists.proofs.Common.{◌≡◌, ◌∙◌, ◌++◌, ◌∷◌, [], ℕ, List, None, Option, Some, ap, arith, refl, subst, sym, call_text, moment_text, shown_text, bytes_total, bool_cmp_total, on_total, then_total, IsTotalOrder, BookOf, Received, Row, SameMembers, ◌∈◌, Key, call_total, known_once, not_both}
 use Rattle.std.specs.Fmt.{decimal}
 use Rattle.std.specs.List.{count_by}
 use Rattle.aprs_ax25.specs.Callsign.{Call, call_cmp}
@@ -10,17 +10,18 @@ use Rattle.aprs_laws.specs.Order.{IsBelow}
 use Rattle.aprs_laws.specs.Row.{row_key}
 use Rattle.aprs_laws.specs.Spans.{IsFirstMoment, IsLastMoment}
 use Rattle.aprs_book.proofs.Messages.{message_total}
-use Rattle.aprs_book.specs.Messages.{AnswersIt, AreMessages, IsAnsweredAt, IsStateOf, Message, ReportsIt, answered_by, message_cmp, shown_message, state_by, state_text}
+use Rattle.aprs_book.proofs.OneReplyAck.{reply_ack_once}
+use Rattle.aprs_book.specs.declared.lists.reply_ack.ReplyAck.{ReplyAck}
+use Rattle.aprs_book.specs.Messages.{AnswersIt, AreMessages, IsAnsweredAt, IsReplyAckOf, IsStateOf, Message, ReportsIt, answered_by, message_cmp, shown_message, state_by, state_text}
 use Rattle.aprs_book.specs.Names.{AreNamed, ReportsOf, Thing, shown_thing, thing_cmp}
 use Rattle.aprs_book.specs.Reports.{has_source, reports_position, reports_status}
 use Rattle.aprs_book.specs.Stations.{AreStations}
 use Rattle.aprs_book.specs.declared.lists.message.MessageRow.{MessageRow}
 use Rattle.aprs_book.specs.declared.lists.message.MessageState.{MessageState}
-use Rattle.aprs_book.specs.declared.lists.message.MessageState.TheVariants.{Unnumbered}
 use Rattle.aprs_book.specs.declared.lists.named.Named.{Named}
 use Rattle.aprs_book.specs.declared.lists.station.Station.{Station}
 use Rattle.aprs_lists.specs.Lines.{tabbed_line}
-use Rattle.aprs_lists.specs.Messages.{answer_fields, id_or_nothing, message_columns, message_table_line, messages_table}
+use Rattle.aprs_lists.specs.Messages.{answer_fields, id_or_nothing, message_columns, message_table_line, messages_table, reply_ack_fields}
 use Rattle.aprs_lists.specs.Stations.{position_fields, station_columns, station_table_line, stations_table, status_fields}
 use Rattle.aprs_lists.specs.Things.{heard_thing_line, thing_columns, thing_table_line, things_table}
 use Rattle.aprs_lists.proofs.Once.{same_lines}
@@ -52,10 +53,10 @@ module _ (S T : List Received) (same : SameMembers S T) where
   answer_once m first (Some id) s t h k = h.2
       ∙ (ap (answered_by first) (known_once S T (AnswersIt m id) h.0 k.0 same h.1 k.1) ∙ sym k.2)
 
-  abbrev message_told : Message → MessageState → ℕ → ℕ → Option ℕ → List ℕ
-  message_told m state first last answered = tabbed_line (call_text m.source ∷ shown_text m.addressee
+  abbrev message_told : Message → MessageState → ℕ → ℕ → Option ℕ → ReplyAck → List ℕ
+  message_told m state first last answered reply_ack = tabbed_line (call_text m.source ∷ shown_text m.addressee
       ∷ shown_text (id_or_nothing m.id) ∷ shown_text m.text ∷ state_text state ∷ moment_text first
-      ∷ moment_text last ∷ answer_fields answered m.addressee)
+      ∷ moment_text last ∷ answer_fields answered m.addressee ++ reply_ack_fields reply_ack)
 
   module _ (xs ys : List MessageRow) (p : AreMessages S xs) (q : AreMessages T ys) where
     one_message_line : (x y : MessageRow) → x ∈ xs → y ∈ ys → shown_message x ≡ shown_message y
@@ -77,13 +78,12 @@ module _ (S T : List Received) (same : SameMembers S T) where
         (subst (λ (m : Message). IsAnsweredAt T m x.first m.id y.answered) (sym e)
         (subst (λ (n : ℕ). IsAnsweredAt T (shown_message y) n (shown_message y).id y.answered)
         (sym first) b.answered)) in
-        ap (λ (m : Message). message_told m x.state x.first x.last x.answered) e
-        ∙ (ap (λ (s : MessageState). message_told (shown_message y) s x.first x.last x.answered)
-        state
-        ∙ (ap (λ (n : ℕ). message_told (shown_message y) y.state n x.last x.answered) first
-        ∙ (ap (λ (n : ℕ). message_told (shown_message y) y.state y.first n x.answered) last
-        ∙ ap (λ (o : Option ℕ). message_told (shown_message y) y.state y.first y.last o)
-        answered)))
+        let reply_ack : x.reply_ack ≡ y.reply_ack = reply_ack_once S T same (shown_message x)
+        x.first x.reply_ack y.reply_ack a.reply_ack
+        (subst (λ (m : Message). IsReplyAckOf T m x.first y.reply_ack) (sym e)
+        (subst (λ (n : ℕ). IsReplyAckOf T (shown_message y) n y.reply_ack) (sym first)
+        b.reply_ack)) in
+        λ k. message_told (e k) (state k) (first k) (last k) (answered k) (reply_ack k)
 
     pub one_messages : messages_table xs ≡ messages_table ys
     one_messages = ap (λ (l : List ℕ). tabbed_line message_columns ++ l)

@@ -8,14 +8,15 @@ use Rattle.aprs_laws.specs.BookValue.{BookValue}
 use Rattle.aprs_laws.specs.Gap.{millis_of}
 use Rattle.aprs_book.specs.Messages.{ReportsMessages, shown_message, state_text}
 use Rattle.aprs_book.specs.declared.lists.message.MessageRow.{MessageRow}
-use Rattle.aprs_book.specs.declared.lists.message.MessageState.{MessageState}
-use Rattle.aprs_book.specs.declared.lists.message.MessageState.TheVariants.{Unnumbered, Unanswered, Acknowledged, Rejected}
+use Rattle.aprs_book.specs.declared.lists.reply_ack.ReplyAck.{ReplyAck}
+use Rattle.aprs_book.specs.declared.lists.reply_ack.ReplyAck.TheVariants.{NotAwaited, Awaited, Heard}
 use Rattle.aprs_lists.specs.Lines.{tabbed_line}
 
 -- The names of the columns.
 abbrev pub message_columns : List (List ℕ)
 message_columns = codes "source" ∷ codes "addressee" ∷ codes "id" ∷ codes "text" ∷ codes "state"
-    ∷ codes "first" ∷ codes "last" ∷ codes "answer" ∷ codes "answer_source" ∷ []
+    ∷ codes "first" ∷ codes "last" ∷ codes "answer" ∷ codes "answer_source"
+    ∷ codes "reply_ack" ∷ codes "reply_answer" ∷ []
 
 -- The id of a message, or nothing where it has none.
 abbrev pub id_or_nothing : Option (List ℕ) → List ℕ
@@ -27,13 +28,20 @@ abbrev pub answer_fields : Option ℕ → List ℕ → List (List ℕ)
 answer_fields None addressee = [] ∷ [] ∷ []
 answer_fields (Some answered) addressee = moment_text answered ∷ shown_text addressee ∷ []
 
+-- What came of the number that a message has for reply-acks, and when it was acknowledged. Nothing
+-- where it has none.
+abbrev pub reply_ack_fields : ReplyAck → List (List ℕ)
+reply_ack_fields NotAwaited = [] ∷ [] ∷ []
+reply_ack_fields Awaited = codes "unanswered" ∷ [] ∷ []
+reply_ack_fields (Heard moment) = codes "acknowledged" ∷ moment_text moment ∷ []
+
 -- From whom and to whom a message is, its id and its text, what came of it, its first and its last
--- moment, and when and by whom it was answered.
+-- moment, when and by whom it was answered, and what reply-acks say of it.
 abbrev pub message_table_fields : MessageRow → List (List ℕ)
 message_table_fields x = call_text x.source ∷ shown_text (shown_message x).addressee
     ∷ shown_text (id_or_nothing (shown_message x).id) ∷ shown_text (shown_message x).text
     ∷ state_text x.state ∷ moment_text x.first ∷ moment_text x.last
-    ∷ answer_fields x.answered (shown_message x).addressee
+    ∷ answer_fields x.answered (shown_message x).addressee ++ reply_ack_fields x.reply_ack
 
 -- The line of a message.
 abbrev pub message_table_line : MessageRow → List ℕ

@@ -1,5 +1,5 @@
 -- The table of the objects and items of a book.
-use Rattle.std.specs.Prelude.{◌≡◌, ℕ, Bool, true, false, List, [], ◌∷◌, ◌++◌, Option, None, Some, codes}
+use Rattle.std.specs.Prelude.{◌≡◌, ℕ, Bool, List, [], ◌∷◌, ◌++◌, Option, None, Some, codes}
 use Rattle.std.specs.List.{flat_map}
 use Rattle.aprs_ax25.specs.Callsign.{call_text}
 use Rattle.aprs_io.specs.Shown.{shown_text}

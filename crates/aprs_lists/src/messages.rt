@@ -1,22 +1,23 @@
 //! The table of a book's messages.
-ghost use Rattle.std.specs.Prelude.{◌≡◌, ◌∷◌, ℕ, List, map};
+ghost use Rattle.std.specs.Prelude.{◌≡◌, [], ◌∷◌, ◌++◌, ℕ, List, map};
 ghost use Rattle.std.specs.List.{flat_map};
 ghost use Rattle.std.specs.Option.{option_map};
 ghost use Rattle.aprs_io.specs.Device.{Sends};
 ghost use Rattle.aprs_io.specs.Outlet.{Puts};
-ghost use Rattle.aprs_log.specs.Moment.{moment_text};
 ghost use Rattle.aprs_table.specs.Cells.{cell_text};
 ghost use Rattle.aprs_lists.specs.Messages as Spec;
 
 use crate::line::put_line;
-use aprs_book::{MessageRow, Summary};
+use aprs_book::{MessageRow, ReplyAck, Summary};
 use aprs_io::{Counted, Outlet, WriteFault};
 use aprs_table::Cell;
 use std::alloc::Allocator;
 use std::io::Write;
 
 /// The names of the columns.
-const COLUMNS: &[u8] = b"source\taddressee\tid\ttext\tstate\tfirst\tlast\tanswer\tanswer_source\n";
+const COLUMNS: &[u8] = b"\
+    source\taddressee\tid\ttext\tstate\tfirst\tlast\tanswer\tanswer_source\t\
+    reply_ack\treply_answer\n";
 
 /// Writes the table of the messages of a book, from its summary: the names of the columns, and
 /// exactly one line for each message, ascending by source, addressee, text and id. At a fault a
@@ -72,30 +73,44 @@ fn put_message<W: Write>(
         Cell::Shown(id_or_nothing(message.id)),
         Cell::Shown(message.text),
         Cell::Plain(message.state.text()),
+        Cell::Moment(message.first),
+        Cell::Moment(message.last),
     ];
-    let moments = moment_cells(message);
-    put_line(out, &source, &said, &moments)
+    let answers = answer_cells(message);
+    put_line(out, &source, &said, &answers)
 }
 
-/// The first and the last moment of a message, and when and by whom it was answered: by its
-/// addressee. Nothing of the latter where it wasn't.
-fn moment_cells<'a>(message: &MessageRow<'a>) -> [Cell<'a>; 4]
-    ensures { map cell_text result ≡ moment_text message.now.first ∷ moment_text message.now.last
-        ∷ Spec.answer_fields message.now.answered message.now.addressee.now }
+/// When and by whom a message was answered, and what reply-acks say of it.
+fn answer_cells<'a>(message: &MessageRow<'a>) -> [Cell<'a>; 4]
+    ensures { map cell_text result
+        ≡ Spec.answer_fields message.now.answered message.now.addressee.now
+        ++ Spec.reply_ack_fields message.now.reply_ack }
+{
+    let (answered, by) = answer_of(message);
+    let (reply_ack, replied) = reply_ack_of(message.reply_ack);
+    [answered, by, reply_ack, replied]
+}
+
+/// When a message was answered, and by whom: by its addressee. Nothing where it wasn't.
+fn answer_of<'a>(message: &MessageRow<'a>) -> (Cell<'a>, Cell<'a>)
+    ensures { cell_text result.0 ∷ cell_text result.1 ∷ []
+        ≡ Spec.answer_fields message.now.answered message.now.addressee.now }
 {
     match message.answered {
-        Some(answered) => [
-            Cell::Moment(message.first),
-            Cell::Moment(message.last),
-            Cell::Moment(answered),
-            Cell::Shown(message.addressee),
-        ],
-        None => [
-            Cell::Moment(message.first),
-            Cell::Moment(message.last),
-            Cell::Plain(b""),
-            Cell::Plain(b""),
-        ],
+        Some(answered) => (Cell::Moment(answered), Cell::Shown(message.addressee)),
+        None => (Cell::Plain(b""), Cell::Plain(b"")),
+    }
+}
+
+/// What came of the number that a message has for reply-acks, and when it was acknowledged. Nothing
+/// where it has none.
+fn reply_ack_of(reply_ack: ReplyAck) -> (Cell<'static>, Cell<'static>)
+    ensures { cell_text result.0 ∷ cell_text result.1 ∷ [] ≡ Spec.reply_ack_fields reply_ack }
+{
+    match reply_ack {
+        ReplyAck::NotAwaited => (Cell::Plain(b""), Cell::Plain(b"")),
+        ReplyAck::Awaited => (Cell::Plain(b"unanswered"), Cell::Plain(b"")),
+        ReplyAck::Heard(moment) => (Cell::Plain(b"acknowledged"), Cell::Moment(moment)),
     }
 }
 

@@ -134,6 +134,7 @@ class Message:
     answer: str = column()
     answer_source: str = column()
     reply_ack: str = column(late=True)
+    reply_answer: str = column(late=True)
 
 
 @dataclasses.dataclass(frozen=True)

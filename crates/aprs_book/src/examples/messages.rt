@@ -68,7 +68,8 @@ pub fn messages_are_judged_from_their_first_moment()
     ensures again { Spec.AreMessages asked_again (hi_listed 0 20 Acknowledged (Some 10) ∷ []) }
     ensures misses_unanswered { Spec.AreMessages asked_again
         (hi_listed 0 20 Unanswered None ∷ []) → ⊥ }
-    ensures misses_last { Spec.AreMessages asked_again (hi_listed 0 0 Acknowledged (Some 10) ∷ []) → ⊥ }
+    ensures misses_last { Spec.AreMessages asked_again
+        (hi_listed 0 0 Acknowledged (Some 10) ∷ []) → ⊥ }
     ensures misses_twice { Spec.AreMessages asked_again
         (hi_listed 0 20 Acknowledged (Some 10) ∷ hi_listed 0 20 Acknowledged (Some 10) ∷ [])
         → ⊥ }

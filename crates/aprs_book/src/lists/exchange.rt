@@ -10,7 +10,7 @@ use crate::Memory;
 use crate::known::last_known::greater_known;
 use crate::known::reception_view::ReceptionView;
 use crate::lists::message_key::{
-    AnswerKey, MessageKey, Span, answer_in, is_addressed, message_in, span_with,
+    AnswerKey, MessageKey, Span, answer_in, is_addressed, message_in, reply_in, span_with,
 };
 use crate::lists::sender::Sender;
 use crate::rows::walk::Walk;
@@ -19,7 +19,8 @@ use aprs_log::Moment;
 use std::alloc::{Allocator, Global};
 use std::collections::BTreeMap;
 
-/// Each message of some rows with its moments, and the greatest reception of each answer.
+/// Each message of some rows with its moments, and the greatest reception of each answer,
+/// reply-acks among them.
 pub(crate) struct Exchange<'t, A: Allocator = Global> {
     pub spans: BTreeMap<MessageKey<'t>, Span, A>,
     pub answers: BTreeMap<AnswerKey<'t>, ReceptionView<'t>, A>,
@@ -63,6 +64,7 @@ impl<'t, A: Allocator + Copy> Exchange<'t, A> {
             return Ok(());
         }
         if let Some(message) = message_in(sender, heard) {
+            put_reply(&mut self.answers, &message, heard)?;
             let last = heard.moment();
             return put_span(&mut self.spans, message, &Span { first, last });
         }
@@ -95,6 +97,25 @@ fn put_span<'t, A: Allocator + Copy>(
     };
     spans.insert(again, span_with(&known, more))?;
     Ok(())
+}
+
+/// Keeps this reception as the answer that its message gives by a reply-ack, unless one is kept
+/// that is as great or greater. A message that gives none changes nothing.
+fn put_reply<'t, A: Allocator + Copy>(
+    answers: &mut BTreeMap<AnswerKey<'t>, ReceptionView<'t>, A>,
+    message: &MessageKey<'t>,
+    heard: &ReceptionView<'t>,
+) -> Result<(), Memory>
+    // The answers of some rows become those of these rows and r, which reports this message.
+    ensures { OnOk result ((rows : List Row) (r : Row) → Spec.AreAnswers rows answers.old.entries
+        → message_in (row_key r) ≡ Some (Spec.message_of message.now)
+        → heard.now ≡ r.greatest
+        → Spec.AreAnswers (rows ++ r ∷ []) answers.new.entries) }
+{
+    match reply_in(message) {
+        Some(key) => put_answer(answers, key, heard),
+        None => Ok(()),
+    }
 }
 
 /// Keeps this reception as the answer under this key, unless one is kept there that is as great or

@@ -10,7 +10,8 @@ ghost use Rattle.aprs_book.specs.Exchange.{IsExchangeOf};
 
 use crate::known::reception_view::ReceptionView;
 use crate::lists::exchange::{Exchange, exchange_of};
-use crate::lists::message_key::{AnswerKey, MessageKey, Span};
+use crate::lists::message_key::{AnswerKey, MessageKey, Span, awaited_in};
+use crate::lists::reply_ack::{ReplyAck, reply_ack_by};
 use crate::{Book, Memory};
 use aprs_ax25::Callsign;
 use aprs_log::Moment;
@@ -64,6 +65,8 @@ pub struct MessageRow<'a> {
     pub state: MessageState,
     /// When the answer was heard that says so, if there is one.
     pub answered: Option<Moment>,
+    /// What reply-acks say of it.
+    pub reply_ack: ReplyAck,
 }
 
 impl<A: Allocator + Copy> Book<A> {
@@ -95,8 +98,8 @@ pub(crate) fn messages_of<'a, A: Allocator + Copy>(
     Ok(list)
 }
 
-/// The row of a message: its moments, and what came of it by the greatest answer. A message without
-/// an id is `Unnumbered`.
+/// The row of a message: its moments, and what came of it by the greatest answer and the greatest
+/// reply-ack. A message without an id is `Unnumbered`.
 fn row_of<'a, A: Allocator + Copy>(
     message: &MessageKey<'a>,
     span: &Span,
@@ -105,7 +108,7 @@ fn row_of<'a, A: Allocator + Copy>(
     ensures { Spec.IsRowOfMessage answers.now.entries (message.now, span.now) result }
 {
     let (state, answered) = match message.id {
-        Some(id) => outcome_by(span.first, greatest_answer(message, id, answers)),
+        Some(id) => outcome_by(span.first, greatest_answer(message, id, false, answers)),
         None => (MessageState::Unnumbered, None),
     };
     MessageRow {
@@ -117,17 +120,34 @@ fn row_of<'a, A: Allocator + Copy>(
         last: span.last,
         state,
         answered,
+        reply_ack: reply_ack_of(message, span.first, answers),
     }
 }
 
-/// The greatest answer to this id of a message. `None` where there is none, or the addressee is no
-/// callsign.
+/// What reply-acks say of a message first heard at this moment, by the greatest one. A message
+/// without a number awaits none.
+fn reply_ack_of<'a, A: Allocator + Copy>(
+    message: &MessageKey<'a>,
+    first: Moment,
+    answers: &BTreeMap<AnswerKey<'a>, ReceptionView<'a>, A>,
+) -> ReplyAck
+    ensures { Spec.ReplyAckFrom answers.now.entries (Spec.message_of message.now) first result }
+{
+    match awaited_in(message) {
+        Some(number) => reply_ack_by(first, greatest_answer(message, number, true, answers)),
+        None => ReplyAck::NotAwaited,
+    }
+}
+
+/// The greatest answer to this id of a message, or the greatest reply-ack to this number of it.
+/// `None` where there is none, or the addressee is no callsign.
 fn greatest_answer<'a, 'b, A: Allocator + Copy>(
     message: &MessageKey<'a>,
     id: &'a [u8],
+    is_reply: bool,
     answers: &'b BTreeMap<AnswerKey<'a>, ReceptionView<'a>, A>,
 ) -> Option<&'b ReceptionView<'a>>
-    ensures { Spec.ReportsAnswer answers.now.entries (Spec.message_of message.now) id.now
+    ensures { Spec.ReportsAnswer answers.now.entries (Spec.message_of message.now) id.now is_reply
         (option_copied result) }
 {
     match Callsign::parse(message.addressee) {
@@ -136,6 +156,7 @@ fn greatest_answer<'a, 'b, A: Allocator + Copy>(
                 source: message.source.copy(),
                 addressee,
                 id,
+                is_reply,
             };
             answers.get(&key)
         }

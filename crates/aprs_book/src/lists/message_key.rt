@@ -3,10 +3,12 @@ ghost use Rattle.std.specs.Prelude.{◌≡◌, ◌↔◌, Some};
 ghost use Rattle.std.specs.Option.{option_map};
 ghost use Rattle.aprs_laws.specs.Key.{key_of};
 ghost use Rattle.aprs_report.specs.Reader.{reading_of};
-ghost use Rattle.aprs_book.specs.Messages.{message_in};
+ghost use Rattle.aprs_book.specs.Messages.{HasNumber, message_in};
 ghost use Rattle.aprs_book.specs.MessageRows as Spec;
+ghost use Rattle.aprs_book.specs.ReplyTexts.{HoldsOnly};
 
 use crate::known::reception_view::ReceptionView;
+use crate::lists::reply_text::{acknowledged_in, number_in};
 use aprs_ax25::Callsign;
 use aprs_log::Moment;
 use aprs_report::Report;
@@ -42,12 +44,13 @@ pub(crate) struct Span {
 }
 
 /// What an answer names: the source and the addressee of the message that it answers, so that the
-/// addressee is who answers; and the id.
+/// addressee is who answers; the id, or the number of a reply-ack; and whether it is a reply-ack.
 #[derive(PartialEq, Eq, PartialOrd, Ord, Drop)]
 pub(crate) struct AnswerKey<'a> {
     pub source: Callsign,
     pub addressee: Callsign,
     pub id: &'a [u8],
+    pub is_reply: bool,
 }
 
 /// The message that a reception reports, or `None` where it reports none. `sender` has to be the
@@ -86,7 +89,7 @@ pub(crate) fn span_with(known: &Span, more: &Span) -> Span
 /// who answers, has to be the source of its frame.
 pub(crate) fn answer_in<'a>(sender: &Callsign, heard: &ReceptionView<'a>) -> Option<AnswerKey<'a>>
     requires { sender.now ≡ (key_of heard.now.frame).source }
-    ensures { (a : Spec.Answer) → Spec.GivesAnswer a (key_of heard.now.frame)
+    ensures { (a : Spec.Answer) → Spec.IsOfAnswer a (key_of heard.now.frame)
         ↔ (option_map Spec.answer_of result ≡ Some a) }
 {
     let (addressee, id) = answer_fields(heard.info())?;
@@ -95,9 +98,42 @@ pub(crate) fn answer_in<'a>(sender: &Callsign, heard: &ReceptionView<'a>) -> Opt
             source,
             addressee: sender.copy(),
             id,
+            is_reply: false,
         }),
         Err(_) => None,
     }
+}
+
+/// What a message answers by a reply-ack, or `None` where its text is none, where it has an id, or
+/// where it isn't to a callsign.
+pub(crate) fn reply_in<'a>(message: &MessageKey<'a>) -> Option<AnswerKey<'a>>
+    ensures { (a : Spec.Answer) → Spec.GivesReply a (Spec.message_of message.now)
+        ↔ (option_map Spec.answer_of result ≡ Some a) }
+{
+    if message.id.is_some() {
+        return None;
+    }
+    let id = acknowledged_in(message.text)?;
+    match Callsign::parse(message.addressee) {
+        Ok(answered) => Some(AnswerKey {
+            source: answered,
+            addressee: message.source.copy(),
+            id,
+            is_reply: true,
+        }),
+        Err(_) => None,
+    }
+}
+
+/// The number that a message has for reply-acks, or `None` where it has none. One with an id has
+/// none.
+pub(crate) fn awaited_in<'a>(message: &MessageKey<'a>) -> Option<&'a [u8]>
+    ensures { HoldsOnly (HasNumber (Spec.message_of message.now)) (option_map (λ x. x.now) result) }
+{
+    if message.id.is_some() {
+        return None;
+    }
+    number_in(message.text)
 }
 
 /// The addressee and the id of an ack or a rej that has this information; `None` where it is

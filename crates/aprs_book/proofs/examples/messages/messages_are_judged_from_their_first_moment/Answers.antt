@@ -35,6 +35,7 @@ is_row = record {
   };
   state = state;
   answered = answered;
+  reply_ack = inl (λ n h. cc (h.0), refl);
 }
 
 pub returns : goal.returns

@@ -1,10 +1,10 @@
 use Rattle.aprs_book.proofs.Common.{◌≡◌, ◌∙◌, ◌↔◌, Some, None, sym, ap, subst, option_map, Received, row_key}
 use Rattle.aprs_laws.specs.Key.{key_of}
 use Rattle.aprs_book.specs.Messages.{message_in}
-use Rattle.aprs_book.specs.MessageRows.{GivesAnswer, answer_of, begins_with_colon, message_of}
+use Rattle.aprs_book.specs.MessageRows.{IsOfAnswer, answer_of, begins_with_colon, message_of}
 use Rattle.aprs_book.proofs.Addressed.{no_message_in}
 use Rattle.aprs_book.proofs.Collected.{on_ok}
-use Rattle.aprs_book.proofs.Exchanges.{message_no_answer, no_answer_given, answers_beside, spans_beside}
+use Rattle.aprs_book.proofs.Exchanges.{answers_by_itself, no_answer_given, answers_beside, spans_beside}
 use Rattle.aprs_book.proofs.lists.exchange.Exchange.take.Goals as goal
 
 pub returns-then-not-is_addressed : goal.returns-then-not-is_addressed
@@ -27,7 +27,7 @@ returns-in-Some g c =
       spans =
           put rows r held.spans message first
           (c.moment-last.ensures ∙ ap (λ (x : Received). x.moment) is);
-      answers = answers_beside rows r _ (message_no_answer (row_key r) _ message) held.answers;
+      answers = c.in_ok-put_reply.ensures rows r held.answers message is;
     }) c.put_span.ensures
 
 pub returns-in-Some-answer_in : goal.returns-in-Some-answer_in
@@ -40,10 +40,11 @@ returns-in-Some-answer_in g c =
       spans = spans_beside rows r _ none held.spans;
       answers =
           put rows r held.answers
-          (λ a. subst (λ (x : Received).
-          GivesAnswer a (key_of x.frame) ↔ (Some (answer_of c.in-Some-answer_in.key) ≡ Some a)) is
-          (subst (λ t. GivesAnswer a (key_of c.args.heard.now.frame)
-          ↔ (option_map answer_of t ≡ Some a)) c.in-Some-answer_in.is (c.answer_in.ensures a)))
+          (λ a. let by = answers_by_itself (row_key r) none a in
+          let one = subst (λ (x : Received).
+          IsOfAnswer a (key_of x.frame) ↔ (Some (answer_of c.in-Some-answer_in.key) ≡ Some a)) is
+          (c.in-Some-answer_in.ensures a) in
+          (λ p. one.0 (by.0 p), λ e. by.1 (one.1 e)))
           is;
     }) c.put_answer.ensures
 
@@ -58,6 +59,7 @@ returns-in-None g c = λ rows r held first is.
           answers_beside rows r _
           (λ a p. let t : None ≡ Some a = ap (option_map answer_of) (sym c.in-None.is)
           ∙ (c.answer_in.ensures a).0
-          (subst (λ (x : Received). GivesAnswer a (key_of x.frame)) (sym is) p) in absurd (cc))
+          (subst (λ (x : Received). IsOfAnswer a (key_of x.frame)) (sym is)
+          ((answers_by_itself (row_key r) none a).0 p)) in absurd (cc))
           held.answers;
     }

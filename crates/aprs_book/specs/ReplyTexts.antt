@@ -1,0 +1,29 @@
+-- How texts with numbers of reply-acks end. No public clause cites this module.
+use Rattle.std.specs.Prelude.{◌≡◌, ◌==◌, ◌&&◌, ◌↔◌, ℕ, true, List, [], ◌∷◌, ◌++◌, length, Option, None, Some}
+use Rattle.std.specs.List.{list_all}
+use Rattle.aprs_report.specs.Bytes.{is_alphanumeric}
+use Rattle.aprs_report.specs.Reader.{value_when}
+use Rattle.aprs_book.specs.ReplyAcks.{is_number, is_number_or_nothing}
+
+-- What P says of anything is that it is what the option holds.
+abbrev pub HoldsOnly : {X : Type 0} → (X → Type 0) → Option X → Type 0
+HoldsOnly {X} P o = (x : X) → (o ≡ Some x) ↔ P x
+
+-- The bytes are some, a mark, and so many letters or digits.
+pub record EndsSo (mark len : ℕ) (bytes : List ℕ) (x : List ℕ × List ℕ) : Type 0 where
+  pub whole : bytes ≡ x.0 ++ mark ∷ x.1
+  pub long : length x.1 ≡ len
+  pub alphanumeric : list_all is_alphanumeric x.1 ≡ true
+
+-- The bytes are some, a mark, and at most two letters or digits.
+pub record EndsAfter (mark : ℕ) (bytes : List ℕ) (x : List ℕ × List ℕ) : Type 0 where
+  pub whole : bytes ≡ x.0 ++ mark ∷ x.1
+  pub a_number_or_nothing : is_number_or_nothing x.1 ≡ true
+
+-- The number after "ack", or None where the bytes don't begin so or no number follows.
+unfoldable pub number_at : List ℕ → Option (List ℕ)
+number_at [] = None
+number_at (x ∷ []) = None
+number_at (x ∷ y ∷ []) = None
+number_at (x ∷ y ∷ z ∷ number) =
+    value_when (x == 97 && y == 99 && z == 107 && is_number number) number

@@ -1,0 +1,279 @@
+-- Each line of the tables has all fields.
+use Rattle.aprs_lists.proofs.Common.{◌≡◌, ◌∙◌, ◌∷◌, ◌++◌, [], ℕ, Bool, List, None, Option, Some, ap, ap₂, codes, length, refl, Received, Value, key_of, report_of}
+use Rattle.std.specs.Prelude.{All, true, false}
+use Rattle.std.proofs.Common.{suc, ◌+◌}
+use Rattle.std.proofs.lemmas.List.{length-append}
+use Rattle.std.specs.List.{AllByRecursion}
+use Rattle.std.proofs.lemmas.List.Elements.{All-from_recursion}
+use Rattle.aprs_ax25.specs.Callsign.{IsCall}
+use Rattle.aprs_log.specs.Receiver.{IsName}
+use Rattle.aprs_report.specs.Object.{live_text}
+use Rattle.aprs_report.specs.Place.{latitude_of, longitude_of}
+use Rattle.aprs_report.specs.Position.{IsOptionalStamp}
+use Rattle.aprs_report.specs.Reading.{Reads, position, object, item, message, ack, rej, status, raw}
+use Rattle.aprs_report.specs.Status.{IsStatus}
+use Rattle.aprs_report.specs.declared.place.Place.{Place}
+use Rattle.aprs_report.specs.declared.place.Place.TheVariants as place
+use Rattle.aprs_report.specs.declared.stamp.Stamp.{Stamp}
+use Rattle.aprs_report.specs.declared.symbol.Symbol.{Symbol}
+use Rattle.aprs_report.proofs.Readings.{reads_as}
+use Rattle.aprs_book.specs.Messages.{shown_message, state_text}
+use Rattle.aprs_book.specs.Names.{ReportsOf, Thing, reported_thing, shown_thing}
+use Rattle.aprs_book.specs.declared.lists.message.MessageRow.{MessageRow}
+use Rattle.aprs_book.specs.declared.lists.message.MessageState.{MessageState}
+use Rattle.aprs_book.specs.declared.lists.message.MessageState.TheVariants.{Unnumbered, Unanswered, Acknowledged, Rejected}
+use Rattle.aprs_book.specs.declared.lists.named.Named.{Named}
+use Rattle.aprs_book.specs.declared.lists.reply_ack.ReplyAck.{ReplyAck}
+use Rattle.aprs_book.specs.declared.lists.reply_ack.ReplyAck.TheVariants.{NotAwaited, Awaited, Heard}
+use Rattle.aprs_book.specs.declared.lists.station.Station.{Station}
+use Rattle.aprs_table.specs.Cells.{ambiguity_field, compressed_field, stamp_field}
+use Rattle.aprs_table.specs.Shape.{IsField}
+use Rattle.aprs_table.proofs.Frees.{AreFree, Free, Plain, free_call, free_decimal, free_degrees, free_moment, free_name, free_shown, free_stamp, free_word}
+use Rattle.aprs_lists.specs.Lines.{tabbed_line}
+use Rattle.aprs_lists.specs.Messages.{answer_fields, id_or_nothing, message_columns, message_table_fields, message_table_line, reply_ack_fields}
+use Rattle.aprs_lists.specs.Shape.{HasAllFieldsOf, HasName}
+use Rattle.aprs_lists.specs.Stations.{position_fields, position_in, station_columns, station_table_fields, station_table_line, status_fields, status_in}
+use Rattle.aprs_lists.specs.Things.{named_fields, placed_fields, thing_columns, thing_line_in, thing_table_line}
+
+-- so many fields without a tab and an LF
+record AreSo (n : ℕ) (fields : List (List ℕ)) : Type 0 where
+  count : length fields ≡ n
+  free : AreFree fields
+
+are_append : (a b : List (List ℕ)) → AreFree a → AreFree b → AreFree (a ++ b)
+are_append [] b h k = k
+are_append (x ∷ a) b h k = (h.0, are_append a b h.1 k)
+
+as_fields : (fields : List (List ℕ)) → AreFree fields → AllByRecursion IsField fields
+as_fields [] h = tt
+as_fields (x ∷ fields) h = (All-from_recursion Plain x h.0, as_fields fields h.1)
+
+are_fields : (fields : List (List ℕ)) → AreFree fields → All IsField fields
+are_fields fields h = All-from_recursion IsField fields (as_fields fields h)
+
+-- ---- messages
+
+state_free : (s : MessageState) → Free (state_text s)
+state_free Unnumbered = free_word (codes "unnumbered") refl
+state_free Unanswered = free_word (codes "unanswered") refl
+state_free Acknowledged = free_word (codes "acknowledged") refl
+state_free Rejected = free_word (codes "rejected") refl
+
+answer_free : (o : Option ℕ) (to : List ℕ) → AreFree (answer_fields o to)
+answer_free None to = (tt, (tt, tt))
+answer_free (Some answered) to = (free_moment answered, (free_shown to, tt))
+
+reply_free : (r : ReplyAck) → AreFree (reply_ack_fields r)
+reply_free NotAwaited = (tt, (tt, tt))
+reply_free Awaited = (free_word (codes "unanswered") refl, (tt, tt))
+reply_free (Heard moment) = (free_word (codes "acknowledged") refl, (free_moment moment, tt))
+
+four : (o : Option ℕ) (to : List ℕ) (r : ReplyAck)
+    → length (answer_fields o to ++ reply_ack_fields r) ≡ 4
+four None to NotAwaited = refl
+four None to Awaited = refl
+four None to (Heard moment) = refl
+four (Some answered) to NotAwaited = refl
+four (Some answered) to Awaited = refl
+four (Some answered) to (Heard moment) = refl
+
+pub message_line : (x : MessageRow) → IsCall x.source
+    → HasAllFieldsOf message_columns (message_table_line x)
+message_line x call =
+    let to = (shown_message x).addressee in
+    record {
+      fields = message_table_fields x;
+      count =
+          ap (λ (n : ℕ). suc (suc (suc (suc (suc (suc (suc n)))))))
+          (four x.answered to x.reply_ack);
+      are_fields = are_fields (message_table_fields x) (
+        free_call x.source call,
+        (
+          free_shown to,
+          (
+            free_shown (id_or_nothing (shown_message x).id),
+            (
+              free_shown (shown_message x).text,
+              (
+                state_free x.state,
+                (
+                  free_moment x.first,
+                  (
+                    free_moment x.last,
+                    are_append (answer_fields x.answered to) (reply_ack_fields x.reply_ack)
+                        (answer_free x.answered to) (reply_free x.reply_ack),
+                  ),
+                ),
+              ),
+            ),
+          ),
+        ),
+      );
+      whole = refl;
+    }
+
+-- ---- places
+
+ambiguity : (p : Place) → Free (ambiguity_field (Some p))
+ambiguity (place.Plain lat lon n) = free_decimal n
+ambiguity (place.Base91 y x cst) = tt
+
+compressed : (p : Place) → Free (compressed_field (Some p))
+compressed (place.Plain lat lon n) = free_word (codes "no") refl
+compressed (place.Base91 y x cst) = free_word (codes "yes") refl
+
+placed_free : (stamp : Option Stamp) (p : Place) (symbol : Symbol) (text : List ℕ)
+    → Free (stamp_field stamp) → AreFree (placed_fields stamp p symbol text)
+placed_free stamp p symbol text h = (
+  h,
+  (
+    free_degrees (latitude_of p),
+    (
+      free_degrees (longitude_of p),
+      (
+        ambiguity p,
+        (compressed p, (free_shown (symbol.table ∷ symbol.code ∷ []), (free_shown text, tt))),
+      ),
+    ),
+  ),
+)
+
+optional_stamp : (s : Option Stamp) (text : List ℕ) → IsOptionalStamp s text → Free (stamp_field s)
+optional_stamp None text h = tt
+optional_stamp (Some s) text h = free_stamp s h.0
+
+status_stamp : (s : Option Stamp) (text info : List ℕ) → IsStatus s text info → Free (stamp_field s)
+status_stamp None text info h = tt
+status_stamp (Some s) text info h = free_stamp s h.1.stamped
+
+-- ---- stations
+
+nothing : (tail : AreFree []) → AreFree ([] ∷ [] ∷ [] ∷ [] ∷ [])
+nothing tail = (tt, (tt, (tt, (tt, tail))))
+
+no_place : AreFree ([] ∷ [] ∷ [] ∷ [] ∷ [] ∷ [] ∷ [] ∷ [] ∷ [] ∷ [])
+no_place = (tt, (tt, (tt, (tt, (tt, (tt, (tt, (tt, (tt, tt)))))))))
+
+position_so : (x : Received) (v : Value) (info : List ℕ) → IsName x.receiver → Reads v info
+    → AreSo 9 (position_in x v)
+position_so x (position messaging stamp p symbol comment) info n is = record {
+  count = refl;
+  free = (
+    free_moment x.moment,
+    (
+      free_name x.receiver n,
+      placed_free stamp p symbol comment (optional_stamp stamp _ is.at_stamp),
+    ),
+  );
+}
+position_so x (object a b c d e f) info n is = record { count = refl; free = no_place }
+position_so x (item a b c d e) info n is = record { count = refl; free = no_place }
+position_so x (message a b c) info n is = record { count = refl; free = no_place }
+position_so x (ack a b) info n is = record { count = refl; free = no_place }
+position_so x (rej a b) info n is = record { count = refl; free = no_place }
+position_so x (status a b) info n is = record { count = refl; free = no_place }
+position_so x raw info n is = record { count = refl; free = no_place }
+
+status_so : (x : Received) (v : Value) (info : List ℕ) → IsName x.receiver → Reads v info
+    → AreSo 4 (status_in x v)
+status_so x (status stamp text) info n is = record {
+  count = refl;
+  free = (
+    free_moment x.moment,
+    (free_name x.receiver n, (status_stamp stamp text info is, (free_shown text, tt))),
+  );
+}
+status_so x (position a b c d e) info n is = record { count = refl; free = nothing tt }
+status_so x (object a b c d e f) info n is = record { count = refl; free = nothing tt }
+status_so x (item a b c d e) info n is = record { count = refl; free = nothing tt }
+status_so x (message a b c) info n is = record { count = refl; free = nothing tt }
+status_so x (ack a b) info n is = record { count = refl; free = nothing tt }
+status_so x (rej a b) info n is = record { count = refl; free = nothing tt }
+status_so x raw info n is = record { count = refl; free = nothing tt }
+
+known_position : (o : Option Received) → HasName o → AreSo 9 (position_fields o)
+known_position None h = record { count = refl; free = no_place }
+known_position (Some x) h = let info = (key_of x.frame).info in
+    position_so x (report_of (key_of x.frame)) info h (reads_as info)
+
+known_status : (o : Option Received) → HasName o → AreSo 4 (status_fields o)
+known_status None h = record { count = refl; free = nothing tt }
+known_status (Some x) h = let info = (key_of x.frame).info in
+    status_so x (report_of (key_of x.frame)) info h (reads_as info)
+
+pub station_line : (x : Station) → IsCall x.call → HasName x.position → HasName x.status
+    → HasAllFieldsOf station_columns (station_table_line x)
+station_line x call p s =
+    let at = known_position x.position p in
+    let of = known_status x.status s in
+    record {
+      fields = station_table_fields x;
+      count = ap (λ (n : ℕ). suc (suc n))
+          (length-append (position_fields x.position) (status_fields x.status)
+          ∙ ap₂ (λ (m n : ℕ). m + n) at.count of.count);
+      are_fields = are_fields (station_table_fields x) (
+        free_call x.call call,
+        (
+          free_decimal x.transmissions,
+          are_append (position_fields x.position) (status_fields x.status) at.free of.free,
+        ),
+      );
+      whole = refl;
+    }
+
+-- ---- objects and items
+
+live_free : (live : Bool) → Free (live_text live)
+live_free true = free_word (codes "live") refl
+live_free false = free_word (codes "killed") refl
+
+named_free : (name : List ℕ) (live : Bool) (x : Received) → IsCall (key_of x.frame).source
+    → IsName x.receiver → AreFree (named_fields name live x)
+named_free name live x call n = (
+  free_shown name,
+  (
+    live_free live,
+    (
+      free_moment x.moment,
+      (free_name x.receiver n, (free_call (key_of x.frame).source call, tt)),
+    ),
+  ),
+)
+
+named_line : (kind name : List ℕ) (live : Bool) (x : Received) (stamp : Option Stamp) (p : Place)
+    (symbol : Symbol) (text : List ℕ) → Free kind → Free (stamp_field stamp)
+    → IsCall (key_of x.frame).source → IsName x.receiver
+    → HasAllFieldsOf thing_columns
+    (tabbed_line (kind ∷ named_fields name live x ++ placed_fields stamp p symbol text))
+named_line kind name live x stamp p symbol text k s call n = record {
+  fields = kind ∷ named_fields name live x ++ placed_fields stamp p symbol text;
+  count = refl;
+  are_fields = are_fields (kind ∷ named_fields name live x ++ placed_fields stamp p symbol text) (
+    k,
+    are_append (named_fields name live x) (placed_fields stamp p symbol text)
+        (named_free name live x call n) (placed_free stamp p symbol text s),
+  );
+  whole = refl;
+}
+
+line_in : (x : Received) (v : Value) (info : List ℕ) (t : Thing) → reported_thing v ≡ Some t
+    → IsCall (key_of x.frame).source → IsName x.receiver → Reads v info
+    → HasAllFieldsOf thing_columns (thing_line_in x v)
+line_in x (object name live stamp p symbol comment) info t e call n is =
+    named_line (codes "object") name live x (Some stamp) p symbol comment
+    (free_word (codes "object") refl) (free_stamp stamp is.stamped) call n
+line_in x (item name live p symbol comment) info t e call n is =
+    named_line (codes "item") name live x None p symbol comment (free_word (codes "item") refl) tt
+    call n
+line_in x (position a b c d f) info t e call n is = absurd (cc)
+line_in x (message a b c) info t e call n is = absurd (cc)
+line_in x (ack a b) info t e call n is = absurd (cc)
+line_in x (rej a b) info t e call n is = absurd (cc)
+line_in x (status a b) info t e call n is = absurd (cc)
+line_in x raw info t e call n is = absurd (cc)
+
+pub thing_line : (x : Named) → ReportsOf (shown_thing x) (key_of x.heard.frame)
+    → IsCall (key_of x.heard.frame).source → IsName x.heard.receiver
+    → HasAllFieldsOf thing_columns (thing_table_line x)
+thing_line x e call n = let info = (key_of x.heard.frame).info in
+    line_in x.heard (report_of (key_of x.heard.frame)) info (shown_thing x) e call n (reads_as info)
