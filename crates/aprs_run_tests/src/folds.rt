@@ -32,7 +32,13 @@ fn is_enough(alloc: Global, size: usize, text: &[u8]) -> Result<bool, Fail> {
     let heap = LocalHeap::new(alloc, size)?;
     let mut inputs = [reader(text, 64, usize::MAX), reader(text, 64, usize::MAX)];
     let mut w = Counted::new(Vec::new(alloc));
-    let run = fold_run(&heap, MAX_BOOK, Gap::STANDARD, inputs.as_mut_slice(), &mut w);
+    let run = fold_run(
+        &heap,
+        MAX_BOOK,
+        Gap::STANDARD,
+        inputs.as_mut_slice(),
+        &mut w,
+    );
     Ok(run.is_ok() && w.into_inner().as_slice() == text)
 }
 
@@ -68,7 +74,13 @@ fn is_refused(alloc: Global, units: usize) -> Result<bool, Fail> {
         Counted::new(MERGED_TEXT),
     ];
     let mut w = Counted::new(Vec::new(alloc));
-    let run = fold_run(&bump, MAX_BOOK, Gap::STANDARD, inputs.as_mut_slice(), &mut w);
+    let run = fold_run(
+        &bump,
+        MAX_BOOK,
+        Gap::STANDARD,
+        inputs.as_mut_slice(),
+        &mut w,
+    );
     let written = w.into_inner();
     match run {
         Ok(()) if written.as_slice() == MERGED_TEXT => Ok(false),
@@ -92,9 +104,12 @@ fn folds_write_a_part_where_memory_is_refused(rt: HostRuntime) -> Result<(), Fai
 /// The line of a failed read of the second input.
 fn line_of(run: &Result<(), RunFault>) -> Option<u64> {
     match run {
-        Err(RunFault::Input { index: 1, fault: InputFault::Book(fault) }) => {
-            (fault.cause == BookCause::Read).then_some(fault.line)
-        }
+        Err(
+            RunFault::Input {
+                index: 1,
+                fault: InputFault::Book(fault),
+            },
+        ) => { (fault.cause == BookCause::Read).then_some(fault.line) }
         _ => None,
     }
 }
@@ -107,7 +122,13 @@ fn is_ended_after(alloc: Global, good: usize) -> bool {
         reader(MERGED_TEXT, 7, good),
     ];
     let mut w = Counted::new(Vec::new(alloc));
-    let run = fold_run(alloc, MAX_BOOK, Gap::STANDARD, inputs.as_mut_slice(), &mut w);
+    let run = fold_run(
+        alloc,
+        MAX_BOOK,
+        Gap::STANDARD,
+        inputs.as_mut_slice(),
+        &mut w,
+    );
     let is_at = line_of(&run) == Some(line_after(MERGED_TEXT, good));
     is_at && inputs[1].failures() == 1 && is_part(w.into_inner().as_slice())
 }
@@ -119,7 +140,13 @@ fn is_written_up_to(alloc: Global, room: usize) -> bool {
         bytes: Vec::new(alloc),
         room,
     });
-    let run = fold_run(alloc, MAX_BOOK, Gap::STANDARD, inputs.as_mut_slice(), &mut w);
+    let run = fold_run(
+        alloc,
+        MAX_BOOK,
+        Gap::STANDARD,
+        inputs.as_mut_slice(),
+        &mut w,
+    );
     let is_refused = matches!(&run, Err(RunFault::Write)) && w.failures() == 1;
     is_refused && MERGED_TEXT.get(..room) == Some(w.into_inner().bytes.as_slice())
 }

@@ -1,5 +1,5 @@
 use Rattle.aprs_command.proofs.Common.{◌≡◌, rules, ap₂, codes, ◌∙◌, IfOk-weaker, app_of, with_rule}
-use Rattle.aprs_command.specs.Arguments.{versioned_app, with_gathered}
+use Rattle.aprs_command.specs.Arguments.{versioned_app}
 use Rattle.aprs_command.proofs.fold.fold_command.Goals as goal
 
 pub returns : goal.returns
