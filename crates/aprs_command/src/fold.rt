@@ -27,9 +27,9 @@ pub struct FoldJob {
 /// name being the first: the gap, which is 30 seconds where it is not given, the inputs' paths in
 /// the order of the arguments, and whether `--check` is among them. SECONDS is 1 to 3,600, and else
 /// a fault of `JobFault::Clap`. Where the arguments ask for help or the version, its text is that
-/// of `JobFault::Clap`. `JobFault::Memory` where an allocation failed. By `asked` the job is the one
-/// that the definition of the command reads from the arguments; by `judged` clap's refusal is for a
-/// fault that this definition finds in them.
+/// of `JobFault::Clap`. `JobFault::Memory` where an allocation failed. By `asked` the job is the
+/// one that the definition of the command reads from the arguments; by `judged` clap's refusal is
+/// for a fault that this definition finds in them.
 pub fn fold_job(alloc: Global, arguments: &[&str]) -> Result<FoldJob, JobFault>
     ensures asked { Spec.AnswersFold (map (λ a. a.now) arguments.now) result }
     ensures judged { JudgesArguments Spec.fold_app (map (λ a. a.now) arguments.now)
