@@ -444,6 +444,7 @@ def in_sources(program: Program) -> Tuple[Set[str], Set[str]]:
                 tables = read("crates/aprs_command/src/jobs.rt")
                 words |= set(re.findall(r'if name == b"([a-z]+)"', tables))
             options |= {f"--{it}" for it in re.findall(r'option_arg\(\s*alloc,\s*"(\w+)"', text)}
+            options |= {f"--{it}" for it in re.findall(r'\.long\("(\w+)"\)', text)}
             options |= {"--gap"} if "gap_arg(alloc)" in text else set()
     return words - {program.name}, options
 

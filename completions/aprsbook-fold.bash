@@ -23,7 +23,7 @@ _aprsbook_fold() {
     local words='' options='' files=1
     COMPREPLY=()
     case $path in
-    ' '*) options='--gap --help --version' ;;
+    ' '*) options='--gap --check --help --version' ;;
     esac
     case $before in
     --gap) files= ;;

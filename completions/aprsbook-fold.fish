@@ -18,5 +18,6 @@ function _aprsbook_fold_end
 end
 
 complete -c aprsbook-fold -l gap -x -d 'Seconds within which copies are one, 1 to 3600'
+complete -c aprsbook-fold -l check -d 'Only check the books'
 complete -c aprsbook-fold -s h -l help -d 'Write help'
 complete -c aprsbook-fold -s V -l version -d 'Write the version'

@@ -1,7 +1,7 @@
 #!/bin/sh
 # Tries the fold of book files: the bytes of the merge of the same files, in any order, however grouped
-# and however often; the refusals of a merge, and what is left after one, which no program takes for a
-# book; and memory that doesn't grow with the rows. Needs a POSIX system.
+# and however often; the refusals of a merge, those of a check, and what is left after one, which no
+# program takes for a book; and memory that doesn't grow with the rows. Needs a POSIX system.
 # usage: tests/fold.sh PROGRAM
 . "$(dirname "$0")/program.sh"
 [ -x "$scratch/bin/aprsbook-fold" ] || fail 'there is no program of folds'
@@ -28,6 +28,9 @@ aprsbook-fold < evening.book > folded
 cmp -s folded evening.book || fail 'the fold of standard input differs'
 sed '1s/.*/APRSBOOK 2/' evening.book > two
 alike 'a book of version 2' two
+aprsbook-fold --check ./*.log.book evening.book > folded || fail 'a check refuses books'
+[ ! -s folded ] || fail 'a check writes'
+aprsbook-fold --check < evening.book || fail 'a check of standard input'
 : > no.log
 aprsbook merge no.log > none.book
 alike 'a book of nothing' none.book evening.book
@@ -46,6 +49,10 @@ done
 refuses() {
     wanted=$1
     shift
+    status=0
+    aprsbook-fold --check "$@" > left 2> said || status=$?
+    [ "$status $(cat said)" = "1 aprsbook-fold: $wanted" ] || fail "a check: $status, $(cat said)"
+    [ ! -s left ] || fail "a check writes: $wanted"
     status=0
     aprsbook-fold "$@" > left 2> said || status=$?
     [ $status = 1 ] || fail "status $status: $wanted"
@@ -100,7 +107,7 @@ fi
 
 # ---- words ----
 
-for it in gap help version; do
+for it in gap check help version; do
     for where in man/aprsbook-fold.1 completions/aprsbook-fold.bash completions/aprsbook-fold.fish \
         completions/_aprsbook-fold; do
         tr -d '\134' < "$repository/$where" | grep -qe "-l $it\|--$it" || fail "$where lacks --$it"

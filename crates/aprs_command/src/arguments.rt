@@ -280,7 +280,7 @@ pub(crate) fn clap_fault(error: clap::Error) -> JobFault
 }
 
 /// The first value of the argument of this name, or `None` where it was not given.
-fn text_at<'a>(matches: &ArgMatches<'a>, id: &str) -> Option<&'a str>
+pub(crate) fn text_at<'a>(matches: &ArgMatches<'a>, id: &str) -> Option<&'a str>
     ensures { option_map (λ s. s.now) result ≡ first_of id.now (rows_of (found_of matches.now)) }
 {
     matches.get_str(id)

@@ -125,6 +125,9 @@ Exit status:
 
 pub const FOLDED: &str = "Book files of this gap; without any, standard input";
 
+/// What `--check` of `aprsbook-fold` is for.
+pub const FOLD_CHECK: &str = "Only check that each is a whole book file, and write nothing";
+
 /// What `aprsbook-fold` is for.
 pub const FOLD: &str = "Writes the book of book files, in memory that doesn't grow with their size";
 
@@ -132,6 +135,7 @@ pub const FOLD: &str = "Writes the book of book files, in memory that doesn't gr
 pub const FOLD_EXAMPLES: &str = "Examples:
   aprsbook-fold year.book day.book > new.book
   aprsbook-fold rx1.book rx2.book rx3.book > net.book
+  aprsbook-fold --check year.book day.book && aprsbook-fold year.book day.book > new.book
   aprsbook-fold --gap 60 slow.book more.book > slower.book
 
 Exit status:

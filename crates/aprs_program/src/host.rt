@@ -98,14 +98,24 @@ impl<'a> Program<'a> {
     /// Folds the book files of these paths, or standard input where there are none, and reports a
     /// fault to standard error. Where a file can't be opened, none is read and nothing is written.
     /// The output has no buffer of its own, so that its header is there as soon as the fold sends
-    /// it. Returns the exit status.
-    pub fn do_fold(&mut self, gap: Gap, paths: &[String]) -> ExitCode {
+    /// it. Where the books are only checked, the same is done and nothing is written. Returns the
+    /// exit status.
+    pub fn do_fold(&mut self, gap: Gap, paths: &[String], is_check: bool) -> ExitCode {
+        if is_check {
+            self.fold_into(gap, paths, io::sink())
+        } else {
+            self.fold_into(gap, paths, Retried::new(self.rt.stdout()))
+        }
+    }
+
+    /// Folds the book files of these paths into this output.
+    fn fold_into<W: Write + Drop>(&mut self, gap: Gap, paths: &[String], output: W) -> ExitCode {
         let alloc = self.rt.alloc();
         let mut inputs = match open_inputs(self, alloc, paths) {
             Ok(inputs) => inputs,
             Err(complaint) => return self.report(complaint),
         };
-        let mut w = Counted::new(Retried::new(self.rt.stdout()));
+        let mut w = Counted::new(output);
         let outcome = fold_run(alloc, MAX_BOOK, gap, inputs.as_mut_slice(), &mut w);
         let flushed = w.into_inner().flush().is_ok();
         match complaint_after(paths, &outcome, flushed) {

@@ -12,6 +12,8 @@ mod ends;
 #[cfg(test)]
 mod failing_inputs;
 #[cfg(test)]
+mod folds;
+#[cfg(test)]
 mod gaps;
 #[cfg(test)]
 mod lines;
