@@ -146,6 +146,7 @@ bench: build
 	bench/books.sh $(PROGRAM)
 	bench/library.sh
 	bench/history.sh $(PROGRAM) $(HISTORY)
+	bench/tables.sh $(PROGRAM) $(TABLE)
 
 # the page that reads logs, out/aprsbook.html, with the module in it
 .PHONY: page
