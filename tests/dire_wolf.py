@@ -222,6 +222,8 @@ def why_weather(it: Differs) -> str:
         return "wind of a compressed position (9, 12)"
     if it.column == "wind_from" and it.theirs and int(it.theirs) > 360:
         return "a direction above 360 (7): none here"
+    if re.match(r"[0-9]{3}/[^0-9]", text):
+        return "a wind of which the speed is left open (12): none there"
     if not in_order(text, it.line.get("compressed") == "yes"):
         return "weather out of the standard's order, or broken (12)"
     return "?"
@@ -273,21 +275,19 @@ def main() -> None:
     lines = [log_line(START + i * STEP, frame) for i, frame in enumerate(frames)]
     rows = {row["first"]: row for row in table_of(program, lines)}
     table = [rows[f"{START + i * STEP:%Y-%m-%dT%H:%M:%S.000Z}"] for i in range(count)]
-    reasons: Counter[Tuple[str, str]] = Counter()
-    examples: Dict[Tuple[str, str], Differs] = {}
+    reasons: Counter[str] = Counter()
+    examples: Dict[str, Differs] = {}
     same = 0
     for frame, line, text in zip(frames, table, said_by_dire_wolf(frames)):
-        found = list(differences(frame, line, read(text)))
+        found = {why(it): it for it in differences(frame, line, read(text))}
         same += not found
-        for it in found:
-            key = (it.column, why(it))
-            reasons[key] += 1
-            examples.setdefault(key, it)
+        reasons.update(found.keys())
+        examples = {**found, **examples}
     print(f"{count} frames, {same} of them without a difference")
-    for (column, reason), number in sorted(reasons.items()):
-        it = examples[column, reason]
-        print(f"{number:6} {column}: {reason}\n       {it.ours!r} {it.theirs!r} {it.frame.info!r}")
-    if any(reason == "?" for _, reason in reasons):
+    for reason, number in reasons.most_common():
+        it = examples[reason]
+        print(f"{number:6} {reason}\n       {it.column}: {it.ours!r}, {it.theirs!r} there, of {it.frame.info!r}")
+    if "?" in reasons:
         sys.exit("dire_wolf.py: a difference has no reason")
 
 

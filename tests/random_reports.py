@@ -129,7 +129,7 @@ def telemetry(n: random.Random) -> str:
     values = [digits(n, 3), digits(n, 1), "-" + digits(n, 2), digits(n, 2) + "." + digits(n, 1), "." + digits(n, 1)]
     broken = ["", "-", "1.2.3", "1.", "x"]
     count = n.choice([5, 5, 5, 4, 1, 6])
-    number = n.choice([digits(n, 3) + ",", "MIC", "MIC,", digits(n, n.randrange(6)) + ","])
+    number = n.choice([digits(n, 3) + ","] * 4 + ["MIC", "MIC,", digits(n, n.randrange(6)) + ","])
     bits = "".join(n.choice("01") for _ in range(n.choice([8, 8, 8, 7, 0])))
     said = ",".join(n.choice(values * 12 + broken) for _ in range(count))
     return "T#" + number + said + n.choice([",", ",", ""]) + bits + words(n)
