@@ -116,11 +116,11 @@ reading:
 
 # what is tried with the program: 0 to 100 inputs, the README from its top, the old club's book, gaps,
 # outputs that take nothing, what happens to books, folds, the units, and each awk; and with all programs:
-# what they complain of, the history, the tables, the version, the packages, and the same on other
-# machines
+# what they complain of, the history, the tables, also of random logs, the version, the packages, and the
+# same on other machines
 TRIED = readme old_book gaps full_output books fold units awks
 TRIED_ALL = complaints history table version packages everywhere
-tried = tests/arguments.py $(PROGRAM) && $(foreach it,$(TRIED),tests/$(it).sh $(PROGRAM) &&) \
+tried = tests/arguments.py $(PROGRAM) && tests/table.py $(TABLE) 100 && $(foreach it,$(TRIED),tests/$(it).sh $(PROGRAM) &&) \
     $(foreach it,$(TRIED_ALL),tests/$(it).sh $(PROGRAM) $(HISTORY) $(TABLE) &&)
 
 # these, and the recipes that need only a POSIX system, where a program is there that is newer than
