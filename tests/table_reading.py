@@ -142,6 +142,9 @@ def of_compressed(code: int, comment: bytes, cst: bytes) -> Line:
     if c == ord("{") and is_base91(s) and not is_gga:
         hundredths = nearest(200 * Fraction(108, 100) ** (s - 33))
         line["range_miles"] = with_decimals(hundredths, 2)
+    if is_gga and is_base91(c) and is_base91(s):
+        feet = nearest(Fraction(1002, 1000) ** (91 * (c - 33) + s - 33))
+        line["altitude_m"] = with_decimals(feet * 3048, 4)
     if c != ord(" ") and is_base91(t):
         line["fix"] = "current" if (t - 33) // 32 % 2 == 1 else "old"
     return line

@@ -13,6 +13,7 @@ use Rattle.aprs_details.specs.declared.extension.Transmitter.{Transmitter}
 use Rattle.aprs_details.specs.declared.weather.Weather.{Weather}
 use Rattle.aprs_details.specs.Altitude.{feet_of, feet_at}
 use Rattle.aprs_details.specs.Compressed.{knots_of, range_of, range_of_cst, is_current_of_cst}
+use Rattle.aprs_details.specs.GgaAltitude.{feet_of_cs, feet_of_cst}
 use Rattle.aprs_details.specs.Decimal.{decimal_degrees_text, metres_text, hundredths_text, nearest}
 use Rattle.aprs_details.specs.Details.{details_of, motion_at, weather_at, altitude_of, range_of_place, mic_e_altitude_of, base91_at}
 use Rattle.aprs_details.specs.Extension.{pair_of, range_at, phg_at}
@@ -52,7 +53,7 @@ unfolding details_of motion_at weather_at altitude_of range_of_place pair_of ran
 of_car comment = details_of plain_place car comment
 
 abbrev pub of_compressed_car : List ℕ × List ℕ → Details
-unfolding details_of motion_at weather_at altitude_of range_of_place pair_of range_at phg_at numeral_of feet_of feet_at knots_of range_of
+unfolding details_of motion_at weather_at altitude_of range_of_place pair_of range_at phg_at numeral_of feet_of feet_at knots_of range_of feet_of_cs
 of_compressed_car x = details_of (compressed_place x.0) car x.1
 
 -- Course, speed, altitude, range and how old the fix is.
@@ -105,7 +106,8 @@ compressed_positions_have_course_and_speed = refl
 pub compressed_positions_have_course_and_speed-misses : Gives of_compressed_car (
     ((codes " sT", []), says None None None None None) ∷  -- none
     ((codes "{?!", []), says None None None (Some 2013) (Some false)) ∷  -- range
-    ((codes "S]Q", []), says None None None None (Some true)) ∷  -- altitude
+    ((codes "S]Q", []), says None None (Some (pos 30495240)) None (Some true)) ∷  -- altitude
+    ((codes "S]Q", codes "/A=001234"), says None None (Some (pos 3761232)) None (Some true)) ∷  -- of the comment
     ((codes " sT", codes "088/036RNG0050"), says None None None None None) ∷ [])  -- comment
 unfolding of_compressed_car
 compressed_positions_have_course_and_speed-misses = refl
@@ -214,6 +216,43 @@ pub fixes_are_in_bit_5-misses : Misses is_current_of_cst (
 fixes_are_in_bit_5-misses = refl
 
 -- ---- altitudes
+
+abbrev pub feet_of_number : ℕ → ℕ
+unfolding feet_of_cs
+feet_of_number cs = feet_of_cs cs
+
+-- The altitude of a number is rounded to the nearest foot.
+pub powers_are_rounded : Gives feet_of_number (
+    (0, 1) ∷  -- least
+    (202, 1) ∷  -- down
+    (203, 2) ∷  -- up
+    (4610, 10005) ∷  -- shown, 10004.52
+    (8280, 15301510) ∷ [])  -- greatest
+unfolding feet_of_number
+powers_are_rounded = refl
+
+abbrev pub feet_of_bytes : List ℕ → Option ℕ
+unfolding feet_of_cs
+feet_of_bytes cst = feet_of_cst cst
+
+-- A compressed position of a GGA sentence has an altitude, as the standard shows it.
+pub compressed_positions_have_an_altitude : Gives feet_of_bytes (
+    (codes "S]Q", Some 10005) ∷  -- shown
+    (codes "!!1", Some 1) ∷  -- least, old
+    (codes "{!Q", Some (feet_of_cs 8190)) ∷  -- c greatest
+    (codes "!{Q", Some 1) ∷ [])  -- s greatest
+unfolding feet_of_bytes
+compressed_positions_have_an_altitude = refl
+
+-- Near misses.
+pub compressed_positions_have_an_altitude-misses : Misses feet_of_bytes (
+    codes "S]I" ∷  -- of another sentence
+    codes " ]Q" ∷  -- c before base 91
+    codes "|]Q" ∷  -- c past base 91
+    codes "S Q" ∷  -- s before base 91
+    codes "S|Q" ∷ [])  -- s past base 91
+unfolding feet_of_bytes
+compressed_positions_have_an_altitude-misses = refl
 
 abbrev pub feet_in : List ℕ → Option ℕ
 unfolding feet_of feet_at numeral_of
