@@ -1,0 +1,82 @@
+-- More digits of a position (APRS 1.2, !DAO!): three bytes in a comment between exclamation marks.
+use Rattle.std.specs.Prelude.{ℕ, ℤ, pos, ◌-◌, ◌+ℤ◌, ◌-ℤ◌, ◌*ℤ◌, int_lt, Bool, ◌==◌, ◌&&◌, nat_le, if◌then◌else◌, List, slice_index, Option, None, Some}
+use Rattle.aprs_report.specs.Bytes.{is_digit, is_space, is_capital}
+use Rattle.aprs_report.specs.Reader.{◌>>=◌, value_when, chunk_of}
+use Rattle.aprs_report.specs.declared.place.Place.{Place}
+use Rattle.aprs_report.specs.declared.place.Place.TheVariants.{Plain, Base91}
+use Rattle.aprs_report.specs.declared.place.Fraction.{Fraction}
+use Rattle.aprs_details.specs.First.{first_in}
+use Rattle.aprs_details.specs.Compressed.{is_base91}
+use Rattle.aprs_details.specs.declared.precision.Scale.{Scale}
+use Rattle.aprs_details.specs.declared.precision.Scale.TheVariants.{Tenths, NinetyFirsts}
+use Rattle.aprs_details.specs.declared.precision.Precision.{Precision}
+
+-- ---- the bytes
+
+-- The byte is a small letter.
+abbrev pub is_small : ℕ → Bool
+is_small b = nat_le 97 b && nat_le b 122
+
+-- The digits are decimal where the datum is a capital letter, and of base 91 where it is a small one.
+abbrev pub scale_of : ℕ → Option Scale
+scale_of datum = if is_capital datum then Some Tenths else value_when (is_small datum) NinetyFirsts
+
+-- The number of a decimal digit; a space is 0.
+abbrev pub tenth_of : ℕ → Option ℕ
+tenth_of b = if is_space b then Some 0 else value_when (is_digit b) (b - 48)
+
+-- The number of a digit of base 91; a space is 0.
+abbrev pub ninety_first_of : ℕ → Option ℕ
+ninety_first_of b = if is_space b then Some 0 else value_when (is_base91 b) (b - 33)
+
+abbrev pub part_of : Scale → ℕ → Option ℕ
+part_of Tenths b = tenth_of b
+part_of NinetyFirsts b = ninety_first_of b
+
+-- The bytes at the ends of five are exclamation marks.
+abbrev pub are_marks : List ℕ → Bool
+are_marks field = slice_index field 0 == 33 && slice_index field 4 == 33
+
+-- An exclamation mark, the letter of a datum, a digit of the latitude, a digit of the longitude, and
+-- an exclamation mark.
+unfoldable pub precision_in : List ℕ → Option Precision
+precision_in field = do
+  scale ← scale_of (slice_index field 1)
+  latitude ← part_of scale (slice_index field 2)
+  longitude ← part_of scale (slice_index field 3)
+  value_when (are_marks field) (record {
+    datum = slice_index field 1;
+    scale = scale;
+    latitude = latitude;
+    longitude = longitude;
+  })
+
+-- What stands at the start of the text.
+unfoldable pub precision_at : List ℕ → Option Precision
+precision_at text = chunk_of 5 text >>= λ field. precision_in field.0
+
+-- What stands first in the comment.
+abbrev pub precision_of : List ℕ → Option Precision
+precision_of comment = first_in precision_at comment
+
+-- ---- the finer position
+
+-- An angle of hundredths of a minute with so many parts of one more, away from 0: as many parts make
+-- a degree.
+abbrev pub finer : (parts more : ℕ) → ℤ → ℤ
+finer parts more angle =
+    if int_lt angle (pos 0)
+    then (angle *ℤ pos parts) -ℤ pos more
+    else (angle *ℤ pos parts) +ℤ pos more
+
+-- The angle in degrees: a hundredth of a minute has ten parts, or ninety-one.
+abbrev pub finer_angle : Scale → (more : ℕ) → ℤ → Fraction
+finer_angle Tenths more angle = record { numerator = finer 10 more angle; denominator = pos 60000 }
+finer_angle NinetyFirsts more angle = record { numerator = finer 91 more angle; denominator = pos 546000 }
+
+-- The latitude and the longitude in degrees with the digits more, of a plain place of which no digits
+-- are left out.
+abbrev pub finer_place : Precision → Place → Option (Fraction × Fraction)
+finer_place x (Plain lat lon ambiguity) =
+    value_when (ambiguity == 0) (finer_angle x.scale x.latitude lat, finer_angle x.scale x.longitude lon)
+finer_place x (Base91 down east cst) = None

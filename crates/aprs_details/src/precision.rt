@@ -1,0 +1,187 @@
+//! More digits of a position.
+ghost use Rattle.std.specs.Prelude.{◌≡◌, ◌<◌, ◌^◌, IfSome, unsigned_abs};
+ghost use Rattle.aprs_report.specs.Bytes.{is_capital};
+ghost use Rattle.aprs_details.specs.Precision as Spec;
+
+use crate::compressed::is_base91;
+use aprs_report::{Fraction, Place};
+
+/// How many parts of a hundredth of a minute a digit counts.
+#[derive(Clone, Copy, Debug, PartialEq, Eq)]
+pub enum Scale {
+    /// Tenths, as decimal digits.
+    Tenths,
+    /// Ninety-firsts, as digits of base 91.
+    NinetyFirsts,
+}
+
+/// What a comment says more of its position's digits (APRS 1.2, `!DAO!`).
+#[derive(Clone, Copy, Debug, PartialEq, Eq)]
+pub struct Precision {
+    /// The letter of the datum: `W` or `w` for WGS 84.
+    pub datum: u8,
+    /// What the digits count.
+    pub scale: Scale,
+    /// The next digit of the latitude, 0 to 9 or 0 to 90; 0 where it is a space.
+    pub latitude: u8,
+    /// The next digit of the longitude, likewise.
+    pub longitude: u8,
+}
+
+/// What the digits after a datum count.
+fn scale_of(datum: u8) -> Option<Scale>
+    ensures { result ≡ Spec.scale_of datum }
+{
+    match datum {
+        b'A'..=b'Z' => Some(Scale::Tenths),
+        b'a'..=b'z' => Some(Scale::NinetyFirsts),
+        _ => None,
+    }
+}
+
+/// The number of a decimal digit; a space is 0.
+fn tenth(byte: u8) -> Option<u8>
+    ensures { result ≡ Spec.tenth_of byte }
+{
+    match byte {
+        b' ' => Some(0),
+        b'0'..=b'9' => Some(byte - b'0'),
+        _ => None,
+    }
+}
+
+/// The number of a digit of base 91; a space is 0.
+fn ninety_first(byte: u8) -> Option<u8>
+    ensures { result ≡ Spec.ninety_first_of byte }
+{
+    if byte == b' ' {
+        Some(0)
+    } else if is_base91(byte) {
+        Some(byte - 33)
+    } else {
+        None
+    }
+}
+
+/// The number of a digit.
+fn part(scale: Scale, byte: u8) -> Option<u8>
+    ensures { result ≡ Spec.part_of scale byte }
+{
+    match scale {
+        Scale::Tenths => tenth(byte),
+        Scale::NinetyFirsts => ninety_first(byte),
+    }
+}
+
+/// What five bytes say.
+#[tactic(auto, unfolding(crate::specs::Precision::precision_in))]
+fn precision_in(field: &[u8; 5]) -> Option<Precision>
+    ensures { result ≡ Spec.precision_in field.now }
+{
+    let [begin, datum, north, east, end] = *field;
+    let scale = scale_of(datum)?;
+    let latitude = part(scale, north)?;
+    let longitude = part(scale, east)?;
+    if begin == b'!' && end == b'!' {
+        Some(Precision {
+            datum,
+            scale,
+            latitude,
+            longitude,
+        })
+    } else {
+        None
+    }
+}
+
+/// What stands at the start of the text.
+#[tactic(auto, unfolding(crate::specs::Precision::precision_at))]
+fn precision_at(text: &[u8]) -> Option<Precision>
+    ensures { result ≡ Spec.precision_at text.now }
+{
+    let (field, _) = text.split_first_chunk::<5>()?;
+    precision_in(field)
+}
+
+/// An angle of hundredths of a minute with so many parts of one more, away from 0.
+fn finer(parts: u8, more: u8, angle: i32) -> i64
+    requires few { parts < 92 }
+    ensures exact { result ≡ Spec.finer parts more angle }
+    ensures small { unsigned_abs result < 2 ^ 38 }
+{
+    if angle < 0 {
+        angle as i64 * parts as i64 - more as i64
+    } else {
+        angle as i64 * parts as i64 + more as i64
+    }
+}
+
+/// An angle with more digits, in degrees.
+fn finer_angle(scale: Scale, more: u8, angle: i32) -> Fraction
+    ensures exact { result ≡ Spec.finer_angle scale more angle }
+    ensures small { unsigned_abs result.numerator < 2 ^ 38 }
+    ensures some { 0 < unsigned_abs result.denominator }
+    ensures few { unsigned_abs result.denominator < 2 ^ 34 }
+{
+    match scale {
+        Scale::Tenths => Fraction {
+            numerator: finer(10, more, angle),
+            denominator: 60_000,
+        },
+        Scale::NinetyFirsts => Fraction {
+            numerator: finer(91, more, angle),
+            denominator: 546_000,
+        },
+    }
+}
+
+impl Precision {
+    ghost use Rattle.std.specs.Prelude.{◌≡◌, ◌<◌, ◌^◌, IfSome, unsigned_abs};
+    ghost use Rattle.aprs_details.specs.Precision as Spec;
+
+    /// What a comment says first of its position's digits: `!Wxy!` with decimal digits, and `!wxy!`
+    /// with digits of base 91. `None` where it says nothing of them. Takes no memory.
+    pub fn of_comment(comment: &[u8]) -> Option<Precision>
+        ensures { result ≡ Spec.precision_of comment.now }
+    {
+        for i in 0..comment.len() {
+            match precision_at(&comment[i..]) {
+                Some(precision) => return Some(precision),
+                None => {}
+            }
+        }
+        None
+    }
+
+    /// The latitude and the longitude of the place in degrees, with the digits more, as
+    /// `decimal_degrees_text` takes them. `None` where the place is compressed, or digits of it
+    /// are left out. A place on the equator or the meridian of Greenwich is read as north or east
+    /// of it. Takes no memory.
+    pub fn refine(&self, place: &Place) -> Option<(Fraction, Fraction)>
+        ensures exact { result ≡ Spec.finer_place self.now place.now }
+        ensures small { IfSome result (λ x. unsigned_abs x.0.numerator < 2 ^ 38) }
+        ensures small_too { IfSome result (λ x. unsigned_abs x.1.numerator < 2 ^ 38) }
+        ensures some { IfSome result (λ x. 0 < unsigned_abs x.0.denominator) }
+        ensures some_too { IfSome result (λ x. 0 < unsigned_abs x.1.denominator) }
+        ensures few { IfSome result (λ x. unsigned_abs x.0.denominator < 2 ^ 34) }
+        ensures few_too { IfSome result (λ x. unsigned_abs x.1.denominator < 2 ^ 34) }
+    {
+        match *place {
+            Place::Plain {
+                lat,
+                lon,
+                ambiguity,
+            } => {
+                if ambiguity == 0 {
+                    Some((
+                        finer_angle(self.scale, self.latitude, lat),
+                        finer_angle(self.scale, self.longitude, lon),
+                    ))
+                } else {
+                    None
+                }
+            }
+            Place::Base91 { .. } => None,
+        }
+    }
+}
