@@ -5,7 +5,7 @@ from __future__ import annotations
 
 import datetime
 import random
-from typing import NamedTuple
+from typing import NamedTuple, Tuple
 
 START = datetime.datetime(2024, 5, 1)
 # no two reports are heard within one gap
@@ -59,6 +59,15 @@ def words(n: random.Random) -> str:
     return n.choice(["Hi", "on the road", "QRV 145.500", "PHG5130", "", " mobile", "wRSW", ".DsVP", "\\", "\t"])
 
 
+def channel(n: random.Random) -> str:
+    """A frequency, more digits or telemetry in a comment, mostly none."""
+    tone = n.choice(["", " T100", " c088", " D023", " T10"])
+    tuned = n.choice(["146.520MHz", "146.52 MHz", "146.5 MHz"]) + tone + n.choice(["", " +060", " -600", " 060"])
+    more = n.choice(["!W12!", "!w5z!", "!W 5!", "!wAB!", "!W1a!", "!?12!"])
+    values = "".join(chr(n.randrange(33, 125)) for _ in range(n.choice([4, 6, 10, 12, 14, 14, 16, 5, 2])))
+    return n.choice([""] * 8 + [tuned, tuned + more, more, f"|{values}|", f"|x|{values}|", tuned + f"|{values}|"])
+
+
 def feet(n: random.Random) -> str:
     return n.choice([f"/A={n.randrange(99999):06}"] * 4 + ["/A=-00123", "/A=12345", "/a=001234", ""])
 
@@ -89,7 +98,7 @@ def whereabouts(n: random.Random) -> str:
     form = n.choice([plain_place, plain_place, compressed_place])
     if n.random() < 0.4:
         return form(n, "_") + n.choice([measured(n), measured(n), words(n)]) + words(n)
-    return form(n, n.choice(">>>-#k")) + n.choice([extension(n), measured(n), words(n)]) + words(n) + feet(n)
+    return form(n, n.choice(">>>-#k")) + n.choice([extension(n), measured(n), words(n), ""]) + channel(n) + words(n) + feet(n)
 
 
 def stamp(n: random.Random) -> str:
@@ -153,7 +162,7 @@ def mic_e(n: random.Random) -> Heard:
         n.randrange(28, 128), n.randrange(28, 128), n.randrange(28, 128),
     ])
     altitude = n.choice(["", "]", ">", "`"]) + n.choice(["", '"4T}', '"7I}', "!!!}"])
-    said = n.choice([altitude, "", feet(n)]) + words(n)
+    said = n.choice([altitude, "", feet(n)]) + channel(n) + words(n)
     return Heard(to.encode(), n.choice(b"``'").to_bytes(1, "big") + octets + n.choice(["j/", ">/", "k\\"]).encode()
                  + said.encode())
 
@@ -188,14 +197,18 @@ def log_line(moment: datetime.datetime, frame: Heard) -> str:
     return f"{moment:%Y-%m-%dT%H:%M:%SZ} RX1 c000{escaped.hex()}c0\n"
 
 
-def broken(n: random.Random, line: str) -> str:
-    """The line with damage for which it is passed over."""
-    at = n.randrange(len("2024-05-01T12:00:00Z RX1 c000"), len(line) - 4)
+def broken(n: random.Random, line: str) -> Tuple[str, str]:
+    """The line with some damage, and for what a log with it is refused: nothing, where the line is
+    passed over.
+    """
+    begin = len("2024-05-01T12:00:00Z RX1 c000")
+    at = n.randrange(begin, len(line) - 4)
     return n.choice([
-        line[:at] + "g" + line[at + 1 :],
-        line[:at] + line[at + 1 :],
-        line[:-3] + "\n",
-        line[:10] + " " + line[11:],
-        "#" + line,
-        "\n",
+        (line[:at] + "g" + line[at + 1 :], "Hex"),
+        (line[:at] + line[at + 1 :], "Hex"),
+        (line[:10] + " " + line[11:], "Moment"),
+        ("#" + line, "Moment"),
+        ("\n", "Moment"),
+        (line[:-3] + "\n", ""),
+        (line[: begin + 1] + "3" + line[begin + 2 :], ""),
     ])

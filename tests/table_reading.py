@@ -150,6 +150,54 @@ def of_compressed(code: int, comment: bytes, cst: bytes) -> Line:
     return line
 
 
+FREQUENCY = re.compile(rb"([0-9]{3})\.([0-9]{3}|[0-9]{2} )MHz(?: ([TCDtcd][0-9]{3}))?(?: ([+-][0-9]{3}))?")
+
+
+def frequency(*begins: bytes) -> Line:
+    """With which the first of these begins that begins with one."""
+    for text in begins:
+        found = FREQUENCY.match(text)
+        if found:
+            khz = int(found[1]) * 1000 + int(found[2].replace(b" ", b"0"))
+            offset = "" if found[4] is None else str(int(found[4]) * 10)
+            return {"frequency_khz": str(khz), "tone": (found[3] or b"").decode(), "offset_khz": offset}
+    return {}
+
+
+def after_extension(comment: bytes) -> bytes:
+    is_one = pair(comment) or re.match(rb"RNG[0-9]{4}|PHG[0-9]{3}[0-8]", comment)
+    return comment[7:] if is_one else b""
+
+
+def measured(comment: bytes) -> Line:
+    """Telemetry between two bars, the first that can be read."""
+    for start in re.finditer(rb"\|", comment):
+        inside = re.match(rb"([!-{]*)\|", comment[start.end() :])
+        if not inside or len(inside[1]) not in (4, 6, 8, 10, 12, 14):
+            continue
+        pairs = zip(inside[1][::2], inside[1][1::2])
+        numbers = [(high - 33) * 91 + low - 33 for high, low in pairs]
+        names = ["telemetry_sequence", "a1", "a2", "a3", "a4", "a5"]
+        line = dict(zip(names, map(str, numbers)))
+        if len(numbers) == 7:
+            line["bits"] = f"{numbers[6] % 256:08b}"[::-1]
+        return line
+    return {}
+
+
+def finer(comment: bytes, north: Fraction, east: Fraction) -> Line:
+    """Of a plain position without ambiguity, with one digit more."""
+    more = re.search(rb"!([A-Z])([0-9 ])([0-9 ])!|!([a-z])([!-{ ])([!-{ ])!", comment)
+    if not more:
+        return {}
+    if more[1]:
+        parts = [Fraction(int(digit.replace(b" ", b"0")), 60000) for digit in more.group(2, 3)]
+    else:
+        parts = [Fraction(0 if digit == b" " else digit[0] - 33, 546000) for digit in more.group(5, 6)]
+    angles = [x - part if x < 0 else x + part for x, part in zip((north, east), parts)]
+    return {"finer_latitude": degrees(angles[0]), "finer_longitude": degrees(angles[1])}
+
+
 # ---- where something is
 
 
@@ -160,6 +208,8 @@ class Found(NamedTuple):
     code: int
     cst: Optional[bytes]
     rest: bytes
+    # degrees north and east, of a plain position of which nothing is left out
+    exact: Optional[Tuple[Fraction, Fraction]]
 
 
 def angle(whole: bytes, minutes: bytes, ambiguity: int, most: int) -> Optional[int]:
@@ -192,7 +242,7 @@ def plain_place(at: bytes) -> Optional[Found]:
     longitude = Fraction(-east if parts[9] == b"W" else east, 6000)
     line = placed(latitude, longitude, parts[5] + parts[10])
     line.update(compressed="no", ambiguity=str(ambiguity))
-    return Found(line, parts[10][0], None, at[19:])
+    return Found(line, parts[10][0], None, at[19:], None if ambiguity else (latitude, longitude))
 
 
 def compressed_place(at: bytes) -> Optional[Found]:
@@ -209,7 +259,7 @@ def compressed_place(at: bytes) -> Optional[Found]:
     latitude, longitude = Fraction(34283340 - y, 380926), Fraction(x - 34283340, 190463)
     line = placed(latitude, longitude, bytes([table, at[9]]))
     line["compressed"] = "yes"
-    return Found(line, at[9], at[10:13], at[13:])
+    return Found(line, at[9], at[10:13], at[13:], None)
 
 
 def place(at: bytes) -> Optional[Line]:
@@ -217,12 +267,13 @@ def place(at: bytes) -> Optional[Line]:
     found = plain_place(at) if at[:1].isdigit() else compressed_place(at)
     if not found:
         return None
-    line, code, cst, comment = found
+    line, code, cst, comment, exact = found
     line.update(of_plain(code, comment) if cst is None else of_compressed(code, comment, cst))
     feet = re.search(rb"/A=([0-9]{6})", comment)
     if feet:
         line["altitude_m"] = with_decimals(int(feet[1]) * 3048, 4)
-    line["text"] = shown(comment)
+    line.update(frequency(comment, after_extension(comment)), **measured(comment))
+    line.update(finer(comment, *exact) if exact else {}, text=shown(comment))
     return line
 
 
@@ -368,6 +419,14 @@ def mic_e_altitude(comment: bytes) -> str:
     return with_decimals(int(feet[1]) * 3048, 4) if feet else ""
 
 
+def is_marked(comment: bytes) -> bool:
+    return comment[:1] in (b">", b"]", b"`", b"'")
+
+
+def after_altitude(text: bytes) -> bytes:
+    return text[4:] if re.match(rb"[!-{]{3}\}", text) else text
+
+
 def mic_e(destination: bytes, info: bytes) -> Optional[Line]:
     found = [character(byte) for byte in destination]
     if len(found) != 6 or len(info) < 9 or info[:1] not in (b"`", b"'"):
@@ -384,11 +443,12 @@ def mic_e(destination: bytes, info: bytes) -> Optional[Line]:
         return None
     north, ambiguity = latitude
     east, knots, course = numbers
-    line = placed(
-        Fraction(north if rows[3] == "standard" else -north, 6000),
-        Fraction(-east if rows[5] == "standard" else east, 6000),
-        info[8:9] + info[7:8],
-    )
+    latitude_is = Fraction(north if rows[3] == "standard" else -north, 6000)
+    longitude_is = Fraction(-east if rows[5] == "standard" else east, 6000)
+    line = placed(latitude_is, longitude_is, info[8:9] + info[7:8])
+    comment = info[9:]
+    line.update(frequency(after_altitude(comment), after_altitude(comment[is_marked(comment) :])))
+    line.update(measured(comment), **({} if ambiguity else finer(comment, latitude_is, longitude_is)))
     line.update(kind="mic-e", compressed="no", ambiguity=str(ambiguity))
     line.update(course=str(course) if course else "", speed_knots=str(knots))
     line.update(altitude_m=mic_e_altitude(info[9:]), says=says(rows[:3]), text=shown(info[9:]))
