@@ -21,7 +21,7 @@ tools: awk callgrind mypy cat ctypes decode_aprs direwolf gcc gen_packets git gr
 shellcheck sort stdbuf stdin stdout tshark valgrind zcat
 Rattle: rattle rt contents remaining ensures requires proves file old std Proof.decls out/incremental x.old x.new x.now x.entry
 std: Box BufWriter Copy Drop Ok Option PartialEq Result u64::MAX
-standards: DDMM.hh DDDMM.hh atest f0 rust loop use
+standards: DDMM.hh DDDMM.hh FFF.FFFMHz atest f0 rust loop use
 commands of make: arm64 deb pyz install release static tarball try
 processors and users of Debian: amd64 aprs
 names of Mic-E messages: committed emergency priority returning unknown
