@@ -150,6 +150,8 @@ def differences(frame: Heard, line: Line, theirs: Line) -> Iterator[Differs]:
         ours, other = line.get(column, ""), theirs.get(column, "")
         if column == "name":
             ours = unshown(ours)
+        # theirs have the digits more of a comment
+        ours = line.get(f"finer_{column}", "") or ours
         if ours == other == "" or (ours != "" and other != "" and is_same(column, ours, other)):
             continue
         yield Differs(column, ours, other, frame, line)
@@ -239,6 +241,12 @@ def why(it: Differs) -> str:
         return "`T#MIC` without a comma (13): the first value is the number there"
     if it.column in ("longitude", "latitude") and it.line.get("ambiguity", "0") != "0":
         return "digits of the longitude where the latitude leaves them out (6): 0 here"
+    if it.column in ("longitude", "latitude") and it.line.get("compressed") == "yes":
+        return "`!DAO!` after a compressed position (1.2): of plain ones alone here"
+    if it.column in ("longitude", "latitude") and len(text) == 5:
+        return "`!DAO!` as all of the comment (1.2): not read there"
+    if it.column in ("telemetry_sequence", "a1", "a2", "a3", "a4", "a5", "bits") and text.count("|") > 2:
+        return "telemetry of a comment with more than two bars (1.2)"
     if it.column == "state":
         return "a killed object with weather (11): not said there"
     if it.column == "id":
@@ -257,8 +265,8 @@ def why_of_comment(it: Differs, text: str) -> str:
         return "PHG, RNG and altitude of a weather station (7): not read there"
     if text[3:4] == "/" and not re.match(r"[0-9]{3}/[0-9]{3}", text):
         return "seven bytes with `/` among them that are no course and speed (7)"
-    if it.column in ("altitude_m", "speed_knots") and it.line.get("compressed") == "yes":
-        return "altitude in c and s, or s outside `!` to `{` (9)"
+    if it.column in ("altitude_m", "speed_knots", "range_miles") and it.line.get("compressed") == "yes":
+        return "c, s or T outside `!` to `{` (9): nothing here"
     if it.column.startswith("phg") or it.column == "range_miles":
         if re.match(r"PHG0", text):
             return "a transmitter of 0 watts (7): not said there"

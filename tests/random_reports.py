@@ -5,7 +5,7 @@ from __future__ import annotations
 
 import datetime
 import random
-from typing import NamedTuple
+from typing import NamedTuple, Tuple
 
 START = datetime.datetime(2024, 5, 1)
 # no two reports are heard within one gap
@@ -188,14 +188,18 @@ def log_line(moment: datetime.datetime, frame: Heard) -> str:
     return f"{moment:%Y-%m-%dT%H:%M:%SZ} RX1 c000{escaped.hex()}c0\n"
 
 
-def broken(n: random.Random, line: str) -> str:
-    """The line with damage for which it is passed over."""
-    at = n.randrange(len("2024-05-01T12:00:00Z RX1 c000"), len(line) - 4)
+def broken(n: random.Random, line: str) -> Tuple[str, str]:
+    """The line with some damage, and for what a log with it is refused: nothing, where the line is
+    passed over.
+    """
+    begin = len("2024-05-01T12:00:00Z RX1 c000")
+    at = n.randrange(begin, len(line) - 4)
     return n.choice([
-        line[:at] + "g" + line[at + 1 :],
-        line[:at] + line[at + 1 :],
-        line[:-3] + "\n",
-        line[:10] + " " + line[11:],
-        "#" + line,
-        "\n",
+        (line[:at] + "g" + line[at + 1 :], "Hex"),
+        (line[:at] + line[at + 1 :], "Hex"),
+        (line[:10] + " " + line[11:], "Moment"),
+        ("#" + line, "Moment"),
+        ("\n", "Moment"),
+        (line[:-3] + "\n", ""),
+        (line[: begin + 1] + "3" + line[begin + 2 :], ""),
     ])

@@ -17,12 +17,18 @@ from random_reports import START, STEP, Heard, broken, heard, log_line
 from table_reading import Line, reading
 
 
-def table_of(program: str, lines: List[str]) -> List[Line]:
+def table_of(program: str, lines: List[str], refused: str = "") -> List[Line]:
+    """The rows of a log; or none, where it is refused, with these words at the end."""
     with tempfile.NamedTemporaryFile("w", suffix=".log") as log:
         log.writelines(lines)
         log.flush()
-        text = subprocess.run([program, log.name], stdout=subprocess.PIPE, check=True).stdout.decode("ascii")
-    header, *rows = [line.split("\t") for line in text.split("\n")[:-1]]
+        done = subprocess.run([program, log.name], stdout=subprocess.PIPE, stderr=subprocess.PIPE)
+    said = done.stderr.decode("ascii")
+    if said != (f"aprsbook-table: {log.name}: {refused}\n" if refused else ""):
+        sys.exit(f"table.py: it says {said!r}, and not {refused!r}")
+    if done.returncode != (1 if refused else 0) or (refused and done.stdout):
+        sys.exit(f"table.py: status {done.returncode} where it is refused for {refused!r}")
+    header, *rows = [line.split("\t") for line in done.stdout.decode("ascii").split("\n")[:-1]] or [[]]
     if not all(len(row) == len(header) for row in rows):
         sys.exit("table.py: a line has not as many fields as there are columns")
     return [dict(zip(header, row)) for row in rows]
@@ -41,16 +47,19 @@ def wanted(moment: datetime.datetime, frame: Heard, columns: List[str]) -> Line:
 def differences(program: str, n: random.Random) -> int:
     """How many fields differ in the table of a random log."""
     frames: Dict[str, Heard] = {}
-    lines = []
+    lines, refused = [], ""
     for i in range(n.randrange(1, 20)):
         moment, frame = START + i * STEP, heard(n)
         line = log_line(moment, frame)
-        is_whole = n.random() < 0.9
-        lines.append(line if is_whole else broken(n, line))
-        if is_whole:
+        if n.random() < 0.04:
+            line, reason = broken(n, line)
+            if reason and not refused:
+                refused = f"line {i + 1}: {reason}"
+        else:
             frames[f"{moment:%Y-%m-%dT%H:%M:%S.000Z}"] = frame
-    rows = table_of(program, lines)
-    if {row["first"] for row in rows} != set(frames) or len(rows) != len(frames):
+        lines.append(line)
+    rows = table_of(program, lines, refused)
+    if not refused and ({row["first"] for row in rows} != set(frames) or len(rows) != len(frames)):
         sys.exit(f"table.py: other rows than were heard: {lines}")
     differ = 0
     for row in rows:
