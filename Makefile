@@ -117,14 +117,14 @@ map:
 reading:
 	build/reading.py
 
-# what is tried with the program: 0 to 100 inputs, 200,000 receptions, the README from its top, the old club's book, gaps,
-# outputs that take nothing, what happens to books, folds, the units, and each awk; and with all programs:
-# what they complain of, the history, the tables, the version, the packages, and the same on other
-# machines
+# what is tried with the program: 0 to 100 inputs, 200,000 receptions, tables of random logs, the README
+# from its top, the old club's book, gaps, outputs that take nothing, what happens to books, folds, the
+# units, and each awk; and with all programs: what they complain of, the history, the tables, the version,
+# the packages, and the same on other machines
 TRIED = readme old_book gaps full_output books fold units awks
 TRIED_ALL = complaints history table version packages everywhere
 tried = tests/arguments.py $(PROGRAM) && tests/ample.py $(PROGRAM) && \
-    $(foreach it,$(TRIED),tests/$(it).sh $(PROGRAM) &&) \
+    tests/table.py $(TABLE) 100 && $(foreach it,$(TRIED),tests/$(it).sh $(PROGRAM) &&) \
     $(foreach it,$(TRIED_ALL),tests/$(it).sh $(PROGRAM) $(HISTORY) $(TABLE) &&)
 
 # these, and the recipes that need only a POSIX system, where a program is there that is newer than
@@ -151,6 +151,7 @@ bench: build
 	bench/books.sh $(PROGRAM)
 	bench/library.sh
 	bench/history.sh $(PROGRAM) $(HISTORY)
+	bench/tables.sh $(PROGRAM) $(TABLE)
 
 # the page that reads logs, out/aprsbook.html, and the command for Node, out/aprsbook.mjs, both with the
 # module in them; the command has the programs' texts of help

@@ -14,6 +14,10 @@ use Rattle.aprs_details.specs.Compressed.{knots_of, range_of}
 use Rattle.aprs_details.specs.Details.{details_of, motion_at as motion_of_place, weather_at, altitude_of, range_of_place, mic_e_altitude_of, base91_at}
 use Rattle.aprs_details.specs.Extension.{pair_of, range_at, phg_at}
 use Rattle.aprs_details.specs.Telemetry.{telemetry_of, after_mic}
+use Rattle.aprs_details.specs.First.{first_in}
+use Rattle.aprs_details.specs.Frequency.{frequency_of, tuned_at, khz_at, word_at, after_extension, mic_e_frequency_of}
+use Rattle.aprs_details.specs.Precision.{precision_in, precision_at}
+use Rattle.aprs_details.specs.CommentTelemetry.{two_digits, numbers_in, telemetry_at as comment_at}
 use Rattle.aprs_details.specs.ThirdParty.{passed_of}
 use Rattle.aprs_details.specs.Weather.{places_after, field_at, weather_of_comment, weather_of_cst, weather_with, weather_of_fields, weather_of_info, fields_of_info}
 use Rattle.aprs_table.specs.Table.{table_line}
@@ -57,7 +61,7 @@ line kind from place weather telemetry text more = join_with_byte 9
 
 -- what the steps of reading compute with
 abbrev pub line_of : Row → List ℕ
-unfolding moment_text_in day_after digits encode_with cut_at report_by_form position_of stamped_position_of place_of plain_of compressed_of table_at base91_of angle_of minutes_of numeral_of cut_end object_of stamp_at message_with addressee_and_part_of answer_at text_and_id_of mic_e_or_none destination_of position_mark_of ambiguity_of_spaces longitude_of_octets motion_of feet_of feet_at knots_of range_of details_of motion_of_place weather_at altitude_of range_of_place mic_e_altitude_of base91_at pair_of range_at phg_at telemetry_of after_mic passed_of places_after field_at weather_of_comment weather_of_cst weather_with weather_of_fields weather_of_info fields_of_info told_of passed_told_of
+unfolding moment_text_in day_after digits encode_with cut_at report_by_form position_of stamped_position_of place_of plain_of compressed_of table_at base91_of angle_of minutes_of numeral_of cut_end object_of stamp_at message_with addressee_and_part_of answer_at text_and_id_of mic_e_or_none destination_of position_mark_of ambiguity_of_spaces longitude_of_octets motion_of feet_of feet_at knots_of range_of details_of motion_of_place weather_at altitude_of range_of_place mic_e_altitude_of base91_at pair_of range_at phg_at telemetry_of after_mic passed_of places_after field_at weather_of_comment weather_of_cst weather_with weather_of_fields weather_of_info fields_of_info told_of passed_told_of frequency_of tuned_at khz_at word_at after_extension mic_e_frequency_of precision_in precision_at first_in two_digits numbers_in comment_at
 line_of x = table_line x
 
 -- A plain position, whose station takes no messages, with course, speed and altitude.
@@ -67,7 +71,7 @@ pub plain_positions_have_a_line :
     (codes "N0CALL-7" ∷ codes "APRS" ∷ codes "WIDE1-1*" ∷ [] ∷ [])
     ([] ∷ [] ∷ [] ∷ codes "49.0583333" ∷ codes "-72.0291667" ∷ codes "0" ∷ codes "no" ∷ codes "/>" ∷ []
     ∷ codes "88" ∷ codes "36" ∷ codes "376.1232" ∷ [])
-    (empty 10) (empty 7) ([] ∷ codes "088/036/A=001234 Hi" ∷ []) (codes "no" ∷ empty 6)
+    (empty 10) (empty 7) ([] ∷ codes "088/036/A=001234 Hi" ∷ []) (codes "no" ∷ empty 11)
 unfolding line_of
 plain_positions_have_a_line = refl
 
@@ -77,7 +81,7 @@ pub compressed_positions_have_a_line :
     ≡ line (codes "position") (codes "N0CALL-7" ∷ codes "APRS" ∷ [] ∷ [] ∷ [])
     ([] ∷ [] ∷ [] ∷ codes "49.5000000" ∷ codes "-72.7500039" ∷ [] ∷ codes "yes" ∷ codes "/>" ∷ []
     ∷ codes "88" ∷ codes "36" ∷ [] ∷ [])
-    (empty 10) (empty 7) ([] ∷ codes "on the road" ∷ []) (codes "yes" ∷ codes "current" ∷ empty 5)
+    (empty 10) (empty 7) ([] ∷ codes "on the road" ∷ []) (codes "yes" ∷ codes "current" ∷ empty 10)
 unfolding line_of
 compressed_positions_have_a_line = refl
 
@@ -87,7 +91,7 @@ pub ranges_have_a_column :
     ≡ line (codes "position") (codes "N0CALL-7" ∷ codes "APRS" ∷ [] ∷ [] ∷ [])
     ([] ∷ [] ∷ [] ∷ codes "49.5000000" ∷ codes "-72.7500039" ∷ [] ∷ codes "yes" ∷ codes "/>" ∷ []
     ∷ [] ∷ [] ∷ [] ∷ [])
-    (empty 10) (empty 7) ([] ∷ [] ∷ []) (codes "yes" ∷ codes "old" ∷ codes "20.13" ∷ empty 4)
+    (empty 10) (empty 7) ([] ∷ [] ∷ []) (codes "yes" ∷ codes "old" ∷ codes "20.13" ∷ empty 9)
 unfolding line_of
 ranges_have_a_column = refl
 
@@ -97,7 +101,7 @@ pub mic_e_positions_have_a_line :
     ≡ line (codes "mic-e") (codes "N0CALL-7" ∷ codes "S32UVT" ∷ [] ∷ [] ∷ [])
     ([] ∷ [] ∷ [] ∷ codes "33.4273333" ∷ codes "-112.1290000" ∷ codes "0" ∷ codes "no" ∷ codes "/j" ∷ []
     ∷ codes "251" ∷ codes "20" ∷ codes "61.0000" ∷ [])
-    (empty 10) (empty 7) (codes "returning" ∷ codes "]\"4T}Hi" ∷ []) ([] ∷ codes "current" ∷ empty 5)
+    (empty 10) (empty 7) (codes "returning" ∷ codes "]\"4T}Hi" ∷ []) ([] ∷ codes "current" ∷ empty 10)
 unfolding line_of
 mic_e_positions_have_a_line = refl
 
@@ -107,7 +111,7 @@ pub objects_have_a_line :
     ≡ line (codes "object") (codes "N0CALL-7" ∷ codes "APRS" ∷ [] ∷ [] ∷ [])
     (codes "LEADER" ∷ codes "killed" ∷ [] ∷ codes "49.0583333" ∷ codes "-72.0291667" ∷ codes "0"
     ∷ codes "no" ∷ codes "/>" ∷ codes "092345z" ∷ codes "180" ∷ codes "10" ∷ [] ∷ [])
-    (empty 10) (empty 7) ([] ∷ codes "180/010" ∷ []) (empty 7)
+    (empty 10) (empty 7) ([] ∷ codes "180/010" ∷ []) (empty 12)
 unfolding line_of
 objects_have_a_line = refl
 
@@ -117,7 +121,7 @@ pub frames_that_are_passed_on_have_a_gate :
     ≡ line (codes "message")
     (codes "WU2Z-1" ∷ codes "APRS" ∷ codes "TCPIP,N0CALL-10*" ∷ codes "N0CALL-7" ∷ [])
     (codes "N0CALL-7" ∷ [] ∷ codes "003" ∷ empty 9)
-    (empty 10) (empty 7) ([] ∷ codes "Hello" ∷ []) (empty 7)
+    (empty 10) (empty 7) ([] ∷ codes "Hello" ∷ []) (empty 12)
 unfolding line_of
 frames_that_are_passed_on_have_a_gate = refl
 
@@ -129,7 +133,7 @@ pub weather_has_columns :
     ∷ codes "092345z" ∷ [] ∷ [] ∷ [] ∷ [])
     (codes "220" ∷ codes "4" ∷ codes "5" ∷ codes "-7" ∷ codes "0" ∷ codes "0" ∷ codes "0" ∷ codes "100"
     ∷ codes "9900" ∷ [] ∷ [])
-    (empty 7) ([] ∷ codes "220/004g005t-07r000p000P000h00b09900wRSW" ∷ []) (codes "no" ∷ empty 6)
+    (empty 7) ([] ∷ codes "220/004g005t-07r000p000P000h00b09900wRSW" ∷ []) (codes "no" ∷ empty 11)
 unfolding line_of
 weather_has_columns = refl
 
@@ -139,7 +143,7 @@ pub telemetry_has_columns :
     ≡ line (codes "telemetry") (codes "N0CALL-7" ∷ codes "APRS" ∷ [] ∷ [] ∷ [])
     (empty 12) (empty 10)
     (codes "005" ∷ codes "199" ∷ codes "-1.5" ∷ codes "255" ∷ empty 3)
-    ([] ∷ codes "T#005,199,-1.5,255" ∷ []) (empty 7)
+    ([] ∷ codes "T#005,199,-1.5,255" ∷ []) (empty 12)
 unfolding line_of
 telemetry_has_columns = refl
 
@@ -147,7 +151,7 @@ telemetry_has_columns = refl
 pub raw_frames_have_a_line :
     line_of (heard_once (to (codes "APRS  ")) (codes "$GPRMC,063909,A\\"))
     ≡ line (codes "raw") (codes "N0CALL-7" ∷ codes "APRS" ∷ [] ∷ [] ∷ [])
-    (empty 12) (empty 10) (empty 7) ([] ∷ codes "$GPRMC,063909,A\\x5c" ∷ []) (empty 7)
+    (empty 12) (empty 10) (empty 7) ([] ∷ codes "$GPRMC,063909,A\\x5c" ∷ []) (empty 12)
 unfolding line_of
 raw_frames_have_a_line = refl
 
@@ -158,6 +162,19 @@ pub transmitters_have_columns :
     ([] ∷ [] ∷ [] ∷ codes "49.0583333" ∷ codes "-72.0291667" ∷ codes "0" ∷ codes "no"
     ∷ codes "/#" ∷ empty 4)
     (empty 10) (empty 7) ([] ∷ codes "PHG5132" ∷ [])
-    (codes "yes" ∷ [] ∷ [] ∷ codes "25" ∷ codes "20" ∷ codes "3" ∷ codes "90" ∷ [])
+    (codes "yes" ∷ [] ∷ [] ∷ codes "25" ∷ codes "20" ∷ codes "3" ∷ codes "90" ∷ empty 5)
 unfolding line_of
 transmitters_have_columns = refl
+
+-- A frequency with a tone and an offset, more digits, and telemetry in a comment.
+pub comments_have_columns :
+    line_of (heard_once (to (codes "APRS  ")) (codes "=4903.50N/07201.75W>146.520MHz T100 +060!W12!|ss112233|"))
+    ≡ line (codes "position") (codes "N0CALL-7" ∷ codes "APRS" ∷ [] ∷ [] ∷ [])
+    ([] ∷ [] ∷ [] ∷ codes "49.0583333" ∷ codes "-72.0291667" ∷ codes "0" ∷ codes "no"
+    ∷ codes "/>" ∷ empty 4)
+    (empty 10) (codes "7544" ∷ codes "1472" ∷ codes "1564" ∷ codes "1656" ∷ empty 3)
+    ([] ∷ codes "146.520MHz T100 +060!W12!|ss112233|" ∷ [])
+    (codes "yes" ∷ (empty 6 ++ (codes "146520" ∷ codes "T100" ∷ codes "600" ∷ codes "49.0583500"
+    ∷ codes "-72.0292000" ∷ [])))
+unfolding line_of
+comments_have_columns = refl

@@ -119,6 +119,11 @@ class Row:
     phg_height_ft: Optional[int] = column(number, late=True)
     phg_gain_db: Optional[int] = column(number, late=True)
     phg_direction: Optional[int] = column(number, late=True)
+    frequency_khz: Optional[int] = column(number, late=True)
+    tone: str = column(late=True)
+    offset_khz: Optional[int] = column(number, late=True)
+    finer_latitude: Optional[float] = column(decimal, late=True)
+    finer_longitude: Optional[float] = column(decimal, late=True)
 
 
 @dataclasses.dataclass(frozen=True)
