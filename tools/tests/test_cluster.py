@@ -166,6 +166,14 @@ def test_parts(hosts: Hosts) -> None:
     done = subprocess.run(["aprsbook-fold", "--gap", "30", *parts], env=hosts.env,
                           stdout=subprocess.PIPE)
     assert done.stdout == hosts.expected
+    # others, of the same pieces
+    run = hosts.start(*command("cluster", "--piece", 1, "--fan", 2, "--parts", 2, hosts.address,
+                               "equal", "halves", *hosts.logs))
+    hosts.ends(run, 0)
+    halves = sorted((hosts.folder / "halves").iterdir())
+    done = subprocess.run(["aprsbook-fold", "--gap", "30", *halves], env=hosts.env,
+                          stdout=subprocess.PIPE)
+    assert len(halves) == 2 and done.stdout == hosts.expected
 
 
 def test_a_run_that_was_cut_goes_on(hosts: Hosts) -> None:
@@ -235,8 +243,8 @@ def test_the_disk_is_full(hosts: Hosts) -> None:
         said = hosts.ends(hosts.merge("small/work", "full.book"), 3)
         assert "cannot write" in said or "No space" in said
         assert not (hosts.folder / "full.book").exists()
-        left = [it.name for it in small.rglob("*") if it.name.endswith("-new")]
-        assert not left, "a half file is left"
+        # no half file is left, once other workers have ended too
+        wait_for(lambda: not list(small.rglob("*-new")), "workers", 60)
         # with more room it goes on
         subprocess.run(["mount", "-o", "remount,size=100m", small], check=True)
         hosts.ends(hosts.merge("small/work", "full.book"), 0)

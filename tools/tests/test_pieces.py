@@ -4,10 +4,12 @@ import pathlib
 import tempfile
 from typing import List
 
+import pytest
 from hypothesis import given
 from hypothesis import strategies as st
 
-from aprsbook_tools import building, pieces
+from aprsbook_tools import building, jobs, pieces
+from aprsbook_tools.errors import Fault
 
 LINES = st.lists(st.sampled_from([b"", b"a", b"2024-06-21T18:00:00Z RX1 c0c0", b"APRSBOOK 3 30",
                                   b"x" * 9000, b"\xff\r"]))
@@ -53,6 +55,34 @@ def test_a_log_that_grows_while_it_is_read(tmp_path: pathlib.Path) -> None:
     [(_, it)] = pieces.cut(str(log), 100)
     log.write_bytes(b"one\ntwo\nthree\nfour\n")
     assert b"".join(pieces.blocks(it)) == b"one\ntwo\nthree\n"
+
+
+def test_a_result_is_that_of_its_job(tmp_path: pathlib.Path,
+                                     monkeypatch: pytest.MonkeyPatch) -> None:
+    monkeypatch.setattr(jobs, "version", lambda: "1")
+    monkeypatch.setattr(jobs, "fold", lambda gap, books, into, *bounds: into.write(b"a book"))
+    path = str(tmp_path / "level1.book")
+    job = jobs.Fold(path, 30, ("a.book", "b.book"))
+    jobs.do(job, kept=True)
+    assert jobs.is_whole(job)
+    assert not jobs.is_whole(jobs.Fold(path, 30, ("a.book", "b.book"), "Q1A"))
+    # also as a worker reads it
+    several: List[jobs.Job] = [job, jobs.Merge(path, 30, [pieces.Range("a\udcff.log", 0, 9)]),
+                               jobs.Unpack(path, 30, ["a.log.gz"], 9)]
+    for it in several:
+        (tmp_path / "job").write_text(jobs.text_of(it, "1"))
+        assert jobs.name_of(jobs.read(str(tmp_path / "job"))) == jobs.name_of(it)
+    (tmp_path / "job").write_text(jobs.text_of(job, "2"))
+    with pytest.raises(Fault, match="the job is for 2, and here is 1"):
+        jobs.read(str(tmp_path / "job"))
+    # and is made again where it was damaged
+    for text in b"a booK", b"a boo", b"":
+        pathlib.Path(path).write_bytes(text)
+        assert not jobs.is_whole(job)
+        jobs.do(job, kept=True)
+        assert pathlib.Path(path).read_bytes() == b"a book"
+    pathlib.Path(path + jobs.SUM).write_bytes(b"[6")
+    assert not jobs.is_whole(job)
 
 
 @given(st.integers(0, 300), st.integers(2, 70))

@@ -60,7 +60,8 @@ def bundles(items: Sequence[Input], size: int) -> List[List[Input]]:
 def books_of(engine: Engine, plan: Plan, items: Sequence[Input]) -> Tuple[List[str], List[str]]:
     """The books that are made of inputs, and the inputs that are books as they are."""
     given = [it.path for it in items if not it.packing and is_book(it)]
-    rest = [it for it in items if it.packing or not is_book(it)]
+    known = set(given)
+    rest = [it for it in items if it.path not in known]
     # what is kept is the same however many processors there are
     size = plan.piece if engine.kept else piece_of(rest, plan, engine.width)
     todo = jobs_of(rest, plan, size)
@@ -192,6 +193,7 @@ def parts_of(engine: Engine, plan: Plan, books: List[str], parts: int) -> List[s
     level = 0
     while level == 0 or any(len(it) > 1 for it in lists):
         level += 1
-        lists = level_of(engine, plan, lists, bounds, f"part{level}")
+        # what is kept of other parts has other names
+        lists = level_of(engine, plan, lists, bounds, f"parts{parts}-level{level}")
         bounds = [("", "")] * len(bounds)
     return [it for [it] in lists]

@@ -203,11 +203,12 @@ class Turn:
     def look_for_late(self, workers: Dict[str, int]) -> None:
         """Gives jobs that take too long, or whose worker is gone, to others too."""
         for future, it in list(self.running.items()):
-            if it.number in self.done or self.is_moot(it.number):
-                del self.running[future]  # a frozen worker may end it or not
-            elif it.worker not in workers:
+            is_over = it.number in self.done or self.is_moot(it.number)
+            # what a frozen worker has is waited for: if it ends, the worker is as good as others
+            if it.worker not in workers or is_over and not it.late:
                 del self.running[future]
-                self.failed(it, "the worker is gone")
+                if not is_over:
+                    self.failed(it, "the worker is gone")
             elif not it.late and time.monotonic() - it.since > self.most(it.number):
                 it.late = True
                 self.cluster.strikes[it.worker] = STRIKES

@@ -3,6 +3,7 @@ is kept is there whole, with its checksum beside it, or not at all: so a job tha
 again, and one that is done twice does no harm."""
 import contextlib
 import dataclasses
+import hashlib
 import json
 import os
 import sys
@@ -168,14 +169,20 @@ def sum_of(path: str, most: int = sys.maxsize) -> Tuple[int, int]:
     return size, made
 
 
-def is_whole(path: str) -> bool:
-    """Whether a file is there as it was made."""
+def is_whole(job: Job) -> bool:
+    """Whether the file of a job, and of no other, is there as it was made."""
     try:
-        with open(path + SUM, encoding="ascii") as file:
-            kept = json.load(file)
-        return bool(os.path.getsize(path) == kept[0] and list(sum_of(path)) == kept)
-    except (OSError, ValueError, LookupError, TypeError):
+        with open(job.path + SUM, encoding="ascii") as file:
+            size, made, name = json.load(file)
+        return bool(name == name_of(job) and os.path.getsize(job.path) == size
+                    and sum_of(job.path) == (size, made))
+    except (OSError, ValueError, TypeError):
         return False
+
+
+def name_of(job: Job) -> str:
+    """A name for a job, which no other has."""
+    return hashlib.sha256(text_of(job, "").encode("ascii")).hexdigest()
 
 
 def do(job: Job, kept: bool) -> None:
@@ -186,11 +193,11 @@ def do(job: Job, kept: bool) -> None:
                 job.write(file)
         except OSError as fault:
             raise Fault(f"{job.path}: {fault.strerror or fault}", errors.OUTPUT) from fault
-    elif not is_whole(job.path):
+    elif not is_whole(job):
         with whole.writing(job.path) as new:
             job.write(new.file)
-        text = json.dumps(sum_of(job.path)) + "\n"
-        whole.write(job.path + SUM, text.encode())
+        text = json.dumps([*sum_of(job.path), name_of(job)]) + "\n"
+        whole.write(job.path + SUM, text.encode("ascii"))
 
 
 # ---- folds ----
