@@ -45,7 +45,9 @@ for name in table fold; do
     done
 done
 tools=$(dirname "$here")/tools
-if command -v python3 > /dev/null; then "$tools/old_names.py" "$scratch/bin" > /dev/null; fi
+if [ -x "$tools/old_names.py" ] && command -v python3 > /dev/null; then
+    "$tools/old_names.py" "$scratch/bin" > /dev/null
+fi
 export PATH="$scratch/bin:$tools/bin:$here/recipes:$PATH"
 export RECIPES="$here/recipes" EXAMPLES="$here"
 cp "$here"/evening/*.log "$work"

@@ -171,7 +171,7 @@ def test_a_server_that_ends_in_a_frame_and_comes_back(server: Server) -> None:
 def test_a_server_that_is_away(server: Server) -> None:
     server.server.close()
     with server.start() as process:
-        server.says("refused")
+        server.says("127.0.0.1:%d: Connection refused" % server.place[1])
         server.server = socket.create_server(server.place)
         with server.accept() as connection:
             connection.sendall(FRAME)

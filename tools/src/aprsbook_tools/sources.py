@@ -81,7 +81,11 @@ class Waiting:
             self.during(lambda: time.sleep(seconds))
 
     def connect(self, to: Place) -> socket.socket:
-        result = self.during(lambda: socket.create_connection(to, timeout=PATIENCE))
+        try:
+            result = self.during(lambda: socket.create_connection(to, timeout=PATIENCE))
+        except OSError as fault:
+            host = f"[{to.host}]" if ":" in to.host else to.host
+            raise OSError(fault.errno, f"{host}:{to.port}: {said(fault)}") from fault
         assert isinstance(result, socket.socket)
         return result
 
