@@ -7,17 +7,18 @@ FOLDER has the programs aprsbook, aprsbook-history and aprsbook-table, whose tex
 Needs Python 3.9.
 """
 import base64
+import importlib
 import json
 import pathlib
 import re
 import subprocess
 import sys
-from typing import Dict, List, TypedDict
+from typing import Any, Dict, List, TypedDict
 
 HERE = pathlib.Path(__file__).resolve().parent
 sys.dont_write_bytecode = True
 sys.path.append(str(HERE.parent / "page"))
-import together  # noqa: E402 (it lies in the folder page)
+together: Any = importlib.import_module("together")
 
 PROGRAMS = ["aprsbook", "aprsbook-history", "aprsbook-table"]
 NODE = re.compile(r'^import .* from "node:\w+";\n', re.M)
@@ -64,10 +65,11 @@ def said(program: pathlib.Path, *words: str) -> str:
 
 def helps(folder: pathlib.Path, typed: Dict[str, List[Row]]) -> Dict[str, Dict[str, str]]:
     """The texts of help, by the words that they are on."""
-    found = {}
+    found: Dict[str, Dict[str, str]] = {}
     for program, of in typed.items():
         commands = {it["words"][0] for it in of} if program == "aprsbook" else set()
-        for words in [[], *([it] for it in sorted(commands))]:
+        asked: List[List[str]] = [[], *([it] for it in sorted(commands))]
+        for words in asked:
             found[" ".join([program, *words])] = {
                 "short": said(folder / program, *words, "-h"),
                 "long": said(folder / program, *words, "--help")}
@@ -80,7 +82,8 @@ def whole(module: bytes, folder: pathlib.Path) -> str:
     version = said(folder / "aprsbook", "--version").split()[-1]
     parts = {"rows": typed, "helps": helps(folder, typed), "version": version,
              "module": base64.b64encode(module).decode()}
-    own, imports = together.read, []
+    own = together.read
+    imports: List[str] = []
 
     def read(name: str) -> str:
         text: str = own(name)
@@ -100,5 +103,5 @@ def whole(module: bytes, folder: pathlib.Path) -> str:
 if __name__ == "__main__":
     if len(sys.argv) != 3:
         sys.exit("usage: build/command.py MODULE.wasm FOLDER > aprsbook.mjs")
-    sys.stdout.reconfigure(encoding="utf-8")  # type: ignore[union-attr]
-    sys.stdout.write(whole(pathlib.Path(sys.argv[1]).read_bytes(), pathlib.Path(sys.argv[2])))
+    made = whole(pathlib.Path(sys.argv[1]).read_bytes(), pathlib.Path(sys.argv[2]))
+    sys.stdout.buffer.write(made.encode())

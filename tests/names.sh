@@ -32,7 +32,7 @@ phg_height_ft phg_watts pressure_tenths range_miles speed_knots telemetry_sequen
 wind_mph yes
 of examples: in/ logs/DAY/HILL.log logs/DAY/RECEIVER.log millis.log numerator/denominator own.book page
 slow.log time RX1.own ./rows
-what is made: out out/ out/release aprsbook.html aprsbook.wasm out/aprsbook.html out/aprsbook.wasm crates/aprsbook/out/aprsbook
+what is made: out out/ out/release aprsbook.html aprsbook.wasm out/aprsbook.html out/aprsbook.wasm aprsbook.mjs out/aprsbook.mjs crates/aprsbook/out/aprsbook
 share/aprsbook libaprsbook.a
 libaprsbook.so __heap_base
 how names are written: function.clause Spec Spec.x lines.invariant.reads
