@@ -94,8 +94,10 @@ def test_keys(page, folder):
     page.open(event_page(folder / "keys.html", *EVENING))
     page.wait("document.querySelectorAll('#timeline tbody tr').length > 10")
     left = set("in out fit fill sound play clock colours map find kind since local saves adds ics-open".split())
-    left.add("pick station")
-    for _ in range(40):  # more would leave the page
+    left |= {"pick station", "miles", "place-form", "measure", "edge"}
+    for _ in range(60):  # more would leave the page
+        if not left:
+            break
         page.key("Tab")
         left.discard(page.js("document.activeElement.id || document.activeElement.className "
                              "|| document.activeElement.parentNode.id"))

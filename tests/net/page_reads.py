@@ -57,6 +57,10 @@ def program(words, files=(), given=None):
                           stderr=subprocess.PIPE)
 
 
+# the page has no fine coast, which the tool has where GMT is
+EVENT_PAGE = ["event-page", "--coast", "rough"]
+
+
 def checked(path):
     """How many lines a log has, as check says."""
     return program(["check"], [path]).stdout.decode().splitlines()[-1]
@@ -113,7 +117,7 @@ def test_same(page, _):
         is_(page.js(OF_BOOK % command), base64_of(program([command], EVENING).stdout))
     for table in "rows", "messages":
         is_(page.js(f"aprsbook.page.data.{table}"), program([table], EVENING).stdout.decode())
-    own = subprocess.run(["event-page", *EVENING], stdout=subprocess.PIPE, check=True).stdout
+    own = subprocess.run([*EVENT_PAGE, *EVENING], stdout=subprocess.PIPE, check=True).stdout
     is_(same_page(page, own), True)
     is_(page.js("(aprsbook.page.map.paint(), aprsbook.page.map.marks.length)"),
         page.js("aprsbook.page.net.placed.length"))
@@ -130,7 +134,7 @@ def test_saves(page, folder):
     drop(page, *EVENING)
     page.wait(MADE)
     for name, words in (("net.book", ["aprsbook", "merge"]), ("net.txt", ["aprsbook", "show"]),
-                        ("history.txt", ["aprsbook-history"]), ("event.html", ["event-page"])):
+                        ("history.txt", ["aprsbook-history"]), ("event.html", EVENT_PAGE)):
         button = {"net.book": "book", "net.txt": "listing (text)", "history.txt": "history (text)",
                   "event.html": "page of the event (HTML)"}[name]
         page.js("[...document.querySelectorAll('#saves button')]"
@@ -316,7 +320,7 @@ def test_options(page, _):
     change(page, "gap", "60")
     page.wait(MADE)
     is_(page.js(BOOK), base64_of(program(["merge", "--gap", "60"], EVENING).stdout))
-    own = subprocess.run(["event-page", "--gap", "60", "--title", "Fell race", "--silent", "5",
+    own = subprocess.run([*EVENT_PAGE, "--gap", "60", "--title", "Fell race", "--silent", "5",
                           *EVENING], stdout=subprocess.PIPE, check=True).stdout
     is_(same_page(page, own), True)
     quiet(page)
@@ -342,7 +346,7 @@ def test_brought(page, folder):
     roster = folder / "both.txt"
     roster.write_text("call,name,group,number\nQ1RUN-*,leader,,\nQ1MED-7,second post,,\n"
                       "Q1WX-13,,,\n")
-    own = subprocess.run(["event-page", "--roster", roster, *EVENING], stdout=subprocess.PIPE,
+    own = subprocess.run([*EVENT_PAGE, "--roster", roster, *EVENING], stdout=subprocess.PIPE,
                          check=True).stdout
     is_(same_page(page, own), True)
     quiet(page)

@@ -225,8 +225,8 @@ def test_bad_tiles_are_refused(programs: Programs, tmp_path: pathlib.Path, way: 
     (tmp_path / "tiles/0/0/0.png").write_text("no picture")
     (tmp_path / "torn.mbtiles").write_text("")
     (tmp_path / "page.html").write_text("before")
-    programs.run("page", "-o", "page.html", "--tiles", "tiles" if way[0] == "0" else way, "net.log",
-                 status=1)
+    tiles = "tiles" if way[0] == "0" else way
+    programs.run("page", "--coast", "rough", "-o", "page.html", "--tiles", tiles, "net.log", status=1)
     assert programs.said.startswith("aprs-net: ") and programs.said.count("\n") == 1
     assert (tmp_path / "page.html").read_text() == "before"
 
