@@ -10,7 +10,7 @@ use Rattle.aprs_book.proofs.Addressed.{no_answer_in, no_message_in}
 use Rattle.aprs_book.proofs.Collected.{adds_last}
 use Rattle.aprs_book.proofs.Messages.{spans_passed}
 use Rattle.aprs_book.proofs.GreatestAnswers.{answers_passed, same_answer}
-use Rattle.aprs_book.specs.ReplyAcks.{IsReply}
+use Rattle.aprs_book.specs.ReplyAcks.{IsReplyAckText}
 
 -- an answer reads as one
 answer_reads : (a : Answer) (k : Key) (r : IsOfAnswer a k)
@@ -75,7 +75,7 @@ no_reply_given m (Some x) e s a r = none_is_some m.id x.now r.no_id e
 
 -- the one answer that a message gives by a reply-ack
 pub one_reply : (m : Message) (source from : Call) (id : List ℕ) → from ≡ m.source → m.id ≡ None
-    → IsReply id m.text → ((n : List ℕ) → IsReply n m.text → id ≡ n)
+    → IsReplyAckText id m.text → ((n : List ℕ) → IsReplyAckText n m.text → id ≡ n)
     → SpellsCall source m.addressee → ((c : Call) → SpellsCall c m.addressee → source ≡ c)
     → (a : Answer) → GivesReply a m
     ↔ (Some (record { source = source; addressee = from; id = id; is_reply = true }) ≡ Some a)

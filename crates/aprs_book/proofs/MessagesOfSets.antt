@@ -2,7 +2,7 @@
 use Rattle.aprs_book.proofs.Common.{◌≡◌, ◌∙◌, ℕ, Bool, true, false, inl, inr, List, [], ◌∷◌, Option, Some, None, sym, ap, refl, subst, Call, SpellsCall, Received, heard_cmp, ◌∈◌, Ordered, IsBelow, IsUpTo, Key, Row, row_key, BookOf, LastKnown, IsBest, a_row, best_of_rows, none_of_rows, Value, position, object, item, message, ack, rej, status, raw}
 use Rattle.aprs_laws.specs.Key.{key_of}
 use Rattle.aprs_book.specs.Reports.{report_of}
-use Rattle.aprs_book.specs.ReplyAcks.{IsReply}
+use Rattle.aprs_book.specs.ReplyAcks.{IsReplyAckText}
 use Rattle.aprs_laws.specs.Spans.{IsFirstMoment, IsLastMoment}
 use Rattle.aprs_laws.proofs.Spans.{first_moment_is, last_moment_is}
 use Rattle.aprs_book.specs.declared.lists.message.MessageRow.{MessageRow}
@@ -101,7 +101,7 @@ replies_to m number = record {
           sender = subst (λ (c : Call). SpellsCall c m.addressee) (sym (e.0 ∙ r.2.sender)) f.addressee;
           to = subst (λ (c : Call). SpellsCall c r.0.addressee) f.source r.2.to;
           says = e.1 ∙ ap (message r.0.addressee r.0.text) r.2.no_id;
-          acknowledges = subst (λ (n : List ℕ). IsReply n r.0.text) f.same_id r.2.acknowledges;
+          acknowledges = subst (λ (n : List ℕ). IsReplyAckText n r.0.text) f.same_id r.2.acknowledges;
         })
   ];
 }

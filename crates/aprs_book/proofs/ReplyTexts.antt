@@ -2,7 +2,7 @@
 use Rattle.aprs_book.proofs.Common.{Bool, List, None, Option, Some, [], ap, append_assoc, arith, codes, eqb, false, get_or, leb, length, list_all, list_all-append, length-append, option_map, refl, subst, suc, sym, true, zero, inl, inr, and_from, and_left, and_parts, and_right, eqb-true, le-leb, leb-true, ℕ, ◌&&◌, ◌++◌, ◌<◌, ◌∙◌, ◌∷◌, ◌≡◌, ◌≤◌}
 use Rattle.aprs_report.specs.Bytes.{is_alphanumeric}
 use Rattle.aprs_report.proofs.Steps.{guarded_some}
-use Rattle.aprs_book.specs.ReplyAcks.{IsAckText, IsNumberedText, IsReply, is_number, is_number_or_nothing}
+use Rattle.aprs_book.specs.ReplyAcks.{IsAckText, IsNumberedText, IsReplyAckText, is_message_number, is_number_or_nothing}
 use Rattle.aprs_book.specs.ReplyTexts.{EndsAfter, EndsSo, HoldsOnly, number_at}
 
 -- ---- bytes of worked examples
@@ -144,7 +144,7 @@ BraceAfter text x = EndsAfter 125 text x
 abbrev BraceBefore : List ℕ → List ℕ × List ℕ → Type 0
 BraceBefore text x = EndsAfter 123 text x
 
-not_empty : (number : List ℕ) → is_number number ≡ true
+not_empty : (number : List ℕ) → is_message_number number ≡ true
     → (1 ≤ length number) × (is_number_or_nothing number ≡ true)
 not_empty number e = let d = and_parts (leb 1 (length number)) (is_number_or_nothing number) e in
     (leb-true 1 (length number) d.0, d.1)
@@ -228,20 +228,20 @@ numbered_once text x y h k =
 -- ---- acks
 
 at_found : (bytes number : List ℕ) → number_at bytes ≡ Some number
-    → (bytes ≡ codes "ack" ++ number) × (is_number number ≡ true)
+    → (bytes ≡ codes "ack" ++ number) × (is_message_number number ≡ true)
 unfolding number_at
 at_found [] number e = absurd cc
 at_found (x ∷ []) number e = absurd cc
 at_found (x ∷ y ∷ []) number e = absurd cc
 at_found (x ∷ y ∷ z ∷ bytes) number e =
-    let g = guarded_some (eqb x 97 && eqb y 99 && eqb z 107 && is_number bytes) bytes number e in
-    let d1 = and_parts (eqb x 97 && eqb y 99 && eqb z 107) (is_number bytes) g.0 in
+    let g = guarded_some (eqb x 97 && eqb y 99 && eqb z 107 && is_message_number bytes) bytes number e in
+    let d1 = and_parts (eqb x 97 && eqb y 99 && eqb z 107) (is_message_number bytes) g.0 in
     let d2 = and_parts (eqb x 97 && eqb y 99) (eqb z 107) d1.0 in
     let d3 = and_parts (eqb x 97) (eqb y 99) d2.0 in
     let e1 = eqb-true _ _ d3.0 in let e2 = eqb-true _ _ d3.1 in let e3 = eqb-true _ _ d2.1 in
-    (cc (e1, e2, e3, g.1), ap is_number (sym g.1) ∙ d1.1)
+    (cc (e1, e2, e3, g.1), ap is_message_number (sym g.1) ∙ d1.1)
 
-at_takes : (bytes number : List ℕ) → bytes ≡ codes "ack" ++ number → is_number number ≡ true
+at_takes : (bytes number : List ℕ) → bytes ≡ codes "ack" ++ number → is_message_number number ≡ true
     → number_at bytes ≡ Some number
 unfolding number_at
 at_takes bytes number w h = ap number_at w ∙ rw h refl
@@ -292,7 +292,7 @@ module _ (text : List ℕ) where
   -- ---- what a text acknowledges
 
   abbrev Replies : List ℕ → Type 0
-  Replies number = IsReply number text
+  Replies number = IsReplyAckText number text
 
   pub reply_found : (x : List ℕ × List ℕ) → HoldsOnly (Numbered text) (Some x) → 1 ≤ length x.1
       → HoldsOnly Replies (Some x.1)
@@ -330,14 +330,14 @@ module _ (text : List ℕ) where
   )
 
   -- what follows its number is all that it acknowledges
-  pub one_replied : (x : List ℕ × List ℕ) (n : List ℕ) → Numbered text x → IsReply n text → x.1 ≡ n
+  pub one_replied : (x : List ℕ × List ℕ) (n : List ℕ) → Numbered text x → IsReplyAckText n text → x.1 ≡ n
   one_replied x n t r = elim r.reply [
     | inl s ↦ ap (λ (p : List ℕ × List ℕ). p.1) (numbered_once text x (s.0, n) t s.1)
     | inr a ↦ absurd (no_both x n t a)
   ]
 
   -- an ack acknowledges one number
-  pub one_acknowledged : (k n : List ℕ) → IsAckText k text → IsReply n text → k ≡ n
+  pub one_acknowledged : (k n : List ℕ) → IsAckText k text → IsReplyAckText n text → k ≡ n
   one_acknowledged k n a r = elim r.reply [
     | inl s ↦ absurd (no_both (s.0, n) k s.1 a)
     | inr b ↦ tails_of_ack k n (ap (λ (p : List ℕ × List ℕ). p.0)
@@ -349,7 +349,7 @@ module _ (text : List ℕ) where
 
   -- a text whose braces no number follows acknowledges none
   pub no_reply_of : (number : List ℕ) → IsNumberedText number [] text → (n : List ℕ)
-      → IsReply n text → ⊥
+      → IsReplyAckText n text → ⊥
   no_reply_of number t n r =
       let e : 0 ≡ length n = ap length (one_replied (number, []) n t r) in
       omega (arith, e, (not_empty n r.a_number).0)

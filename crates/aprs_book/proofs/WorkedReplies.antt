@@ -5,7 +5,7 @@ use Rattle.aprs_laws.specs.Key.{key_of}
 use Rattle.aprs_book.specs.declared.lists.reply_ack.ReplyAck.{ReplyAck}
 use Rattle.aprs_book.specs.Reports.{report_of}
 use Rattle.aprs_book.specs.Messages.{HasNumber, IsReplyAckOf, RepliesTo}
-use Rattle.aprs_book.specs.ReplyAcks.{IsAckText, IsNumberedText, IsReply}
+use Rattle.aprs_book.specs.ReplyAcks.{IsAckText, IsNumberedText, IsReplyAckText}
 use Rattle.aprs_book.specs.Examples.{numbered_message, numbered_at, replied_at, other_ack_at}
 use Rattle.aprs_book.proofs.OneReplyAck.{reply_ack_once}
 use Rattle.aprs_book.proofs.ReplyTexts.{no_reply_of}
@@ -66,7 +66,7 @@ no_replies : Replies (key_of (numbered_at 0).frame) → ⊥
 no_replies a =
     let t : codes "Hi{19}" ≡ a.text = ap text_of (sym numbered_reads ∙ a.says) in
     no_reply_of (codes "Hi{19}") (codes "19") hi_is (codes "19")
-    (subst (IsReply (codes "19")) (sym t) a.acknowledges)
+    (subst (IsReplyAckText (codes "19")) (sym t) a.acknowledges)
 
 no_reply_by_id : Replies (key_of (other_ack_at 0).frame) → ⊥
 no_reply_by_id a = let d = sym other_reads ∙ a.says in cc d

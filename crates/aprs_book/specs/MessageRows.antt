@@ -23,7 +23,7 @@ use Rattle.aprs_book.specs.declared.lists.message.MessageState.TheVariants.{Unnu
 use Rattle.aprs_book.specs.declared.lists.reply_ack.ReplyAck.{ReplyAck}
 use Rattle.aprs_book.specs.declared.lists.reply_ack.ReplyAck.TheVariants.{NotAwaited}
 use Rattle.aprs_book.specs.Messages.{HasNumber, Message, ReportsIt, answered_by, message_cmp, message_in, reply_ack_by, shown_message, state_by}
-use Rattle.aprs_book.specs.ReplyAcks.{IsReply}
+use Rattle.aprs_book.specs.ReplyAcks.{IsReplyAckText}
 
 -- Whether information begins with a colon, as that of messages and their answers does.
 abbrev pub begins_with_colon : List ℕ → Bool
@@ -94,7 +94,7 @@ pub record GivesReply (a : Answer) (m : Message) : Type 0 where
   pub sender : m.source ≡ a.addressee
   pub to : SpellsCall a.source m.addressee
   pub no_id : m.id ≡ None
-  pub acknowledges : IsReply a.id m.text
+  pub acknowledges : IsReplyAckText a.id m.text
   pub is_reply : a.is_reply ≡ true
 
 -- A key that gives this answer, by itself or as a message.

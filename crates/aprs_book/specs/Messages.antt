@@ -19,7 +19,7 @@ use Rattle.aprs_book.specs.declared.lists.message.MessageState.{MessageState}
 use Rattle.aprs_book.specs.declared.lists.message.MessageState.TheVariants.{Unnumbered, Unanswered, Acknowledged, Rejected}
 use Rattle.aprs_book.specs.declared.lists.reply_ack.ReplyAck.{ReplyAck}
 use Rattle.aprs_book.specs.declared.lists.reply_ack.ReplyAck.TheVariants.{NotAwaited, Awaited, Heard}
-use Rattle.aprs_book.specs.ReplyAcks.{IsNumberedText, IsReply}
+use Rattle.aprs_book.specs.ReplyAcks.{IsNumberedText, IsReplyAckText}
 use Rattle.aprs_book.specs.Reports.{report_of}
 
 -- The word for what came of a message.
@@ -115,7 +115,7 @@ pub record RepliesTo (m : Message) (number : List ℕ) (k : Key) : Type 0 where
   pub sender : SpellsCall k.source m.addressee
   pub to : SpellsCall m.source addressee
   pub says : report_of k ≡ message addressee text None
-  pub acknowledges : IsReply number text
+  pub acknowledges : IsReplyAckText number text
 
 -- What came of a message's number by its greatest reply-ack, which counts only if it was heard at
 -- the message's first moment or later.

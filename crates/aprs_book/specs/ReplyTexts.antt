@@ -3,7 +3,7 @@ use Rattle.std.specs.Prelude.{◌≡◌, ◌==◌, ◌&&◌, ◌↔◌, ℕ, tru
 use Rattle.std.specs.List.{list_all}
 use Rattle.aprs_report.specs.Bytes.{is_alphanumeric}
 use Rattle.aprs_report.specs.Reader.{value_when}
-use Rattle.aprs_book.specs.ReplyAcks.{is_number, is_number_or_nothing}
+use Rattle.aprs_book.specs.ReplyAcks.{is_message_number, is_number_or_nothing}
 
 -- What P says of anything is that it is what the option holds.
 abbrev pub HoldsOnly : {X : Type 0} → (X → Type 0) → Option X → Type 0
@@ -26,4 +26,4 @@ number_at [] = None
 number_at (x ∷ []) = None
 number_at (x ∷ y ∷ []) = None
 number_at (x ∷ y ∷ z ∷ number) =
-    value_when (x == 97 && y == 99 && z == 107 && is_number number) number
+    value_when (x == 97 && y == 99 && z == 107 && is_message_number number) number

@@ -16,7 +16,7 @@ use Rattle.aprs_details.specs.Extension.{pair_of, range_at, phg_at}
 use Rattle.aprs_details.specs.First.{first_in}
 use Rattle.aprs_details.specs.Frequency.{Tuned, frequency_of, mic_e_frequency_of, tuned_at, khz_at, word_at, after_extension}
 use Rattle.aprs_details.specs.Precision.{precision_of, precision_at, precision_in, finer_place}
-use Rattle.aprs_details.specs.CommentTelemetry.{comment_telemetry_of, telemetry_at, numbers_in, two_digits}
+use Rattle.aprs_details.specs.CommentTelemetry.{comment_telemetry_of, telemetry_at, numbers_in, digit_pair}
 use Rattle.aprs_details.proofs.Examples.{Gives, Misses}
 
 -- ---- frequencies
@@ -184,7 +184,7 @@ measured sequence a1 a2 a3 a4 a5 bits = Some (record {
 })
 
 abbrev pub telemetry_within : List ℕ → Option CommentTelemetry
-unfolding first_in telemetry_at numbers_in two_digits cut_at numeral_of
+unfolding first_in telemetry_at numbers_in digit_pair cut_at numeral_of
 telemetry_within comment = comment_telemetry_of comment
 
 -- Two digits for each number, as the specification shows them, anywhere; the first bit is the lowest.

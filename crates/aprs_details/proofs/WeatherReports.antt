@@ -9,7 +9,7 @@ use Rattle.aprs_details.specs.Value.{known}
 use Rattle.aprs_details.specs.Altitude.{or_else}
 use Rattle.aprs_details.specs.Extension.{IsPair, pair_of}
 use Rattle.aprs_details.specs.Weather.{field_at, places_in, number_of, temperature_of, humidity_of, luminosity_of, bright_of, fahrenheit, percent, direction_in, weather_with, weather_of_fields, weather_after, weather_of_comment, is_underscore, fields_of_info, weather_of_info}
-use Rattle.aprs_details.specs.WeatherReport.{IsField, HasField, here, later, Says, field, missing, percent_in, bright_in, SaysWeather, SaysWind, IsWeatherReport, IsWeatherComment, with_wind, in_fields}
+use Rattle.aprs_details.specs.WeatherReport.{IsWeatherField, HasField, here, later, Says, field, missing, percent_in, bright_in, SaysWeather, SaysWind, IsWeatherReport, IsWeatherComment, with_wind, in_fields}
 use Rattle.aprs_details.proofs.Pairs.{pair_found, pair_takes}
 use Rattle.aprs_details.proofs.Lacking.{then_some}
 use Rattle.aprs_details.proofs.Fields.{field_found, field_takes, walk_stops, walk_goes_on, walk_ends}
@@ -31,7 +31,7 @@ at_field letter places text (Some x) true e is h next =
     let these : x.1 ≡ places = some_is x.1 places (walk_stops letter text x (Some places) e same h) in
     subst (λ (t : List ℕ). HasField letter places t)
     (ap (λ (b : ℕ). b ∷ (places ++ x.2)) (sym same) ∙ ap (λ (l : List ℕ). x.0 ∷ (l ++ x.2)) (sym these) ∙ sym f.whole)
-    (here x.2 (subst (λ (b : ℕ). IsField b places) same (subst (λ (l : List ℕ). IsField x.0 l) these f.field)))
+    (here x.2 (subst (λ (b : ℕ). IsWeatherField b places) same (subst (λ (l : List ℕ). IsWeatherField x.0 l) these f.field)))
 at_field letter places text (Some x) false e is h next =
     let f = field_found text x e in
     let other = eqb-false x.0 letter (is x refl) in

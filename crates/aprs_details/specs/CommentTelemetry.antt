@@ -7,8 +7,8 @@ use Rattle.aprs_details.specs.First.{first_in}
 use Rattle.aprs_details.specs.declared.comment_telemetry.CommentTelemetry.{CommentTelemetry}
 
 -- The number of two digits of base 91 at the start of some bytes, and the rest.
-unfoldable pub two_digits : List ℕ → Option (ℕ × List ℕ)
-two_digits text = do
+unfoldable pub digit_pair : List ℕ → Option (ℕ × List ℕ)
+digit_pair text = do
   digits ← chunk_of 2 text
   n ← numeral_of 91 33 digits.0
   Some (n, digits.1)
@@ -16,7 +16,7 @@ two_digits text = do
 -- The next number, if any bytes are left, and the rest.
 abbrev pub next_number : List ℕ → Option (Option ℕ × List ℕ)
 next_number [] = Some (None, [])
-next_number (b ∷ bs) = two_digits (b ∷ bs) >>= λ x. Some (Some x.0, x.1)
+next_number (b ∷ bs) = digit_pair (b ∷ bs) >>= λ x. Some (Some x.0, x.1)
 
 -- The lowest eight bits of a number, the lowest first, each as 0 or 1.
 abbrev pub eight_bits : ℕ → List ℕ
@@ -30,8 +30,8 @@ bits_of bits = bits >>= λ n. Some (eight_bits n)
 -- What stands between the bars.
 unfoldable pub numbers_in : List ℕ → Option CommentTelemetry
 numbers_in text = do
-  sequence ← two_digits text
-  a1 ← two_digits sequence.1
+  sequence ← digit_pair text
+  a1 ← digit_pair sequence.1
   a2 ← next_number a1.1
   a3 ← next_number a2.1
   a4 ← next_number a3.1

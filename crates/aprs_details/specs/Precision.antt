@@ -29,9 +29,9 @@ tenth_of b = if is_space b then Some 0 else value_when (is_digit b) (b - 48)
 abbrev pub ninety_first_of : ℕ → Option ℕ
 ninety_first_of b = if is_space b then Some 0 else value_when (is_base91 b) (b - 33)
 
-abbrev pub part_of : Scale → ℕ → Option ℕ
-part_of Tenths b = tenth_of b
-part_of NinetyFirsts b = ninety_first_of b
+abbrev pub scaled_digit : Scale → ℕ → Option ℕ
+scaled_digit Tenths b = tenth_of b
+scaled_digit NinetyFirsts b = ninety_first_of b
 
 -- The bytes at the ends of five are exclamation marks.
 abbrev pub are_marks : List ℕ → Bool
@@ -42,8 +42,8 @@ are_marks field = slice_index field 0 == 33 && slice_index field 4 == 33
 unfoldable pub precision_in : List ℕ → Option Precision
 precision_in field = do
   scale ← scale_of (slice_index field 1)
-  latitude ← part_of scale (slice_index field 2)
-  longitude ← part_of scale (slice_index field 3)
+  latitude ← scaled_digit scale (slice_index field 2)
+  longitude ← scaled_digit scale (slice_index field 3)
   value_when (are_marks field) (record {
     datum = slice_index field 1;
     scale = scale;

@@ -11,15 +11,15 @@ use Rattle.aprs_details.specs.Extension.{IsPair}
 use Rattle.aprs_details.specs.Weather.{width_of, fits_letter, fahrenheit, percent, direction_in}
 
 -- The letter has so many places, and these may stand in them.
-pub record IsField (letter : ℕ) (places : List ℕ) : Type 0 where
+pub record IsWeatherField (letter : ℕ) (places : List ℕ) : Type 0 where
   pub width : width_of letter ≡ Some (length places)
   pub fits : fits_letter letter places ≡ true
 
 -- The text begins with fields, and the first of this letter has these places: it stands here, or
 -- after a field of another letter.
 pub data HasField (letter : ℕ) (places : List ℕ) : List ℕ → Type 0 where
-  here : (rest : List ℕ) → IsField letter places → HasField letter places (letter ∷ (places ++ rest))
-  later : (other : ℕ) (others rest : List ℕ) → IsField other others → (other ≡ letter → ⊥) →
+  here : (rest : List ℕ) → IsWeatherField letter places → HasField letter places (letter ∷ (places ++ rest))
+  later : (other : ℕ) (others rest : List ℕ) → IsWeatherField other others → (other ≡ letter → ⊥) →
       HasField letter places rest → HasField letter places (other ∷ (others ++ rest))
 
 -- The text says this value by a letter: that of the places in its first field; or none, if it has no

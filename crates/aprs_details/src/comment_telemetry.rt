@@ -29,9 +29,9 @@ pub struct CommentTelemetry {
 }
 
 /// The number of two digits of base 91 at the start of some bytes, and the rest.
-#[tactic(auto, unfolding(crate::specs::CommentTelemetry::two_digits))]
-fn two_digits(text: &[u8]) -> Option<(u32, &[u8])>
-    ensures { option_map (λ x. (x.0, x.1.now)) result ≡ Spec.two_digits text.now }
+#[tactic(auto, unfolding(crate::specs::CommentTelemetry::digit_pair))]
+fn digit_pair(text: &[u8]) -> Option<(u32, &[u8])>
+    ensures { option_map (λ x. (x.0, x.1.now)) result ≡ Spec.digit_pair text.now }
 {
     let (digits, rest) = text.split_first_chunk::<2>()?;
     let n = two_base91(digits)?;
@@ -45,7 +45,7 @@ fn next_number(text: &[u8]) -> Option<(Option<u32>, &[u8])>
     if text.is_empty() {
         return Some((None, text));
     }
-    let (n, rest) = two_digits(text)?;
+    let (n, rest) = digit_pair(text)?;
     Some((Some(n), rest))
 }
 
@@ -78,8 +78,8 @@ fn bits(n: Option<u32>) -> Option<[u8; 8]>
 fn numbers_in(text: &[u8]) -> Option<CommentTelemetry>
     ensures { result ≡ Spec.numbers_in text.now }
 {
-    let (sequence, rest) = two_digits(text)?;
-    let (a1, rest) = two_digits(rest)?;
+    let (sequence, rest) = digit_pair(text)?;
+    let (a1, rest) = digit_pair(rest)?;
     let (a2, rest) = next_number(rest)?;
     let (a3, rest) = next_number(rest)?;
     let (a4, rest) = next_number(rest)?;

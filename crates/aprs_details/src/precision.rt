@@ -65,7 +65,7 @@ fn ninety_first(byte: u8) -> Option<u8>
 
 /// The number of a digit.
 fn part(scale: Scale, byte: u8) -> Option<u8>
-    ensures { result ≡ Spec.part_of scale byte }
+    ensures { result ≡ Spec.scaled_digit scale byte }
 {
     match scale {
         Scale::Tenths => tenth(byte),

@@ -17,7 +17,7 @@ use Rattle.aprs_details.specs.Telemetry.{telemetry_of, after_mic}
 use Rattle.aprs_details.specs.First.{first_in}
 use Rattle.aprs_details.specs.Frequency.{frequency_of, tuned_at, khz_at, word_at, after_extension, mic_e_frequency_of}
 use Rattle.aprs_details.specs.Precision.{precision_in, precision_at}
-use Rattle.aprs_details.specs.CommentTelemetry.{two_digits, numbers_in, telemetry_at as comment_at}
+use Rattle.aprs_details.specs.CommentTelemetry.{digit_pair, numbers_in, telemetry_at as comment_at}
 use Rattle.aprs_details.specs.ThirdParty.{passed_of}
 use Rattle.aprs_details.specs.Weather.{places_after, field_at, weather_of_comment, weather_of_cst, weather_with, weather_of_fields, weather_of_info, fields_of_info}
 use Rattle.aprs_table.specs.Table.{table_line}
@@ -61,7 +61,7 @@ line kind from place weather telemetry text more = join_with_byte 9
 
 -- what the steps of reading compute with
 abbrev pub line_of : Row → List ℕ
-unfolding moment_text_in day_after digits encode_with cut_at report_by_form position_of stamped_position_of place_of plain_of compressed_of table_at base91_of angle_of minutes_of numeral_of cut_end object_of stamp_at message_with addressee_and_part_of answer_at text_and_id_of mic_e_or_none destination_of position_mark_of ambiguity_of_spaces longitude_of_octets motion_of feet_of feet_at knots_of range_of details_of motion_of_place weather_at altitude_of range_of_place mic_e_altitude_of base91_at pair_of range_at phg_at telemetry_of after_mic passed_of places_after field_at weather_of_comment weather_of_cst weather_with weather_of_fields weather_of_info fields_of_info told_of passed_told_of frequency_of tuned_at khz_at word_at after_extension mic_e_frequency_of precision_in precision_at first_in two_digits numbers_in comment_at
+unfolding moment_text_in day_after digits encode_with cut_at report_by_form position_of stamped_position_of place_of plain_of compressed_of table_at base91_of angle_of minutes_of numeral_of cut_end object_of stamp_at message_with addressee_and_part_of answer_at text_and_id_of mic_e_or_none destination_of position_mark_of ambiguity_of_spaces longitude_of_octets motion_of feet_of feet_at knots_of range_of details_of motion_of_place weather_at altitude_of range_of_place mic_e_altitude_of base91_at pair_of range_at phg_at telemetry_of after_mic passed_of places_after field_at weather_of_comment weather_of_cst weather_with weather_of_fields weather_of_info fields_of_info told_of passed_told_of frequency_of tuned_at khz_at word_at after_extension mic_e_frequency_of precision_in precision_at first_in digit_pair numbers_in comment_at
 line_of x = table_line x
 
 -- A plain position, whose station takes no messages, with course, speed and altitude.

@@ -3,7 +3,7 @@ ghost use Rattle.std.specs.Prelude.{◌≡◌, [], ◌∷◌, Some, None, codes}
 ghost use Rattle.aprs_laws.specs.Examples.{key_by};
 ghost use Rattle.aprs_book.specs.declared.lists.reply_ack.ReplyAck.TheVariants.{NotAwaited, Awaited, Heard};
 ghost use Rattle.aprs_book.specs.Messages as Spec;
-ghost use Rattle.aprs_book.specs.ReplyAcks.{IsAckText, IsNumberedText, IsReply};
+ghost use Rattle.aprs_book.specs.ReplyAcks.{IsAckText, IsNumberedText, IsReplyAckText};
 ghost use Rattle.aprs_book.specs.Examples.{message_by, hi_message, one, asked_at, numbered_message, numbered_at, replied_at, other_ack_at};
 
 /// A text ends with a number of one or two letters or digits between braces, and with what it
@@ -33,10 +33,10 @@ pub fn acks_have_a_brace()
 
 /// A text acknowledges the number after its own, and an ack the number before the brace.
 pub fn texts_reply_to_one_number()
-    ensures text { IsReply (codes "19") (codes "Yes{20}19") }
-    ensures ack { IsReply (codes "20") (codes "ack20}19") }
-    ensures misses_own { IsReply (codes "20") (codes "Yes{20}19") → ⊥ }
-    ensures misses_nothing { IsReply [] (codes "Yes{20}") → ⊥ }
+    ensures text { IsReplyAckText (codes "19") (codes "Yes{20}19") }
+    ensures ack { IsReplyAckText (codes "20") (codes "ack20}19") }
+    ensures misses_own { IsReplyAckText (codes "20") (codes "Yes{20}19") → ⊥ }
+    ensures misses_nothing { IsReplyAckText [] (codes "Yes{20}") → ⊥ }
 {}
 
 /// A message has the number in its text, unless it has an id.

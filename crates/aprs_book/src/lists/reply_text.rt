@@ -3,7 +3,7 @@ ghost use Rattle.std.specs.Prelude.{◌≡◌, ◌<◌, ℕ, List, false};
 ghost use Rattle.std.specs.Option.{option_map};
 ghost use Rattle.std.specs.List.{list_all};
 ghost use Rattle.aprs_report.specs.Bytes.{is_alphanumeric};
-ghost use Rattle.aprs_book.specs.ReplyAcks.{IsNumberedText, IsAckText, IsReply, is_number};
+ghost use Rattle.aprs_book.specs.ReplyAcks.{IsNumberedText, IsAckText, IsReplyAckText, is_message_number};
 ghost use Rattle.aprs_book.specs.ReplyTexts as Spec;
 
 /// The number that a text has for reply-acks, or `None` where it has none.
@@ -18,7 +18,7 @@ pub(crate) fn number_in(text: &[u8]) -> Option<&[u8]>
 
 /// The number that a text acknowledges by a reply-ack, or `None` where it acknowledges none.
 pub(crate) fn acknowledged_in(text: &[u8]) -> Option<&[u8]>
-    ensures { Spec.HoldsOnly (λ (number : List ℕ). IsReply number text.now)
+    ensures { Spec.HoldsOnly (λ (number : List ℕ). IsReplyAckText number text.now)
         (option_map (λ x. x.now) result) }
 {
     match numbers_in(text) {
@@ -65,7 +65,7 @@ fn number_at(bytes: &[u8]) -> Option<&[u8]>
 
 /// Whether the bytes are a number: one or two letters or digits.
 fn can_be_number(bytes: &[u8]) -> bool
-    ensures { result ≡ is_number bytes.now }
+    ensures { result ≡ is_message_number bytes.now }
 {
     1 <= bytes.len() && bytes.len() <= 2 && all_alphanumeric(bytes)
 }

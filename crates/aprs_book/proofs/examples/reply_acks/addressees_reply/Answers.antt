@@ -1,6 +1,6 @@
 use Rattle.aprs_book.proofs.Common.{◌≡◌, ◌∙◌, ℕ, List, [], codes, refl, sym, subst, ap, arith, inl, inr, Value, message}
 use Rattle.aprs_report.specs.Reader.{report_by_form, message_with, addressee_and_part_of, answer_at, text_and_id_of, cut_end}
-use Rattle.aprs_book.specs.ReplyAcks.{IsReply}
+use Rattle.aprs_book.specs.ReplyAcks.{IsReplyAckText}
 use Rattle.aprs_book.proofs.ReplyTexts.{byte_at, one_acknowledged}
 use Rattle.aprs_book.proofs.Worked.{seven_text, eight_text}
 use Rattle.aprs_book.proofs.WorkedReplies.{ack_is, yes_is}
@@ -40,7 +40,7 @@ returns c = record {
       let n : 50 ≡ 49 = ap (byte_at 0)
       (one_acknowledged (codes "ack20}") (codes "20") (codes "19")
       (record { acknowledged = []; a_number = refl; a_number_or_nothing = refl; whole = refl })
-      (subst (IsReply (codes "19")) (sym t) a.acknowledges)) in
+      (subst (IsReplyAckText (codes "19")) (sym t) a.acknowledges)) in
       omega (arith, n);
   misses_id = λ a. let d = a.says in cc d;
   misses_sender = λ a.
