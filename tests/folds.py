@@ -117,13 +117,16 @@ def compare(program: str, fold: str, chance: random.Random, folder: Path) -> str
         path = folder / f"{number}.book"
         path.write_bytes(older(chance, made.out, gap, whole))
         paths.append(str(path))
-    if chance.random() < 0.4:
+    is_damaged = chance.random() < 0.4
+    if is_damaged:
         path = Path(chance.choice(paths))
         path.write_bytes(damaged(chance, path.read_bytes()))
         # an empty file and a log are taken by a merge alone
         if not path.read_bytes().startswith(b"APRSBOOK"):
             return ""
-    asked = ["--gap", str(gap if chance.random() < 0.95 else 31)]
+    # of two faults a merge finds the one in the first file, and a fold one in a header
+    is_other = chance.random() < 0.05 and not is_damaged
+    asked = ["--gap", str(31 if is_other else gap)]
     merged, folded = run(program, "merge", *asked, *paths), run(fold, *asked, *paths)
     if judged(merged) != judged(folded):
         return f"merge {judged(merged)}, fold {judged(folded)}"
