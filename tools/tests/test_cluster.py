@@ -114,7 +114,7 @@ class Hosts:
         """What a run said, which ends so."""
         got: Any = "it hangs"
         try:
-            got = run.wait(120)
+            got = run.wait(300)
         except subprocess.TimeoutExpired:
             pass
         said = self.said_of(self.started.index(run)).read_text()
