@@ -22,7 +22,7 @@ SLOWEST = 1 << 22  # bytes a second of a job, as long as none has told better
 SMALL = 1 << 24  # bytes: a smaller job tells nothing of larger ones
 LATER = 4  # times the longest: what takes longer is late
 ANSWER = 5  # seconds to get an answer that a worker holds
-CONNECT = 10  # seconds to find the scheduler
+CONNECT = 20  # seconds to find the scheduler
 GONE = 256  # where a program's status stands, if its worker is gone
 
 
