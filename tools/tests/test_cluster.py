@@ -97,13 +97,21 @@ class Hosts:
 
     def man(self, count: int) -> None:
         """There are so many workers."""
-        self.workers += [self.worker() for _ in range(count - len(self.workers))]
+        new = [self.worker() for _ in range(count - len(self.workers))]
+        self.workers += new
+        for it in new:
+            self.is_registered(it)
 
     def worker(self, **more: str) -> "subprocess.Popen[bytes]":
         folder = tempfile.mkdtemp(dir=self.folder)
         return self.start(WORKER, self.address, "--host", "127.0.0.1", "--nthreads", 1,
                           "--no-nanny", "--no-dashboard", "--memory-limit", 0,
                           "--local-directory", folder, **more)
+
+    def is_registered(self, worker: "subprocess.Popen[bytes]") -> None:
+        """Waits until the scheduler knows a worker."""
+        said = self.said_of(self.started.index(worker))
+        wait_for(lambda: b"Registered to" in said.read_bytes(), "a worker", 180)
 
     def merge(self, work: str, book: str, *given: str,
               patience: int = 20) -> "subprocess.Popen[bytes]":
@@ -114,7 +122,7 @@ class Hosts:
         """What a run said, which ends so."""
         got: Any = "it hangs"
         try:
-            got = run.wait(120)
+            got = run.wait(300)
         except subprocess.TimeoutExpired:
             pass
         said = self.said_of(self.started.index(run)).read_text()
@@ -227,7 +235,7 @@ def test_one_worker_fails_at_all_it_does(hosts: Hosts) -> None:
         "echo 'aprsbook: cannot write' >&2\nexit 3\n" % (hosts.bin / "aprsbook"))
     (bad / "aprsbook").chmod(0o755)
     hosts.workers.append(hosts.worker(PATH=f"{bad}{os.pathsep}{hosts.env['PATH']}"))
-    time.sleep(3)
+    hosts.is_registered(hosts.workers[-1])
     hosts.ends(hosts.merge("bad", "bad.book"), 0)
     hosts.is_book("bad.book")
     hosts.workers.pop().kill()
@@ -254,7 +262,7 @@ def test_the_disk_is_full(hosts: Hosts) -> None:
 
 
 def test_the_scheduler_is_killed(hosts: Hosts) -> None:
-    run = hosts.merge("boss", "boss.book")
+    run = hosts.merge("boss", "boss.book", patience=180)
     hosts.halfway("boss")
     # workers end by themselves, after a while; who supervises them starts them again
     for it in [hosts.scheduler, *hosts.workers]:

@@ -22,7 +22,7 @@ SLOWEST = 1 << 22  # bytes a second of a job, as long as none has told better
 SMALL = 1 << 24  # bytes: a smaller job tells nothing of larger ones
 LATER = 4  # times the longest: what takes longer is late
 ANSWER = 5  # seconds to get an answer that a worker holds
-CONNECT = 10  # seconds to find the scheduler
+CONNECT = 20  # seconds to find the scheduler
 GONE = 256  # where a program's status stands, if its worker is gone
 
 
@@ -55,6 +55,7 @@ class Cluster(Engine):
         self.by = jobs.version()
         self.strikes: Dict[str, int] = {}
         self.slowest = 1 / SLOWEST  # seconds a byte
+        self.longest = 0.0  # seconds of a small job
         logging.disable(logging.CRITICAL)  # pages of how a connection was lost
 
     def do(self, title: str, todo: Sequence[Job], passed: Optional[Passed] = None) -> None:
@@ -124,7 +125,8 @@ class Turn:
             self.hand_out(client, workers)
             if any(not it.late for it in self.running.values()):
                 manned = time.monotonic()
-            elif time.monotonic() - manned > self.cluster.patience:
+            # those that are late may only be slow
+            elif time.monotonic() - manned > self.cluster.patience * (10 if workers else 1):
                 why = "no worker answers" if workers else "the scheduler has no workers"
                 raise Fault(f"{self.cluster.address}: {why}", errors.OUTPUT)
             self.news.wait(1)
@@ -175,9 +177,11 @@ class Turn:
 
     def note_time(self, it: Running) -> None:
         """How long a job took says how long others may take."""
-        if not it.late:
-            took = (time.monotonic() - it.since) / max(SMALL, self.sizes[it.number])
-            self.cluster.slowest = max(self.cluster.slowest, took)
+        took, size = time.monotonic() - it.since, self.sizes[it.number]
+        if size < SMALL:
+            self.cluster.longest = max(self.cluster.longest, took)
+        elif not it.late:
+            self.cluster.slowest = max(self.cluster.slowest, took / size)
 
     def answer(self, future: Any) -> Tuple[int, str]:
         """The status of a job, and what it said."""
@@ -216,4 +220,6 @@ class Turn:
 
     def most(self, number: int) -> float:
         """How many seconds a job may take."""
-        return self.cluster.patience + LATER * self.cluster.slowest * self.sizes[number]
+        cluster = self.cluster
+        by_size = cluster.slowest * self.sizes[number]
+        return cluster.patience + LATER * max(cluster.longest, by_size)
