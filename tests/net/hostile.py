@@ -1,6 +1,11 @@
 """A log, a course and a title full of texts that would like to be more than text, for the tests of
 event-page."""
 import datetime
+import pathlib
+import sys
+
+sys.path.append(str(pathlib.Path(__file__).resolve().parents[2] / "tools/src"))
+from aprsbook_tools.table import is_readable  # noqa: E402
 
 TITLE = "</title><script>window.ran=1</script>"
 TEXTS = [
@@ -58,6 +63,6 @@ def course():
 
 
 def shown(text):
-    """How the page shows a text: what can't be printed stays in hexadecimal, after a backslash."""
-    return "".join(it if it.isprintable() else "".join(f"\\x{octet:02x}" for octet in it.encode())
+    """How the page shows a text: what can't be read stays in hexadecimal, after a backslash."""
+    return "".join(it if is_readable(it) else "".join(f"\\x{octet:02x}" for octet in it.encode())
                    for it in text)

@@ -74,7 +74,7 @@ def test_hostile(page, folder):
     for text in hostile.TEXTS:
         # a comment, a status and a message
         is_(said.count(hostile.shown(text)), 3)
-    is_(said.count("caf\u00e9 \u00ff\\x80"), 1)
+    is_(said.count("caf\\xe9 \\xff\\x80"), 1)
     is_(page.js("aprsbook.page.map.things.length"), len(hostile.TEXTS) + 1 + 2 * len(hostile.NAMES))
     is_(page.js("aprsbook.page.bases[0].points[0].name"), hostile.TEXTS[0])
     page.js("document.querySelectorAll('.pick, th button').forEach(it => "
