@@ -83,8 +83,8 @@ words:
 
 # the parts of the page that need no browser, their types, and that a bundler reads them too, each
 # where its tool is there; the types of each module are strict, but for those of LOOSE
-LOOSE = alive begin clocks command dom drop event exports fans follow form frames host lists map messages \
-    net steps symbols tables timeline words worker
+LOOSE = alive begin clocks dom drop event exports follow host lists map messages net steps symbols \
+    tables timeline words worker
 page-tests:
 	@mkdir -p out
 	@if command -v node > /dev/null; then node --test tests/page/*.test.js > out/page-tests.txt || \

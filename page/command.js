@@ -275,7 +275,7 @@ function work(program, words, parts) {
     say("bad capture options");
     return STATUS.words;
   }
-  const isTaken = write(1, got.bytes);
+  const isTaken = write(1, got.bytes || new Uint8Array());
   if (got.status === STATUS.input) {
     const line = /^[A-Z]/.test(got.fault) ? `line ${got.line}: ` : "";
     say(`${job.paths[got.input] ?? "standard input"}: ${line}${got.fault}`);

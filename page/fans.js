@@ -103,12 +103,10 @@ export class Fan {
   spread(marks, { x, y }) {
     const spots = spotsAround(this.keys.length);
     const by = new Map(this.keys.map((key, n) => [key, spots[n]]));
-    const mine = marks.filter(it => by.has(it.thing.key));
-    for (const it of mine) {
+    return marks.filter(it => {
       const step = by.get(it.thing.key);
-      it.x = x + step.x;
-      it.y = y + step.y;
-    }
-    return mine;
+      if (step) Object.assign(it, { x: x + step.x, y: y + step.y });
+      return step !== undefined;
+    });
   }
 }

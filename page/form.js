@@ -59,7 +59,10 @@ export class Form {
     byId("own-told").textContent = isKept ? ""
       : "This browser keeps no lines: save the page of the event, which has them.";
   }
-  /** What another window of this net has changed. @param {string | null} key */
+  /**
+   * What another window of this net has changed.
+   * @param {string | null} key
+   */
   hear(key) {
     const { own, data } = this.page;
     if (key !== own.key || !data) return;

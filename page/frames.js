@@ -40,18 +40,23 @@ export const restOf = it => Object.entries(it)
   .filter(([name, value]) => value && !SHOWN.has(name))
   .map(([name, value]) => `${name} ${said(value)}`).join(", ");
 
-/** A list of rows, by their numbers. */
+/**
+ * A list of rows, by their numbers.
+ * @param {HTMLElement} box
+ * @param {{ rows: Rows }} view
+ */
 export function frameList(box, view) {
-  const record = k => view.rows.record(k);
-  const row = k => {
+  const record = (/** @type {number} */ k) => view.rows.record(k);
+  const row = (/** @type {number} */ k) => {
     const it = record(k), rest = restOf(it);
     return make("tr", {}, timeCell(view.rows.first[k]),
       cell("by", it.receivers.replaceAll(",", ", ")), cell("way", letters(said(wayOf(it)))), cell("kind", it.kind),
       cell("about", air(it.text), " ", rest ? make("small", {}, letters(rest)) : null));
   };
   return new List(box, { id: "frames", caption: "transmissions", row, none: "nothing", columns: [
-    { title: "heard", number: true, value: k => view.rows.first[k] },
-    { title: "by", value: k => record(k).receivers },
-    { title: "way", value: k => wayOf(record(k)) }, { title: "kind", value: k => record(k).kind },
-    { title: "text, and what it says", value: k => record(k).text }] });
+    { title: "heard", number: true, value: (/** @type {number} */ k) => view.rows.first[k] },
+    { title: "by", value: (/** @type {number} */ k) => record(k).receivers },
+    { title: "way", value: (/** @type {number} */ k) => wayOf(record(k)) },
+    { title: "kind", value: (/** @type {number} */ k) => record(k).kind },
+    { title: "text, and what it says", value: (/** @type {number} */ k) => record(k).text }] });
 }
