@@ -163,20 +163,30 @@ function fill(pen, view, rings, strokes) {
   pen.fill("evenodd");
 }
 /**
- * A ring as a path; places that are nearer than a pixel are one.
+ * On which side of the map a pixel lies; 0 on it, or near it.
+ * @param {Projection} view
+ */
+const sideOf = ({ x, y, width, height }) =>
+  x < -9 ? 1 : x > width + 9 ? 2 : y < -9 ? 3 : y > height + 9 ? 4 : 0;
+/**
+ * A ring as a path; places that are nearer than a pixel are one, and so are those that follow one
+ * another on one side of the map.
  * @param {CanvasRenderingContext2D} pen
  * @param {Projection} view
  * @param {Float32Array} line
  */
 function trace(pen, view, line) {
-  let lastX = 0, lastY = 0;
+  let lastX = NaN, lastY = NaN, lastSide = 0;
   for (let k = 0; 3 * k < line.length; k++) {
     view.put(line, k);
-    if (k && Math.abs(view.x - lastX) + Math.abs(view.y - lastY) < 0.7) continue;
-    [lastX, lastY] = [view.x, view.y];
-    if (k) pen.lineTo(lastX, lastY);
-    else pen.moveTo(lastX, lastY);
+    const { x, y } = view, side = sideOf(view), isBeside = side > 0 && side === lastSide;
+    if (!isBeside && lastSide) pen.lineTo(lastX, lastY); // where it leaves that side
+    if (!isBeside && Math.abs(x - lastX) + Math.abs(y - lastY) < 0.7) continue;
+    [lastX, lastY, lastSide] = [x, y, side];
+    if (!k) pen.moveTo(x, y);
+    else if (!isBeside) pen.lineTo(x, y);
   }
+  if (lastSide) pen.lineTo(lastX, lastY);
   pen.closePath();
 }
 /**

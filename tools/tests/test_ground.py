@@ -55,8 +55,9 @@ def test_coasts_in_parts_are_joined_and_islands_and_lakes_stay() -> None:
     lake = [(100, 60), (120, 60), (120, 90), (100, 90), (100, 60)]
     island = [(10, 10), (30, 10), (30, 30), (10, 30), (10, 10)]
     found = land([*coast, lake, island], (160, 80))
-    for point, wanted in (((90, 80), True), ((110, 70), False), ((20, 20), True), ((40, 80), False)):
-        assert is_within(found, point) == wanted, point
+    dry, wet = [(90, 80), (20, 20)], [(110, 70), (40, 80)]
+    assert all(is_within(found, it) for it in dry)
+    assert not any(is_within(found, it) for it in wet)
 
 
 def test_without_a_coast_all_is_land_or_all_is_water() -> None:
@@ -150,7 +151,7 @@ def test_a_fine_coast_has_land_and_sea_where_they_are() -> None:
     assert len(coasts.packed_within(found, box, 300)) <= 300
 
 
-@pytest.mark.parametrize("script", ["echo 'coast [ERROR]: no data' >&2; exit 1", "echo '>'; exit 2"])
+@pytest.mark.parametrize("script", ["echo 'no data' >&2; exit 1", "echo '>'; exit 2"])
 def test_a_coast_that_gmt_has_not_is_said_and_the_page_made(
     programs: Programs, tmp_path: pathlib.Path, monkeypatch: pytest.MonkeyPatch, script: str
 ) -> None:
@@ -226,7 +227,8 @@ def test_bad_tiles_are_refused(programs: Programs, tmp_path: pathlib.Path, way: 
     (tmp_path / "torn.mbtiles").write_text("")
     (tmp_path / "page.html").write_text("before")
     tiles = "tiles" if way[0] == "0" else way
-    programs.run("page", "--coast", "rough", "-o", "page.html", "--tiles", tiles, "net.log", status=1)
+    words = ["page", "--coast", "rough", "-o", "page.html", "--tiles", tiles]
+    programs.run(*words, "net.log", status=1)
     assert programs.said.startswith("aprs-net: ") and programs.said.count("\n") == 1
     assert (tmp_path / "page.html").read_text() == "before"
 
