@@ -253,9 +253,11 @@ function gotOf(module, job, inputs) {
   const line = job.run === "convert capture" ? 0
     : bytes.reduce((sum, it) => sum + (it === 10 ? 1 : 0), 1);
   if (got.status && got.input < broken) return got;
-  const isWritten = /^(check|convert)/.test(job.run);
-  return { ...got, status: 1, input: broken, line, fault: "Read",
-    bytes: isWritten ? got.bytes : new Uint8Array() };
+  const written = /^(check|convert)/.test(job.run) && got.bytes || new Uint8Array();
+  // a check doesn't end with its sum then
+  const rest = job.run === "check" ? written.lastIndexOf(10, written.length - 2) + 1
+    : written.length;
+  return { ...got, status: 1, input: broken, line, fault: "Read", bytes: written.subarray(0, rest) };
 }
 /**
  * Does what is asked for; gives the exit status.
