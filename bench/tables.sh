@@ -36,7 +36,7 @@ for lines; do
     take_turns merge rows messages stations things
     for run in rows messages stations things; do
         time_row "table of $run of three logs / merge of them" "$lines" 1.4 "$run" merge
-        memory_row "table of $run / merge: peak memory" "$lines" 1.2 "$run" merge
+        memory_row "table of $run / merge: peak memory" "$lines" 1.1 "$run" merge
     done
 done
 echo
