@@ -3,6 +3,7 @@ PREFIX ?= /usr/local
 PROGRAM = crates/aprsbook/out/aprsbook
 HISTORY = crates/aprsbook_history/out/aprsbook_history
 TABLE = crates/aprsbook_table/out/aprsbook_table
+FOLD = crates/aprsbook_fold/out/aprsbook_fold
 
 # the programs that are installed and packed: each has a crate (with _ for -), a manual page and
 # completions of its name
@@ -82,16 +83,13 @@ words:
 	@$(MAKE) --no-print-directory page-tests
 
 # the parts of the page that need no browser, their types, and that a bundler reads them too, each
-# where its tool is there; the types of each module are strict, but for those of LOOSE
-LOOSE = alive begin clocks dom drop event exports follow host lists map messages net steps symbols \
-    tables timeline words worker
+# where its tool is there
 page-tests:
 	@mkdir -p out
 	@if command -v node > /dev/null; then node --test tests/page/*.test.js > out/page-tests.txt || \
 	    { cat out/page-tests.txt; exit 1; }; echo "page: $$(grep -c '^ok' out/page-tests.txt) tests"; \
 	else echo 'left out: the tests of the page (no node is there)'; fi
-	@if command -v tsc > /dev/null; then tsc -p page/jsconfig.json && \
-	    ! tsc --strict -p page/jsconfig.json | grep -v $(LOOSE:%=-e '^page/%.js') -e '^ '; \
+	@if command -v tsc > /dev/null; then tsc -p page/jsconfig.json; \
 	else echo 'left out: the types of the page (no tsc is there)'; fi
 	@if command -v esbuild > /dev/null; then for it in begin reads worker command; do \
 	    esbuild --bundle --platform=node --log-level=error page/$$it.js > /dev/null || exit 1; done; \
@@ -148,7 +146,7 @@ cookbook: build
 
 bench: build
 	bench/run.sh $(PROGRAM)
-	bench/books.sh $(PROGRAM)
+	bench/books.sh $(PROGRAM) $(FOLD)
 	bench/library.sh
 	bench/history.sh $(PROGRAM) $(HISTORY)
 	bench/tables.sh $(PROGRAM) $(TABLE)
@@ -169,6 +167,11 @@ page: wasm build
 cookbook: net
 net: build
 	tests/net/run.sh $(PROGRAM) out/aprsbook.html
+
+# the wrong bodies that were planted beside those of the gate
+planted:
+	build/planted.sh
+.PHONY: planted
 
 # book files that nobody would write by hand: what each takes
 hostile: build

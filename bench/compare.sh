@@ -22,9 +22,9 @@ plain_text() { "$@" plain/text < heard.log; }
 plain_log() { "$@" plain/log < heard.log; }
 plain_capture() { "$@" plain/capture "$receiver" "$moment" < heard.kiss; }
 
-counted_by_check() { check | awk 'END { print $2 + $4 }'; }
-counted_plainly() { plain_hexonly | awk '{ print $1 }'; }
-kind_without_its_word() { kind | cut -d ' ' -f 2-; }
+all_heard() { echo "heard $lines passed 0"; }
+all_read() { plain_hexonly | grep -q "^$lines lines, .* 0 faulty$" && echo "heard $lines passed 0"; }
+kinds_before_text() { text | paste -d ' ' heard.kinds -; }
 stream() { cat heard.kiss; }
 
 lines=$(wc -l < heard.log)
@@ -34,9 +34,10 @@ ratio() {
     time_row "$1" "$lines" "$2" "$3" "$4"
 }
 
-same 'lines of check and hexonly' counted_by_check counted_plainly
+same 'the lines, which are all heard, and those of check' all_heard check
+same 'the lines, which are all heard, and those of hexonly' all_heard all_read
 same 'convert text and plain text' text plain_text
-same 'convert kind without its first word, and convert text' kind_without_its_word text
+same 'convert kind, and the kinds before convert text' kind kinds_before_text
 same 'convert kiss and xxd -r -p' kiss stream
 same 'convert log and plain log' log plain_log
 same 'convert capture and plain capture' capture plain_capture

@@ -3,6 +3,8 @@
 raw. The same words give the same logs.
 
 usage: make_log.py LINES               one log of so many lines, to standard output
+       make_log.py hexadecimal LINES   the hexadecimal of that log alone
+       make_log.py kinds LINES         what each of its frames reports, as aprsbook names it
        make_log.py RECEPTIONS FOLDER   a.log, b.log and c.log of three receivers that hear mostly the
                                        same transmissions, with so many lines in all
        make_log.py one-key ROWS        one log of one transmission after another of the same key, each
@@ -18,6 +20,8 @@ import sys
 START = datetime.datetime(2024, 5, 1)
 STATIONS = [("N%d%s" % (i % 10, chr(65 + i % 26) + chr(65 + i // 26) + "X"), i % 16) for i in range(300)]
 PATHS = [[], [("WIDE1", 1, 7)], [("WIDE1", 1, 7), ("WIDE2", 1, 3)]]
+# what is sent by turns
+KINDS = ["position", "object", "message", "status", "raw"]
 # what share of the transmissions one receiver hears, in the logs of three
 HEARD = 0.9
 
@@ -50,32 +54,48 @@ def information(kind, numbers):
     return b"T#%03d,199,000,255,073,123,01101001" % (minute % 1000)
 
 
+def framed(heard):
+    escaped = heard.replace(b"\xdb", b"\xdb\xdd").replace(b"\xc0", b"\xdb\xdc")
+    return f"c000{escaped.hex()}c0"
+
+
 def line(seconds, receiver, heard):
     at = START + datetime.timedelta(seconds=seconds)
     moment = at.isoformat(timespec="milliseconds" if at.microsecond else "seconds") + "Z"
-    escaped = heard.replace(b"\xdb", b"\xdb\xdd").replace(b"\xc0", b"\xdb\xdc")
-    return f"{moment} {receiver} c000{escaped.hex()}c0\n".encode()
+    return f"{moment} {receiver} {framed(heard)}\n".encode()
 
 
-def write_one_log(count, out):
+def frames(count):
     numbers = random.Random(1)
     for i in range(count):
         source, ssid = numbers.choice(STATIONS)
-        heard = frame(source, ssid, numbers.choice(PATHS), information(i % 5, numbers))
+        yield frame(source, ssid, numbers.choice(PATHS), information(i % len(KINDS), numbers))
+
+
+def write_one_log(count, out):
+    for i, heard in enumerate(frames(count)):
         out.write(line(i // 2, "RX%d" % (i % 3 + 1), heard))
+
+
+def write_hexadecimal(count, out):
+    out.writelines(f"{framed(heard)}\n".encode() for heard in frames(count))
+
+
+def write_kinds(count, out):
+    out.writelines(f"{KINDS[i % len(KINDS)]}\n".encode() for i in range(count))
 
 
 def write_three_logs(count, folder):
     """A third of the stations always sends the same, as a station at home does. A receiver's copy comes
     some seconds later than another's, over a path of its own."""
     numbers = random.Random(2)
-    same = [information(i % 5, numbers) for i in range(len(STATIONS) // 3)]
+    same = [information(i % len(KINDS), numbers) for i in range(len(STATIONS) // 3)]
     logs = {"a": [], "b": [], "c": []}
     left, sent = count, 0
     while left > 0:
         station = numbers.randrange(len(STATIONS))
         source, ssid = STATIONS[station]
-        report = same[station] if station < len(same) else information(sent % 5, numbers)
+        report = same[station] if station < len(same) else information(sent % len(KINDS), numbers)
         for name, log in logs.items():
             if left > 0 and numbers.random() < HEARD:
                 heard = frame(source, ssid, numbers.choice(PATHS), report)
@@ -105,8 +125,9 @@ def write_receivers(count, lines, apart, out):
 
 
 def main():
-    if len(sys.argv) == 3 and sys.argv[1] == "one-key":
-        write_one_key(int(sys.argv[2]), sys.stdout.buffer)
+    writers = {"one-key": write_one_key, "hexadecimal": write_hexadecimal, "kinds": write_kinds}
+    if len(sys.argv) == 3 and sys.argv[1] in writers:
+        writers[sys.argv[1]](int(sys.argv[2]), sys.stdout.buffer)
     elif len(sys.argv) == 4 and sys.argv[1] in ("receivers", "apart"):
         write_receivers(int(sys.argv[2]), int(sys.argv[3]), sys.argv[1] == "apart", sys.stdout.buffer)
     elif len(sys.argv) == 2:

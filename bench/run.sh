@@ -16,13 +16,14 @@ trap 'rm -rf "$work"' EXIT
 cd "$work"
 build_plain "$here"
 python3 "$here/make_log.py" "$lines" > heard.log
-cut -d ' ' -f 3 heard.log > hexadecimal
-xxd -r -p hexadecimal > heard.kiss
+python3 "$here/make_log.py" hexadecimal "$lines" > heard.hex
+python3 "$here/make_log.py" kinds "$lines" > heard.kinds
+xxd -r -p heard.hex > heard.kiss
 
 show_load 'before'
 take_least wc -l heard.log
 wc_time=$least
-take_least xxd -r -p hexadecimal
+take_least xxd -r -p heard.hex
 xxd_time=$least
 echo
 awk -v l="$lines" -v w="$wc_time" -v x="$xxd_time" \

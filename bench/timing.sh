@@ -49,16 +49,18 @@ same() {
     fi
 }
 
-# A table of ratios, of what two runs took. time_row WHAT LINES GOAL RUN YARDSTICK, and memory_row likewise
+# A table of ratios, of what two runs took. time_row WHAT LINES GOAL RUN YARDSTICK, where a GOAL may be -, and
+# memory_row likewise. most_row WHAT LINES KIB RUN: the run's peak memory beside what it may take
 ratio_head() { printf '%-54s %8s %7s %6s  %-7s %s\n' what lines ratio goal '' 'of one / of the other'; }
 ratio_row() {
     awk -v what="$1" -v lines="$2" -v goal="$3" -v a="$4" -v b="$5" -v form="$6" -v size="$7" 'BEGIN {
         printf "%-54s %8d %7.2f %6s  %-7s " form "\n", what, lines, a / b, goal,
-            a / b <= goal ? "ok" : "missed", a / size, b / size
+            goal == "-" ? "" : a / b <= goal ? "ok" : "missed", a / size, b / size
     }'
 }
 time_row() { ratio_row "$1" "$2" "$3" "${time_of[$4]}" "${time_of[$5]}" '%.3f s / %.3f s' 1000000; }
 memory_row() { ratio_row "$1" "$2" "$3" "${peak_of[$4]}" "${peak_of[$5]}" '%.1f MiB / %.1f MiB' 1024; }
+most_row() { ratio_row "$1" "$2" 1.0 "${peak_of[$4]}" "$3" '%.1f MiB / %.1f MiB' 1024; }
 
 # The cores, and how many processes wanted one in the last 1, 5 and 15 minutes.
 show_load() {

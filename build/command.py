@@ -79,7 +79,7 @@ def helps(folder: pathlib.Path, typed: Dict[str, List[Row]]) -> Dict[str, Dict[s
 def whole(module: bytes, folder: pathlib.Path) -> str:
     """The command."""
     typed = rows()
-    version = said(folder / "aprsbook", "--version").split()[-1]
+    version = said(HERE.parent / "packaging" / "version").strip()
     parts = {"rows": typed, "helps": helps(folder, typed), "version": version,
              "module": base64.b64encode(module).decode()}
     own = together.read

@@ -23,6 +23,7 @@ Needs Python 3. Counts lines as statement.py says, and types of the code apart f
 """
 import argparse
 import collections
+import glob
 import os
 import re
 import subprocess
@@ -350,8 +351,8 @@ def counted(facts, what):
 def with_sums(facts, text):
     """A document with its sums as they are now.
 
-    A number right before `<!-- lines: CALL.. -->`, `<!-- definitions: CALL.. -->` or
-    `<!-- names -->` is such a sum, and so are the last two cells of a table's row that has calls
+    A number right before `<!-- lines: CALL.. -->`, `<!-- definitions: CALL.. -->`, `<!-- names -->`
+    or `<!-- edits -->` is such a sum, and so are the last two cells of a table's row that has calls
     in the second cell, below a heading `| .. | read | lines | definitions |`.
     """
 
@@ -359,12 +360,14 @@ def with_sums(facts, text):
         mark, what = match.group(1), match.group(2)
         if mark == "names":
             value = len(ambiguous(facts))
+        elif mark == "edits":
+            value = len(glob.glob("crates/*/must-fail/*.edit"))
         else:
             keys = counted(facts, what.strip(": "))
             value = facts.size(keys) if mark == "lines" else len(keys)
         return f"{number(value)}<!-- {mark}{what}-->"
 
-    text = re.sub(r"[\d,]+<!-- (lines|definitions|names)([^>]*?)-->", sum_of, text)
+    text = re.sub(r"[\d,]+<!-- (lines|definitions|names|edits)([^>]*?)-->", sum_of, text)
     rows, inside = [], False
     for line in text.split("\n"):
         cells = line.split(" | ")

@@ -23,10 +23,10 @@ _aprsbook_fold() {
     local words='' options='' files=1
     COMPREPLY=()
     case $path in
-    ' '*) options='--gap --check --help --version' ;;
+    ' '*) options='--gap --from --until --check --help --version' ;;
     esac
     case $before in
-    --gap) files= ;;
+    --gap | --from | --until) files= ;;
     *) if [[ $word == -* ]]; then words=$options files=; fi ;;
     esac
     if [[ -n $files ]]; then

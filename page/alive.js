@@ -1,8 +1,10 @@
 // @ts-check
 // A page that goes on: it asks for itself again, ages count to now, and it says what it misses.
 
-import { byId, choose, chosen } from "./dom.js";
-import { drawNews, page, show, view } from "./event.js";
+import { byId, choose, chosen, textOf } from "./dom.js";
+import { show } from "./drawing.js";
+import { drawNews } from "./headline.js";
+import { page, view } from "./state.js";
 import { age, fullText } from "./words.js";
 
 export const alive = { asked: Date.now(), touched: 0, away: 0, refused: "" };
@@ -11,7 +13,7 @@ export const alive = { asked: Date.now(), touched: 0, away: 0, refused: "" };
 export function beginAlive() {
   const { live } = page.data, box = byId("live");
   byId("live-label").hidden = false;
-  byId("live-label").lastElementChild.textContent = `load again each ${live} s`;
+  byId("live-label").lastElementChild?.replaceChildren(`load again each ${live} s`);
   for (const kind of ["keydown", "pointerdown", "wheel", "input"])
     addEventListener(kind, () => { alive.touched = Date.now(); }, { passive: true });
   box.checked = chosen.get("live") !== "off";
@@ -31,11 +33,12 @@ async function again() {
     const answer = await fetch(location.pathname + location.search, { cache: "no-store" });
     if (!answer.ok) throw new Error(String(answer.status));
     const tree = new DOMParser().parseFromString(await answer.text(), "text/html");
-    const policy = it => it.querySelector("meta[http-equiv]").content;
+    const policy = (/** @type {Document} */ it) =>
+      it.querySelector("meta[http-equiv]")?.getAttribute("content");
     if (policy(tree) !== policy(document)) return location.reload();
-    const text = tree.getElementById("data").textContent;
+    const text = tree.getElementById("data")?.textContent || "";
     alive.away = 0;
-    if (text !== byId("data").textContent) {
+    if (text !== textOf("data")) {
       byId("data").textContent = text;
       await show(JSON.parse(text));
     }
@@ -48,12 +51,11 @@ async function again() {
 export function tick() {
   if (!page.all) return;
   const now = Date.now() / 1000, quiet = now - page.all.end, words = [];
-  /** @type {NodeListOf<HTMLElement>} */
-  const ages = document.querySelectorAll(".age[data-v]");
-  for (const it of ages)
-    it.textContent = age(now - Number(it.dataset.v));
+  const heard = (/** @type {Element | null} */ it) => Number(it?.getAttribute("data-v"));
+  for (const it of document.querySelectorAll(".age[data-v]"))
+    it.textContent = age(now - heard(it));
   for (const row of byId("things-box").querySelectorAll("tr.station"))
-    row.classList.toggle("silent", now - row.querySelector(".age").dataset.v > view.silent);
+    row.classList.toggle("silent", now - heard(row.querySelector(".age")) > view.silent);
   drawNews();
   // colours of ages go on too
   if (Math.floor(now) % 10 === 0 && page.map.colouring.way === "age") page.map.paintSoon();

@@ -80,7 +80,7 @@ function middleOf(zeros, list) {
  * same text, no receiver in two of them, was one transmission if clocks are wrong.
  * @param {Rows} rows @param {ArrayLike<number>} picks
  * @param {{ names: string[], heard: number }[]} heard the rows of each list of receivers
- * @returns {Generator<undefined, Pair[]>}
+ * @returns {Generator<unknown, Pair[]>}
  */
 export function* pairsOf(rows, picks, heard) {
   const { same, first } = rows, all = new Differences();

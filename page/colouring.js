@@ -1,6 +1,6 @@
 // @ts-check
-// What the colours of marks and tracks mean: each thing's own, its age, its receiver or its kind. And
-// how dense marks are.
+// What the colours of marks and tracks mean: each thing's own, its age, its receiver or its kind.
+// And how dense marks are.
 
 import { count } from "./words.js";
 

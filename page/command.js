@@ -257,7 +257,8 @@ function gotOf(module, job, inputs) {
   // a check doesn't end with its sum then
   const rest = job.run === "check" ? written.lastIndexOf(10, written.length - 2) + 1
     : written.length;
-  return { ...got, status: 1, input: broken, line, fault: "Read", bytes: written.subarray(0, rest) };
+  return { ...got, status: 1, input: broken, line, fault: "Read",
+    bytes: written.subarray(0, rest) };
 }
 /**
  * Does what is asked for; gives the exit status.

@@ -5,6 +5,11 @@
 import { far, inWords } from "./units.js";
 
 /** @typedef {import("./reading.js").Details} Details */
+/**
+ * Digits of the minutes that were left out leave so many metres open to each side.
+ * @type {Record<number, number>}
+ */
+export const OPEN = { 1: 93, 2: 926, 3: 9260, 4: 55560 };
 
 /**
  * Each value of the weather but the wind, in words.

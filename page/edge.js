@@ -60,7 +60,8 @@ export function listenToEdge(edge, map) {
     if (!edge.hasPointerCapture(pointerId)) return;
     const [side] = now(), box = map.getBoundingClientRect();
     const all = edge.closest("main")?.getBoundingClientRect().width || 1;
-    put(side, bounded(side, side === "wide" ? (clientX - box.left) / all * 100 : clientY - box.top));
+    const size = side === "wide" ? (clientX - box.left) / all * 100 : clientY - box.top;
+    put(side, bounded(side, size));
   });
   edge.addEventListener("dblclick", () => put(now()[0], null));
   edge.addEventListener("keydown", event => {

@@ -4,57 +4,84 @@
 import { entriesOf } from "./ics309.js";
 import { isoText, said } from "./words.js";
 
-/** A text off the air for a spreadsheet, which must not take it as a formula. */
+/** @typedef {import("./net.js").Net} Net */
+/** @typedef {import("./net.js").Thing} Thing */
+/** @typedef {import("./reading.js").Place} Place */
+/** @typedef {import("./ownlines.js").Line} Line */
+/** @typedef {Generator<string>} Pieces of a text */
+/** @typedef {[number, number]} Spot east and north, in degrees */
+/**
+ * A text off the air for a spreadsheet, which must not take it as a formula.
+ * @param {string} text
+ */
 function csvText(text) {
   const isFormula = /^'* *[=+\-@\t\r]/.test(text) && !/^-?[0-9]+(\.[0-9]+)?$/.test(text);
   const safe = isFormula ? "'" + text : text;
   return /[",\n\r]/.test(safe) ? `"${safe.replaceAll('"', '""')}"` : safe;
 }
+/** @param {(string | number)[][]} rows */
 const csvOf = rows => rows.map(row =>
   row.map(it => typeof it === "number" ? String(it) : csvText(it)).join(",") + "\n").join("");
-const markup = text => text.replace(/[&<>"']/g, it => `&#${it.charCodeAt(0)};`)
+const markup = (/** @type {string} */ text) => text
+  .replace(/[&<>"']/g, it => `&#${it.charCodeAt(0)};`)
   .replace(/[^\t\n\r -\ud7ff\ue000-\ufffd\u{10000}-\u{10ffff}]/gu, "");
-const decimal = value => value.toFixed(7);
+const decimal = (/** @type {number} */ value) => value.toFixed(7);
 
 const COLUMNS = ("kind name state first last receivers source lat lon ambiguity symbol course " +
   "speed_knots altitude_m comment").split(" ");
-const valueOf = it => it === undefined ? "" : it;
+const valueOf = (/** @type {number | undefined} */ it) => it === undefined ? "" : it;
+/** @param {Thing} it @param {Place} at */
 const placeRow = (it, at) => [it.kind, said(it.name), at.state, isoText(at.first), isoText(at.last),
   at.receivers.join(" "), at.source, Number(decimal(at.north)), Number(decimal(at.east)),
   at.compressed ? "c" : at.ambiguity, at.table + at.code, valueOf(at.course), valueOf(at.knots),
   valueOf(at.metres), said(at.comment)];
-/** Each place of each thing, as rows. */
+/**
+ * Each place of each thing, as rows.
+ * @param {Net} net
+ * @returns {Pieces}
+ */
 function* placesCsv({ placed }) {
   yield csvOf([COLUMNS]);
   for (const it of placed) yield csvOf(it.places.map(at => placeRow(it, at)));
 }
+/** @param {Net} net @param {unknown} _ @param {Line[]} lines @returns {Pieces} */
 function* messagesCsv(net, _, lines) {
   yield csvOf([["time", "from", "number", "to", "message", "state"]]);
-  const shown = it => it.own ? text => text : said;
-  for (const it of entriesOf(net, lines))
-    yield csvOf([[isoText(it.at), it.from, it.id, shown(it)(it.to), shown(it)(it.text), it.state]]);
-}
-/** The runs of a thing's places, each but the last ended by a kill. */
-function segmentsOf(thing) {
-  const segments = [[]];
-  for (const place of thing.places) {
-    segments.at(-1).push(place);
-    if (place.state === "killed") segments.push([]);
+  for (const it of entriesOf(net, lines)) {
+    const [to, text] = it.own ? [it.to, it.text] : [said(it.to), said(it.text)];
+    yield csvOf([[isoText(it.at), it.from, it.id, to, text, it.state]]);
   }
-  return segments.filter(it => it.length);
 }
-const hasMoved = ({ places }) =>
+/**
+ * The runs of a thing's places, each but the last ended by a kill.
+ * @param {Thing} thing
+ */
+function segmentsOf(thing) {
+  /** @type {Place[][]} */
+  const segments = [];
+  let isOpen = false;
+  for (const place of thing.places) {
+    if (isOpen) segments[segments.length - 1].push(place);
+    else segments.push([place]);
+    isOpen = place.state !== "killed";
+  }
+  return segments;
+}
+const hasMoved = (/** @type {Thing} */ { places }) =>
   places.some(it => it.north !== places[0].north || it.east !== places[0].east);
+/** Where something now is, of what has a place. */
+const nowOf = (/** @type {Thing} */ it) => /** @type {Place} */ (it.now);
 
+/** @param {Net} net @param {{ title: string }} data @returns {Pieces} */
 function* gpxOf({ placed }, { title }) {
-  const at = it => `lat="${decimal(it.north)}" lon="${decimal(it.east)}"`;
-  const time = it => `<time>${isoText(it.first)}</time>`;
+  const at = (/** @type {Place} */ it) => `lat="${decimal(it.north)}" lon="${decimal(it.east)}"`;
+  const time = (/** @type {Place} */ it) => `<time>${isoText(it.first)}</time>`;
   yield '<?xml version="1.0" encoding="UTF-8"?>\n<gpx version="1.1" creator="aprsbook" ' +
     'xmlns="http://www.topografix.com/GPX/1/1">\n' +
     `<metadata><name>${markup(title)}</name></metadata>\n`;
   for (const it of placed)
-    yield `<wpt ${at(it.now)}>${time(it.now)}<name>${markup(it.label)}</name>` +
-      `<desc>${markup(said(it.now.comment))}</desc><type>${it.kind}</type></wpt>\n`;
+    yield `<wpt ${at(nowOf(it))}>${time(nowOf(it))}<name>${markup(it.label)}</name>` +
+      `<desc>${markup(said(nowOf(it).comment))}</desc><type>${it.kind}</type></wpt>\n`;
   for (const it of placed)
     yield hasMoved(it) ? `<trk><name>${markup(it.label)}</name>` + segmentsOf(it).map(run =>
       "<trkseg>" + run.map(one => `<trkpt ${at(one)}>${time(one)}</trkpt>`).join("") + "</trkseg>")
@@ -62,25 +89,32 @@ function* gpxOf({ placed }, { title }) {
   yield "</gpx>\n";
 }
 
-/** A line of [east, north], cut where it goes over the date line (RFC 7946, 3.1.9). */
+/**
+ * A line, cut where it goes over the date line (RFC 7946, 3.1.9).
+ * @param {Spot[]} spots
+ */
 function cutAtDateLine(spots) {
+  /** @type {Spot[][]} */
   const lines = [[]];
+  const put = (/** @type {Spot} */ it) => lines[lines.length - 1].push(it);
   spots.forEach(([east, north], k) => {
     const [lastEast, lastNorth] = spots[k - 1] || [east, north];
     if (Math.abs(east - lastEast) > 180) {
       const side = lastEast < 0 ? -180 : 180, way = east - lastEast + (lastEast < 0 ? -360 : 360);
       const share = way ? (side - lastEast) / way : 0;
       const between = lastNorth + (north - lastNorth) * share;
-      lines.at(-1).push([side, between]);
+      put([side, between]);
       lines.push([[-side, between]]);
     }
-    lines.at(-1).push([east, north]);
+    put([east, north]);
   });
   return lines.filter(it => it.length > 1);
 }
+/** @param {Net} net @returns {Pieces} */
 function* featuresOf({ placed }) {
+  /** @type {(it: Place) => Spot} */
   const spot = it => [Number(decimal(it.east)), Number(decimal(it.north))];
-  const feature = (geometry, properties) =>
+  const feature = (/** @type {object} */ geometry, /** @type {object} */ properties) =>
     JSON.stringify({ type: "Feature", geometry, properties });
   for (const it of placed)
     yield it.places.map(at => feature({ type: "Point", coordinates: spot(at) }, { kind: it.kind,
@@ -93,6 +127,7 @@ function* featuresOf({ placed }) {
       { kind: it.kind, name: it.label }) : "";
   }
 }
+/** @param {Net} net @returns {Pieces} */
 function* geoJsonOf(net) {
   let begin = '{"type":"FeatureCollection","features":[';
   for (const it of featuresOf(net)) {
@@ -101,15 +136,16 @@ function* geoJsonOf(net) {
   }
   yield begin === "," ? "]}\n" : begin + "]}\n";
 }
+/** @param {Net} net @param {{ title: string }} data @returns {Pieces} */
 function* kmlOf({ placed }, { title }) {
-  const spot = it => `${decimal(it.east)},${decimal(it.north)}`;
+  const spot = (/** @type {Place} */ it) => `${decimal(it.east)},${decimal(it.north)}`;
   yield '<?xml version="1.0" encoding="UTF-8"?>\n<kml xmlns="http://www.opengis.net/kml/2.2">' +
     `<Document><name>${markup(title)}</name>\n`;
   for (const it of placed)
     yield `<Placemark><name>${markup(it.label)}</name>` +
-      `<description>${markup(said(it.now.comment))}</description>` +
-      `<TimeStamp><when>${isoText(it.now.first)}</when></TimeStamp>` +
-      `<Point><coordinates>${spot(it.now)}</coordinates></Point></Placemark>\n`;
+      `<description>${markup(said(nowOf(it).comment))}</description>` +
+      `<TimeStamp><when>${isoText(nowOf(it).first)}</when></TimeStamp>` +
+      `<Point><coordinates>${spot(nowOf(it))}</coordinates></Point></Placemark>\n`;
   for (const it of placed)
     yield hasMoved(it) ? `<Placemark><name>${markup(it.label)} track</name><MultiGeometry>` +
       segmentsOf(it).map(run => "<LineString><tessellate>1</tessellate><coordinates>" +
@@ -117,13 +153,16 @@ function* kmlOf({ placed }, { title }) {
       "</MultiGeometry></Placemark>\n" : "";
   yield "</Document></kml>\n";
 }
+/** @param {Net} net @param {{ rows: string }} data @returns {Pieces} */
 function* tableOf(net, data) {
   yield data.rows;
 }
 
 /**
- * What can be saved, by the name in the menu: a file's name, its type, and what it holds, in pieces.
- * @type {Record<string, [string, string, (net: any, data: any, lines?: any) => Generator<string>]>}
+ * What can be saved, by the name in the menu: a file's name, its type, and what it holds, in
+ * pieces.
+ * @type {Record<string, [string, string,
+ *   (net: Net, data: { title: string, rows: string }, lines: Line[]) => Pieces]>}
  */
 export const SAVES = {
   "places (CSV)": ["places.csv", "text/csv", placesCsv],
@@ -136,12 +175,16 @@ export const SAVES = {
 /**
  * The whole text of what can be saved.
  * @param {string} name
+ * @param {Net} net
+ * @param {{ title: string, rows: string }} data
+ * @param {Line[]} lines
  */
 export const savedText = (name, net, data, lines = []) =>
   [...SAVES[name][2](net, data, lines)].join("");
 /**
  * The pieces of what can be saved, with pauses, so that the page doesn't stand still.
  * @param {Iterable<string>} pieces
+ * @returns {import("./steps.js").Steps<string[]>}
  */
 export function* gathered(pieces) {
   const all = [];

@@ -6,6 +6,7 @@ import { momentOf } from "./dom.js";
 import { detailsOf } from "./reading.js";
 
 /** @typedef {import("./net.js").Thing} Thing */
+/** @typedef {import("./telemetry.js").Channel} Channel */
 /** @typedef {[string, ...(string | Node)[]]} Fact a name and its value */
 
 /**
@@ -23,14 +24,30 @@ export function kindsOf(thing, picks) {
   }
   return counts;
 }
-/** @param {Record<string, string>} it */
-function telemetryText(it) {
-  const values = ["a1", "a2", "a3", "a4", "a5"].map(name => it[name]).filter(Boolean);
+/**
+ * Telemetry in words: each number as its channel has it, with its name and unit where they are said.
+ * @param {Record<string, string>} it
+ * @param {Channel[]} channels
+ */
+function telemetryText(it, channels) {
+  const values = channels.flatMap(({ name, unit, of }, n) => {
+    const sent = it[`a${n + 1}`];
+    if (!sent) return [];
+    const value = of(Number(sent)).toLocaleString("en", { maximumFractionDigits: 3 });
+    return unit === "as sent" && name === `telemetry ${n + 1}` ? [sent]
+      : [`${name} ${value}${/^(?:as sent|no unit said)$/.test(unit) ? "" : ` ${unit}`}`];
+  });
   const number = it.telemetry_sequence ? `no. ${it.telemetry_sequence}: ` : "";
   return `${number}${values.join(", ")}; ${it.bits}`;
 }
-/** @param {Thing} thing @param {ArrayLike<number>} picks @returns {Fact[]} */
-export function detailLines(thing, picks) {
+/**
+ * What else is known of a thing.
+ * @param {Thing} thing
+ * @param {ArrayLike<number>} picks
+ * @param {Channel[]} channels of its telemetry
+ * @returns {Fact[]}
+ */
+export function detailLines(thing, picks, channels) {
   const { rows, lastWeather, lastTelemetry } = thing;
   /** @type {Fact[]} */
   const facts = [];
@@ -42,7 +59,7 @@ export function detailLines(thing, picks) {
     facts.push(["weather", weatherWords(detailsOf(rows.record(lastWeather))).join(", "), " at ",
       momentOf(rows.last[lastWeather])]);
   if (lastTelemetry >= 0)
-    facts.push(["telemetry", telemetryText(rows.record(lastTelemetry)), " at ",
+    facts.push(["telemetry", telemetryText(rows.record(lastTelemetry), channels), " at ",
       momentOf(rows.last[lastTelemetry])]);
   return facts;
 }

@@ -1,7 +1,7 @@
 // @ts-check
 // Marks that cover one another: how many lie there, and how they fan out.
 
-/** @typedef {import("./map.js").Mark} Mark */
+/** @typedef {import("./marks.js").Mark} Mark */
 /** @typedef {{ x: number, y: number }} Spot */
 
 /** Marks that are nearer than these pixels cover one another, large ones and dots. */

@@ -1,6 +1,7 @@
 // @ts-check
 // What is dropped: files, and the files in folders.
 
+/** @typedef {File | { name: string, isFolder: true }} Dropped a file, or a folder as a whole */
 /** @param {FileSystemDirectoryReader} reader @returns {Promise<FileSystemEntry[]>} */
 const readSome = reader => new Promise((done, fail) => reader.readEntries(done, fail));
 /** @param {FileSystemFileEntry} entry @returns {Promise<File>} */
@@ -24,9 +25,10 @@ async function filesIn(entry, way) {
   return files;
 }
 /**
- * The files of a folder, or the folder alone where the browser lets no page read it, as from a disk.
+ * The files of a folder, or the folder alone where the browser lets no page read it, as from a
+ * disk.
  * @param {FileSystemEntry} entry
- * @returns {Promise<(File | { name: string, isFolder: true })[]>}
+ * @returns {Promise<Dropped[]>}
  */
 async function readFolder(entry) {
   try {

@@ -3,7 +3,8 @@
 // grown. Each log is asked for by itself, and for so long; what was read of it stays.
 
 import { alive, byId, choose, chosen, fullText, page, tick } from "./drawn.js";
-import { files, numberIn, work } from "./drop.js";
+import { work } from "./drop.js";
+import { files, numberIn } from "./inputs.js";
 import { fileOf, leaveOut, look } from "./intake.js";
 import { kindOf, READ, spelled } from "./kinds.js";
 

@@ -4,12 +4,14 @@
 import { byId } from "./dom.js";
 import { fieldOf, fillForm, momentIn } from "./ics309.js";
 
+/** @typedef {import("./dom.js").Input} Input */
 /** @typedef {import("./ownlines.js").Line} Line */
 
 /** The form of a page, with the operator's own lines. */
 export class Form {
   /**
-   * @param {{ net: any, data: any, own: import("./ownlines.js").OwnLines }} page
+   * @param {{ net: import("./net.js").Net, data: { title: string, lines?: unknown },
+   *   own: import("./ownlines.js").OwnLines }} page
    * @param {{ now: () => number, save: () => void }} of the moment of the page, and what saves the
    *   log as CSV
    */
@@ -42,7 +44,7 @@ export class Form {
   }
   /** Takes a line of the operator's own. */
   add() {
-    const value = (/** @type {string} */ id) => byId(id).value.trim();
+    const value = (/** @type {Input} */ id) => byId(id).value.trim();
     const at = momentIn(value("own-at")), text = value("own-text");
     if (!Number.isFinite(at) || !text) {
       byId("own-told").textContent = "A line has a time and a message.";
@@ -50,7 +52,7 @@ export class Form {
     }
     this.tell(this.page.own.add({ at, from: value("own-from"), to: value("own-to"),
       id: value("own-id"), text }));
-    for (const id of ["own-id", "own-text"]) byId(id).value = "";
+    byId("own-id").value = byId("own-text").value = "";
     this.draw();
     byId("own-text").focus();
   }
@@ -71,13 +73,13 @@ export class Form {
   }
   listen() {
     const on = (/** @type {string} */ id, /** @type {string} */ kind,
-      /** @type {(event: any) => void} */ run) => byId(id).addEventListener(kind, run);
+      /** @type {() => void} */ run) => byId(id).addEventListener(kind, run);
     on("ics-open", "click", () => this.open(true));
     on("ics-close", "click", () => this.open(false));
     on("ics-print", "click", () => print());
     on("ics-save", "click", this.save);
     on("own-add", "click", () => this.add());
-    on("own-text", "keydown", event => event.key === "Enter" && this.add());
+    byId("own-text").addEventListener("keydown", ({ key }) => key === "Enter" && this.add());
     for (const id of ["ics-incident", "ics-net", "ics-operator"])
       on(id, "change", () => this.draw());
     addEventListener("storage", ({ key }) => this.hear(key));

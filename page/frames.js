@@ -50,7 +50,8 @@ export function frameList(box, view) {
   const row = (/** @type {number} */ k) => {
     const it = record(k), rest = restOf(it);
     return make("tr", {}, timeCell(view.rows.first[k]),
-      cell("by", it.receivers.replaceAll(",", ", ")), cell("way", letters(said(wayOf(it)))), cell("kind", it.kind),
+      cell("by", it.receivers.replaceAll(",", ", ")),
+      cell("way", letters(said(wayOf(it)))), cell("kind", it.kind),
       cell("about", air(it.text), " ", rest ? make("small", {}, letters(rest)) : null));
   };
   return new List(box, { id: "frames", caption: "transmissions", row, none: "nothing", columns: [

@@ -62,7 +62,8 @@ export function bearing(from, to) {
  */
 export function locatorOf(north, east) {
   const a = Math.min(359.9999, Math.max(0, east + 180)), b = Math.min(179.9999, north + 90);
-  const letter = (/** @type {number} */ n, /** @type {string} */ first) => String.fromCharCode(first.charCodeAt(0) + n);
+  const letter = (/** @type {number} */ n, /** @type {string} */ first) =>
+    String.fromCharCode(first.charCodeAt(0) + n);
   return letter(Math.floor(a / 20), "A") + letter(Math.floor(b / 10), "A") +
     Math.floor(a % 20 / 2) + Math.floor(b % 10) +
     letter(Math.floor(a % 2 * 12), "a") + letter(Math.floor(b % 1 * 24), "a");

@@ -3,20 +3,23 @@
 // belong together, with its scale and its unit. A gap in time isn't joined.
 
 import { make, svg } from "./dom.js";
+import { channelsOf, isBattery } from "./telemetry.js";
 import { unitOf } from "./units.js";
 import { timeText } from "./words.js";
 
 /** @typedef {import("./reading.js").Rows} Rows */
+/** @typedef {import("./telemetry.js").Channel} Channel */
 /** @typedef {{ at: number, value: number }} Point a moment in seconds, and what was measured */
 /** @typedef {{ title: string, unit: string, lines: Point[][] }} Graph a line for each column */
 /** @typedef {{ begin: number, end: number }} Time */
 
 /**
- * What there is a graph of: its columns of the table, and a quantity of units, or its own unit and how
- * their numbers become those of it.
- * @type {{ title: string, columns: string[], quantity?: import("./units.js").Quantity, unit?: string,
- *   of?: (n: number) => number }[]}
+ * What there is a graph of: its columns of the table, and a quantity of units, or its own unit and
+ * how their numbers become those of it.
+ * @typedef {{ title: string, columns: string[], quantity?: import("./units.js").Quantity,
+ *   unit?: string, of?: (n: number) => number }} Kind
  */
+/** @type {Kind[]} */
 const GRAPHS = [
   { title: "height", quantity: "metres", columns: ["altitude_m"] },
   { title: "speed", quantity: "knots", columns: ["speed_knots"] },
@@ -26,19 +29,27 @@ const GRAPHS = [
   { title: "humidity", unit: "%", columns: ["humidity"] },
   { title: "pressure", unit: "hPa", columns: ["pressure_tenths"], of: n => n / 10 },
   { title: "luminosity", unit: "W/m\u00b2", columns: ["luminosity"] },
-  ...[1, 2, 3, 4, 5].map(n =>
-    ({ title: `telemetry ${n}`, unit: "as sent", columns: [`a${n}`] })),
 ];
+/**
+ * Those of telemetry, a battery's first.
+ * @param {Channel[]} channels
+ * @returns {Kind[]}
+ */
+const telemetryOf = channels => channels
+  .map((it, n) => ({ title: it.name, unit: it.unit, of: it.of, columns: [`a${n + 1}`],
+    rank: isBattery(it) ? 0 : 1 }))
+  .sort((a, b) => a.rank - b.rank);
 
 /**
  * The graphs of these rows, of what at least two of them say.
  * @param {Rows} rows
  * @param {number[]} numbers rows by time
+ * @param {Channel[]} channels of telemetry
  * @returns {Graph[]}
  */
-export function graphsOf(rows, numbers) {
+export function graphsOf(rows, numbers, channels = channelsOf([], "")) {
   const records = numbers.map(k => ({ at: rows.first[k], of: rows.record(k) }));
-  return GRAPHS.map(({ title, columns, quantity, ...own }) => {
+  return [...GRAPHS, ...telemetryOf(channels)].map(({ title, columns, quantity, ...own }) => {
     const { unit = "", of = n => n } = quantity ? unitOf(quantity) : own;
     const lines = columns.map(name => records.filter(it => it.of[name])
       .map(it => ({ at: it.at, value: of(Number(it.of[name])) })));
@@ -90,7 +101,7 @@ export function graphNode({ title, unit, lines }, time) {
     (at - time.begin) / Math.max(1, time.end - time.begin);
   const y = (/** @type {number} */ value) => SIZE.height - SIZE.bottom -
     (SIZE.height - SIZE.top - SIZE.bottom) * (value - ticks[0]) / high;
-  const latest = `${number(last.value)} ${unit === "as sent" ? "" : unit}`.trim();
+  const latest = `${number(last.value)} ${isUnit(unit) ? unit : ""}`.trim();
   const words = `${title} (${unit}): ${number(least)} to ${number(most)}, last ${latest} at ` +
     timeText(last.at);
   return make("figure", { className: "graph" },
@@ -99,6 +110,7 @@ export function graphNode({ title, unit, lines }, time) {
       ...ticks.map(value => tick(value, y(value))), ...hours(time, x),
       ...lines.map((line, n) => lineNode(line, n, x, y))));
 }
+const isUnit = (/** @type {string} */ unit) => unit !== "as sent" && unit !== "no unit said";
 const number = (/** @type {number} */ n) =>
   n.toLocaleString("en", { maximumFractionDigits: Math.abs(n) < 100 ? 1 : 0 });
 /** @param {number} value @param {number} at */

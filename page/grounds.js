@@ -12,14 +12,14 @@ import { count, printable } from "./words.js";
 /** @typedef {import("./map.js").NetMap} NetMap */
 /** Files with the corners of a picture, in degrees. */
 const WORLD = /\.(?:pgw|jgw|wld|pngw|jpgw|wpw)$/i;
-const CORNERS = ["corner-0", "corner-1", "corner-2"];
+const CORNERS = /** @type {const} */ (["corner-0", "corner-1", "corner-2"]);
 
 export class Grounds {
   /** @param {NetMap} map @param {(text: string, bad?: boolean) => void} tell */
   constructor(map, tell) {
     this.map = map;
     this.tell = tell;
-    /** @type {{ name: string, picture: ImageBitmap } | null} a picture that waits for its corners */
+    /** @type {{ name: string, picture: ImageBitmap } | null} what waits for its corners */
     this.waits = null;
     /** The text of a world file that came before its picture. */
     this.world = "";

@@ -13,7 +13,8 @@ const KEYS = {
   ArrowUp: map => map.move(0, 60), ArrowDown: map => map.move(0, -60),
   "+": map => map.zoom(1.3), "=": map => map.zoom(1.3), "-": map => map.zoom(1 / 1.3),
   0: map => map.fit(), f: map => map.fill(!map.isFull),
-  m: map => map.turnWay(way => way.turn(!way.isOn)), Backspace: map => map.turnWay(way => way.back()),
+  m: map => map.turnWay(way => way.turn(!way.isOn)),
+  Backspace: map => map.turnWay(way => way.back()),
 };
 /** @param {NetMap} map */
 function listenToKeys(map) {
@@ -56,24 +57,45 @@ function listenToWheel(map, pixel) {
  */
 const mayMove = (map, event, fingers) =>
   event.pointerType !== "touch" || fingers > 1 || map.isFull;
+/** @typedef {[number, number]} Spot a pixel of the map */
+/**
+ * Moves the map as a finger or the mouse went, and zooms as two fingers went apart.
+ * @param {NetMap} map
+ * @param {Spot} before
+ * @param {Spot} now
+ * @param {Spot | undefined} other where another finger is
+ */
+function drag(map, before, now, other) {
+  if (!other) return map.move(now[0] - before[0], now[1] - before[1]);
+  const off = (/** @type {Spot} */ it) => Math.hypot(it[0] - other[0], it[1] - other[1]) || 1;
+  map.move((now[0] - before[0]) / 2, (now[1] - before[1]) / 2);
+  map.zoom(off(now) / off(before), (now[0] + other[0]) / 2, (now[1] + other[1]) / 2);
+}
+/**
+ * Two fingers are the map's, and so is one where it fills the window.
+ * @param {NetMap} map
+ */
+function listenToTouch(map) {
+  for (const kind of /** @type {const} */ (["touchstart", "touchmove"]))
+    map.node.addEventListener(kind, event => {
+      if (event.touches.length > 1 || map.isFull) event.preventDefault();
+      else if (kind === "touchmove") map.hint();
+    }, { passive: false });
+}
 /** @param {NetMap} map */
 export function listenToMap(map) {
-  listenToKeys(map);
   const { node } = map;
-  /** @type {Map<number, [number, number]>} */
+  /** @type {Map<number, Spot>} */
   const fingers = new Map();
   let moved = 0, most = 0;
-  /** @type {(event: MouseEvent) => [number, number]} */
+  /** @type {(event: MouseEvent) => Spot} */
   const pixel = event => {
     const box = node.getBoundingClientRect();
     return [event.clientX - box.left, event.clientY - box.top];
   };
+  listenToKeys(map);
   listenToWheel(map, pixel);
-  for (const kind of /** @type {const} */ (["touchstart", "touchmove"]))
-    node.addEventListener(kind, event => {
-      if (event.touches.length > 1 || map.isFull) event.preventDefault();
-      else if (kind === "touchmove") map.hint();
-    }, { passive: false });
+  listenToTouch(map);
   node.addEventListener("pointerdown", event => {
     if (!fingers.size) most = 0;
     fingers.set(event.pointerId, pixel(event));
@@ -87,11 +109,7 @@ export function listenToMap(map) {
     fingers.set(event.pointerId, now);
     moved += Math.hypot(now[0] - before[0], now[1] - before[1]);
     if (!mayMove(map, event, fingers.size)) return;
-    if (other) {
-      const off = (/** @type {[number, number]} */ spot) => Math.hypot(spot[0] - other[0], spot[1] - other[1]) || 1;
-      map.move((now[0] - before[0]) / 2, (now[1] - before[1]) / 2);
-      map.zoom(off(now) / off(before), (now[0] + other[0]) / 2, (now[1] + other[1]) / 2);
-    } else map.move(now[0] - before[0], now[1] - before[1]);
+    drag(map, before, now, other);
     map.paintSoon();
   });
   addEventListener("pointerup", event => {

@@ -3,7 +3,27 @@
 // has to keep to what the functions of the module ask for: all that it hands over lies from
 // __heap_base on, no two of it in one place, and the region begins at a multiple of 16.
 
-// the commands of the program, by the functions of the module that do them
+/**
+ * What a command takes beside inputs: a gap in seconds for merge, show, history, tables and widen;
+ * for convert capture the name of a receiver and a moment.
+ * @typedef {number | string[] | null | undefined} Options
+ */
+/**
+ * What a run gives: its status, which input and line it refused and why, how much it wrote, and
+ * what.
+ * @typedef {{ status: number, input: number, line: number, written: number, fault: string,
+ *   bytes: Uint8Array }} Run
+ */
+/** @typedef {WebAssembly.Memory & { grow(pages: number | bigint): number }} Memory in 64 bits */
+/**
+ * What the module gives away.
+ * @typedef {{ memory: Memory, __heap_base: WebAssembly.Global } &
+ *   Record<string, (...of: bigint[]) => void>} Exports
+ */
+/**
+ * The commands of the program, by the functions of the module that do them.
+ * @type {Record<string, string>}
+ */
 const FUNCTIONS = {
   check: "aprs_check", "convert text": "aprs_text", "convert kind": "aprs_kind",
   "convert kiss": "aprs_kiss", "convert log": "aprs_log", "convert capture": "aprs_capture",
@@ -20,7 +40,11 @@ const NAME_ROOM = 16;
 
 class OutOfMemory extends Error {}
 
-// browsers count the pages of a 64-bit memory in a BigInt, Node 20 in a number
+/**
+ * Browsers count the pages of a 64-bit memory in a BigInt, Node 20 in a number.
+ * @param {Memory} memory
+ * @param {number} pages
+ */
 function grow(memory, pages) {
   try {
     memory.grow(BigInt(pages));
@@ -30,17 +54,22 @@ function grow(memory, pages) {
   }
 }
 
-// Puts things one after the other from the end of the module's own memory on.
+/** Puts things one after the other from the end of the module's own memory on. */
 class Layout {
+  /** @param {number} start */
   constructor(start) {
     this.end = start;
   }
+  /** @param {number} size */
   take(size) {
     const at = this.end;
     this.end = Math.ceil((at + size) / 16) * 16;
     return at;
   }
-  // makes the memory as large as all that was taken
+  /**
+   * Makes the memory as large as all that was taken.
+   * @param {Memory} memory
+   */
   fit(memory) {
     const pages = Math.ceil(this.end / PAGE) - memory.buffer.byteLength / PAGE;
     try {
@@ -51,18 +80,30 @@ class Layout {
   }
 }
 
-// the texts that a command gives its function, beside the inputs
+/**
+ * The texts that a command gives its function, beside the inputs.
+ * @param {string} command
+ * @param {Options} options
+ */
 function wordsOf(command, options) {
-  if (command === "convert capture") return options;
+  if (command === "convert capture") return Array.isArray(options) ? options : [];
   return command.startsWith(TABLE) ? [command.slice(TABLE.length)] : [];
 }
 
-// One run with so much room for its output and in its region, both in bytes. `options` are a gap in
-// seconds for merge, show, history, tables and widen, and for convert capture the name of a receiver
-// and a moment, texts. Returns the answer, the name of an input's fault, and what was written, or null
-// where that had no room.
+/**
+ * One run with so much room for its output and in its region, both in bytes. Gives null for what
+ * was written where that had no room.
+ * @param {WebAssembly.Module} module
+ * @param {string} command
+ * @param {Options} options
+ * @param {Uint8Array[]} inputs
+ * @param {number} outputRoom
+ * @param {number} regionRoom
+ * @returns {Omit<Run, "bytes"> & { bytes: Uint8Array | null }}
+ */
 function attempt(module, command, options, inputs, outputRoom, regionRoom) {
-  const it = /** @type {any} */ (new WebAssembly.Instance(module).exports), { memory } = it;
+  const it = /** @type {Exports} */ (/** @type {unknown} */ (
+    new WebAssembly.Instance(module).exports)), { memory } = it;
   const layout = new Layout(Number(it.__heap_base.value));
   const words = wordsOf(command, options).map(word => new TextEncoder().encode(word));
   const total = inputs.reduce((sum, input) => sum + input.length, 0);
@@ -73,7 +114,8 @@ function attempt(module, command, options, inputs, outputRoom, regionRoom) {
   const start = layout.take(regionRoom);
   layout.fit(memory);
   const view = new DataView(memory.buffer), bytes = new Uint8Array(memory.buffer);
-  const put = (at, value) => view.setBigUint64(at, BigInt(value), true);
+  const put = (/** @type {number} */ at, /** @type {number} */ value) =>
+    view.setBigUint64(at, BigInt(value), true);
   put(region, start);
   put(region + 8, Math.floor(regionRoom / 16));
   words.forEach((word, k) => bytes.set(word, places[k]));
@@ -84,7 +126,7 @@ function attempt(module, command, options, inputs, outputRoom, regionRoom) {
     put(lengths + 8 * k, input.length);
   });
   const given = [answer, region];
-  if (WITH_GAP.includes(command)) given.push(options);
+  if (WITH_GAP.includes(command)) given.push(Number(options));
   words.forEach((word, k) => given.push(places[k], word.length));
   given.push(text, total);
   if (OF_SEVERAL.includes(command)) given.push(lengths, inputs.length);
@@ -98,8 +140,15 @@ function attempt(module, command, options, inputs, outputRoom, regionRoom) {
   };
 }
 
-// A run of a command over inputs, which are Uint8Arrays, again with more room where there was too
-// little, up to a region of `most` bytes.
+/**
+ * A run of a command over inputs, again with more room where there was too little, up to a region
+ * of `most` bytes.
+ * @param {WebAssembly.Module} module
+ * @param {string} command
+ * @param {Options} options
+ * @param {Uint8Array[]} inputs
+ * @returns {Run}
+ */
 function run(module, command, options, inputs, most = 2 ** 33) {
   const total = inputs.reduce((sum, input) => sum + input.length, 0);
   let outputRoom = 2 * total + PAGE, regionRoom = 16 * Math.ceil(total / 2) + (1 << 22);
@@ -107,7 +156,7 @@ function run(module, command, options, inputs, most = 2 ** 33) {
     const got = attempt(module, command, options, inputs, outputRoom, regionRoom);
     if ((got.status === 3 || got.status === 4) && 2 * regionRoom <= most) regionRoom *= 2;
     else if (!got.bytes) outputRoom = got.written;
-    else return got;
+    else return { ...got, bytes: got.bytes };
   }
 }
 

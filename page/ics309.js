@@ -1,7 +1,7 @@
 // @ts-check
 // The communications log ICS-309: messages and bulletins, and the operator's own lines, on sheets.
 
-import { air, byId, callIn, letters, make } from "./dom.js";
+import { air, byId, callIn, letters, make, textOf } from "./dom.js";
 import { cell, timeCell } from "./lists.js";
 import { isBulletin } from "./net.js";
 import { who } from "./roster.js";
@@ -73,7 +73,8 @@ function rowOf(it, onRemove) {
     textContent: "take away", aria: { "aria-label": `take line ${it.number} away` },
     onclick: () => onRemove(own) });
   return make("tr", { className: own ? "own" : "" }, cell("num", String(it.number)),
-    timeCell(it.at), cell("call", callIn(name(it.from))), cell("id", own ? letters(printable(it.id)) : it.id),
+    timeCell(it.at), cell("call", callIn(name(it.from))),
+    cell("id", own ? letters(printable(it.id)) : it.id),
     cell("call", callIn(name(it.to))),
     cell("text", own ? letters(printable(it.text)) : air(it.text),
       it.note ? make("small", { textContent: ` (${it.note})` }) : null,
@@ -89,9 +90,9 @@ const HEADS = [["num", "no."], ["", "time"], ["", "from"], ["", "msg no."], ["",
  * @param {(line: Line) => void} onRemove
  */
 function sheetNode(entries, n, of, onRemove) {
-  const field = (/** @type {string} */ id) => byId(id).value;
+  const field = (/** @type {import("./dom.js").Input} */ id) => byId(id).value;
   const number = make("span", { className: "sheet-number", textContent: `page ${n + 1} of ${of}` });
-  const above = n ? ["ICS 309", field("ics-incident"), byId("ics-period").textContent,
+  const above = n ? ["ICS 309", field("ics-incident"), textOf("ics-period"),
     field("ics-net"), field("ics-operator")].filter(Boolean).map(printable).join(" \u00b7 ") : "";
   return make("div", { className: "sheet" },
     make("p", {}, make("span", { textContent: above || "5. communications log" }), " ", number),

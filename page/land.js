@@ -30,7 +30,7 @@ export class Numbers {
     } while (byte > 127);
     return n % 2 ? -(n + 1) / 2 : n / 2;
   }
-  /** The places of each ring that is left: how many they are, then the steps from one to the next. */
+  /** The places of each ring that is left: how many, then the steps from one to the next. */
   rings() {
     const rings = [];
     while (this.at < this.bytes.length) {

@@ -12,47 +12,70 @@ import { age } from "./words.js";
  */
 const PART = 26, FIRST = 10;
 
+/**
+ * A column: its title, whether it has numbers, and the value by which it sorts, if it does.
+ * @template T
+ * @typedef {{ title: string | Node, number?: boolean, value?: (it: T) => string | number }} Column
+ */
+/**
+ * A table of items.
+ * @template T
+ */
 export class List {
   /**
-   * `columns` are { title, number, value } with the value to sort by; `row` makes a row of an item.
-   * It stands in `box`, which scrolls.
+   * `row` makes a row of an item, and `keyOf` says by which key it is marked. It stands in `box`,
+   * which scrolls.
+   * @param {HTMLElement} box
+   * @param {{ id: string, caption: string, columns: Column<T>[],
+   *   row: (it: T) => HTMLTableRowElement, none?: string, keyOf?: (it: T) => string }} of
    */
-  constructor(box, { id, caption, columns, row, none = "none" }) {
+  constructor(box, { id, caption, columns, row, none = "none", keyOf = () => "" }) {
     this.box = box;
     this.id = id;
     this.columns = columns;
     this.row = row;
     this.none = none;
+    this.keyOf = keyOf;
+    /** @type {T[]} */
     this.items = [];
+    /** @type {T[]} */
     this.given = [];
     this.built = 0;
     this.scrolled = false;
-    const button = (textContent, n) =>
-      make("button", { type: "button", textContent, onclick: () => this.turn(n) });
-    this.heads = columns.map((it, n) =>
-      make("th", { scope: "col", className: it.number ? "num" : "",
-        data: typeof it.title === "string" ? { column: it.title } : {} },
-        it.value ? button(it.title, n) : it.title));
+    this.heads = columns.map((it, n) => this.headOf(it, n));
     this.body = make("tbody");
     this.table = make("table", { id, className: "sorted" },
       make("caption", { textContent: caption }),
       make("thead", {}, make("tr", {}, ...this.heads)), this.body);
-    const [, column, way] = /^(\d+)([ad])$/.exec(chosen.get(id)) || [];
-    this.order = columns[column]?.value ? { column: +column, down: way === "d" } : null;
+    const [, column, way] = /^(\d+)([ad])$/.exec(chosen.get(id) || "") || [];
+    this.order = columns[Number(column)]?.value ? { column: +column, down: way === "d" } : null;
     box.addEventListener("scroll", () => {
       this.scrolled = true;
       this.fill();
     }, { passive: true });
     this.body.addEventListener("keydown", event => this.step(event));
-    this.body.addEventListener("focusin", event => this.rove(event.target));
+    this.body.addEventListener("focusin", event =>
+      this.rove(/** @type {HTMLElement} */ (event.target)));
   }
-  /** Sorts by a column; once more, the other way round. */
+  /** @param {Column<T>} column @param {number} n */
+  headOf({ title, number, value }, n) {
+    const isText = typeof title === "string";
+    const onclick = () => this.turn(n);
+    return make("th", { scope: "col", className: number ? "num" : "",
+      data: isText ? { column: title } : {} }, value && isText
+      ? make("button", { type: "button", textContent: title, onclick }) : title);
+  }
+  /**
+   * Sorts by a column; once more, the other way round.
+   * @param {number} column
+   */
   turn(column) {
     const down = this.order?.column === column ? !this.order.down : !!this.columns[column].number;
     this.order = { column, down };
     choose(this.id, column + (down ? "d" : "a"));
     this.show(this.given);
   }
+  /** @param {T[]} items */
   show(items) {
     this.given = items;
     this.items = this.order ? this.sorted(items) : items;
@@ -62,7 +85,7 @@ export class List {
       else head.removeAttribute("aria-sort");
     });
     this.built = 0;
-    this.table.setAttribute("aria-rowcount", items.length + 1);
+    this.table.setAttribute("aria-rowcount", String(items.length + 1));
     if (!items.length) this.box.replaceChildren(make("p", { textContent: this.none }));
     else if (this.table.parentNode !== this.box) this.box.replaceChildren(this.table);
     if (this.scrolled) this.box.scrollTop = 0;
@@ -75,26 +98,30 @@ export class List {
   /** Builds so much that a box is full, and takes away the rows of an earlier list. */
   begun() {
     this.build(PART - this.built);
-    while (this.body.children.length > this.built) this.body.lastChild.remove();
+    while (this.body.children.length > this.built) this.body.lastElementChild?.remove();
   }
+  /** @param {T[]} items */
   sorted(items) {
-    const { value } = this.columns[this.order.column], way = this.order.down ? -1 : 1;
-    const compare = (a, b) =>
-      (typeof a[0] === "number" ? a[0] - b[0] : collator.compare(a[0], b[0])) * way || a[1] - b[1];
-    return items.map((it, n) => [value(it), n, it]).sort(compare).map(it => it[2]);
+    const { column, down } = this.order || { column: 0, down: false }, way = down ? -1 : 1;
+    const value = this.columns[column].value || (() => 0);
+    return items.map((it, n) => ({ by: value(it), n, it }))
+      .sort((a, b) => compared(a.by, b.by) * way || a.n - b.n).map(({ it }) => it);
   }
-  /** Builds so many rows more, in the places of those of an earlier list. */
+  /**
+   * Builds so many rows more, in the places of those of an earlier list.
+   * @param {number} n
+   */
   build(n) {
     if (n <= 0) return;
     const rows = this.items.slice(this.built, this.built + n).map((item, k) => {
       const row = this.row(item);
-      row.setAttribute("aria-rowindex", this.built + k + 2);
+      row.setAttribute("aria-rowindex", String(this.built + k + 2));
       return row;
     });
     const old = [...this.body.children].slice(this.built, this.built + n);
     rows.forEach((row, k) => old[k] ? old[k].replaceWith(row) : this.body.append(row));
-    if (!this.built) this.rove(this.body.querySelector(".pick"));
-    else for (const it of rows) for (const pick of it.querySelectorAll(".pick")) pick.tabIndex = -1;
+    if (!this.built) this.rove(picksIn(this.body)[0]);
+    else for (const it of rows) for (const pick of picksIn(it)) pick.tabIndex = -1;
     this.built += rows.length;
   }
   /** Builds on where the end of what is built comes near. */
@@ -108,44 +135,76 @@ export class List {
    */
   mark(key, isSought = false) {
     if (isSought && key) this.seek(key);
-    for (const row of this.body.children) {
+    for (const row of this.body.rows) {
       const isIt = row.dataset.key === key && key !== null;
       row.classList.toggle("picked", isIt);
       if (isIt && isSought) this.box.scrollTop = row.offsetTop - this.box.clientHeight / 3;
     }
   }
-  /** Builds on until the row of a key is there. */
+  /**
+   * Builds on until the row of a key is there.
+   * @param {string} key
+   */
   seek(key) {
-    const at = this.items.findIndex(it => it.key === key);
+    const at = this.items.findIndex(it => this.keyOf(it) === key);
     if (at >= this.built && at < 5000) this.build(at + 1 - this.built);
   }
   /** Builds all, for paper. */
   whole(most = 5000) {
     this.build(Math.max(0, Math.min(this.items.length, most) - this.built));
   }
-  /** The one row that the tab key reaches. */
+  /**
+   * The one row that the tab key reaches.
+   * @param {HTMLElement | undefined} pick
+   */
   rove(pick) {
     if (!pick?.classList.contains("pick")) return;
-    for (const it of this.body.querySelectorAll(".pick")) it.tabIndex = it === pick ? 0 : -1;
+    for (const it of picksIn(this.body)) it.tabIndex = it === pick ? 0 : -1;
   }
+  /** @param {KeyboardEvent} event */
   step(event) {
-    const by = { ArrowDown: 1, ArrowUp: -1, Home: -Infinity, End: Infinity }[event.key];
-    if (!by || !event.target.classList.contains("pick")) return;
+    const by = STEPS[event.key], pick = /** @type {HTMLElement} */ (event.target);
+    if (!by || !pick.classList.contains("pick")) return;
     event.preventDefault();
     if (by === Infinity) this.whole();
-    const picks = [...this.body.querySelectorAll(".pick")];
-    const at = Math.max(0, Math.min(picks.length - 1, picks.indexOf(event.target) + by));
+    const picks = picksIn(this.body);
+    const at = Math.max(0, Math.min(picks.length - 1, picks.indexOf(pick) + by));
     picks[at].focus();
     this.fill();
   }
 }
+/**
+ * By how many rows a key goes on.
+ * @type {Record<string, number>}
+ */
+const STEPS = { ArrowDown: 1, ArrowUp: -1, Home: -Infinity, End: Infinity };
+/**
+ * What of each row can be picked.
+ * @param {HTMLElement} node
+ */
+const picksIn = node =>
+  [.../** @type {NodeListOf<HTMLElement>} */ (node.querySelectorAll(".pick"))];
 const collator = new Intl.Collator("en", { numeric: true });
+/**
+ * The order of two values of a column: numbers, or texts with numbers in them.
+ * @param {string | number} a
+ * @param {string | number} b
+ */
+const compared = (a, b) => typeof a === "number" && typeof b === "number" ? a - b
+  : collator.compare(String(a), String(b));
 
-/** What stands beside what is new since the reader looked. */
+/**
+ * What stands beside what is new since the reader looked.
+ * @param {boolean} isNew
+ */
 export const newMark = isNew =>
   isNew ? [" ", make("small", { className: "fresh", textContent: "new" })] : [];
+/** @param {string} className @param {import("./dom.js").Inside[]} inside */
 export const cell = (className, ...inside) => make("td", { className }, ...inside);
-export const number = n => cell("num", n === undefined || n === 0 ? "" : n.toLocaleString("en"));
+/** @param {number} n nothing is written of 0 */
+export const number = n => cell("num", n === 0 ? "" : n.toLocaleString("en"));
+/** @param {number} seconds */
 export const timeCell = seconds => cell("num time", momentOf(seconds));
+/** @param {number} seconds @param {{ now: number }} view */
 export const ageCell = (seconds, view) => make("td", { className: "num age", data: { v: seconds },
   textContent: age(view.now - seconds) });

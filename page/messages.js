@@ -6,11 +6,17 @@ import { cell, List, newMark, timeCell } from "./lists.js";
 import { who } from "./roster.js";
 import { fullText } from "./words.js";
 
-/** What is said of a message's state beside the state. */
+/** @typedef {import("./reading.js").Message} Message */
+/** @typedef {{ isNewMessage: (it: Message) => boolean }} View */
+/**
+ * What is said of a message's state beside the state.
+ * @param {Message} it
+ */
 function answerOf(it) {
   if (Number.isNaN(it.answered)) return "";
   return `${it.answeredBy ? `by ${who(it.answeredBy)}, ` : ""}${fullText(it.answered)}`;
 }
+/** @param {Message} it @param {View} view */
 function messageRow(it, { isNewMessage }) {
   return make("tr", { className: it.state + (isNewMessage(it) ? " new" : "") },
     make("td", { className: "state", textContent: it.state, title: answerOf(it) },
@@ -18,8 +24,9 @@ function messageRow(it, { isNewMessage }) {
     cell("call from", callIn(who(it.source))), cell("call to", callIn(who(it.addressee))),
     cell("text", air(it.text)), cell("id", it.id), timeCell(it.first), timeCell(it.last));
 }
+/** @param {HTMLElement} box @param {View} view */
 export function messageList(box, view) {
-  const row = it => messageRow(it, view);
+  const row = (/** @type {Message} */ it) => messageRow(it, view);
   return new List(box, { id: "messages", caption: "messages", row, columns: [
     { title: "state", value: it => it.order }, { title: "from", value: it => it.source },
     { title: "to", value: it => it.addressee }, { title: "text", value: it => it.text },
@@ -27,10 +34,13 @@ export function messageList(box, view) {
     { title: "last", number: true, value: it => it.last },
   ] });
 }
+/** @param {Message} a @param {Message} b */
 export const inOrder = (a, b) => a.order - b.order || b.last - a.last;
 
+/** @param {HTMLElement} box @param {View} view */
 export function bulletinList(box, { isNewMessage }) {
-  const row = it => make("tr", { className: isNewMessage(it) ? "new" : "" },
+  const row = (/** @type {Message} */ it) => make("tr",
+    { className: isNewMessage(it) ? "new" : "" },
     cell("call", air(it.addressee), ...newMark(isNewMessage(it))),
     cell("call", callIn(who(it.source))), cell("text", air(it.text)),
     timeCell(it.first), timeCell(it.last));

@@ -14,6 +14,16 @@ import { byLetters, said } from "./words.js";
 /** @typedef {import("./clocks.js").Clock} Clock */
 /** @typedef {ArrayLike<number>} Picks numbers of rows */
 /** @typedef {{ rows: Rows, messages: Message[], end: number }} All what was read of the tables */
+/**
+ * A net in a time: the numbers of its rows, when the first and the last was heard, and what they
+ * tell of; `others` are rows of a kind that the page doesn't know.
+ * @typedef {{ rows: Picks, begin: number, end: number, things: Thing[], placed: Thing[],
+ *   others: number, messages: Message[], bulletins: Message[], receivers: Receiver[] }} Net
+ */
+/**
+ * Who heard whom, who alone, who repeated whom, and how much each station sent.
+ * @typedef {{ heard: Pairs, alone: Pairs, repeated: Pairs, sent: Map<string, number> }} Hearings
+ */
 
 /** The states of messages, in the order in which they stand. */
 const STATES = ["unanswered", "rejected", "unnumbered", "acknowledged"];
@@ -154,7 +164,7 @@ function note(station, rows, k) {
 }
 /**
  * Stations, then objects, then items, each kind by name, with their places in order.
- * @param {Rows} rows @param {Picks} picks @returns {Generator<undefined, Thing[]>}
+ * @param {Rows} rows @param {Picks} picks @returns {Generator<unknown, Thing[]>}
  */
 function* thingsOf(rows, picks) {
   /** @type {Thing[]} */
@@ -196,7 +206,7 @@ export class Pairs {
 /**
  * How many rows there are of each station and list of names, such as the receivers.
  * @param {Rows} rows @param {Picks} picks @param {Uint32Array} column
- * @returns {Generator<undefined, [string, string[], number][]>}
+ * @returns {Generator<unknown, [string, string[], number][]>}
  */
 function* countLists(rows, picks, column) {
   const counts = new Map(), { station } = rows, many = rows.lists.length;
@@ -210,6 +220,7 @@ function* countLists(rows, picks, column) {
 /**
  * Who heard whom, who alone, and who repeated whom; `all` is the sum over the stations.
  * @param {Rows} rows @param {Picks} picks
+ * @returns {Generator<unknown, Hearings>}
  */
 export function* hearings(rows, picks) {
   const heard = new Pairs(), alone = new Pairs(), repeated = new Pairs(), sent = new Map();
@@ -234,7 +245,7 @@ export function* hearings(rows, picks) {
 /**
  * Each receiver, and the pairs of them whose clocks can be compared.
  * @param {Rows} rows @param {Picks} picks @param {number} gap
- * @returns {Generator<undefined, Receiver[]>}
+ * @returns {Generator<unknown, Receiver[]>}
  */
 function* receiversOf(rows, picks, gap) {
   /** @type {{ names: string[], heard: number, last: number }[]} */
@@ -268,6 +279,7 @@ function* receiversOf(rows, picks, gap) {
 /**
  * All of the net that was heard since a moment, but who heard whom.
  * @param {All} all @param {number} since @param {number} gap
+ * @returns {Generator<unknown, Net>}
  */
 export function* netOf(all, since, gap) {
   const { rows } = all, picks = rows.since(since), some = picks.length > 0;

@@ -56,11 +56,26 @@ function clocksOff(receivers, gap) {
   return words;
 }
 
+/** So many of those who are missing are named. */
+const NAMED = 3;
+/**
+ * Who is expected and wasn't heard for so many minutes, by name.
+ * @param {string[]} missing
+ * @param {number} expected
+ * @param {number} silent in minutes
+ */
+function missingText(missing, expected, silent) {
+  const text = `${missing.length} of ${expected} expected not heard`;
+  if (!missing.length) return text;
+  const more = missing.length > NAMED ? `, and ${missing.length - NAMED} more` : "";
+  return `${text} for ${silent} min: ${missing.slice(0, NAMED).map(who).join(", ")}${more}`;
+}
+
 /**
  * All news of a net, what matters most first.
  * @param {{ things: Thing[], messages: { state: string }[], others: number,
  *   receivers: import("./net.js").Receiver[] }} net
- * @param {{ gap: number, silent: number, isSilent: (it: Thing) => boolean, missing: number,
+ * @param {{ gap: number, silent: number, isSilent: (it: Thing) => boolean, missing: string[],
  *   expected: number }} of the gap in seconds, silence in minutes, who is expected
  * @returns {Word[]}
  */
@@ -75,7 +90,7 @@ export function newsOf(net, { gap, silent, isSilent, missing, expected }) {
   if (rejected) say("#said", "bad", `${count(rejected, "message")} rejected`);
   say("#list", quiet ? "warn" : "good", `${count(quiet, "station")} silent for over ${silent} min`);
   if (expected)
-    say("#roster", missing ? "bad" : "good", `${missing} of ${expected} expected not heard`);
+    say("#roster", missing.length ? "bad" : "good", missingText(missing, expected, silent));
   words.push(...clocksOff(net.receivers, gap));
   if (unfixed) say("#list", "warn", `${count(unfixed, "station")} at 0, 0, which is no fix`);
   if (net.others)

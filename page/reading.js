@@ -238,7 +238,7 @@ class TableReader {
 }
 /**
  * The columns of the rows of a table, which a worker can hand over.
- * @param {string} text @returns {Generator<undefined, Read>}
+ * @param {string} text @returns {Generator<unknown, Read>}
  */
 export function* columnsOf(text) {
   const reader = new TableReader(text), { columns } = reader;

@@ -1,8 +1,10 @@
 // @ts-check
 // The page that reads logs begins with its workers.
 
-import { add, beginReading, eventPage, files, madeNow } from "./drop.js";
+import { add, beginReading, madeNow } from "./drop.js";
+import { eventPage } from "./eventpage.js";
 import { beginFollowing, pace } from "./follow.js";
+import { files } from "./inputs.js";
 import { run } from "./workers.js";
 
 beginReading().then(can => can && beginFollowing());

@@ -1,6 +1,6 @@
 // @ts-check
-// The roster: who is expected, by call, with a name, a group and a number. What tool and page read is
-// the same.
+// The roster: who is expected, by call, with a name, a group and a number. What tool and page read
+// is the same.
 
 import { printable, said } from "./words.js";
 

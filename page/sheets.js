@@ -5,14 +5,15 @@ import { vectorOf } from "./globe.js";
 import { drawAt } from "./tiles.js";
 
 /** @typedef {import("./globe.js").Projection} Projection */
-/** The least sine of the angle at a corner, and how long a side is at most, in radii of the earth. */
+/** The least sine of the angle at a corner; how long a side is at most, in radii of the earth. */
 const LEAST_SINE = 0.05, MOST = 0.2;
 /**
  * A picture, and three of its corners as vectors: upper left, upper right, lower left.
  * @typedef {{ name: string, picture: ImageBitmap, corners: number[][] }} Sheet
  */
 
-const NUMBER = "([+-]?\\d+(?:\\.\\d+)?)", PLACE = new RegExp(`^\\s*${NUMBER}\\s*[,;\\s]\\s*${NUMBER}\\s*$`);
+const NUMBER = "([+-]?\\d+(?:\\.\\d+)?)";
+const PLACE = new RegExp(`^\\s*${NUMBER}\\s*[,;\\s]\\s*${NUMBER}\\s*$`);
 /**
  * A place of degrees north and east, such as `54.5, -3.6`; throws where it is none.
  * @param {string} text
@@ -39,8 +40,9 @@ export function cornersOf(texts) {
   return corners;
 }
 /**
- * Six lines of a world file, such as .pgw, as three corners of a picture so wide and high: degrees east
- * and north for a pixel, and the middle of the first. Null where the text is none, or isn't in degrees.
+ * Six lines of a world file, such as .pgw, as three corners of a picture so wide and high: degrees
+ * east and north for a pixel, and the middle of the first. Null where the text is none, or isn't in
+ * degrees.
  * @param {string} text
  * @param {{ width: number, height: number }} size
  */

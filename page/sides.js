@@ -2,8 +2,8 @@
 // Where the names of marks stand: beside them, where there is room, and where they stood before.
 
 /**
- * Where a name may stand: its left edge is so many reaches of the mark, widths of the name and pixels
- * to the right, and its base so many reaches and pixels down.
+ * Where a name may stand: its left edge is so many reaches of the mark, widths of the name and
+ * pixels to the right, and its base so many reaches and pixels down.
  */
 const SIDES = [[1, 0, 0, 0, 4], [-1, -1, 0, 0, 4], [0, -0.5, 0, -1, -4], [0, -0.5, 0, 1, 12],
   [1, 0, -2, 1, 12], [-1, -1, 2, 1, 12], [1, 0, -2, -1, -4], [-1, -1, 2, -1, -4]];

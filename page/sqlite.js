@@ -5,7 +5,8 @@
 /** @typedef {number | string | Uint8Array | null} Value */
 /**
  * A page of a tree: where it begins in the file's bytes, its bytes, its kind, its cells.
- * @typedef {{ bytes: Uint8Array, view: DataView, kind: number, cells: number[], last: number }} Page
+ * @typedef {{ bytes: Uint8Array, view: DataView, kind: number, cells: number[],
+ *   last: number }} Page
  */
 /** @typedef {{ name: string, table: string, root: number, kind: string, sql: string }} Item */
 

@@ -6,38 +6,71 @@ const SLICE = 20;
 /** After so many rows there is a step. */
 export const STEP = 4096;
 
-/** Calls `run` with each number of a list. */
+/**
+ * Steps that come to a value.
+ * @template T
+ * @typedef {Generator<unknown, T>} Steps
+ */
+/**
+ * Calls `run` with each part of a list.
+ * @template T
+ * @param {ArrayLike<T>} numbers
+ * @param {(it: T) => void} run
+ * @returns {Steps<void>}
+ */
 export function* each(numbers, run) {
   for (let at = 0; at < numbers.length; at++) {
     run(numbers[at]);
     if (at % STEP === STEP - 1) yield;
   }
 }
-/** A single step. */
+/**
+ * A single step.
+ * @param {() => void} run
+ * @returns {Steps<void>}
+ */
 export function* once(run) {
   run();
 }
-/** Takes all steps, and gives what they come to. */
+/**
+ * Takes all steps, and gives what they come to.
+ * @template T
+ * @param {Steps<T>} steps
+ */
 export function atOnce(steps) {
-  let it;
-  do it = steps.next(); while (!it.done);
-  return it.value;
+  for (;;) {
+    const it = steps.next();
+    if (it.done) return it.value;
+  }
 }
-/** Takes steps for as long as `goOn` says so; gives what they come to. */
+/**
+ * Takes steps for as long as `goOn` says so; gives what they come to, or nothing where it stopped.
+ * @template T
+ * @param {Steps<T>} steps
+ * @param {() => boolean} goOn
+ * @returns {Promise<T | undefined>}
+ */
 export async function inSlices(steps, goOn) {
   while (goOn()) {
     const until = performance.now() + SLICE;
     do {
-      const { done, value } = steps.next();
-      if (done) return value;
+      const it = steps.next();
+      if (it.done) return it.value;
     } while (performance.now() < until);
     await new Promise(done => setTimeout(done));
   }
+  return undefined;
 }
 
+/** @type {{ key: string, steps: Steps<unknown> }[]} */
 const waiting = [];
-let timer = 0;
-/** Takes steps once the page has been painted, after those that wait; `key` is their name. */
+/** @type {ReturnType<typeof setTimeout> | undefined} */
+let timer;
+/**
+ * Takes steps once the page has been painted, after those that wait; `key` is their name.
+ * @param {string} key
+ * @param {Steps<unknown>} steps
+ */
 export function later(key, steps) {
   const before = waiting.findIndex(it => it.key === key);
   if (before >= 0) waiting.splice(before, 1);
@@ -46,7 +79,7 @@ export function later(key, steps) {
 }
 function runWaiting() {
   const until = performance.now() + SLICE;
-  timer = 0;
+  timer = undefined;
   do {
     const first = waiting[0];
     if (first?.steps.next().done && waiting[0] === first) waiting.shift();
@@ -55,5 +88,5 @@ function runWaiting() {
 }
 /** Takes at once all steps that wait, for paper. */
 export function runAllWaiting() {
-  while (waiting.length) atOnce(waiting.shift().steps);
+  for (let it; (it = waiting.shift());) atOnce(it.steps);
 }

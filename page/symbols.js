@@ -3,6 +3,7 @@
 
 import { svg } from "./dom.js";
 
+/** @type {Record<string, string>} */
 const SHAPES = {
   aeroplane: "M12 2l1.6 6.6L22 13v2.2l-8.3-2.4-.6 5 2.4 1.8V21L12 20l-3.5 1v-1.4l2.4-1.8-.6-5L2 15.2V13l8.4-4.4z",
   ambulance: "M2 7h13v9H2zM16 9h3l3 3.5V16h-6zM7.5 8.5v2h-2v2h2v2h2v-2h2v-2h-2v-2zM5 17h4a2 2 0 0 1-4 0zM15 17h4a2 2 0 0 1-4 0z",
@@ -36,7 +37,10 @@ const SHAPES = {
   warning: "M10 3h4l-.7 11h-2.6zM10.3 16.5h3.4v3.5h-3.4z",
   x: "M5.5 3.5L12 10l6.5-6.5 2 2L14 12l6.5 6.5-2 2L12 14l-6.5 6.5-2-2L10 12 3.5 5.5z",
 };
-/** What the codes of the primary table are: a shape, and a word where that isn't its name. */
+/**
+ * What the codes of the primary table are: a shape, and a word where that isn't its name.
+ * @type {Record<string, string>}
+ */
 const PRIMARY = {
   "!": "warning police", "#": "star digipeater", "$": "phone", "&": "diamond gateway",
   "'": "aeroplane", "(": "antenna satellite station", "+": "cross first aid", ",": "flag scouts",
@@ -51,6 +55,7 @@ const PRIMARY = {
   p: "person dog", r: "antenna repeater", s: "ship motor boat", u: "truck", v: "car van",
   y: "house station with a beam",
 };
+/** @type {Record<string, string>} */
 const ALTERNATE = {
   "!": "warning emergency", "#": "star digipeater", "&": "diamond gateway", "'": "x crash",
   "+": "cross", "-": "house", ".": "dot", ";": "camp picnic place", ">": "car", "?": "info",
@@ -61,7 +66,10 @@ const ALTERNATE = {
   x: "x", y: "house",
 };
 
-/** The shape of a place's symbol, its word, and the letter that is laid over it. */
+/**
+ * The shape of a place's symbol, its word, and the letter that is laid over it.
+ * @param {{ table: string, code: string }} place
+ */
 export function symbolOf(place) {
   const [shape, ...words] = ((place.table === "/" ? PRIMARY : ALTERNATE)[place.code] || "dot")
     .split(" ");
@@ -69,21 +77,32 @@ export function symbolOf(place) {
   return { shape, overlay, word: (words.join(" ") || (shape === "dot" ? "" : shape)) +
     (overlay ? ` ${overlay}` : "") };
 }
+/** @type {Map<string, Path2D>} */
 const paths = new Map();
+/** @param {string} shape */
 export function pathOf(shape) {
-  if (!paths.has(shape)) paths.set(shape, new Path2D(SHAPES[shape]));
-  return paths.get(shape);
+  const path = paths.get(shape) || new Path2D(SHAPES[shape]);
+  paths.set(shape, path);
+  return path;
 }
-/** A colour of the track, by name, so that it is the same in each page. */
+/** How many colours tracks have. */
 export const TRACKS = 10;
+/**
+ * A colour of the track, by name, so that it is the same in each page.
+ * @param {string} name
+ */
 export function colourOf(name) {
   let sum = 7;
   for (let k = 0; k < name.length; k++) sum = (sum * 31 + name.charCodeAt(k)) % 65521;
   return sum % TRACKS;
 }
-/** A thing's mark for a table: its symbol in the colour of its track. */
-export function markOf(thing) {
-  const shape = thing.killed ? "x" : symbolOf(thing.now).shape;
+/**
+ * A thing's mark for a table: its symbol in the colour of its track.
+ * @param {import("./net.js").Thing} thing
+ * @param {import("./reading.js").Place} place
+ */
+export function markOf(thing, place) {
+  const shape = thing.killed ? "x" : symbolOf(place).shape;
   return svg("svg", { class: `mark t${thing.colour}`, viewBox: "0 0 24 24",
     "aria-hidden": "true" }, svg("path", { d: SHAPES[shape], "fill-rule": "evenodd" }));
 }

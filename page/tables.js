@@ -2,54 +2,84 @@
 // Stations, objects and items; receivers; who heard whom, and who repeated whom.
 
 import { clockWords } from "./clockwords.js";
-import { wordsOf } from "./details.js";
+import { OPEN, wordsOf } from "./details.js";
 import { air, callIn, letters, make } from "./dom.js";
 import { ageCell, cell, List, newMark, number, timeCell } from "./lists.js";
-import { OPEN } from "./map.js";
 import { placeText } from "./placeforms.js";
 import { who } from "./roster.js";
 import { markOf, symbolOf } from "./symbols.js";
 import { printable, said } from "./words.js";
 
+/** @typedef {import("./net.js").Thing} Thing */
+/** @typedef {import("./net.js").Receiver} Receiver */
+/** @typedef {import("./reading.js").Place} Place */
+/** @typedef {import("./roster.js").Expected & { last: number }} Waited whom one waits for */
+/**
+ * How a receiver's clock is put right: by how much it was, whether it can be, and what does so.
+ * @typedef {{ shifted: (name: string) => number, can: (name: string) => boolean,
+ *   put: (name: string, by: number) => void }} ClockOf
+ */
+/**
+ * What lists have to know of the page: the moment to which ages count, after how many seconds a
+ * station is silent, the gap, and what is picked, new or silent.
+ * @typedef {{ now: number, silent: number, gap: number, picked: string | null,
+ *   clockOf: ClockOf | null, isSilent: (it: Thing) => boolean,
+ *   isNewThing: (it: Thing) => boolean }} View
+ */
 /** What is said of a station that sends 0, 0. */
 export const NO_FIX = "its place is 0, 0: no fix";
 
-function thingRow(it, view) {
-  const { now } = it, names = ["pick", it.kind].join(" "), marks = [it.kind];
+/** @param {Thing} it @param {View} view */
+function marksOf(it, view) {
+  const marks = [it.kind];
   if (it.killed) marks.push("killed");
   if (view.isSilent(it)) marks.push("silent");
   if (it.urgent) marks.push(it.urgent);
   if (it.key === view.picked) marks.push("picked");
   if (view.isNewThing(it)) marks.push("new");
-  const pick = make("button", { type: "button", className: names, title: "show on the map",
-    onclick: () => view.onPick(it.key) }, callIn(it.label));
+  return marks.join(" ");
+}
+/** @param {Thing} it @param {Place | null} now */
+function aboutOf(it, now) {
+  /** @type {(Node | string)[]} */
   const about = [];
   if (it.urgent) about.push(make("b", { className: "bad", textContent: it.urgent }), " ");
   if (now) {
-    const words = wordsOf(now).join(", ");
+    const words = wordsOf(now).filter(one => one !== it.urgent).join(", ");
     if (words) about.push(make("span", { className: "words", textContent: words }), " ");
     about.push(air(now.comment), " ");
   } else if (it.unfixed) about.push(make("span", { className: "warn", textContent: NO_FIX }), " ");
   if (it.status) about.push(make("i", { title: "status" }, air(it.status)));
+  return about;
+}
+/** @param {Thing} it @param {View} view @param {(key: string) => void} onPick */
+function thingRow(it, view, onPick) {
+  const { now } = it;
+  const pick = make("button", { type: "button", className: `pick ${it.kind}`,
+    title: "show on the map", onclick: () => onPick(it.key) }, callIn(it.label));
+  /** @type {(Node | string)[]} */
   const kind = [it.kind + (it.killed ? " killed" : "")];
   if (it.kind !== "station" && now)
     kind.push(make("small", { textContent: ` of ${who(now.source)}` }));
-  return make("tr", { className: marks.join(" "), data: { key: it.key } },
-    make("th", { scope: "row" }, now ? markOf(it) : make("span", { className: "mark" }), pick,
+  return make("tr", { className: marksOf(it, view), data: { key: it.key } },
+    make("th", { scope: "row" }, now ? markOf(it, now) : make("span", { className: "mark" }), pick,
       ...newMark(view.isNewThing(it))),
     cell("kind", ...kind), timeCell(it.last),
     ageCell(it.last, view), cell("by", it.by.join(", ")), cell("num sent", String(it.sent)),
-    cell("where", ...whereOf(now)), cell("about", ...about));
+    cell("where", ...whereOf(now)), cell("about", ...aboutOf(it, now)));
 }
+/** @param {Place | null} place */
 export function whereOf(place) {
   if (!place) return [];
   const text = placeText(place.north, place.east);
   return [make("a", { href: `geo:${place.north.toFixed(6)},${place.east.toFixed(6)}`, tabIndex: -1,
     textContent: text }), OPEN[place.ambiguity] ? " (about)" : ""];
 }
-export function thingList(box, view) {
-  return new List(box, { id: "things", caption: "stations, objects and items",
-    row: it => thingRow(it, view), columns: [
+/** @param {HTMLElement} box @param {View} view @param {(key: string) => void} onPick */
+export function thingList(box, view, onPick) {
+  const row = (/** @type {Thing} */ it) => thingRow(it, view, onPick);
+  return new List(box, { id: "things", caption: "stations, objects and items", row,
+    keyOf: it => it.key, columns: [
       { title: "name", value: it => it.label }, { title: "kind", value: it => it.kind },
       { title: "last heard", number: true, value: it => it.last },
       { title: "age", number: true, value: it => -it.last },
@@ -59,7 +89,10 @@ export function thingList(box, view) {
       { title: "comment, status", value: it => (it.now?.comment || "") + it.status },
     ] });
 }
-/** What `find` looks in. */
+/**
+ * What `find` looks in.
+ * @param {Thing} it
+ */
 export function haystack(it) {
   const words = [it.label, it.kind, it.by.join(" "), said(it.status)], { now } = it;
   if (now)
@@ -67,48 +100,62 @@ export function haystack(it) {
   return words.join("\n").toLowerCase();
 }
 
-/** A table of stations by receivers or digipeaters; `tell` says what a pair stands for. */
-export function pairList(box, id, caption, pairs, sent, tell) {
+/**
+ * A table of stations by receivers or digipeaters; `tell` says what a pair stands for.
+ * @param {HTMLElement} box
+ * @param {{ id: string, caption: string, pairs: import("./net.js").Pairs,
+ *   sent: Map<string, number>,
+ *   tell: (source: string, name: string, n: number, of: number) => string }} of
+ */
+export function pairList(box, { id, caption, pairs, sent, tell }) {
   const columns = [...pairs.columns].sort();
-  const row = source => {
-    const of = sent.get(source), cells = columns.map(name => {
+  const sentBy = (/** @type {string} */ source) => sent.get(source) || 0;
+  const row = (/** @type {string} */ source) => {
+    const of = sentBy(source), cells = columns.map(name => {
       const n = pairs.get(source, name), share = n / of;
-      return make("td", { className: `num h${Math.ceil(share * 5)}`, textContent: n || "",
-        title: tell(source, name, n, of) });
+      return make("td", { className: `num h${Math.ceil(share * 5)}`,
+        textContent: n ? String(n) : "", title: tell(source, name, n, of) });
     });
     return make("tr", { className: source === "all" ? "all" : "" },
       make("th", { scope: "row", textContent: source }), ...cells, cell("num", String(of)));
   };
   const list = new List(box, { id, caption, row, columns: [
     { title: "station", value: it => it },
-    ...columns.map(name => ({ title: name, number: true, value: it => pairs.get(it, name) })),
-    { title: "sent", number: true, value: it => sent.get(it) }] });
+    ...columns.map(name => ({ title: name, number: true,
+      value: (/** @type {string} */ it) => pairs.get(it, name) })),
+    { title: "sent", number: true, value: sentBy }] });
   const sources = [...pairs.counts.keys()].filter(it => it !== "all").sort();
   list.show(sources.length ? ["all", ...sources] : []);
   return list;
 }
+/** @param {number} n @param {number} of */
 export const shareText = (n, of) => `${n} of ${of} (${Math.round(n / of * 100)} %)`;
 
-/** What puts a receiver's clock right, where the page has its log. */
-function clockButtons(it, clock, { clockOf }) {
+/**
+ * What puts a receiver's clock right, where the page has its log.
+ * @param {Receiver} it @param {boolean} isWrong @param {View} view
+ */
+function clockButtons(it, isWrong, { clockOf }) {
   if (!clockOf) return [];
-  const button = (textContent, by) => make("button", { type: "button", className: "clock",
-    textContent, aria: { "aria-label": `${textContent} the clock of ${it.name}` },
-    onclick: () => clockOf.put(it.name, by) });
+  const button = (/** @type {string} */ textContent, /** @type {number} */ by) =>
+    make("button", { type: "button", className: "clock", textContent,
+      aria: { "aria-label": `${textContent} the clock of ${it.name}` },
+      onclick: () => clockOf.put(it.name, by) });
   const buttons = [];
-  if (clock.wrong && !Number.isNaN(it.clock.by) && clockOf.can(it.name))
+  if (isWrong && it.clock && !Number.isNaN(it.clock.by) && clockOf.can(it.name))
     buttons.push(button("put right", -Math.round(it.clock.by)));
   if (clockOf.shifted(it.name)) buttons.push(button("leave as it was", 0));
   return buttons;
 }
+/** @param {HTMLElement} box @param {View} view */
 export function receiverList(box, view) {
-  const row = it => {
+  const row = (/** @type {Receiver} */ it) => {
     const clock = clockWords(it, view.gap);
     return make("tr", { className: view.now - it.last > view.silent ? "silent" : "" },
       make("th", { scope: "row", textContent: it.name }), timeCell(it.last),
       ageCell(it.last, view), number(it.heard), number(it.alone),
       make("td", { className: clock.wrong ? "num wrong" : "num", title: clock.title }, clock.text,
-        ...clockButtons(it, clock, view)));
+        ...clockButtons(it, clock.wrong, view)));
   };
   return new List(box, { id: "receivers", caption: "receivers", row, columns: [
     { title: "receiver", value: it => it.name },
@@ -119,9 +166,12 @@ export function receiverList(box, view) {
     { title: "clock", number: true, value: it => it.clock?.by || 0 },
   ] });
 }
-/** Whom one waits for. */
+/**
+ * Whom one waits for.
+ * @param {HTMLElement} box @param {View} view
+ */
 export function rosterList(box, view) {
-  const row = it => {
+  const row = (/** @type {Waited} */ it) => {
     const heard = it.last > -Infinity, silent = !heard || view.now - it.last > view.silent;
     return make("tr", { className: silent ? "silent" : "" },
       make("th", { scope: "row", textContent: it.call }), cell("text", letters(printable(it.name))),

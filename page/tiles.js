@@ -1,7 +1,7 @@
 // @ts-check
-// The reader's own map: pictures of squares of a web map, of files (Z/X/Y.png), of archives or of the
-// page itself. Each is drawn by the affine map of three of its corners, which is below a pixel off up
-// to some 100 km.
+// The reader's own map: pictures of squares of a web map, of files (Z/X/Y.png), of archives or of
+// the page itself. Each is drawn by the affine map of three of its corners, which is below a pixel
+// off up to some 100 km.
 
 import { RADIAN, vectorOf } from "./globe.js";
 import { rangeOf } from "./grid.js";
@@ -15,6 +15,26 @@ const FORM = /(?:^|\/)(\d{1,2})\/(\d+)\/(\d+)\.(?:png|jpe?g|webp)$/i;
 export function squareOf(way) {
   const [, z, x, y] = (FORM.exec(way) || []).map(Number);
   return z <= 22 && x < 2 ** z && y < 2 ** z ? { z, x, y } : null;
+}
+/** How many rows of squares lie above a place, of `n` rows. */
+const rowOf = (/** @type {number} */ north, /** @type {number} */ n) =>
+  (0.5 - Math.asinh(Math.tan(north * RADIAN)) / (2 * Math.PI)) * n;
+/**
+ * The squares of a level in a box, by their ways; null where they are more than so many. The box's
+ * east may lie beyond 180 degrees.
+ * @param {{ south: number, north: number, west: number, east: number }} box
+ * @param {number} z
+ * @param {number} most
+ */
+export function squaresOf({ south, north, west, east }, z, most) {
+  const n = 2 ** z, column = (/** @type {number} */ at) => Math.floor((at + 180) / 360 * n);
+  const rows = [north, south].map(it =>
+    Math.max(0, Math.min(n - 1, Math.floor(rowOf(Math.max(-85, Math.min(85, it)), n)))));
+  const first = column(west), last = Math.min(column(east), first + n - 1), squares = [];
+  if ((last - first + 1) * (rows[1] - rows[0] + 1) > most) return null;
+  for (let x = first; x <= last; x++)
+    for (let y = rows[0]; y <= rows[1]; y++) squares.push(`${z}/${((x % n) + n) % n}/${y}`);
+  return squares;
 }
 /** Degrees north of the upper edge of a row of squares. */
 const northOf = (/** @type {number} */ y, /** @type {number} */ z) =>
@@ -159,12 +179,11 @@ export class Tiles {
     if (z < 0) return false;
     const { low, high, west, east } = rangeOf(view), n = 2 ** z;
     if (east - west > 40) return false;
+    const top = Math.floor(rowOf(Math.min(85, high), n));
     let painted = false;
-    const row = (/** @type {number} */ north) =>
-      (0.5 - Math.asinh(Math.tan(north * RADIAN)) / (2 * Math.PI)) * n;
     pen.save();
     for (let x = Math.floor((west + 180) / 360 * n); x <= (east + 180) / 360 * n; x++)
-      for (let y = Math.floor(row(Math.min(85, high))); y <= row(Math.max(-85, low)); y++) {
+      for (let y = top; y <= rowOf(Math.max(-85, low), n); y++) {
         const picture = this.pictureOf(`${z}/${((x % n) + n) % n}/${y}`, again);
         if (picture) this.square(pen, view, picture, { x, y, z });
         painted ||= picture !== null;

@@ -23,8 +23,6 @@ DRAWS, READS, RUNS = "begin", "reads", "worker"
 IMPORT = re.compile(r'^import (\{[^}]*\}) from "\./(\w+)\.js";\n', re.M)
 EXPORT = re.compile(r"^export (?=(?:async )?(?:const|let|function\*?|class) +(\w+|\{[^}]*\}))", re.M)
 LIST = re.compile(r"^export (\{[^}]*\});\n", re.M)
-# a caller gives the tables rows and messages
-TABLES = True
 # lines that are comments alone, which the joined page leaves out: they are a quarter of its script
 COMMENT = re.compile(r"^[ \t]*(?://.*|/\*\*(?:[^*]|\*(?!/))*\*/)[ \t]*\n", re.M)
 FOOTER = "Made by {} from a book of aprsbook."

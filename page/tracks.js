@@ -5,7 +5,7 @@ import { hourText } from "./words.js";
 
 /** @typedef {import("./globe.js").Projection} Projection */
 /** @typedef {import("./net.js").Thing} Thing */
-/** @typedef {import("./map.js").Mark} Mark */
+/** @typedef {import("./marks.js").Mark} Mark */
 /** @typedef {CanvasRenderingContext2D} Pen */
 
 /** Of more places than these, tracks are thin, and neither fade nor say their way. */

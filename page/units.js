@@ -1,6 +1,6 @@
 // @ts-check
-// In which units lengths, speeds, temperatures and rain are written: metric ones, or miles, feet and
-// degrees of Fahrenheit.
+// In which units lengths, speeds, temperatures and rain are written: metric ones, or miles, feet
+// and degrees of Fahrenheit.
 
 import { roundUp } from "./grid.js";
 
@@ -32,8 +32,8 @@ const OF_MILES = {
   rain: { unit: "in", of: n => n / 100, digits: () => 2 },
 };
 /**
- * The unit of a quantity: of metres a height, of knots a way's speed, of miles an hour that of wind,
- * of rain hundredths of an inch.
+ * The unit of a quantity: of metres a height, of knots a way's speed, of miles an hour that of
+ * wind, of rain hundredths of an inch.
  * @param {Quantity} quantity
  */
 export const unitOf = quantity => (units.miles ? OF_MILES : METRIC)[quantity];

@@ -10,7 +10,10 @@ const unreadable = /^[\p{Cc}\p{Cs}\p{Zl}\p{Zp}\p{Bidi_Control}]$/u;
  * @param {string} shown
  */
 export const letterOf = shown => /^\\(?:x..|\\)|^./s.exec(shown)?.[0] ?? "";
-/** The octets of a text as aprsbook shows it, with `\x..` for each that is no plain letter. */
+/**
+ * The octets of a text as aprsbook shows it, with `\x..` for each that is no plain letter.
+ * @param {string} shown
+ */
 function octetsOf(shown) {
   const octets = [];
   for (let at = 0; at < shown.length; at++) {
@@ -25,11 +28,17 @@ function octetsOf(shown) {
   return Uint8Array.from(octets);
 }
 
+/** @param {Uint8Array} octets */
 const hexOf = octets => Array.from(octets, it => "\\x" + it.toString(16).padStart(2, "0")).join("");
 
 /** How many octets a letter of UTF-8 has that begins so; those that begin none have one. */
-const sizeOf = octet => octet < 0xc2 ? 1 : octet < 0xe0 ? 2 : octet < 0xf0 ? 3 : 4;
-/** The letter of UTF-8 at a place of octets; nothing where there is none. */
+const sizeOf = (/** @type {number} */ octet) =>
+  octet < 0xc2 ? 1 : octet < 0xe0 ? 2 : octet < 0xf0 ? 3 : 4;
+/**
+ * The letter of UTF-8 at a place of octets; nothing where there is none.
+ * @param {Uint8Array} octets
+ * @param {number} at
+ */
 function letterAt(octets, at) {
   try {
     return strictUtf8.decode(octets.subarray(at, at + sizeOf(octets[at])));
@@ -38,8 +47,9 @@ function letterAt(octets, at) {
   }
 }
 /**
- * A text off the air, of the form in which aprsbook shows it: in UTF-8. What is none, and what can't
- * be read, stays as it is shown. The tool reads the same.
+ * A text off the air, of the form in which aprsbook shows it: in UTF-8. What is none, and what
+ * can't be read, stays as it is shown. The tool reads the same.
+ * @param {string} shown
  */
 export function said(shown) {
   if (!shown.includes("\\")) return shown;
@@ -52,9 +62,12 @@ export function said(shown) {
   }
   return text;
 }
-const readable = letter =>
+const readable = (/** @type {string} */ letter) =>
   unreadable.test(letter) ? hexOf(new TextEncoder().encode(letter)) : letter;
-/** A text that didn't come off the air, such as the name of a file, so that it can't turn others. */
+/**
+ * A text that didn't come off the air, such as the name of a file, so that it can't turn others.
+ * @param {string} text
+ */
 export const printable = text => Array.from(text, readable).join("");
 /**
  * The order of texts by the numbers of their letters, as the tool has it.
@@ -69,12 +82,19 @@ export function byLetters(a, b) {
   return of(a) - of(b);
 }
 
+/** What a fault says that was thrown. */
+export const messageOf = (/** @type {unknown} */ fault) =>
+  fault instanceof Error ? fault.message : String(fault);
+
 /** How moments are written: in local time or UTC, and with the date where that matters. */
 export const clocks = { local: false, dated: false };
 const MONTHS = "Jan Feb Mar Apr May Jun Jul Aug Sep Oct Nov Dec".split(" ");
-const two = n => String(n).padStart(2, "0");
+const two = (/** @type {number} */ n) => String(n).padStart(2, "0");
 
-/** The date and the time of a moment, as the reader wants them: year, month from 0, day, .. */
+/**
+ * The date and the time of a moment, as the reader wants them: year, month from 0, day, ..
+ * @param {number} seconds
+ */
 function civil(seconds) {
   const it = new Date(seconds * 1000);
   return clocks.local
@@ -83,36 +103,49 @@ function civil(seconds) {
     : [it.getUTCFullYear(), it.getUTCMonth(), it.getUTCDate(), it.getUTCHours(),
       it.getUTCMinutes(), it.getUTCSeconds()];
 }
+/** @param {number} seconds */
 export function dateText(seconds) {
   const [year, month, day] = civil(seconds);
   return `${year}-${two(month + 1)}-${two(day)}`;
 }
+/** @param {number} seconds */
 export function hourText(seconds) {
   return secondText(seconds).slice(0, 5);
 }
+/** @param {number} seconds */
 export function secondText(seconds) {
   const [, , , hour, minute, second] = civil(seconds);
   return `${two(hour)}:${two(minute)}:${two(second)}`;
 }
-/** A moment, with the date where more than one day is shown. */
+/**
+ * A moment, with the date where more than one day is shown.
+ * @param {number} seconds
+ */
 export function timeText(seconds) {
   const [, month, day] = civil(seconds);
   return (clocks.dated ? `${day} ${MONTHS[month]} ` : "") + secondText(seconds);
 }
+/** @param {number} seconds */
 export function zoneText(seconds) {
   if (!clocks.local) return "UTC";
   const ahead = -new Date(seconds * 1000).getTimezoneOffset(), far = Math.abs(ahead);
   return `UTC${ahead < 0 ? "\u2212" : "+"}${two(Math.floor(far / 60))}:${two(far % 60)}`;
 }
+/** @param {number} seconds */
 export const fullText = seconds =>
   `${dateText(seconds)} ${secondText(seconds)} ${zoneText(seconds)}`;
+/** @param {number} seconds */
 export const isoText = seconds => new Date(seconds * 1000).toISOString();
 
-/** How long ago something was. */
+/**
+ * How long ago something was.
+ * @param {number} passed in seconds
+ */
 export function age(passed) {
   /** @type {[number, number, string][]} */
   const units = [[60, 1, "s"], [5400, 60, "min"], [172800, 3600, "h"]];
   const [, size, unit] = units.find(([below]) => passed < below) || [0, 86400, "d"];
   return `${Math.floor(passed / size)} ${unit}`;
 }
+/** @param {number} n @param {string} word of one of them */
 export const count = (n, word) => `${n.toLocaleString("en")} ${word}${n === 1 ? "" : "s"}`;

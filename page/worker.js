@@ -5,33 +5,48 @@
 import { FUNCTIONS, run } from "./host.js";
 import { columnsOf } from "./reading.js";
 import { atOnce } from "./steps.js";
+import { messageOf } from "./words.js";
 
+/** @typedef {import("./workers.js").Got} Got */
+/** @typedef {import("./workers.js").Asked} Asked */
 /** @type {WebAssembly.Module | null} */
 let core = null;
+const NOTHING = new Uint8Array();
 /**
- * What a run gives, a table as text and its rows as columns too; and the buffers in it that need not
- * be copied.
+ * What a run gives, a table as text and its rows as columns too; and the buffers in it that need
+ * not be copied.
+ * @param {WebAssembly.Module} module
+ * @param {Asked} asked
+ * @returns {[Got, ArrayBufferLike[]]}
  */
-function answer({ command, options, inputs }) {
+function answer(module, { command, options, inputs }) {
   const table = `table ${command}`, isTable = Object.hasOwn(FUNCTIONS, table);
-  const got = run(core, isTable ? table : command, options, inputs);
+  const got = run(module, isTable ? table : command, options, inputs);
   if (!isTable || got.status) return [got, [got.bytes.buffer]];
   const text = new TextDecoder("latin1").decode(got.bytes);
-  const told = { ...got, bytes: null, text, read: null };
-  if (command !== "rows") return [told, []];
-  told.read = atOnce(columnsOf(text));
-  return [told, Object.values(told.read.columns).map(it => it.buffer)];
+  if (command !== "rows") return [{ ...got, bytes: NOTHING, text }, []];
+  const read = atOnce(columnsOf(text));
+  return [{ ...got, bytes: NOTHING, text, read },
+    Object.values(read.columns).map(it => it.buffer)];
 }
-const worker = /** @type {any} */ (globalThis);
-worker.onmessage = ({ data: [id, what, given] }) => {
+/** @typedef {[number, "load", WebAssembly.Module] | [number, "run", Asked]} Question */
+/**
+ * What a worker has of its own, which isn't what a page has.
+ * @typedef {{ onmessage: ((event: MessageEvent<Question>) => void) | null,
+ *   postMessage: (answer: unknown[], buffers?: ArrayBufferLike[]) => void }} Scope
+ */
+const worker = /** @type {Scope} */ (/** @type {unknown} */ (globalThis));
+worker.onmessage = (/** @type {MessageEvent<Question>} */ { data }) => {
+  const [id] = data;
   try {
-    if (what === "load") {
-      core = given;
+    if (data[1] === "load") {
+      core = data[2];
       return worker.postMessage([id, true, ""]);
     }
-    const [got, buffers] = answer(given);
+    if (!core) throw new Error("no module was loaded");
+    const [got, buffers] = answer(core, data[2]);
     worker.postMessage([id, got, ""], buffers);
   } catch (fault) {
-    worker.postMessage([id, null, String(fault.message || fault)]);
+    worker.postMessage([id, null, messageOf(fault)]);
   }
 };

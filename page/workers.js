@@ -4,8 +4,11 @@
 /**
  * What a run gives: its status, which input and line it refused and why, and what it wrote; of a
  * table its text, and of the rows of one their columns.
- * @typedef {{ status: number, input: number, line: number, fault: string, bytes: Uint8Array,
- *   text?: string, read?: import("./reading.js").Read }} Got
+ * @typedef {import("./host.js").Run & { text?: string, read?: import("./reading.js").Read }} Got
+ */
+/**
+ * A run that is asked for: a command of the program, or `rows` or `messages`, which gives a table.
+ * @typedef {{ command: string, options: import("./host.js").Options, inputs: Uint8Array[] }} Asked
  */
 /** @typedef {{ it: Worker, busy: number }} Hand */
 
@@ -80,8 +83,7 @@ async function copiesOf(inputs) {
   return copies;
 }
 /**
- * A run of the module over inputs: a command of the program, or `rows` or `messages`, which gives a
- * table.
+ * A run of the module over inputs.
  * @param {string} command @param {number | string[]} options @param {Uint8Array[]} inputs
  * @returns {Promise<Got>}
  */

@@ -145,7 +145,7 @@ def differences(frame: Heard, line: Line, theirs: Line) -> Iterator[Differs]:
         return
     columns = ["name", "id", "state", "latitude", "longitude", *NUMBERS, "bits"]
     if line["kind"] == "raw":
-        columns = []
+        columns = ["latitude", "longitude", "course", "speed_knots", "altitude_m"] if frame.info[:1] == b"$" else []
     for column in columns:
         ours, other = line.get(column, ""), theirs.get(column, "")
         if column == "name":
@@ -231,10 +231,22 @@ def why_weather(it: Differs) -> str:
     return "?"
 
 
+def why_sentence(it: Differs) -> str:
+    if not it.theirs:
+        return "`$GPGLL`, or a sentence without a checksum, decimals of minutes or a speed (6): not read there"
+    if it.column == "course" and it.ours == "360" and it.theirs == "0":
+        return "a course of 0 in a sentence (6): 360 here"
+    if it.line["latitude"] == "":
+        return "a sentence of another talker, or with a place of another form (6): nothing here"
+    return "?" if it.ours else "a number of a sentence of another form, or an altitude in feet (6): nothing here"
+
+
 def why(it: Differs) -> str:
     info, text = it.frame.info, comment_of(it.line)
     if it.column == "kind":
         return why_kind(it)
+    if it.line["kind"] == "raw":
+        return why_sentence(it)
     if it.column in WEATHER:
         return why_weather(it)
     if it.line["kind"] == "telemetry" and info.startswith(b"T#MIC"):
@@ -243,8 +255,10 @@ def why(it: Differs) -> str:
         return "digits of the longitude where the latitude leaves them out (6): 0 here"
     if it.column in ("longitude", "latitude") and it.line.get("compressed") == "yes":
         return "`!DAO!` after a compressed position (1.2): of plain ones alone here"
-    if it.column in ("longitude", "latitude") and len(text) == 5:
-        return "`!DAO!` as all of the comment (1.2): not read there"
+    if it.column in ("longitude", "latitude") and re.search(r"!([A-VX-Z][0-9 ]{2}|[a-vx-z][!-{ ]{2})!", text):
+        return "`!DAO!` of another datum (1.2): none here"
+    if it.column in ("longitude", "latitude") and len(text) < 7:
+        return "`!DAO!` in a comment of fewer than seven bytes (1.2): not read there"
     if it.column in ("telemetry_sequence", "a1", "a2", "a3", "a4", "a5", "bits") and text.count("|") > 2:
         return "telemetry of a comment with more than two bars (1.2)"
     if it.column == "state":

@@ -8,6 +8,8 @@
 . "$(dirname "$0")/program.sh"
 [ -n "$history" ] || fail "there is no program of histories"
 [ -n "$table" ] || fail "there is no program of tables"
+[ -x "$scratch/bin/aprsbook-fold" ] || fail 'there is no program of folds'
+names='aprsbook aprsbook-history aprsbook-table aprsbook-fold'
 made=$repository/out
 cd "$scratch"
 # tests/books.sh, run as root, runs a program as another user
@@ -19,21 +21,21 @@ mkdir inputs programs
 
 # here NAME FOLDER WHAT: its programs run on this processor
 here() {
-    for it in aprsbook aprsbook-history aprsbook-table; do
+    for it in $names; do
         if [ ! -x "$2/$it" ]; then
             echo "left out: $1 (no program $it is built: make $3)"
             return
         fi
     done
     mkdir "programs/$1"
-    ln -s "$2/aprsbook" "$2/aprsbook-history" "$2/aprsbook-table" "programs/$1"
+    for it in $names; do ln -s "$2/$it" "programs/$1"; done
 }
 # there NAME FOLDER WHAT: they run on an ARM processor
 there() {
     has "$1" qemu-aarch64-static || return 0
     here "$@"
     [ -d "programs/$1" ] || return 0
-    for it in aprsbook aprsbook-history aprsbook-table; do
+    for it in $names; do
         rm "programs/$1/$it"
         printf '#!/bin/sh\nexec qemu-aarch64-static -cpu cortex-a53 -L %s "%s" "$@"\n' \
             /usr/aarch64-linux-gnu "$2/$it" > "programs/$1/$it"
@@ -63,7 +65,7 @@ answers() {
     shift
     for input; do
         for words in 'aprsbook check' 'aprsbook convert kind' 'aprsbook merge' 'aprsbook show' \
-            aprsbook-history aprsbook-table; do
+            aprsbook-history aprsbook-table aprsbook-fold; do
             echo "$words $input"
             # shellcheck disable=SC2086 # one word each
             "$folder"/$words "$input" 2>&1 || echo "status $?"
@@ -77,10 +79,11 @@ answers() {
     "$folder/aprsbook-table" messages --gap 60 inputs/hill.log inputs/coast.log inputs/north.log
     "$folder/aprsbook-history" --help
     "$folder/aprsbook-table" --help
+    "$folder/aprsbook-fold" --help
 }
 # tried NAME: the tests with its programs, and their answers
 tried() {
-    for test in readme old_book gaps full_output logs books; do
+    for test in readme old_book gaps full_output books fold; do
         "$repository/tests/$test.sh" "programs/$1/aprsbook" || return 1
     done
     for test in complaints history table; do
@@ -126,7 +129,7 @@ if [ -d programs/static-amd64 ] && has 'old x86-64 processors' qemu-x86_64-stati
     done
 fi
 
-# ---- little memory: a log of a million lines, which a merge has to hold ----
+# ---- little memory: a log of a million lines, which a merge has to hold, and a fold of its book ----
 
 awk 'BEGIN {
     for (i = 0; i < 1000000; i++)
@@ -163,4 +166,16 @@ if [ -d programs/static-arm64 ]; then
         short 'export QEMU_RESERVED_VA=0x6000000' 04 programs/static-arm64/$words
     done
 fi
+# folds LIMIT PROGRAM: with so little it folds a day into the book of that log
+folds() {
+    ($1 && exec "$2" long.book day.book) > short.out 2> said || fail "$2 under $1: $(cat said)"
+    cmp short.out folded.book || fail "$2 under $1 writes something else"
+}
+bin/aprsbook merge long.log > long.book
+bin/aprsbook merge inputs/hill.log > day.book
+bin/aprsbook merge long.log inputs/hill.log > folded.book
+for it in bin programs/static-amd64; do
+    [ ! -d "$it" ] || folds 'ulimit -v 65536' "$it/aprsbook-fold"
+done
+[ ! -d programs/static-arm64 ] || folds 'export QEMU_RESERVED_VA=0x4000000' programs/static-arm64/aprsbook-fold
 if [ -n "$running" ]; then echo 'the programs for other machines answer as this one'; fi

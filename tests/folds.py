@@ -2,6 +2,8 @@
 """Folds random book files and compares what comes with a merge of the same files: the same bytes and
 status, or the same refusal. Books of several gaps and versions, empty ones, the same receptions in
 several books, rows near one another over all inputs, and a book that is damaged at a random place.
+Parts of a fold, from a source until another, are the merges of what these sources sent, and one
+after another the whole.
 usage: tests/folds.py PROGRAM FOLD [COUNT [SEED]]"""
 
 import random
@@ -99,9 +101,51 @@ def damaged(chance: random.Random, book: bytes) -> bytes:
     return book + b"\n"
 
 
+# the sources of frames, by the hexadecimal of their addresses, in the order of a book
+Sources = {
+    call(f"N{it % 7}CALL", it % 3, True).hex(): (f"N{it % 7}CALL", it % 3) for it in range(21)
+}
+
+
+def source(line: str) -> tuple[str, int]:
+    """The source of a log's line."""
+    return next(at for address, at in Sources.items() if address in line)
+
+
+def bounds(first: "tuple[str, int] | None", end: "tuple[str, int] | None") -> list[str]:
+    """The options for what is from this source until that one."""
+    asked = []
+    for option, at in (("--from", first), ("--until", end)):
+        if at is not None:
+            asked += [option, f"{at[0]}-{at[1]}" if at[1] else at[0]]
+    return asked
+
+
 def judged(answer: Answer) -> tuple[int, bytes]:
     """The status and the complaint without the program's name."""
     return answer.status, answer.said.split(b": ", 1)[-1]
+
+
+def compare_parts(
+    program: str, fold: str, chance: random.Random, heard: list[str], asked: list[str], whole: bytes
+) -> str:
+    """Compares the parts of a fold between random sources with merges of what these sources sent,
+    and all of them with the whole. Returns what differs, or an empty text."""
+    count = chance.randrange(4)
+    cuts = sorted({(f"N{chance.randrange(8)}CALL", chance.randrange(4)) for _ in range(count)})
+    rows = []
+    for first, end in zip([None, *cuts], [*cuts, None]):
+        sent = [
+            it
+            for it in heard
+            if (first is None or source(it) >= first) and (end is None or source(it) < end)
+        ]
+        part = run(fold, *bounds(first, end), *asked)
+        alone = run(program, "merge", *asked[:2], given="".join(sent).encode())
+        if part.status or part.out != alone.out:
+            return f"the part {bounds(first, end)}: {part.status}, {part.said!r}"
+        rows += part.out.splitlines()[1:-1]
+    return "" if rows == whole.splitlines()[1:-1] else f"the parts of {cuts}"
 
 
 def compare(program: str, fold: str, chance: random.Random, folder: Path) -> str:
@@ -131,7 +175,15 @@ def compare(program: str, fold: str, chance: random.Random, folder: Path) -> str
     if judged(merged) != judged(folded):
         return f"merge {judged(merged)}, fold {judged(folded)}"
     if merged.status == 0:
-        return "" if merged.out == folded.out else "other bytes"
+        if merged.out != folded.out:
+            return "other bytes"
+        # (a damaged book may be one of other receptions)
+        if is_damaged:
+            return ""
+        return compare_parts(program, fold, chance, heard, [*asked, *paths], folded.out)
+    part = run(fold, *asked, *bounds(("N3CALL", 1), ("N5CALL", 0)), *paths)
+    if judged(part) != judged(folded):
+        return f"fold {judged(folded)}, a part {judged(part)}"
     left = run(program, "merge", *asked, given=folded.out)
     if left.status != 1 or not left.said.rstrip().endswith(b": Ending"):
         return f"what is left: {left.said!r}"

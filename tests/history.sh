@@ -1,11 +1,11 @@
 #!/bin/sh
 # Tries the history of the example logs: the lines of the README's log, worked out by hand; one line
-# for each row of the book, with the row's moments and receivers, in the book's order; the same bytes
-# of the same receptions; and the places that Dire Wolf reads. Needs a POSIX system, and Dire Wolf's
-# decode_aprs for the last.
-# usage: tests/history.sh PROGRAM HISTORY
+# for each row, with what the table says of it by its columns; and the same bytes of the same
+# receptions. Needs a POSIX system.
+# usage: tests/history.sh PROGRAM HISTORY TABLE
 . "$(dirname "$0")/program.sh"
 [ -n "$history" ] || fail "there is no program of histories"
+[ -n "$table" ] || fail "there is no program of tables"
 cd "$repository/examples"
 cat > "$scratch/wanted" << 'end'
 message 2024-05-01T12:02:10.000Z 2024-05-01T12:02:10.000Z RX2 N0CALL-7 - WU2Z 003:Testing
@@ -17,19 +17,46 @@ end
 aprsbook-history sample.log > "$scratch/history"
 diff "$scratch/wanted" "$scratch/history" >&2 || fail 'the history of the sample differs'
 
-# ---- one line for each row, with its moments and receivers ----
+# ---- one line for each row, with what the table says of it ----
 
-# rows BOOK HISTORY: as the book has them
-rows() {
-    awk '$1 == "T" { print $2, $3, $4 }' "$1" > "$scratch/rows"
-    awk '{ print $2, $3, $4 }' "$2" > "$scratch/told"
-    cmp -s "$scratch/rows" "$scratch/told" || fail "the rows of $1 differ"
-    [ -s "$scratch/rows" ] || fail "$1 has no rows"
+# lines: of a table of rows, how the lines of its history begin. What only a history says is left out:
+# the fractions of a compressed position, the comment of Mic-E, and what a passed frame is like itself
+lines() {
+    awk -F '\t' '
+        function or_none(field) { return field == "" ? "-" : field }
+        function spaceless(field) { gsub(/ /, "\\x20", field); return field }
+        function fraction(degrees) { return sprintf("%d/6000", degrees * 6000 + (degrees < 0 ? -0.5 : 0.5)) }
+        function where(   text) {
+            text = or_none(of["stamp"]) " "
+            if (of["compressed"] == "yes") return text
+            text = text fraction(of["latitude"]) " " fraction(of["longitude"])
+            text = text " " of["ambiguity"] " " of["symbol"] ":"
+            return of["kind"] == "mic-e" ? text : text of["text"]
+        }
+        function report(kind) {
+            if (kind == "position") return where()
+            if (kind == "object" || kind == "item") return spaceless(of["name"]) " " of["state"] " " where()
+            if (kind == "status") return or_none(of["stamp"]) ":" of["text"]
+            if (kind == "message") return spaceless(of["name"]) " " or_none(of["id"]) ":" of["text"]
+            if (kind == "ack" || kind == "rej") return spaceless(of["name"]) " " of["id"]
+            if (kind == "mic-e") return of["course"] + 0 " " of["speed_knots"] " " of["says"] " " where()
+            return of["destination"] ":" of["text"]
+        }
+        NR == 1 { for (i = 1; i <= NF; i++) name[i] = $i; next }
+        {
+            for (i = 1; i <= NF; i++) of[name[i]] = $i
+            kind = of["kind"]
+            heard = of["first"] " " of["last"] " " of["receivers"]
+            if (of["gate"] != "") { print "raw " heard " " of["gate"] " "; next }
+            # weather without a position and telemetry are raw to a history
+            word = kind == "weather" || kind == "telemetry" ? "raw" : kind
+            print word " " heard " " of["source"] " " or_none(of["via"]) " " report(kind)
+        }'
 }
 for gap in 1 30 600; do
-    aprsbook merge --gap $gap evening/*.log > "$scratch/evening.book"
-    aprsbook-history --gap $gap evening/*.log > "$scratch/evening"
-    rows "$scratch/evening.book" "$scratch/evening"
+    aprsbook-history --gap $gap evening/*.log sample.log slow.log > "$scratch/evening"
+    aprsbook-table --gap $gap evening/*.log sample.log slow.log | lines |
+        begin "the history under a gap of $gap and what the table says" "$scratch/evening"
 done
 
 # ---- the same receptions, the same bytes ----
@@ -57,37 +84,4 @@ sed '1s/.*/APRSBOOK 2/' "$scratch/all.book" > "$scratch/two.book"
 alike 'a book of version 2' "$scratch/two.book"
 alike 'a book and its logs' "$scratch/all.book" ./*.log
 cat ./*.log | aprsbook-history | cmp -s - "$scratch/evening" || fail 'standard input'
-
-# ---- what show says is the last of what the history says ----
-
-aprsbook show ./*.log | awk '$1 == "station" { call = $2 } $1 == "position" || $1 == "status" {
-    print call, $1, $2
-}' | sort > "$scratch/last"
-awk '$1 == "position" || $1 == "status" {
-    if ($3 > last[$5 " " $1]) last[$5 " " $1] = $3
-}
-END { for (it in last) print it, last[it] }' "$scratch/evening" | sort | cmp -s - "$scratch/last" ||
-    fail 'the last positions and statuses differ from those of show'
-
-# ---- each place, and what has none, as Dire Wolf reads it ----
-
-if has "Dire Wolf's places" decode_aprs python3; then
-    "$repository/tools/bin/aprs-net" import book "$scratch/all.book" | aprsbook convert text |
-        sed 's/\\x\(..\)/<0x\1>/g' | while IFS= read -r text; do
-        place=$(printf '%s\n' "$text" | decode_aprs | grep -ao '[NS] [0-9]* [0-9.]*, [EW] [0-9]* [0-9.]*' || true)
-        echo "${place:-none}"
-    done > "$scratch/wolf"
-    awk '
-        # degrees and minutes, as Dire Wolf prints them
-        function of(fraction, digits, plus, minus,   part) {
-            split(fraction, part, "/")
-            part[1] *= 600000 / part[2]
-            minus = part[1] < 0 ? minus : plus
-            part[1] = int((part[1] < 0 ? -part[1] : part[1]) + 0.5)
-            return sprintf("%s %0*d %07.4f", minus, digits, int(part[1] / 600000), part[1] % 600000 / 10000)
-        }
-        { n = $1 == "position" ? 8 : $1 == "mic-e" ? 11 : $1 == "object" || $1 == "item" ? 10 : 0 }
-        { print n ? of($n, 2, "N", "S") ", " of($(n + 1), 3, "E", "W") : "none" }' "$scratch/evening" > "$scratch/places"
-    diff "$scratch/places" "$scratch/wolf" >&2 || fail 'Dire Wolf reads other places'
-fi
-echo 'a history has one line for each row, whatever the inputs are called and how they come'
+echo 'a history says of each row what the table says, whatever the inputs are called and how they come'

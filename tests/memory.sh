@@ -39,7 +39,7 @@ MAKERS = {
     "aprs_web/src/written.rt": 4,
     # the same for clap's want of memory, and for that of an opening
     "aprs_command/src/arguments.rt": 3,
-    "aprs_command/src/fold.rt": 2,
+    "aprs_command/src/fold.rt": 3,
     "aprs_command/src/history.rt": 2,
     "aprs_command/src/table.rt": 2,
     "aprs_program/src/complaint.rt": 4,

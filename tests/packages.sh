@@ -7,6 +7,8 @@
 . "$(dirname "$0")/program.sh"
 [ -n "$history" ] || fail "there is no program of histories"
 [ -n "$table" ] || fail "there is no program of tables"
+[ -x "$scratch/bin/aprsbook-fold" ] || fail 'there is no program of folds'
+fold=$(readlink "$scratch/bin/aprsbook-fold")
 has 'make install, tarball and deb' make git || exit 0
 if ! SOURCE_DATE_EPOCH=$(git -C "$repository" log -1 --format=%ct 2> "$scratch/said"); then
     echo 'left out: make install, tarball and deb (no commit is there)'
@@ -22,7 +24,7 @@ aprsbook-history "$repository/examples/sample.log" > expected.history
 version=$("$repository/packaging/version")
 # make_it TARGET ARGUMENT..: builds nothing
 make_it() {
-    make -s -C "$repository" BUILT="$program $history $table" "$@" > said 2>&1 || fail "make $*: $(cat said)"
+    make -s -C "$repository" BUILT="$program $history $table $fold" "$@" > said 2>&1 || fail "make $*: $(cat said)"
     [ ! -e built ] || fail "make $* builds"
 }
 # runs PREFIX: what was put there runs, its links lead somewhere, and nobody else may write there
@@ -32,7 +34,7 @@ runs() {
     "$1/bin/aprsbook-history" "$1/share/aprsbook/examples/sample.log" | cmp - expected.history ||
         fail "$1: the history of the sample is another"
     "$repository/tests/version.sh" "$1/bin/aprsbook" "$1/bin/aprsbook-history" \
-        "$1/bin/aprsbook-table" > said 2>&1 ||
+        "$1/bin/aprsbook-table" "$1/bin/aprsbook-fold" > said 2>&1 ||
         fail "$1: $(cat said)"
     [ -z "$(find "$1" -perm -2 ! -type l)" ] || fail "$1 may be written by others"
     [ -z "$(find "$1" -type l ! -exec test -e {} \; -print)" ] || fail "$1 has links to nothing"
@@ -107,7 +109,7 @@ twice() {
     rm -r again
 }
 if has 'make tarball' tar; then
-    twice make-tarball amd64 "$program" "$history" "$table"
+    twice make-tarball amd64 "$program" "$history" "$table" "$fold"
     tar -xzf make-tarball-amd64/*.tar.gz
     # and again, over itself; all may read it, whoever puts it there
     "aprsbook-$version/install.sh" prefix
@@ -131,13 +133,13 @@ deb() {
 }
 # has_pages ARCHITECTURE: the manual pages of the programs are there
 has_pages() {
-    for page in aprsbook.1 aprsbook-history.1 aprsbook-table.1; do
+    for page in aprsbook.1 aprsbook-history.1 aprsbook-table.1 aprsbook-fold.1; do
         gzip -dc "package-$1/usr/share/man/man1/$page.gz" | cmp - "$repository/man/$page" ||
             fail "the deb has another $page"
     done
 }
 if has 'make deb' dpkg-deb strip readelf python3; then
-    deb amd64 "$program" "$history" "$table"
+    deb amd64 "$program" "$history" "$table" "$fold"
     has_pages amd64
     deb all
     # both packages together have what make install puts in place, and no file is in both
@@ -148,10 +150,11 @@ if has 'make deb' dpkg-deb strip readelf python3; then
         fail 'the debs have other files'
     runs package-amd64/usr
     arm=$repository/out/arm64
-    if [ ! -x "$arm/aprsbook" ] || [ ! -x "$arm/aprsbook-history" ] || [ ! -x "$arm/aprsbook-table" ]; then
+    if [ ! -x "$arm/aprsbook" ] || [ ! -x "$arm/aprsbook-history" ] || [ ! -x "$arm/aprsbook-table" ] ||
+        [ ! -x "$arm/aprsbook-fold" ]; then
         echo 'left out: make deb ARCH=arm64 (no program is built: make arm64)'
     elif has 'make deb ARCH=arm64' aarch64-linux-gnu-strip; then
-        deb arm64 "$arm/aprsbook" "$arm/aprsbook-history" "$arm/aprsbook-table"
+        deb arm64 "$arm/aprsbook" "$arm/aprsbook-history" "$arm/aprsbook-table" "$arm/aprsbook-fold"
         has_pages arm64
     fi
 fi

@@ -84,3 +84,22 @@ has() {
         fi
     done
 }
+# picks NAME..: these columns of a table, with spaces between, and - for a field without a value
+picks() {
+    awk -F '\t' -v names="$*" '
+        BEGIN { n = split(names, wanted, " ") }
+        NR == 1 { for (i = 1; i <= NF; i++) at[$i] = i; next }
+        {
+            for (i = 1; i <= n; i++) {
+                if (!(wanted[i] in at)) { print "no column " wanted[i]; exit }
+                field = $at[wanted[i]]
+                printf "%s%s", field == "" ? "-" : field, i < n ? " " : "\n"
+            }
+        }'
+}
+# begin WHAT FILE: its lines, of which there are some, begin as those on standard input, one by one
+begin() {
+    awk -v file="$2" '
+        { if ((getline line < file) < 1 || substr(line, 1, length($0)) != $0) { bad = NR; exit } }
+        END { exit bad || NR == 0 || (getline line < file) > 0 }' || fail "$1 differ"
+}

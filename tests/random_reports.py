@@ -63,7 +63,7 @@ def channel(n: random.Random) -> str:
     """A frequency, more digits or telemetry in a comment, mostly none."""
     tone = n.choice(["", " T100", " c088", " D023", " T10"])
     tuned = n.choice(["146.520MHz", "146.52 MHz", "146.5 MHz"]) + tone + n.choice(["", " +060", " -600", " 060"])
-    more = n.choice(["!W12!", "!w5z!", "!W 5!", "!wAB!", "!W1a!", "!?12!"])
+    more = n.choice(["!W12!", "!w5z!", "!W 5!", "!wAB!", "!W1a!", "!?12!", "!N27!", "!yes!!w12!"])
     values = "".join(chr(n.randrange(33, 125)) for _ in range(n.choice([4, 6, 10, 12, 14, 14, 16, 5, 2])))
     return n.choice([""] * 8 + [tuned, tuned + more, more, f"|{values}|", f"|x|{values}|", tuned + f"|{values}|"])
 
@@ -126,7 +126,7 @@ def message(n: random.Random) -> str:
 
 
 def status(n: random.Random) -> str:
-    return ">" + n.choice(["", stamp(n)]) + words(n)
+    return ">" + n.choice(["", stamp(n)]) + n.choice(["", channel(n), course(n) + channel(n)]) + words(n)
 
 
 def bare_weather(n: random.Random) -> str:
@@ -144,8 +144,41 @@ def telemetry(n: random.Random) -> str:
     return "T#" + number + said + n.choice([",", ",", ""]) + bits + words(n)
 
 
+def decimal(n: random.Random, whole: int) -> str:
+    """A number as receivers send it, with so many digits before the point."""
+    decimals = "." + digits(n, n.choice([1, 2, 3, 4, 4, 6, 7]))
+    return n.choice([digits(n, whole) + n.choice([decimals, decimals, ""])] * 9 + ["", "."])
+
+
+def angles(n: random.Random) -> str:
+    north = f"{n.choice([n.randrange(90)] * 6 + [90]):02}{n.randrange(61):02}" + decimal(n, 0)
+    east = f"{n.choice([n.randrange(180)] * 6 + [180]):03}{n.randrange(61):02}" + decimal(n, 0)
+    exact = n.choice([f"{north},{n.choice('NS')},{east},{n.choice('EW')}"] * 6 + ["9000.0,N,18000.00,W"])
+    return n.choice([exact] * 9 + [f"{north},E,{east},N", f"{north},,{east},", "0000.000003,S,00000.000003,E"])
+
+
+def sentence(n: random.Random) -> str:
+    """A sentence of a GPS receiver."""
+    valid = n.choice("AAAAAV")
+    said = n.choice([
+        f"GPRMC,063909,{valid},{angles(n)},{decimal(n, 2)},{decimal(n, n.choice([1, 2, 3]))},291099,,",
+        f"GPGLL,{angles(n)},154027.281,{valid}",
+        f"GPGGA,102705,{angles(n)},{n.choice('112890')},04,2.0,{n.choice(['', '-'])}{decimal(n, 3)},"
+        f"{n.choice('MMMMF')},47.6,M,,",
+        f"GPVTG,318.7,T,,M,{decimal(n, 2)},N,65.0,K",
+        f"GNRMC,063909,{valid},{angles(n)},{decimal(n, 2)},,291099,,",
+        f"GPRMC,063909,{valid},{angles(n)}",
+    ])
+    checksum = 0
+    for byte in said.encode():
+        checksum ^= byte
+    right = [f"*{checksum:02X}"] * 8
+    return "$" + said + n.choice([*right, f"*{checksum:02x} Hi", "", f"*{checksum ^ 1:02X}", "*", "*0"])
+
+
 def raw(n: random.Random) -> str:
-    return n.choice(["<IGATE,MSG_CNT=30", "?APRS?", "$GPRMC,063909,A,3349.4302,N", "{Q1qwerty", "[IO91SX] Hi", "Hi"])
+    other = n.choice(["<IGATE,MSG_CNT=30", "?APRS?", "$GPRMC,063909,A,3349.4302,N", "{Q1qwerty", "[IO91SX] Hi", "Hi"])
+    return n.choice([other, sentence(n), sentence(n)])
 
 
 def mic_e(n: random.Random) -> Heard:

@@ -3,7 +3,7 @@
 
 usage: tests/sentences.py [--most WORDS] [--draw NUMBER [--seed SEED]] [FILE..]
 
-Prints each sentence of more than 30 words, or more than --most, and each with words that need the
+Prints each sentence of more than 25 words, or more than --most, and each with words that need the
 sentence before it; then the status is 1. A code span or a link is one word or as many as it shows,
 and blocks of code are passed over. A cell of a table, an item of a list and a tag of a manual page
 are texts of their own. With --draw it prints so many sentences, drawn by lot, to be read by
@@ -18,7 +18,7 @@ import re
 import sys
 from typing import Iterator, List, NamedTuple
 
-MOST = 30
+MOST = 25
 # what refers back to a sentence or a clause that one has to look for
 BACK = re.compile(r"\b(of which|so was|so were|and that one|in which case)\b", re.I)
 # where a sentence ends: a stop, what closes, and then what can begin the next one
@@ -58,8 +58,8 @@ def texts_of_page(path: str, lines: List[str]) -> Iterator[Text]:
         elif inside or line.startswith("<!--") or not line.strip():
             continue
         elif line.startswith("|"):
-            # what stands in a cell with semicolons between is a list
-            for cell in re.split(r"(?<!\\)\||; ", line.strip().strip("|")):
+            # what stands in a cell with semicolons between is a list, and so are numbered names
+            for cell in re.split(r"(?<!\\)\||; |, (?=\d+ \w)", line.strip().strip("|")):
                 if not re.fullmatch(r"[\s:-]*", cell):
                     yield Text(path, number, cell.strip())
         elif line.startswith("#"):

@@ -1,26 +1,14 @@
 #!/bin/sh
 # Tries the tables of the example logs: the rows of the README's log, worked out by hand; as many fields
-# in each line as there are columns; a line for each row of the book, with what the history says of it;
-# the same bytes of the same receptions; and the types of the columns in a database. Needs a POSIX
-# system, and sqlite3 for the last.
+# in each line as there are columns; a line for each row of the book, which begins as the columns say
+# (tests/history.sh does so with the history); the last of the rows in the table of stations and in the
+# listing; the places that Dire Wolf reads; the same bytes of the same receptions; and the types of the
+# columns in a database. Needs a POSIX system, Dire Wolf's decode_aprs and sqlite3.
 # usage: tests/table.sh PROGRAM HISTORY TABLE
 . "$(dirname "$0")/program.sh"
 [ -n "$table" ] || fail "there is no program of tables"
 cd "$repository/examples"
 tab=$(printf '\t')
-# picks NAME..: these columns of a table, with spaces between, and - for a field without a value
-picks() {
-    awk -F '\t' -v names="$*" '
-        BEGIN { n = split(names, wanted, " ") }
-        NR == 1 { for (i = 1; i <= NF; i++) at[$i] = i; next }
-        {
-            for (i = 1; i <= n; i++) {
-                if (!(wanted[i] in at)) { print "no column " wanted[i]; exit }
-                field = $at[wanted[i]]
-                printf "%s%s", field == "" ? "-" : field, i < n ? " " : "\n"
-            }
-        }'
-}
 # wanted WHAT: the text on standard input is that of the file wanted
 wanted() {
     cat > "$scratch/given"
@@ -85,7 +73,7 @@ cp sample.log "$scratch/rows"
 (cd "$scratch" && aprsbook-table ./rows) | cmp - "$scratch/sample" ||
     fail 'a file with the name of a table is none'
 
-# ---- as many fields as columns, and a line for each row with what the history says of it ----
+# ---- as many fields as columns, and a line for each row of the book ----
 
 # whole TABLE: each line has as many fields as the first, and the last one ends
 whole() {
@@ -95,21 +83,76 @@ whole() {
 }
 for it in sample messages stations things; do whole "$scratch/$it"; done
 for gap in 1 30 600; do
-    aprsbook-history --gap $gap evening/*.log > "$scratch/history"
     aprsbook-table --gap $gap evening/*.log > "$scratch/evening"
     whole "$scratch/evening"
-    [ -s "$scratch/history" ] || fail 'the evening has no rows'
-    # a kind that the history has as raw may be weather or telemetry here
-    awk '{ print $2, $3, $4, $5, $6 }' "$scratch/history" > "$scratch/wanted"
-    picks first last receivers source via gate < "$scratch/evening" |
-        sed 's/ -$//' | wanted "the rows of the evening with a gap of $gap"
+    aprsbook merge --gap $gap evening/*.log | sed '1d; $d' > "$scratch/rows_of_book"
+    picks first last receivers receiver < "$scratch/evening" | sed 's/.*/T & /' |
+        begin "the rows of the evening's book with a gap of $gap" "$scratch/rows_of_book"
 done
 aprsbook-table < /dev/null > "$scratch/none"
 head -n 1 "$scratch/evening" | cmp - "$scratch/none" || fail 'no input has more than columns'
 
-# ---- the same receptions, the same bytes ----
+# ---- the stations have the last of the rows, and the listing what the stations have ----
 
 aprsbook-table evening/*.log > "$scratch/evening"
+aprsbook-table stations evening/*.log > "$scratch/stations"
+# last KIND: the station, the moment and the receiver of its last row of this kind
+last() {
+    awk -F '\t' -v kind="$1" '
+        NR == 1 { for (i = 1; i <= NF; i++) at[$i] = i; next }
+        $at["kind"] != kind { next }
+        {
+            heard = $at["last"] " " $at["receiver"]
+            if (heard > last[$at["source"]]) last[$at["source"]] = heard
+        }
+        END { for (it in last) print it, last[it] }' "$scratch/evening" | sort
+}
+last position > "$scratch/wanted"
+picks source last receiver < "$scratch/stations" | grep -v ' - -$' | sort |
+    wanted 'the last positions of the stations'
+last status > "$scratch/wanted"
+picks source status_last status_receiver < "$scratch/stations" | grep -v ' - -$' | sort |
+    wanted 'the last statuses of the stations'
+aprsbook show evening/*.log | sed '/^object /,$d; /^item /,$d; /^message /,$d' > "$scratch/listed"
+awk -F '\t' '
+    NR == 1 { for (i = 1; i <= NF; i++) at[$i] = i; next }
+    { print "station " $at["source"] " " $at["transmissions"] }
+    $at["last"] != "" { print "position " $at["last"] " " $at["receiver"] " " }
+    $at["status_last"] != "" { print "status " $at["status_last"] " " $at["status_receiver"] " " }
+    ' "$scratch/stations" | begin 'the stations of the listing' "$scratch/listed"
+
+# ---- each place, and what has none, as Dire Wolf reads it ----
+
+if has "Dire Wolf's places" decode_aprs python3; then
+    aprsbook merge evening/*.log | aprs-net import book | aprsbook convert text |
+        sed 's/\\x\(..\)/<0x\1>/g' | while IFS= read -r text; do
+        place=$(printf '%s\n' "$text" | decode_aprs | grep -ao '[NS] [0-9]* [0-9.]*, [EW] [0-9]* [0-9.]*' || true)
+        echo "${place:-none}"
+    done > "$scratch/wolf"
+    # Dire Wolf prints degrees and minutes with four decimals: N 54 33.2191, W 003 33.5489
+    awk -F '\t' -v file="$scratch/wolf" '
+        function apart(degrees, whole, minutes, minus,   way) {
+            way = 60 * degrees - (minus ? -1 : 1) * (60 * whole + minutes)
+            return way > 0.0001 || way < -0.0001
+        }
+        NR == 1 { for (i = 1; i <= NF; i++) at[$i] = i; next }
+        {
+            latitude = $at["latitude"]
+            if ((getline line < file) < 1) exit bad = 1
+            if (line == "none" || latitude == "") {
+                if (line != "none" || latitude != "") bad = NR
+                next
+            }
+            split(line, part, /[ ,]+/)
+            if (apart(latitude, part[2], part[3], part[1] == "S")) bad = NR
+            if (apart($at["longitude"], part[5], part[6], part[4] == "W")) bad = NR
+        }
+        END { if (bad) print "row " bad - 1; exit bad || (getline line < file) > 0 }
+        ' "$scratch/evening" >&2 || fail 'Dire Wolf reads other places'
+fi
+
+# ---- the same receptions, the same bytes ----
+
 # alike WHAT ARGUMENT..: the table of these inputs is that of the evening
 alike() {
     what=$1

@@ -187,13 +187,13 @@ def measured(comment: bytes) -> Line:
 
 def finer(comment: bytes, north: Fraction, east: Fraction) -> Line:
     """Of a plain position without ambiguity, with one digit more."""
-    more = re.search(rb"!([A-Z])([0-9 ])([0-9 ])!|!([a-z])([!-{ ])([!-{ ])!", comment)
+    more = re.search(rb"!W([0-9 ])([0-9 ])!|!w([!-{ ])([!-{ ])!", comment)
     if not more:
         return {}
     if more[1]:
-        parts = [Fraction(int(digit.replace(b" ", b"0")), 60000) for digit in more.group(2, 3)]
+        parts = [Fraction(int(digit.replace(b" ", b"0")), 60000) for digit in more.group(1, 2)]
     else:
-        parts = [Fraction(0 if digit == b" " else digit[0] - 33, 546000) for digit in more.group(5, 6)]
+        parts = [Fraction(0 if digit == b" " else digit[0] - 33, 546000) for digit in more.group(3, 4)]
     angles = [x - part if x < 0 else x + part for x, part in zip((north, east), parts)]
     return {"finer_latitude": degrees(angles[0]), "finer_longitude": degrees(angles[1])}
 
@@ -329,7 +329,9 @@ def status(info: bytes) -> Optional[Line]:
         return None
     stamp = re.match(rb">([0-9]{6}z)", info)
     text = info[stamp.end() :] if stamp else info[1:]
-    return {"kind": "status", "stamp": stamp[1].decode() if stamp else "", "text": shown(text)}
+    line = {"kind": "status", "stamp": stamp[1].decode() if stamp else "", "text": shown(text)}
+    line.update(frequency(text))
+    return line
 
 
 def telemetry(info: bytes) -> Optional[Line]:
@@ -352,11 +354,54 @@ def telemetry(info: bytes) -> Optional[Line]:
     return line
 
 
+NUMBER = r"[0-9]{1,6}(?:\.[0-9]{1,6})?"
+NORTH = re.compile(r"([0-9]{2})([0-5][0-9](?:\.[0-9]{1,6})?)\Z")
+EAST = re.compile(r"([0-9]{3})([0-5][0-9](?:\.[0-9]{1,6})?)\Z")
+
+
+def sentence(info: bytes) -> Line:
+    """Of a sentence of a GPS receiver with a valid fix."""
+    body, star, sent = info[1:].partition(b"*")
+    checksum = 0
+    for byte in body:
+        checksum ^= byte
+    if info[:1] != b"$" or (star and not re.match(b"(?i)%02x" % checksum, sent)):
+        return {}
+    name, *fields = body.decode("latin-1").split(",")
+    place, valid, most = {"GPGGA": (1, 5, 10), "GPGLL": (0, 5, 6), "GPRMC": (2, 1, 8)}.get(name, (0, 0, 99))
+    if len(fields) < most or not re.match(r"[1-9]\Z" if name == "GPGGA" else r"A\Z", fields[valid]):
+        return {}
+    north, east = NORTH.match(fields[place]), EAST.match(fields[place + 2])
+    halves = fields[place + 1], fields[place + 3]
+    if not north or not east or halves[0] not in ("N", "S") or halves[1] not in ("E", "W"):
+        return {}
+    angles = [int(it[1]) + Fraction(it[2]) / 60 for it in (north, east)]
+    if angles[0] > 90 or angles[1] > 180:
+        return {}
+    line = {"latitude": degrees(-angles[0] if halves[0] == "S" else angles[0]),
+            "longitude": degrees(-angles[1] if halves[1] == "W" else angles[1])}
+    if name == "GPRMC":
+        line.update(moving(fields[6], fields[7]))
+    if name == "GPGGA" and fields[9] == "M" and re.match("-?" + NUMBER + r"\Z", fields[8]):
+        parts = nearest(abs(Fraction(fields[8])) * 10**4)
+        line["altitude_m"] = with_decimals(-parts if fields[8][0] == "-" else parts, 4)
+    return line
+
+
+def moving(knots: str, course: str) -> Line:
+    line = {}
+    if re.match(NUMBER + r"\Z", knots):
+        line["speed_knots"] = str(nearest(Fraction(knots)))
+    if re.match(NUMBER + r"\Z", course) and nearest(Fraction(course)) <= 360:
+        line["course"] = str(nearest(Fraction(course)) or 360)
+    return line
+
+
 def other(info: bytes) -> Line:
     """Of information without a report."""
     if re.match(rb"_[0-9]{8}", info):
         return {"kind": "weather", "text": shown(info), **weather(None, info[9:])}
-    return telemetry(info) or {"kind": "raw", "text": shown(info)}
+    return telemetry(info) or {"kind": "raw", "text": shown(info), **sentence(info)}
 
 
 # ---- Mic-E

@@ -40,17 +40,12 @@ def event_page(path, *arguments):
 
 
 def placed(*inputs):
-    """How many things have a place, by the history of the inputs."""
-    command = ["aprsbook-history", *inputs]
-    history = subprocess.run(command, stdout=subprocess.PIPE, check=True).stdout.decode()
-    things = set()
-    for line in history.splitlines():
-        words = line.split(" ")
-        if words[0] in ("position", "mic-e"):
-            things.add(("station", words[4]))
-        elif words[0] in ("object", "item"):
-            things.add((words[0], words[6]))
-    return len(things)
+    """How many things have a place, by the table of the inputs."""
+    command = ["aprsbook-table", *inputs]
+    table = subprocess.run(command, stdout=subprocess.PIPE, check=True).stdout.decode()
+    rows = csv.DictReader(io.StringIO(table), delimiter="\t", quoting=csv.QUOTE_NONE)
+    return len({(it["kind"], it["name"]) if it["kind"] in ("object", "item")
+                else ("station", it["source"]) for it in rows if it["latitude"]})
 
 
 def is_(got, wanted):
@@ -76,7 +71,7 @@ def test_hostile(page, folder):
         is_(said.count(hostile.shown(text)), 3)
     is_(said.count("caf\\xe9 \\xff\\x80"), 1)
     is_(page.js("aprsbook.page.map.things.length"), len(hostile.TEXTS) + 1 + 2 * len(hostile.NAMES))
-    is_(page.js("aprsbook.page.bases[0].points[0].name"), hostile.TEXTS[0])
+    is_(page.js("aprsbook.page.map.bases[0].points[0].name"), hostile.TEXTS[0])
     page.js("document.querySelectorAll('.pick, th button').forEach(it => "
             "it.dispatchEvent(new Event('click')))")
     is_(page.js("[window.ran === undefined, document.querySelectorAll('script').length, "
@@ -354,18 +349,19 @@ def test_brought(page, folder):
     for name in "coast.geojson", "race.gpx", "roster.txt":
         page.give("#bring", folder / name)
         page.wait(f"told.textContent.startsWith('{name}')")
-    is_(page.js("aprsbook.page.bases.map(it => [it.lines.length, it.points.map(one => one.name)])"),
+    is_(page.js("aprsbook.page.map.bases.map(it => [it.lines.length, it.points.map(one => one.name)])"),
         [[1, ["pier"]], [1, [hostile.TEXTS[0]]]])
     is_(page.js(texts % "#expected tbody th"), ["Q1RUN-*", "Q1NINE-9", "Q1MED-7"])
     is_(page.js(texts % "#expected .time"), ["20:02:14", "not heard", "19:44:12"])
-    assert "2 of 3 expected not heard" in page.js(BADGES)
+    assert ("2 of 3 expected not heard for 30 min: not here (Q1NINE-9), =1+1 (Q1MED-7)"
+            in page.js(BADGES)), page.js(BADGES)
     is_(page.problems(), [])
     # Chromium has a word of its own on XML that isn't well-formed
     for name in "bad.gpx", "far.geojson":
         page.give("#bring", folder / name)
         page.wait(f"told.textContent.startsWith('{name}') && told.className === 'bad'")
     page.js("away.click()")
-    is_(page.js("[aprsbook.page.bases.length, roster.hidden]"), [0, True])
+    is_(page.js("[aprsbook.page.map.bases.length, roster.hidden]"), [0, True])
     page.open(event_page(folder / "roster.html", "--roster", folder / "roster.txt", *EVENING))
     is_(page.js(texts % "#expected tbody th"), ["Q1RUN-*", "Q1NINE-9", "Q1MED-7"])
 
@@ -400,6 +396,12 @@ def test_needs(page, folder):
     page.js("aprsbook.show({ ...aprsbook.page.data, rows: aprsbook.page.data.rows + "
             f"{json.dumps(row('mic-e', 11, 'Q1MIC-7', says='emergency', **where))} }})")
     page.wait("window.rung === 2")
+    # they stay in sight where the map fills the window
+    page.js("fill.click()")
+    is_(page.js("(() => { const { x, y } = document.querySelector('#news > .alarm')"
+                ".getBoundingClientRect(); return document.elementFromPoint(x + 20, y + 5)"
+                ".className })()"), "alarm")
+    page.js("fill.click()")
     # a click on the news picks who it is, and what isn't on the map is told as what it is
     page.js("document.querySelector('#news > a').click()")
     is_(page.js("[aprsbook.page.picked, document.getElementById('one').hidden]"),

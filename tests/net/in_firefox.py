@@ -115,7 +115,8 @@ def test_roster(page, folder):
     page.give("#bring", folder / "roster.txt")
     page.wait("told.textContent === 'roster.txt: 3 calls'")
     is_(page.js(texts % "#expected .time"), ["20:02:14", "19:44:12", "not heard"])
-    assert "2 of 3 expected not heard" in page.js(texts % "#news > *")
+    assert ("2 of 3 expected not heard for 30 min: at the second post (Q1MED-7), Q1NINE"
+            in page.js(texts % "#news > *"))
 
 
 def test_paper(page, folder):

@@ -170,6 +170,7 @@ def test_folders(page, folder):
         drop(page, folder / "tiles")
         page.wait("aprsbook.page.map.tiles.size === 400")
         squares(page)
+        carries(page, folder)
 
 
 def squares(page):
@@ -182,6 +183,26 @@ def squares(page):
         [200, 30, 30])
     assert "400 squares" in page.js("document.getElementById('own-map').textContent")
     picture(page, "tiles")
+
+
+def carries(page, folder):
+    """The saved page has the squares around the places, as far as they may be."""
+    path = page.saves_in(folder) / "event.html"
+    page.js("(saves.open = true, 1)")
+    page.wait("most.checkVisibility()")
+    for most, some in (("0", False), ("5", True)):
+        page.js(f"(most.value = '{most}', document.getElementById('event').click(), 1)")
+        for _ in range(200):
+            if path.exists() and ('"tiles":{' in path.read_text(encoding="utf-8")) == some:
+                break
+            time.sleep(0.05)
+        else:
+            raise AssertionError(f"squares of {most} MB")
+    assert page.js("document.getElementById('status').textContent").startswith("event.html has ")
+    page.open(path.as_uri())
+    page.wait("aprsbook.page.net !== null")
+    is_red(page, "", "54.52,-3.5,20")
+    is_(page.problems(), [])
 
 
 def mbtiles(path):
@@ -352,7 +373,7 @@ def test_brought(page, folder):
     page.wait(MADE)
     told = page.js("told.textContent")
     assert "course.kml: a map" in told and "who.csv: 1 call, line 3: not a call is no call" in told, told
-    is_(page.js("aprsbook.page.bases.map(it => [it.lines.length, it.points.map(one => one.name)])"),
+    is_(page.js("aprsbook.page.map.bases.map(it => [it.lines.length, it.points.map(one => one.name)])"),
         [[1, ["pier"]]])
     page.wait("[...document.querySelectorAll('#things th bdi')].some(it => "
               "it.textContent === 'The; leader (Q1A-2)')")

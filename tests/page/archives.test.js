@@ -5,13 +5,41 @@ import os from "node:os";
 import path from "node:path";
 import { test } from "node:test";
 import zlib from "node:zlib";
+import { boxAround, carriedIn } from "../../page/carried.js";
 import { openMbtiles } from "../../page/mbtiles.js";
 import { entriesOf, numberOf, openPmtiles } from "../../page/pmtiles.js";
 import { openSqlite } from "../../page/sqlite.js";
+import { squaresOf } from "../../page/tiles.js";
 
 const PNG = [0x89, 0x50, 0x4e, 0x47, 13, 10, 26, 10];
 const squares = (z, wide) => Array.from({ length: wide * wide }, (_, k) =>
   [z, k % wide, Math.floor(k / wide)]);
+
+// ---- what a saved page carries
+
+test("a saved page carries whole levels around the places, in so many bytes", async () => {
+  const box = boxAround([{ north: 54.5, east: -3.5 }, { north: 54.6, east: -3.4 }]);
+  assert.ok(box.north > 54.64 && box.south < 54.46 && box.west < -3.55 && box.east > -3.35);
+  assert.equal(boxAround([]), null);
+  assert.equal(boxAround([{ north: 0, east: 0 }, { north: 0, east: 3 }]), null);
+  // over the date line it is narrow
+  const over = boxAround([{ north: 1, east: 179.99 }, { north: 1, east: -179.99 }]);
+  assert.ok(over.east - over.west < 0.3 && over.east > 180);
+  assert.deepEqual(squaresOf(over, 1, 9), ["1/1/0", "1/0/0"]);
+  const picture = Uint8Array.from([...PNG, ...new Uint8Array(100)]), one = 4 * 36;
+  const all = squaresOf(box, 9, 99), tiles = { least: 8, most: 10,
+    find: async key => key.startsWith("10/") || key === all[0] ? null : new Blob([picture]) };
+  const sizes = [8, 9].map(z => squaresOf(box, z, 99).length), before = one * sizes[0];
+  const { squares, leftOut } = await carriedIn(tiles, box, before + one * (sizes[1] - 1));
+  assert.equal(leftOut, null);
+  assert.equal(Object.keys(squares).length, sizes[0] + sizes[1] - 1);
+  assert.deepEqual([...Buffer.from(squares[all[1]], "base64")], [...picture]);
+  const less = await carriedIn(tiles, box, before + one * (sizes[1] - 1) - 1);
+  assert.deepEqual([Object.keys(less.squares).length, less.leftOut], [sizes[0], 9]);
+  // what is no picture isn't carried
+  const bad = await carriedIn({ ...tiles, find: async () => new Blob(["text"]) }, box, 1e6);
+  assert.deepEqual(bad, { squares: {}, leftOut: null });
+});
 
 // ---- PMTiles (github.com/protomaps/PMTiles, spec/v3)
 

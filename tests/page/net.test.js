@@ -5,7 +5,7 @@ import { know } from "../../page/roster.js";
 import { Alarm } from "../../page/sound.js";
 import { message, netOfLines, place, row, thing } from "./tables.js";
 
-const OF = { gap: 30, silent: 30, isSilent: () => false, missing: 0, expected: 0 };
+const OF = { gap: 30, silent: 30, isSilent: () => false, missing: [], expected: 0 };
 const micE = (second, source, says) => row("mic-e", second, source,
   { latitude: "54.5", longitude: "-3.5", symbol: "/j", says });
 
@@ -76,6 +76,11 @@ test("a name of the roster stands wherever a station is in need", () => {
   know([{ call: "Q1A-*", name: "Leader", group: "", bib: "" }]);
   const net = netOfLines([micE(0, "Q1A-7", "emergency")]);
   assert.equal(needsOf(net.things)[0].text, "EMERGENCY: Leader (Q1A-7), 18:00:00");
+  const missingText = missing => newsOf(net, { ...OF, missing, expected: 5 })
+    .map(it => it.text).find(it => / expected /.test(it));
+  assert.equal(missingText([]), "0 of 5 expected not heard");
+  assert.equal(missingText(["Q1A-1", "Q1B", "Q1C", "Q1D"]),
+    "4 of 5 expected not heard for 30 min: Leader (Q1A-1), Q1B, Q1C, and 1 more");
   know([]);
 });
 

@@ -6,16 +6,20 @@ const at = (degrees, minutes, seconds) => degrees + minutes / 60 + seconds / 360
 function near(north, east, zone, easting, northing) {
   const utm = utmOf(north, east);
   assert.equal(`${utm.zone}${utm.band}`, zone);
-  assert.ok(Math.abs(utm.easting - easting) < 1, `${utm.easting} is not ${easting}`);
-  assert.ok(Math.abs(utm.northing - northing) < 1, `${utm.northing} is not ${northing}`);
+  assert.ok(Math.abs(utm.easting - easting) < 1e-3, `${utm.easting} is not ${easting}`);
+  assert.ok(Math.abs(utm.northing - northing) < 1e-3, `${utm.northing} is not ${northing}`);
 }
 
-test("published places are right to a metre", () => {
-  // the CN Tower (Wikipedia, Universal Transverse Mercator), the Washington Monument (FGDC-STD-011,
-  // its sheet of the National Geodetic Survey), and a place of GeographicLib's GeoConvert
-  near(at(43, 38, 33.24), -at(79, 23, 13.7), "17T", 630084, 4833438.5);
-  near(at(38, 53, 22.08269), -at(77, 2, 6.86575), "18S", 323483.2, 4306479.5);
-  near(33.33424, 44.40363, "38S", 444500, 3688500.4);
+test("places are those of PROJ to a millimetre", () => {
+  // each as PROJ 9.1.1 has it (Debian's proj-bin), of north and east in degrees:
+  // echo '33.33424 44.40363' | cs2cs -f %.4f EPSG:4326 EPSG:32638
+  // zone 38 north is 32638, and zone 56 south 32756
+  near(at(43, 38, 33.24), -at(79, 23, 13.7), "17T", 630084.3105, 4833438.5488); // the CN Tower
+  near(at(38, 53, 22.08269), -at(77, 2, 6.86575), "18S", 323483.1448, 4306479.5101); // Washington
+  near(33.33424, 44.40363, "38S", 444500.2034, 3688500.5438); // Baghdad
+  near(-33.8568, 151.2153, "56H", 334900.5697, 6252288.7529); // Sydney
+  near(60.393, 5.3242, "32V", 297480.122, 6700831.0221); // Bergen, in the wide zone 32
+  near(78.2232, 15.6267, "33X", 514278.7151, 8683355.4695); // Longyearbyen
   assert.equal(utmText(33.33424, 44.40363), "38S 444500 3688501");
   assert.equal(mgrsText(at(38, 53, 22.08269), -at(77, 2, 6.86575)), "18S UJ 23483 06479");
   // 4QFJ1234567890 of Wikipedia's Military Grid Reference System, in the middle of its square
@@ -24,10 +28,10 @@ test("published places are right to a metre", () => {
 test("places on the middle of a zone and on the equator", () => {
   near(0, 3, "31N", 500000, 0);
   near(-1e-9, 3, "31M", 500000, 1e7);
-  near(0, 0, "31N", 166021.44, 0);
+  near(0, 0, "31N", 166021.4431, 0);
   // the arc from the equator to 45 degrees, times 0.9996
-  near(45, 9, "32T", 500000, 4982950.4);
-  near(-45, 9, "32G", 500000, 5017049.6);
+  near(45, 9, "32T", 500000, 4982950.4002);
+  near(-45, 9, "32G", 500000, 5017049.5998);
 });
 test("zones end at each six degrees, and 180 degrees east are 180 west", () => {
   for (const [east, zone] of [[-180, 1], [-174.0001, 1], [-174, 2], [-0.0001, 30], [0, 31],

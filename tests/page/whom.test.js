@@ -5,6 +5,7 @@ import { Fan, pilesOf, spotsAround } from "../../page/fans.js";
 import { numbersOf, restOf, wayOf } from "../../page/frames.js";
 import { graphsOf, partsOf, ticksOf } from "../../page/graphs.js";
 import { Looked } from "../../page/looked.js";
+import { channelsOf, isBattery } from "../../page/telemetry.js";
 import { quarterOf } from "../../page/tracks.js";
 import { message, netOfLines, place, row, thing } from "./tables.js";
 
@@ -83,6 +84,21 @@ test("graphs are of the table's columns, in the unit that is said, and of two va
   assert.deepEqual(graphsOf(rows, numbers).map(it =>
     [it.title, it.unit, it.lines.map(line => line.map(one => one.value))]),
   [["temperature", "\u00b0C", [[10, 20]]], ["telemetry 1", "as sent", [[7, 8]]]]);
+});
+test("telemetry has the names, units and equations that messages to its station say", () => {
+  const say = (text, second, to = "Q1A") => message("Q1A", to, text, "unnumbered", second);
+  const net = netOfLines([row("telemetry", 0, "Q1A", { a1: 10, a2: 120, a3: 3 }),
+    row("telemetry", 60, "Q1A", { a1: 20, a2: 118, a3: 4 })],
+  [say("PARM.Old", 0), say("PARM.Temp,Vbat", 1), say("UNIT.C,V", 2), say("EQNS.1,2,3,0,.1,0,x", 3),
+    say("PARM.Sun", 9, "Q1B")]);
+  const channels = channelsOf(net.messages, "Q1A");
+  const { rows } = thing(net, "Q1A"), numbers = numbersOf(thing(net, "Q1A"), net.rows);
+  assert.deepEqual(graphsOf(rows, numbers, channels).map(it =>
+    [it.title, it.unit, it.lines[0].map(one => Number(one.value.toFixed(6)))]),
+  [["Vbat", "V", [12, 11.8]], ["Temp", "C", [123, 443]], ["telemetry 3", "as sent", [3, 4]]]);
+  assert.deepEqual(["Battery", "batt", "Bat1 V", "Vbat", "Bath", "combat"].map(name =>
+    isBattery({ name, unit: "x", of: Number })), [true, true, true, true, false, false]);
+  assert.ok(isBattery({ name: "A1", unit: "mV", of: Number }));
 });
 test("a gap isn't joined", () => {
   const line = [0, 60, 120, 180, 500, 560, 2000].map(at => ({ at, value: 1 }));

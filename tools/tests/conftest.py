@@ -1,4 +1,6 @@
 """What the tests share: the command, the examples, and what is left out without a program."""
+import csv
+import io
 import os
 import pathlib
 import shutil
@@ -47,6 +49,11 @@ def started(*arguments: object, **keywords: Any) -> "subprocess.Popen[bytes]":
     keywords.setdefault("env", environment())
     keywords.setdefault("stderr", subprocess.PIPE)
     return subprocess.Popen(command(*arguments), **keywords)
+
+
+def named(text: str) -> List[Dict[str, str]]:
+    """The lines of a table with tabs between the fields, by the names in the first."""
+    return [*csv.DictReader(io.StringIO(text), delimiter="\t", quoting=csv.QUOTE_NONE)]
 
 
 def wait_for(condition: Callable[[], Any], words: str = "", seconds: float = 20) -> Any:

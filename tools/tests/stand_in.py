@@ -53,7 +53,7 @@ def read(path: str, gap: int, widen: bool) -> Set[str]:
             fail(f"{path}: line {number}: LongLine")
         if not re.fullmatch(r"\S{20,24} \S{1,16} [0-9a-f]*", line):
             fail(f"{path}: line {number}: Moment")
-        if len(line.split(" ")[2]) % 2:
+        if not re.fullmatch(r"\S+ \S+ ([0-9a-f]{2})*", line):
             fail(f"{path}: line {number}: Hex")
     return {re.sub(r"(:\d\d)Z", r"\1.000Z", line) for line in text.splitlines()}
 
@@ -77,7 +77,7 @@ def main() -> None:
     parser = argparse.ArgumentParser(PROGRAM)
     parser.add_argument("--version", action="version", version=f"{PROGRAM} 0")
     parser.add_argument("--gap", type=int)
-    if PROGRAM == "aprsbook-fold" and not os.environ.get("STAND_IN_WITHOUT_RANGES"):
+    if PROGRAM == "aprsbook-fold":
         parser.add_argument("--from", dest="since", default="")
         parser.add_argument("--until", default="~")
     parser.add_argument("words", nargs="*")

@@ -123,7 +123,7 @@ class Programs:
         bin_folder = folder / "bin"
         bin_folder.mkdir()
         words = [*WORDS.values()]
-        for name in "aprsbook", "aprsbook-table", "aprsbook-history":
+        for name in "aprsbook", "aprsbook-table":
             script = bin_folder / name
             script.write_text(SCRIPT.format(python=sys.executable, folder=str(folder), words=words))
             script.chmod(script.stat().st_mode | stat.S_IXUSR)

@@ -13,7 +13,7 @@ from typing import Callable, Dict, List, Optional, Set, Tuple
 
 import pytest
 
-from aprsbook_tools import book, moments
+from aprsbook_tools import book, log_file
 from conftest import EVENING, HERE, command, environment, started, tried, wait_for
 
 PATH = os.environ["PATH"]
@@ -179,14 +179,19 @@ def test_a_log_that_was_changed_is_named(club: Club) -> None:
     assert club.read() == club.merged(30, *ALL)
 
 
-def test_without_the_program_that_folds(club: Club) -> None:
-    """aprsbook itself merges then."""
+def without_folds(club: Club) -> None:
+    """No program that folds is there for what comes, but a stand-in for the others."""
     if club.bin is None:
         pytest.skip("needs the stand-in")
     (club.bin / "aprsbook-fold").unlink()
     rest = [it for it in PATH.split(os.pathsep)
             if not os.path.exists(os.path.join(it, "aprsbook-fold"))]
     club.env["PATH"] = os.pathsep.join([str(club.bin), *rest])
+
+
+def test_without_the_program_that_folds(club: Club) -> None:
+    """aprsbook itself merges then."""
+    without_folds(club)
     for name in ALL:
         club.lay(f"logs/{name}.log", name)
     club.book("net.book", "logs")
@@ -290,12 +295,10 @@ def test_more_than_1024_files(club: Club) -> None:
 
 def write_large(club: Club, name: str, megabytes: int) -> List[bytes]:
     """A log of many lines of the evening, each at another moment; its lines."""
-    line, moment = club.lay("kept", "hill").read_bytes().splitlines()[0], 1_718_992_800_000
-    frame = line.split(b" ", 1)[1] + b"\n"
-    lines = []
-    for number in range(megabytes * 1_100_000 // (25 + len(frame))):
-        moment += 31_000
-        lines.append(moments.text_of(moment).encode() + b" " + frame)
+    first = log_file.read_line(club.lay("kept", "hill").read_bytes().splitlines()[0])
+    assert first is not None
+    count = megabytes * 1_100_000 // len(first.write())
+    lines = [first._replace(moment=first.moment + 31_000 * it).write() for it in range(count)]
     club.path(name).parent.mkdir(parents=True, exist_ok=True)
     club.path(name).write_bytes(b"".join(lines))
     return lines
@@ -376,19 +379,15 @@ def test_a_book_that_few_programs_read_is_named(tmp_path: pathlib.Path) -> None:
     assert len(said) == 1 and "aprsbook-fold" in said[0] and "--parts" in said[0]
 
 
-def test_parts_need_a_program_that_has_them(club: Club) -> None:
+def test_parts_need_the_program_that_folds(club: Club) -> None:
     club.lay("logs/HILL.log", "hill")
     club.book("--parts", "2", "--days", "days", "parts", "logs", status=2)
-    club.env["STAND_IN_WITHOUT_RANGES"] = "yes"
-    if club.bin is not None:
-        assert "--from" in club.book("--parts", "2", "parts", "logs", status=1)
-        assert not club.path("parts").exists()
+    without_folds(club)
+    assert "aprsbook-fold" in club.book("--parts", "2", "parts", "logs", status=1)
+    assert not club.path("parts").exists()
 
 
 def test_parts_are_the_book(club: Club) -> None:
-    done = subprocess.run(["aprsbook-fold", "--help"], env=club.env, capture_output=True)
-    if b"--from" not in done.stdout:
-        pytest.skip("needs aprsbook-fold --from")
     for name in ALL:
         club.lay(f"logs/{name}.log", name)
     # and a book as it is, and one that is compressed
@@ -498,6 +497,20 @@ def test_a_fault_of_this_machine_is_no_fault_of_a_book(club: Club) -> None:
     program.write_text("#!/bin/sh\necho 'aprsbook-fold: cannot write' >&2\nexit 3\n")
     said = club.book("--pass-over", "own.book", "in", status=3)
     assert said == "aprsbook-fold: cannot write\n"
+
+
+@pytest.mark.parametrize("name", ["aprsbook", "aprsbook-fold"])
+def test_a_program_that_writes_nothing_makes_no_empty_book(club: Club, name: str) -> None:
+    """As `put-whole net.book true` did."""
+    if club.bin is None:
+        pytest.skip("needs the stand-in")
+    club.lay("logs/HILL.log", "hill")
+    club.book("net.book", "logs")
+    before = club.read()
+    club.lay("logs/COAST.log", "coast")
+    (club.bin / name).write_text("#!/bin/sh\nexit 0\n")
+    assert club.book("net.book", "logs", status=3).startswith(f"{name}: wrote nothing")
+    assert club.read() == before
 
 
 def test_a_killed_run_leaves_the_old_book_or_the_new_one(club: Club) -> None:

@@ -189,3 +189,15 @@ def test_a_matrix_by_bib(programs: Programs, tmp_path: pathlib.Path) -> None:
         ["118", "Q1A", "Anna", "18:00:00", "18:04:30", "18:09:30"],
         ["", "Q1C", "", "", "18:04:00", ""],
     ]
+
+
+def test_the_time_of_each_segment(programs: Programs, tmp_path: pathlib.Path) -> None:
+    (tmp_path / "points").write_text("Tarn 54.5 -3.5 60\nEnd 54.505396 -3.5 60\n")
+    programs.say(*LAPS)
+    assert programs.lines("passed", "--matrix", "--segments", "points", "net.log") == [
+        ["bib", "name", "tactical", "Tarn 1", "End 1", "Tarn 2"],
+        ["", "Q1A", "", "0:00:00", "0:04:30", "0:05:00"],
+        ["", "Q1B", "", "0:00:00", "", ""],
+        ["", "Q1C", "", "", "0:00:00", ""],
+    ]
+    programs.run("passed", "--segments", "points", "net.log", status=2)

@@ -1,4 +1,5 @@
 """aprs-net clocks: pairs of receivers, by spans, with the place of each step."""
+import gzip
 import pathlib
 import statistics
 from typing import Callable, Dict, Iterator, List, Optional, Sequence, Tuple
@@ -8,7 +9,7 @@ from hypothesis import given, strategies as st
 
 from aprsbook_tools import cli, clocks, log_file, moments, table
 from aprsbook_tools.table import Row
-from conftest import EVENING, program, tried
+from conftest import EVENING, named, program, tried
 
 NOON = moments.milliseconds("2024-06-21T12:00:00Z")
 MINUTE = 60_000
@@ -168,9 +169,10 @@ def test_the_command(tmp_path: pathlib.Path, monkeypatch: pytest.MonkeyPatch,
         return cli.run(["clocks", "-o", str(out), *words])
 
     assert run(str(paths["A"]), str(paths["B"])) == 0
-    assert [it.split("\t")[:4] for it in out.read_text().splitlines()] == [
-        ["receiver", "other", "ahead", "frames"], ["COAST", "HILL", "+29.000", "10"],
-        ["COAST", "hill", "+29.000", "10"], ["HILL", "hill", "+0.000", "10"]]
+    told = [[it[name] for name in ("receiver", "other", "ahead", "frames")]
+            for it in named(out.read_text())]
+    assert told == [["COAST", "HILL", "+29.000", "10"], ["COAST", "hill", "+29.000", "10"],
+                    ["HILL", "hill", "+0.000", "10"]]
     assert run("--gap", "28", str(paths["A"]), str(paths["B"])) == 1
     assert "COAST differs by more than the gap, 28 seconds" in capsys.readouterr().err
     assert run(str(tmp_path)) == 1
@@ -184,8 +186,16 @@ def test_the_command(tmp_path: pathlib.Path, monkeypatch: pytest.MonkeyPatch,
     assert run(str(tmp_path)) == 1 and "B.log: line 10: no line" in capsys.readouterr().err
 
 
+@pytest.mark.parametrize("octets", [b"no gzip", gzip.compress(b"x" * 99)[:-9]])
+def test_a_log_that_cannot_be_unpacked_is_named(tmp_path: pathlib.Path, octets: bytes) -> None:
+    (tmp_path / "A.log.gz").write_bytes(octets)
+    said = tried("clocks", tmp_path, status=1).stderr.decode()
+    assert "A.log.gz: can't be unpacked to its end" in said and said.count("\n") == 1
+
+
 def test_the_evening() -> None:
     program("aprsbook-table")
     done = tried("clocks", *EVENING)
-    assert [it.split("\t")[:3] for it in done.stdout.decode().splitlines()[1:]] == [
-        ["COAST", "HILL", "+0.000"], ["COAST", "NORTH", "-1.000"], ["HILL", "NORTH", "-1.000"]]
+    ahead = {(it["receiver"], it["other"]): it["ahead"] for it in named(done.stdout.decode())}
+    assert ahead == {
+        ("COAST", "HILL"): "+0.000", ("COAST", "NORTH"): "-1.000", ("HILL", "NORTH"): "-1.000"}

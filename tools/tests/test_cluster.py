@@ -163,9 +163,6 @@ def test_the_bytes_of_one_merge(hosts: Hosts) -> None:
 
 def test_parts(hosts: Hosts) -> None:
     """Parts stay as files, and their fold is the book."""
-    done = subprocess.run(["aprsbook-fold", "--help"], env=hosts.env, stdout=subprocess.PIPE)
-    if b"--from" not in done.stdout:
-        pytest.skip("needs aprsbook-fold --from")
     run = hosts.start(*command("cluster", "--piece", 1, "--fan", 2, "--parts", 4, hosts.address,
                                "equal", "parts", *hosts.logs))
     hosts.ends(run, 0)

@@ -150,6 +150,22 @@ def test_csv_of_a_table(programs: Programs) -> None:
     assert read_csv(programs.run("csv", "stations", "net.log"))[1][:2] == ["Q1A", "12"]
 
 
+def test_tactical_names(programs: Programs) -> None:
+    fill(programs)
+    (programs.folder / "names").write_text("q1net-* Control\n")
+    [head, line] = read_csv(programs.run("csv", "messages", "--roster", "names", "net.log"))
+    told = dict(zip(head, line))
+    assert [told["source_name"], told["addressee_name"]] == ["", "Control"]
+    programs.run("sqlite", "--roster", "names", "net.log", "net.db")
+    assert asked(
+        programs.folder / "net.db",
+        "select distinct source, source_name from transmissions order by source",
+    ) == [("Q1A", ""), ("Q1NET", "Control")]
+    # the roster isn't replaced, and without names the columns are as before
+    programs.run("sqlite", "--roster", "names", "net.log", "names", status=2)
+    assert "source_name" not in programs.run("csv", "rows", "net.log")
+
+
 def test_csv_of_fields(programs: Programs) -> None:
     text = "call\tsaid\nQ1A\t=1+1\nQ1B\ta, b\nQ1C\tK\\xc3\\xa4ppeli \\xe9\n"
     (programs.folder / "fields").write_text(text)

@@ -1,5 +1,6 @@
 """What lies below the marks of a page: rings around land, fine coasts, squares of a web map."""
 import base64
+import gzip
 import os
 import pathlib
 import shutil
@@ -12,7 +13,7 @@ from hypothesis import strategies as st
 from standing import Programs, place
 from test_pages import data_of
 
-from aprsbook_tools import coasts, ground, rings
+from aprsbook_tools import coasts, ground, pmtiles, rings
 from aprsbook_tools.errors import Fault
 from aprsbook_tools.geo import Spot
 from aprsbook_tools.rings import Box, Line, Point
@@ -200,6 +201,70 @@ def test_a_page_carries_the_squares_around_its_places(
             database.execute("INSERT INTO tiles VALUES (?, ?, ?, ?)", (z, x, 2**z - 1 - y, data))
     words[-1] = "map.mbtiles"
     assert data_of(programs.run(*words, "net.log"))["tiles"] == tiles
+    (tmp_path / "map.pmtiles").write_bytes(archive(made))
+    words[-1] = "map.pmtiles"
+    assert data_of(programs.run(*words, "net.log"))["tiles"] == tiles
+
+
+def packed(*numbers: int) -> bytes:
+    """Numbers by seven bits, lower ones first."""
+    data = bytearray()
+    for it in numbers:
+        while it > 127:
+            data.append(it % 128 + 128)
+            it //= 128
+        data.append(it)
+    return bytes(data)
+
+
+def directory(entries: List[pmtiles.Entry]) -> bytes:
+    """A directory as the specification writes it; an offset that goes on is 0."""
+    steps = [it.number - (entries[k - 1].number if k else 0) for k, it in enumerate(entries)]
+    offsets = [0 if k and it.offset == entries[k - 1].offset + entries[k - 1].length
+               else it.offset + 1 for k, it in enumerate(entries)]
+    return packed(len(entries), *steps, *(it.run for it in entries),
+                  *(it.length for it in entries), *offsets)
+
+
+def archive(made: Dict[str, bytes]) -> bytes:
+    """PMTiles of these squares, with directories of seven."""
+    ways = sorted((pmtiles.number_of(*map(int, way.split("/"))), way) for way in made)
+    data = b""
+    entries: List[pmtiles.Entry] = []
+    for number, way in ways:
+        entries.append(pmtiles.Entry(number, 1, len(made[way]), len(data)))
+        data += made[way]
+    leaves = b""
+    root: List[pmtiles.Entry] = []
+    for k in range(0, len(entries), 7):
+        leaf = gzip.compress(directory(entries[k:k + 7]))
+        root.append(pmtiles.Entry(entries[k].number, 0, len(leaf), len(leaves)))
+        leaves += leaf
+    first = gzip.compress(directory(root))
+    at = pmtiles.HEADER + len(first)
+    spans = [pmtiles.HEADER, len(first), at, 0, at, len(leaves), at + len(leaves), len(data)]
+    levels = [int(way.split("/")[0]) for way in made]
+    head = b"PMTiles\x03" + b"".join(it.to_bytes(8, "little") for it in [*spans, 0, 0, 0])
+    head += bytes([0, 2, 1, 2, min(levels), max(levels)])
+    return head.ljust(pmtiles.HEADER, b"\0") + first + leaves + data
+
+
+def test_squares_of_pmtiles_are_numbered_as_the_specification_has_them() -> None:
+    for z, x, y, number in ((0, 0, 0, 0), (1, 0, 0, 1), (1, 0, 1, 2), (1, 1, 1, 3), (1, 1, 0, 4),
+                            (2, 0, 0, 5), (12, 3423, 1763, 19078479)):
+        assert pmtiles.number_of(z, x, y) == number
+
+
+def test_pmtiles_that_are_damaged_are_refused(tmp_path: pathlib.Path) -> None:
+    box = coasts.box_around([Spot(54.5, -3.6)])
+    assert box is not None
+    whole = archive(squares(Spot(54.5, -3.6), 5))
+    # a head of another version, vector squares, cut within head, directory and squares, no gzip
+    for damaged in (whole[:7] + b"\x02" + whole[8:], whole[:99] + b"\x01" + whole[100:], whole[:60],
+                    whole[:140], whole[:-1500], whole[:130] + b"\xff" * 9 + whole[139:]):
+        (tmp_path / "map.pmtiles").write_bytes(damaged)
+        with pytest.raises(Fault, match="map.pmtiles: "):
+            ground.tiles_in(str(tmp_path / "map.pmtiles"), box, 10**7)
 
 
 def test_a_level_that_has_no_room_is_left_out_and_said(

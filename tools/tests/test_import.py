@@ -232,7 +232,8 @@ def test_dire_wolfs_own_csv() -> None:
 
 
 def test_xastirs_own_log_of_the_internet_has_nothing_that_was_heard() -> None:
-    assert imported((SAMPLES / "xastir-2.1.8.net").read_bytes(), "xastir") == ([], "")
+    lines, said = imported((SAMPLES / "xastir-2.1.8.net").read_bytes(), "xastir")
+    assert lines == [] and "nothing was found" in said
 
 
 # ---- feeds, and other programs ----
@@ -268,6 +269,22 @@ def test_raw_packets_of_aprs_fi() -> None:
         ["2024-06-21T18:00:00.000Z Q0GATE-1", "2024-06-21T18:00:10.000Z Q0GATE-1"], "")
     assert frame(lines[0]).endswith(b">Hi \x1c there") and frame(lines[1]).endswith(b">again")
     assert imported(text, "aprs-fi", status=1)[0] == []
+
+
+def test_packets_of_aprs_fi_that_dire_wolf_quotes() -> None:
+    """Dire Wolf 1.6 has two in src/decode_aprs.c, where it says that 25 characters of a time stand
+    before each."""
+    time = b"2012-02-27 21:19:13 EST: "
+    text = b"".join(time + it + b"\n" for it in (
+        b"WB2OSZ-1>APN383,qAR,N1EDU-2:!4237.14NS07120.83W#PHG7130Chelmsford, MA",
+        b"KB1KTR-8>TR3U6T,KB1KTR-9*,WB2OSZ-1*,WIDE2*,qAR,W1XM:`c1<0x1f>l!t>/>\"4^}"))
+    lines, said = imported(text, "aprs-fi", "--zone", "America/New_York")
+    assert (heads(lines), said) == (
+        [f"2012-02-28T02:19:13.000Z {it}" for it in ("N1EDU-2", "W1XM")], "")
+    assert [frame(it) for it in lines] == [
+        ax25.frame("WB2OSZ-1", "APN383", b"!4237.14NS07120.83W#PHG7130Chelmsford, MA"),
+        ax25.frame("KB1KTR-8", "TR3U6T,KB1KTR-9*,WB2OSZ-1*,WIDE2*", b"`c1\x1fl!t>/>\"4^}")]
+    assert len(time) == 25
 
 
 def test_xastir_has_its_moments_in_lines_of_their_own() -> None:
@@ -351,7 +368,10 @@ def test_a_book_back_to_a_log() -> None:
     text = b"APRSBOOK 3 30\n" + row.encode() + b"END 1\n"
     lines, _ = imported(text, "book")
     assert heads(lines) == ["2024-05-01T12:00:05.000Z RX2"] and frame(lines[0]) == HI
-    for wrong in text[:-3], text[:-6], text[:-2] + b"2\n", text + b"x", b"APRSBOOK 1\nEND 0\n", b"":
+    old = text.replace(b"APRSBOOK 3 30", b"APRSBOOK 1").replace(b".000Z", b"Z")
+    assert imported(old, "book") == (lines, "")
+    for wrong in text[:-3], text[:-6], text[:-2] + b"2\n", text + b"x", b"", \
+            text.replace(b"3 30", b"4 30"), text.replace(b"-05-01T", b"-05-32T"):
         tried("import", "book", given=wrong, status=1)
 
 
@@ -365,6 +385,13 @@ def test_frames_that_cannot_be_are_said() -> None:
 """ % (b"x" * 257)
     lines, said = imported(text, "monitor")
     assert heads(lines) == ["2024-06-21T12:00:00.250Z TEXT"] and said.count("\n") == 2
+
+
+@pytest.mark.parametrize("name", ["aprx", "yaac", "aprs-fi", "xastir"])
+def test_a_text_of_another_program_is_not_passed_over_in_silence(name: str) -> None:
+    lines, said = imported((SAMPLES / "direwolf-1.6.csv").read_bytes(), name)
+    assert lines == [] and said == \
+        f"aprs-net import: nothing was found that {name} has of what was heard\n"
 
 
 def test_an_output_is_whole_and_no_input(tmp_path: pathlib.Path) -> None:

@@ -55,9 +55,10 @@ def test_several_radios(tmp_path: pathlib.Path) -> None:
 def test_what_a_station_of_ones_own_sent_is_kept_apart(tmp_path: pathlib.Path) -> None:
     own = kiss.wrap(ax25.frame("Q0OWN", "APRS,WIDE1-1", b">sent"))
     back = kiss.wrap(ax25.frame("Q0OWN", "APRS,Q1DIG*", b">sent"))
-    run(tmp_path, own + back + FRAME, "--own", "Q0OWN")
-    assert {name: len(it) for name, it in logs(tmp_path).items()} == {"RX1.log": 2}
-    assert {name: len(it) for name, it in logs(tmp_path, "own").items()} == {"RX1.own": 1}
+    for count, call in enumerate(("Q0OWN", "q0own-0"), 1):
+        run(tmp_path, own + back + FRAME, "--own", call)
+        assert {name: len(it) for name, it in logs(tmp_path).items()} == {"RX1.log": 2 * count}
+        assert {name: len(it) for name, it in logs(tmp_path, "own").items()} == {"RX1.own": count}
 
 
 def test_a_full_disk(tmp_path: pathlib.Path) -> None:
@@ -75,7 +76,7 @@ def test_a_full_disk(tmp_path: pathlib.Path) -> None:
     ["12345678901234567", "made"], ["RX1", "file/made"], ["RX1", "file"],
     ["--ports", "12345678901234", "made"], ["--aprs-is", "h:1", "RX1", "made"],
     ["--filter", "r/1/2/3", "RX1", "made"], ["--idle", "-1", "RX1", "made"],
-    ["--baud", "1", "RX1", "made"], ["--own", "q0own", "RX1", "made"],
+    ["--baud", "1", "RX1", "made"], ["--own", "Q0OWN-16", "RX1", "made"],
     ["--aprs-is", "h:1", "--call", "Q0X", "--filter", "a\nb", "RX1", "made"]])
 def test_wrong_arguments(tmp_path: pathlib.Path, wrong: List[str]) -> None:
     (tmp_path / "file").write_bytes(b"")

@@ -15,9 +15,10 @@ def test_nobody_acknowledged_and_the_form_doesn_t_say_so(programs: Programs) -> 
         message("18:00", "Q1A", "Q1B", "one", id="7", state="acknowledged"),
         message("19:00", "Q1A", "Q1B", "two", id="7"),
     )
-    lines = programs.run("ics-309", "net.log").splitlines()
-    assert [line.split()[-2:] for line in lines[5:7]] == [["ack", "one"], ["ack", "two"]]
-    assert "no ack" in lines[6] and "no ack" not in lines[5]
+    assert programs.run("ics-309", "net.log").splitlines()[5:7] == [
+        "2024-06-21 18:00:00  Q1A        7      Q1B        ack     one",
+        "2024-06-21 19:00:00  Q1A        7      Q1B        no ack  two",
+    ]
     assert [it[5] for it in read_csv(programs.run("ics-309", "--csv", "net.log"))] == [
         "state",
         "acknowledged",
@@ -37,8 +38,9 @@ def test_rejected_first_and_acknowledged_later_is_acknowledged(programs: Program
 
 def test_a_bulletin_has_no_answer(programs: Programs) -> None:
     programs.say(message("18:00", "Q1NET", "BLN1RACE", "Start 1830", state="unnumbered"))
-    line = programs.run("ics-309", "net.log").splitlines()[5]
-    assert line.split() == ["2024-06-21", "18:00:00", "Q1NET", "BLN1RACE", "Start", "1830"]
+    assert programs.run("ics-309", "net.log").splitlines()[5] == (
+        "2024-06-21 18:00:00  Q1NET             BLN1RACE           Start 1830"
+    )
 
 
 @pytest.mark.parametrize(
@@ -48,6 +50,12 @@ def test_no_moment_is_refused(programs: Programs, word: str) -> None:
     """`--from yesterday` made an empty form, with status 0."""
     assert programs.run("ics-309", "--from", word, "net.log", status=2) == ""
     assert "is no moment in UTC" in programs.said
+
+
+def test_a_time_that_ends_before_it_begins_is_refused(programs: Programs) -> None:
+    for until in "2024-06-21", "2024-06-22":
+        words = "--from", "2024-06-22", "--to", until
+        assert programs.run("ics-309", *words, "net.log", status=2) == ""
 
 
 @pytest.mark.parametrize(

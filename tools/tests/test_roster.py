@@ -40,6 +40,8 @@ def test_a_line(line: str, wanted: Expected) -> None:
         "-7",
         "Q1*",
         "Q1RUN-**",
+        "Q1RUN-7-*",
+        "Q1RUN-0-*",
         "Q1RÜN",
         ",Leader",
         "()",

@@ -4,6 +4,7 @@ import pathlib
 import subprocess
 
 import pytest
+from conftest import command, environment
 from standing import Programs, place
 
 from aprsbook_tools import cli, typed
@@ -23,6 +24,16 @@ def links(tmp_path: pathlib.Path) -> pathlib.Path:
 def test_each_link_is_there(links: pathlib.Path) -> None:
     assert set(os.listdir(links)) == set(typed.LINKS)
     assert all(os.path.samefile(links / it, TOOLS / "bin" / "aprs-net") for it in typed.LINKS)
+
+
+@pytest.mark.parametrize("words", [["--version"], ["--help"], ["log", "--help"]])
+def test_help_that_nobody_takes_is_a_fault(words: "list[str]") -> None:
+    if not os.path.exists("/dev/full"):
+        pytest.skip("needs /dev/full")
+    with open("/dev/full", "wb") as full:
+        done = subprocess.run(command(*words), env=environment(), stdout=full,
+                              stderr=subprocess.PIPE)
+    assert (done.returncode, done.stderr.count(b"\n")) == (3, 1), done.stderr
 
 
 def test_a_link_is_its_subcommand(links: pathlib.Path, programs: Programs) -> None:

@@ -2,10 +2,12 @@
 import json
 import os
 import pathlib
+import subprocess
 import sys
 from typing import List
 
 import pytest
+from conftest import started
 from standing import Programs, at, message, place, row
 
 from aprsbook_tools import watching
@@ -126,6 +128,16 @@ def test_each_is_told_once(net: Programs) -> None:
     assert net.run(*WORDS, "--state", "told", "logs") == ""
     net.say(row("status", "18:00", "Q1A"))
     assert net.run(*WORDS, "--state", "told", "logs").startswith("silent: Q1A")
+
+
+def test_runs_at_once_tell_once(net: Programs) -> None:
+    runs = [
+        started(*WORDS, "--state", "told", "logs", cwd=net.folder, stdout=subprocess.PIPE)
+        for _ in range(3)
+    ]
+    said_ = [it.communicate()[0] for it in runs]
+    assert [it.returncode for it in runs] == [0, 0, 0]
+    assert b"".join(said_).count(b"\n") == 3
 
 
 def test_a_command_is_told_without_a_shell(net: Programs, tmp_path: pathlib.Path) -> None:

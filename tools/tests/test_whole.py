@@ -65,6 +65,14 @@ def test_what_cannot_become_a_file_is_refused(tmp_path: pathlib.Path, name: str)
     assert fault.value.status == 3 and names(tmp_path) == before
 
 
+def test_a_folder_that_is_missing_is_named(tmp_path: pathlib.Path) -> None:
+    """Also that of a link."""
+    (tmp_path / "link").symlink_to("nowhere/file")
+    for path in tmp_path / "link", tmp_path / "nowhere/file":
+        with pytest.raises(Fault, match="no folder .*/nowhere is there"):
+            whole.write(str(path), b"text")
+
+
 def test_nothing_changed_and_nothing_is_touched(tmp_path: pathlib.Path) -> None:
     """A page that is made each minute stays the file that it is."""
     path = tmp_path / "page.html"

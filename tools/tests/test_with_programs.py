@@ -6,7 +6,7 @@ import sqlite3
 from typing import Any, Dict, Iterable, List, Tuple, Type, TypeVar
 
 import pytest
-from conftest import EVENING, program, run, tried
+from conftest import EVENING, named, program, run, tried
 from hypothesis import given, settings
 from hypothesis import strategies as st
 
@@ -38,10 +38,20 @@ def log_of(sent: Iterable[Sent]) -> bytes:
     return b"".join(line(*it) for it in sent)
 
 
-def lines(*words: str, given: bytes = b"") -> List[List[str]]:
-    """The fields of the lines that a command prints, without the head."""
-    text = tried(*words, given=given).stdout.decode()
-    return [it.split("\t") for it in text.splitlines()[1:]]
+def told(*words: str, given: bytes = b"") -> List[Dict[str, str]]:
+    """The lines that a command prints, by the names of their columns."""
+    return named(tried(*words, given=given).stdout.decode())
+
+
+def picked(lines: Iterable[Dict[str, str]], *names: str) -> List[List[str]]:
+    """These columns of lines."""
+    return [[it[name] for name in names] for it in lines]
+
+
+def sheet(*words: str, given: bytes = b"") -> List[Dict[str, str]]:
+    """The lines of CSV that a command prints, by the names of their columns."""
+    names, *rows = read_csv(tried(*words, given=given).stdout.decode())
+    return [dict(zip(names, it)) for it in rows]
 
 
 def table_of(kind: Type[T], *inputs: str, given: bytes = b"") -> List[T]:
@@ -59,8 +69,7 @@ def test_an_ack_of_an_earlier_message_is_none_of_a_later_one() -> None:
             ("19:00:00", "Q1A", ":Q1B      :two{7"),
         ]
     )
-    rows = read_csv(tried("ics-309", "--csv", given=log).stdout.decode())[1:]
-    state = {it[4]: it[5] for it in rows}
+    state = {it["message"]: it["state"] for it in sheet("ics-309", "--csv", given=log)}
     assert state == {"one": "acknowledged", "two": "unanswered"}
     assert state == {it.text: it.state for it in table_of(Message, given=log)}
 
@@ -73,19 +82,20 @@ def test_a_message_that_was_rejected_and_acknowledged_later() -> None:
             ("18:02:00", "Q1B", ":Q1A      :ack8"),
         ]
     )
-    [told] = table_of(Message, given=log)
-    [row] = read_csv(tried("ics-309", "--csv", given=log).stdout.decode())[1:]
-    assert row[4:] == ["one", "acknowledged"] == [told.text, told.state]
+    [it] = table_of(Message, given=log)
+    [row] = sheet("ics-309", "--csv", given=log)
+    assert [row["message"], row["state"]] == ["one", "acknowledged"] == [it.text, it.state]
 
 
 def test_messages_of_the_evening() -> None:
-    told = [
+    wanted = [
         [it.first, it.source, it.id, it.addressee, it.text, it.state]
         for it in table_of(Message, *EVENING)
     ]
-    rows = read_csv(tried("ics-309", "--csv", *EVENING).stdout.decode())[1:]
-    assert sorted(rows) == sorted(told) and len(rows) > 5
-    assert [it[0] for it in rows] == sorted(it[0] for it in rows)
+    rows = sheet("ics-309", "--csv", *EVENING)
+    names = "time", "from", "number", "to", "message", "state"
+    assert sorted(picked(rows, *names)) == sorted(wanted) and len(rows) > 5
+    assert [it["time"] for it in rows] == sorted(it["time"] for it in rows)
 
 
 def test_last_heard_of_the_evening() -> None:
@@ -97,8 +107,8 @@ def test_last_heard_of_the_evening() -> None:
             call = ax25.call_of(kiss.unwrap(bytes.fromhex(read.digits.decode())[1:-1])[7:14])
             heard = f"{moments.text_of(read.moment)} {read.receiver}"
             last[call] = max(last.get(call, ""), heard)
-    told = {it[2]: f"{it[0]} {it[1]}" for it in lines("last-heard", *EVENING)}
-    assert told == last
+    stations = told("last-heard", *EVENING)
+    assert {it["call"]: f"{it['last']} {it['receiver']}" for it in stations} == last
 
 
 def test_a_roster(tmp_path: pathlib.Path) -> None:
@@ -108,7 +118,8 @@ def test_a_roster(tmp_path: pathlib.Path) -> None:
     (tmp_path / "names").write_text(
         "Q1RUNS the other\n\nq1run-* sweepers, 2\nQ1GONE gone\nQ1RUN-0\n"
     )
-    assert [it[:4] for it in lines("roster", "names", given=log)] == [
+    lines = told("roster", "names", given=log)
+    assert picked(lines, "last", "receiver", "call", "transmissions") == [
         ["never", "", "Q1GONE", "0"],
         ["2024-06-21T18:02:00.000Z", "RX1", "Q1RUNS", "1"],
         ["2024-06-21T18:05:00.000Z", "RX2", "Q1RUN-*", "3"],
@@ -131,19 +142,24 @@ def test_checkpoints(tmp_path: pathlib.Path) -> None:
     log += line("18:07:00", "Q1SHIP", "!6000.00N/17959.94E>")
     log += line("18:05:00", "Q1C", "!5430.  N/00330.  W>")
     (tmp_path / "points").write_text("Half way 54.501 -3.5 60\nDate line 60 -179.999 200\n")
-    told = [[it[0], it[5], it[2][11:19], it[7]] for it in lines("passed", "points", given=log)]
+    lines = told("passed", "points", given=log)
     # 111.2 metres a minute: 60 metres are 32.4 seconds
-    assert told == [
-        ["Half way", "Q1A", "18:00:27", "0"],
-        ["Half way", "Q1B", "18:03:27", "0"],
-        ["Date line", "Q1SHIP", "18:07:00", "111"],
+    assert picked(lines, "checkpoint", "name", "metres") == [
+        ["Half way", "Q1A", "0"],
+        ["Half way", "Q1B", "0"],
+        ["Date line", "Q1SHIP", "111"],
+    ]
+    assert [it["came"][:19] for it in lines] == [
+        f"2024-06-21T{clock}" for clock in ("18:00:27", "18:03:27", "18:07:00")
     ]
 
 
 def test_utf_8_and_heights() -> None:
     log = log_of([("18:00:00", "Q1FLY", "!5432.58N/00327.36W'088/036/A=001000 Käppeli ☂")])
-    [row] = read_csv(tried("tracks", "csv", given=log).stdout.decode())[1:]
-    assert row[10:] == ["/'", "88", "36", "304.8", "088/036/A=001000 Käppeli ☂"]
+    rows = sheet("tracks", "csv", given=log)
+    assert picked(rows, "symbol", "course", "speed_knots", "altitude_m", "comment") == [
+        ["/'", "88", "36", "304.8", "088/036/A=001000 Käppeli ☂"]
+    ]
     assert "<ele>304.8</ele>" in tried("tracks", "gpx", given=log).stdout.decode()
 
 
@@ -151,22 +167,20 @@ def test_the_database(tmp_path: pathlib.Path) -> None:
     tried("sqlite", *EVENING, "net.db")
     base = sqlite3.connect(tmp_path / "net.db")
     [[n]] = base.execute("select count(*) from transmissions").fetchall()
-    book = run("aprsbook", "merge", *EVENING).decode().splitlines()
-    assert n == len(book) - 2
+    assert run("aprsbook", "merge", *EVENING).endswith(b"\nEND %d\n" % n)
     types = base.execute(
         "select distinct typeof(latitude) from transmissions order by 1"
     ).fetchall()
     assert types == [("null",), ("real",)]
     [[last]] = base.execute("select count(*) from places").fetchall()
-    things = lines("places", "--last", *EVENING)
-    assert last == len(things)
+    assert last == len(told("places", "--last", *EVENING))
     base.close()
 
 
 def test_a_book_of_another_gap_says_its_gap(tmp_path: pathlib.Path) -> None:
     """Reports wanted --gap for such a book."""
     (tmp_path / "wide.book").write_bytes(run("aprsbook", "merge", "--gap", "60", *EVENING))
-    assert lines("last-heard", "wide.book") == lines("last-heard", "--gap", "60", *EVENING)
+    assert told("last-heard", "wide.book") == told("last-heard", "--gap", "60", *EVENING)
     tried("last-heard", "--gap", "30", "wide.book", status=1)
 
 
@@ -179,21 +193,22 @@ def test_the_keeper(tmp_path: pathlib.Path) -> None:
     )
     (tmp_path / "rx.log").write_bytes(log)
     # a book has one row of the first three, heard over two digipeaters
-    assert [it[:4] for it in lines("keeper", "--part", "direct", "rx.log")] == [
-        ["RX1", "Q1A", "1", "3"]
-    ]
-    assert lines("keeper", "--part", "hops", "rx.log") == [
+    direct = told("keeper", "--part", "direct", "rx.log")
+    assert picked(direct, "receiver", "call", "direct", "frames") == [["RX1", "Q1A", "1", "3"]]
+    hops = told("keeper", "--part", "hops", "rx.log")
+    assert picked(hops, "receiver", "hops", "frames") == [
         ["RX1", "0", "1"],
         ["RX1", "1", "2"],
         ["RX1", "2", "1"],
     ]
-    assert lines("keeper", "--part", "repeats", "rx.log") == [
+    repeats = told("keeper", "--part", "repeats", "rx.log")
+    assert picked(repeats, "digipeater", "from", "frames") == [
         ["Q1DIG", "Q1A", "2"],
         ["Q1DIG", "Q1B", "1"],
         ["Q1TOP", "Q1DIG", "1"],
     ]
-    [far] = lines("keeper", "--part", "farthest", "--at", "55.5,-3.5", "rx.log")
-    assert far[1:4] == ["Q1A", "111.2", "180"]
+    far = told("keeper", "--part", "farthest", "--at", "55.5,-3.5", "rx.log")
+    assert picked(far, "call", "km", "degrees") == [["Q1A", "111.2", "180"]]
 
 
 def test_an_emergency(tmp_path: pathlib.Path) -> None:
@@ -205,8 +220,8 @@ def test_an_emergency(tmp_path: pathlib.Path) -> None:
     (folder / "RX1.log").write_bytes(log)
     [row] = table_of(Row, given=log)
     assert (row.says, row.latitude, row.longitude) == ("emergency", 54.5, -3.5)
-    told = tried("watch", "--emergency", "--day", "2024-06-21", "logs").stdout.decode()
-    assert told.startswith("emergency: Q1A-9 reports an emergency")
+    said = tried("watch", "--emergency", "--day", "2024-06-21", "logs").stdout.decode()
+    assert said.startswith("emergency: Q1A-9 reports an emergency")
 
 
 TEXTS = [

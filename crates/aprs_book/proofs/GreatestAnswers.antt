@@ -1,9 +1,13 @@
 -- The answers to messages in rows.
-use Rattle.aprs_book.proofs.Common.{◌≡◌, ◌∙◌, ℕ, Bool, bool_cmp, bool_cmp_total, true, false, List, ◌↔◌, Option, Some, None, sym, ap, refl, subst, inl, inr, Bor, option_copied, lookup, keys_of, is_at, insert_entry, IsTotalOrder, ordering_then, Ordering, upto, on_total, then_total, CmpEqualImpliesEq, exact_pairs, Call, call_cmp, Received, bytes_cmp, heard_cmp, ◌∈◌, IsUpTo, Row, row_key, greater_known, greater, is_greater_of, call_total, call_exact, bytes_total, bytes_exact, heard_total, up_to_itself}
+use Rattle.aprs_book.proofs.Common.{◌≡◌, ◌∙◌, ℕ, Bool, bool_cmp, bool_cmp_total, true, false, List, ◌↔◌, Option, Some, None, sym, ap, refl, subst, inl, inr, Bor, option_copied, lookup, keys_of, is_at, insert_entry, IsTotalOrder, ordering_then, Ordering, upto, on_total, then_total, CmpEqualImpliesEq, exact_pairs, Call, SpellsCall, call_cmp, Received, bytes_cmp, heard_cmp, ◌∈◌, IsUpTo, Row, row_key, greater_known, greater, is_greater_of, call_total, call_exact, bytes_total, bytes_exact, heard_total, up_to_itself}
 use Rattle.std.specs.List.Sorted.{IsStrictlySortedBy}
 use Rattle.aprs_book.specs.declared.lists.message_key.AnswerKey.{AnswerKey}
-use Rattle.aprs_book.specs.MessageRows.{Answer, answer_of, answer_cmp, GivesAnswer, IsGreatestAnswer, AreAnswers, IsFor, ReportsAnswer}
+use Rattle.aprs_book.specs.MessageRows.{Answer, answer_at, answer_cmp, answer_from, answer_of, answer_to, GivesAnswer, IsGreatestAnswer, AreAnswers, spelled_call}
+use Rattle.aprs_book.specs.ReplyTexts.{HoldsOnly}
 use Rattle.aprs_book.specs.Messages.{Message}
+use Rattle.std.specs.Option.{option_and_then}
+use Rattle.aprs_book.proofs.ReplyTexts.{held_none, held_so, none_held, one_held}
+use Rattle.aprs_book.proofs.SpelledCalls.{spelled}
 use Rattle.aprs_book.proofs.Collected.{cmp_of, found, absent, Adds, passed, put_by, same_lookup}
 
 pub answer_total : IsTotalOrder answer_cmp
@@ -125,30 +129,83 @@ pub kept_greater : (r : Received) (o : Option (Bor Received)) (m : Option Receiv
     → r ≡ greater_known m y
 kept_greater r o m x y e f h = e ∙ (ap (λ t. greater_known t x) f ∙ ap (greater_known m) h)
 
--- ---- the answer that a look-up finds
-
-module _ (es : List (AnswerKey × Received)) (k : AnswerKey) (m : Message) (id : List ℕ)
-    (kind : Bool) (f : IsFor m id kind (answer_of k))
-    (u : (a : Answer) → IsFor m id kind a → a ≡ answer_of k) where
-  report_bytes : (known : Option Received) → lookup (is_at (answer_key_cmp k)) es ≡ known
-      → ReportsAnswer es m id kind known
-  report_bytes None h = λ e j g.
-      absent answer_of answer_cmp answer_total answer_exact k es h e j (sym (u (answer_of e.0) g))
-  report_bytes (Some v) h =
-      let t = found answer_of answer_cmp answer_total answer_exact k v es h in
-      (t.0, t.1, subst (IsFor m id kind) t.2 f, λ a g. u a g ∙ t.2, t.3)
-
-  pub answer_reported_by : (R : AnswerKey → AnswerKey → Ordering)
-      → ((a b : AnswerKey) → R a b ≡ answer_key_cmp a b)
-      → (o : Option Received) → o ≡ lookup (is_at (R k)) es
-      → ReportsAnswer es m id kind o
-  answer_reported_by R same o e =
-      subst (λ t. ReportsAnswer es m id kind t)
-      (sym (e ∙ same_lookup answer_of answer_cmp R same k es))
-      (report_bytes (lookup (is_at (answer_key_cmp k)) es) refl)
-
 -- an answer is known by its parts
 pub same_answer : (a b : Answer) → a.source ≡ b.source → a.addressee ≡ b.addressee → a.id ≡ b.id
     → a.is_reply ≡ b.is_reply → a ≡ b
 same_answer a b s t d r =
     λ i. record { source = s i; addressee = t i; id = d i; is_reply = r i }
+
+-- ---- the answer that a look-up finds
+
+-- An answer that is one to this id of a message, or a reply-ack to this number of it.
+pub record IsFor (m : Message) (id : List ℕ) (is_reply : Bool) (a : Answer) : Type 0 where
+  pub source : a.source ≡ m.source
+  pub addressee : SpellsCall a.addressee m.addressee
+  pub same_id : a.id ≡ id
+  pub same_kind : a.is_reply ≡ is_reply
+
+-- The greatest answer to this id of a message, or the greatest reply-ack to this number: that of
+-- the one entry which is for it, or none where no entry is.
+abbrev pub ReportsAnswer : List (AnswerKey × Received) → Message → List ℕ → Bool → Option Received
+    → Type 0
+ReportsAnswer entries m id is_reply None =
+    (e : AnswerKey × Received) → e ∈ entries → IsFor m id is_reply (answer_of e.0) → ⊥
+ReportsAnswer entries m id is_reply (Some g) =
+    (e : AnswerKey × Received) × (e ∈ entries) × IsFor m id is_reply (answer_of e.0)
+    × ((a : Answer) → IsFor m id is_reply a → a ≡ answer_of e.0) × (e.1 ≡ g)
+
+-- a key that stands for an answer
+abbrev key_of_answer : Answer → AnswerKey
+key_of_answer a = record {
+  source = a.source;
+  addressee = a.addressee;
+  id = record { ref_ptr = (0, 0); now = a.id };
+  is_reply = a.is_reply;
+}
+
+abbrev Spells : Message → Call → Type 0
+Spells m call = SpellsCall call m.addressee
+
+module _ (es : List (AnswerKey × Received)) (m : Message) (id : List ℕ) (kind : Bool) where
+  module _ (a : Answer) (f : IsFor m id kind a) (u : (b : Answer) → IsFor m id kind b → b ≡ a) where
+    answer_found : (known : Option Received) → answer_at es a ≡ known → ReportsAnswer es m id kind known
+    answer_found None h = λ e j g.
+        absent answer_of answer_cmp answer_total answer_exact (key_of_answer a) es h e j
+        (sym (u (answer_of e.0) g))
+    answer_found (Some v) h =
+        let t = found answer_of answer_cmp answer_total answer_exact (key_of_answer a) v es h in
+        (t.0, t.1, subst (IsFor m id kind) t.2 f, λ b g. u b g ∙ t.2, t.3)
+
+  abbrev at_call : Call → Option Received
+  at_call call = answer_at es (answer_from m id kind call)
+
+  answer_of_call : (o : Option Call) → HoldsOnly (Spells m) o
+      → ReportsAnswer es m id kind (option_and_then at_call o)
+  answer_of_call None h = λ e j f. none_held (Spells m) (answer_of e.0).addressee h f.addressee
+  answer_of_call (Some call) h =
+      answer_found (answer_from m id kind call)
+      (record {
+        source = refl;
+        addressee = held_so (Spells m) call h;
+        same_id = refl;
+        same_kind = refl;
+      })
+      (λ b f. same_answer b (answer_from m id kind call) f.source
+      (sym (one_held (Spells m) call b.addressee h f.addressee)) f.same_id f.same_kind)
+      (at_call call) refl
+
+  pub answer_reported : ReportsAnswer es m id kind (answer_to es m id kind)
+  answer_reported = answer_of_call (spelled_call m.addressee) (spelled m.addressee)
+
+  pub answer_looked_up : (R : AnswerKey → AnswerKey → Ordering)
+      → ((a b : AnswerKey) → R a b ≡ answer_key_cmp a b) → (k : AnswerKey) (call : Call)
+      → SpellsCall call m.addressee → answer_of k ≡ answer_from m id kind call
+      → (o : Option Received) → o ≡ lookup (is_at (R k)) es → o ≡ answer_to es m id kind
+  answer_looked_up R same k call s f o e =
+      e ∙ same_lookup answer_of answer_cmp R same k es ∙ ap (answer_at es) f
+      ∙ sym (ap (option_and_then at_call) ((spelled m.addressee call).1 s))
+
+  pub none_looked_up : ((call : Call) → SpellsCall call m.addressee → ⊥)
+      → None ≡ answer_to es m id kind
+  none_looked_up n = sym (ap (option_and_then at_call)
+      (held_none (Spells m) (spelled_call m.addressee) (spelled m.addressee) n))

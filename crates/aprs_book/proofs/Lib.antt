@@ -17,8 +17,9 @@ mod Addressed
 pub mod Stations
 pub mod Collected
 pub mod Messages
+pub mod SpelledCalls
+pub mod TextNumbers
 pub mod GreatestAnswers
-pub mod Listings
 pub mod MessagesOfSets
 pub mod Things
 pub mod Noting

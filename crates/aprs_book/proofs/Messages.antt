@@ -1,12 +1,12 @@
 -- The messages of rows.
-use Rattle.aprs_book.proofs.Common.{◌≡◌, ◌∙◌, ℕ, ◌≤◌, min, max, true, List, Option, Some, None, sym, ap, refl, subst, inl, inr, arith, Bor, Result, Ok, Err, is_ok, OnOk, lookup, keys_of, is_at, insert_entry, option_cmp, option_map, IsTotalOrder, options_total, ordering_then, Ordering, on_total, then_total, cases_lt, CmpEqualImpliesEq, exact_pairs, Call, call_cmp, bytes_cmp, ◌∈◌, Row, row_key, last_moment, call_total, call_exact, bytes_total, bytes_exact}
+use Rattle.aprs_book.proofs.Common.{◌≡◌, ◌∙◌, ℕ, ◌≤◌, min, max, true, List, Option, Some, None, sym, ap, refl, subst, inl, inr, arith, Bor, Result, Ok, Err, is_ok, OnOk, lookup, keys_of, is_at, insert_entry, option_cmp, option_map, IsTotalOrder, options_total, ordering_then, Ordering, on_total, then_total, cases_lt, CmpEqualImpliesEq, exact_pairs, Call, call_cmp, bytes_cmp, ◌∈◌, Ordered, Row, row_key, last_moment, call_total, call_exact, bytes_total, bytes_exact}
 use Rattle.std.specs.List.Sorted.{IsStrictlySortedBy}
 use Rattle.aprs_book.specs.declared.lists.message_key.Span.{Span}
 use Rattle.aprs_book.specs.Messages.{Message, ReportsIt, message_in, message_cmp}
 use Rattle.aprs_book.specs.declared.lists.message_key.MessageKey.{MessageKey}
-use Rattle.aprs_book.specs.MessageRows.{message_of, span_with, span_of, IsSpan, AreSpans}
+use Rattle.aprs_book.specs.MessageRows.{message_of, span_with, span_of, IsKeyBefore, IsSpan, AreSpans}
 use Rattle.aprs_book.proofs.Inserts.{inserted_twice}
-use Rattle.aprs_book.proofs.Collected.{cmp_of, found, absent, Adds, passed, put}
+use Rattle.aprs_book.proofs.Collected.{cmp_of, found, absent, Adds, in_order, passed, put}
 
 -- ---- the order of messages
 
@@ -211,3 +211,13 @@ module _ (rows more : List Row) (x : Row) (adds : Adds rows x more)
 pub where_ok : {A E : Type 0} {P : Type 0} (r : Result A E) → is_ok r ≡ true → OnOk r P → P
 where_ok (Ok v) e h = h
 where_ok (Err q) e h = absurd (cc)
+
+-- ---- the order of the keys that code has
+
+pub ascending_keys : (R : MessageKey → MessageKey → Ordering)
+    → ((a b : MessageKey) → R a b ≡ keys_cmp a b)
+    → (es : List (MessageKey × Span)) → IsStrictlySortedBy R (keys_of es) → Ordered IsKeyBefore es
+ascending_keys R same es s =
+    let p : R ≡ keys_cmp = λ j a b. same a b j in
+    in_order message_of message_cmp es
+    (subst (λ (Q : MessageKey → MessageKey → Ordering). IsStrictlySortedBy Q (keys_of es)) p s)

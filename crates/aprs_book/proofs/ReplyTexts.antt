@@ -44,6 +44,19 @@ none_held {X} P x h p = empty ((h x).1 p) where
   empty : ◌≡◌ {A = Option X} None (Some x) → ⊥
   empty e = absurd cc
 
+-- two options that hold the same are one
+pub same_held : {X : Type 0} (P : X → Type 0) (o p : Option X) → HoldsOnly P o → HoldsOnly P p
+    → o ≡ p
+same_held P (Some x) p h k = sym ((k x).1 (held_so P x h))
+same_held P None (Some y) h k = absurd (none_held P y h (held_so P y k))
+same_held P None None h k = refl
+
+-- what nothing is so of holds nothing
+pub held_none : {X : Type 0} (P : X → Type 0) (o : Option X) → HoldsOnly P o
+    → ((x : X) → P x → ⊥) → o ≡ None
+held_none P (Some x) h n = absurd (n x (held_so P x h))
+held_none P None h n = refl
+
 -- an option that is seen through f, where it is None
 pub holds_as : {X Y : Type 0} (P : X → Type 0) (f : Y → X) {o : Option Y} → o ≡ None
     → HoldsOnly P None → HoldsOnly P (option_map f o)
@@ -79,7 +92,7 @@ one_cut m (x ∷ b) e (y ∷ c) f n h p q =
     let r = one_cut m b e c f n (tails x y (b ++ m ∷ e) (c ++ m ∷ f) h) p q in
     λ i. (heads x y (b ++ m ∷ e) (c ++ m ∷ f) h i ∷ (r i).0, (r i).1)
 
-letters : (bytes : List ℕ) → is_number_or_nothing bytes ≡ true
+pub letters : (bytes : List ℕ) → is_number_or_nothing bytes ≡ true
     → (length bytes ≤ 2) × (list_all is_alphanumeric bytes ≡ true)
 letters bytes e = let d = and_parts (leb (length bytes) 2) (list_all is_alphanumeric bytes) e in
     (leb-true (length bytes) 2 d.0, d.1)
@@ -144,7 +157,7 @@ BraceAfter text x = EndsAfter 125 text x
 abbrev BraceBefore : List ℕ → List ℕ × List ℕ → Type 0
 BraceBefore text x = EndsAfter 123 text x
 
-not_empty : (number : List ℕ) → is_message_number number ≡ true
+pub not_empty : (number : List ℕ) → is_message_number number ≡ true
     → (1 ≤ length number) × (is_number_or_nothing number ≡ true)
 not_empty number e = let d = and_parts (leb 1 (length number)) (is_number_or_nothing number) e in
     (leb-true 1 (length number) d.0, d.1)
@@ -356,7 +369,7 @@ module _ (text : List ℕ) where
 
   -- ---- the number of a text
 
-  abbrev Has : List ℕ → Type 0
+  abbrev pub Has : List ℕ → Type 0
   Has number = (acknowledged : List ℕ) × IsNumberedText number acknowledged text
 
   pub has_none : HoldsOnly (Numbered text) None → HoldsOnly Has None

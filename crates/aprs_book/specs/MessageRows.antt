@@ -1,11 +1,15 @@
 -- Which rows report a message, and which an answer to one. No public clause cites this
 -- module.
 use Rattle.std.specs.Prelude.{◌≡◌, ◌==◌, ◌⊎◌, ℕ, Bool, true, false, min, max, List, [], ◌∷◌, Option, Some, None}
-use Rattle.std.specs.Option.{option_map}
+use Rattle.std.specs.BTreeMap.{is_at}
+use Rattle.std.specs.Map.{lookup}
+use Rattle.std.specs.Option.{option_and_then, option_map}
 use Rattle.std.specs.Ordering.{bool_cmp, on, then_cmp}
 use Rattle.std.specs.declared.cmp.Ordering.{Ordering}
 use Rattle.aprs_ax25.specs.Callsign.{Call, call_cmp}
-use Rattle.aprs_ax25.specs.CallText.{SpellsCall}
+use Rattle.aprs_ax25.specs.CallText.{SpellsCall, before_dash, from_dash}
+use Rattle.aprs_ax25.specs.Scan.{call_fault, ssid_of}
+use Rattle.aprs_ax25.specs.declared.fault.CallFault.{CallFault}
 use Rattle.aprs_log.specs.Reception.{Received, bytes_cmp, heard_cmp}
 use Rattle.aprs_report.specs.Reading.{Value, ack, rej}
 use Rattle.aprs_laws.specs.Lists.{◌∈◌}
@@ -22,8 +26,9 @@ use Rattle.aprs_book.specs.declared.lists.message.MessageState.{MessageState}
 use Rattle.aprs_book.specs.declared.lists.message.MessageState.TheVariants.{Unnumbered}
 use Rattle.aprs_book.specs.declared.lists.reply_ack.ReplyAck.{ReplyAck}
 use Rattle.aprs_book.specs.declared.lists.reply_ack.ReplyAck.TheVariants.{NotAwaited}
-use Rattle.aprs_book.specs.Messages.{HasNumber, Message, ReportsIt, answered_by, message_cmp, message_in, reply_ack_by, shown_message, state_by}
+use Rattle.aprs_book.specs.Messages.{Message, ReportsIt, answered_by, message_cmp, message_in, reply_ack_by, state_by}
 use Rattle.aprs_book.specs.ReplyAcks.{IsReplyAckText}
+use Rattle.aprs_book.specs.ReplyTexts.{number_of}
 
 -- Whether information begins with a colon, as that of messages and their answers does.
 abbrev pub begins_with_colon : List ℕ → Bool
@@ -134,63 +139,70 @@ AreAnswers rows entries = IsCollected answer_of GivesAnswer IsGreatestAnswer row
 
 -- ---- rows of the listing
 
--- An answer that is one to this id of a message, or a reply-ack to this number of it.
-pub record IsFor (m : Message) (id : List ℕ) (is_reply : Bool) (a : Answer) : Type 0 where
-  pub source : a.source ≡ m.source
-  pub addressee : SpellsCall a.addressee m.addressee
-  pub same_id : a.id ≡ id
-  pub same_kind : a.is_reply ≡ is_reply
+-- A callsign of these letters and this SSID, where both were read without a fault.
+abbrev pub call_when : Option CallFault → List ℕ → Option ℕ → Option Call
+call_when (Some fault) letters ssid = None
+call_when None letters None = None
+call_when None letters (Some ssid) = Some (record { letters = letters; ssid = ssid })
 
--- The greatest answer to this id of a message, or the greatest reply-ack to this number: that of
--- the one entry which is for it, or none where no entry is.
-abbrev pub ReportsAnswer : List (AnswerKey × Received) → Message → List ℕ → Bool → Option Received
-    → Type 0
-ReportsAnswer entries m id is_reply None =
-    (e : AnswerKey × Received) → e ∈ entries → IsFor m id is_reply (answer_of e.0) → ⊥
-ReportsAnswer entries m id is_reply (Some g) =
-    (e : AnswerKey × Received) × (e ∈ entries) × IsFor m id is_reply (answer_of e.0)
-    × ((a : Answer) → IsFor m id is_reply a → a ≡ answer_of e.0) × (e.1 ≡ g)
+-- The callsign whose text these bytes are, or none.
+abbrev pub spelled_call : List ℕ → Option Call
+spelled_call text = call_when (call_fault text) (before_dash text) (ssid_of (from_dash text))
+
+-- The answer of a station to this id of a message, or its reply-ack to this number.
+abbrev pub answer_from : Message → List ℕ → Bool → Call → Answer
+answer_from m id is_reply call =
+    record { source = m.source; addressee = call; id = id; is_reply = is_reply }
+
+-- The reception that the entries have of an answer.
+abbrev pub answer_at : List (AnswerKey × Received) → Answer → Option Received
+answer_at entries a = lookup (is_at (λ (k : AnswerKey). answer_cmp a (answer_of k))) entries
+
+-- The greatest answer among the entries to this id of a message, or the greatest reply-ack to this
+-- number. None where no entry is one, as where the addressee is no callsign.
+abbrev pub answer_to : List (AnswerKey × Received) → Message → List ℕ → Bool → Option Received
+answer_to entries m id is_reply = option_and_then
+    (λ (call : Call). answer_at entries (answer_from m id is_reply call)) (spelled_call m.addressee)
 
 -- The state of a message of this first moment and id, by the greatest answer among the entries.
-abbrev pub StateFrom : List (AnswerKey × Received) → Message → ℕ → Option (List ℕ) → MessageState
-    → Type 0
-StateFrom entries m first None state = state ≡ Unnumbered
-StateFrom entries m first (Some id) state =
-    (answer : Option Received) × ReportsAnswer entries m id false answer
-    × (state ≡ state_by first answer)
+abbrev pub state_in : List (AnswerKey × Received) → Message → ℕ → Option (List ℕ) → MessageState
+state_in entries m first None = Unnumbered
+state_in entries m first (Some id) = state_by first (answer_to entries m id false)
 
 -- When a message of this first moment and id was answered, by the greatest answer among the
 -- entries.
-abbrev pub AnsweredFrom : List (AnswerKey × Received) → Message → ℕ → Option (List ℕ) → Option ℕ
-    → Type 0
-AnsweredFrom entries m first None answered = answered ≡ None
-AnsweredFrom entries m first (Some id) answered =
-    (answer : Option Received) × ReportsAnswer entries m id false answer
-    × (answered ≡ answered_by first answer)
+abbrev pub answered_in : List (AnswerKey × Received) → Message → ℕ → Option (List ℕ) → Option ℕ
+answered_in entries m first None = None
+answered_in entries m first (Some id) = answered_by first (answer_to entries m id false)
 
--- What reply-acks say of a message of this first moment, by the greatest one among the entries.
-abbrev pub ReplyAckFrom : List (AnswerKey × Received) → Message → ℕ → ReplyAck → Type 0
-ReplyAckFrom entries m first reply_ack =
-    (((number : List ℕ) → HasNumber m number → ⊥) × (reply_ack ≡ NotAwaited))
-    ⊎ ((number : List ℕ) × HasNumber m number × (reply : Option Received)
-    × ReportsAnswer entries m number true reply × (reply_ack ≡ reply_ack_by first reply))
+-- The number of a message that has this id and this number in its text: with an id it has none.
+abbrev pub number_without : Option (List ℕ) → Option (List ℕ) → Option (List ℕ)
+number_without None number = number
+number_without (Some id) number = None
+
+-- What reply-acks say of this number of a message of this first moment, by the greatest one among
+-- the entries.
+abbrev pub reply_ack_to : List (AnswerKey × Received) → Message → ℕ → Option (List ℕ) → ReplyAck
+reply_ack_to entries m first None = NotAwaited
+reply_ack_to entries m first (Some number) = reply_ack_by first (answer_to entries m number true)
+
+abbrev pub reply_ack_in : List (AnswerKey × Received) → Message → ℕ → ReplyAck
+reply_ack_in entries m first =
+    reply_ack_to entries m first (number_without m.id (number_of m.text))
 
 -- The row of a message and its span.
-pub record IsRowOfMessage (entries : List (AnswerKey × Received)) (e : MessageKey × Span)
-    (x : MessageRow) : Type 0 where
-  pub message : shown_message x ≡ message_of e.0
-  pub first : x.first ≡ e.1.first
-  pub last : x.last ≡ e.1.last
-  pub state : StateFrom entries (message_of e.0) e.1.first (message_of e.0).id x.state
-  pub answered : AnsweredFrom entries (message_of e.0) e.1.first (message_of e.0).id x.answered
-  pub reply_ack : ReplyAckFrom entries (message_of e.0) e.1.first x.reply_ack
-
--- Both lists are of one length, and R holds of each two that stand at one place.
-abbrev pub Zipped : {X Y : Type 0} → (X → Y → Type 0) → List X → List Y → Type 0
-Zipped R [] [] = Unit {0}
-Zipped R [] (y ∷ ys) = ⊥
-Zipped R (x ∷ xs) [] = ⊥
-Zipped R (x ∷ xs) (y ∷ ys) = R x y × Zipped R xs ys
+abbrev pub row_in : List (AnswerKey × Received) → MessageKey × Span → MessageRow
+row_in entries e = record {
+  source = e.0.source;
+  addressee = e.0.addressee;
+  text = e.0.text;
+  id = e.0.id;
+  first = e.1.first;
+  last = e.1.last;
+  state = state_in entries (message_of e.0) e.1.first (message_of e.0).id;
+  answered = answered_in entries (message_of e.0) e.1.first (message_of e.0).id;
+  reply_ack = reply_ack_in entries (message_of e.0) e.1.first;
+}
 
 -- The one's message is below the other's.
 abbrev pub IsKeyBefore : MessageKey × Span → MessageKey × Span → Type 0

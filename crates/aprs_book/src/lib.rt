@@ -18,6 +18,7 @@ pub use from_parts::{RowsFault, from_rows, rows_are_sound_or_have_one_fault};
 pub use known::heard::Heard;
 pub use lists::heard_room::HeardRoom;
 pub use lists::message::{MessageRow, MessageState};
+pub use lists::message_walk::MessageWalk;
 pub use lists::named::Named;
 pub use lists::named_walk::NamedWalk;
 pub use lists::reply_ack::ReplyAck;

@@ -4,6 +4,7 @@ pub(crate) mod exchange;
 pub(crate) mod heard_room;
 pub(crate) mod message;
 pub(crate) mod message_key;
+pub(crate) mod message_walk;
 pub(crate) mod named;
 pub(crate) mod named_walk;
 pub(crate) mod reply_ack;

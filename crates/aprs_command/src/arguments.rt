@@ -115,7 +115,7 @@ fn required_arg<'a>(
 
 /// The option `--name` with one value, for which `value_name` stands in the help. By the clause
 /// `local` it is one of its own command alone.
-fn option_arg<'a>(
+pub(crate) fn option_arg<'a>(
     alloc: Global,
     name: &'static str,
     value_name: &'static str,

@@ -1,13 +1,19 @@
 //! The arguments of `aprsbook-fold`.
-ghost use Rattle.std.specs.Prelude.{◌≡◌, IfOk, map, false, true};
-ghost use Rattle.clap.specs.Words.{app_of, found_of, is_simple_and_free, rows_of, rule_of};
-ghost use Rattle.aprs_command.specs.Arguments.{inputs_rule, JudgesArguments};
+ghost use Rattle.std.specs.Prelude.{◌≡◌, ◌⊎◌, IfNone, IfOk, IfSome, map, false, true};
+ghost use Rattle.clap.specs.Words.{app_of, first_of, found_of, is_simple_and_free, kind_of, rows_of, rule_of};
+ghost use Rattle.clap.specs.declared.error.Error.{Error};
+ghost use Rattle.clap.specs.declared.error.kind.ErrorKind.TheVariants.{ValueValidation};
+ghost use Rattle.aprs_command.specs.Arguments.{inputs_rule};
 ghost use Rattle.aprs_command.specs.Fold as Spec;
 
-use crate::arguments::{clap_fault, gap_arg, read_chosen_gap, read_given_inputs, text_at};
+use crate::arguments::{
+    clap_fault, gap_arg, option_arg, read_chosen_gap, read_given_inputs, text_at,
+};
 use crate::help;
 use crate::jobs::JobFault;
+use aprs_ax25::Callsign;
 use aprs_laws::Gap;
+use clap::error::ErrorKind;
 use clap::{Arg, ArgAction, ArgMatches, Command};
 use std::alloc::{AllocError, Global};
 
@@ -17,38 +23,50 @@ use std::alloc::{AllocError, Global};
 pub struct FoldJob {
     /// The gap of the book that is written, and of each book file.
     pub gap: Gap,
+    /// The first source whose rows are written, if not the first of all.
+    pub from: Option<Callsign>,
+    /// The first source after those whose rows are written, if not all others are.
+    pub until: Option<Callsign>,
     /// The paths, in the order of the arguments.
     pub inputs: Vec<String>,
     /// Whether the book files are only checked, and nothing is written.
     pub is_check: bool,
 }
 
-/// What the arguments of `aprsbook-fold [--gap SECONDS] [--check] [BOOK]...` ask for, the program's
-/// name being the first: the gap, which is 30 seconds where it is not given, the inputs' paths in
-/// the order of the arguments, and whether `--check` is among them. SECONDS is 1 to 3,600, and else
-/// a fault of `JobFault::Clap`. Where the arguments ask for help or the version, its text is that
-/// of `JobFault::Clap`. `JobFault::Memory` where an allocation failed. By `asked` the job is the
-/// one that the definition of the command reads from the arguments; by `judged` clap's refusal is
-/// for a fault that this definition finds in them.
+/// What the arguments of `aprsbook-fold` ask for, the program's name being the first, which are
+/// `[--gap SECONDS] [--from SOURCE] [--until SOURCE] [--check] [BOOK]...`: the gap, which is 30
+/// seconds where it is not given, the sources, the inputs' paths in the order of the arguments, and
+/// whether `--check` is among them. SECONDS is 1 to 3,600, and SOURCE the text of a callsign, and
+/// else it is a fault of `JobFault::Clap`. Where the arguments ask for help or the version, its
+/// text is that of `JobFault::Clap`. `JobFault::Memory` where an allocation failed. By `asked` the
+/// job is the one that the definition of the command reads from the arguments; by `judged` clap's
+/// refusal is for a fault that this definition finds in them, or for such a SOURCE.
 pub fn fold_job(alloc: Global, arguments: &[&str]) -> Result<FoldJob, JobFault>
     ensures asked { Spec.AnswersFold (map (λ a. a.now) arguments.now) result }
-    ensures judged { JudgesArguments Spec.fold_app (map (λ a. a.now) arguments.now)
-        result }
+    ensures judged { Spec.JudgesFold (map (λ a. a.now) arguments.now) result }
 {
-    let command = match fold_command(alloc) {
+    let mut command = match fold_command(alloc) {
         Ok(command) => command,
         Err(_) => return Err(JobFault::Memory),
     };
-    let matches = match command.try_get_matches_from(arguments) {
+    let matches = match command.try_get_matches_from_mut(arguments) {
         Ok(matches) => matches,
         Err(error) => return Err(clap_fault(error)),
     };
     let Some(gap) = read_chosen_gap(&matches) else {
         return Err(JobFault::Options);
     };
+    let Some(from) = read_source(&matches, "from") else {
+        return Err(source_fault(&mut command, help::NO_FROM));
+    };
+    let Some(until) = read_source(&matches, "until") else {
+        return Err(source_fault(&mut command, help::NO_UNTIL));
+    };
     match read_given_inputs(alloc, &matches) {
         Ok(inputs) => Ok(FoldJob {
             gap,
+            from,
+            until,
             inputs,
             is_check: is_check_asked(&matches),
         }),
@@ -72,8 +90,36 @@ fn is_check_asked(matches: &ArgMatches<'_>) -> bool
     }
 }
 
-/// The command `aprsbook-fold [--gap SECONDS] [--check] [BOOK]...`. `AllocError` where an
+/// The source that the option of this name gives, or none where it isn't given. `None` where its
+/// text is no callsign.
+fn read_source(matches: &ArgMatches<'_>, name: &str) -> Option<Option<Callsign>>
+    ensures read { IfSome result
+        (Spec.IsSourceIn (first_of name.now (rows_of (found_of matches.now)))) }
+    ensures refused { IfNone result
+        (Spec.SpellsNone (first_of name.now (rows_of (found_of matches.now)))) }
+{
+    let Some(text) = text_at(matches, name) else {
+        return Some(None);
+    };
+    match Callsign::parse(text.as_bytes()) {
+        Ok(source) => Some(Some(source)),
+        Err(_) => None,
+    }
+}
+
+/// The fault for a source that is no callsign, of which clap says this; or `Memory` where an
 /// allocation failed.
+fn source_fault(command: &mut Command<'_>, message: &str) -> JobFault
+    ensures { (result ≡ JobFault.Memory) ⊎ ((error : Error)
+        × (kind_of error ≡ ValueValidation) × (result ≡ JobFault.Clap error)) }
+{
+    match command.error(ErrorKind::ValueValidation, message) {
+        Ok(error) => JobFault::Clap(error),
+        Err(_) => JobFault::Memory,
+    }
+}
+
+/// The command of `aprsbook-fold`, with its arguments. `AllocError` where an allocation failed.
 fn fold_command<'a>(alloc: Global) -> Result<Command<'a>, AllocError>
     ensures { IfOk result (λ c. app_of c ≡ Spec.fold_app) }
 {
@@ -85,8 +131,12 @@ fn fold_command<'a>(alloc: Global) -> Result<Command<'a>, AllocError>
         .arg(inputs)?;
     let gap = gap_arg(alloc);
     let with_gap = with_inputs.arg(gap)?;
+    let from = option_arg(alloc, "from", "SOURCE", help::FOLD_FROM);
+    let with_from = with_gap.arg(from)?;
+    let until = option_arg(alloc, "until", "SOURCE", help::FOLD_UNTIL);
+    let with_until = with_from.arg(until)?;
     let check = check_arg(alloc);
-    with_gap.arg(check)
+    with_until.arg(check)
 }
 
 /// The option `--check`, which has no value.

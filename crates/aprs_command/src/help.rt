@@ -125,6 +125,18 @@ Exit status:
 
 pub const FOLDED: &str = "Book files of this gap; without any, standard input";
 
+/// What `--from` of `aprsbook-fold` is for.
+pub const FOLD_FROM: &str = "The source to begin with, such as N0CALL-7; without it, the first";
+
+/// What `--until` of `aprsbook-fold` is for.
+pub const FOLD_UNTIL: &str = "The source to end before; without it, all are written";
+
+/// What is said of a text of `--from` that is no callsign.
+pub const NO_FROM: &str = "invalid value for '--from <SOURCE>': no callsign, such as N0CALL-7";
+
+/// What is said of a text of `--until` that is no callsign.
+pub const NO_UNTIL: &str = "invalid value for '--until <SOURCE>': no callsign, such as N0CALL-7";
+
 /// What `--check` of `aprsbook-fold` is for.
 pub const FOLD_CHECK: &str = "Only check that each is a whole book file, and write nothing";
 
@@ -137,6 +149,7 @@ pub const FOLD_EXAMPLES: &str = "Examples:
   aprsbook-fold rx1.book rx2.book rx3.book > net.book
   aprsbook-fold --check year.book day.book && aprsbook-fold year.book day.book > new.book
   aprsbook-fold --gap 60 slow.book more.book > slower.book
+  aprsbook-fold --from K --until N year.book > k-to-m.book
 
 Exit status:
   0  done, or help or the version was asked for

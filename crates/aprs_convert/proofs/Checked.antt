@@ -4,18 +4,18 @@ use Rattle.std.proofs.lemmas.List.{length-append}
 use Rattle.aprs_log.specs.declared.line.Line.TheVariants.{Heard, Passed}
 use Rattle.aprs_log.specs.Reception.{Received as Reception}
 use Rattle.aprs_convert.specs.Plan.{RunsOver, check_lines, check_of, check_plan, count_heard, count_passed, totals}
-use Rattle.aprs_convert.specs.Check.{passed_line, totals_line}
+use Rattle.aprs_convert.specs.Check.{passed_line_of, totals_line_of}
 use Rattle.aprs_convert.specs.declared.fault.ConvertFault.{ConvertFault}
 use Rattle.aprs_convert.specs.declared.fault.ConvertFault.TheVariants.{Log, Write}
 use Rattle.aprs_convert.proofs.Seen.{HasSeen, HasSeen-none, HasSeen-line, IsWhole, over, prepended}
 
 -- the report of a line, with its LF
 abbrev report : ℕ → Reason → List ℕ
-report n reason = passed_line (n, reason) ++ 10 ∷ []
+report n reason = passed_line_of (n, reason) ++ 10 ∷ []
 
 -- that of how many there are, with its LF
 abbrev sums : ℕ → ℕ → List ℕ
-sums heard passed = totals_line heard passed ++ 10 ∷ []
+sums heard passed = totals_line_of heard passed ++ 10 ∷ []
 
 check_lines-append : (n : ℕ) (xs ys : List Line)
     → check_lines n (xs ++ ys) ≡ check_lines n xs ++ check_lines (n + length xs) ys

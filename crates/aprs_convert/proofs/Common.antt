@@ -1,9 +1,8 @@
 -- What this crate's proofs cite of the crates below.
 pub use Rattle.aprs_ax25.specs.FrameFault.{frame_or_fault}
-pub use Rattle.aprs_ax25.specs.Hop.{hop_of, hop_text}
 pub use Rattle.aprs_ax25.specs.declared.fault.FrameFault.{FrameFault}
 pub use Rattle.aprs_io.proofs.Sends.{Calls-none, Calls-then, Sends-is}
-pub use Rattle.aprs_io.proofs.Shows.{shown-each, shown-plain}
+pub use Rattle.aprs_io.proofs.Shows.{shown-plain}
 pub use Rattle.aprs_io.specs.declared.input.TheConstants.{MAX_INPUT}
 pub use Rattle.aprs_kiss.proofs.Bytes.{AppendsPrefix-more, AppendsPrefix-then, on_err}
 pub use Rattle.aprs_kiss.specs.Device.{AppendsPrefix, Calls, Going, device_of}

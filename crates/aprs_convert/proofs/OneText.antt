@@ -2,7 +2,7 @@
 use Rattle.aprs_convert.proofs.Common.{◌≡◌, ◌∙◌, ℕ, ◌+◌, List, [], ◌∷◌, ◌++◌, length, map, Option, None, Some, Ok, inl, inr, sym, ap, append-nil, flat_map, judgements_of, heard_or_passed, line_of, log_answers, receptions_of, HasLogFault, IsLogText, text_of_lines, InputEnd, LogFault, Reason, line_of-syntax, reports-line_of, log_fault-answers, log_text-answers}
 use Rattle.aprs_log.specs.Reception.{Received}
 use Rattle.aprs_log.specs.declared.line.Line.TheVariants as line
-use Rattle.aprs_convert.specs.Check.{Checks, IsPassedFor, PassesOver, passed_line, totals_line}
+use Rattle.aprs_convert.specs.Check.{Checks, IsPassedFor, PassesOver, passed_line_of, totals_line_of}
 use Rattle.aprs_convert.specs.Conversion.{Converts, reception_text}
 use Rattle.aprs_convert.specs.Plan.{Plan, check_lines, check_plan, convert_plan, lines_plan, totals}
 use Rattle.aprs_convert.specs.declared.form.Form.{Form}
@@ -98,7 +98,7 @@ checks_plan t c None written h =
           read.0
           ∙ ap (λ given. check_lines 1 given ++ totals None given) its.whole
           ∙ totals_text its.said.given S its.said.heard
-          ∙ ap (λ ps. text_of_lines (map passed_line ps ++ totals_line (length S) (length ps) ∷ []))
+          ∙ ap (λ ps. text_of_lines (map passed_line_of ps ++ totals_line_of (length S) (length ps) ∷ []))
           same
           ∙ sym h.4;
     }
@@ -113,7 +113,7 @@ checks_plan t c (Some fault) written h =
           read
           ∙ append-nil (check_lines 1 (log_answers t c).given)
           ∙ ap (check_lines 1) its.whole ∙ reports_text 1 its.said.given
-          ∙ ap (λ ps. text_of_lines (map passed_line ps)) same ∙ sym h.3;
+          ∙ ap (λ ps. text_of_lines (map passed_line_of ps)) same ∙ sym h.3;
     }
 
 -- ---- one text

@@ -5,7 +5,7 @@ use Rattle.std.specs.Result.{result_ok}
 use Rattle.std.proofs.lemmas.List.Concat.{flat_map-append}
 use Rattle.aprs_log.specs.Reception.{Received}
 use Rattle.aprs_log.specs.declared.line.Line.TheVariants as line
-use Rattle.aprs_convert.specs.Check.{Checks, passed_line, totals_line}
+use Rattle.aprs_convert.specs.Check.{Checks, passed_line_of, totals_line_of}
 use Rattle.aprs_convert.specs.Conversion.{Converts, reception_text}
 use Rattle.aprs_convert.specs.Plan.{capture_text, check_lines, check_plan, convert_plan, count_heard, count_passed, frame_line, line_text, totals}
 use Rattle.aprs_convert.specs.declared.form.Form.{Form}
@@ -83,11 +83,11 @@ converts (Capture r m) t c = (_, (refl, refl), stream_text r m (judgements_of t)
 -- ---- a check
 
 pub reports_text : (n : ℕ) (given : List Line)
-    → check_lines n given ≡ text_of_lines (map passed_line (passed_in n given))
+    → check_lines n given ≡ text_of_lines (map passed_line_of (passed_in n given))
 reports_text n [] = refl
 reports_text n (line.Heard x ∷ given) = reports_text (n + 1) given
 reports_text n (line.Passed reason ∷ given) =
-    ap (λ l. (passed_line (n, reason) ++ 10 ∷ []) ++ l) (reports_text (n + 1) given)
+    ap (λ l. (passed_line_of (n, reason) ++ 10 ∷ []) ++ l) (reports_text (n + 1) given)
 
 so_many_heard : (given : List Line) → count_heard given ≡ length (receptions_of given)
 so_many_heard [] = refl
@@ -102,18 +102,18 @@ so_many_passed n (line.Passed reason ∷ given) =
 
 pub totals_text : (given : List Line) (S : List Received) → receptions_of given ≡ S
     → check_lines 1 given ++ totals None given
-    ≡ text_of_lines (map passed_line (passed_in 1 given)
-    ++ totals_line (length S) (length (passed_in 1 given)) ∷ [])
+    ≡ text_of_lines (map passed_line_of (passed_in 1 given)
+    ++ totals_line_of (length S) (length (passed_in 1 given)) ∷ [])
 totals_text given S e =
     let passed = passed_in 1 given in
-    let end = totals_line (length S) (length passed) in
+    let end = totals_line_of (length S) (length passed) in
     ap (λ l. l ++ totals None given) (reports_text 1 given)
-    ∙ ap (λ n. text_of_lines (map passed_line passed)
-    ++ (totals_line n (count_passed given) ++ 10 ∷ [])) (so_many_heard given ∙ ap length e)
-    ∙ ap (λ n. text_of_lines (map passed_line passed)
-    ++ (totals_line (length S) n ++ 10 ∷ [])) (so_many_passed 1 given)
-    ∙ ap (λ l. text_of_lines (map passed_line passed) ++ l) (sym (append-nil (end ++ 10 ∷ [])))
-    ∙ sym (flat_map-append (λ line. line ++ 10 ∷ []) (map passed_line passed) (end ∷ []))
+    ∙ ap (λ n. text_of_lines (map passed_line_of passed)
+    ++ (totals_line_of n (count_passed given) ++ 10 ∷ [])) (so_many_heard given ∙ ap length e)
+    ∙ ap (λ n. text_of_lines (map passed_line_of passed)
+    ++ (totals_line_of (length S) n ++ 10 ∷ [])) (so_many_passed 1 given)
+    ∙ ap (λ l. text_of_lines (map passed_line_of passed) ++ l) (sym (append-nil (end ++ 10 ∷ [])))
+    ∙ sym (flat_map-append (λ line. line ++ 10 ∷ []) (map passed_line_of passed) (end ∷ []))
 
 log_checks : (t : List ℕ) (c : InputEnd) (fault : Option LogFault) → (log_answers t c).fault ≡ fault
     → Checks fault t c

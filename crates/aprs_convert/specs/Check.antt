@@ -11,12 +11,12 @@ use Rattle.aprs_log.specs.declared.fault.LogFault.{LogFault}
 use Rattle.aprs_log.specs.declared.fault.Reason.{Reason}
 
 -- The report of a line that is passed over: its number, and the reason.
-abbrev pub passed_line : ℕ × Reason → List ℕ
-passed_line pass = codes "line " ++ decimal pass.0 ++ codes " passed " ++ reason_name pass.1
+abbrev pub passed_line_of : ℕ × Reason → List ℕ
+passed_line_of pass = codes "line " ++ decimal pass.0 ++ codes " passed " ++ reason_name pass.1
 
 -- The report of how many lines are heard and how many passed over.
-abbrev pub totals_line : ℕ → ℕ → List ℕ
-totals_line heard passed = codes "heard " ++ decimal heard ++ codes " passed " ++ decimal passed
+abbrev pub totals_line_of : ℕ → ℕ → List ℕ
+totals_line_of heard passed = codes "heard " ++ decimal heard ++ codes " passed " ++ decimal passed
 
 -- The line is in order, and passed over for this reason: it is the first why the line's bytes carry
 -- no frame.
@@ -39,7 +39,7 @@ PassesOver n (line ∷ lines) passed =
 abbrev pub Checks : Option LogFault → List ℕ → InputEnd → List ℕ → Type 0
 Checks None text ending written = (S : List Received) × (log : IsLogText text ending S)
     × (passed : List (ℕ × Reason)) × PassesOver 1 log.lines passed × (written
-    ≡ text_of_lines (map passed_line passed ++ totals_line (length S) (length passed) ∷ []))
+    ≡ text_of_lines (map passed_line_of passed ++ totals_line_of (length S) (length passed) ∷ []))
 Checks (Some fault) text ending written = (log : HasLogFault text ending fault)
     × (passed : List (ℕ × Reason)) × PassesOver 1 log.lines passed
-    × (written ≡ text_of_lines (map passed_line passed))
+    × (written ≡ text_of_lines (map passed_line_of passed))

@@ -1,5 +1,5 @@
 -- What a conversion writes of a log, or of a KISS stream that is captured.
-use Rattle.std.specs.Prelude.{◌≡◌, ℕ, List, [], ◌∷◌, ◌++◌, map, Option, None, Some}
+use Rattle.std.specs.Prelude.{◌≡◌, ℕ, List, ◌++◌, codes, map, Option, None, Some}
 use Rattle.std.specs.List.{filter_map, flat_map}
 use Rattle.std.specs.Option.{option_and_then}
 use Rattle.std.specs.Result.{result_ok}
@@ -19,10 +19,10 @@ use Rattle.aprs_convert.specs.declared.form.Form.TheVariants as form
 
 -- What is written for a reception: a capture is written as a log.
 abbrev pub reception_text : Form → Received → List ℕ
-reception_text form.Text x = monitor_text (parts_of x.frame) ++ 10 ∷ []
-reception_text form.Kind x = kind_text (parts_of x.frame) ++ 10 ∷ []
+reception_text form.Text x = monitor_text (parts_of x.frame) ++ codes "\n"
+reception_text form.Kind x = kind_text (parts_of x.frame) ++ codes "\n"
 reception_text form.Kiss x = kiss_text x.frame
-reception_text other x = written_line x ++ 10 ∷ []
+reception_text other x = written_line x ++ codes "\n"
 
 -- The UI frames of a KISS stream: its data frames, as far as they are UI frames.
 abbrev pub frames_of : List ℕ → List (List ℕ)

@@ -1,6 +1,6 @@
 -- What a run writes, and the fault that it ends with, as a function of what was got of its input.
 -- No public clause cites this module.
-use Rattle.std.specs.Prelude.{◌≡◌, ℕ, ◌+◌, List, [], ◌∷◌, ◌++◌, Option, None, Some, Result, Ok, Err}
+use Rattle.std.specs.Prelude.{◌≡◌, ℕ, ◌+◌, List, [], ◌∷◌, ◌++◌, codes, Option, None, Some, Result, Ok, Err}
 use Rattle.std.specs.Io.KnownBytes.{Appends}
 use Rattle.std.specs.List.{flat_map}
 use Rattle.aprs_kiss.specs.Device.{AppendsPrefix, Calls}
@@ -17,7 +17,7 @@ use Rattle.aprs_log.specs.declared.fault.LogCause.TheVariants as why
 use Rattle.aprs_log.specs.declared.fault.LogFault.{LogFault}
 use Rattle.aprs_log.specs.declared.line.Line.{Line}
 use Rattle.aprs_log.specs.declared.line.Line.TheVariants as line
-use Rattle.aprs_convert.specs.Check.{passed_line, totals_line}
+use Rattle.aprs_convert.specs.Check.{passed_line_of, totals_line_of}
 use Rattle.aprs_convert.specs.Conversion.{reception_text, stream_fault}
 use Rattle.aprs_convert.specs.Ends.{AsksForRun, last_of_output}
 use Rattle.aprs_convert.specs.Got.{OfGot}
@@ -49,7 +49,7 @@ lines_plan f text ending = record {
 -- nothing.
 abbrev pub frame_line : List ℕ → ℕ → Result (List ℕ) FrameFault → List ℕ
 frame_line receiver moment (Ok frame) =
-    written_line (record { moment = moment; receiver = receiver; frame = frame }) ++ 10 ∷ []
+    written_line (record { moment = moment; receiver = receiver; frame = frame }) ++ codes "\n"
 frame_line receiver moment (Err fault) = []
 
 -- The log line of a data frame that is a UI frame; anything else gives nothing.
@@ -86,7 +86,7 @@ abbrev pub check_lines : ℕ → List Line → List ℕ
 check_lines n [] = []
 check_lines n (line.Heard x ∷ lines) = check_lines (n + 1) lines
 check_lines n (line.Passed reason ∷ lines) =
-    (passed_line (n, reason) ++ 10 ∷ []) ++ check_lines (n + 1) lines
+    (passed_line_of (n, reason) ++ codes "\n") ++ check_lines (n + 1) lines
 
 -- How many lines are heard.
 abbrev pub count_heard : List Line → ℕ
@@ -102,7 +102,7 @@ count_passed (line.Passed reason ∷ lines) = count_passed lines + 1
 
 -- The totals, which a fault leaves out.
 abbrev pub totals : Option LogFault → List Line → List ℕ
-totals None lines = totals_line (count_heard lines) (count_passed lines) ++ 10 ∷ []
+totals None lines = totals_line_of (count_heard lines) (count_passed lines) ++ codes "\n"
 totals (Some fault) lines = []
 
 -- The reports of a log with these answers.

@@ -1,10 +1,10 @@
 //! What a check reports of a log.
-ghost use Rattle.std.specs.Prelude.{◌≡◌, ◌≤◌, [], ◌∷◌, ◌++◌};
+ghost use Rattle.std.specs.Prelude.{◌≡◌, ◌≤◌, ◌++◌, codes};
 ghost use Rattle.arrayvec.specs.ArrayVec.{array_vec_len};
 ghost use Rattle.aprs_io.specs.Input.{most_input};
 ghost use Rattle.aprs_kiss.specs.Device.{Sends};
 ghost use Rattle.aprs_log.specs.Fault.{reason_name};
-ghost use Rattle.aprs_convert.specs.Check.{Checks, passed_line, totals_line};
+ghost use Rattle.aprs_convert.specs.Check.{Checks, passed_line_of, totals_line_of};
 ghost use Rattle.aprs_convert.specs.Ends.{Runs};
 
 use crate::fault::ConvertFault;
@@ -49,7 +49,7 @@ pub fn check_log<R: Read, W: Write, A: Allocator + Copy>(
 /// Writes that line number `line` is passed over, and why. At a fault a prefix of the report went
 /// out.
 fn write_passed<W: Write>(w: &mut Counted<W>, line: u64, reason: Reason) -> Result<(), WriteFault>
-    ensures { Sends W.contents result w.old w.new (passed_line (line, reason) ++ 10 ∷ []) }
+    ensures { Sends W.contents result w.old w.new (passed_line_of (line, reason) ++ codes "\n") }
 {
     let text = passed_line(line, reason);
     send(w, text.as_slice())
@@ -58,7 +58,7 @@ fn write_passed<W: Write>(w: &mut Counted<W>, line: u64, reason: Reason) -> Resu
 /// Writes how many lines are heard and how many passed over. At a fault a prefix of the report went
 /// out.
 fn write_totals<W: Write>(w: &mut Counted<W>, heard: u64, passed: u64) -> Result<(), WriteFault>
-    ensures { Sends W.contents result w.old w.new (totals_line heard passed ++ 10 ∷ []) }
+    ensures { Sends W.contents result w.old w.new (totals_line_of heard passed ++ codes "\n") }
 {
     let text = totals_line(heard, passed);
     send(w, text.as_slice())
@@ -66,7 +66,7 @@ fn write_totals<W: Write>(w: &mut Counted<W>, heard: u64, passed: u64) -> Result
 
 /// The report that line number `line` is passed over, with its LF, as `line 3 passed NoFrame`.
 fn passed_line(line: u64, reason: Reason) -> Text
-    ensures { result.items ≡ passed_line (line, reason) ++ 10 ∷ [] }
+    ensures { result.items ≡ passed_line_of (line, reason) ++ codes "\n" }
 {
     let mut text = Text::new();
     push_all(&mut text, b"line ");
@@ -80,7 +80,7 @@ fn passed_line(line: u64, reason: Reason) -> Text
 /// The report of how many lines are heard and how many passed over, as `heard 5 passed 1`, with its
 /// LF.
 fn totals_line(heard: u64, passed: u64) -> Text
-    ensures { result.items ≡ totals_line heard passed ++ 10 ∷ [] }
+    ensures { result.items ≡ totals_line_of heard passed ++ codes "\n" }
 {
     let mut text = Text::new();
     push_all(&mut text, b"heard ");

@@ -1,5 +1,5 @@
 //! What a run writes for a line of a log.
-ghost use Rattle.std.specs.Prelude.{◌≡◌, ◌≤◌, ◌++◌, ◌∷◌, []};
+ghost use Rattle.std.specs.Prelude.{◌≡◌, ◌≤◌, ◌++◌, [], codes};
 ghost use Rattle.aprs_ax25.specs.FrameFault.{parts_of};
 ghost use Rattle.aprs_kiss.specs.Device.{Sends};
 ghost use Rattle.aprs_report.specs.Reader.{reading_of};
@@ -80,7 +80,7 @@ fn write_monitor_line<W: Write>(
     text: &mut Text,
 ) -> Result<(), WriteFault>
     ensures { Sends W.contents result w.old w.new
-        (monitor_text (parts_of frame.now) ++ 10 ∷ []) }
+        (monitor_text (parts_of frame.now) ++ codes "\n") }
 {
     text.clear();
     push_monitor_line(text, frame);
@@ -94,7 +94,7 @@ fn write_kind_line<W: Write>(
     frame: &Frame,
     text: &mut Text,
 ) -> Result<(), WriteFault>
-    ensures { Sends W.contents result w.old w.new (kind_text (parts_of frame.now) ++ 10 ∷ []) }
+    ensures { Sends W.contents result w.old w.new (kind_text (parts_of frame.now) ++ codes "\n") }
 {
     text.clear();
     push_kind_line(text, frame);
@@ -105,7 +105,7 @@ fn write_kind_line<W: Write>(
 /// which is empty.
 fn push_kind_line(text: &mut Text, frame: &Frame)
     requires { text.old.items ≡ [] }
-    ensures { text.new.items ≡ kind_text (parts_of frame.now) ++ 10 ∷ [] }
+    ensures { text.new.items ≡ kind_text (parts_of frame.now) ++ codes "\n" }
 {
     push_kind(text, frame.info());
     text.push(b' ');
@@ -127,7 +127,7 @@ fn push_kind(out: &mut Text, info: &[u8])
 /// Puts the frame as a monitor prints it, and an LF into the text, which is empty.
 fn push_monitor_line(text: &mut Text, frame: &Frame)
     requires { text.old.items ≡ [] }
-    ensures { text.new.items ≡ monitor_text (parts_of frame.now) ++ 10 ∷ [] }
+    ensures { text.new.items ≡ monitor_text (parts_of frame.now) ++ codes "\n" }
 {
     push_monitor_text(text, frame);
     text.push(b'\n');

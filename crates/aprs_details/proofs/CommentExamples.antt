@@ -99,9 +99,8 @@ frequencies_follow_altitudes-misses = refl
 
 -- ---- digits more
 
-abbrev pub more_digits : ℕ → Scale → (latitude longitude : ℕ) → Option Precision
-more_digits datum scale latitude longitude = Some (record {
-  datum = datum;
+abbrev pub more_digits : Scale → (latitude longitude : ℕ) → Option Precision
+more_digits scale latitude longitude = Some (record {
   scale = scale;
   latitude = latitude;
   longitude = longitude;
@@ -111,17 +110,14 @@ abbrev pub precision_within : List ℕ → Option Precision
 unfolding first_in precision_at precision_in
 precision_within comment = precision_of comment
 
--- Decimal digits after a capital letter, and digits of base 91 after a small one, anywhere.
+-- Decimal digits after W, and digits of base 91 after w, anywhere.
 pub comments_have_more_digits : Gives precision_within (
-    (codes "!W12!", more_digits 87 Tenths 1 2) ∷  -- decimal
-    (codes "!w:!!", more_digits 119 NinetyFirsts 25 0) ∷  -- base 91
-    (codes "!w{ !", more_digits 119 NinetyFirsts 90 0) ∷  -- greatest, open
-    (codes "!W 9!", more_digits 87 Tenths 0 9) ∷  -- open
-    (codes "Hi!!W12!!N34!", more_digits 87 Tenths 1 2) ∷  -- first
-    (codes "!A00!", more_digits 65 Tenths 0 0) ∷  -- first capital
-    (codes "!Z00!", more_digits 90 Tenths 0 0) ∷  -- last capital
-    (codes "!a00!", more_digits 97 NinetyFirsts 15 15) ∷  -- first small
-    (codes "!z00!", more_digits 122 NinetyFirsts 15 15) ∷ [])  -- last small
+    (codes "!W12!", more_digits Tenths 1 2) ∷  -- decimal
+    (codes "!w:!!", more_digits NinetyFirsts 25 0) ∷  -- base 91
+    (codes "!w{ !", more_digits NinetyFirsts 90 0) ∷  -- greatest, open
+    (codes "!W 9!", more_digits Tenths 0 9) ∷  -- open
+    (codes "Hi!!W12!!W34!", more_digits Tenths 1 2) ∷  -- first
+    (codes "!N27!!W12!", more_digits Tenths 1 2) ∷ [])  -- after another datum
 unfolding precision_within
 comments_have_more_digits = refl
 
@@ -133,10 +129,11 @@ pub comments_have_more_digits-misses : Misses precision_within (
     codes "!W/1!" ∷  -- before the digits
     codes "!W:1!" ∷  -- after the digits
     codes "!w|1!" ∷  -- past base 91
-    codes "!@12!" ∷  -- before the capitals
-    codes "![12!" ∷  -- after the capitals
-    codes "!`12!" ∷  -- before the small letters
-    codes "!{12!" ∷  -- after the small letters
+    codes "!V12!" ∷  -- before W
+    codes "!X12!" ∷  -- after W
+    codes "!v12!" ∷  -- before w
+    codes "!x12!" ∷  -- after w
+    codes "!yes!" ∷  -- a word
     codes "W12!" ∷  -- no mark before
     codes "!W12" ∷ [])  -- no mark after
 unfolding precision_within
@@ -146,7 +143,7 @@ abbrev pub angle : ℤ → ℕ → Fraction
 angle numerator denominator = record { numerator = numerator; denominator = pos denominator }
 
 abbrev pub with_digits : Scale × Place → Option (Fraction × Fraction)
-with_digits x = finer_place (record { datum = 87; scale = x.0; latitude = 1; longitude = 2 }) x.1
+with_digits x = finer_place (record { scale = x.0; latitude = 1; longitude = 2 }) x.1
 
 -- Digits count away from the equator and from Greenwich, as tenths or ninety-firsts.
 pub digits_make_places_finer : Gives with_digits (

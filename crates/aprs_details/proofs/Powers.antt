@@ -91,12 +91,12 @@ power_at : (up c s : ℕ) → (up ^ 91) ^ c * up ^ s ≡ up ^ (c * 91 + s)
 power_at up c s = ap (λ (n : ℕ). n * up ^ s) (steep up c) ∙ sym (pow-add up (c * 91) s)
 
 -- the altitude of two digits by the powers in two tables
-pub multiplied_at : (c s : ℕ) (high low : List ℕ) → c < length high → s < length low →
+pub product_at : (c s : ℕ) (high low : List ℕ) → c < length high → s < length low →
     has_powers 16777216 1 (1002 ^ 91) (1000 ^ 91) high ≡ true →
     has_powers 1099511627776 1 1002 1000 low ≡ true → are_settled high low ≡ true →
     rounded (get_or high c 0 * get_or low s 0) ≡ feet_of_cs (c * 91 + s)
 unfolding feet_of_cs
-multiplied_at c s high low lc ls ph pl h =
+product_at c s high low lc ls ph pl h =
     ends_at (get_or high c 0) (get_or low s 0) ((1002 ^ 91) ^ c) ((1000 ^ 91) ^ c) (1002 ^ s) (1000 ^ s)
     (cut_off_at 16777216 1 (1002 ^ 91) (1000 ^ 91) c high lc ph) (cut_off_at 1099511627776 1 1002 1000 s low ls pl)
     (settled_at c s high low lc ls h)
@@ -104,9 +104,9 @@ multiplied_at c s high low lc ls ph pl h =
     ∙ ap (λ (d : ℕ). nearest (1002 ^ (c * 91 + s)) d) (power_at 1000 c s)
 
 -- and it is small
-pub multiplied_small : (c s : ℕ) (high low : List ℕ) → c < length high → s < length low →
+pub product_small : (c s : ℕ) (high low : List ℕ) → c < length high → s < length low →
     are_settled high low ≡ true → rounded (get_or high c 0 * get_or low s 0) < 4294967296
-multiplied_small c s high low lc ls h =
+product_small c s high low lc ls h =
     let lt = ltb-true (get_or high c 0 * get_or low s 0) 39614081257132168796771975168 (and_parts _ _ (settled_at c s high low lc ls h)).0 in
     omega (arith, lt)
 

@@ -7,9 +7,10 @@ use Rattle.aprs_report.specs.Reader.{◌>>=◌}
 use Rattle.aprs_details.specs.declared.weather.Weather.{Weather}
 use Rattle.aprs_details.specs.Value.{known}
 use Rattle.aprs_details.specs.Altitude.{or_else}
+use Rattle.aprs_details.specs.Compressed.{course_of_cst}
 use Rattle.aprs_details.specs.Extension.{IsPair, pair_of}
-use Rattle.aprs_details.specs.Weather.{field_at, places_in, number_of, temperature_of, humidity_of, luminosity_of, bright_of, fahrenheit, percent, direction_in, weather_with, weather_of_fields, weather_after, weather_of_comment, is_underscore, fields_of_info, weather_of_info}
-use Rattle.aprs_details.specs.WeatherReport.{IsWeatherField, HasField, here, later, Says, field, missing, percent_in, bright_in, SaysWeather, SaysWind, IsWeatherReport, IsWeatherComment, with_wind, in_fields}
+use Rattle.aprs_details.specs.Weather.{field_at, places_in, number_of, temperature_of, humidity_of, luminosity_of, bright_of, fahrenheit, percent, direction_in, weather_with, weather_of_fields, weather_after, weather_of_comment, weather_of_cst, is_underscore, fields_of_info, weather_of_info}
+use Rattle.aprs_details.specs.WeatherReport.{IsWeatherField, HasField, here, later, Says, field, missing, percent_in, bright_in, SaysWeather, SaysWind, IsWeatherReport, IsWeatherComment, IsCompressedWeather, with_wind, in_fields}
 use Rattle.aprs_details.proofs.Pairs.{pair_found, pair_takes}
 use Rattle.aprs_details.proofs.Lacking.{then_some}
 use Rattle.aprs_details.proofs.Fields.{field_found, field_takes, walk_stops, walk_goes_on, walk_ends}
@@ -260,3 +261,14 @@ comment_takes comment w (with_wind wind_from wind rest pair says) =
     ∙ weather_takes w wind_from wind rest says
 comment_takes comment w (in_fields never says) =
     no_pair comment (pair_of comment) refl never ∙ fields_takes w comment says
+
+-- ---- with a compressed position
+
+pub compressed_said : (cst comment : List ℕ) → IsCompressedWeather (weather_of_cst cst comment) cst comment
+unfolding weather_of_cst
+compressed_said cst comment = weather_said (course_of_cst cst) None comment
+
+pub compressed_takes : (cst comment : List ℕ) (w : Weather) → IsCompressedWeather w cst comment →
+    weather_of_cst cst comment ≡ w
+unfolding weather_of_cst
+compressed_takes cst comment w h = weather_takes w (course_of_cst cst) None comment h

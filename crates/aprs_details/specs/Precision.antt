@@ -1,6 +1,6 @@
 -- More digits of a position (APRS 1.2, !DAO!): three bytes in a comment between exclamation marks.
-use Rattle.std.specs.Prelude.{ℕ, ℤ, pos, ◌-◌, ◌+ℤ◌, ◌-ℤ◌, ◌*ℤ◌, int_lt, Bool, ◌==◌, ◌&&◌, nat_le, if◌then◌else◌, List, slice_index, Option, None, Some}
-use Rattle.aprs_report.specs.Bytes.{is_digit, is_space, is_capital}
+use Rattle.std.specs.Prelude.{ℕ, ℤ, pos, ◌-◌, ◌+ℤ◌, ◌-ℤ◌, ◌*ℤ◌, int_lt, Bool, ◌==◌, ◌&&◌, if◌then◌else◌, List, slice_index, Option, None, Some}
+use Rattle.aprs_report.specs.Bytes.{is_digit, is_space}
 use Rattle.aprs_report.specs.Reader.{◌>>=◌, value_when, chunk_of}
 use Rattle.aprs_report.specs.declared.place.Place.{Place}
 use Rattle.aprs_report.specs.declared.place.Place.TheVariants.{Plain, Base91}
@@ -13,13 +13,9 @@ use Rattle.aprs_details.specs.declared.precision.Precision.{Precision}
 
 -- ---- the bytes
 
--- The byte is a small letter.
-abbrev pub is_small : ℕ → Bool
-is_small b = nat_le 97 b && nat_le b 122
-
--- The digits are decimal where the datum is a capital letter, and of base 91 where it is a small one.
+-- The letter of the datum WGS 84: the digits are decimal after W, and of base 91 after w.
 abbrev pub scale_of : ℕ → Option Scale
-scale_of datum = if is_capital datum then Some Tenths else value_when (is_small datum) NinetyFirsts
+scale_of datum = if datum == 87 then Some Tenths else value_when (datum == 119) NinetyFirsts
 
 -- The number of a decimal digit; a space is 0.
 abbrev pub tenth_of : ℕ → Option ℕ
@@ -45,7 +41,6 @@ precision_in field = do
   latitude ← scaled_digit scale (slice_index field 2)
   longitude ← scaled_digit scale (slice_index field 3)
   value_when (are_marks field) (record {
-    datum = slice_index field 1;
     scale = scale;
     latitude = latitude;
     longitude = longitude;

@@ -7,6 +7,7 @@ use Rattle.aprs_report.specs.Reader.{◌>>=◌}
 use Rattle.aprs_details.specs.declared.weather.Weather.{Weather}
 use Rattle.aprs_details.specs.Value.{known}
 use Rattle.aprs_details.specs.Altitude.{or_else}
+use Rattle.aprs_details.specs.Compressed.{course_of_cst}
 use Rattle.aprs_details.specs.Extension.{IsPair}
 use Rattle.aprs_details.specs.Weather.{width_of, fits_letter, fahrenheit, percent, direction_in}
 
@@ -82,3 +83,8 @@ pub data IsWeatherComment (w : Weather) (comment : List ℕ) : Type 0 where
       SaysWeather w wind_from wind rest → IsWeatherComment w comment
   in_fields : ((wind_from wind : Option ℕ) (rest : List ℕ) → IsPair wind_from wind rest comment → ⊥) →
       SaysWind w comment → IsWeatherComment w comment
+
+-- The comment of a weather station's compressed position says this weather: the wind's direction is
+-- in the bytes c, s and T, and its speed isn't said.
+abbrev pub IsCompressedWeather : Weather → (cst comment : List ℕ) → Type 0
+IsCompressedWeather w cst comment = SaysWeather w (course_of_cst cst) None comment

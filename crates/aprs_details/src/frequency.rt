@@ -215,9 +215,8 @@ impl<'a> Frequency<'a> {
     ghost use Rattle.std.specs.Option.{option_map};
     ghost use Rattle.aprs_details.specs.Frequency as Spec;
 
-    /// The frequency with which the comment of a position or the text of a status begins, or that
-    /// follows the data extension with which it begins. `None` where no frequency stands there.
-    /// Takes no memory.
+    /// The frequency with which the comment of a position begins, or that follows the data
+    /// extension with which it begins. `None` where no frequency stands there. Takes no memory.
     #[tactic(auto, unfolding(crate::specs::Frequency::frequency_of))]
     pub fn of_comment(comment: &'a [u8]) -> Option<Frequency<'a>>
         ensures { option_map Spec.frequency_view result ≡ Spec.frequency_of comment.now }
@@ -226,6 +225,14 @@ impl<'a> Frequency<'a> {
             Some(frequency) => Some(frequency),
             None => extended(comment),
         }
+    }
+
+    /// The frequency with which the text of a status begins. `None` where it begins with none.
+    /// Takes no memory.
+    pub fn of_status(text: &'a [u8]) -> Option<Frequency<'a>>
+        ensures { option_map Spec.frequency_view result ≡ Spec.tuned_at text.now }
+    {
+        tuned_at(text)
     }
 
     /// The frequency of a Mic-E comment: at its start, or after a radio's mark, an altitude, or

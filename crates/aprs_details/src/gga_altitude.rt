@@ -196,7 +196,7 @@ const LOW: [u64; 91] = [
 ];
 
 /// The altitude in feet, by tables of powers for the first digit and for the second.
-#[tactic(auto, using(crate::proofs::Powers::multiplied_at, crate::proofs::Powers::multiplied_small))]
+#[tactic(auto, using(crate::proofs::Powers::product_at, crate::proofs::Powers::product_small))]
 fn feet_of_digits(high: &[u64; 91], low: &[u64; 91], c: u8, s: u8) -> u32
     requires c { c < 91 }
     requires s { s < 91 }

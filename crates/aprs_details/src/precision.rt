@@ -1,6 +1,5 @@
 //! More digits of a position.
 ghost use Rattle.std.specs.Prelude.{◌≡◌, ◌<◌, ◌^◌, IfSome, unsigned_abs};
-ghost use Rattle.aprs_report.specs.Bytes.{is_capital};
 ghost use Rattle.aprs_details.specs.Precision as Spec;
 
 use crate::compressed::is_base91;
@@ -15,11 +14,9 @@ pub enum Scale {
     NinetyFirsts,
 }
 
-/// What a comment says more of its position's digits (APRS 1.2, `!DAO!`).
+/// What a comment says more of its position's digits (APRS 1.2, `!DAO!`), of the datum WGS 84.
 #[derive(Clone, Copy, Debug, PartialEq, Eq)]
 pub struct Precision {
-    /// The letter of the datum: `W` or `w` for WGS 84.
-    pub datum: u8,
     /// What the digits count.
     pub scale: Scale,
     /// The next digit of the latitude, 0 to 9 or 0 to 90; 0 where it is a space.
@@ -28,13 +25,13 @@ pub struct Precision {
     pub longitude: u8,
 }
 
-/// What the digits after a datum count.
+/// What the digits after the letter of a datum count. `None` where the datum isn't WGS 84.
 fn scale_of(datum: u8) -> Option<Scale>
     ensures { result ≡ Spec.scale_of datum }
 {
     match datum {
-        b'A'..=b'Z' => Some(Scale::Tenths),
-        b'a'..=b'z' => Some(Scale::NinetyFirsts),
+        b'W' => Some(Scale::Tenths),
+        b'w' => Some(Scale::NinetyFirsts),
         _ => None,
     }
 }
@@ -84,7 +81,6 @@ fn precision_in(field: &[u8; 5]) -> Option<Precision>
     let longitude = part(scale, east)?;
     if begin == b'!' && end == b'!' {
         Some(Precision {
-            datum,
             scale,
             latitude,
             longitude,
@@ -140,7 +136,8 @@ impl Precision {
     ghost use Rattle.aprs_details.specs.Precision as Spec;
 
     /// What a comment says first of its position's digits: `!Wxy!` with decimal digits, and `!wxy!`
-    /// with digits of base 91. `None` where it says nothing of them. Takes no memory.
+    /// with digits of base 91, both of the datum WGS 84. `None` where it says nothing of them.
+    /// Takes no memory.
     pub fn of_comment(comment: &[u8]) -> Option<Precision>
         ensures { result ≡ Spec.precision_of comment.now }
     {

@@ -4,6 +4,8 @@ pub mod Matches
 pub mod Reading
 pub mod Begun
 pub mod Streamed
+pub mod Kept
+pub mod Parts
 pub mod Puttings
 pub mod Walking
 pub mod Texts

@@ -1,15 +1,19 @@
 -- Lines that were put, one after another.
-use Rattle.aprs_fold.proofs.Common.{◌≡◌, ◌∙◌, ℕ, Bool, true, false, List, [], ◌++◌, Option, Result, Ok, Err, inl, inr, refl, sym, subst, append-nil, flat_map-append, in_either, Puts, Puts-is, Puts-none, Puts-then, Row}
+use Rattle.aprs_fold.proofs.Common.{◌≡◌, ◌∙◌, ◌<◌, ℕ, length, Bool, true, false, cond, List, [], ◌∷◌, ◌++◌, Option, Result, Ok, Err, inl, inr, refl, sym, ap, subst, append-nil, flat_map-append, in_either, Puts, Puts-is, Puts-none, Puts-then, Row}
 use Rattle.aprs_io.specs.Device.{Sends, SendsAllBut}
 use Rattle.aprs_io.specs.Outlet.{held_of, writer_loan_of, writer_of}
 use Rattle.aprs_io.specs.declared.outlet.Outlet.{Outlet}
 use Rattle.aprs_io.proofs.Sends.{Sends-last, Sends-ok}
+use Rattle.aprs_log.specs.declared.moment_form.MomentForm.TheVariants.{Millis}
 use Rattle.aprs_booktext.specs.RowLines.{line_and_lf}
+use Rattle.aprs_booktext.specs.Text.{IsBookRow}
 use Rattle.aprs_rows.specs.OpenRow.{JoinsOrNot}
-use Rattle.aprs_folding.specs.Folding.{rows_put}
-use Rattle.aprs_fold.specs.Taking.{lines_of_rows, FailsPut, FailsTaking, HasPut, IsThere}
+use Rattle.aprs_fold.specs.Range.{rows_of_sources}
+use Rattle.aprs_fold.specs.Taking.{lines_of_rows, FailsPut, FailsTaking, HasPut, IsThere, Takes}
 use Rattle.aprs_fold.specs.declared.fault.FoldFault.{FoldFault}
-use Rattle.aprs_fold.specs.declared.fault.FoldFault.TheVariants.{Write}
+use Rattle.aprs_fold.specs.declared.fault.FoldFault.TheVariants.{Memory, Write}
+use Rattle.aprs_fold.specs.declared.range.SourceRange.{SourceRange}
+use Rattle.aprs_fold.proofs.Kept.{is_row_within}
 
 module _ {W : Type 0} {contents : W → Option (List ℕ)} where
   -- which error it would be is not said
@@ -32,6 +36,18 @@ module _ {W : Type 0} {contents : W → Option (List ℕ)} where
     spelled = λ x h. elim (in_either x a b h) [
       | inl k ↦ first.spelled x k
       | inr k ↦ then.spelled x k
+    ];
+  }
+
+  pub HasPut-one : {E : Type 0} (o p : Outlet W) (x : Row)
+      → Puts {E = E} contents (Ok tt) o p (line_and_lf x)
+      → (0 < length x.receivers → IsBookRow Millis x) → HasPut contents o p (x ∷ [])
+  HasPut-one o p x put spelled = record {
+    puts = Puts-is (Puts-ok put) (sym (append-nil (line_and_lf x)));
+    spelled = λ y h some. elim h [
+      | inl same ↦ subst (IsBookRow Millis) same (spelled (subst (λ (z : Row).
+          0 < length z.receivers) (sym same) some))
+      | inr never ↦ absurd never
     ];
   }
 
@@ -64,18 +80,80 @@ module _ {W : Type 0} {contents : W → Option (List ℕ)} where
     empty = none;
   }
 
--- the last row's line could not be put, since the next row didn't join it
-pub put_fails : {W : Type 0} (contents : W → Option (List ℕ)) (gap : ℕ) (fault : FoldFault)
-    (o p : Outlet W) (old new : List Row) (x : Row) (joined : Bool) → joined ≡ false
-    → JoinsOrNot joined gap old x new → FailsPut contents fault o p new
-    → FailsTaking contents gap fault o p old x
-put_fails {W = W} contents gap fault o p old new x true e joins fails = absurd (cc)
-put_fails {W = W} contents gap fault o p old new x false e joins fails =
-    subst (λ (f : FoldFault). FailsTaking contents gap f o p old x) (sym fails.0)
-    (subst (λ (l : List Row). Puts {E = FoldFault} contents (Err Write) o p (lines_of_rows l)) joins.0
-    fails.1)
+module _ {W : Type 0} (contents : W → Option (List ℕ)) (range : SourceRange) (gap : ℕ)
+    (o p : Outlet W) (old mid : List Row) (x : Row) where
+  -- the last row's line could not be put, which the next row didn't join
+  pub put_fails : (fault : FoldFault) (joined : Bool) → joined ≡ false
+      → JoinsOrNot joined gap old x mid → FailsPut contents fault o p (rows_of_sources range mid)
+      → FailsTaking contents range gap fault o p old x
+  put_fails fault true e joins fails = absurd (cc)
+  put_fails fault false e joins fails =
+      subst (λ (f : FoldFault). FailsTaking contents range gap f o p old x) (sym fails.0)
+      (subst (λ (l : List Row). Puts {E = FoldFault} contents (Err Write) o p
+      (lines_of_rows (rows_of_sources range l))) joins.0 fails.1)
 
--- the rows that are put of a last row that is there, or not
-pub there_put : (wrote : Bool) (last : List Row) → IsThere wrote last → rows_put wrote last ≡ last
-there_put true last h = refl
-there_put false last h = sym h
+  -- the next row joined it
+  pub takes_joined : (joined : Bool) → joined ≡ true → JoinsOrNot joined gap old x mid
+      → Takes contents range false gap o o old x mid
+  takes_joined true e joins = record {
+    closed = false;
+    takes = inl joins;
+    puts = HasPut-none o;
+    is_there = refl;
+  }
+  takes_joined false e joins = absurd (cc)
+
+  -- no row joined it, and its line was put
+  module _ (joined : Bool) (far : joined ≡ false) (joins : JoinsOrNot joined gap old x mid)
+      (put : HasPut contents o p (rows_of_sources range mid)) where
+    stays : JoinsOrNot false gap old x mid
+    stays = subst (λ (b : Bool). JoinsOrNot b gap old x mid) far joins
+
+    put_old : HasPut contents o p (rows_of_sources range old)
+    put_old = subst (λ (l : List Row). HasPut contents o p (rows_of_sources range l)) stays.0 put
+
+    put_none : old ≡ [] → HasPut contents o p []
+    put_none none =
+        subst (λ (l : List Row). HasPut contents o p (rows_of_sources range l)) none put_old
+
+    pub takes_closed : (wrote : Bool) → IsThere wrote (rows_of_sources range mid)
+        → (new : List Row) → new ≡ x ∷ [] → Takes contents range wrote gap o p old x new
+    takes_closed wrote there new is =
+        let there_old = subst (λ (l : List Row). IsThere wrote (rows_of_sources range l)) stays.0
+        there in
+        elim stays.1 [
+          | inl none ↦ record {
+            closed = false;
+            takes = inr (none, is);
+            puts = put_none none;
+            is_there = subst (λ (l : List Row). IsThere wrote (rows_of_sources range l)) none
+                there_old;
+          }
+          | inr own ↦ record {
+            closed = true;
+            takes = (own.0, own.1, own.2, is);
+            puts = put_old;
+            is_there = there_old;
+          }
+        ]
+
+    -- there is no memory for the next one
+    pub closing_fails : (fault : FoldFault) → fault ≡ Memory
+        → FailsTaking contents range gap fault o p old x
+    closing_fails fault is =
+        subst (λ (f : FoldFault). FailsTaking contents range gap f o p old x) (sym is)
+        (elim stays.1 [
+          | inl none ↦ (false, put_none none, tt)
+          | inr own ↦ (true, put_old, (own.0, own.1, own.2, refl))
+        ])
+
+-- the row is within the range, or not
+pub one_within : (range : SourceRange) (x : Row) (last : List Row) → last ≡ x ∷ []
+    → is_row_within range x ≡ true → rows_of_sources range last ≡ x ∷ []
+one_within range x last is within = ap (rows_of_sources range) is
+    ∙ ap (λ b. cond b (x ∷ []) []) within
+
+pub one_without : (range : SourceRange) (x : Row) (last : List Row) → last ≡ x ∷ []
+    → is_row_within range x ≡ false → rows_of_sources range last ≡ []
+one_without range x last is without = ap (rows_of_sources range) is
+    ∙ ap (λ b. cond b (x ∷ []) []) without

@@ -1,11 +1,17 @@
 -- Several streams of rows, of which one is read on.
 use Rattle.aprs_fold.proofs.Common.{◌≡◌, ◌≢◌, ◌<◌, ◌≤◌, ◌+◌, ◌⊎◌, ◌∙◌, ℕ, zero, suc, Bool, true, false, cond, List, [], ◌∷◌, ◌++◌, length, set, Option, None, Some, Ok, Err, inl, inr, refl, sym, ap, subst, arith, last_or, slice_get, in_either, in_left, in_right, Calls, Going, Fault, End, Last, Counted, Row, row_cmp, IsUpTo, IsBelow, Ordered, SameMembers, ◌∈◌}
 use Rattle.std.specs.Ordering.{is_gt}
+use Rattle.std.specs.Prelude.{IfSome, Result}
+use Rattle.aprs_io.specs.Input.{Gets}
+use Rattle.aprs_io.specs.declared.input.InputEnd.{InputEnd}
+use Rattle.aprs_io.specs.declared.input.InputEnd.TheVariants as how
+use Rattle.aprs_laws.specs.BookValue.{BookValue}
 use Rattle.aprs_booktext.specs.Asking.{AsksAt}
+use Rattle.aprs_booktext.specs.BookAnswers.{ReadsBook}
 use Rattle.aprs_booktext.specs.Reader.{gap_in, HoldsIn}
-use Rattle.aprs_booktext.specs.Reading.{IsAnswered}
+use Rattle.aprs_booktext.specs.Reading.{Got, IsAnswered}
 use Rattle.aprs_booktext.specs.RowReader.{row_kept, version_in, KeepsVersion}
-use Rattle.aprs_booktext.specs.RowStream.{front_of, GetsOne, HasGot, is_ended, IsFaultyAfter, stream_ahead, stream_size}
+use Rattle.aprs_booktext.specs.RowStream.{front_of, gap_of_stream, GetsOne, HasGot, HoldsTo, is_ended, IsFaultyAfter, stream_ahead, stream_size}
 use Rattle.aprs_booktext.specs.Text.{IsBookRows}
 use Rattle.aprs_booktext.specs.Version.{gap_of}
 use Rattle.aprs_booktext.specs.declared.fault.BookCause.{BookCause}
@@ -17,7 +23,7 @@ use Rattle.aprs_booktext.specs.declared.row_stream.RowStream.{RowStream}
 use Rattle.aprs_booktext.specs.declared.version.Version.{Version}
 use Rattle.aprs_booktext.proofs.BookRows.{rows_sound}
 use Rattle.aprs_fold.specs.Fronts.{row_at}
-use Rattle.aprs_fold.specs.Inputs.{all_of, AreAsked, AreBooks, IsRefused}
+use Rattle.aprs_fold.specs.Inputs.{all_of, AreAsked, AreBooks, IsAsked, IsRefused}
 use Rattle.aprs_fold.specs.Streams.{ahead_of, ahead_of_all, fronts_of, taken_at, AreReading, IsReading, IsReadyAt}
 use Rattle.aprs_fold.specs.declared.fault.FoldFault.TheVariants.{Input}
 
@@ -29,11 +35,37 @@ asked_at why.Read f n h = (Fault, h)
 asked_at why.Ending f n h = elim h [ inl going ↦ (Going, going) | inr end ↦ (End, end) ]
 asked_at cause f n h = (Going, h)
 
+-- what was got where it was answered, or where a row is in front
+answered_gets : (limit : ℕ) (answer : Result BookValue BookFault) (known after : Option (List ℕ))
+    → IfSome known (λ input. ReadsBook limit [] input after answer)
+    → IfSome known (λ input. (text : List ℕ) × (ending : InputEnd)
+    × Gets limit input after text ending)
+answered_gets limit answer None after h = tt
+answered_gets limit answer (Some input) after h = (h.got, h.ending, h.gets)
+
+pub got_gets : (P : List ℕ → Type 0) (known after : Option (List ℕ)) (limit left : ℕ)
+    → Got P [] known after limit left
+    → IfSome known (λ input. (text : List ℕ) × (ending : InputEnd)
+    × Gets limit input after text ending)
+got_gets P None after limit left h = tt
+got_gets P (Some input) None limit left h = absurd h.took
+got_gets P (Some input) (Some rest) limit left h = (
+  h.got,
+  how.Read,
+  record {
+    rest = rest;
+    whole = h.took;
+    ends = (refl, (let size = h.size in omega (arith, size)));
+  },
+)
+
 -- at its fault
-pub faulty_calls : {R : Type 0} (remaining : R → Option (List ℕ)) (limit : ℕ) (f n : Counted R)
-    (fault : BookFault) → IsAnswered remaining limit [] (Err fault) f n
-    → (last : Last) × Calls last f n
-faulty_calls remaining limit f n fault h = asked_at fault.cause f n h.calls
+pub faulty_asked : {R : Type 0} (remaining : R → Option (List ℕ)) (limit : ℕ) (f n : Counted R)
+    (fault : BookFault) → IsAnswered remaining limit [] (Err fault) f n → IsAsked remaining limit f n
+faulty_asked remaining limit f n fault h = record {
+  gets = answered_gets limit (Err fault) (remaining f.device) (remaining n.device) h.reads;
+  calls = asked_at fault.cause f n h.calls;
+}
 
 -- the gap of a version that stays
 gap_of_version_in : (stage : Stage) (v : Version) → version_in stage ≡ Some v
@@ -65,12 +97,24 @@ head_is : (x y : Row) → x ∷ [] ≡ y ∷ [] → x ≡ y
 head_is x y e = cc
 
 module _ {R A : Type 0} (remaining : R → Option (List ℕ)) (limit gap : ℕ) where
-  pub reading_calls : (f n : Counted R) (s : RowStream A) (t : List Row)
-      → IsReading remaining limit gap f n s t → (last : Last) × Calls last f n
-  reading_calls f n s t h = elim h.gets [
-    | inl one ↦ (Going, one.3.calls)
-    | inr none ↦ (End, none.2.calls)
+  pub gets_asked : (f n : Counted R) (s : RowStream A) (t : List Row)
+      → GetsOne remaining limit f n s t → IsAsked remaining limit f n
+  gets_asked f n s t h = elim h [
+    | inl one ↦ record {
+      gets = got_gets (HoldsTo s (t ++ one.0 ∷ [])) (remaining f.device) (remaining n.device) limit
+          s.left one.3.got;
+      calls = (Going, one.3.calls);
+    }
+    | inr none ↦ record {
+      gets = answered_gets limit (Ok (record { gap = gap_of_stream s; rows = t }))
+          (remaining f.device) (remaining n.device) none.2.reads;
+      calls = (End, none.2.calls);
+    }
   ]
+
+  pub reading_asked : (f n : Counted R) (s : RowStream A) (t : List Row)
+      → IsReading remaining limit gap f n s t → IsAsked remaining limit f n
+  reading_asked f n s t h = gets_asked f n s t h.gets
 
   -- the next row comes after the one that was taken
   next_after : (f n : Counted R) (s : RowStream A) (t : List Row) (x y : Row)
@@ -111,7 +155,7 @@ module _ {R A : Type 0} (remaining : R → Option (List ℕ)) (limit gap : ℕ) 
 
   pub AreReading-asked : (first now : List (Counted R)) (streams : List (RowStream A))
       (taken : List (List Row)) → AreReading remaining limit gap first now streams taken
-      → AreAsked first now
+      → AreAsked remaining limit first now
   AreReading-asked [] [] [] [] h = tt
   AreReading-asked [] [] [] (t ∷ taken) h = absurd h
   AreReading-asked [] [] (s ∷ streams) taken h = absurd h
@@ -120,7 +164,7 @@ module _ {R A : Type 0} (remaining : R → Option (List ℕ)) (limit gap : ℕ) 
   AreReading-asked (f ∷ first) (n ∷ now) [] taken h = absurd h
   AreReading-asked (f ∷ first) (n ∷ now) (s ∷ streams) [] h = absurd h
   AreReading-asked (f ∷ first) (n ∷ now) (s ∷ streams) (t ∷ taken) h =
-      (reading_calls f n s t h.0, AreReading-asked first now streams taken h.1)
+      (reading_asked f n s t h.0, AreReading-asked first now streams taken h.1)
 
   pub AreReading-len : (first now : List (Counted R)) (streams : List (RowStream A))
       (taken : List (List Row)) → AreReading remaining limit gap first now streams taken
@@ -175,7 +219,7 @@ module _ {R A : Type 0} (remaining : R → Option (List ℕ)) (limit gap : ℕ) 
         → IsFaultyAfter remaining fault n m s
         → AreReading remaining limit gap first now streams taken
         → IsRefused remaining limit gap (Input i fault) first (set now i m)
-        × AreAsked first (set now i m)
+        × AreAsked remaining limit first (set now i m)
     AreReading-faulty fault i [] [] [] [] here there going faulty h = absurd (cc)
     AreReading-faulty fault i [] [] [] (t ∷ taken) here there going faulty h = absurd h
     AreReading-faulty fault i [] [] (a ∷ streams) taken here there going faulty h = absurd h
@@ -198,14 +242,14 @@ module _ {R A : Type 0} (remaining : R → Option (List ℕ)) (limit gap : ℕ) 
         ] in (
           (f, m, refl, refl, answered),
           (
-            faulty_calls remaining limit f m fault answered,
+            faulty_asked remaining limit f m fault answered,
             AreReading-asked first now streams taken h.1,
           ),
         )
     AreReading-faulty fault (suc i) (f ∷ first) (b ∷ now) (a ∷ streams) (t ∷ taken) here there going
         faulty h =
         let more = AreReading-faulty fault i first now streams taken here there going faulty h.1 in
-        (more.0, (reading_calls f b a t h.0, more.1))
+        (more.0, (reading_asked f b a t h.0, more.1))
 
   -- the row in front of one comes after the one that was taken of it
   pub AreReading-after : (i : ℕ) (first now : List (Counted R)) (streams : List (RowStream A))

@@ -1,9 +1,12 @@
 -- Streams that are opened one after another.
-use Rattle.aprs_fold.proofs.Common.{◌≡◌, ◌≢◌, ◌∙◌, ℕ, zero, suc, List, [], ◌∷◌, ◌++◌, length, map, set, Option, None, Some, Ok, inl, inr, refl, sym, ap, subst, append_assoc, arith, slice_get, Calls, Calls-none, End, Going, Last, Counted, Row}
+use Rattle.aprs_fold.proofs.Common.{◌≡◌, ◌≢◌, ◌∙◌, ℕ, zero, suc, List, [], ◌∷◌, ◌++◌, length, map, set, Option, None, Some, Ok, inl, inr, refl, sym, ap, subst, append_assoc, arith, slice_get, Calls-none, Going, Counted, Row}
 use Rattle.std.proofs.Common.{false, true, not, ◌==◌}
 use Rattle.std.proofs.lemmas.Bool.Decides.{nat_tests}
 use Rattle.std.specs.Prelude.{IfSome}
 use Rattle.std.specs.Io.KnownBytes.{Consumes}
+use Rattle.aprs_io.specs.Input.{Gets}
+use Rattle.aprs_io.specs.declared.input.InputEnd.{InputEnd}
+use Rattle.aprs_io.specs.declared.input.InputEnd.TheVariants as how
 use Rattle.aprs_log.specs.LogText.{text_of_lines}
 use Rattle.aprs_booktext.specs.BookAnswers.{ReadsBook}
 use Rattle.aprs_booktext.specs.Piece.{bytes_left}
@@ -17,11 +20,11 @@ use Rattle.aprs_booktext.specs.declared.reader.Stage.{Stage}
 use Rattle.aprs_booktext.specs.declared.reader.Stage.TheVariants.{Header, Rows, Done}
 use Rattle.aprs_booktext.specs.declared.row_stream.RowStream.{RowStream}
 use Rattle.aprs_booktext.specs.declared.version.Version.{Version}
-use Rattle.aprs_fold.specs.Inputs.{AreAsked, BeginsOther, IsRefused}
+use Rattle.aprs_fold.specs.Inputs.{AreAsked, BeginsOther, IsAsked, IsRefused}
 use Rattle.aprs_fold.specs.Streams.{AreOpened, AreReading, IsOfInputs, IsOneRefused, IsReading}
 use Rattle.aprs_fold.specs.declared.fault.FoldFault.{FoldFault}
 use Rattle.aprs_fold.specs.declared.fault.FoldFault.TheVariants.{Input, OtherGap, Memory, Write}
-use Rattle.aprs_fold.proofs.Reading.{faulty_calls, reading_calls}
+use Rattle.aprs_fold.proofs.Reading.{faulty_asked, reading_asked}
 
 -- ---- how an input begins
 
@@ -113,13 +116,6 @@ module _ {R A : Type 0} (remaining : R → Option (List ℕ)) (limit gap : ℕ) 
     | inr none ↦ book_other s (remaining f.device) (remaining n.device) [] unlike none.2.reads
   ]
 
-  pub gets_calls : (f n : Counted R) (s : RowStream A) (t : List Row)
-      → GetsOne remaining limit f n s t → (last : Last) × Calls last f n
-  gets_calls f n s t h = elim h [
-    | inl one ↦ (Going, one.3.calls)
-    | inr none ↦ (End, none.2.calls)
-  ]
-
 -- nothing was got of an input yet
 pub HasGot-none : {R A : Type 0} (remaining : R → Option (List ℕ)) (limit : ℕ) (f : Counted R)
     (s : RowStream A) → HoldsTo s [] [] → s.left ≡ limit → HasGot remaining limit f f s []
@@ -136,9 +132,25 @@ HasGot-none remaining limit f s holds left = record {
   consumes_none None = tt
   consumes_none (Some text) = refl
 
-pub AreAsked-none : {R : Type 0} (first : List (Counted R)) → AreAsked first first
-AreAsked-none [] = tt
-AreAsked-none (f ∷ first) = ((Going, Calls-none f), AreAsked-none first)
+none_got : (limit : ℕ) (known : Option (List ℕ))
+    → IfSome known (λ input. (text : List ℕ) × (ending : InputEnd)
+    × Gets limit input known text ending)
+none_got limit None = tt
+none_got limit (Some input) =
+    ([], how.Read, record { rest = input; whole = refl; ends = (refl, omega arith) })
+
+pub IsAsked-none : {R : Type 0} (remaining : R → Option (List ℕ)) (limit : ℕ) (f : Counted R)
+    → IsAsked remaining limit f f
+IsAsked-none remaining limit f = record {
+  gets = none_got limit (remaining f.device);
+  calls = (Going, Calls-none f);
+}
+
+pub AreAsked-none : {R : Type 0} (remaining : R → Option (List ℕ)) (limit : ℕ)
+    (first : List (Counted R)) → AreAsked remaining limit first first
+AreAsked-none remaining limit [] = tt
+AreAsked-none remaining limit (f ∷ first) =
+    (IsAsked-none remaining limit f, AreAsked-none remaining limit first)
 
 module _ {R : Type 0} (remaining : R → Option (List ℕ)) (limit gap : ℕ) where
   -- one input is refused
@@ -159,8 +171,8 @@ module _ {R : Type 0} (remaining : R → Option (List ℕ)) (limit gap : ℕ) wh
   refuses i Write n m old new here there h = tt
 
   pub one_asked : (i : ℕ) (fault : FoldFault) (n m : Counted R)
-      → IsOneRefused remaining limit gap i fault n m → (last : Last) × Calls last n m
-  one_asked i (Input index fault) n m h = faulty_calls remaining limit n m fault h.1
+      → IsOneRefused remaining limit gap i fault n m → IsAsked remaining limit n m
+  one_asked i (Input index fault) n m h = faulty_asked remaining limit n m fault h.1
   one_asked i (OtherGap index) n m h = h.2
   one_asked i Memory n m h = h
   one_asked i Write n m h = absurd h
@@ -209,13 +221,13 @@ module _ {R A : Type 0} (remaining : R → Option (List ℕ)) (limit gap : ℕ) 
       (h.0, AreOpened-all first now streams (omega (arith, len)) h.1)
 
   pub AreOpened-asked : (first now : List (Counted R)) (streams : List (RowStream A))
-      → AreOpened remaining limit gap first now streams → AreAsked first now
-  AreOpened-asked first now [] h =
-      subst (λ (l : List (Counted R)). AreAsked first l) (sym h) (AreAsked-none first)
+      → AreOpened remaining limit gap first now streams → AreAsked remaining limit first now
+  AreOpened-asked first now [] h = subst (λ (l : List (Counted R)). AreAsked remaining limit first l)
+      (sym h) (AreAsked-none remaining limit first)
   AreOpened-asked [] now (a ∷ streams) h = absurd h
   AreOpened-asked (f ∷ first) [] (a ∷ streams) h = absurd h
   AreOpened-asked (f ∷ first) (b ∷ now) (a ∷ streams) h =
-      (reading_calls remaining limit gap f b a [] h.0, AreOpened-asked first now streams h.1)
+      (reading_asked remaining limit gap f b a [] h.0, AreOpened-asked first now streams h.1)
 
   module _ (fault : FoldFault) (n m : Counted R) where
     same_place : (first now : List (Counted R)) (streams : List (RowStream A)) (i : ℕ)
@@ -230,18 +242,20 @@ module _ {R A : Type 0} (remaining : R → Option (List ℕ)) (limit gap : ℕ) 
         same_place first now streams i (omega (arith, at)) h.1
 
     asked_place : (first now : List (Counted R)) (streams : List (RowStream A)) (i : ℕ)
-        → i ≡ length streams → slice_get now i ≡ Some n → ((last : Last) × Calls last n m)
-        → AreOpened remaining limit gap first now streams → AreAsked first (set now i m)
+        → i ≡ length streams → slice_get now i ≡ Some n → IsAsked remaining limit n m
+        → AreOpened remaining limit gap first now streams
+        → AreAsked remaining limit first (set now i m)
     asked_place first now [] zero at here calls h = by_first first now h here where
       by_first : (first now : List (Counted R)) → now ≡ first → slice_get now zero ≡ Some n
-          → AreAsked first (set now zero m)
+          → AreAsked remaining limit first (set now zero m)
       by_first first [] e here = absurd (cc)
       by_first [] (b ∷ now) e here = absurd (cc)
       by_first (f ∷ first) (b ∷ now) e here =
           let same : n ≡ f = cc in
           let others : now ≡ first = cc in (
-            subst (λ (w : Counted R). (last : Last) × Calls last w m) same calls,
-            subst (λ (l : List (Counted R)). AreAsked first l) (sym others) (AreAsked-none first),
+            subst (λ (w : Counted R). IsAsked remaining limit w m) same calls,
+            subst (λ (l : List (Counted R)). AreAsked remaining limit first l) (sym others)
+                (AreAsked-none remaining limit first),
           )
     asked_place first now [] (suc i) at here calls h = absurd (omega (arith, at))
     asked_place [] now (a ∷ streams) i at here calls h = absurd h
@@ -249,7 +263,7 @@ module _ {R A : Type 0} (remaining : R → Option (List ℕ)) (limit gap : ℕ) 
     asked_place (f ∷ first) (b ∷ now) (a ∷ streams) zero at here calls h =
         absurd (omega (arith, at))
     asked_place (f ∷ first) (b ∷ now) (a ∷ streams) (suc i) at here calls h = (
-      reading_calls remaining limit gap f b a [] h.0,
+      reading_asked remaining limit gap f b a [] h.0,
       asked_place first now streams i (omega (arith, at)) here calls h.1,
     )
 
@@ -265,14 +279,16 @@ module _ {R A : Type 0} (remaining : R → Option (List ℕ)) (limit gap : ℕ) 
     pub AreOpened-refused_asked : (first now : List (Counted R)) (streams : List (RowStream A))
         (i : ℕ) → i ≡ length streams → slice_get now i ≡ Some n
         → IsOneRefused remaining limit gap i fault n m
-        → AreOpened remaining limit gap first now streams → AreAsked first (set now i m)
+        → AreOpened remaining limit gap first now streams
+        → AreAsked remaining limit first (set now i m)
     AreOpened-refused_asked first now streams i at here is h =
         asked_place first now streams i at here (one_asked remaining limit gap i fault n m is) h
 
     -- it was read, but isn't kept
     pub AreOpened-dropped : (first now : List (Counted R)) (streams : List (RowStream A))
-        (i : ℕ) → i ≡ length streams → slice_get now i ≡ Some n → ((last : Last) × Calls last n m)
-        → AreOpened remaining limit gap first now streams → AreAsked first (set now i m)
+        (i : ℕ) → i ≡ length streams → slice_get now i ≡ Some n → IsAsked remaining limit n m
+        → AreOpened remaining limit gap first now streams
+        → AreAsked remaining limit first (set now i m)
     AreOpened-dropped first now streams i at here is h = asked_place first now streams i at here is h
 
 -- a fault of an input that isn't opened is none of the output

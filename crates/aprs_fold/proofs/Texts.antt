@@ -2,8 +2,8 @@
 use Rattle.aprs_fold.proofs.Common.{◌≡◌, ◌∙◌, inl, ℕ, List, [], ◌∷◌, ◌++◌, append-nil, length, map, Option, Result, Ok, Err, refl, sym, ap, subst, Puts, Puts-fails, Puts-is, Puts-then, Sends-unput, Counted, Row, IsGap, millis_of}
 use Rattle.std.specs.Io.KnownBytes.{Appends}
 use Rattle.aprs_io.proofs.Common.{Appends-trans}
-use Rattle.aprs_io.proofs.Sends.{left_of_both}
-use Rattle.aprs_io.specs.Device.{AppendsPrefix, Sends}
+use Rattle.aprs_io.proofs.Sends.{Calls-then, left_of_both}
+use Rattle.aprs_io.specs.Device.{Calls, Going, Sends}
 use Rattle.aprs_io.specs.Outlet.{HasTaken, held_of, writer_of}
 use Rattle.aprs_io.specs.declared.outlet.Outlet.{Outlet}
 use Rattle.aprs_log.specs.LogText.{text_of_lines}
@@ -16,9 +16,11 @@ use Rattle.aprs_booktext.proofs.CutRows.{lack_an_end}
 use Rattle.aprs_booktext.proofs.TextParts.{text_parts}
 use Rattle.aprs_folding.proofs.Steps.{begins}
 use Rattle.aprs_fold.specs.Fold.{header_text, IsFoldedBook, IsLeft, IsPart, IsWhole, LacksEnd, LeavesRows, LeavesText, PutsPart, PutsRows, PutsTextPart}
+use Rattle.aprs_fold.specs.Range.{rows_of_sources}
 use Rattle.aprs_fold.specs.Taking.{lines_of_rows}
 use Rattle.aprs_fold.specs.declared.fault.FoldFault.{FoldFault}
 use Rattle.aprs_fold.specs.declared.fault.FoldFault.TheVariants.{Input, OtherGap, Memory, Write}
+use Rattle.aprs_fold.specs.declared.range.SourceRange.{SourceRange}
 use Rattle.aprs_fold.proofs.Walking.{folded_whole}
 
 abbrev book_of : ℕ → List Row → BookValue
@@ -34,16 +36,17 @@ row_lines [] = refl
 row_lines (x ∷ rows) = ap (λ l. line_and_lf x ++ l) (row_lines rows)
 
 module _ {R W : Type 0} (remaining : R → Option (List ℕ)) (contents : W → Option (List ℕ))
-    (limit gap : ℕ) (begun now : List (Counted R)) where
+    (limit gap : ℕ) (range : SourceRange) (begun now : List (Counted R)) where
   -- the header was refused
   pub leaves_header : {E : Type 0} {e : E} (old new : Outlet W) → IsGap gap
       → Puts {E = E} contents (Err e) old new (header_text gap)
-      → LeavesText remaining contents limit gap Write begun now old new
-  leaves_header old new range put = record {
+      → LeavesText remaining contents limit gap range Write begun now old new
+  leaves_header old new is_gap put = record {
     rows = [];
     last = [];
     begun = inl (refl, refl);
-    rows_are = folded_whole gap range [] [] [] [] (begins (millis_of gap) []) (λ x h. absurd h);
+    rows_are = folded_whole gap is_gap range [] [] [] [] (begins (millis_of gap) [])
+        (λ x h. absurd h);
     put = Puts-is (Puts-fails (Err Write) refl put (ended_by_lf (end_line 0)))
         (sym (text_is gap [] 0 refl));
   }
@@ -52,14 +55,14 @@ module _ {R W : Type 0} (remaining : R → Option (List ℕ)) (contents : W → 
       (header_text gap)) where
     -- the fold ended within the rows
     pub leaves_rows : (fault : FoldFault) → held_of mid ≡ []
-        → LeavesRows remaining contents limit gap fault begun now mid new
-        → LeavesText remaining contents limit gap fault begun now old new
+        → LeavesRows remaining contents limit gap range fault begun now mid new
+        → LeavesText remaining contents limit gap range fault begun now old new
     leaves_rows fault none h = record {
       rows = h.rows;
       last = h.last;
       begun = h.begun;
       rows_are = h.rows_are;
-      put = by_fault fault h.rows h.last h.put;
+      put = by_fault fault (rows_of_sources range h.rows) (rows_of_sources range h.last) h.put;
     } where
       by_fault : (fault : FoldFault) (rows last : List Row)
           → PutsPart contents fault rows last mid new
@@ -75,7 +78,7 @@ module _ {R W : Type 0} (remaining : R → Option (List ℕ)) (contents : W → 
   -- the last line was put, or not
   pub text_ends : {E : Type 0} (r : Result (Unit {0}) E) (old mid put new : Outlet W) (count : ℕ)
       (rows : List Row) → Puts {E = Unit {0}} contents (Ok tt) old mid (header_text gap)
-      → PutsRows remaining contents limit gap begun now count mid put rows
+      → PutsRows remaining contents limit gap range begun now count mid put rows
       → Puts contents r put new (ended_by_lf (end_line count))
       → Puts contents r old new (written_text (book_of gap rows))
   text_ends r old mid put new count rows header lines end =
@@ -84,9 +87,9 @@ module _ {R W : Type 0} (remaining : R → Option (List ℕ)) (contents : W → 
 
   -- where the output was refused after all rows, a prefix of the text went out
   pub leaves_all : {E : Type 0} {e : E} (old new : Outlet W) (rows : List Row)
-      → IsFoldedBook remaining limit gap begun now rows
+      → IsFoldedBook remaining limit gap range begun now rows
       → Puts {E = E} contents (Err e) old new (written_text (book_of gap rows))
-      → LeavesText remaining contents limit gap Write begun now old new
+      → LeavesText remaining contents limit gap range Write begun now old new
   leaves_all old new rows book put = record {
     rows = book.written;
     last = book.last;
@@ -105,6 +108,7 @@ module _ {R W : Type 0} (remaining : R → Option (List ℕ)) (contents : W → 
         → Puts {E = Unit {0}} contents (Ok tt) mid p (lines_of_rows rows)
         → (part : List ℕ) × (rest : List ℕ) × (lines_of_rows rows ≡ part ++ rest)
         × Appends (contents first.device) (contents (writer_of p).device) (header_text gap ++ part)
+        × Calls Going first (writer_of p)
         × LacksEnd (header_text gap ++ part)
     sent_part rows whole_rows mid header empty lines =
         let head = left_of_both none (header_text gap) header.took in
@@ -120,38 +124,46 @@ module _ {R W : Type 0} (remaining : R → Option (List ℕ)) (contents : W → 
               (sym whole)
               (Appends-trans (contents first.device) (contents (writer_of mid).device)
               (contents (writer_of p).device) head.gone rest.gone head.sends.sent rest.sends.sent),
+          Calls-then head.sends.calls rest.sends.calls,
           lack_an_end (Three gap) rows whole_rows rest.gone (held_of p) (row_lines rows ∙ cut),
         )
 
     parts : (fault : FoldFault) (rows last : List Row) → IsWhole gap rows
         → PutsTextPart contents gap fault rows last o p
         → IsPart contents gap fault rows last first (writer_of p)
-    parts Write rows last whole put = (Sends-unput none (Err Write) refl put).prefix
+    parts Write rows last whole put = Sends-unput none (Err Write) refl put
     parts (Input index fault) rows last whole put = sent_part rows whole put.0 put.1 put.2 put.3
     parts (OtherGap index) rows last whole put = sent_part rows whole put.0 put.1 put.2 put.3
     parts Memory rows last whole put = sent_part rows whole put.0 put.1 put.2 put.3
 
     pub leaves_text : (fault : FoldFault)
-        → LeavesText remaining contents limit gap fault begun now o p
-        → IsLeft remaining contents limit gap fault begun now first (writer_of p)
+        → LeavesText remaining contents limit gap range fault begun now o p
+        → IsLeft remaining contents limit gap range fault begun now first (writer_of p)
     leaves_text fault h = record {
       rows = h.rows;
       last = h.last;
       begun = h.begun;
       rows_are = h.rows_are;
-      part = parts fault h.rows h.last h.rows_are h.put;
+      part = parts fault (rows_of_sources range h.rows) (rows_of_sources range h.last) h.rows_are
+          h.put;
     }
 
   -- the whole text was put, but not sent
   pub leaves_sent : {E : Type 0} {e : E} (first last : Counted W) (rows : List Row)
-      → IsFoldedBook remaining limit gap begun now rows
+      → IsFoldedBook remaining limit gap range begun now rows
       → Sends {E = E} contents (Err e) first last (written_text (book_of gap rows))
-      → IsLeft remaining contents limit gap Write begun now first last
+      → IsLeft remaining contents limit gap range Write begun now first last
   leaves_sent first last rows book sent = record {
     rows = book.written;
     last = book.last;
     begun = book.begun;
     rows_are = book.before;
-    part = subst (λ (l : List Row). AppendsPrefix (contents first.device) (contents last.device)
-        (written_text (book_of gap l))) book.all sent.prefix;
+    part = subst (λ (l : List Row). Sends {E = FoldFault} contents (Err Write) first last
+        (written_text (book_of gap l))) book.all (record {
+          sent = sent.sent;
+          prefix = sent.prefix;
+          calls = sent.calls;
+          tries = sent.tries;
+          unasked = sent.unasked;
+        });
   }

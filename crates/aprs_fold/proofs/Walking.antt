@@ -1,6 +1,5 @@
 -- The rows of several streams are taken and written, until none is left.
-use Rattle.aprs_fold.proofs.Common.{◌≡◌, ◌<◌, ◌+◌, ◌∙◌, ℕ, Bool, true, false, cond, List, [], ◌∷◌, ◌++◌, append-nil, length, length-append, map, Option, Some, None, IfSome, IfNone, Ok, Err, inl, inr, refl, sym, ap, subst, arith, All, Puts, Counted, Row, row_cmp, IsBelow, Ordered, Sound, IsSoundRow, IsGap, millis_of, in_left, ◌∈◌}
-use Rattle.std.specs.Prelude.{is_some}
+use Rattle.aprs_fold.proofs.Common.{◌≡◌, ◌<◌, ◌+◌, ◌∙◌, ℕ, Bool, true, false, cond, List, [], ◌∷◌, ◌++◌, append-nil, length, length-append, map, Option, Some, None, Ok, Err, inl, inr, refl, sym, ap, subst, arith, All, Puts, Counted, Row, row_cmp, IsBelow, Ordered, Sound, IsSoundRow, IsGap, millis_of, in_left, ◌∈◌}
 use Rattle.std.proofs.lemmas.List.Elements.{All-cons, All-nil}
 use Rattle.aprs_io.specs.declared.outlet.Outlet.{Outlet}
 use Rattle.aprs_log.specs.declared.moment_form.MomentForm.TheVariants.{Millis}
@@ -16,13 +15,16 @@ use Rattle.aprs_folding.proofs.Steps.{begins, ends_as_book, takes_on}
 use Rattle.aprs_fold.specs.Begun.{IsBegun}
 use Rattle.aprs_fold.specs.Fold.{IsWhole, LeavesRows, PutsPart, PutsRows}
 use Rattle.aprs_fold.specs.Fronts.{row_at, IsFirst, NotAfter}
-use Rattle.aprs_fold.specs.Inputs.{all_of, book_of_all, AreBooks, IsRefused}
+use Rattle.aprs_fold.specs.Range.{book_of_sources, rows_of_sources}
+use Rattle.aprs_fold.specs.Inputs.{all_of, AreBooks, IsRefused}
 use Rattle.aprs_fold.specs.Streams.{fronts_of, taken_at, AreReading, ChangesAt, GoesOn, IsOfInputs}
 use Rattle.aprs_fold.specs.Taking.{lines_of_rows, AreSpelled, ClosesFor, FailsTaking, HasPut, IsThere}
 use Rattle.aprs_fold.specs.declared.fault.FoldFault.{FoldFault}
 use Rattle.aprs_fold.specs.declared.fault.FoldFault.TheVariants.{Input, OtherGap, Memory, Write}
+use Rattle.aprs_fold.specs.declared.range.SourceRange.{SourceRange}
 use Rattle.aprs_fold.proofs.Begun.{folded_all, folded_one, ChangesAt-none}
-use Rattle.aprs_fold.proofs.Puttings.{HasPut-fails, HasPut-none, HasPut-then, there_put}
+use Rattle.aprs_fold.proofs.Kept.{sound_within, within_both}
+use Rattle.aprs_fold.proofs.Puttings.{HasPut-fails, HasPut-none, HasPut-then}
 use Rattle.aprs_fold.proofs.Reading.{AreReading-ended, AreReading-front, AreReading-in, AreReading-taken}
 
 -- ---- rows that were written are a book's
@@ -50,13 +52,13 @@ some_of x (y ∷ ys) h = omega arith
 
 sound_whole : (gap : ℕ) (rows : List Row) → IsGap gap → Sound (millis_of gap) rows
     → AreSpelled rows → IsWhole gap rows
-sound_whole gap rows range sound spelled = rows_are (Three gap) rows range sound
+sound_whole gap rows is_gap sound spelled = rows_are (Three gap) rows is_gap sound
     (each_all (IsBookRow Millis) rows (λ x h. let own = sound.each x h in
     spelled x h (some_of x.greatest.receiver x.receivers own.receiver)))
 
-module _ (gap : ℕ) (range : IsGap gap) where
+module _ (gap : ℕ) (is_gap : IsGap gap) where
   some_millis : 0 < millis_of gap
-  some_millis = omega (arith, range.0)
+  some_millis = omega (arith, is_gap.0)
 
   read_sound : (read front written last : List Row)
       → IsFolding (millis_of gap) read front written last
@@ -66,41 +68,37 @@ module _ (gap : ℕ) (range : IsGap gap) where
       last h)) (book_is_sound (millis_of gap) some_millis read
       (λ x k. h.each x ((h.members x).0 k)))
 
-  pub folded_whole : (read front written last : List Row)
-      → IsFolding (millis_of gap) read front written last → AreSpelled written
-      → IsWhole gap written
-  folded_whole read front written last h spelled = sound_whole gap written range
-      (front_sound (millis_of gap) written last (read_sound read front written last h)) spelled
-
--- whether there is a last row
-pub there_is : (last : List Row) (r : Option Row) → IfSome r (λ x. last ≡ x ∷ [])
-    → IfNone r (last ≡ []) → IsThere (is_some r) last
-there_is last None some none = none
-there_is last (Some x) some none = (x, some)
+  pub folded_whole : (range : SourceRange) (read front written last : List Row)
+      → IsFolding (millis_of gap) read front written last
+      → AreSpelled (rows_of_sources range written) → IsWhole gap (rows_of_sources range written)
+  folded_whole range read front written last h spelled =
+      sound_whole gap (rows_of_sources range written) is_gap
+      (sound_within (millis_of gap) range written
+      (front_sound (millis_of gap) written last (read_sound read front written last h))) spelled
 
 -- ---- the walk
 
--- So far these rows were taken of each input, and these were written; the last one is still open.
+-- So far these rows were taken of each input, and these were written, where they are within the
+-- range; the last one is still open.
 pub record Walking {R W A : Type 0} (remaining : R → Option (List ℕ))
-    (contents : W → Option (List ℕ)) (limit gap : ℕ) (first now : List (Counted R))
-    (streams : List (RowStream A)) (begun out : Outlet W) (last : List Row) (count : ℕ)
-    : Type 0 where
+    (contents : W → Option (List ℕ)) (limit gap : ℕ) (range : SourceRange)
+    (first now : List (Counted R)) (streams : List (RowStream A)) (begun out : Outlet W)
+    (last : List Row) (count : ℕ) : Type 0 where
   pub taken : List (List Row)
   pub written : List Row
   pub reading : AreReading remaining limit gap first now streams taken
   pub folding : IsFolding (millis_of gap) (all_of taken) (fronts_of streams) written last
-  pub put : HasPut contents begun out written
-  pub counted : count ≡ length written
+  pub put : HasPut contents begun out (rows_of_sources range written)
+  pub counted : count ≡ length (rows_of_sources range written)
 
 all_none : {A : Type 0} (streams : List (RowStream A))
     → all_of (map (λ (s : RowStream A). []) streams) ≡ []
 all_none [] = refl
 all_none (s ∷ streams) = all_none streams
 
-len_put : (wrote : Bool) (gap : ℕ) (last : List Row) (x : Row) (new : List Row)
-    → TakesNext wrote gap last x new → length (rows_put wrote last) ≡ cond wrote 1 0
-len_put true gap last x new h = ap length h.1
-len_put false gap last x new h = refl
+len_there : (wrote : Bool) (last : List Row) → IsThere wrote last → length last ≡ cond wrote 1 0
+len_there true last h = ap length h.1
+len_there false last h = ap length h
 
 count_put : (wrote : Bool) (count n m : ℕ) → count ≡ n → m ≡ cond wrote 1 0
     → cond wrote (count + 1) count ≡ n + m
@@ -118,26 +116,30 @@ parts_by contents Write rows last old new is put = absurd is
 
 -- before the first row nothing was put
 pub leaves_none : {R W : Type 0} (remaining : R → Option (List ℕ))
-    (contents : W → Option (List ℕ)) (limit gap : ℕ) (first now : List (Counted R))
-    (fault : FoldFault) (o : Outlet W) → IsGap gap → IsOfInputs fault
-    → LeavesRows remaining contents limit gap fault first now o o
-leaves_none remaining contents limit gap first now fault o range is = record {
+    (contents : W → Option (List ℕ)) (limit gap : ℕ) (range : SourceRange)
+    (first now : List (Counted R)) (fault : FoldFault) (o : Outlet W) → IsGap gap
+    → IsOfInputs fault → LeavesRows remaining contents limit gap range fault first now o o
+leaves_none remaining contents limit gap range first now fault o is_gap is = record {
   rows = [];
   last = [];
   begun = inl (refl, refl);
-  rows_are = folded_whole gap range [] [] [] [] (begins (millis_of gap) []) (λ x h. absurd h);
+  rows_are = folded_whole gap is_gap range [] [] [] [] (begins (millis_of gap) [])
+      (λ x h. absurd h);
   put = parts_by contents fault [] [] o o is (HasPut-none {contents = contents} o).puts;
 }
 
 -- a fault that is none of an input refuses none
 pub taking_refuses : {R W : Type 0} (remaining : R → Option (List ℕ)) (limit gap : ℕ)
-    (old new : List (Counted R)) (contents : W → Option (List ℕ)) (millis : ℕ) (fault : FoldFault)
-    (o p : Outlet W) (last : List Row) (x : Row) → FailsTaking contents millis fault o p last x
+    (range : SourceRange) (old new : List (Counted R)) (contents : W → Option (List ℕ))
+    (millis : ℕ) (fault : FoldFault) (o p : Outlet W) (last : List Row) (x : Row)
+    → FailsTaking contents range millis fault o p last x
     → IsRefused remaining limit gap fault old new
-taking_refuses remaining limit gap old new contents millis (Input index fault) o p last x h = absurd h
-taking_refuses remaining limit gap old new contents millis (OtherGap index) o p last x h = absurd h
-taking_refuses remaining limit gap old new contents millis Memory o p last x h = tt
-taking_refuses remaining limit gap old new contents millis Write o p last x h = tt
+taking_refuses remaining limit gap range old new contents millis (Input index fault) o p last x h =
+    absurd h
+taking_refuses remaining limit gap range old new contents millis (OtherGap index) o p last x h =
+    absurd h
+taking_refuses remaining limit gap range old new contents millis Memory o p last x h = tt
+taking_refuses remaining limit gap range old new contents millis Write o p last x h = tt
 
 pub memory_refuses : {R : Type 0} (remaining : R → Option (List ℕ)) (limit gap : ℕ)
     (old new : List (Counted R)) (fault : FoldFault) → fault ≡ Memory
@@ -151,11 +153,21 @@ pub write_refuses : {R : Type 0} (remaining : R → Option (List ℕ)) (limit ga
 write_refuses remaining limit gap old new fault e =
     subst (λ (f : FoldFault). IsRefused remaining limit gap f old new) (sym e) tt
 
+-- the lines of more rows were put
+put_more : {W : Type 0} (contents : W → Option (List ℕ)) (range : SourceRange)
+    (begun out next : Outlet W) (rows more : List Row)
+    → HasPut contents begun out (rows_of_sources range rows)
+    → HasPut contents out next (rows_of_sources range more)
+    → HasPut contents begun next (rows_of_sources range (rows ++ more))
+put_more contents range begun out next rows more first then =
+    subst (λ (l : List Row). HasPut contents begun next l) (sym (within_both range rows more))
+    (HasPut-then begun out next (rows_of_sources range rows) (rows_of_sources range more) first then)
+
 module _ {R W A : Type 0} (remaining : R → Option (List ℕ)) (contents : W → Option (List ℕ))
-    (limit gap : ℕ) (first : List (Counted R)) (begun : Outlet W) where
+    (limit gap : ℕ) (range : SourceRange) (first : List (Counted R)) (begun : Outlet W) where
   pub walk_begins : (now : List (Counted R)) (streams : List (RowStream A))
       → AreReading remaining limit gap first now streams (map (λ (s : RowStream A). []) streams)
-      → Walking remaining contents limit gap first now streams begun begun [] 0
+      → Walking remaining contents limit gap range first now streams begun begun [] 0
   walk_begins now streams h = record {
     taken = map (λ (s : RowStream A). []) streams;
     written = [];
@@ -166,37 +178,51 @@ module _ {R W A : Type 0} (remaining : R → Option (List ℕ)) (contents : W �
     counted = refl;
   }
 
-  module _ (range : IsGap gap) (now : List (Counted R)) (streams : List (RowStream A))
+  module _ (is_gap : IsGap gap) (now : List (Counted R)) (streams : List (RowStream A))
       (out : Outlet W) (last : List Row) (count : ℕ)
-      (w : Walking remaining contents limit gap first now streams begun out last count) where
+      (w : Walking remaining contents limit gap range first now streams begun out last count) where
     -- a fault of the inputs, where no row was taken any more
     here : IsBegun remaining limit gap first now w.written last
     here = inr (folded_all remaining limit gap first now streams w.taken w.written last w.reading
         w.folding)
 
+    whole_here : IsWhole gap (rows_of_sources range w.written)
+    whole_here = folded_whole gap is_gap range (all_of w.taken) (fronts_of streams) w.written last
+        w.folding w.put.spelled
+
+    -- so many lines with those of more rows
+    count_more : (wrote : Bool) (more : List Row) → IsThere wrote (rows_of_sources range more)
+        → cond wrote (count + 1) count ≡ length (rows_of_sources range (w.written ++ more))
+    count_more wrote more there =
+        count_put wrote count (length (rows_of_sources range w.written))
+        (length (rows_of_sources range more)) w.counted
+        (len_there wrote (rows_of_sources range more) there)
+        ∙ sym (length-append (rows_of_sources range w.written) (rows_of_sources range more))
+        ∙ ap length (sym (within_both range w.written more))
+
     pub leaves_here : (fault : FoldFault) → IsOfInputs fault
-        → LeavesRows remaining contents limit gap fault first now begun out
+        → LeavesRows remaining contents limit gap range fault first now begun out
     leaves_here fault is = record {
       rows = w.written;
       last = last;
       begun = here;
-      rows_are = folded_whole gap range (all_of w.taken) (fronts_of streams) w.written last w.folding
-          w.put.spelled;
-      put = parts_by contents fault w.written last begun out is w.put.puts;
+      rows_are = whole_here;
+      put = parts_by contents fault (rows_of_sources range w.written) (rows_of_sources range last)
+          begun out is w.put.puts;
     }
 
     -- the output was refused within the last row's line
-    pub leaves_write : {E : Type 0} {e : E} (next : Outlet W)
-        → Puts {E = E} contents (Err e) out next (lines_of_rows last)
-        → Puts {E = FoldFault} contents (Err Write) begun next (lines_of_rows (w.written ++ last))
-        → LeavesRows remaining contents limit gap Write first now begun next
-    leaves_write {E} {e} next put all = record {
+    pub leaves_write : (next : Outlet W)
+        → Puts {E = FoldFault} contents (Err Write) out next
+        (lines_of_rows (rows_of_sources range last))
+        → LeavesRows remaining contents limit gap range Write first now begun next
+    leaves_write next put = record {
       rows = w.written;
       last = last;
       begun = here;
-      rows_are = folded_whole gap range (all_of w.taken) (fronts_of streams) w.written last w.folding
-          w.put.spelled;
-      put = all;
+      rows_are = whole_here;
+      put = HasPut-fails begun out next (rows_of_sources range w.written)
+          (rows_of_sources range last) w.put put;
     }
 
     module _ (i : ℕ) (f : IsFirst streams i) where
@@ -207,62 +233,65 @@ module _ {R W A : Type 0} (remaining : R → Option (List ℕ)) (contents : W �
           subst (λ (o : Option Row). NotAfter o (Some y)) f.is
           (subst (λ (o : Option Row). NotAfter (row_at streams i) o) at.1 (f.least at.0))
 
-      module _ (wrote : Bool) (next : Outlet W) (sound : IsSoundRow f.row)
-          (put : HasPut contents out next (rows_put wrote last)) where
+      module _ (closed : Bool) (next : Outlet W) (sound : IsSoundRow f.row)
+          (put : HasPut contents out next (rows_of_sources range (rows_put closed last))) where
         -- with it the rows that are written are final, whatever stays in front
-        takes_here : (new : List Row) → TakesNext wrote (millis_of gap) last f.row new
+        takes_here : (new : List Row) → TakesNext closed (millis_of gap) last f.row new
             → IsFolding (millis_of gap) (all_of (taken_at streams i w.taken)) (fronts_of streams)
-            (w.written ++ rows_put wrote last) new
+            (w.written ++ rows_put closed last) new
         takes_here new takes = takes_on (millis_of gap) (all_of w.taken) (fronts_of streams)
-            w.written last f.row wrote (all_of (taken_at streams i w.taken)) (fronts_of streams) new
+            w.written last f.row closed (all_of (taken_at streams i w.taken)) (fronts_of streams) new
             w.folding
             (AreReading-in remaining limit gap i first now streams w.taken f.row f.is w.reading)
             sound
             (AreReading-taken remaining limit gap i first now streams w.taken f.row f.is w.reading)
             none_before takes
 
+        put_here : HasPut contents begun next
+            (rows_of_sources range (w.written ++ rows_put closed last))
+        put_here = put_more contents range begun out next w.written (rows_put closed last) w.put put
+
         -- a fault of the inputs after it was taken
-        pub leaves_taken : (new : List Row) → TakesNext wrote (millis_of gap) last f.row new
+        pub leaves_taken : (new : List Row) → TakesNext closed (millis_of gap) last f.row new
             → (fault : FoldFault) → IsOfInputs fault → (others : List (Counted R))
             → ChangesAt i now others
-            → LeavesRows remaining contents limit gap fault first others begun next
+            → LeavesRows remaining contents limit gap range fault first others begun next
         leaves_taken new takes fault is others changes =
-            let both = HasPut-then begun out next w.written (rows_put wrote last) w.put put in
             let folding = takes_here new takes in
             record {
-              rows = w.written ++ rows_put wrote last;
+              rows = w.written ++ rows_put closed last;
               last = new;
               begun = inr (folded_one remaining limit gap i first now others streams w.taken f.row
-                  (w.written ++ rows_put wrote last) new changes f.is w.reading folding);
-              rows_are = folded_whole gap range (all_of (taken_at streams i w.taken))
-                  (fronts_of streams) (w.written ++ rows_put wrote last) new folding both.spelled;
-              put = parts_by contents fault (w.written ++ rows_put wrote last) new begun next is
-                  both.puts;
+                  (w.written ++ rows_put closed last) new changes f.is w.reading folding);
+              rows_are = folded_whole gap is_gap range (all_of (taken_at streams i w.taken))
+                  (fronts_of streams) (w.written ++ rows_put closed last) new folding
+                  put_here.spelled;
+              put = parts_by contents fault
+                  (rows_of_sources range (w.written ++ rows_put closed last))
+                  (rows_of_sources range new) begun next is put_here.puts;
             }
 
         -- the walk goes on
         pub walks_on : (new : List Row) (after : List (Counted R)) (others : List (RowStream A))
-            (n : ℕ) → TakesNext wrote (millis_of gap) last f.row new
+            (wrote : Bool) (n : ℕ) → TakesNext closed (millis_of gap) last f.row new
+            → IsThere wrote (rows_of_sources range (rows_put closed last))
             → n ≡ cond wrote (count + 1) count
             → AreReading remaining limit gap first after others (taken_at streams i w.taken)
             → GoesOn i streams others
-            → Walking remaining contents limit gap first after others begun next new n
-        walks_on new after others n takes counted reading goes = record {
+            → Walking remaining contents limit gap range first after others begun next new n
+        walks_on new after others wrote n takes there counted reading goes = record {
           taken = taken_at streams i w.taken;
-          written = w.written ++ rows_put wrote last;
+          written = w.written ++ rows_put closed last;
           reading = reading;
           folding = takes_on (millis_of gap) (all_of w.taken) (fronts_of streams)
-              w.written last f.row wrote (all_of (taken_at streams i w.taken)) (fronts_of others) new
-              w.folding
+              w.written last f.row closed (all_of (taken_at streams i w.taken)) (fronts_of others)
+              new w.folding
               (AreReading-in remaining limit gap i first now streams w.taken f.row f.is w.reading)
               sound
               (AreReading-taken remaining limit gap i first now streams w.taken f.row f.is w.reading)
               none_ahead takes;
-          put = HasPut-then begun out next w.written (rows_put wrote last) w.put put;
-          counted = counted
-              ∙ count_put wrote count (length w.written) (length (rows_put wrote last)) w.counted
-              (len_put wrote (millis_of gap) last f.row new takes)
-              ∙ sym (length-append w.written (rows_put wrote last));
+          put = put_here;
+          counted = counted ∙ count_more wrote (rows_put closed last) there;
         } where
           none_ahead : NoneIsBefore f.row (fronts_of others)
           none_ahead y h =
@@ -274,32 +303,29 @@ module _ {R W A : Type 0} (remaining : R → Option (List ℕ)) (contents : W �
                 | inr up ↦ up
               ]
 
-      leaves_by : (fault : FoldFault) (next : Outlet W) → IsSoundRow f.row → (wrote : Bool)
-          → HasPut contents out next (rows_put wrote last)
-          → ClosesFor wrote (millis_of gap) last f.row → IsOfInputs fault
-          → LeavesRows remaining contents limit gap fault first now begun next
+      leaves_by : (fault : FoldFault) (next : Outlet W) → IsSoundRow f.row → (closed : Bool)
+          → HasPut contents out next (rows_of_sources range (rows_put closed last))
+          → ClosesFor closed (millis_of gap) last f.row → IsOfInputs fault
+          → LeavesRows remaining contents limit gap range fault first now begun next
       leaves_by fault next sound true put closes is =
           leaves_taken true next sound put (f.row ∷ []) closes fault is now (ChangesAt-none i now)
-      leaves_by fault next sound false put closes is =
-          let both = HasPut-then begun out next w.written [] w.put put in
-          let same : w.written ++ [] ≡ w.written = append-nil w.written in
-          record {
-            rows = w.written;
-            last = last;
-            begun = here;
-            rows_are = folded_whole gap range (all_of w.taken) (fronts_of streams) w.written last
-                w.folding w.put.spelled;
-            put = parts_by contents fault w.written last begun next is
-                (subst (λ (l : List Row). Puts {E = Unit {0}} contents (Ok tt) begun next
-                (lines_of_rows l)) same both.puts);
-          }
+      leaves_by fault next sound false put closes is = record {
+        rows = w.written;
+        last = last;
+        begun = here;
+        rows_are = whole_here;
+        put = parts_by contents fault (rows_of_sources range w.written)
+            (rows_of_sources range last) begun next is
+            (subst (λ (l : List Row). Puts {E = Unit {0}} contents (Ok tt) begun next
+            (lines_of_rows (rows_of_sources range l))) (append-nil w.written)
+            (put_more contents range begun out next w.written [] w.put put).puts);
+      }
 
       -- a fault as it was taken
       pub leaves_taking : (fault : FoldFault) (next : Outlet W) → IsSoundRow f.row
-          → FailsTaking contents (millis_of gap) fault out next last f.row
-          → LeavesRows remaining contents limit gap fault first now begun next
-      leaves_taking Write next sound fails =
-          leaves_write next fails (HasPut-fails begun out next w.written last w.put fails)
+          → FailsTaking contents range (millis_of gap) fault out next last f.row
+          → LeavesRows remaining contents limit gap range fault first now begun next
+      leaves_taking Write next sound fails = leaves_write next fails
       leaves_taking (Input index fault) next sound fails = absurd fails
       leaves_taking (OtherGap index) next sound fails = absurd fails
       leaves_taking Memory next sound fails =
@@ -307,41 +333,36 @@ module _ {R W A : Type 0} (remaining : R → Option (List ℕ)) (contents : W �
 
     -- all rows were taken
     pub walk_ends : ((k : ℕ) → row_at streams k ≡ None)
-        → (some wrote : Bool) (next : Outlet W) (n : ℕ) → IsThere some last → IsThere wrote last
-        → HasPut contents out next (rows_put wrote last)
+        → (some : Bool) (next : Outlet W) (n : ℕ)
+        → IsThere some (rows_of_sources range last)
+        → HasPut contents out next (rows_of_sources range last)
         → n ≡ cond some (count + 1) count
         → (rows : List (List Row)) × AreBooks remaining limit gap first now rows
-        × PutsRows remaining contents limit gap first now n begun next (book_of_all gap rows).rows
-    walk_ends none some wrote next n known there put counted =
-        let both = HasPut-then begun out next w.written last w.put
-        (subst (λ (l : List Row). HasPut contents out next l) (there_put wrote last there) put) in
+        × PutsRows remaining contents limit gap range first now n begun next
+        (book_of_sources range gap rows).rows
+    walk_ends none some next n known put counted =
+        let both = put_more contents range begun out next w.written last w.put put in
         let book : w.written ++ last ≡ book_together (millis_of gap) (all_of w.taken) =
-        ends_as_book (millis_of gap) (some_millis gap range) (all_of w.taken)
+        ends_as_book (millis_of gap) (some_millis gap is_gap) (all_of w.taken)
         (fronts_of streams) w.written last w.folding in
-        let whole : IsWhole gap (w.written ++ last) = sound_whole gap (w.written ++ last) range
-        (read_sound gap range (all_of w.taken) (fronts_of streams) w.written last w.folding)
+        let whole : IsWhole gap (rows_of_sources range (w.written ++ last)) =
+        sound_whole gap (rows_of_sources range (w.written ++ last)) is_gap
+        (sound_within (millis_of gap) range (w.written ++ last)
+        (read_sound gap is_gap (all_of w.taken) (fronts_of streams) w.written last w.folding))
         both.spelled in (
           w.taken,
           AreReading-ended remaining limit gap first now streams w.taken none w.reading,
-          subst (λ (l : List Row). PutsRows remaining contents limit gap first now n begun next l)
-              book (record {
-                counted = counted
-                    ∙ count_put some count (length w.written) (length last) w.counted
-                    (len_there some last known)
-                    ∙ sym (length-append w.written last);
+          subst (λ (l : List Row). PutsRows remaining contents limit gap range first now n begun next
+              (rows_of_sources range l)) book (record {
+                counted = counted ∙ count_more some last known;
                 puts = both.puts;
                 book = record {
                   written = w.written;
                   last = last;
                   begun = here;
-                  before = folded_whole gap range (all_of w.taken) (fronts_of streams) w.written last
-                      w.folding w.put.spelled;
-                  all = refl;
+                  before = whole_here;
+                  all = within_both range w.written last;
                   whole = whole;
                 };
               }),
-        ) where
-          len_there : (wrote : Bool) (last : List Row) → IsThere wrote last
-              → length last ≡ cond wrote 1 0
-          len_there true last h = ap length h.1
-          len_there false last h = ap length h
+        )

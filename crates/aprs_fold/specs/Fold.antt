@@ -2,7 +2,7 @@
 use Rattle.std.specs.Prelude.{◌≡◌, ℕ, length, List, [], ◌++◌, Option, Ok, Err}
 use Rattle.std.specs.List.{flat_map}
 use Rattle.std.specs.Io.KnownBytes.{Appends}
-use Rattle.aprs_io.specs.Device.{AppendsPrefix}
+use Rattle.aprs_io.specs.Device.{Calls, Going, Sends}
 use Rattle.aprs_io.specs.Outlet.{held_of, Puts}
 use Rattle.aprs_io.specs.declared.device.Counted.{Counted}
 use Rattle.aprs_io.specs.declared.outlet.Outlet.{Outlet}
@@ -15,9 +15,11 @@ use Rattle.aprs_booktext.specs.Version.{header_of}
 use Rattle.aprs_booktext.specs.declared.fault.BookCause.TheVariants as why
 use Rattle.aprs_booktext.specs.declared.version.Version.TheVariants.{Three}
 use Rattle.aprs_fold.specs.Begun.{IsBegun}
+use Rattle.aprs_fold.specs.Range.{rows_of_sources}
 use Rattle.aprs_fold.specs.Taking.{lines_of_rows}
 use Rattle.aprs_fold.specs.declared.fault.FoldFault.{FoldFault}
 use Rattle.aprs_fold.specs.declared.fault.FoldFault.TheVariants.{Write}
+use Rattle.aprs_fold.specs.declared.range.SourceRange.{SourceRange}
 
 -- The rows are those of a book of this gap in version 3.
 abbrev pub IsWhole : ℕ → List Row → Type 0
@@ -33,48 +35,52 @@ LacksEnd text =
     (line : ℕ) × HasBookFault text how.End (record { line = line; cause = why.Ending })
 
 -- A part of a book's text went out: the whole header and a part of the lines of these rows, which
--- lacks its end. At `Write` it is a prefix of the text of these rows and the last.
+-- lacks its end, and no call of the output answered a fault. At `Write` it is a prefix of the text of
+-- these rows and the last, and the last call of the output answered a fault.
 abbrev pub IsPart : {W : Type 0} → (W → Option (List ℕ)) → ℕ → FoldFault → List Row → List Row
     → Counted W → Counted W → Type 0
-IsPart contents gap Write rows last old new =
-    AppendsPrefix (contents old.device) (contents new.device)
+IsPart contents gap Write rows last old new = Sends {E = FoldFault} contents (Err Write) old new
     (written_text (record { gap = gap; rows = rows ++ last }))
 IsPart contents gap fault rows last old new = (part : List ℕ) × (rest : List ℕ)
     × (flat_map line_and_lf rows ≡ part ++ rest)
     × Appends (contents old.device) (contents new.device) (header_text gap ++ part)
+    × Calls Going old new
     × LacksEnd (header_text gap ++ part)
 
--- What was written before the fold ended early: a part of such a text. Of the rows that were taken
--- of the inputs these are final (`BeginsBook`): whatever the inputs go on to be, they begin the book
--- of all; with the last they are the book of those that were taken (`EndsAsBook`).
+-- What was written before the fold ended early: a part of such a text, of those of these rows whose
+-- sources are within the range. Of the rows that were taken of the inputs these are final
+-- (`BeginsBook`): whatever the inputs go on to be, they begin the book of all; with the last they
+-- are the book of those that were taken (`EndsAsBook`).
 pub record IsLeft {R W : Type 0} (remaining : R → Option (List ℕ))
-    (contents : W → Option (List ℕ)) (limit gap : ℕ) (fault : FoldFault)
+    (contents : W → Option (List ℕ)) (limit gap : ℕ) (range : SourceRange) (fault : FoldFault)
     (first now : List (Counted R)) (old new : Counted W) : Type 0 where
   pub rows : List Row
   pub last : List Row
   pub begun : IsBegun remaining limit gap first now rows last
-  pub rows_are : IsWhole gap rows
-  pub part : IsPart contents gap fault rows last old new
+  pub rows_are : IsWhole gap (rows_of_sources range rows)
+  pub part : IsPart contents gap fault (rows_of_sources range rows) (rows_of_sources range last)
+      old new
 
 -- ---- the same of what was put
 
--- The rows are those of a book, which were taken and written one after another.
+-- The rows are those of a book, which were taken and, within the range, written one after another.
 pub record IsFoldedBook {R : Type 0} (remaining : R → Option (List ℕ)) (limit gap : ℕ)
-    (first now : List (Counted R)) (rows : List Row) : Type 0 where
+    (range : SourceRange) (first now : List (Counted R)) (rows : List Row) : Type 0 where
   pub written : List Row
   pub last : List Row
   pub begun : IsBegun remaining limit gap first now written last
-  pub before : IsWhole gap written
-  pub all : rows ≡ written ++ last
+  pub before : IsWhole gap (rows_of_sources range written)
+  pub all : rows ≡ rows_of_sources range written ++ rows_of_sources range last
   pub whole : IsWhole gap rows
 
 -- The lines of these rows were put, and there are so many.
 pub record PutsRows {R W : Type 0} (remaining : R → Option (List ℕ))
-    (contents : W → Option (List ℕ)) (limit gap : ℕ) (first now : List (Counted R)) (count : ℕ)
-    (old new : Outlet W) (rows : List Row) : Type 0 where
+    (contents : W → Option (List ℕ)) (limit gap : ℕ) (range : SourceRange)
+    (first now : List (Counted R)) (count : ℕ) (old new : Outlet W) (rows : List Row)
+    : Type 0 where
   pub counted : count ≡ length rows
   pub puts : Puts {E = Unit {0}} contents (Ok tt) old new (lines_of_rows rows)
-  pub book : IsFoldedBook remaining limit gap first now rows
+  pub book : IsFoldedBook remaining limit gap range first now rows
 
 -- The lines of the rows were put; at `Write` a prefix of them and of the last row's line went out.
 abbrev pub PutsPart : {W : Type 0} → (W → Option (List ℕ)) → FoldFault → List Row → List Row
@@ -86,13 +92,14 @@ PutsPart contents fault rows last old new =
 
 -- What was put of the rows before the fold ended early.
 pub record LeavesRows {R W : Type 0} (remaining : R → Option (List ℕ))
-    (contents : W → Option (List ℕ)) (limit gap : ℕ) (fault : FoldFault)
+    (contents : W → Option (List ℕ)) (limit gap : ℕ) (range : SourceRange) (fault : FoldFault)
     (first now : List (Counted R)) (old new : Outlet W) : Type 0 where
   pub rows : List Row
   pub last : List Row
   pub begun : IsBegun remaining limit gap first now rows last
-  pub rows_are : IsWhole gap rows
-  pub put : PutsPart contents fault rows last old new
+  pub rows_are : IsWhole gap (rows_of_sources range rows)
+  pub put : PutsPart contents fault (rows_of_sources range rows) (rows_of_sources range last) old
+      new
 
 -- The header was sent before; at `Write` a prefix of header and lines went out.
 abbrev pub PutsTextPart : {W : Type 0} → (W → Option (List ℕ)) → ℕ → FoldFault → List Row
@@ -105,10 +112,11 @@ PutsTextPart {W = W} contents gap fault rows last old new = (mid : Outlet W)
 
 -- What was put of the text before the fold ended early.
 pub record LeavesText {R W : Type 0} (remaining : R → Option (List ℕ))
-    (contents : W → Option (List ℕ)) (limit gap : ℕ) (fault : FoldFault)
+    (contents : W → Option (List ℕ)) (limit gap : ℕ) (range : SourceRange) (fault : FoldFault)
     (first now : List (Counted R)) (old new : Outlet W) : Type 0 where
   pub rows : List Row
   pub last : List Row
   pub begun : IsBegun remaining limit gap first now rows last
-  pub rows_are : IsWhole gap rows
-  pub put : PutsTextPart contents gap fault rows last old new
+  pub rows_are : IsWhole gap (rows_of_sources range rows)
+  pub put : PutsTextPart contents gap fault (rows_of_sources range rows)
+      (rows_of_sources range last) old new

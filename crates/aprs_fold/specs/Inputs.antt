@@ -1,8 +1,10 @@
 -- What a fold of book files reads.
-use Rattle.std.specs.Prelude.{◌≡◌, ◌≢◌, ℕ, List, [], ◌∷◌, ◌++◌, Option, Some, Ok, Err, slice_get}
+use Rattle.std.specs.Prelude.{◌≡◌, ◌≢◌, ℕ, List, [], ◌∷◌, ◌++◌, Option, Some, Ok, Err, IfSome, slice_get}
 use Rattle.std.specs.List.{flat_map}
 use Rattle.aprs_io.specs.Device.{Calls, Last}
+use Rattle.aprs_io.specs.Input.{Gets}
 use Rattle.aprs_io.specs.declared.device.Counted.{Counted}
+use Rattle.aprs_io.specs.declared.input.InputEnd.{InputEnd}
 use Rattle.aprs_laws.specs.BookValue.{BookValue}
 use Rattle.aprs_laws.specs.Gap.{millis_of}
 use Rattle.aprs_laws.specs.Row.{Row}
@@ -49,8 +51,18 @@ IsRefused {R = R} remaining limit gap (OtherGap index) old new =
     (f : Counted R) × (slice_get old index ≡ Some f) × BeginsOther gap (remaining f.device)
 IsRefused remaining limit gap fault old new = Unit {0}
 
--- No input was asked after its end, nor after a fault.
-abbrev pub AreAsked : {R : Type 0} → List (Counted R) → List (Counted R) → Type 0
-AreAsked [] [] = Unit {0}
-AreAsked (f ∷ first) (n ∷ now) = ((last : Last) × Calls last f n) × AreAsked first now
-AreAsked first now = ⊥
+-- Of the input some bytes were got, at most `limit`, and it wasn't asked after its end, nor after a
+-- fault. `Read` as its ending fits also where reading stopped early or never began.
+pub record IsAsked {R : Type 0} (remaining : R → Option (List ℕ)) (limit : ℕ) (old new : Counted R)
+    : Type 0 where
+  pub gets : IfSome (remaining old.device) (λ input. (text : List ℕ) × (ending : InputEnd)
+      × Gets limit input (remaining new.device) text ending)
+  pub calls : (last : Last) × Calls last old new
+
+-- So it is with each input.
+abbrev pub AreAsked : {R : Type 0} → (R → Option (List ℕ)) → ℕ → List (Counted R)
+    → List (Counted R) → Type 0
+AreAsked remaining limit [] [] = Unit {0}
+AreAsked remaining limit (f ∷ first) (n ∷ now) =
+    IsAsked remaining limit f n × AreAsked remaining limit first now
+AreAsked remaining limit first now = ⊥

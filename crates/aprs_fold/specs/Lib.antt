@@ -1,9 +1,11 @@
 -- Definitions that contracts of folds cite.
 pub mod Inputs
 pub mod Begun
+pub mod Examples
 pub mod Fold
 pub mod Fronts
 pub mod Matches
+pub mod Range
 pub mod Streams
 pub mod Taking
 -- What public clauses cite of lower crates.

@@ -1,7 +1,6 @@
 -- The inputs of a fold, each of which is read a row at a time. No public clause cites this module.
 use Rattle.std.specs.Prelude.{◌≡◌, ◌≢◌, ℕ, ◌≤◌, ◌+◌, ◌⊎◌, zero, suc, if◌then◌else◌, false, List, [], ◌∷◌, ◌++◌, length, Option, Some, Err}
 use Rattle.std.specs.List.{flat_map}
-use Rattle.aprs_io.specs.Device.{Calls, Last}
 use Rattle.aprs_io.specs.declared.device.Counted.{Counted}
 use Rattle.aprs_laws.specs.Order.{IsUpTo}
 use Rattle.aprs_laws.specs.Row.{Row, row_cmp}
@@ -10,7 +9,7 @@ use Rattle.aprs_booktext.specs.RowReader.{most_stream}
 use Rattle.aprs_booktext.specs.RowStream.{front_of, gap_of_stream, GetsOne, is_ended, stream_ahead, stream_size}
 use Rattle.aprs_booktext.specs.declared.row_stream.RowStream.{RowStream}
 use Rattle.aprs_fold.specs.Fronts.{row_at}
-use Rattle.aprs_fold.specs.Inputs.{BeginsOther}
+use Rattle.aprs_fold.specs.Inputs.{BeginsOther, IsAsked}
 use Rattle.aprs_fold.specs.declared.fault.FoldFault.{FoldFault}
 use Rattle.aprs_fold.specs.declared.fault.FoldFault.TheVariants.{Input, OtherGap, Memory, Write}
 
@@ -44,9 +43,8 @@ abbrev pub IsOneRefused : {R : Type 0} → (R → Option (List ℕ)) → ℕ →
 IsOneRefused remaining limit gap number (Input index fault) old new =
     (index ≡ number) × IsAnswered remaining limit [] (Err fault) old new
 IsOneRefused remaining limit gap number (OtherGap index) old new =
-    (index ≡ number) × BeginsOther gap (remaining old.device)
-    × ((last : Last) × Calls last old new)
-IsOneRefused remaining limit gap number Memory old new = (last : Last) × Calls last old new
+    (index ≡ number) × BeginsOther gap (remaining old.device) × IsAsked remaining limit old new
+IsOneRefused remaining limit gap number Memory old new = IsAsked remaining limit old new
 IsOneRefused remaining limit gap number Write old new = ⊥
 
 -- The stream of this number has a row in front, and may be read on.

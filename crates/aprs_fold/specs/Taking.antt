@@ -10,6 +10,8 @@ use Rattle.aprs_laws.specs.Row.{Row}
 use Rattle.aprs_booktext.specs.RowLines.{line_and_lf}
 use Rattle.aprs_booktext.specs.Text.{IsBookRow}
 use Rattle.aprs_folding.specs.Folding.{rows_put, TakesNext}
+use Rattle.aprs_fold.specs.Range.{rows_of_sources}
+use Rattle.aprs_fold.specs.declared.range.SourceRange.{SourceRange}
 use Rattle.aprs_fold.specs.declared.fault.FoldFault.{FoldFault}
 use Rattle.aprs_fold.specs.declared.fault.FoldFault.TheVariants.{Memory, Write}
 
@@ -32,6 +34,16 @@ pub record HasPut {W : Type 0} (contents : W → Option (List ℕ)) (old new : O
   pub puts : Puts {E = Unit {0}} contents (Ok tt) old new (lines_of_rows rows)
   pub spelled : AreSpelled rows
 
+-- The next row was taken, and of a last one that it closed the line was put where its source is
+-- within the range; `wrote` says whether a line was.
+pub record Takes {W : Type 0} (contents : W → Option (List ℕ)) (range : SourceRange)
+    (wrote : Bool) (gap : ℕ) (old new : Outlet W) (last : List Row) (next : Row) (after : List Row)
+    : Type 0 where
+  pub closed : Bool
+  pub takes : TakesNext closed gap last next after
+  pub puts : HasPut contents old new (rows_of_sources range (rows_put closed last))
+  pub is_there : IsThere wrote (rows_of_sources range (rows_put closed last))
+
 -- The output was refused: a prefix of these lines went out.
 abbrev pub FailsPut : {W : Type 0} → (W → Option (List ℕ)) → FoldFault → Outlet W → Outlet W
     → List Row → Type 0
@@ -44,11 +56,12 @@ ClosesFor true gap last next = TakesNext true gap last next (next ∷ [])
 ClosesFor false gap last next = Unit {0}
 
 -- At `Write` a prefix of the last row's line went out. At `Memory` that line was put, and no later
--- row joins it; or nothing was. No other fault comes.
-abbrev pub FailsTaking : {W : Type 0} → (W → Option (List ℕ)) → ℕ → FoldFault → Outlet W
-    → Outlet W → List Row → Row → Type 0
-FailsTaking contents gap Write old new last next =
-    Puts {E = FoldFault} contents (Err Write) old new (lines_of_rows last)
-FailsTaking contents gap Memory old new last next = (wrote : Bool)
-    × HasPut contents old new (rows_put wrote last) × ClosesFor wrote gap last next
-FailsTaking contents gap fault old new last next = ⊥
+-- row joins it; or nothing was. No other fault comes. A row out of the range has no line.
+abbrev pub FailsTaking : {W : Type 0} → (W → Option (List ℕ)) → SourceRange → ℕ → FoldFault
+    → Outlet W → Outlet W → List Row → Row → Type 0
+FailsTaking contents range gap Write old new last next = Puts {E = FoldFault} contents (Err Write)
+    old new (lines_of_rows (rows_of_sources range last))
+FailsTaking contents range gap Memory old new last next = (closed : Bool)
+    × HasPut contents old new (rows_of_sources range (rows_put closed last))
+    × ClosesFor closed gap last next
+FailsTaking contents range gap fault old new last next = ⊥

@@ -10,11 +10,13 @@ ghost use Rattle.aprs_booktext.specs.Text.{written_text};
 ghost use Rattle.aprs_booktext.specs.Version.{header_of};
 ghost use Rattle.aprs_booktext.specs.declared.version.Version.TheVariants.{Three};
 ghost use Rattle.aprs_fold.specs.Fold as Spec;
-ghost use Rattle.aprs_fold.specs.Inputs.{book_of_all, AreAsked, AreBooks, IsRefused};
+ghost use Rattle.aprs_fold.specs.Inputs.{AreAsked, AreBooks, IsRefused};
+ghost use Rattle.aprs_fold.specs.Range.{book_of_sources};
 
 use crate::fault::FoldFault;
 use crate::opening::{advance, open_all};
-use crate::taking::{count_after, put_last, take_front};
+use crate::range::SourceRange;
+use crate::taking::{count_after, has_line, put_last, take_front};
 use crate::tournament::Tournament;
 use aprs_booktext::{WrittenRow, end_line_and_lf, header_line};
 use aprs_io::{Counted, Outlet, WriteFault};
@@ -27,9 +29,10 @@ use std::io::{Read, Write};
 pub const MAX_BOOK: u64 = 9_223_372_036_854_775_807;
 
 /// Writes the text of the book of all inputs, which have to be book files of this gap, of at most
-/// `limit` bytes each, in version 3. They are read side by side, and the rows are written as they
-/// come: memory is taken for each input (a piece of 16 KiB, its longest line and its longest row)
-/// and for one row more, whatever the number of rows. Requires a limit of at most `MAX_BOOK`
+/// `limit` bytes each, in version 3. Of its rows the text has those whose sources are within the
+/// range. The inputs are read side by side to their ends, and the rows are written as they come:
+/// memory is taken for each input (a piece of 16 KiB, its longest line and its longest row) and for
+/// one row more, whatever the number of rows. Requires a limit of at most `MAX_BOOK`
 /// (9,223,372,036,854,775,807). The header is sent before an input is read.
 /// Where an input is at fault or an allocation fails, the header and a part of the rows' lines were
 /// written, which are no book's text, since its last line isn't there. At `Write` a prefix of the
@@ -38,57 +41,61 @@ pub fn fold_books<R: Read, W: Write, A: Allocator + Copy>(
     alloc: A,
     limit: u64,
     gap: Gap,
+    range: &SourceRange,
     inputs: &mut [Counted<R>],
     w: &mut Counted<W>,
 ) -> Result<(), FoldFault>
     requires { limit ≤ most_stream }
 
     // At `Ok` each input is the whole text of a book of this gap, and what was written is the text
-    // of the book of all their rows, which can be read back.
+    // of the range's rows of the book of all their rows, which can be read back.
     ensures folds { OnOk result ((rows : List (List Row))
         × AreBooks R.remaining limit gap inputs.old inputs.new rows
-        × Sends W.contents result w.old w.new (written_text (book_of_all gap rows))
-        × Spec.IsWhole gap (book_of_all gap rows).rows) }
+        × Sends W.contents result w.old w.new (written_text (book_of_sources range.now gap rows))
+        × Spec.IsWhole gap (book_of_sources range.now gap rows).rows) }
 
     // At a fault of an input it is faulty so. What was written is a part of a book's text: of the
-    // book of the rows that were taken of the inputs, those that are final.
+    // book of the rows that were taken of the inputs, those that are final. The output answered a
+    // fault at `Write` alone, in its last call.
     ensures refuses { IfErr result (λ fault.
         IsRefused R.remaining limit gap fault inputs.old inputs.new) }
-    ensures left { IfErr result (λ fault. Spec.IsLeft R.remaining W.contents limit gap fault
-        inputs.old inputs.new w.old w.new) }
+    ensures left { IfErr result (λ fault. Spec.IsLeft R.remaining W.contents limit gap range.now
+        fault inputs.old inputs.new w.old w.new) }
 
-    // No input is asked after its end or a fault.
-    ensures asks { AreAsked inputs.old inputs.new }
+    // Of each input some bytes were got, and none is asked after its end or a fault.
+    ensures asks { AreAsked R.remaining limit inputs.old inputs.new }
 {
     let mut out = Outlet::new(w);
-    put_text(alloc, limit, gap, inputs, &mut out)?;
+    put_text(alloc, limit, gap, range, inputs, &mut out)?;
     Ok(out.flush()?)
 }
 
-/// Puts the text of the book of all rows, from its header to its last line, into `out`, which sends
-/// the header before an input is read.
+/// Puts the text of the range's rows of the book of all rows into `out`, from its header to its
+/// last line. `out` sends the header before an input is read.
 fn put_text<R: Read, W: Write, A: Allocator + Copy>(
     alloc: A,
     limit: u64,
     gap: Gap,
+    range: &SourceRange,
     inputs: &mut [Counted<R>],
     out: &mut Outlet<'_, W>,
 ) -> Result<(), FoldFault>
     requires few { limit ≤ most_stream }
-    requires range { IsGap gap }
+    requires gap { IsGap gap }
     ensures folds { OnOk result ((rows : List (List Row))
         × AreBooks R.remaining limit gap inputs.old inputs.new rows
-        × Puts W.contents result out.old out.new (written_text (book_of_all gap rows))
-        × Spec.IsFoldedBook R.remaining limit gap inputs.old inputs.new
-        (book_of_all gap rows).rows) }
+        × Puts W.contents result out.old out.new
+        (written_text (book_of_sources range.now gap rows))
+        × Spec.IsFoldedBook R.remaining limit gap range.now inputs.old inputs.new
+        (book_of_sources range.now gap rows).rows) }
     ensures refuses { IfErr result (λ fault.
         IsRefused R.remaining limit gap fault inputs.old inputs.new) }
-    ensures left { IfErr result (λ fault. Spec.LeavesText R.remaining W.contents limit gap fault
-        inputs.old inputs.new out.old out.new) }
-    ensures asks { AreAsked inputs.old inputs.new }
+    ensures left { IfErr result (λ fault. Spec.LeavesText R.remaining W.contents limit gap
+        range.now fault inputs.old inputs.new out.old out.new) }
+    ensures asks { AreAsked R.remaining limit inputs.old inputs.new }
 {
     put_header(gap, out)?;
-    let count = put_rows(alloc, limit, gap, inputs, out)?;
+    let count = put_rows(alloc, limit, gap, range, inputs, out)?;
     Ok(out.put(end_line_and_lf(count).as_slice())?)
 }
 
@@ -101,25 +108,27 @@ fn put_header<W: Write>(gap: Gap, out: &mut Outlet<'_, W>) -> Result<(), WriteFa
     out.flush()
 }
 
-/// Puts the lines of the rows of the book of all inputs into `out`, and returns their number.
+/// Puts the lines of the range's rows of the book of all inputs into `out`, and returns their
+/// number.
 fn put_rows<R: Read, W: Write, A: Allocator + Copy>(
     alloc: A,
     limit: u64,
     gap: Gap,
+    range: &SourceRange,
     inputs: &mut [Counted<R>],
     out: &mut Outlet<'_, W>,
 ) -> Result<usize, FoldFault>
     requires few { limit ≤ most_stream }
-    requires range { IsGap gap }
+    requires gap { IsGap gap }
     ensures folds { IfOk result (λ count. (rows : List (List Row))
         × AreBooks R.remaining limit gap inputs.old inputs.new rows
-        × Spec.PutsRows R.remaining W.contents limit gap inputs.old inputs.new count out.old out.new
-        (book_of_all gap rows).rows) }
+        × Spec.PutsRows R.remaining W.contents limit gap range.now inputs.old inputs.new count
+        out.old out.new (book_of_sources range.now gap rows).rows) }
     ensures refuses { IfErr result (λ fault.
         IsRefused R.remaining limit gap fault inputs.old inputs.new) }
-    ensures left { IfErr result (λ fault. Spec.LeavesRows R.remaining W.contents limit gap fault
-        inputs.old inputs.new out.old out.new) }
-    ensures asks { AreAsked inputs.old inputs.new }
+    ensures left { IfErr result (λ fault. Spec.LeavesRows R.remaining W.contents limit gap
+        range.now fault inputs.old inputs.new out.old out.new) }
+    ensures asks { AreAsked R.remaining limit inputs.old inputs.new }
 {
     let mut opened = open_all(alloc, limit, gap, inputs)?;
     let streams = opened.as_mut_slice();
@@ -128,12 +137,12 @@ fn put_rows<R: Read, W: Write, A: Allocator + Copy>(
     let mut last = OpenRow::new(alloc);
     let mut count = 0;
     while let Some(index) = tournament.first(streams) {
-        let wrote = take_front(gap, streams, index, &mut last, out, &mut room)?;
+        let wrote = take_front(gap, range, streams, index, &mut last, out, &mut room)?;
         count = count_after(count, wrote)?;
         advance(index, streams, inputs)?;
         tournament.play_again(streams, index);
     }
-    let all = count_after(count, last.row().is_some())?;
-    put_last(&last, out, &mut room)?;
+    let all = count_after(count, has_line(range, &last))?;
+    put_last(range, &last, out, &mut room)?;
     Ok(all)
 }

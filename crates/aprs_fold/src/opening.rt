@@ -29,7 +29,7 @@ pub(crate) fn open_all<R: Read, A: Allocator + Copy>(
     ensures all { IfOk result (λ streams. length streams.items ≡ length inputs.old) }
     ensures refuses { IfErr result (λ fault.
         Spec.IsRefused R.remaining limit gap fault inputs.old inputs.new) }
-    ensures asks { Spec.AreAsked inputs.old inputs.new }
+    ensures asks { Spec.AreAsked R.remaining limit inputs.old inputs.new }
 {
     let mut streams = Vec::new(alloc);
     for (index, input) in inputs.iter_mut().enumerate() {
@@ -103,7 +103,7 @@ pub(crate) fn advance<R: Read, A: Allocator + Copy>(
         (taken : List (List Row))
         → Streams.AreReading R.remaining limit gap first inputs.old streams.old taken
         → Spec.IsRefused R.remaining limit gap fault first inputs.new
-        × Spec.AreAsked first inputs.new) }
+        × Spec.AreAsked R.remaining limit first inputs.new) }
 {
     match streams[index].advance(&mut inputs[index]) {
         Ok(()) => Ok(()),

@@ -1,14 +1,15 @@
 //! Rows that are taken in order and written, once no later row can join them.
-ghost use Rattle.std.specs.Prelude.{◌≡◌, ◌+◌, ◌∷◌, [], Some, IfErr, IfOk, if◌then◌else◌};
+ghost use Rattle.std.specs.Prelude.{◌≡◌, ◌+◌, Some, IfErr, IfOk, OnOk, if◌then◌else◌};
 ghost use Rattle.aprs_laws.specs.Gap.{millis_of};
 ghost use Rattle.aprs_laws.specs.Row.{Row};
 ghost use Rattle.aprs_laws.specs.Sound.{IsSoundRow};
 ghost use Rattle.aprs_rows.specs.Packed.{IsShort};
-ghost use Rattle.aprs_folding.specs.Folding.{rows_put, TakesNext};
 ghost use Rattle.aprs_fold.specs.Fronts.{IsFirst, row_at};
+ghost use Rattle.aprs_fold.specs.Range.{rows_of_sources};
 ghost use Rattle.aprs_fold.specs.Taking as Spec;
 
 use crate::fault::FoldFault;
+use crate::range::SourceRange;
 use aprs_booktext::{RowStream, WrittenRow, put_row};
 use aprs_io::Outlet;
 use aprs_laws::Gap;
@@ -19,6 +20,7 @@ use std::io::Write;
 /// Takes the row in front of the stream of this number, as `take` does. Requires that there is one.
 pub(crate) fn take_front<W: Write, A: Allocator + Copy>(
     gap: Gap,
+    range: &SourceRange,
     streams: &[RowStream<A>],
     index: usize,
     last: &mut OpenRow<A>,
@@ -27,23 +29,24 @@ pub(crate) fn take_front<W: Write, A: Allocator + Copy>(
 ) -> Result<bool, FoldFault>
     requires first { IsFirst streams.now index }
     ensures takes { IfOk result (λ wrote. (x : Row) → row_at streams.now index ≡ Some x
-        → IsSoundRow x × TakesNext wrote (millis_of gap) last.old x last.new) }
-    ensures puts { IfOk result (λ wrote.
-        Spec.HasPut W.contents out.old out.new (rows_put wrote last.old)) }
+        → IsSoundRow x × Spec.Takes W.contents range.now wrote (millis_of gap) out.old out.new
+        last.old x last.new) }
     ensures fails { IfErr result (λ fault. (x : Row) → row_at streams.now index ≡ Some x
-        → IsSoundRow x
-        × Spec.FailsTaking W.contents (millis_of gap) fault out.old out.new last.old x) }
+        → IsSoundRow x × Spec.FailsTaking W.contents range.now (millis_of gap) fault
+        out.old out.new last.old x) }
 {
     match streams[index].row() {
-        Some(next) => take(gap, &next, last, out, room),
+        Some(next) => take(gap, range, &next, last, out, room),
         None => Ok(false),
     }
 }
 
 /// Lets the next row join the last one where it is near. Otherwise puts the line of the last one
-/// into `out`, if there is one, and has the next in its place. Returns whether a line was put.
+/// into `out`, if there is one within the range, and has the next in its place. Returns whether a
+/// line was put.
 fn take<W: Write, A: Allocator + Copy>(
     gap: Gap,
+    range: &SourceRange,
     next: &RowView<'_>,
     last: &mut OpenRow<A>,
     out: &mut Outlet<'_, W>,
@@ -51,38 +54,52 @@ fn take<W: Write, A: Allocator + Copy>(
 ) -> Result<bool, FoldFault>
     requires sound { IsSoundRow next.now }
     requires short { IsShort next.now }
-    ensures takes { IfOk result (λ wrote.
-        TakesNext wrote (millis_of gap) last.old next.now last.new) }
-    ensures puts { IfOk result (λ wrote.
-        Spec.HasPut W.contents out.old out.new (rows_put wrote last.old)) }
-    ensures fails { IfErr result (λ fault. Spec.FailsTaking W.contents (millis_of gap) fault
-        out.old out.new last.old next.now) }
+    ensures takes { IfOk result (λ wrote. Spec.Takes W.contents range.now wrote (millis_of gap)
+        out.old out.new last.old next.now last.new) }
+    ensures fails { IfErr result (λ fault. Spec.FailsTaking W.contents range.now (millis_of gap)
+        fault out.old out.new last.old next.now) }
 {
     if last.join(gap, next)? {
         return Ok(false);
     }
-    let wrote = put_last(last, out, room)?;
+    let wrote = put_last(range, last, out, room)?;
     last.put(next)?;
     Ok(wrote)
 }
 
-/// Puts the line of the last row into `out`, if there is one. Returns whether there is.
+/// Puts the line of the last row into `out`, if there is one and it is within the range. Returns
+/// whether it is.
 pub(crate) fn put_last<W: Write, A: Allocator + Copy>(
+    range: &SourceRange,
     last: &OpenRow<A>,
     out: &mut Outlet<'_, W>,
     room: &mut WrittenRow,
 ) -> Result<bool, FoldFault>
-    ensures wrote { IfOk result (λ wrote. Spec.IsThere wrote last.now) }
-    ensures puts { IfOk result (λ wrote.
-        Spec.HasPut W.contents out.old out.new (rows_put wrote last.now)) }
-    ensures fails { IfErr result (λ fault.
-        Spec.FailsPut W.contents fault out.old out.new last.now) }
+    ensures wrote { IfOk result (λ wrote.
+        Spec.IsThere wrote (rows_of_sources range.now last.now)) }
+    ensures puts { OnOk result (Spec.HasPut W.contents out.old out.new
+        (rows_of_sources range.now last.now)) }
+    ensures fails { IfErr result (λ fault. Spec.FailsPut W.contents fault out.old out.new
+        (rows_of_sources range.now last.now)) }
 {
     let Some(row) = last.row() else {
         return Ok(false);
     };
+    if !range.contains_row(&row) {
+        return Ok(false);
+    }
     put_row(out, room, &row)?;
     Ok(true)
+}
+
+/// Whether there is a last row that is within the range.
+pub(crate) fn has_line<A: Allocator + Copy>(range: &SourceRange, last: &OpenRow<A>) -> bool
+    ensures { Spec.IsThere result (rows_of_sources range.now last.now) }
+{
+    match last.row() {
+        Some(row) => range.contains_row(&row),
+        None => false,
+    }
 }
 
 /// One more, where a line was put. `Memory` where that is 2^64.

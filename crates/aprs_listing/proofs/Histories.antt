@@ -1,45 +1,17 @@
 -- Lemmas on the lines of a history.
-use Rattle.aprs_listing.proofs.Common.{◌≡◌, ℕ, List, [], ◌∷◌, ◌++◌, map, Option, Some, None, refl, sym, ap, ap₂, ◌∙◌, append_assoc, flat_map, join_with_byte, option_map, flat_map-append, Call, call_text, Parts, parts_of, hop_of, shown_text, Row, last_moment, moment_text, reading_of, Value, mic_e_view}
+use Rattle.aprs_listing.proofs.Common.{◌≡◌, ℕ, List, [], ◌∷◌, ◌++◌, map, Option, refl, ap, ◌∙◌, join_with_byte, option_map, Call, call_text, Parts, parts_of, hop_of, Row, last_moment, moment_text, reading_of, Value, mic_e_view}
 use Rattle.aprs_mice.specs.Reader.{mic_e_or_none}
-use denote.Ref.{Bor}
 use Rattle.aprs_mice.specs.declared.mic_e.MicE.{MicE}
-use Rattle.aprs_listing.specs.History.{history_line, id_word, told_line, via_text}
-use Rattle.aprs_listing.specs.Lines.{field_text, spaced_field}
-use Rattle.aprs_listing.specs.Listing.{after_space, id_text, line_with, line_with_text}
-use Rattle.aprs_listing.specs.declared.field.Field.{Field}
-use Rattle.aprs_listing.proofs.Lines.{spaced_fields}
+use Rattle.aprs_listing.specs.History.{history_line, told_line, via_text}
+use Rattle.aprs_listing.specs.Listing.{line_with_text}
 
 -- ---- fields
 
-both : (told others : List Field) (more : List (List ℕ)) (rest : List ℕ)
-    → map field_text others ≡ more
-    → flat_map spaced_field told ++ (flat_map spaced_field others ++ rest)
-    ≡ flat_map after_space (map field_text told ++ more) ++ rest
-both told others more rest e =
-    ap₂ (λ l m. l ++ (m ++ rest)) (spaced_fields told)
-    (spaced_fields others ∙ ap (flat_map after_space) e)
-    ∙ sym (append_assoc (flat_map after_space (map field_text told)) (flat_map after_space more) rest)
-    ∙ ap (λ l. l ++ rest) (sym (flat_map-append after_space (map field_text told) more))
-
--- a line of two lists of fields
-pub lists_line : (kind : List ℕ) (told others : List Field) (more : List (List ℕ))
-    → map field_text others ≡ more
-    → kind ++ (flat_map spaced_field told ++ (flat_map spaced_field others ++ 10 ∷ []))
-    ≡ line_with kind (map field_text told ++ more)
-lists_line kind told others more e = ap (λ l. kind ++ l) (both told others more (10 ∷ []) e)
-
--- and with a text at its end
-pub text_line : (kind : List ℕ) (told others : List Field) (more : List (List ℕ))
-    (text : List ℕ) → map field_text others ≡ more
-    → kind ++ (flat_map spaced_field told ++ (flat_map spaced_field others
-    ++ (58 ∷ shown_text text ++ 10 ∷ [])))
-    ≡ line_with_text kind (map field_text told ++ more) text
-text_line kind told others more text e =
-    ap (λ l. kind ++ l) (both told others more (58 ∷ shown_text text ++ 10 ∷ []) e)
-
-pub id_of : (id : Option (Bor (List ℕ))) → id_text id ≡ id_word (option_map (λ x. x.now) id)
-id_of None = refl
-id_of (Some id) = refl
+-- a line of the `told` fields and those of a report
+pub told_text : (kind : List ℕ) (told : List (List ℕ)) (text : List ℕ) {others more : List (List ℕ)}
+    → others ≡ more
+    → line_with_text kind (told ++ others) text ≡ line_with_text kind (told ++ more) text
+told_text kind told text e = ap (λ l. line_with_text kind (told ++ l) text) e
 
 -- ---- rows
 

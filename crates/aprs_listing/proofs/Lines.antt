@@ -1,5 +1,5 @@
 -- Lemmas on the fields of a line.
-use Rattle.aprs_listing.proofs.Common.{◌≡◌, ℕ, Bool, List, [], ◌∷◌, ◌++◌, map, refl, sym, ap, ap₂, ◌∙◌, append_assoc, flat_map, flat_map-append, Call, call_text, moment_text, Received, shown_text}
+use Rattle.aprs_listing.proofs.Common.{◌≡◌, ℕ, Bool, List, [], ◌∷◌, ◌++◌, map, refl, sym, ap, ap₂, ◌∙◌, flat_map, flat_map-append, Call, call_text, moment_text, Received}
 use Rattle.aprs_laws.specs.Key.{key_of}
 use Rattle.aprs_listing.specs.Lines.{field_text, spaced_field}
 use Rattle.aprs_listing.specs.Listing.{after_space, heard_fields, name_fields, line_with_text, word}
@@ -11,19 +11,20 @@ pub spaced_fields : (xs : List Field) → flat_map spaced_field xs
 spaced_fields [] = refl
 spaced_fields (x ∷ xs) = ap (λ l. spaced_field x ++ l) (spaced_fields xs)
 
+-- the start of a line, and of the fields that are put
+pub start : (kind : List ℕ) (fields others : List Field)
+    → kind ++ (flat_map spaced_field fields ++ flat_map spaced_field others)
+    ≡ kind ++ flat_map after_space (map field_text fields ++ map field_text others)
+start kind fields others =
+    ap (λ l. kind ++ l) (ap₂ (λ l m. l ++ m) (spaced_fields fields) (spaced_fields others)
+    ∙ sym (flat_map-append after_space (map field_text fields) (map field_text others)))
+
 -- the fields of a line and those of a place
-pub placed : (kind comment : List ℕ) (fields known place : List (List ℕ)) (others : List Field)
-    → fields ≡ known → map field_text others ≡ place
-    → kind ++ (flat_map after_space fields ++
-    (flat_map spaced_field others ++ (58 ∷ shown_text comment ++ 10 ∷ [])))
-    ≡ line_with_text kind (known ++ place) comment
-placed kind comment fields known place others e o =
-    let rest = 58 ∷ shown_text comment ++ 10 ∷ [] in
-    ap₂ (λ l m. kind ++ (flat_map after_space l ++ (m ++ rest))) e (spaced_fields others
-    ∙ ap (flat_map after_space) o)
-    ∙ ap (λ l. kind ++ l) (sym (append_assoc (flat_map after_space known)
-    (flat_map after_space place) rest) ∙ ap (λ l. l ++ rest)
-    (sym (flat_map-append after_space known place)))
+pub placed : (kind comment : List ℕ) (fields known others place : List (List ℕ))
+    → fields ≡ known → others ≡ place
+    → line_with_text kind (fields ++ others) comment ≡ line_with_text kind (known ++ place) comment
+placed kind comment fields known others place e o =
+    ap₂ (λ l m. line_with_text kind (l ++ m) comment) e o
 
 pub heard_fields_of : (heard shown_as : Received) (who : List ℕ) → heard ≡ shown_as
     → who ≡ heard.receiver → moment_text heard.moment ∷ who ∷ [] ≡ heard_fields shown_as

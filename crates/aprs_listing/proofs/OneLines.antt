@@ -23,8 +23,8 @@ use Rattle.aprs_report.specs.declared.symbol.Symbol.{Symbol}
 use Rattle.aprs_report.proofs.Readings.{reads_as}
 use Rattle.aprs_mice.specs.declared.mic_e_message.MicEMessage.{MicEMessage}
 use Rattle.aprs_mice.specs.declared.mic_e_message.MicEMessage.TheVariants as say
-use Rattle.aprs_listing.specs.History.{history_line, history_text, id_word, other_line, row_fields, told_line, via_text}
-use Rattle.aprs_listing.specs.Listing.{after_space, ambiguity_text, degrees_text, line_with, line_with_text, place_fields, stamp_text, word, word_byte}
+use Rattle.aprs_listing.specs.History.{history_line, history_text, other_line, row_fields, told_line, via_text}
+use Rattle.aprs_listing.specs.Listing.{after_space, ambiguity_text, degrees_text, id_word, line_with, line_with_text, place_fields, stamp_text, word, word_byte}
 use Rattle.aprs_report.specs.Object.{live_text}
 use Rattle.aprs_rows.specs.Told.{IsTold}
 use Rattle.aprs_listing.specs.OneLine.{HasOneLineEach}

@@ -21,11 +21,11 @@ reported_once info = heard_once (codes "APRS  ") info
 abbrev pub line_once : List ℕ → List ℕ → List ℕ
 line_once kind told = kind
     ++ codes " 1970-01-01T00:00:00.000Z 1970-01-01T00:00:00.000Z RX1 N0CALL-7 - " ++ told
-    ++ 10 ∷ []
+    ++ codes "\n"
 
 -- A line of this text.
 abbrev pub ended : List ℕ → List ℕ
-ended text = text ++ 10 ∷ []
+ended text = text ++ codes "\n"
 
 -- The information of a Mic-E frame, as the standard shows it: a jeep, at 20 knots and 251 degrees.
 abbrev pub jeep_info : List ℕ

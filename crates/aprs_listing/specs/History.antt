@@ -14,8 +14,12 @@ use Rattle.aprs_mice.specs.MicEMessage.{message_name}
 use Rattle.aprs_mice.specs.Reader.{mic_e_or_none}
 use Rattle.aprs_log.specs.Moment.{moment_text}
 use Rattle.aprs_laws.specs.Row.{Row, last_moment}
-use Rattle.aprs_listing.specs.Listing.{line_with, line_with_text, place_fields, stamp_text, word}
+use Rattle.aprs_listing.specs.Listing.{id_word, line_with, line_with_text, place_fields, stamp_text, word}
 use Rattle.aprs_report.specs.Object.{live_text}
+
+-- The byte between two receivers.
+abbrev pub comma : ℕ
+comma = 44
 
 -- ---- fields
 
@@ -25,15 +29,10 @@ abbrev pub via_text : List Hop → List ℕ
 via_text [] = codes "-"
 via_text (hop ∷ more) = drop 1 (flat_map hop_text (hop ∷ more))
 
--- The id of a message, or - without one.
-abbrev pub id_word : Option (List ℕ) → List ℕ
-id_word None = codes "-"
-id_word (Some id) = id
-
 -- The fields of a row: its first and its last moment, its receivers with a comma between, and who
 -- sent its greatest reception's frame, by which digipeaters.
 abbrev pub row_fields : Row → List (List ℕ)
-row_fields x = moment_text x.first ∷ moment_text (last_moment x) ∷ join_with_byte 44 x.receivers
+row_fields x = moment_text x.first ∷ moment_text (last_moment x) ∷ join_with_byte comma x.receivers
     ∷ call_text (parts_of x.greatest.frame).source.call
     ∷ via_text (map hop_of (parts_of x.greatest.frame).digipeaters) ∷ []
 

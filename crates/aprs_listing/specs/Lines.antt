@@ -4,7 +4,7 @@ use Rattle.std.specs.Fmt.{decimal}
 use Rattle.aprs_ax25.specs.Callsign.{call_text}
 use Rattle.aprs_log.specs.Moment.{moment_text}
 use Rattle.aprs_report.specs.Reading.{Value, object, item}
-use Rattle.aprs_listing.specs.Listing.{word, stamp_text, degrees_text, ambiguity_text, symbol_text}
+use Rattle.aprs_listing.specs.Listing.{after_space, word, stamp_text, degrees_text, ambiguity_text, symbol_text}
 use Rattle.aprs_listing.specs.Listing.{line_with_text, place_fields}
 use Rattle.aprs_report.specs.Object.{live_text}
 use Rattle.aprs_listing.specs.declared.field.Field.{Field}
@@ -24,7 +24,7 @@ field_text (field.Symbol symbol) = symbol_text symbol
 
 -- A space and the text of a field.
 abbrev pub spaced_field : Field → List ℕ
-spaced_field x = 32 ∷ field_text x
+spaced_field x = after_space (field_text x)
 
 -- The line that a history has of an object or an item: its kind, the `told` fields, and those of
 -- the report. There is none of other reports.

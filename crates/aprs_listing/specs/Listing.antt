@@ -1,9 +1,9 @@
 -- The text of the listing, as a function of what is listed of a book: its stations, its objects and
 -- items, and its messages.
-use Rattle.std.specs.Prelude.{◌≡◌, ℕ, ◌==◌, Bool, true, false, if◌then◌else◌, List, [], ◌∷◌, ◌++◌, Option, None, Some, codes}
+use Rattle.std.specs.Prelude.{◌≡◌, ℕ, ◌==◌, Bool, if◌then◌else◌, List, [], ◌∷◌, ◌++◌, Option, None, Some, codes}
 use Rattle.std.specs.List.{flat_map}
 use Rattle.std.specs.Fmt.{decimal, signed_decimal}
-use denote.Ref.{Bor}
+use Rattle.std.specs.Option.{option_map}
 use Rattle.aprs_ax25.specs.Callsign.{call_text}
 use Rattle.aprs_report.specs.Place.{latitude_of, longitude_of}
 use Rattle.aprs_report.specs.Reading.{Value, position, object, item, message, ack, rej, status, raw}
@@ -19,8 +19,6 @@ use Rattle.aprs_log.specs.Reception.{Received}
 use Rattle.aprs_laws.specs.Key.{key_of}
 use Rattle.aprs_book.specs.Reports.{report_of}
 use Rattle.aprs_book.specs.declared.lists.message.MessageRow.{MessageRow}
-use Rattle.aprs_book.specs.declared.lists.message.MessageState.{MessageState}
-use Rattle.aprs_book.specs.declared.lists.message.MessageState.TheVariants.{Unnumbered, Unanswered, Acknowledged, Rejected}
 use Rattle.aprs_laws.specs.BookValue.{BookValue}
 use Rattle.aprs_laws.specs.Gap.{millis_of}
 use Rattle.aprs_book.specs.Messages.{ReportsMessages, state_text}
@@ -30,11 +28,15 @@ use Rattle.aprs_book.specs.declared.lists.named.Named.{Named}
 use Rattle.aprs_book.specs.declared.lists.station.Station.{Station}
 use Rattle.aprs_io.specs.Shown.{shown_byte, shown_text}
 
+-- The byte of a space.
+abbrev pub space : ℕ
+space = 32
+
 -- ---- fields
 
 -- A space as \x20, and any other byte as it is shown.
 abbrev pub word_byte : ℕ → List ℕ
-word_byte b = if b == 32 then codes "\\x20" else shown_byte b
+word_byte b = if b == space then codes "\\x20" else shown_byte b
 
 -- A name as it is shown in a line: one word without a space.
 abbrev pub word : List ℕ → List ℕ
@@ -59,9 +61,9 @@ abbrev pub symbol_text : Symbol → List ℕ
 symbol_text s = shown_text (s.table ∷ s.code ∷ [])
 
 -- The id of a message, or - without one.
-abbrev pub id_text : Option (Bor (List ℕ)) → List ℕ
-id_text None = codes "-"
-id_text (Some id) = id.now
+abbrev pub id_word : Option (List ℕ) → List ℕ
+id_word None = codes "-"
+id_word (Some id) = id
 
 -- The fields that say when and by whom a reception was heard.
 abbrev pub heard_fields : Received → List (List ℕ)
@@ -82,17 +84,17 @@ place_fields stamp place symbol = stamp_text stamp ∷ degrees_text (latitude_of
 
 -- A field after a space.
 abbrev pub after_space : List ℕ → List ℕ
-after_space field = 32 ∷ field
+after_space field = codes " " ++ field
 
 -- A line: its kind, each field after a space, and LF.
 abbrev pub line_with : List ℕ → List (List ℕ) → List ℕ
-line_with kind fields = kind ++ (flat_map after_space fields ++ 10 ∷ [])
+line_with kind fields = kind ++ (flat_map after_space fields ++ codes "\n")
 
 -- A line that ends in a text: its kind, each field after a space, a colon, the text as it is shown,
 -- and LF.
 abbrev pub line_with_text : List ℕ → List (List ℕ) → List ℕ → List ℕ
 line_with_text kind fields text =
-    kind ++ (flat_map after_space fields ++ (58 ∷ shown_text text ++ 10 ∷ []))
+    kind ++ (flat_map after_space fields ++ (codes ":" ++ shown_text text ++ codes "\n"))
 
 -- The line of a reception, by what it reports: a position, a status, an object or an item. There is
 -- none for other reports.
@@ -140,7 +142,8 @@ named_line x = heard_line x.heard
 -- The fields of a message: from whom, to whom, its id, what came of it, and its first and its last
 -- moment.
 abbrev pub message_fields : MessageRow → List (List ℕ)
-message_fields x = call_text x.source ∷ word x.addressee.now ∷ id_text x.id ∷ state_text x.state
+message_fields x = call_text x.source ∷ word x.addressee.now
+    ∷ id_word (option_map (λ id. id.now) x.id) ∷ state_text x.state
     ∷ moment_text x.first ∷ moment_text x.last ∷ []
 
 -- The line of a message.

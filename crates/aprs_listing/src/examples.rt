@@ -43,7 +43,7 @@ pub fn histories_tell_reports()
         ≡ line_once (codes "rej") (codes "WU2Z 003") }
     ensures raw { history_line (reported_once (codes "T#005"))
         ≡ line_once (codes "raw") (codes "APRS:T#005") }
-    ensures numbers { history_line (reported_once (codes ">Hi" ++ 10 ∷ 92 ∷ 255 ∷ []))
+    ensures numbers { history_line (reported_once (codes ">Hi\n\\" ++ 255 ∷ []))
         ≡ line_once (codes "status") (codes "-:Hi\\x0a\\x5c\\xff") }
 
     ensures stamped { history_line (reported_once (codes "@092345z4903.50N/07201.75W>"))
@@ -60,7 +60,7 @@ pub fn histories_tell_reports()
         ≡ line_once (codes "position") (codes "- -432175/6000 294350/6000 0 /-:Test") → ⊥ }
     ensures misses_addressee { history_line (reported_once (codes ":WU2Z     :Testing{003"))
         ≡ line_once (codes "message") (codes "003 WU2Z:Testing") → ⊥ }
-    ensures misses_capital { history_line (reported_once (codes ">Hi" ++ 10 ∷ []))
+    ensures misses_capital { history_line (reported_once (codes ">Hi\n"))
         ≡ line_once (codes "status") (codes "-:Hi\\x0A") → ⊥ }
     ensures misses_rej { history_line (reported_once (codes ":WU2Z     :rej003"))
         ≡ line_once (codes "ack") (codes "WU2Z 003") → ⊥ }

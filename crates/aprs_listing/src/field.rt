@@ -1,5 +1,5 @@
 //! The fields of the listing's lines.
-ghost use Rattle.std.specs.Prelude.{◌≡◌};
+ghost use Rattle.std.specs.Prelude.{◌≡◌, map};
 ghost use Rattle.aprs_io.specs.Outlet.{Puts};
 ghost use Rattle.aprs_listing.specs.Lines.{field_text};
 ghost use Rattle.aprs_listing.specs.Listing as Spec;
@@ -29,6 +29,19 @@ pub enum Field<'a> {
     /// How many digits of a place are left out, or `c` for a compressed one.
     Ambiguity(Place),
     Symbol(Symbol),
+}
+
+/// The fields that say where something is: time stamp, latitude, longitude, ambiguity and symbol.
+pub fn place_fields(stamp: Option<Stamp>, place: Place, symbol: Symbol) -> [Field<'static>; 5]
+    ensures { map field_text result ≡ Spec.place_fields stamp place symbol }
+{
+    [
+        Field::Stamp(stamp),
+        Field::Degrees(place.lat()),
+        Field::Degrees(place.lon()),
+        Field::Ambiguity(place),
+        Field::Symbol(symbol),
+    ]
 }
 
 /// Puts the field's text. Fails where the output is refused.

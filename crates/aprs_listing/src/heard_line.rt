@@ -1,10 +1,9 @@
 //! The line of what was heard last of something.
-ghost use Rattle.std.specs.Prelude.{◌≡◌, ◌++◌, ◌∷◌, [], codes, map};
+ghost use Rattle.std.specs.Prelude.{◌≡◌, ◌++◌, ◌∷◌, [], codes};
 ghost use Rattle.aprs_io.specs.Outlet.{Puts};
-ghost use Rattle.aprs_listing.specs.Lines.{field_text};
 ghost use Rattle.aprs_listing.specs.Listing as Spec;
 
-use crate::field::Field;
+use crate::field::{Field, place_fields};
 use crate::line::put_text_line;
 use aprs_book::Heard;
 use aprs_io::{Outlet, WriteFault};
@@ -96,7 +95,8 @@ fn put_position<W: Write>(
         Field::Moment(heard.moment),
         Field::Plain(heard.receiver.as_bytes()),
     ];
-    put_text_line(out, b"position", &fields, &place_fields(at), at.comment)
+    let place = place_fields(at.stamp, at.place, at.symbol);
+    put_text_line(out, b"position", &fields, &place, at.comment)
 }
 
 /// Puts the line of an object or an item, as `kind` says: its name, whether it is live or killed,
@@ -121,7 +121,8 @@ fn put_name<'a, W: Write>(
         Field::Plain(heard.receiver.as_bytes()),
         Field::Call(heard.frame.source()),
     ];
-    put_text_line(out, kind, &fields, &place_fields(at), at.comment)
+    let place = place_fields(at.stamp, at.place, at.symbol);
+    put_text_line(out, kind, &fields, &place, at.comment)
 }
 
 /// Puts the line of a status: when and by whom it was heard, its time stamp, and its text after a
@@ -142,17 +143,4 @@ fn put_status<W: Write>(
         Field::Stamp(stamp),
     ];
     put_text_line(out, b"status", &fields, &[], text)
-}
-
-/// The fields that say where something is: time stamp, latitude, longitude, ambiguity and symbol.
-fn place_fields(at: &Whereabouts<'_>) -> [Field<'static>; 5]
-    ensures { map field_text result ≡ Spec.place_fields at.now.stamp at.now.place at.now.symbol }
-{
-    [
-        Field::Stamp(at.stamp),
-        Field::Degrees(at.place.lat()),
-        Field::Degrees(at.place.lon()),
-        Field::Ambiguity(at.place),
-        Field::Symbol(at.symbol),
-    ]
 }

@@ -15,14 +15,15 @@ ghost use Rattle.aprs_listing.specs.Lines.{field_text, told_named_line};
 ghost use Rattle.aprs_listing.specs.Listing as Spec;
 ghost use Rattle.aprs_listing.specs.OneLine.{HasOneLineEach};
 
-use crate::field::Field;
-use crate::line::{put_lists_line, put_text_line};
+use crate::field::{Field, place_fields};
+use crate::line::{put_line, put_text_line};
 use crate::listing::id_text;
-use crate::via::{hops_text, via_of};
+use crate::via::via_or_dash;
 use aprs_ax25::{Callsign, Frame};
 use aprs_io::{Counted, Outlet, WriteFault};
 use aprs_log::Moment;
 use aprs_mice::MicE;
+use aprs_monitor::hops_text;
 use aprs_report::{Place, Report, Stamp, Symbol, live_text};
 use aprs_rows::{BookRows, RowView};
 use std::alloc::Allocator;
@@ -68,7 +69,7 @@ fn put_row_history<W: Write>(out: &mut Outlet<'_, W>, row: &RowView<'_>) -> Resu
         row.last(),
         row.receivers(),
         frame.source(),
-        via_of(hops.as_slice()),
+        via_or_dash(hops.as_slice()),
     );
     put_told(out, &told, &frame, Report::read(frame.info()))
 }
@@ -184,7 +185,7 @@ fn put_answer_line<W: Write>(
         (Spec.line_with kind.now
         (map field_text told.now ++ Spec.word addressee.now ∷ id.now ∷ [])) }
 {
-    put_lists_line(out, kind, told, &[Field::Word(addressee), Field::Plain(id)])
+    put_line(out, kind, told, &[Field::Word(addressee), Field::Plain(id)])
 }
 
 /// Puts the line of a frame that has no report: its kind, the fields that are told, and those of
@@ -227,19 +228,6 @@ fn mic_e_fields(says: &MicE<'_>) -> [Field<'static>; 8]
         Field::Degrees(says.place.lon()),
         Field::Ambiguity(says.place),
         Field::Symbol(says.symbol),
-    ]
-}
-
-/// The fields that say where something is: time stamp, latitude, longitude, ambiguity and symbol.
-fn place_fields(stamp: Option<Stamp>, place: Place, symbol: Symbol) -> [Field<'static>; 5]
-    ensures { map field_text result ≡ Spec.place_fields stamp place symbol }
-{
-    [
-        Field::Stamp(stamp),
-        Field::Degrees(place.lat()),
-        Field::Degrees(place.lon()),
-        Field::Ambiguity(place),
-        Field::Symbol(symbol),
     ]
 }
 

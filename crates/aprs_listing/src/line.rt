@@ -1,24 +1,28 @@
 //! The listing's lines on their way out.
-ghost use Rattle.std.specs.Prelude.{[], ◌∷◌, ◌++◌};
+ghost use Rattle.std.specs.Prelude.{◌++◌, codes, map};
 ghost use Rattle.std.specs.List.{flat_map};
 ghost use Rattle.aprs_io.specs.Outlet.{Puts};
-ghost use Rattle.aprs_listing.specs.Lines.{spaced_field};
 ghost use Rattle.aprs_io.specs.Shown.{shown_text};
+ghost use Rattle.aprs_listing.specs.Lines.{field_text, spaced_field};
+ghost use Rattle.aprs_listing.specs.Listing.{after_space, line_with, line_with_text};
 
 use crate::field::{Field, put_field, put_shown};
 use aprs_io::{Outlet, WriteFault};
 use std::io::Write;
 
-/// Puts a line: its kind, each field after a space, and LF. Fails where the output is refused.
+/// Puts a line: its kind, each of `fields` and then of `others` after a space, and LF. Fails where
+/// the output is refused.
 pub fn put_line<W: Write>(
     out: &mut Outlet<'_, W>,
     kind: &[u8],
     fields: &[Field<'_>],
+    others: &[Field<'_>],
 ) -> Result<(), WriteFault>
-    ensures { Puts W.contents result out.old out.new
-        (kind.now ++ (flat_map spaced_field fields.now ++ 10 ∷ [])) }
+    ensures { Puts W.contents result out.old out.new (line_with kind.now
+        (map field_text fields.now ++ map field_text others.now)) }
 {
-    put_lists_line(out, kind, fields, &[])
+    put_start(out, kind, fields, others)?;
+    out.put(b"\n")
 }
 
 /// Puts a line: its kind, each of `fields` and then of `others` after a space, a colon, the text
@@ -30,32 +34,27 @@ pub fn put_text_line<W: Write>(
     others: &[Field<'_>],
     text: &[u8],
 ) -> Result<(), WriteFault>
-    ensures { Puts W.contents result out.old out.new
-        (kind.now ++ (flat_map spaced_field fields.now ++ (flat_map spaced_field others.now
-        ++ (58 ∷ shown_text text.now ++ 10 ∷ [])))) }
+    ensures { Puts W.contents result out.old out.new (line_with_text kind.now
+        (map field_text fields.now ++ map field_text others.now) text.now) }
 {
-    out.put(kind)?;
-    put_fields(out, fields)?;
-    put_fields(out, others)?;
+    put_start(out, kind, fields, others)?;
     put_text(out, text)
 }
 
-/// Puts a line: its kind, each of `fields` and then of `others` after a space, and LF. Fails where
-/// the output is refused.
-pub fn put_lists_line<W: Write>(
+/// Puts the start of a line: its kind, and each of `fields` and then of `others` after a space.
+/// Fails where the output is refused.
+fn put_start<W: Write>(
     out: &mut Outlet<'_, W>,
     kind: &[u8],
     fields: &[Field<'_>],
     others: &[Field<'_>],
 ) -> Result<(), WriteFault>
-    ensures { Puts W.contents result out.old out.new
-        (kind.now ++ (flat_map spaced_field fields.now ++ (flat_map spaced_field others.now
-        ++ 10 ∷ []))) }
+    ensures { Puts W.contents result out.old out.new (kind.now
+        ++ flat_map after_space (map field_text fields.now ++ map field_text others.now)) }
 {
     out.put(kind)?;
     put_fields(out, fields)?;
-    put_fields(out, others)?;
-    out.put(b"\n")
+    put_fields(out, others)
 }
 
 /// Puts each field after a space. Fails where the output is refused.
@@ -78,7 +77,8 @@ fn put_spaced<W: Write>(out: &mut Outlet<'_, W>, field: &Field<'_>) -> Result<()
 
 /// Puts a colon, the text as it is shown, and LF. Fails where the output is refused.
 fn put_text<W: Write>(out: &mut Outlet<'_, W>, text: &[u8]) -> Result<(), WriteFault>
-    ensures { Puts W.contents result out.old out.new (58 ∷ shown_text text.now ++ 10 ∷ []) }
+    ensures { Puts W.contents result out.old out.new
+        (codes ":" ++ shown_text text.now ++ codes "\n") }
 {
     out.put(b":")?;
     put_shown(out, text)?;

@@ -1,6 +1,7 @@
 //! The listing of a book: its stations, objects, items and messages.
 ghost use Rattle.std.specs.Prelude.{◌≡◌, ℕ, List};
 ghost use Rattle.std.specs.List.{flat_map};
+ghost use Rattle.std.specs.Option.{option_map};
 ghost use Rattle.aprs_io.specs.Device.{Sends};
 ghost use Rattle.aprs_io.specs.Outlet.{Puts};
 ghost use Rattle.aprs_listing.specs.Listing as Spec;
@@ -9,7 +10,7 @@ use crate::field::Field;
 use crate::heard_line::put_heard;
 use crate::line::{put_line, put_text_line};
 use aprs_book::{
-    Heard, HeardRoom, Memory, MessageRow, MessageState, NamedWalk, Station, StationWalk, Summary,
+    Heard, HeardRoom, MessageRow, MessageWalk, NamedWalk, Station, StationWalk, Summary,
 };
 use aprs_io::{Counted, Outlet, WriteFault};
 use std::alloc::Allocator;
@@ -77,14 +78,14 @@ fn put_all_named<W: Write, A: Allocator + Copy>(
 }
 
 /// Puts the lines of the messages, in their order. Fails where the output is refused.
-fn put_messages<W: Write>(
+fn put_messages<W: Write, A: Allocator + Copy>(
     out: &mut Outlet<'_, W>,
-    messages: &[MessageRow<'_>],
+    messages: MessageWalk<'_, '_, A>,
 ) -> Result<(), WriteFault>
-    ensures { Puts W.contents result out.old out.new (flat_map Spec.message_line messages.now) }
+    ensures { Puts W.contents result out.old out.new (flat_map Spec.message_line messages.entry) }
 {
     for message in messages {
-        put_message(out, message)?;
+        put_message(out, &message)?;
     }
     Ok(())
 }
@@ -98,7 +99,7 @@ fn put_station<W: Write>(out: &mut Outlet<'_, W>, station: &Station<'_>) -> Resu
         Field::Call(station.call.copy()),
         Field::Count(station.transmissions),
     ];
-    put_line(out, b"station", &fields)?;
+    put_line(out, b"station", &fields, &[])?;
     put_known(out, &station.position)?;
     put_known(out, &station.status)
 }
@@ -135,7 +136,7 @@ fn put_message<W: Write>(
 
 /// The id, or `-` without one.
 pub fn id_text<'a>(id: Option<&'a [u8]>) -> &'a [u8]
-    ensures { result.now ≡ Spec.id_text id.entry }
+    ensures { result.now ≡ Spec.id_word (option_map (λ id. id.now) id.entry) }
 {
     match id {
         Some(id) => id,

@@ -5,6 +5,7 @@ mod laws;
 mod line;
 mod messages;
 mod stations;
+mod table;
 mod things;
 
 pub use laws::listed_lines_have_all_fields;

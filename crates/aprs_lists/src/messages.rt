@@ -8,7 +8,8 @@ ghost use Rattle.aprs_table.specs.Cells.{cell_text};
 ghost use Rattle.aprs_lists.specs.Messages as Spec;
 
 use crate::line::put_line;
-use aprs_book::{MessageRow, ReplyAck, Summary};
+use crate::table::{Lines, write_table};
+use aprs_book::{MessageRow, MessageWalk, ReplyAck, Summary};
 use aprs_io::{Counted, Outlet, WriteFault};
 use aprs_table::Cell;
 use std::alloc::Allocator;
@@ -29,35 +30,19 @@ pub fn write_messages<W: Write, A: Allocator + Copy>(
     ensures { (text : List ℕ) × Spec.IsMessagesTable summary.now text
         × Sends W.contents result w.old w.new text }
 {
-    let mut out = Outlet::new(w);
-    put_messages(&mut out, summary.messages())?;
-    out.flush()
+    write_table(w, COLUMNS, summary.messages())
 }
 
-/// Puts the names of the columns, and the lines of the messages, in their order. Fails where the
-/// output is refused.
-fn put_messages<W: Write>(
-    out: &mut Outlet<'_, W>,
-    messages: &[MessageRow<'_>],
-) -> Result<(), WriteFault>
-    ensures { Puts W.contents result out.old out.new (Spec.messages_table messages.now) }
-{
-    out.put(COLUMNS)?;
-    put_message_lines(out, messages)
-}
+impl<'s, 't, A: Allocator + Copy> Lines for MessageWalk<'s, 't, A> {
+    ghost lines = { flat_map Spec.message_table_line };
 
-/// Puts the lines of the messages, in their order. Fails where the output is refused.
-fn put_message_lines<W: Write>(
-    out: &mut Outlet<'_, W>,
-    messages: &[MessageRow<'_>],
-) -> Result<(), WriteFault>
-    ensures { Puts W.contents result out.old out.new
-        (flat_map Spec.message_table_line messages.now) }
-{
-    for message in messages {
-        put_message(out, message)?;
+    /// Puts the lines of the messages, in their order.
+    fn put_lines<W: Write>(self, out: &mut Outlet<'_, W>) -> Result<(), WriteFault> {
+        for message in self {
+            put_message(out, &message)?;
+        }
+        Ok(())
     }
-    Ok(())
 }
 
 /// Puts the line of a message. Fails where the output is refused.

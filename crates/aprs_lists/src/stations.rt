@@ -7,6 +7,7 @@ ghost use Rattle.aprs_table.specs.Cells.{cell_text};
 ghost use Rattle.aprs_lists.specs.Stations as Spec;
 
 use crate::line::put_line;
+use crate::table::{Lines, write_table};
 use aprs_book::{Heard, HeardRoom, Station, StationWalk, Summary};
 use aprs_io::{Counted, Outlet, WriteFault};
 use aprs_report::Report;
@@ -16,8 +17,9 @@ use std::alloc::Allocator;
 use std::io::Write;
 
 /// The names of the columns.
-const COLUMNS: &[u8] =
-    b"source\ttransmissions\tlast\treceiver\tstamp\tlatitude\tlongitude\tambiguity\tcompressed\tsymbol\ttext\tstatus_last\tstatus_receiver\tstatus_stamp\tstatus_text\n";
+const COLUMNS: &[u8] = b"\
+    source\ttransmissions\tlast\treceiver\tstamp\tlatitude\tlongitude\tambiguity\tcompressed\t\
+    symbol\ttext\tstatus_last\tstatus_receiver\tstatus_stamp\tstatus_text\n";
 
 /// Writes the table of the stations of a book, from its summary: the names of the columns, and
 /// exactly one line for each station, ascending by callsign, with its last known position and
@@ -29,36 +31,20 @@ pub fn write_stations<W: Write, A: Allocator + Copy>(
     ensures { (text : List ℕ) × Spec.IsStationsTable summary.now text
         × Sends W.contents result w.old w.new text }
 {
-    let mut out = Outlet::new(w);
-    put_stations(&mut out, summary.stations())?;
-    out.flush()
+    write_table(w, COLUMNS, summary.stations())
 }
 
-/// Puts the names of the columns, and the lines of the stations, in their order. Fails where the
-/// output is refused.
-fn put_stations<W: Write, A: Allocator + Copy>(
-    out: &mut Outlet<'_, W>,
-    stations: StationWalk<'_, '_, A>,
-) -> Result<(), WriteFault>
-    ensures { Puts W.contents result out.old out.new (Spec.stations_table stations.entry) }
-{
-    out.put(COLUMNS)?;
-    put_station_lines(out, stations)
-}
+impl<'s, 't, A: Allocator + Copy> Lines for StationWalk<'s, 't, A> {
+    ghost lines = { flat_map Spec.station_table_line };
 
-/// Puts the lines of the stations, in their order. Fails where the output is refused.
-fn put_station_lines<W: Write, A: Allocator + Copy>(
-    out: &mut Outlet<'_, W>,
-    mut stations: StationWalk<'_, '_, A>,
-) -> Result<(), WriteFault>
-    ensures { Puts W.contents result out.old out.new
-        (flat_map Spec.station_table_line stations.entry) }
-{
-    let mut room = HeardRoom::new();
-    while let Some(station) = stations.next(&mut room) {
-        put_station(out, &station)?;
+    /// Puts the lines of the stations, in their order.
+    fn put_lines<W: Write>(mut self, out: &mut Outlet<'_, W>) -> Result<(), WriteFault> {
+        let mut room = HeardRoom::new();
+        while let Some(station) = self.next(&mut room) {
+            put_station(out, &station)?;
+        }
+        Ok(())
     }
-    Ok(())
 }
 
 /// Puts the line of a station. Fails where the output is refused.

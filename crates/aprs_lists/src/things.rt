@@ -8,6 +8,7 @@ ghost use Rattle.aprs_lists.specs.Lines.{tabbed_line};
 ghost use Rattle.aprs_lists.specs.Things as Spec;
 
 use crate::line::put_line;
+use crate::table::{Lines, write_table};
 use aprs_book::{Heard, HeardRoom, NamedWalk, Summary};
 use aprs_io::{Counted, Outlet, WriteFault};
 use aprs_report::{Place, Report, Stamp, Symbol, live_text};
@@ -16,8 +17,9 @@ use std::alloc::Allocator;
 use std::io::Write;
 
 /// The names of the columns.
-const COLUMNS: &[u8] =
-    b"kind\tname\tstate\tlast\treceiver\tsource\tstamp\tlatitude\tlongitude\tambiguity\tcompressed\tsymbol\ttext\n";
+const COLUMNS: &[u8] = b"\
+    kind\tname\tstate\tlast\treceiver\tsource\tstamp\tlatitude\tlongitude\tambiguity\t\
+    compressed\tsymbol\ttext\n";
 
 /// Writes the table of the objects and items of a book, from its summary: the names of the columns,
 /// and exactly one line for each object, ascending by name, and then for each item, ascending by
@@ -29,37 +31,20 @@ pub fn write_things<W: Write, A: Allocator + Copy>(
     ensures { (text : List ℕ) × Spec.IsThingsTable summary.now text
         × Sends W.contents result w.old w.new text }
 {
-    let mut out = Outlet::new(w);
-    put_things(&mut out, summary.objects())?;
-    out.flush()
+    write_table(w, COLUMNS, summary.objects())
 }
 
-/// Puts the names of the columns, and the lines of the objects and items, in their order. Fails
-/// where the output is refused.
-fn put_things<W: Write, A: Allocator + Copy>(
-    out: &mut Outlet<'_, W>,
-    things: NamedWalk<'_, '_, A>,
-) -> Result<(), WriteFault>
-    ensures { Puts W.contents result out.old out.new
-        (tabbed_line Spec.thing_columns ++ flat_map Spec.report_table_line things.entry) }
-{
-    out.put(COLUMNS)?;
-    put_thing_lines(out, things)
-}
+impl<'s, 't, A: Allocator + Copy> Lines for NamedWalk<'s, 't, A> {
+    ghost lines = { flat_map Spec.report_table_line };
 
-/// Puts the lines of the objects and items, in their order. Fails where the output is refused.
-fn put_thing_lines<W: Write, A: Allocator + Copy>(
-    out: &mut Outlet<'_, W>,
-    mut things: NamedWalk<'_, '_, A>,
-) -> Result<(), WriteFault>
-    ensures { Puts W.contents result out.old out.new
-        (flat_map Spec.report_table_line things.entry) }
-{
-    let mut room = HeardRoom::new();
-    while let Some(named) = things.next(&mut room) {
-        put_thing(out, &named.heard)?;
+    /// Puts the lines of the objects and items, in their order.
+    fn put_lines<W: Write>(mut self, out: &mut Outlet<'_, W>) -> Result<(), WriteFault> {
+        let mut room = HeardRoom::new();
+        while let Some(named) = self.next(&mut room) {
+            put_thing(out, &named.heard)?;
+        }
+        Ok(())
     }
-    Ok(())
 }
 
 /// Puts the line of what was heard of an object or an item, and nothing where that is another

@@ -60,3 +60,10 @@ pub record StopsAtPath {Z : Type 0} (old new : Option (List Asked)) (paths : Lis
   pub is_there : slice_get paths at ≡ Some path
   pub asked : AsksFor old new (opened (take at paths) ++ (string_bytes path, answer) ∷ [])
   pub says : ComplainsOf path answer complaint
+
+-- Without a path memory was refused, and nothing was asked for. Otherwise a path is the last that
+-- the opener was asked for.
+abbrev pub StopsAtInput : {Z : Type 0} → Option (List Asked) → Option (List Asked)
+    → List (String Z) → Complaint → Type 0
+StopsAtInput old new [] complaint = AsksFor old new [] × (complaint ≡ why.OutOfMemory)
+StopsAtInput old new (path ∷ paths) complaint = StopsAtPath old new (path ∷ paths) complaint

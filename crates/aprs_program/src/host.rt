@@ -6,7 +6,7 @@ use crate::retried::Retried;
 use crate::work::{Work, run_work};
 use aprs_io::Counted;
 use aprs_laws::Gap;
-use aprs_tool::{JobFault, MAX_BOOK, fold_run};
+use aprs_tool::{FoldJob, JobFault, MAX_BOOK, SourceRange, fold_range_run};
 use std::alloc::Global;
 use std::env;
 use std::fs::File;
@@ -74,8 +74,8 @@ impl<'a> Program<'a> {
     }
 
     /// Does the work over inputs of these paths, or over standard input where there are none, and
-    /// reports a fault to standard error. Where an input can't be opened, none is read. The output is
-    /// flushed, also after a fault. Returns the exit status.
+    /// reports a fault to standard error. Where an input can't be opened, none is read. The output
+    /// is flushed, also after a fault. Returns the exit status.
     pub fn do_work(&mut self, work: Work, paths: &[String]) -> ExitCode {
         let alloc = self.rt.alloc();
         let mut inputs = match open_inputs(self, alloc, paths) {
@@ -95,28 +95,43 @@ impl<'a> Program<'a> {
         }
     }
 
-    /// Folds the book files of these paths, or standard input where there are none, and reports a
-    /// fault to standard error. Where a file can't be opened, none is read and nothing is written.
-    /// The output has no buffer of its own, so that its header is there as soon as the fold sends
-    /// it. Where the books are only checked, the same is done and nothing is written. Returns the
-    /// exit status.
-    pub fn do_fold(&mut self, gap: Gap, paths: &[String], is_check: bool) -> ExitCode {
+    /// Folds the book files of a job, or standard input where it has none, and reports a fault to
+    /// standard error. Where a file can't be opened, none is read and nothing is written. The
+    /// output has no buffer of its own, so that its header is there as soon as the fold sends it.
+    /// Where the books are only checked, the same is done and nothing is written. Returns the exit
+    /// status.
+    pub fn do_fold(&mut self, job: FoldJob) -> ExitCode {
+        let FoldJob {
+            gap,
+            from,
+            until,
+            inputs,
+            is_check,
+        } = job;
+        let range = SourceRange { from, until };
         if is_check {
-            self.fold_into(gap, paths, io::sink())
+            self.fold_into(gap, &range, inputs.as_slice(), io::sink())
         } else {
-            self.fold_into(gap, paths, Retried::new(self.rt.stdout()))
+            let output = Retried::new(self.rt.stdout());
+            self.fold_into(gap, &range, inputs.as_slice(), output)
         }
     }
 
-    /// Folds the book files of these paths into this output.
-    fn fold_into<W: Write + Drop>(&mut self, gap: Gap, paths: &[String], output: W) -> ExitCode {
+    /// Folds the book files of these paths into this output, of which the range's rows are written.
+    fn fold_into<W: Write + Drop>(
+        &mut self,
+        gap: Gap,
+        range: &SourceRange,
+        paths: &[String],
+        output: W,
+    ) -> ExitCode {
         let alloc = self.rt.alloc();
         let mut inputs = match open_inputs(self, alloc, paths) {
             Ok(inputs) => inputs,
             Err(complaint) => return self.report(complaint),
         };
         let mut w = Counted::new(output);
-        let outcome = fold_run(alloc, MAX_BOOK, gap, inputs.as_mut_slice(), &mut w);
+        let outcome = fold_range_run(alloc, MAX_BOOK, gap, range, inputs.as_mut_slice(), &mut w);
         let flushed = w.into_inner().flush().is_ok();
         match complaint_after(paths, &outcome, flushed) {
             Some(complaint) => self.report(complaint),
@@ -133,8 +148,8 @@ impl<'a> Program<'a> {
     }
 
     /// Prints what is wrong with the program's arguments, or the help or the version that they ask
-    /// for. Returns the exit status: 2 for wrong arguments, 4 where an allocation failed, 0 for help
-    /// and version, and 3 where these can't be printed.
+    /// for. Returns the exit status: 2 for wrong arguments, 4 where an allocation failed, 0 for
+    /// help and version, and 3 where these can't be printed.
     pub fn report_usage(&self, fault: JobFault) -> ExitCode {
         match fault {
             JobFault::Clap(error) => self.print_usage(&error),

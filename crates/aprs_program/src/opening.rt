@@ -1,7 +1,7 @@
 //! Opening the inputs of a run.
 ghost use Rattle.std.specs.Prelude.{◌≡◌, ◌∷◌, ◌≤◌, [], ℕ, IfErr, IfOk, OnOk, List, Option, None, length};
 ghost use Rattle.std.specs.Result.{result_err};
-ghost use Rattle.aprs_program.specs.Opening.{AreAt, Asked, AsksFor, IsKnownAs, StopsAtPath, complaint_at, opened};
+ghost use Rattle.aprs_program.specs.Opening.{AreAt, Asked, AsksFor, IsKnownAs, StopsAtInput, StopsAtPath, complaint_at, opened};
 
 use crate::complaint::Complaint;
 use aprs_io::Counted;
@@ -46,9 +46,9 @@ pub fn open_all<'t, O: Opener, A: Allocator>(
     alloc: A,
     paths: &'t [String],
 ) -> Result<Vec<Counted<O::Input>, A>, Complaint<'t>>
-    // All are opened, in order, and each stands where its path does; or one can't be, or there is no
-    // memory for it, and none after it is asked for. What is complained of is what the opener answered
-    // last.
+    // All are opened, in order, and each stands where its path does; or one can't be, or there is
+    // no memory for it, and none after it is asked for. What is complained of is what the opener
+    // answered last.
     ensures at_paths { IfOk result (λ inputs. AreAt O.path_of inputs.items paths.entry.now) }
     ensures in_order { OnOk result (AsksFor (O.asked opener.old) (O.asked opener.new)
         (opened paths.entry.now)) }
@@ -69,18 +69,22 @@ pub fn open_all<'t, O: Opener, A: Allocator>(
     Ok(inputs)
 }
 
-/// Opens all inputs, in the order of their paths, or takes standard input where there is no path:
-/// so there is at least one input. What is complained of is as `open_all` says.
+/// Opens all inputs, in the order of their paths, or takes standard input alone where there is no
+/// path: so there is at least one input. What is complained of is as `open_all` says, and want of
+/// memory where there is no path.
 pub fn open_inputs<'t, O: Opener, A: Allocator>(
     opener: &mut O,
     alloc: A,
     paths: &'t [String],
 ) -> Result<Vec<Counted<O::Input>, A>, Complaint<'t>>
     ensures some { IfOk result (λ inputs. 1 ≤ length inputs.items) }
+    ensures one { IfOk result (λ inputs. paths.entry.now ≡ [] → length inputs.items ≡ 1) }
     ensures at_paths { IfOk result (λ inputs. (paths.entry.now ≡ [] → ⊥)
         → AreAt O.path_of inputs.items paths.entry.now) }
     ensures in_order { OnOk result (AsksFor (O.asked opener.old) (O.asked opener.new)
         (opened paths.entry.now)) }
+    ensures stops { IfErr result (StopsAtInput (O.asked opener.old) (O.asked opener.new)
+        paths.entry.now) }
 {
     if !paths.is_empty() {
         return open_all(opener, alloc, paths);

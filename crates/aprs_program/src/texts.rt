@@ -5,8 +5,8 @@ ghost use Rattle.aprs_program.specs.declared.complaint.Complaint.TheVariants.{Ou
 use crate::complaint::Complaint;
 use std::alloc::Allocator;
 
-/// The text of each argument, in order, in memory from `alloc`; or `OutOfMemory` where an allocation
-/// failed.
+/// The text of each argument, in order, in memory from `alloc`; or `OutOfMemory` where an
+/// allocation failed.
 pub fn texts_of<A: Allocator>(
     alloc: A,
     arguments: &[String],

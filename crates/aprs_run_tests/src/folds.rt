@@ -4,9 +4,9 @@ use crate::devices::{Failing, Tight};
 use crate::refused_runs::arena;
 use aprs_book::{Book, Gap};
 use aprs_booktext::BookCause;
-use aprs_fixtures::{DIRECT, EMPTY_TEXT, MERGED_TEXT, heard, line_after, text_of};
+use aprs_fixtures::{DIRECT, EMPTY_TEXT, MERGED_TEXT, callsign, heard, line_after, text_of};
 use aprs_kiss::Counted;
-use aprs_tool::{InputFault, MAX_BOOK, RunFault, fold_run, status_of};
+use aprs_tool::{InputFault, MAX_BOOK, RunFault, SourceRange, fold_range_run, fold_run, status_of};
 use linked_list_allocator::LocalHeap;
 use std::alloc::Global;
 use std::test::Fail;
@@ -157,4 +157,37 @@ fn folds_end_at_each_byte_of_a_device(rt: HostRuntime) {
         assert!(rt; is_ended_after(rt.alloc(), good), "{good}");
         assert!(rt; is_written_up_to(rt.alloc(), good), "{good}");
     }
+}
+
+/// Whether of the merged book, whose rows are all of N0CALL-7, this text is written between these
+/// sources.
+fn is_written_within(alloc: Global, range: &SourceRange, text: &[u8]) -> bool {
+    let mut inputs = [Counted::new(MERGED_TEXT), Counted::new(EMPTY_TEXT)];
+    let mut w = Counted::new(Vec::new(alloc));
+    let run = fold_range_run(
+        alloc,
+        MAX_BOOK,
+        Gap::STANDARD,
+        range,
+        inputs.as_mut_slice(),
+        &mut w,
+    );
+    run.is_ok() && w.into_inner().as_slice() == text
+}
+
+/// The range from this source until that one.
+fn between(from: &[u8], until: &[u8]) -> Result<SourceRange, Fail> {
+    Ok(SourceRange {
+        from: Some(callsign(from)?),
+        until: Some(callsign(until)?),
+    })
+}
+
+#[test]
+fn folds_of_ranges_are_whole_books(rt: HostRuntime) -> Result<(), Fail> {
+    let with = between(b"N0CALL-7", b"N0CALL-8")?;
+    let before = between(b"A", b"N0CALL-7")?;
+    assert!(rt; is_written_within(rt.alloc(), &with, MERGED_TEXT));
+    assert!(rt; is_written_within(rt.alloc(), &before, EMPTY_TEXT));
+    Ok(())
 }

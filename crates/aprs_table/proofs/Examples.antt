@@ -7,7 +7,7 @@ use Rattle.aprs_io.specs.Cut.{cut_at}
 use Rattle.aprs_log.specs.Moment.{day_after, moment_text_in}
 use Rattle.aprs_report.specs.Reader.{report_by_form, position_of, stamped_position_of, place_of, plain_of, compressed_of, table_at, base91_of}
 use Rattle.aprs_report.specs.Reader.{angle_of, minutes_of, numeral_of, cut_end, object_of, stamp_at, message_with, addressee_and_part_of, answer_at}
-use Rattle.aprs_report.specs.Reader.{text_and_id_of}
+use Rattle.aprs_report.specs.Reader.{text_and_id_of, utc_at}
 use Rattle.aprs_mice.specs.Reader.{mic_e_or_none, destination_of, position_mark_of, ambiguity_of_spaces, longitude_of_octets, motion_of}
 use Rattle.aprs_details.specs.Altitude.{feet_of, feet_at}
 use Rattle.aprs_details.specs.Compressed.{knots_of, range_of}
@@ -18,6 +18,7 @@ use Rattle.aprs_details.specs.First.{first_in}
 use Rattle.aprs_details.specs.Frequency.{frequency_of, tuned_at, khz_at, word_at, after_extension, mic_e_frequency_of}
 use Rattle.aprs_details.specs.Precision.{precision_in, precision_at}
 use Rattle.aprs_details.specs.CommentTelemetry.{digit_pair, numbers_in, telemetry_at as comment_at}
+use Rattle.aprs_details.specs.Nmea.{fix_of, gga_of, gll_of, rmc_of, place_at, sent_latitude, sent_longitude, sent_angle, sent_minutes, checksum_at}
 use Rattle.aprs_details.specs.ThirdParty.{passed_of}
 use Rattle.aprs_details.specs.Weather.{places_after, field_at, weather_of_comment, weather_of_cst, weather_with, weather_of_fields, weather_of_info, fields_of_info}
 use Rattle.aprs_table.specs.Table.{table_line}
@@ -61,7 +62,7 @@ line kind from place weather telemetry text more = join_with_byte 9
 
 -- what the steps of reading compute with
 abbrev pub line_of : Row → List ℕ
-unfolding moment_text_in day_after digits encode_with cut_at report_by_form position_of stamped_position_of place_of plain_of compressed_of table_at base91_of angle_of minutes_of numeral_of cut_end object_of stamp_at message_with addressee_and_part_of answer_at text_and_id_of mic_e_or_none destination_of position_mark_of ambiguity_of_spaces longitude_of_octets motion_of feet_of feet_at knots_of range_of details_of motion_of_place weather_at altitude_of range_of_place mic_e_altitude_of base91_at pair_of range_at phg_at telemetry_of after_mic passed_of places_after field_at weather_of_comment weather_of_cst weather_with weather_of_fields weather_of_info fields_of_info told_of passed_told_of frequency_of tuned_at khz_at word_at after_extension mic_e_frequency_of precision_in precision_at first_in digit_pair numbers_in comment_at
+unfolding moment_text_in day_after digits encode_with cut_at report_by_form position_of stamped_position_of place_of plain_of compressed_of table_at base91_of angle_of minutes_of numeral_of cut_end object_of stamp_at message_with addressee_and_part_of answer_at text_and_id_of mic_e_or_none destination_of position_mark_of ambiguity_of_spaces longitude_of_octets motion_of feet_of feet_at knots_of range_of details_of motion_of_place weather_at altitude_of range_of_place mic_e_altitude_of base91_at pair_of range_at phg_at telemetry_of after_mic passed_of places_after field_at weather_of_comment weather_of_cst weather_with weather_of_fields weather_of_info fields_of_info told_of passed_told_of frequency_of tuned_at khz_at word_at after_extension mic_e_frequency_of precision_in precision_at first_in digit_pair numbers_in comment_at fix_of gga_of gll_of rmc_of place_at sent_latitude sent_longitude sent_angle sent_minutes checksum_at
 line_of x = table_line x
 
 -- A plain position, whose station takes no messages, with course, speed and altitude.
@@ -178,3 +179,32 @@ pub comments_have_columns :
     ∷ codes "-72.0292000" ∷ [])))
 unfolding line_of
 comments_have_columns = refl
+
+-- The text of a status may begin with a frequency.
+pub statuses_have_a_frequency :
+    line_of (heard_once (to (codes "APRS  ")) (codes ">092345z146.520MHz T100 +060 Net at 8"))
+    ≡ line (codes "status") (codes "N0CALL-7" ∷ codes "APRS" ∷ [] ∷ [] ∷ [])
+    (empty 8 ++ (codes "092345z" ∷ empty 3))
+    (empty 10) (empty 7) ([] ∷ codes "146.520MHz T100 +060 Net at 8" ∷ [])
+    (empty 7 ++ (codes "146520" ∷ codes "T100" ∷ codes "600" ∷ empty 2))
+unfolding line_of utc_at
+statuses_have_a_frequency = refl
+
+-- A sentence of a GPS receiver has a place, and may have a course, a speed and an altitude.
+pub sentences_have_a_place :
+    line_of (heard_once (to (codes "APRS  ")) (codes "$GPRMC,063909,A,3349.4302,N,11700.3721,W,43.022,89.3,291099,13.6,E*52"))
+    ≡ line (codes "raw") (codes "N0CALL-7" ∷ codes "APRS" ∷ [] ∷ [] ∷ [])
+    ([] ∷ [] ∷ [] ∷ codes "33.8238367" ∷ codes "-117.0062017" ∷ (empty 4 ++ (codes "89" ∷ codes "43" ∷ [] ∷ [])))
+    (empty 10) (empty 7)
+    ([] ∷ codes "$GPRMC,063909,A,3349.4302,N,11700.3721,W,43.022,89.3,291099,13.6,E*52" ∷ []) (empty 12)
+unfolding line_of
+sentences_have_a_place = refl
+
+pub altitudes_of_sentences_have_a_column :
+    line_of (heard_once (to (codes "APRS  ")) (codes "$GPGGA,102705,5157.9762,N,00029.3256,W,1,04,2.0,75.7,M,47.6,M,,*62"))
+    ≡ line (codes "raw") (codes "N0CALL-7" ∷ codes "APRS" ∷ [] ∷ [] ∷ [])
+    ([] ∷ [] ∷ [] ∷ codes "51.9662700" ∷ codes "-0.4887600" ∷ (empty 6 ++ (codes "75.7000" ∷ [])))
+    (empty 10) (empty 7)
+    ([] ∷ codes "$GPGGA,102705,5157.9762,N,00029.3256,W,1,04,2.0,75.7,M,47.6,M,,*62" ∷ []) (empty 12)
+unfolding line_of
+altitudes_of_sentences_have_a_column = refl

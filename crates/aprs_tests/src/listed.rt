@@ -13,23 +13,13 @@ fn digits(number: usize) -> [u8; 2] {
     [b'0' + (i / 10) as u8, b'0' + (i % 10) as u8]
 }
 
-/// Whether these are fifty messages with an id of their own, in order.
-fn are_fifty(messages: &[MessageRow<'_>]) -> bool {
-    if messages.len() != 50 {
-        return false;
-    }
-    for i in 0..50usize {
-        let message = &messages[i];
-        if message.id != Some(digits(i).as_slice())
-            || message.text != b"Hi".as_slice()
-            || message.addressee != b"WU2Z".as_slice()
-            || message.state != MessageState::Unanswered
-            || message.first != message.last
-        {
-            return false;
-        }
-    }
-    true
+/// Whether this is the message of this number, which has an id of its own.
+fn is_message(message: &MessageRow<'_>, number: usize) -> bool {
+    message.id == Some(digits(number).as_slice())
+        && message.text == b"Hi".as_slice()
+        && message.addressee == b"WU2Z".as_slice()
+        && message.state == MessageState::Unanswered
+        && message.first == message.last
 }
 
 /// Whether this is the item of this number.
@@ -84,15 +74,15 @@ fn fifty_stored<A: Allocator + Copy>(alloc: A) -> Result<BookStore<A>, Fail> {
 fn book_has_fifty<A: Allocator + Copy>(book: &Book<A>) -> Result<bool, Fail> {
     let messages = book.messages().ok().ok_or("memory")?;
     let named = book.objects().ok().ok_or("memory")?;
-    if named.len() != 50 {
+    if messages.len() != 50 || named.len() != 50 {
         return Ok(false);
     }
     for i in 0..50usize {
-        if !is_item(&named[i], i) {
+        if !is_message(&messages[i], i) || !is_item(&named[i], i) {
             return Ok(false);
         }
     }
-    Ok(are_fifty(messages.as_slice()))
+    Ok(true)
 }
 
 /// Whether the summary tells of the fifty items.
@@ -106,6 +96,18 @@ fn summary_has_items<A: Allocator + Copy>(summary: &Summary<'_, A>) -> bool {
         }
     }
     named.next(&mut room).is_none()
+}
+
+/// Whether the summary tells of the fifty messages.
+fn summary_has_messages<A: Allocator + Copy>(summary: &Summary<'_, A>) -> bool {
+    let mut messages = summary.messages();
+    for i in 0..50usize {
+        match messages.next() {
+            Some(message) if is_message(&message, i) => {}
+            _ => return false,
+        }
+    }
+    messages.next().is_none()
 }
 
 /// Whether the summary is of two stations of fifty transmissions each.
@@ -137,7 +139,7 @@ fn many_rows_of_a_store_are_listed(rt: HostRuntime) -> Result<(), Fail> {
     let store = fifty_stored(alloc)?;
     let mut room = WalkRoom::new(alloc);
     let summary = Summary::of(alloc, &store, &mut room).ok().ok_or("memory")?;
-    assert!(rt; are_fifty(summary.messages()));
+    assert!(rt; summary_has_messages(&summary));
     assert!(rt; summary_has_items(&summary));
     assert!(rt; summary_has_two(&summary));
     Ok(())

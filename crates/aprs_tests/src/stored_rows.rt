@@ -124,6 +124,17 @@ fn named_count<A: Allocator + Copy>(summary: &Summary<'_, A>) -> usize {
     100
 }
 
+/// How many messages the summary tells of, up to a hundred.
+fn message_count<A: Allocator + Copy>(summary: &Summary<'_, A>) -> usize {
+    let mut messages = summary.messages();
+    for count in 0..100usize {
+        if messages.next().is_none() {
+            return count;
+        }
+    }
+    100
+}
+
 /// How many stations, objects and items, and messages the rows of a store tell of.
 fn counts<A: Allocator + Copy>(
     alloc: A,
@@ -131,11 +142,10 @@ fn counts<A: Allocator + Copy>(
 ) -> Result<(usize, usize, usize), Memory> {
     let mut room = WalkRoom::new(alloc);
     let summary = Summary::of(alloc, store, &mut room)?;
-    let messages = summary.messages();
     Ok((
         station_count(&summary),
         named_count(&summary),
-        messages.len(),
+        message_count(&summary),
     ))
 }
 

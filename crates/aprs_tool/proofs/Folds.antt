@@ -1,6 +1,8 @@
 -- What a fold writes is the book of all that its inputs stand for.
-use Rattle.aprs_tool.proofs.Common.{◌≡◌, ◌∙◌, ◌<◌, ℕ, List, [], ◌∷◌, ◌++◌, append_assoc, map, Option, Some, None, Ok, inl, inr, refl, sym, ap, subst, arith, SameMembers, BookOf, Row, millis_of, Counted, Sends, in_either}
-use Rattle.std.specs.Prelude.{IfSome}
+use Rattle.aprs_tool.proofs.Common.{◌≡◌, ◌∙◌, ◌<◌, ℕ, List, Received, [], ◌∷◌, ◌++◌, append_assoc, map, Option, Some, None, Ok, inl, inr, refl, sym, ap, subst, arith, SameMembers, Row, millis_of, Counted, Sends, in_either}
+use Rattle.std.specs.Prelude.{Err, IfSome, OnOk, Result}
+use Rattle.aprs_io.specs.Input.{Gets}
+use Rattle.aprs_io.specs.declared.input.InputEnd.{InputEnd}
 use Rattle.aprs_laws.specs.Gap.{IsGap}
 use Rattle.aprs_laws.specs.Sound.{AreSoundRows, Sound}
 use Rattle.aprs_laws.specs.Together.{book_together}
@@ -8,17 +10,21 @@ use Rattle.aprs_laws.specs.Witnesses.{witnesses, witnesses_of_row}
 use Rattle.aprs_laws.proofs.Soundness.{witnessed}
 use Rattle.aprs_laws.proofs.Together.{together}
 use Rattle.aprs_booktext.specs.BookAnswers.{ReadsBook}
-use Rattle.aprs_booktext.specs.Text.{written_text}
+use Rattle.aprs_booktext.specs.Text.{book_text, written_text}
+use Rattle.aprs_booktext.specs.declared.version.Version.TheVariants.{Three}
 use Rattle.aprs_booktext.proofs.BookRows.{rows_sound}
 use Rattle.aprs_booktext.proofs.Versions.{some_millis}
-use Rattle.aprs_fold.specs.Inputs.{all_of, book_of_all, AreBooks}
-use Rattle.aprs_tool.specs.Fold.{AreBookFiles}
+use Rattle.aprs_fold.specs.Inputs.{all_of, AreAsked, AreBooks}
+use Rattle.aprs_fold.specs.Range.{all_sources, book_of_sources}
+use Rattle.aprs_fold.specs.declared.range.SourceRange.{SourceRange}
+use Rattle.aprs_fold.proofs.Kept.{all_within}
+use Rattle.aprs_tool.specs.Fold.{AreBookFiles, IsTextOfSources}
 use Rattle.aprs_tool.specs.Inputs.{IsBookFileOf}
 use Rattle.aprs_tool.specs.Merge.{IsBookOfAll, IsTextOfBook}
 use Rattle.aprs_tool.specs.Outcome.{IsToldOf, WritesFor}
 use Rattle.aprs_tool.specs.Several.{GiveUnion, GotOf}
 use Rattle.aprs_tool.specs.declared.fault.RunFault.{RunFault}
-use Rattle.aprs_tool.proofs.Merges.{HoldsOfEach, some_each, text_of_book}
+use Rattle.aprs_tool.proofs.Merges.{HoldsOfEach, some_each}
 use Rattle.aprs_tool.proofs.OneMerge.{book_of_union}
 use Rattle.aprs_tool.proofs.Outcomes.{text_went}
 
@@ -130,18 +136,20 @@ module _ {R : Type 0} (remaining : R → Option (List ℕ)) (limit gap : ℕ) wh
       )
 
   -- what was written
-  module _ {W : Type 0} (contents : W → Option (List ℕ)) (range : IsGap gap) where
+  module _ {W : Type 0} (contents : W → Option (List ℕ)) (range : SourceRange)
+      (is_gap : IsGap gap) where
     pub fold_writes : (first now : List (Counted R)) (rows : List (List Row)) (old new : Counted W)
         → AreBooks remaining limit gap first now rows
-        → Sends {E = RunFault} contents (Ok tt) old new (written_text (book_of_all gap rows))
+        → Sends {E = RunFault} contents (Ok tt) old new (written_text (book_of_sources range gap rows))
         → (inputs : List (List ℕ))
         → map (λ (r : Counted R). remaining r.device) first ≡ some_each inputs
         → HoldsOfEach limit inputs (map (λ (r : Counted R). remaining r.device) now)
-        (λ gots. AreBookFiles gap gots × WritesFor (IsToldOf (GiveUnion gap gots) (IsTextOfBook gap))
-        contents (Ok tt) old new)
+        (λ gots. AreBookFiles gap gots
+        × WritesFor (IsToldOf (GiveUnion gap gots) (IsTextOfSources range gap)) contents (Ok tt)
+        old new)
     fold_writes first now rows old new books sent inputs e =
         let files = files_of first now rows inputs e books in
-        let pos : 0 < millis_of gap = omega (arith, range.0) in
+        let pos : 0 < millis_of gap = omega (arith, is_gap.0) in
         let book : IsBookOfAll gap (book_together (millis_of gap) (all_of rows)) files.0 = (
           witnesses (all_of rows),
           files.3.union,
@@ -152,12 +160,83 @@ module _ {R : Type 0} (remaining : R → Option (List ℕ)) (limit gap : ℕ) wh
           files.2,
           (
             files.3.files,
-            text_went (IsToldOf (GiveUnion gap files.0) (IsTextOfBook gap)) contents old
-                new (written_text (book_of_all gap rows)) (
+            text_went (IsToldOf (GiveUnion gap files.0) (IsTextOfSources range gap)) contents old
+                new (written_text (book_of_sources range gap rows)) (
                   (book.0, book.1),
-                  λ S gives. text_of_book gap (book_of_all gap rows) refl S
-                      (book_of_union gap limit files.0 S (book_together (millis_of gap) (all_of rows)) gives
-                      book),
+                  λ S gives. record {
+                    rows = book_together (millis_of gap) (all_of rows);
+                    book = book_of_union gap limit files.0 S
+                        (book_together (millis_of gap) (all_of rows)) gives book;
+                    text_is = refl;
+                  },
                 ) sent,
           ),
         )
+
+-- the text of the rows of all sources is that of the book
+text_of_all : (gap : ℕ) (S : List Received) (text : List ℕ)
+    → IsTextOfSources all_sources gap S text → IsTextOfBook gap S text
+text_of_all gap S text h = record {
+  rows = h.rows;
+  book = h.book;
+  text_is = h.text_is ∙ ap (book_text (Three gap)) (all_within h.rows);
+}
+
+pub fold_of_all : {W : Type 0} (limit gap : ℕ) (contents : W → Option (List ℕ))
+    (old new : Counted W) (gots : List (GotOf limit)) (result : Result (Unit {0}) RunFault)
+    (range : SourceRange) → range ≡ all_sources
+    → OnOk result (AreBookFiles gap gots
+    × WritesFor (IsToldOf (GiveUnion gap gots) (IsTextOfSources range gap)) contents result old new)
+    → OnOk result (AreBookFiles gap gots
+    × WritesFor (IsToldOf (GiveUnion gap gots) (IsTextOfBook gap)) contents result old new)
+fold_of_all limit gap contents old new gots (Err fault) range is h = tt
+fold_of_all limit gap contents old new gots (Ok u) range is h = (
+  h.0,
+  (
+    h.1.0,
+    (
+      h.1.1.0,
+      λ S gives. text_of_all gap S h.1.0
+          (subst (λ (r : SourceRange). IsTextOfSources r gap S h.1.0) is (h.1.1.1 S gives)),
+    ),
+    h.1.2,
+    h.1.3,
+  ),
+)
+
+-- ---- what was got where it ended early
+
+module _ {R : Type 0} (remaining : R → Option (List ℕ)) (limit : ℕ) where
+  got_of : (known : Option (List ℕ)) (input : List ℕ) (after : Option (List ℕ))
+      → known ≡ Some input → IfSome known (λ input. (text : List ℕ) × (ending : InputEnd)
+      × Gets limit input after text ending)
+      → (g : GotOf limit) × (input ≡ g.text ++ g.rest) × (after ≡ g.after)
+  got_of None input after e h = absurd (cc)
+  got_of (Some own) input after e h =
+      let same : own ≡ input = cc in (
+        record { text = h.0; ending = h.1; rest = h.2.rest; after = after; ends = h.2.ends },
+        sym same ∙ h.2.whole,
+        refl,
+      )
+
+  pub gots_of : (first now : List (Counted R)) (inputs : List (List ℕ))
+      → map (λ (r : Counted R). remaining r.device) first ≡ some_each inputs
+      → AreAsked remaining limit first now
+      → HoldsOfEach limit inputs (map (λ (r : Counted R). remaining r.device) now)
+      (λ gots. Unit {0})
+  gots_of [] [] [] e h = ([], refl, refl, tt)
+  gots_of [] [] (input ∷ inputs) e h = absurd (cc)
+  gots_of [] (n ∷ now) inputs e h = absurd h
+  gots_of (f ∷ first) [] inputs e h = absurd h
+  gots_of (f ∷ first) (n ∷ now) [] e h = absurd (cc)
+  gots_of (f ∷ first) (n ∷ now) (input ∷ inputs) e h =
+      let head : remaining f.device ≡ Some input = cc in
+      let tail : map (λ (r : Counted R). remaining r.device) first ≡ some_each inputs = cc in
+      let one = got_of (remaining f.device) input (remaining n.device) head h.0.gets in
+      let more = gots_of first now inputs tail h.1 in (
+        one.0 ∷ more.0,
+        ap (λ l. l ∷ inputs) one.1 ∙ ap (λ l. (one.0.text ++ one.0.rest) ∷ l) more.1,
+        ap (λ l. l ∷ map (λ (r : Counted R). remaining r.device) now) one.2
+            ∙ ap (λ l. one.0.after ∷ l) more.2,
+        tt,
+      )

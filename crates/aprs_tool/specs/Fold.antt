@@ -2,10 +2,17 @@
 use Rattle.std.specs.Prelude.{◌≡◌, ℕ, List, [], ◌∷◌, Option}
 use Rattle.aprs_io.specs.declared.device.Counted.{Counted}
 use Rattle.aprs_log.specs.Reception.{Received}
+use Rattle.aprs_laws.specs.Book.{BookOf}
+use Rattle.aprs_laws.specs.Gap.{millis_of}
+use Rattle.aprs_laws.specs.Row.{Row}
+use Rattle.aprs_booktext.specs.Text.{book_text}
+use Rattle.aprs_booktext.specs.declared.version.Version.TheVariants.{Three}
 use Rattle.aprs_fold.specs.Fold.{IsLeft}
 use Rattle.aprs_fold.specs.Inputs.{IsRefused}
+use Rattle.aprs_fold.specs.Range.{rows_of_sources}
 use Rattle.aprs_fold.specs.declared.fault.FoldFault.{FoldFault}
 use Rattle.aprs_fold.specs.declared.fault.FoldFault.TheVariants as fold
+use Rattle.aprs_fold.specs.declared.range.SourceRange.{SourceRange}
 use Rattle.aprs_tool.specs.Inputs.{IsBookFileOf}
 use Rattle.aprs_tool.specs.Several.{GotOf}
 use Rattle.aprs_tool.specs.declared.fault.InputFault.TheVariants as input
@@ -18,6 +25,14 @@ AreBookFiles gap [] = Unit {0}
 AreBookFiles gap (g ∷ gots) =
     ((S : List Received) × IsBookFileOf gap S g.text g.ending) × AreBookFiles gap gots
 
+-- The text is that of those rows of the book of S under this gap, in seconds, whose sources are
+-- within the range, in version 3.
+pub record IsTextOfSources (range : SourceRange) (gap : ℕ) (S : List Received) (text : List ℕ)
+    : Type 0 where
+  pub rows : List Row
+  pub book : BookOf (millis_of gap) S rows
+  pub text_is : text ≡ book_text (Three gap) (rows_of_sources range rows)
+
 -- The run's fault for that of a fold.
 abbrev pub run_fault_of : FoldFault → RunFault
 run_fault_of (fold.Input index fault) = run.Input index (input.Book fault)
@@ -26,11 +41,11 @@ run_fault_of fold.Memory = run.Memory
 run_fault_of fold.Write = run.Write
 
 -- The run's fault is that of a fold: the input is refused for it, and a part of a book's text was
--- written, of the book of rows that were taken of the inputs.
+-- written, of the range's rows of the book of rows that were taken of the inputs.
 pub record EndsEarly {R W : Type 0} (remaining : R → Option (List ℕ))
-    (contents : W → Option (List ℕ)) (limit gap : ℕ) (answer : RunFault)
+    (contents : W → Option (List ℕ)) (limit gap : ℕ) (range : SourceRange) (answer : RunFault)
     (old new : List (Counted R)) (first last : Counted W) : Type 0 where
   pub fault : FoldFault
   pub is : answer ≡ run_fault_of fault
   pub refused : IsRefused remaining limit gap fault old new
-  pub left : IsLeft remaining contents limit gap fault old new first last
+  pub left : IsLeft remaining contents limit gap range fault old new first last

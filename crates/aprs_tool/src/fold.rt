@@ -2,6 +2,7 @@
 ghost use Rattle.std.specs.Prelude.{◌≡◌, ◌≤◌, IfErr, OnOk};
 ghost use Rattle.aprs_booktext.specs.RowReader.{most_stream};
 ghost use Rattle.aprs_fold.specs.Inputs.{AreAsked};
+ghost use Rattle.aprs_fold.specs.Range.{all_sources};
 ghost use Rattle.aprs_tool.specs.Fold as Spec;
 ghost use Rattle.aprs_tool.specs.Merge.{IsTextOfBook};
 ghost use Rattle.aprs_tool.specs.Outcome.{IsToldOf, WritesFor};
@@ -9,7 +10,7 @@ ghost use Rattle.aprs_tool.specs.Several.{GiveUnion, OfEach};
 
 use crate::fault::{InputFault, RunFault};
 use aprs_book::Gap;
-use aprs_fold::{FoldFault, fold_books};
+use aprs_fold::{FoldFault, SourceRange, fold_books};
 use aprs_io::Counted;
 use std::alloc::Allocator;
 use std::io::{Read, Write};
@@ -30,21 +31,51 @@ pub fn fold_run<R: Read, W: Write, A: Allocator + Copy>(
 ) -> Result<(), RunFault>
     requires { limit ≤ most_stream }
 
-    // At `Ok` each input is a book file; of any union of the sets that they stand for, what was
-    // written is the book's text.
-    ensures writes { OnOk result (OfEach limit R.remaining inputs.old inputs.new (λ gots.
-        Spec.AreBookFiles gap gots
+    // However it ends, so much was got of each input. At `Ok` each is a book file; of any union of
+    // the sets that they stand for, what was written is the book's text.
+    ensures writes { OfEach limit R.remaining inputs.old inputs.new (λ gots.
+        OnOk result (Spec.AreBookFiles gap gots
         × WritesFor (IsToldOf (GiveUnion gap gots) (IsTextOfBook gap)) W.contents result
         w.old w.new)) }
 
     // At a fault that input is refused for it, and what was written is a part of a book's text.
-    ensures refuses { IfErr result (λ fault.
-        Spec.EndsEarly R.remaining W.contents limit gap fault inputs.old inputs.new w.old w.new) }
+    ensures refuses { IfErr result (λ fault. Spec.EndsEarly R.remaining W.contents limit gap
+        all_sources fault inputs.old inputs.new w.old w.new) }
 
     // No input is asked after its end or a fault.
-    ensures asks { AreAsked inputs.old inputs.new }
+    ensures asks { AreAsked R.remaining limit inputs.old inputs.new }
 {
-    match fold_books(alloc, limit, gap, inputs, w) {
+    fold_range_run(alloc, limit, gap, &SourceRange::all(), inputs, w)
+}
+
+/// Writes of the book that `fold_run` writes the rows whose sources are within the range: a whole
+/// book's text, with their number at its end. The inputs are read to their ends, and so refused, as
+/// there. Requires that `limit` is at most 9,223,372,036,854,775,807.
+pub fn fold_range_run<R: Read, W: Write, A: Allocator + Copy>(
+    alloc: A,
+    limit: u64,
+    gap: Gap,
+    range: &SourceRange,
+    inputs: &mut [Counted<R>],
+    w: &mut Counted<W>,
+) -> Result<(), RunFault>
+    requires { limit ≤ most_stream }
+
+    // However it ends, so much was got of each input. At `Ok` each is a book file; of any union of
+    // the sets that they stand for, what was written is the text of the range's rows of its book.
+    ensures writes { OfEach limit R.remaining inputs.old inputs.new (λ gots.
+        OnOk result (Spec.AreBookFiles gap gots
+        × WritesFor (IsToldOf (GiveUnion gap gots) (Spec.IsTextOfSources range.now gap))
+        W.contents result w.old w.new)) }
+
+    // At a fault that input is refused for it, and what was written is a part of a book's text.
+    ensures refuses { IfErr result (λ fault. Spec.EndsEarly R.remaining W.contents limit gap
+        range.now fault inputs.old inputs.new w.old w.new) }
+
+    // No input is asked after its end or a fault.
+    ensures asks { AreAsked R.remaining limit inputs.old inputs.new }
+{
+    match fold_books(alloc, limit, gap, range, inputs, w) {
         Ok(()) => Ok(()),
         Err(fault) => Err(run_fault_of(fault)),
     }

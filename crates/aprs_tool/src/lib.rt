@@ -23,12 +23,12 @@ pub use aprs_command::{
     fold_job, history_command_is_simple, history_job, job, table_command_is_simple, table_job,
 };
 pub use aprs_convert::Form;
-pub use aprs_fold::MAX_BOOK;
+pub use aprs_fold::{MAX_BOOK, SourceRange};
 pub use aprs_io::{Counted, DeviceFault, WriteFault, send};
 pub use desk::{Desk, read_input};
 pub use example::{book_files_stand_for_their_sets, logs_stand_for_their_receptions};
 pub use fault::{InputFault, RunFault, status_of};
-pub use fold::fold_run;
+pub use fold::{fold_range_run, fold_run};
 pub use history::history_run;
 pub use laws::{
     faultless_inputs_have_no_fault, histories_tell_places, listings_tell_positions,

@@ -35,7 +35,8 @@ pub fn table_run<R: Read, W: Write, A: Allocator + Copy>(
     // At `Ok` and `Write` the inputs stand for sets; of any union of these, what was written is the
     // table, whole at `Ok`, a prefix of it at `Write`.
     ensures writes { OfEach limit R.remaining inputs.old inputs.new (λ gots.
-        WritesFor (IsToldOf (GiveUnion gap gots) (IsTableOf table gap)) W.contents result w.old w.new) }
+        WritesFor (IsToldOf (GiveUnion gap gots) (IsTableOf table gap)) W.contents result
+        w.old w.new) }
 
     // At `Input` that input is the first that isn't taken, for this fault; at `Memory` all inputs
     // stand for sets. At both nothing was written.

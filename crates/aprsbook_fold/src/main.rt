@@ -18,7 +18,7 @@ fn main(rt: HostRuntime) -> ExitCode {
         Err(complaint) => return program.report(complaint),
     };
     match fold_job(rt.alloc(), texts.as_slice()) {
-        Ok(asked) => program.do_fold(asked.gap, asked.inputs.as_slice(), asked.is_check),
+        Ok(asked) => program.do_fold(asked),
         Err(fault) => program.report_usage(fault),
     }
 }

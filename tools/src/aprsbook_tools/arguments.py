@@ -2,7 +2,7 @@
 import argparse
 import re
 
-from aprsbook_tools import moments
+from aprsbook_tools import log_file, moments
 
 
 def whole_number(least: int, most: int) -> "type[int]":
@@ -24,7 +24,7 @@ def moment(text: str) -> int:
 
 def receiver(text: str) -> str:
     """The name of a receiver."""
-    if not re.fullmatch(r"[A-Za-z0-9_-]{1,16}", text):
+    if not re.fullmatch(log_file.RECEIVER, text):
         raise argparse.ArgumentTypeError("not 1 to 16 letters, digits, - and _")
     return text
 

@@ -8,6 +8,14 @@ MOST = 256  # bytes of information
 HOPS = 8  # digipeaters
 
 
+def spelled(text: str) -> Optional[str]:
+    """A callsign that was typed, as it is heard: in capitals and without -0; None of others."""
+    call = text.strip().upper()
+    if not text.isascii() or not CALL.fullmatch(call):
+        return None
+    return call[:-2] if call.endswith("-0") else call
+
+
 def address(call: str, flags: int) -> bytes:
     """The seven octets of a callsign, with the flags of its last."""
     found = CALL.fullmatch(call)

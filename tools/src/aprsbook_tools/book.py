@@ -14,19 +14,14 @@ import tempfile
 import time
 from typing import Any, Callable, Dict, Iterator, List, Optional, Sequence
 
-from aprsbook_tools import building, engines, errors, inputs, jobs, programs, progress, whole
+from aprsbook_tools import (
+    book_file, building, engines, errors, inputs, jobs, programs, progress, whole)
 from aprsbook_tools.building import MOST, Plan
 from aprsbook_tools.engines import Engine
 from aprsbook_tools.errors import Fault
 from aprsbook_tools.inputs import Input
 from aprsbook_tools.pieces import MEGABYTE
 
-try:
-    import fcntl
-except ImportError:  # not on Windows
-    fcntl = None  # type: ignore[assignment]
-
-GAP = 30  # seconds, where nothing says another gap
 READ = 1 << 30  # bytes: no more of an input is read by programs that hold a book in memory
 WORK = ".aprs-net-work"  # with which the name of a folder ends that goes away
 Say = Callable[[str], None]
@@ -47,29 +42,6 @@ class Wish:
     most: int = MOST
     work: str = ""
     noted: bool = True
-
-
-def beside(path: str, ending: str) -> str:
-    """A hidden name beside a file."""
-    folder, name = os.path.split(os.path.realpath(path))
-    return os.path.join(folder, f".{name}.{ending}")
-
-
-@contextlib.contextmanager
-def locked(path: str) -> Iterator[None]:
-    """Waits until no other run makes this book, where the system has locks."""
-    if fcntl is None:
-        yield
-        return
-    try:
-        file = os.open(beside(path, "lock"), os.O_RDWR | os.O_CREAT, 0o666)
-    except OSError as fault:
-        raise Fault(f"{path}: {fault.strerror}", 3) from fault
-    try:
-        fcntl.flock(file, fcntl.LOCK_EX)
-        yield
-    finally:
-        os.close(file)
 
 
 @contextlib.contextmanager
@@ -130,7 +102,7 @@ def sum_of(path: str, size: int) -> int:
 def remembered(path: str) -> Dict[str, Any]:
     """Of what a book was made when it was made last; nothing where it has changed since."""
     try:
-        with open(beside(path, "of"), encoding="utf-8") as file:
+        with open(whole.beside(path, "of"), encoding="utf-8") as file:
             result = json.load(file)
         return result if isinstance(result, dict) and result.pop("book") == stamp_of(path) else {}
     except (OSError, ValueError, KeyError):
@@ -144,7 +116,7 @@ def remember(path: str, made: Dict[str, Any], before: Dict[str, Any]) -> None:
         known = before.get("sums", {}).get(name) if old.get(name) == stamp else None
         sums[name] = known or sum_of(name, stamp[0])
     text = json.dumps({**made, "sums": sums, "book": stamp_of(path)}, sort_keys=True) + "\n"
-    whole.write(beside(path, "of"), text.encode("utf-8", "surrogateescape"))
+    whole.write(whole.beside(path, "of"), text.encode("utf-8", "surrogateescape"))
 
 
 def say_what_is_gone(path: str, before: Dict[str, Any], items: Sequence[Input], say: Say) -> None:
@@ -192,13 +164,13 @@ def usable(items: Sequence[Input], pass_over: Optional[PassOver] = None) -> List
 def make(path: str, items: Sequence[Input], wish: Wish, say: Say) -> bool:
     """A book becomes that of itself and of inputs; whether it changed."""
     whole.check(path)
-    with locked(path):
+    with whole.locked(path):
         return make_locked(path, items, wish, say)
 
 
 def make_locked(path: str, items: Sequence[Input], wish: Wish, say: Say) -> bool:
     old = old_book(path, wish)
-    gap = wish.gap or old or GAP
+    gap = wish.gap or old or book_file.GAP
     if old is not None and gap < old:
         raise Fault(f"{path} has the gap {old}, and can't get the narrower one {gap}: "
                     "make it of the logs, with --anew")
@@ -253,7 +225,7 @@ def widened(path: str, old: int, gap: int, folder: str) -> str:
         return os.path.realpath(path)
     number, into = tempfile.mkstemp(".book", "widened-", folder)
     with open(number, "wb") as file:
-        programs.run("aprsbook", "widen", str(gap), os.path.realpath(path), into=file)
+        programs.write_book(file, "aprsbook", "widen", str(gap), os.path.realpath(path))
     return into
 
 
@@ -263,9 +235,9 @@ def make_parts(path: str, items: Sequence[Input], parts: int, wish: Wish, say: S
     """A new folder gets the book of inputs in parts, each with the rows of some stations."""
     if os.path.lexists(path):
         raise Fault(f"{path} is there: parts are made in a new folder", errors.OUTPUT)
-    if not jobs.has_ranges():
-        raise Fault("parts need an aprsbook-fold that has --from and --until")
-    gap = wish.gap or GAP
+    if not programs.is_there("aprsbook-fold"):
+        raise Fault("parts need aprsbook-fold")
+    gap = wish.gap or book_file.GAP
     items = usable(items)
     with work_folder(path, wish, gap, items) as folder:
         plan = Plan(gap, folder, wish.piece, wish.most)

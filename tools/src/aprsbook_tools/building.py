@@ -5,7 +5,7 @@ import os
 import shutil
 from typing import IO, Callable, Dict, Iterable, List, Sequence, Set, Tuple
 
-from aprsbook_tools import jobs, pieces, table
+from aprsbook_tools import book_file, jobs, pieces, table
 from aprsbook_tools.engines import Engine
 from aprsbook_tools.errors import Fault
 from aprsbook_tools.inputs import Input, no_option
@@ -35,7 +35,7 @@ class Plan:
 
 def is_book(it: Input) -> bool:
     """Whether an input that can be read is a book, by what it begins with or else by its name."""
-    return it.is_book if it.packing else pieces.begins(it.path, pieces.BOOK)
+    return it.is_book if it.packing else pieces.begins(it.path, book_file.BEGIN)
 
 
 def piece_of(items: Iterable[Input], plan: Plan, width: int) -> int:
@@ -180,7 +180,9 @@ def bounds_of(plan: Plan, books: Sequence[str], parts: int) -> List[Tuple[str, s
     total, before = sum(count for _, count in counts), 0
     sources: List[str] = []
     for source, count in counts:
-        if len(sources) < parts - 1 and before * parts >= total * (len(sources) + 1):
+        # a part ends before or after the station in which its end lies, whichever is nearer
+        end = total * (len(sources) + 1) / parts
+        if before and len(sources) < parts - 1 and before + count / 2 >= end:
             sources.append(source)
         before += count
     return list(zip(["", *sources], [*sources, ""]))

@@ -5,9 +5,9 @@ import keyword
 import os
 import signal
 import sys
-from typing import NoReturn, Optional, Sequence
+from typing import IO, NoReturn, Optional, Sequence
 
-from aprsbook_tools import VERSION, commands, errors, typed
+from aprsbook_tools import VERSION, commands, errors, typed, whole
 from aprsbook_tools.errors import Fault, said
 
 
@@ -23,10 +23,20 @@ def end(number: int, _: object) -> NoReturn:
     raise Ended(number)
 
 
+class Parser(argparse.ArgumentParser):
+    """Whose help and version are a Fault where the output takes nothing."""
+
+    def _print_message(self, message: str, file: Optional[IO[str]] = None) -> None:
+        if file is not None and file is sys.stdout:
+            whole.write_out(message.encode())
+        else:
+            super()._print_message(message, file)
+
+
 def make_parser(names: Sequence[str] = commands.NAMES) -> argparse.ArgumentParser:
     """The parser of all subcommands, from which manual page and completions are made too, or of
     some, which is there sooner."""
-    parser = argparse.ArgumentParser(
+    parser = Parser(
         prog="aprs-net", description="Logs, books and reports of APRS nets, around aprsbook.")
     parser.add_argument("--version", action="version", version=f"aprs-net {VERSION}")
     subparsers = parser.add_subparsers(metavar="COMMAND", required=True)
@@ -53,8 +63,8 @@ def run(arguments: Optional[Sequence[str]] = None) -> int:
     """Runs a subcommand; its status."""
     words = typed.words_of(sys.argv) if arguments is None else arguments
     named = [words[0]] if words and words[0] in commands.NAMES else commands.NAMES
-    args = typed.parse(make_parser(named), words)
     try:
+        args = typed.parse(make_parser(named), words)
         status = int(args.run(args))
         if sys.stdout is not None:
             sys.stdout.flush()

@@ -16,8 +16,9 @@ from typing import (
     get_type_hints,
 )
 
-from aprsbook_tools import whole
+from aprsbook_tools import tactical, whole
 from aprsbook_tools.errors import ARGUMENTS, OUTPUT, Fault
+from aprsbook_tools.roster import Roster
 from aprsbook_tools.table import Message, Row, Station, Thing
 
 # the table's name for each kind of the book's table
@@ -118,25 +119,28 @@ def drop(base: sqlite3.Connection, name: str) -> None:
         base.execute(f'drop {kind} "{name}"')
 
 
-def fill(base: sqlite3.Connection, name: str, items: Iterable[Any]) -> None:
-    """Makes one table anew."""
+def fill(base: sqlite3.Connection, name: str, items: Iterable[Any], roster: Roster) -> None:
+    """Makes one table anew, with the columns of names that a roster brings."""
     columns = columns_of(TABLES[name])
+    names = tactical.columns_of(TABLES[name], roster)
     drop(base, name)
-    base.execute(f"create table {name} ({', '.join(f'{it} {of}' for it, of in columns.items())})")
-    places = ", ".join("?" * len(columns))
+    types = [f"{it} {of}" for it, of in columns.items()] + [f"{it} text" for it in names]
+    base.execute(f"create table {name} ({', '.join(types)})")
     base.executemany(
-        f"insert into {name} values ({places})",
-        ([stored(of, getattr(it, of)) for of in columns] for it in items),
+        f"insert into {name} values ({', '.join('?' * len(types))})",
+        ([*(stored(of, getattr(it, of)) for of in columns), *tactical.names_of(it, roster)]
+         for it in items),
     )
 
 
-def write(path: str, tables: Mapping[str, Iterable[Any]], inputs: Sequence[str]) -> None:
+def write(path: str, tables: Mapping[str, Iterable[Any]], inputs: Sequence[str],
+          roster: Roster) -> None:
     """Puts the tables in place of those that are there; all else of the database stays."""
     with writing(path, inputs) as base:
         for name in VIEWS:
             drop(base, name)
         for name, items in tables.items():
-            fill(base, name, items)
+            fill(base, name, items, roster)
         for view in VIEWS.values():
             base.execute(view)
         for index in INDICES:

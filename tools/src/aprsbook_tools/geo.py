@@ -86,7 +86,7 @@ def cut_at_date_line(spots: Sequence[Spot]) -> List[List[Spot]]:
         last = spots[number - 1] if number else spot
         if abs(spot.east - last.east) > 180:
             side = -180.0 if last.east < 0 else 180.0
-            way = spot.east - last.east + (-360 if last.east < 0 else 360)
+            way = eastward(last.east, spot.east)
             share = (side - last.east) / way if way else 0.0
             north = last.north + (spot.north - last.north) * share
             lines[-1].append(Spot(north, side))

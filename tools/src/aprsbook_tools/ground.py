@@ -10,7 +10,7 @@ import sqlite3
 import sys
 from typing import Any, Callable, Dict, Iterator, List, NamedTuple, Optional, Sequence, Tuple
 
-from aprsbook_tools import arguments, coasts, page_files, places, table
+from aprsbook_tools import arguments, coasts, page_files, places, pmtiles, table
 from aprsbook_tools.errors import Fault
 from aprsbook_tools.geo import Spot
 from aprsbook_tools.rings import Box
@@ -41,7 +41,8 @@ def add_options(parser: argparse.ArgumentParser) -> None:
     parser.add_argument(
         "--tiles",
         metavar="FOLDER",
-        help="squares of a web map that the page carries, FOLDER/Z/X/Y.png or a file .mbtiles",
+        help="squares of a web map that the page carries, FOLDER/Z/X/Y.png, or a file .mbtiles or "
+        ".pmtiles",
     )
     parser.add_argument(
         "--most-mb",
@@ -101,6 +102,22 @@ def squares_in_database(
     return read
 
 
+def squares_in_archive(
+    archive: pmtiles.Archive,
+) -> Callable[[int, Box], Iterator[Tuple[Square, bytes]]]:
+    """What reads the squares of a level and a box from PMTiles."""
+
+    def read(z: int, box: Box) -> Iterator[Tuple[Square, bytes]]:
+        columns, rows = columns_and_rows(box, z)
+        for x in columns:
+            for y in rows:
+                data = archive.square(z, x, y)
+                if data is not None:
+                    yield Square(z, x, y), data
+
+    return read
+
+
 def within(
     read: Callable[[int, Box], Iterator[Tuple[Square, bytes]]], levels: Sequence[int], box: Box,
     most: int,
@@ -126,13 +143,21 @@ def within(
 
 
 def tiles_in(path: str, box: Box, most: int) -> Dict[str, str]:
-    """The squares of a folder or of an MBTiles file in a box."""
+    """The squares of a folder, of PMTiles or of MBTiles in a box."""
     if os.path.isdir(path):
         names = sorted(int(it) for it in os.listdir(path) if NUMBER.fullmatch(it))
         levels = [it for it in names if it <= MOST_LEVEL]
         return within(squares_in_folder(path), levels, box, most)
     if not os.path.exists(path):
         raise Fault(f"{path}: No such file or directory")
+    if is_archive(path):
+        try:
+            with open(path, "rb") as file:
+                archive = pmtiles.Archive(file)
+                return within(squares_in_archive(archive),
+                              range(archive.least, min(MOST_LEVEL, archive.most) + 1), box, most)
+        except ValueError as fault:
+            raise Fault(f"{path}: {fault}") from fault
     try:
         with contextlib.closing(
                 sqlite3.connect(f"file:{quoted(path)}?mode=ro", uri=True)) as database:
@@ -140,7 +165,13 @@ def tiles_in(path: str, box: Box, most: int) -> Dict[str, str]:
             levels = [it for (it,) in found if 0 <= it <= MOST_LEVEL]
             return within(squares_in_database(database), levels, box, most)
     except sqlite3.Error as fault:
-        raise Fault(f"{path}: no folder Z/X/Y.png, and no MBTiles: {fault}") from fault
+        raise Fault(f"{path}: no folder Z/X/Y.png, no PMTiles and no MBTiles: {fault}") from fault
+
+
+def is_archive(path: str) -> bool:
+    """Whether a file begins as PMTiles."""
+    with open(path, "rb") as file:
+        return file.read(len(pmtiles.BEGIN)) == pmtiles.BEGIN
 
 
 def quoted(path: str) -> str:

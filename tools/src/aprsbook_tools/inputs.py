@@ -1,7 +1,9 @@
 """Logs and books as files: those below folders, their days, and compressed ones unpacked."""
 import bz2
+import contextlib
 import dataclasses
 import gzip
+import io
 import lzma
 import os
 import re
@@ -9,7 +11,7 @@ import shutil
 import zlib
 from typing import IO, Callable, Dict, Iterable, Iterator, List, Optional, Set, cast
 
-from aprsbook_tools import errors, log_file
+from aprsbook_tools import book_file, errors, log_file
 from aprsbook_tools.errors import Fault, said
 
 PACKED: Dict[str, Callable[[str], IO[bytes]]] = {
@@ -115,13 +117,21 @@ def opened(path: str) -> IO[bytes]:
     return PACKED.get(os.path.splitext(path)[1], lambda it: open(it, "rb"))(path)
 
 
+@contextlib.contextmanager
+def unpacking(path: str) -> Iterator[IO[bytes]]:
+    """A file to read from, unpacked; a Fault where that can't be done to its end."""
+    try:
+        with opened(path) as file:
+            yield file
+    except (EOFError, lzma.LZMAError, zlib.error, gzip.BadGzipFile) as fault:
+        raise Fault(f"{path}: can't be unpacked to its end: {fault}") from fault
+
+
 def unpack(it: Input, into: str) -> None:
     """Writes a compressed input, read to its end, into a file."""
     try:
-        with opened(it.path) as packed, open(into, "wb") as file:
+        with unpacking(it.path) as packed, open(into, "wb") as file:
             shutil.copyfileobj(packed, file)
-    except (EOFError, lzma.LZMAError, zlib.error, gzip.BadGzipFile) as fault:
-        raise Fault(f"{it.path}: can't be unpacked to its end: {fault}") from fault
     except OSError as fault:
         name = fault.filename if isinstance(fault.filename, str) else it.path
         status = errors.OUTPUT if name == into else errors.FAULTY
@@ -160,20 +170,11 @@ def plain(items: Iterable[Input], folder: str) -> Iterator[str]:
 
 def whole_lines(octets: bytes) -> List[bytes]:
     """The lines of a log that are whole, each with its line feed; carriage returns before it go."""
-    result = []
-    for line in octets.split(b"\n")[:-1]:
-        line = line[:-1] if line.endswith(b"\r") else line
-        if log_file.read_line(line) is not None:
-            result.append(line + b"\n")
-    return result
+    return [line.rstrip(b"\r\n") + b"\n" for line in io.BytesIO(octets)
+            if log_file.read_whole(line) is not None]
 
 
 def gap_of(path: str) -> Optional[int]:
-    """The gap of a book file in seconds, which its first line says; 30 where that says none, as in
-    books of an older program. None of what is no book."""
+    """The gap of a book file in seconds; None of what is no book."""
     with opened(path) as file:
-        begin = file.read(20)
-    found = re.match(rb"APRSBOOK (?:[12]\n|3 ([0-9]{1,4})\n)", begin)
-    if not found:
-        return None
-    return int(found[1]) if found[1] else 30
+        return book_file.gap_of(file.read(book_file.HEAD))

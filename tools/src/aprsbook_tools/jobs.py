@@ -206,14 +206,6 @@ def fold(gap: int, books: Sequence[str], into: IO[bytes], since: str = "", until
     """The book of books: by aprsbook-fold, which holds a row of each, or else by aprsbook."""
     bounds = [*(["--from", since] if since else []), *(["--until", until] if until else [])]
     if programs.is_there("aprsbook-fold"):
-        programs.run("aprsbook-fold", "--gap", str(gap), *bounds, *books, into=into)
+        programs.write_book(into, "aprsbook-fold", "--gap", str(gap), *bounds, *books)
     else:
-        programs.run("aprsbook", "merge", "--gap", str(gap), "--", *books, into=into)
-
-
-def has_ranges() -> bool:
-    """Whether the program that folds takes rows by their sources."""
-    if not programs.is_there("aprsbook-fold"):
-        return False
-    said_ = programs.run("aprsbook-fold", "--help")
-    return b"--from" in said_ and b"--until" in said_
+        programs.write_book(into, "aprsbook", "merge", "--gap", str(gap), "--", *books)

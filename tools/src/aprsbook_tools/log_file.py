@@ -20,7 +20,9 @@ except ImportError:  # not on Windows
 LINE = 8192  # bytes before the line feed: no line of a log is longer
 BLOCK = 65536  # bytes that are read at a time
 HELD = 10_000  # frames: so many are held while there is no room
-FORM = re.compile(rb"([0-9TZ.:-]{20,24}) ([A-Za-z0-9_-]{1,16}) ((?:[0-9A-Fa-f]{2})*)")
+RECEIVER = "[A-Za-z0-9_-]{1,16}"  # the name of a receiver
+FORM = re.compile(
+    rb"([0-9TZ.:-]{20,24}) (%s) ((?:[0-9A-Fa-f]{2})*)" % RECEIVER.encode())
 
 Say = Callable[[str], None]
 
@@ -53,10 +55,24 @@ def read_line(text: bytes) -> Optional[Line]:
         return None
 
 
+def read_whole(line: bytes) -> Optional[Line]:
+    """A line with its line feed, perhaps behind a carriage return; None where it isn't whole."""
+    if not line.endswith(b"\n"):
+        return None
+    return read_line(line[:-2] if line.endswith(b"\r\n") else line[:-1])
+
+
+def moved(line: bytes, read: Line, seconds: int) -> bytes:
+    """A line whose moment is so much later; all else stays, also in whole seconds what is so."""
+    new = moments.text_of(read.moment + 1000 * seconds)
+    if not line.startswith(moments.text_of(read.moment).encode()):
+        new = new.replace(".000Z", "Z")
+    return new.encode() + line[len(new):]
+
+
 def begins_as_log(octets: bytes) -> bool:
     """Whether bytes begin with a line of a log."""
-    first, feed, _ = octets.partition(b"\n")
-    return bool(feed) and read_line(first[:-1] if first.endswith(b"\r") else first) is not None
+    return read_whole(octets[:octets.find(b"\n") + 1]) is not None
 
 
 def read_at(file: int, size: int, at: int) -> bytes:

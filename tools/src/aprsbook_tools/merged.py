@@ -35,7 +35,7 @@ def write_book(
     """Writes the book of logs and books, or of what is given where there are none."""
     with plain(paths) as files:
         command = programs.with_gap(["aprsbook", "merge"], gap, files)
-        programs.run(*command, given=given, into=into)
+        programs.write_book(into, *command, given=given)
     into.flush()
 
 

@@ -101,22 +101,21 @@ def read_map(path: str) -> str:
             check_xml(text)
         else:
             check_shape(json.loads(text))
+    except (AttributeError, IndexError, KeyError, TypeError, RecursionError,
+            json.JSONDecodeError) as fault:
+        raise Fault(f"{path}: no GPX, no KML and no GeoJSON") from fault
     except (xml.etree.ElementTree.ParseError, ValueError) as fault:
         raise Fault(f"{path}: {fault}") from fault
-    except (AttributeError, IndexError, KeyError, TypeError, RecursionError) as fault:
-        raise Fault(f"{path}: no GeoJSON") from fault
     return text
 
 
 def texts_of(book: str, gap: Optional[int]) -> Dict[str, str]:
-    """What the page has of a book: texts of the programs, as they are."""
-    commands = {"rows": ["aprsbook-table", "rows"], "messages": ["aprsbook-table", "messages"]}
-    if not getattr(together(), "TABLES", False):
-        commands = {"history": ["aprsbook-history"], "listing": ["aprsbook", "show"]}
-    return {
-        name: programs.run(*programs.with_gap(command, gap, [book])).decode("ascii")
-        for name, command in commands.items()
-    }
+    """What the page has of a book: two of its tables, as they are."""
+    texts = {}
+    for name in "rows", "messages":
+        command = programs.with_gap(["aprsbook-table", name], gap, [book])
+        texts[name] = programs.run(*command).decode("ascii")
+    return texts
 
 
 def page_of(data: Dict[str, Any]) -> str:

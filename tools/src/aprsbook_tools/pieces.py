@@ -4,14 +4,13 @@ import os
 import threading
 from typing import IO, Iterator, List, NamedTuple, Optional, Sequence, Tuple
 
-from aprsbook_tools import programs
+from aprsbook_tools import book_file, programs
 from aprsbook_tools.errors import FAULTY, Fault, said
 
 MEGABYTE = 1 << 20
 LEAST = MEGABYTE  # bytes: nothing smaller is cut off a log
 BLOCK = 1 << 18  # bytes that are read at a time
 MOMENT = 20  # bytes of a line that tell about when it was heard
-BOOK = b"APRSBOOK"  # so a book begins, and no line of a log
 
 
 class Range(NamedTuple):
@@ -52,7 +51,7 @@ def cut(path: str, step: int) -> Iterator[Tuple[bytes, Range]]:
             end = line_start(file, start + step) if start + step < size else size
             file.seek(end)
             # what would be taken for a book stays a line of the log
-            while end < size and file.read(len(BOOK)) == BOOK:
+            while end < size and file.read(len(book_file.BEGIN)) == book_file.BEGIN:
                 end = line_start(file, end + 1)
                 file.seek(end)
             file.seek(start)
@@ -157,7 +156,7 @@ def merge(gap: int, ranges: Sequence[Range], into: IO[bytes]) -> None:
     fault: Optional[Fault] = None
     try:
         with open(reads, "rb") as given:
-            programs.run("aprsbook", "merge", "--gap", str(gap), given=given, into=into)
+            programs.write_book(into, "aprsbook", "merge", "--gap", str(gap), given=given)
     except Fault as it:
         fault = it
     finally:

@@ -48,14 +48,15 @@ def open_many_files() -> None:
 
 
 def fault_of(command: Sequence[str], status: int, complaint: bytes) -> Fault:
-    """What a program's end means: its own words, and its status unless a signal ended it."""
+    """What a program's end means: its own words, and its status. Where a signal ended it, that is
+    the machine's, as of too little memory, and no input's."""
     program = os.path.basename(command[0])
     words = complaint.decode("utf-8", "backslashreplace").strip()
     if words.startswith(program + ": "):
         words = words[len(program) + 2:]
     if status < 0 or status > 125:
         words = words or f"ended by signal {-status if status < 0 else status - 128}"
-        status = errors.FAULTY
+        status = errors.OUTPUT
     return Fault(words or f"ended with status {status}", status, program)
 
 
@@ -85,6 +86,14 @@ def run(*command: str, given: Given = b"", into: Optional[IO[bytes]] = None) -> 
     if process.returncode:
         raise fault_of(command, process.returncode, complaint)
     return written or b""
+
+
+def write_book(into: IO[bytes], *command: str, given: Given = b"") -> None:
+    """Writes a book into a file, by a program; one that wrote nothing has made none."""
+    before = os.fstat(into.fileno()).st_size
+    run(*command, given=given, into=into)
+    if os.fstat(into.fileno()).st_size == before:
+        raise Fault("wrote nothing, which no book is", errors.OUTPUT, os.path.basename(command[0]))
 
 
 def lines(*command: str, given: Given = None) -> Iterator[str]:

@@ -4,17 +4,17 @@ Who was heard direct is known of each copy alone. So the n-th line of a log is g
 `aprsbook-table` with a moment of its own, two seconds after that of the line before, under a gap of
 one second: no two are copies of one transmission then. The row's moment says which line it was.
 """
+import io
 from dataclasses import dataclass
 from typing import List, Sequence
 
-from aprsbook_tools import inputs, log_file, moments, table
+from aprsbook_tools import book_file, inputs, log_file, moments, table
 from aprsbook_tools.errors import Fault
 from aprsbook_tools.log_file import Line
 from aprsbook_tools.net_logs import octets_of
 from aprsbook_tools.table import Row
 
 APART = 2000  # milliseconds between two lines
-BOOK = b"APRSBOOK"
 
 
 @dataclass(frozen=True)
@@ -43,15 +43,15 @@ def lines_of(path: str) -> List[Line]:
     octets, fault = octets_of(path)
     if fault:
         raise Fault(f"{path}: {fault}")
-    if octets.startswith(BOOK):
+    if octets.startswith(book_file.BEGIN):
         raise Fault(f"{path} is a book, which has one copy of each transmission: name logs")
     found = []
-    texts = octets.split(b"\n")
-    for number, text in enumerate(texts[:-1], 1):
-        line = log_file.read_line(text[:-1] if text.endswith(b"\r") else text)
-        if line is None:
+    for number, text in enumerate(io.BytesIO(octets), 1):
+        line = log_file.read_whole(text)
+        if line is not None:
+            found.append(line)
+        elif text.endswith(b"\n"):
             raise Fault(f"{path}: line {number} is no whole line of a log")
-        found.append(line)
     return found
 
 

@@ -11,10 +11,10 @@ import re
 from dataclasses import dataclass
 from typing import Dict, Iterable, List, Optional, Sequence, Union
 
-from aprsbook_tools import text_file
+from aprsbook_tools import ax25, text_file
 from aprsbook_tools.errors import Fault
 
-CALL = re.compile(r"([A-Za-z0-9]{1,6})(?:-([0-9]|1[0-5]|\*))?")
+ANY = "-*"  # stands for any SSID
 BEGIN = re.compile(r'\s*(?:"[^"]*"|[^\s,;"]+) *([,;\t])')
 PLAIN = re.compile(r'\s*"?([^\s"]+)"?\s*(.*)')
 LINE_END = re.compile(r"\r\n|\n|\r")
@@ -47,7 +47,7 @@ class Expected:
 
     @property
     def is_any(self) -> bool:
-        return self.call.endswith("-*")
+        return self.call.endswith(ANY)
 
     def is_of(self, call: str) -> bool:
         """Whether a station's call is one that this entry stands for."""
@@ -71,12 +71,12 @@ def base_of(call: str) -> str:
 
 
 def call_of(text: str) -> Optional[str]:
-    """A call as it is heard, in capitals and without -0; nothing where it is none."""
-    found = CALL.fullmatch(text.strip())
-    if not found:
-        return None
-    base, ssid = found[1].upper(), found[2]
-    return base if ssid in (None, "0") else f"{base}-{ssid}"
+    """A call as it is heard, or one of any SSID; nothing where it is none."""
+    text = text.strip()
+    if not text.endswith(ANY):
+        return ax25.spelled(text)
+    call = ax25.spelled(text[:-len(ANY)])
+    return None if call is None or "-" in text[:-len(ANY)] else call + ANY
 
 
 class Roster:
@@ -89,7 +89,7 @@ class Roster:
 
     def entry_of(self, call: str) -> Optional[Expected]:
         """The entry of a station: that of its call, or else that of any SSID."""
-        return self._by_call.get(call) or self._by_call.get(base_of(call) + "-*")
+        return self._by_call.get(call) or self._by_call.get(base_of(call) + ANY)
 
     def name_of(self, call: str) -> str:
         """The tactical name of a station, empty where there is none."""

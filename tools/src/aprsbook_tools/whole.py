@@ -18,6 +18,11 @@ from typing import IO, Iterator, List, Optional, Sequence, Union
 from aprsbook_tools import errors, log_file
 from aprsbook_tools.errors import Fault, said
 
+try:
+    import fcntl
+except ImportError:  # not on Windows
+    fcntl = None  # type: ignore[assignment]
+
 SUFFIX = ".aprs-net-new"
 DAY = 86_400  # seconds
 
@@ -40,7 +45,7 @@ def check(path: str, inputs: Sequence[str] = ()) -> str:
             raise Fault(f"{path} is an input: it would be replaced", errors.ARGUMENTS)
     if not os.path.exists(real):
         if not os.path.isdir(os.path.dirname(real)):
-            raise Fault(f"{path}: no folder {os.path.dirname(path)} is there", errors.OUTPUT)
+            raise Fault(f"{path}: no folder {os.path.dirname(real)} is there", errors.OUTPUT)
         return real
     if not os.path.isfile(real):
         raise Fault(f"'{path}' is no file, and can't become one", errors.OUTPUT)
@@ -138,6 +143,29 @@ def write(path: str, octets: bytes, inputs: Sequence[str] = ()) -> bool:
     with writing(path, inputs) as new:
         new.file.write(octets)
     return new.changed
+
+
+def beside(path: str, ending: str) -> str:
+    """A hidden name beside a file."""
+    folder, name = os.path.split(os.path.realpath(path))
+    return os.path.join(folder, f".{name}.{ending}")
+
+
+@contextlib.contextmanager
+def locked(path: str) -> Iterator[None]:
+    """Waits until no other run writes this file, where the system has locks."""
+    if fcntl is None:
+        yield
+        return
+    try:
+        file = os.open(beside(path, "lock"), os.O_RDWR | os.O_CREAT, 0o666)
+    except OSError as fault:
+        raise Fault(f"{path}: {fault.strerror}", errors.OUTPUT) from fault
+    try:
+        fcntl.flock(file, fcntl.LOCK_EX)
+        yield
+    finally:
+        os.close(file)
 
 
 def write_out(octets: bytes) -> None:

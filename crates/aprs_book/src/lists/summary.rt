@@ -6,13 +6,14 @@ ghost use Rattle.aprs_book.specs.Messages.{ReportsMessages};
 ghost use Rattle.aprs_book.specs.Names.{ReportsNamed, shown_report};
 ghost use Rattle.aprs_book.specs.Stations.{ReportsStations};
 
+use crate::Memory;
 use crate::known::indexes::Indexes;
 use crate::known::reception_view::ReceptionView;
-use crate::lists::message::messages_of;
+use crate::lists::exchange::Exchange;
+use crate::lists::message_walk::MessageWalk;
 use crate::lists::named_walk::NamedWalk;
 use crate::lists::station_walk::StationWalk;
 use crate::lists::summary_builder::{SummaryBuilder, summarize};
-use crate::{Memory, MessageRow};
 use aprs_ax25::Callsign;
 use aprs_rows::{BookStore, WalkRoom};
 use std::alloc::{Allocator, Global};
@@ -24,7 +25,7 @@ pub struct Summary<'t, A: Allocator = Global> {
     store: &'t BookStore<A>,
     indexes: Indexes<ReceptionView<'t>, A>,
     tallies: BTreeMap<Callsign, u64, A>,
-    messages: Vec<MessageRow<'t>, A>,
+    exchange: Exchange<'t, A>,
 }
 
 impl<'t, A: Allocator> Drop for Summary<'t, A> {
@@ -33,19 +34,18 @@ impl<'t, A: Allocator> Drop for Summary<'t, A> {
             store: _,
             indexes,
             tallies,
-            messages,
+            exchange,
         } = self;
         drop(indexes);
         drop(tallies);
-        drop(messages);
+        drop(exchange);
     }
 }
 
 impl<'t, A: Allocator> Model for Summary<'t, A> {
     ghost use Rattle.aprs_laws.specs.BookValue.{BookValue};
-    ghost use Rattle.aprs_laws.specs.Gap.{millis_of};
+    ghost use Rattle.aprs_book.specs.Exchange.{IsExchangeOf};
     ghost use Rattle.aprs_book.specs.Known.{AreIndexesOf};
-    ghost use Rattle.aprs_book.specs.Messages.{ReportsMessages};
     ghost use Rattle.aprs_book.specs.StationRows.{AreTallies};
 
     ghost Value = { BookValue };
@@ -54,7 +54,7 @@ impl<'t, A: Allocator> Model for Summary<'t, A> {
 
     ghost invariant = { λ s. AreIndexesOf s.store.now.rows s.indexes
         × AreTallies s.store.now.rows s.tallies.entries
-        × ReportsMessages (millis_of s.store.now.gap) s.store.now.rows s.messages.items };
+        × IsExchangeOf s.store.now.rows s.exchange };
 }
 
 impl<'t, A: Allocator + Copy> Summary<'t, A> {
@@ -76,12 +76,11 @@ impl<'t, A: Allocator + Copy> Summary<'t, A> {
         } = summarize(alloc, rows, most)?;
         let indexes = notes.into_indexes()?;
         let tallies = tallies.into_map()?;
-        let messages = messages_of(alloc, &exchange)?;
         Ok(Summary {
             store,
             indexes,
             tallies,
-            messages,
+            exchange,
         })
     }
 
@@ -103,10 +102,10 @@ impl<'t, A: Allocator + Copy> Summary<'t, A> {
     }
 
     /// The messages that were heard, ascending by source, addressee, text and id; one without an id
-    /// comes before those with one. Takes no memory.
-    pub fn messages(&self) -> &[MessageRow<'t>]
-        ensures { ReportsMessages (millis_of self.now.gap) self.now.rows result.now }
+    /// comes before those with one. Takes no memory, nor does the walk.
+    pub fn messages(&self) -> MessageWalk<'_, 't, A>
+        ensures { ReportsMessages (millis_of self.now.gap) self.now.rows result }
     {
-        &self.messages
+        MessageWalk::of(&self.exchange)
     }
 }

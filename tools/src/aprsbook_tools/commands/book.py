@@ -4,7 +4,7 @@ import os
 import sys
 from typing import List
 
-from aprsbook_tools import arguments, book, engines, inputs, whole
+from aprsbook_tools import arguments, book, book_file, engines, inputs, whole
 from aprsbook_tools.commands import Subparsers
 from aprsbook_tools.errors import ARGUMENTS, FAULTY, Fault
 from aprsbook_tools.inputs import Input
@@ -85,7 +85,7 @@ def run_days(args: argparse.Namespace, wish: book.Wish) -> int:
     if not items and not of_days:
         raise Fault(f"no logs and no books are in {' '.join(args.inputs)}")
     # new days get the gap that the book has
-    wish.gap = wish.gap or book.old_book(args.book, wish) or book.GAP
+    wish.gap = wish.gap or book.old_book(args.book, wish) or book_file.GAP
     faults = book.make_days(args.days, items, wish, say)
     for fault in faults:
         print(fault, file=sys.stderr, flush=True)

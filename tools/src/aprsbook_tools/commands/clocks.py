@@ -6,9 +6,9 @@ import sys
 import tempfile
 from typing import IO, Dict, List, Sequence, Tuple
 
-from aprsbook_tools import arguments, book, clocks, inputs, log_file, table, whole
+from aprsbook_tools import arguments, book_file, clocks, inputs, log_file, table, whole
 from aprsbook_tools.commands import Subparsers
-from aprsbook_tools.errors import FAULTY, OUTPUT, Fault
+from aprsbook_tools.errors import FAULTY, OUTPUT, Fault, said
 
 TEXT = """\
 For each two receivers that heard the same transmissions: by how many seconds the first is ahead of
@@ -42,11 +42,8 @@ def split(items: List[inputs.Input], folder: str) -> Tuple[Dict[str, str], Place
         if it.fault:
             raise Fault(f"{it.path}: {it.fault}")
         lines: Dict[str, List[bytes]] = {}
-        try:
-            with inputs.opened(it.path) as file:
-                add_lines(it.path, file, lines, places)
-        except EOFError as fault:
-            raise Fault(f"{it.path}: {fault}") from fault
+        with inputs.unpacking(it.path) as file:
+            add_lines(it.path, file, lines, places)
         for receiver, of_receiver in lines.items():
             # receivers whose names differ in case alone have files of their own everywhere
             path = paths.setdefault(receiver, os.path.join(folder, f"{len(paths):06}.log"))
@@ -57,10 +54,10 @@ def split(items: List[inputs.Input], folder: str) -> Tuple[Dict[str, str], Place
 
 def add_lines(path: str, file: IO[bytes], lines: Dict[str, List[bytes]], places: Places) -> None:
     for number, line in enumerate(file, 1):
-        read = log_file.read_line(line[:-1]) if line.endswith(b"\n") else None
+        read = log_file.read_whole(line)
         if read is None:
             raise Fault(f"{path}: line {number}: no line of a log (aprs-net mend takes it out)")
-        lines.setdefault(read.receiver, []).append(line)
+        lines.setdefault(read.receiver, []).append(read.write())
         of_receiver = places.setdefault(read.receiver, {})
         of_receiver.setdefault(read.moment, len(of_receiver))
 
@@ -79,7 +76,7 @@ def spans_of(paths: Sequence[str], step: int) -> List[clocks.Span]:
             folder = stack.enter_context(tempfile.TemporaryDirectory())
             logs, places = split(items, folder)
         except OSError as fault:
-            raise Fault(f"{fault.filename}: {fault.strerror}", OUTPUT) from fault
+            raise Fault(said(fault), OUTPUT) from fault
         # a gap of a second: the copies of a transmission stay apart where they can
         heard = {receiver: table.rows([path], 1) for receiver, path in sorted(logs.items())}
         pairs = clocks.pairs(heard, places)
@@ -91,7 +88,7 @@ def run(args: argparse.Namespace) -> int:
     found = spans_of(args.inputs, args.step)
     lines = [clocks.COLUMNS, *(span.words() for span in found)]
     whole.put(args.output, "".join("\t".join(it) + "\n" for it in lines), args.inputs)
-    gap = args.gap or book.GAP
+    gap = args.gap or book_file.GAP
     if not found:
         print("aprs-net clocks: no two receivers heard the same frame", file=sys.stderr)
     for receiver in clocks.wrong(found, gap):

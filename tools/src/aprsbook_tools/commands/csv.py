@@ -4,8 +4,9 @@ import dataclasses
 import sys
 from typing import Any, List
 
-from aprsbook_tools import arguments, report, table
+from aprsbook_tools import arguments, report, table, tactical
 from aprsbook_tools.commands import Subparsers
+from aprsbook_tools.roster import roster_of
 from aprsbook_tools.spreadsheet import Cell, csv_text
 
 KINDS = {word: kind for kind, word in table.WORDS.items()}
@@ -18,10 +19,11 @@ def add_parser(subparsers: Subparsers) -> None:
         help="transmissions, messages, stations or things as CSV",
         description="The table of logs and books as CSV, in which no text off the air is a formula "
         "to a spreadsheet. `fields` takes lines of the table's fields with tabs between them, as "
-        "of awk or cut.",
+        "of awk or cut. With a roster a table has columns of tactical names behind all others.",
     )
     parser.add_argument("table", choices=[*KINDS, FIELDS], help="which table")
     arguments.add_gap(parser)
+    report.add_roster(parser)
     arguments.add_output(parser)
     arguments.add_inputs(parser)
 
@@ -48,12 +50,12 @@ def run(args: argparse.Namespace) -> int:
     if args.table == FIELDS:
         rows = fields_of(args.inputs)
     else:
-        kind = KINDS[args.table]
+        kind, roster = KINDS[args.table], roster_of(args.roster)
         names = [it.name for it in dataclasses.fields(kind)]
         rows = [
-            [cell_of(getattr(it, name)) for name in names]
+            [*(cell_of(getattr(it, name)) for name in names), *tactical.names_of(it, roster)]
             for it in report.items_of(kind, args)
         ]
-        rows.insert(0, [*names])
+        rows.insert(0, [*names, *tactical.columns_of(kind, roster)])
     report.put(args, csv_text(rows))
     return 0

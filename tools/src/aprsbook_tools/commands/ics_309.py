@@ -5,6 +5,7 @@ from typing import Iterable, List, Sequence
 
 from aprsbook_tools import moments, report
 from aprsbook_tools.commands import Subparsers
+from aprsbook_tools.errors import ARGUMENTS, Fault
 from aprsbook_tools.roster import Expected, Roster, call_of, roster_of
 from aprsbook_tools.spreadsheet import csv_text
 from aprsbook_tools.table import Message
@@ -123,6 +124,8 @@ def form_of(messages: Sequence[Message], roster: Roster, net: str) -> str:
 
 
 def run(args: argparse.Namespace) -> int:
+    if args.since and args.until and args.since >= args.until:
+        raise Fault("--from isn't before --to", ARGUMENTS)
     roster = roster_of(args.roster)
     messages = chosen(list(report.items_of(Message, args)), args)
     if args.csv:

@@ -1,10 +1,9 @@
 """aprs-net import: a log of what other programs have written down."""
 import argparse
-import contextlib
 import sys
-from typing import IO, Dict, Iterator, List, Optional, Tuple
+from typing import IO, Dict, Iterator, List, Tuple
 
-from aprsbook_tools import arguments, kiss, log_file, whole
+from aprsbook_tools import arguments, kiss, log_file, streams, whole
 from aprsbook_tools.commands import Subparsers
 from aprsbook_tools.errors import FAULTY
 from aprsbook_tools.imports import Options, Reader, Refused, direwolf_csv, files, lines, packets
@@ -15,8 +14,8 @@ READERS: Dict[str, Tuple[Reader, str]] = {
     "direwolf": (lines.monitor, "what Dire Wolf prints with -T %Y-%m-%dT%H:%M:%S"),
     "direwolf-csv": (direwolf_csv.read, "its log in CSV, of positions and statuses alone"),
     "aprx": (lines.aprx, "aprx's rf.log"),
-    "aprs-fi": (lines.aprs_fi, "raw packets of aprs.fi"),
-    "yaac": (lines.yaac, "YAAC's log of raw packets"),
+    "aprs-fi": (lines.aprs_fi, "raw packets of aprs.fi, tried on lines made by hand"),
+    "yaac": (lines.yaac, "YAAC's log of raw packets, tried on lines made by hand"),
     "xastir": (lines.xastir, "Xastir's tnc.log"),
     "atest": (files.atest, "what atest -h prints of a recording"),
     "pcap": (files.pcap, "a capture of AX.25 packets, as Wireshark's"),
@@ -60,26 +59,17 @@ def add_parser(subparsers: Subparsers) -> None:
     parser.add_argument("input", nargs="?", metavar="FILE", help="or else standard input")
 
 
-@contextlib.contextmanager
-def opened(path: Optional[str]) -> Iterator[IO[bytes]]:
-    """A file to read, or standard input."""
-    if path is None:
-        if sys.stdin is None:
-            raise OSError("standard input is closed")
-        yield sys.stdin.buffer
-    else:
-        with open(path, "rb") as file:
-            yield file
-
-
 class Count:
-    """What was refused and left out."""
+    """What was taken, refused and left out."""
 
     def __init__(self) -> None:
+        self.taken = 0
+        self.refused = 0
         self.untimed = 0
         self.own: List[bytes] = []
 
     def say(self, found: Refused) -> None:
+        self.refused += 1
         self.untimed += found.untimed
         print(f"aprs-net import: line {found.number}: {found.words}: {found.text[:100]!r}",
               file=sys.stderr, flush=True)
@@ -96,6 +86,7 @@ def written(file: IO[bytes], args: argparse.Namespace, options: Options,
         if found.own:
             count.own.append(line)
         else:
+            count.taken += 1
             yield line
 
 
@@ -109,30 +100,14 @@ def run(args: argparse.Namespace) -> int:
     inputs, count = whole.all_of(args.input), Count()
     for path in whole.all_of(args.output, args.own):
         whole.check(path, inputs)
-    with opened(args.input) as file:
-        found = written(file, args, options, count)
-        if args.output and args.output != "-":
-            with whole.writing(args.output, inputs) as new:
-                for line in found:
-                    new.file.write(line)
-        else:
-            put_out(found, args.now)
+    with streams.opened(args.input) as file:
+        streams.put(args.output, written(file, args, options, count), inputs, args.now)
     if args.own:
         whole.write(args.own, b"".join(count.own), inputs)
     elif count.own:
         print(f"aprs-net import: frames that the station itself sent, left out: {len(count.own)}",
               file=sys.stderr)
+    elif not count.taken and not count.refused:
+        print(f"aprs-net import: nothing was found that {args.format} has of what was heard",
+              file=sys.stderr)
     return FAULTY if count.untimed else 0
-
-
-def put_out(lines_: Iterator[bytes], at_once: bool) -> None:
-    """Writes lines to standard output, each at once where the input goes on."""
-    block: List[bytes] = []
-    size = 0
-    for line in lines_:
-        block.append(line)
-        size += len(line)
-        if at_once or size > 1 << 16:
-            whole.write_out(b"".join(block))
-            block, size = [], 0
-    whole.write_out(b"".join(block))

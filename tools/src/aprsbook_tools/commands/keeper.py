@@ -3,7 +3,7 @@ import argparse
 import re
 from typing import Callable, Dict, List, NamedTuple, Sequence, Tuple
 
-from aprsbook_tools import arguments, keeping, moments, report
+from aprsbook_tools import arguments, keeping, log_file, moments, report
 from aprsbook_tools.commands import Subparsers
 from aprsbook_tools.errors import ARGUMENTS, Fault
 from aprsbook_tools.geo import Spot
@@ -11,8 +11,8 @@ from aprsbook_tools.receptions import Reception, receptions_of
 from aprsbook_tools.roster import Roster, call_of, roster_of
 from aprsbook_tools.spreadsheet import Cell, csv_text
 
-AT = re.compile(r"(?:([A-Za-z0-9_-]{1,16})=)?(-?[0-9.]+),(-?[0-9.]+)", re.ASCII)
-CALL_AT = re.compile(r"(?:([A-Za-z0-9_-]{1,16})=)?([A-Za-z0-9-]+)", re.ASCII)
+AT = re.compile(rf"(?:({log_file.RECEIVER})=)?(-?[0-9.]+),(-?[0-9.]+)", re.ASCII)
+CALL_AT = re.compile(rf"(?:({log_file.RECEIVER})=)?([A-Za-z0-9-]+)", re.ASCII)
 
 
 class Asked(NamedTuple):

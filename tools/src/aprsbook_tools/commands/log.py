@@ -28,9 +28,10 @@ all in the log of NAME. Nothing is sent but the login."""
 
 
 def call(text: str) -> str:
-    if not ax25.CALL.fullmatch(text):
-        raise argparse.ArgumentTypeError("no call of capitals and digits, such as Q0CALL-7")
-    return text
+    found = ax25.spelled(text)
+    if found is None:
+        raise argparse.ArgumentTypeError("no call, such as Q0CALL-7")
+    return found
 
 
 def place(text: str) -> sources.Place:

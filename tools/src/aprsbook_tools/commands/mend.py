@@ -3,10 +3,8 @@ import argparse
 import sys
 from typing import IO, Iterator
 
-from aprsbook_tools import arguments, log_file, whole
+from aprsbook_tools import arguments, log_file, streams, whole
 from aprsbook_tools.commands import Subparsers
-from aprsbook_tools.commands.import_ import opened
-from aprsbook_tools.commands.shift import put_lines
 
 TEXT = """\
 Writes the lines of a log that are whole, of one that was cut short in the midst of one or that a
@@ -35,10 +33,8 @@ def whole_lines(file: IO[bytes], left: Left) -> Iterator[bytes]:
         if not line:
             return
         ends = line.endswith(b"\n")
-        text = line.rstrip(b"\n")
-        text = text[:-1] if text.endswith(b"\r") else text
-        if ends and not torn and log_file.read_line(text) is not None:
-            yield text + b"\n"
+        if not torn and log_file.read_whole(line) is not None:
+            yield line.rstrip(b"\r\n") + b"\n"
         elif ends or not torn:
             left.out += not torn
         torn = not ends
@@ -46,8 +42,8 @@ def whole_lines(file: IO[bytes], left: Left) -> Iterator[bytes]:
 
 def run(args: argparse.Namespace) -> int:
     left = Left()
-    with opened(args.log) as file:
-        put_lines(args.output, whole_lines(file, left), whole.all_of(args.log))
+    with streams.opened(args.log) as file:
+        streams.put(args.output, whole_lines(file, left), whole.all_of(args.log))
     if left.out:
         print(f"aprs-net mend: lines left out: {left.out}", file=sys.stderr)
     return 0

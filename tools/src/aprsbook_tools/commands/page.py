@@ -5,7 +5,8 @@ import os
 import sys
 from typing import Any, Callable, Dict, List, Optional, Sequence
 
-from aprsbook_tools import arguments, ground, merged, page_files, report, text_file, whole
+from aprsbook_tools import (
+    arguments, book_file, ground, merged, page_files, report, text_file, whole)
 from aprsbook_tools.commands import Subparsers
 from aprsbook_tools.roster import read_roster
 
@@ -90,10 +91,10 @@ def page_of(
 ) -> str:
     """The page of a book; what lies below its marks is made of the table of rows."""
     # in the order of a page that the page saves
-    data: Dict[str, Any] = {"title": said["title"], "gap": gap or 30, **said}
+    data: Dict[str, Any] = {"title": said["title"], "gap": gap or book_file.GAP, **said}
     data["notes"] = [*said["notes"], *notes]
     texts = page_files.texts_of(book, gap)
-    data.update(below(texts["rows"]) if "rows" in texts else {})
+    data.update(below(texts["rows"]))
     data.update(texts)
     return page_files.page_of(data)
 

@@ -6,6 +6,7 @@ from typing import Dict, List, Sequence, Tuple
 from aprsbook_tools import arguments, moments, report, text_file
 from aprsbook_tools.checkpoints import Checkpoint, Visit, all_visits, read_checkpoints
 from aprsbook_tools.commands import Subparsers
+from aprsbook_tools.errors import ARGUMENTS, Fault
 from aprsbook_tools.places import Thing, things_of
 from aprsbook_tools.roster import Roster, roster_of
 from aprsbook_tools.spreadsheet import Cell
@@ -41,6 +42,11 @@ def add_parser(subparsers: Subparsers) -> None:
         "--matrix",
         action="store_true",
         help="a line for each who passed, by bib, with the time at each checkpoint",
+    )
+    parser.add_argument(
+        "--segments",
+        action="store_true",
+        help="in the matrix, the time since the checkpoint before in place of the clock's",
     )
     parser.add_argument(
         "--apart",
@@ -95,43 +101,60 @@ def in_natural_order(text: str) -> Tuple[int, List[Tuple[int, str]]]:
     return (0 if text else 1), [(int(it), "") if it.isdecimal() else (-1, it) for it in parts]
 
 
+def clocks_of(visits: Sequence[Visit]) -> List[str]:
+    """When each visit began, with the day where there are several."""
+    came = [moments.text_of(it.came) for it in visits]
+    is_one_day = len({it[:10] for it in came}) < 2
+    return [it[11:19] if is_one_day else f"{it[:10]} {it[11:19]}" for it in came]
+
+
+def segments_of(visits: Sequence[Visit]) -> List[str]:
+    """For each visit the time since the one before, of the same thing; 0:00:00 of the first."""
+    last: Dict[Tuple[str, str], int] = {}
+    took = [""] * len(visits)
+    for number, it in sorted(enumerate(visits), key=lambda one: one[1].came):
+        # whole seconds, as the clock's are shown
+        key, came = (it.thing.kind, it.thing.name), it.came // 1000
+        seconds = came - last.get(key, came)
+        took[number] = f"{seconds // 3600}:{seconds // 60 % 60:02}:{seconds % 60:02}"
+        last[key] = came
+    return took
+
+
 def matrix_of(
-    visits: Sequence[Visit], points: Sequence[Checkpoint], roster: Roster
+    visits: Sequence[Visit], points: Sequence[Checkpoint], roster: Roster, times: Sequence[str]
 ) -> Tuple[List[str], List[List[Cell]]]:
-    """A line for each who passed; a column for each checkpoint and lap."""
+    """A line for each who passed; a column for each checkpoint and lap, with the visits' times."""
     columns = sorted(
         {(it.lap, it.checkpoint) for it in visits} | {(1, k) for k in range(len(points))}
     )
     laps = max((lap for lap, _ in columns), default=1)
     names = [points[k].name + (f" {lap}" if laps > 1 else "") for lap, k in columns]
-    came: Dict[Tuple[str, str], Dict[Tuple[int, int], int]] = {}
+    cells: Dict[Tuple[str, str], Dict[Tuple[int, int], str]] = {}
     things: Dict[Tuple[str, str], Thing] = {}
-    for it in visits:
+    for it, time in zip(visits, times):
         key = it.thing.kind, it.thing.name
         things[key] = it.thing
-        came.setdefault(key, {})[it.lap, it.checkpoint] = it.came
-    days = {moments.text_of(it.came)[:10] for it in visits}
-
-    def time(moment: int) -> str:
-        text = moments.text_of(moment)
-        return text[11:19] if len(days) < 2 else f"{text[:10]} {text[11:19]}"
-
+        cells.setdefault(key, {})[it.lap, it.checkpoint] = time
     lines: List[List[Cell]] = []
     for key, thing in sorted(
         things.items(), key=lambda it: (in_natural_order(bib_of(it[1], roster)), it[0])
     ):
         line: List[Cell] = [bib_of(thing, roster), thing.name, tactical_of(thing, roster)]
-        lines.append(line + [time(came[key][it]) if it in came[key] else "" for it in columns])
+        lines.append(line + [cells[key].get(it, "") for it in columns])
     return ["bib", "name", "tactical", *names], lines
 
 
 def run(args: argparse.Namespace) -> int:
+    if args.segments and not args.matrix:
+        raise Fault("--segments goes with --matrix", ARGUMENTS)
     roster = roster_of(args.roster)
     points = read_checkpoints(args.points, text_file.read(args.points))
     things = things_of(report.items_of(Row, args))
     visits = all_visits(things, points, args.apart * 60_000)
     if args.matrix:
-        head, lines = matrix_of(visits, points, roster)
+        times = (segments_of if args.segments else clocks_of)(visits)
+        head, lines = matrix_of(visits, points, roster, times)
     else:
         head, lines = HEAD, lines_of(visits, points, roster)
     report.put_table(args, head, lines, args.points)

@@ -3,10 +3,8 @@ import argparse
 import struct
 from typing import IO, Iterator
 
-from aprsbook_tools import arguments, kiss, log_file, whole
+from aprsbook_tools import arguments, kiss, log_file, streams, whole
 from aprsbook_tools.commands import Subparsers
-from aprsbook_tools.commands.import_ import opened
-from aprsbook_tools.commands.shift import put_lines
 from aprsbook_tools.errors import Fault
 from aprsbook_tools.imports.files import AX25_KISS
 
@@ -23,13 +21,13 @@ def add_parser(subparsers: Subparsers) -> None:
     parser.add_argument("log", nargs="?", metavar="LOG", help="or else standard input")
 
 
-def capture(file: IO[bytes]) -> Iterator[bytes]:
+def capture(file: IO[bytes], name: str) -> Iterator[bytes]:
     """The capture: its head, and a record of each frame."""
     yield struct.pack("<IHHIIII", 0xA1B2C3D4, 2, 4, 0, 0, 65535, AX25_KISS)
     for number, line in enumerate(file, 1):
         read = log_file.read_line(line.rstrip(b"\r\n"))
         if read is None:
-            raise Fault(f"line {number}: no line of a log (aprs-net mend takes it out)")
+            raise Fault(f"{name}: line {number}: no line of a log (aprs-net mend takes it out)")
         pieces = [it for it in bytes.fromhex(read.digits.decode()).split(kiss.FEND) if it]
         if len(pieces) == 1:
             octets = pieces[0][:1] + kiss.unwrap(pieces[0])
@@ -38,6 +36,6 @@ def capture(file: IO[bytes]) -> Iterator[bytes]:
 
 
 def run(args: argparse.Namespace) -> int:
-    with opened(args.log) as file:
-        put_lines(args.output, capture(file), whole.all_of(args.log))
+    with streams.opened(args.log) as file:
+        streams.put(args.output, capture(file, streams.name_of(args.log)), whole.all_of(args.log))
     return 0

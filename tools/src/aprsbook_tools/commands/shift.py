@@ -1,11 +1,10 @@
 """aprs-net shift: a log whose receiver's clock was wrong, with its moments moved."""
 import argparse
 import re
-from typing import IO, Iterator, List, Optional
+from typing import IO, Iterator
 
-from aprsbook_tools import arguments, log_file, moments, whole
+from aprsbook_tools import arguments, log_file, streams, whole
 from aprsbook_tools.commands import Subparsers
-from aprsbook_tools.commands.import_ import opened
 from aprsbook_tools.errors import Fault
 
 TEXT = """\
@@ -38,42 +37,25 @@ def add_parser(subparsers: Subparsers) -> None:
 
 def shifted(file: IO[bytes], args: argparse.Namespace) -> Iterator[bytes]:
     """The lines of the new log."""
+    name = streams.name_of(args.log)
     for number, line in enumerate(file, 1):
-        text = line[:-2] if line.endswith(b"\r\n") else line[:-1]
-        read = log_file.read_line(text) if line.endswith(b"\n") else None
+        read = log_file.read_whole(line)
         if read is None:
-            raise Fault(f"line {number}: no line of a log (aprs-net mend takes it out)")
+            raise Fault(f"{name}: line {number}: no line of a log (aprs-net mend takes it out)")
         inside = (args.begin is None or read.moment >= args.begin) and \
             (args.end is None or read.moment < args.end)
         if inside and args.receiver in (None, read.receiver):
-            moment, _, rest = line.partition(b" ")
             try:
-                new = moments.text_of(read.moment + 1000 * args.seconds)
+                line = log_file.moved(line, read, args.seconds)
             except ValueError as fault:
-                raise Fault(f"line {number}: its moment can't be moved so: {fault}") from fault
-            # in whole seconds where it stands so
-            line = (new[:19] + "Z" if len(moment) == 20 else new).encode() + b" " + rest
+                words = f"its moment can't be moved so: {fault}"
+                raise Fault(f"{name}: line {number}: {words}") from fault
         yield line
 
 
 def run(args: argparse.Namespace) -> int:
     if args.begin is not None and args.end is not None and args.begin >= args.end:
         raise Fault("--from isn't before --to", 2)
-    with opened(args.log) as file:
-        put_lines(args.output, shifted(file, args), whole.all_of(args.log))
+    with streams.opened(args.log) as file:
+        streams.put(args.output, shifted(file, args), whole.all_of(args.log))
     return 0
-
-
-def put_lines(output: Optional[str], lines: Iterator[bytes], inputs: List[str]) -> None:
-    """Writes lines into a file, whole or not at all, or to standard output as they come."""
-    if output is not None and output != "-":
-        with whole.writing(output, inputs) as new:
-            new.file.writelines(lines)
-        return
-    block = bytearray()
-    for line in lines:
-        block += line
-        if len(block) > 1 << 16:
-            whole.write_out(bytes(block))
-            block.clear()
-    whole.write_out(bytes(block))

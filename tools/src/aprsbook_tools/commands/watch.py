@@ -137,9 +137,16 @@ def turn(args: argparse.Namespace, told: Set[str]) -> Tuple[Set[str], bool]:
             now.add(alert.key)
         else:
             went_well = False
-    if args.state:
-        whole.write(args.state, json.dumps(sorted(now), indent=0).encode(), [args.logs])
     return now, went_well
+
+
+def turn_of_state(args: argparse.Namespace) -> bool:
+    """A turn of those runs that share what was told; whether all could be told."""
+    whole.check(args.state, [args.logs])
+    with whole.locked(args.state):
+        now, went_well = turn(args, read_state(args.state))
+        whole.write(args.state, json.dumps(sorted(now), indent=0).encode(), [args.logs])
+    return went_well
 
 
 def check(args: argparse.Namespace) -> None:
@@ -160,10 +167,14 @@ def run(args: argparse.Namespace) -> int:
     args.gap = follow.gap_of(args)
     told = read_state(args.state)
     if args.every is None:
-        return 0 if turn(args, told)[1] else FAULTY
+        went_well = turn_of_state(args) if args.state else turn(args, told)[1]
+        return 0 if went_well else FAULTY
     while True:
         try:
-            told, _ = turn(args, told)
+            if args.state:
+                turn_of_state(args)
+            else:
+                told, _ = turn(args, told)
         except Fault as fault:  # the next turn may go well
             print(str(fault), file=sys.stderr, flush=True)
         time.sleep(args.every)

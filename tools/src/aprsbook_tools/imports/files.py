@@ -3,13 +3,12 @@ import re
 import struct
 from typing import IO, Iterator, Optional
 
-from aprsbook_tools import moments
+from aprsbook_tools import book_file, moments
 from aprsbook_tools.errors import Fault
 from aprsbook_tools.imports import Found, Heard, Options, Refused
 
 DECODED = re.compile(rb"DECODED\[\d+\]\s+(?:(\d+):)?(\d+):(\d\d)\.(\d{3})\s")
 BYTES = re.compile(rb"  [0-9a-f]{3}:  ((?:[0-9a-f]{2} ){1,16})")
-ROW = re.compile(rb"T \S+ (\S+) \S+ (\S+) ((?:[0-9a-f]{2})+)\n")
 AX25, AX25_KISS = 3, 202  # types of links in captures
 
 
@@ -68,18 +67,6 @@ def pcap(file: IO[bytes], options: Options) -> Iterator[Found]:
 
 
 def book(file: IO[bytes], options: Options) -> Iterator[Found]:
-    """A book of version 2 or 3: the greatest reception of each transmission."""
-    first = file.readline(20)
-    if not re.fullmatch(rb"APRSBOOK (2|3 \d{1,4})\n", first):
-        raise Fault("no book of version 2 or 3: aprsbook merge writes one")
-    count = 0
-    for line in file:
-        row = ROW.fullmatch(line)
-        if not row:
-            if line != b"END %d\n" % count or file.read(1):
-                raise Fault(f"no book: line {count + 2}")
-            return
-        count += 1
-        yield Heard(moments.milliseconds(row[1].decode()), options.name or row[2].decode(),
-                    bytes.fromhex(row[3].decode()))
-    raise Fault("the book was cut short")
+    """A book: the greatest reception of each transmission."""
+    for it in book_file.read(file):
+        yield Heard(it.moment, options.name or it.receiver, it.frame)

@@ -2,8 +2,9 @@
 import re
 from typing import NamedTuple, Optional
 
+from aprsbook_tools import log_file
+
 PACKET = re.compile(rb"([A-Za-z0-9/-]+)>([A-Za-z0-9*,_/-]+):(.+)", re.DOTALL)
-NAME = re.compile(r"[A-Za-z0-9_-]{1,16}")
 GATE = re.compile(r",qA[ROro],([^,]+)")
 NET = re.compile(r",qA[A-Za-z](?:,.*)?$")
 # how a byte that can't be printed stands in a text; aprx writes <0xffffffe4> where chars are signed
@@ -36,6 +37,6 @@ def split(text: bytes, escapes: str = "raw") -> Optional[Packet]:
 
 def receiver(name: str) -> str:
     """A name that a log can have; ValueError of another."""
-    if not NAME.fullmatch(name):
+    if not re.fullmatch(log_file.RECEIVER, name):
         raise ValueError(f"{name} can't be a receiver's name")
     return name

@@ -10,5 +10,9 @@ returns c =
     ∙ ap₂ with_rule named c.books_arg-inputs.ensures.rule in
     let with_gap = c.in_ok-with_gap.ensures.shape c.gap_arg-gap.ensures.local
     ∙ ap₂ with_rule with_inputs c.gap_arg-gap.ensures.rule in
-    IfOk-weaker c.arg-3.result _ _ (λ m h. h.shape c.check_arg-check.ensures.local
-    ∙ ap₂ with_rule with_gap c.check_arg-check.ensures.rule) c.arg-3.ensures
+    let with_from = c.in_ok-with_from.ensures.shape c.option_arg-from.ensures.local
+    ∙ ap₂ with_rule with_gap c.option_arg-from.ensures.rule in
+    let with_until = c.in_ok-with_until.ensures.shape c.option_arg-until.ensures.local
+    ∙ ap₂ with_rule with_from c.option_arg-until.ensures.rule in
+    IfOk-weaker c.arg-5.result _ _ (λ m h. h.shape c.check_arg-check.ensures.local
+    ∙ ap₂ with_rule with_until c.check_arg-check.ensures.rule) c.arg-5.ensures

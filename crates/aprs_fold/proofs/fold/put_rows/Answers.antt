@@ -1,21 +1,19 @@
 use Rattle.aprs_fold.proofs.Common.{[], List, Row, map, sym, subst, arith, err_from_is_err_and}
 use Rattle.aprs_booktext.specs.declared.row_stream.RowStream.{RowStream}
 use Rattle.aprs_fold.specs.Streams.{AreReading}
-use Rattle.aprs_fold.specs.Taking.{IsThere}
 use Rattle.aprs_fold.specs.declared.fault.FoldFault.TheVariants.{Memory}
 use Rattle.aprs_fold.proofs.Begun.{ChangesAt-none}
 use Rattle.aprs_fold.proofs.Matches.{opened_again}
-use Rattle.aprs_fold.proofs.Puttings.{HasPut-fails}
 use Rattle.aprs_fold.proofs.Reading.{AreReading-asked, AreReading-len, AreReading-ready}
 use Rattle.aprs_fold.proofs.Streamed.{memory_own, AreOpened-all}
-use Rattle.aprs_fold.proofs.Walking.{leaves_here, leaves_none, leaves_taken, leaves_taking, leaves_write, memory_refuses, taking_refuses, there_is, walk_begins, walk_ends, walks_on, write_refuses, Walking}
+use Rattle.aprs_fold.proofs.Walking.{leaves_here, leaves_none, leaves_taken, leaves_taking, leaves_write, memory_refuses, taking_refuses, walk_begins, walk_ends, walks_on, write_refuses, Walking}
 use Rattle.aprs_fold.proofs.fold.put_rows.Goals as goal
 
 pub returns-in_err-opened-clause-left : goal.returns-in_err-opened-clause-left
 returns-in_err-opened-clause-left g c =
     let p = err_from_is_err_and c.from_residual.result c.from_residual.ensures.1 in
     rw (p.1, p.2) (leaves_none g.R.Read.remaining g.W.Write.contents c.args.limit c.args.gap
-    c.args.inputs.now c.open_all.new.inputs _ c.args.out.now c.requires.range
+    c.args.range.now c.args.inputs.now c.open_all.new.inputs _ c.args.out.now c.requires.gap
     c.in_err-opened.ensures.own)
 
 pub returns-in_err-tournament-clause-left : goal.returns-in_err-tournament-clause-left
@@ -23,14 +21,15 @@ returns-in_err-tournament-clause-left g c =
     let p = err_from_is_err_and c.from_residual-in_err-tournament.result
     c.from_residual-in_err-tournament.ensures.1 in
     rw (p.1, p.2) (leaves_none g.R.Read.remaining g.W.Write.contents c.args.limit c.args.gap
-    c.args.inputs.now c.open_all.new.inputs Memory c.args.out.now c.requires.range tt)
+    c.args.range.now c.args.inputs.now c.open_all.new.inputs Memory c.args.out.now c.requires.gap tt)
 
 pub loop-index-init : goal.loop-index-init
 loop-index-init g c = record {
   walks = subst (λ (last : List Row). Walking g.R.Read.remaining g.W.Write.contents c.args.limit
-      c.args.gap c.args.inputs.now c.open_all.new.inputs c.as_mut_slice-streams.result.now
+      c.args.gap c.args.range.now c.args.inputs.now c.open_all.new.inputs c.as_mut_slice-streams.result.now
       c.args.out.now c.args.out.now last 0) (sym c.new-last.ensures)
-      (walk_begins g.R.Read.remaining g.W.Write.contents c.args.limit c.args.gap c.args.inputs.now
+      (walk_begins g.R.Read.remaining g.W.Write.contents c.args.limit c.args.gap c.args.range.now
+      c.args.inputs.now
       c.args.out.now _ _ (subst (λ (l : List (RowStream _)). AreReading
       g.R.Read.remaining c.args.limit c.args.gap c.args.inputs.now c.open_all.new.inputs l
       (map (λ (s : RowStream _). []) l)) (sym c.as_mut_slice-streams.ensures.value)
@@ -45,7 +44,7 @@ returns-in_err-wrote-clause-refuses g c =
     let p = err_from_is_err_and c.from_residual-in_err-wrote.result
     c.from_residual-in_err-wrote.ensures.1 in
     let f = c.in-Some.ensures.some in
-    rw (p.1, p.2) (taking_refuses g.R.Read.remaining c.args.limit c.args.gap c.args.inputs.now c.loop-index.inputs
+    rw (p.1, p.2) (taking_refuses g.R.Read.remaining c.args.limit c.args.gap c.args.range.now c.args.inputs.now c.loop-index.inputs
     g.W.Write.contents _ _ c.loop-index.out c.take_front.new.out c.loop-index.last f.row
     (c.in_err-wrote.ensures.fails f.row f.is).1)
 
@@ -55,8 +54,8 @@ returns-in_err-wrote-clause-left g c =
     c.from_residual-in_err-wrote.ensures.1 in
     let f = c.in-Some.ensures.some in
     let t = c.in_err-wrote.ensures.fails f.row f.is in
-    rw (p.1, p.2) (leaves_taking g.R.Read.remaining g.W.Write.contents c.args.limit c.args.gap c.args.inputs.now
-    c.args.out.now c.requires.range c.loop-index.inputs c.loop-index.streams
+    rw (p.1, p.2) (leaves_taking g.R.Read.remaining g.W.Write.contents c.args.limit c.args.gap c.args.range.now
+    c.args.inputs.now c.args.out.now c.requires.gap c.loop-index.inputs c.loop-index.streams
     c.loop-index.out c.loop-index.last c.loop-index.count c.loop-index.invariant.walks c.in-Some.index f _ c.take_front.new.out t.0 t.1)
 
 pub returns-in_err-wrote-clause-asks : goal.returns-in_err-wrote-clause-asks
@@ -77,10 +76,10 @@ returns-in_err-count-clause-left g c =
     c.from_residual-in_err-count.ensures.1 in
     let f = c.in-Some.ensures.some in
     let t = c.in_ok-wrote.ensures.takes f.row f.is in
-    rw (p.1, p.2) (leaves_taken g.R.Read.remaining g.W.Write.contents c.args.limit c.args.gap c.args.inputs.now
-    c.args.out.now c.requires.range c.loop-index.inputs c.loop-index.streams
-    c.loop-index.out c.loop-index.last c.loop-index.count c.loop-index.invariant.walks c.in-Some.index f c.in_ok-wrote.wrote c.take_front.new.out t.0 c.in_ok-wrote.ensures.puts
-    c.take_front.new.last t.1 _ (memory_own _ c.in_err-count.ensures.fails) c.loop-index.inputs
+    rw (p.1, p.2) (leaves_taken g.R.Read.remaining g.W.Write.contents c.args.limit c.args.gap c.args.range.now
+    c.args.inputs.now c.args.out.now c.requires.gap c.loop-index.inputs c.loop-index.streams
+    c.loop-index.out c.loop-index.last c.loop-index.count c.loop-index.invariant.walks c.in-Some.index f t.1.closed c.take_front.new.out t.0 t.1.puts
+    c.take_front.new.last t.1.takes _ (memory_own _ c.in_err-count.ensures.fails) c.loop-index.inputs
     (ChangesAt-none c.in-Some.index c.loop-index.inputs))
 
 pub returns-in_err-count-clause-asks : goal.returns-in_err-count-clause-asks
@@ -114,10 +113,10 @@ returns-in_err-advance-clause-left g c =
     c.from_residual-in_err-advance.ensures.1 in
     let f = c.in-Some.ensures.some in
     let t = c.in_ok-wrote.ensures.takes f.row f.is in
-    rw (p.1, p.2) (leaves_taken g.R.Read.remaining g.W.Write.contents c.args.limit c.args.gap c.args.inputs.now
-    c.args.out.now c.requires.range c.loop-index.inputs c.loop-index.streams
-    c.loop-index.out c.loop-index.last c.loop-index.count c.loop-index.invariant.walks c.in-Some.index f c.in_ok-wrote.wrote c.take_front.new.out t.0 c.in_ok-wrote.ensures.puts
-    c.take_front.new.last t.1 _ c.in_err-advance.ensures.own c.advance.new.inputs
+    rw (p.1, p.2) (leaves_taken g.R.Read.remaining g.W.Write.contents c.args.limit c.args.gap c.args.range.now
+    c.args.inputs.now c.args.out.now c.requires.gap c.loop-index.inputs c.loop-index.streams
+    c.loop-index.out c.loop-index.last c.loop-index.count c.loop-index.invariant.walks c.in-Some.index f t.1.closed c.take_front.new.out t.0 t.1.puts
+    c.take_front.new.last t.1.takes _ c.in_err-advance.ensures.own c.advance.new.inputs
     c.in_err-advance.ensures.changes)
 
 pub returns-in_err-advance-clause-asks : goal.returns-in_err-advance-clause-asks
@@ -145,11 +144,12 @@ loop-index-preserved g c =
     c.loop-index.invariant.walks.taken c.loop-index.invariant.walks.reading in
     record {
       walks = walks_on g.R.Read.remaining g.W.Write.contents c.args.limit c.args.gap
-          c.args.inputs.now c.args.out.now c.requires.range c.loop-index.inputs
+          c.args.range.now c.args.inputs.now c.args.out.now c.requires.gap c.loop-index.inputs
           c.loop-index.streams c.loop-index.out c.loop-index.last c.loop-index.count
-          c.loop-index.invariant.walks c.in-Some.index f c.in_ok-wrote.wrote c.take_front.new.out
-          t.0 c.in_ok-wrote.ensures.puts c.take_front.new.last c.advance.new.inputs
-          c.advance.new.streams c.in_ok-count.count t.1 c.in_ok-count.ensures.counts one.0 one.1;
+          c.loop-index.invariant.walks c.in-Some.index f t.1.closed c.take_front.new.out t.0
+          t.1.puts c.take_front.new.last c.advance.new.inputs c.advance.new.streams
+          c.in_ok-wrote.wrote c.in_ok-count.count t.1.takes t.1.is_there
+          c.in_ok-count.ensures.counts one.0 one.1;
       played = c.play_again.ensures;
     }
 
@@ -164,8 +164,8 @@ pub returns-in_err-all-clause-left : goal.returns-in_err-all-clause-left
 returns-in_err-all-clause-left g c =
     let p = err_from_is_err_and c.from_residual-in_err-all.result
     c.from_residual-in_err-all.ensures.1 in
-    rw (p.1, p.2) (leaves_here g.R.Read.remaining g.W.Write.contents c.args.limit c.args.gap c.args.inputs.now
-    c.args.out.now c.requires.range c.loop-index.inputs c.loop-index.streams
+    rw (p.1, p.2) (leaves_here g.R.Read.remaining g.W.Write.contents c.args.limit c.args.gap c.args.range.now
+    c.args.inputs.now c.args.out.now c.requires.gap c.loop-index.inputs c.loop-index.streams
     c.loop-index.out c.loop-index.last c.loop-index.count c.loop-index.invariant.walks _ (memory_own _ c.in_err-all.ensures.fails))
 
 pub returns-in_err-all-clause-asks : goal.returns-in_err-all-clause-asks
@@ -184,12 +184,10 @@ pub returns-in_err-put_last-clause-left : goal.returns-in_err-put_last-clause-le
 returns-in_err-put_last-clause-left g c =
     let p = err_from_is_err_and c.from_residual-in_err-put_last.result
     c.from_residual-in_err-put_last.ensures.1 in
-    let w = c.loop-index.invariant.walks in
-    rw (p.1, p.2, c.in_err-put_last.ensures.fails.0) (leaves_write g.R.Read.remaining g.W.Write.contents c.args.limit c.args.gap c.args.inputs.now
-    c.args.out.now c.requires.range c.loop-index.inputs c.loop-index.streams
+    rw (p.1, p.2, c.in_err-put_last.ensures.fails.0) (leaves_write g.R.Read.remaining g.W.Write.contents c.args.limit c.args.gap c.args.range.now
+    c.args.inputs.now c.args.out.now c.requires.gap c.loop-index.inputs c.loop-index.streams
     c.loop-index.out c.loop-index.last c.loop-index.count c.loop-index.invariant.walks c.put_last.new.out
-    c.in_err-put_last.ensures.fails.1 (HasPut-fails c.args.out.now c.loop-index.out c.put_last.new.out
-    w.written c.loop-index.last w.put c.in_err-put_last.ensures.fails.1))
+    c.in_err-put_last.ensures.fails.1)
 
 pub returns-in_err-put_last-clause-asks : goal.returns-in_err-put_last-clause-asks
 returns-in_err-put_last-clause-asks g c =
@@ -198,13 +196,11 @@ returns-in_err-put_last-clause-asks g c =
 
 pub returns-clause-folds : goal.returns-clause-folds
 returns-clause-folds g c =
-    walk_ends g.R.Read.remaining g.W.Write.contents c.args.limit c.args.gap c.args.inputs.now
-    c.args.out.now c.requires.range c.loop-index.inputs c.loop-index.streams
-    c.loop-index.out c.loop-index.last c.loop-index.count c.loop-index.invariant.walks c.in_default.ensures.none c.is_some.result c.in_ok-put_last.field-0
-    c.put_last.new.out c.in_ok-all.all
-    (subst (λ b. IsThere b c.loop-index.last) (sym c.is_some.ensures)
-    (there_is c.loop-index.last c.row.result c.row.ensures.some c.row.ensures.none))
-    c.in_ok-put_last.ensures.wrote c.in_ok-put_last.ensures.puts c.in_ok-all.ensures.counts
+    walk_ends g.R.Read.remaining g.W.Write.contents c.args.limit c.args.gap c.args.range.now
+    c.args.inputs.now c.args.out.now c.requires.gap c.loop-index.inputs c.loop-index.streams
+    c.loop-index.out c.loop-index.last c.loop-index.count c.loop-index.invariant.walks
+    c.in_default.ensures.none c.has_line.result c.put_last.new.out c.in_ok-all.all
+    c.has_line.ensures c.in_ok-put_last.ensures.puts c.in_ok-all.ensures.counts
 
 pub returns-clause-asks : goal.returns-clause-asks
 returns-clause-asks g c =

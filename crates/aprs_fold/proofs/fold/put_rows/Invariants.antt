@@ -5,7 +5,7 @@ use Rattle.aprs_fold.proofs.fold.put_rows.Given as goal
 
 abbrev pub invariant-loop-index : goal.invariant-loop-index
 invariant-loop-index g l = record {
-  walks : Walking g.R.Read.remaining g.W.Write.contents l.limit l.gap l.fn.inputs l.inputs
+  walks : Walking g.R.Read.remaining g.W.Write.contents l.limit l.gap l.range l.fn.inputs l.inputs
       l.streams l.fn.out l.out l.last l.count;
   played : IsPlayed l.streams l.tournament.winners.items;
 }

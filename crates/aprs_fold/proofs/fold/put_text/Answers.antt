@@ -8,18 +8,19 @@ pub returns-in_err-put_header-clause-left : goal.returns-in_err-put_header-claus
 returns-in_err-put_header-clause-left g c =
     let p = err_from_is_err_and c.from_residual.result c.from_residual.ensures.1 in
     rw (p.1, p.2) (leaves_header g.R.Read.remaining g.W.Write.contents c.args.limit c.args.gap
-    c.args.inputs.now c.args.inputs.now c.args.out.now c.put_header.new.out
-    c.requires.range c.in_err-put_header.ensures.puts)
+    c.args.range.now c.args.inputs.now c.args.inputs.now c.args.out.now c.put_header.new.out
+    c.requires.gap c.in_err-put_header.ensures.puts)
 
 pub returns-in_err-put_header-clause-asks : goal.returns-in_err-put_header-clause-asks
-returns-in_err-put_header-clause-asks g c = AreAsked-none c.args.inputs.now
+returns-in_err-put_header-clause-asks g c =
+    AreAsked-none g.R.Read.remaining c.args.limit c.args.inputs.now
 
 pub returns-in_err-count-clause-left : goal.returns-in_err-count-clause-left
 returns-in_err-count-clause-left g c =
     let p = err_from_is_err_and c.from_residual-in_err-count.result
     c.from_residual-in_err-count.ensures.1 in
     rw (p.1, p.2) (leaves_rows g.R.Read.remaining g.W.Write.contents c.args.limit c.args.gap
-    c.args.inputs.now c.put_rows.new.inputs c.args.out.now c.put_header.new.out
+    c.args.range.now c.args.inputs.now c.put_rows.new.inputs c.args.out.now c.put_header.new.out
     c.put_rows.new.out (Puts-ok c.in_ok-put_header.ensures.puts) _ c.in_ok-put_header.ensures.empty
     c.in_err-count.ensures.left)
 
@@ -29,9 +30,9 @@ returns-in_err-put-clause-left g c =
     c.from_residual-in_err-put.ensures.1 in
     let h = c.in_ok-count.ensures.folds in
     rw (p.1, p.2) (leaves_all g.R.Read.remaining g.W.Write.contents c.args.limit c.args.gap
-    c.args.inputs.now c.put_rows.new.inputs c.args.out.now c.put.new.self _ h.2.book
+    c.args.range.now c.args.inputs.now c.put_rows.new.inputs c.args.out.now c.put.new.self _ h.2.book
     (text_ends g.R.Read.remaining g.W.Write.contents c.args.limit c.args.gap
-    c.args.inputs.now c.put_rows.new.inputs (Err c.in_err-put.field-0.0) c.args.out.now
+    c.args.range.now c.args.inputs.now c.put_rows.new.inputs (Err c.in_err-put.field-0.0) c.args.out.now
     c.put_header.new.out c.put_rows.new.out c.put.new.self c.in_ok-count.count _
     (Puts-ok c.in_ok-put_header.ensures.puts) h.2 (Puts-is c.in_err-put.ensures (cc))))
 
@@ -41,7 +42,7 @@ returns-clause-folds g c =
       h.0,
       h.1,
       Puts-ok (text_ends g.R.Read.remaining g.W.Write.contents c.args.limit c.args.gap
-          c.args.inputs.now c.put_rows.new.inputs (Ok tt) c.args.out.now c.put_header.new.out
+          c.args.range.now c.args.inputs.now c.put_rows.new.inputs (Ok tt) c.args.out.now c.put_header.new.out
           c.put_rows.new.out c.put.new.self c.in_ok-count.count _
           (Puts-ok c.in_ok-put_header.ensures.puts) h.2 (Puts-is c.in_ok-put.ensures (cc))),
       h.2.book,

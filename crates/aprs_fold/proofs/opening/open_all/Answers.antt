@@ -2,7 +2,7 @@ use Rattle.aprs_fold.proofs.Common.{◌∷◌, [], ◌∙◌, List, ap, sym, sub
 use Rattle.aprs_booktext.specs.declared.row_stream.RowStream.{RowStream}
 use Rattle.aprs_fold.specs.Streams.{AreOpened}
 use Rattle.aprs_fold.specs.declared.fault.FoldFault.TheVariants.{Memory}
-use Rattle.aprs_fold.proofs.Reading.{reading_calls}
+use Rattle.aprs_fold.proofs.Reading.{reading_asked}
 use Rattle.aprs_fold.proofs.Streamed.{memory_own, one_own, AreOpened-asked, AreOpened-dropped, AreOpened-more, AreOpened-refused, AreOpened-refused_asked}
 use Rattle.aprs_fold.proofs.Walking.{memory_refuses}
 use Rattle.aprs_fold.proofs.opening.open_all.Goals as goal
@@ -62,7 +62,7 @@ returns-in_err-keep-clause-asks g c =
     Memory r
     c.open_one.new.input c.args.inputs.now now c.loop-index.streams.items i
     c.loop-index.invariant.count here
-    (reading_calls g.R.Read.remaining c.args.limit c.args.gap r c.open_one.new.input
+    (reading_asked g.R.Read.remaining c.args.limit c.args.gap r c.open_one.new.input
     c.in_ok-stream.stream [] c.in_ok-stream.ensures.reads) c.loop-index.invariant.opened
 
 pub loop-index-preserved : goal.loop-index-preserved

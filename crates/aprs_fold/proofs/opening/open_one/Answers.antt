@@ -1,5 +1,6 @@
-use Rattle.aprs_fold.proofs.Common.{[], ◌∙◌, refl, sym, arith}
-use Rattle.aprs_fold.proofs.Streamed.{begins_other, differing_gap, gets_calls, same_gap, HasGot-none}
+use Rattle.aprs_fold.proofs.Common.{[], ◌∙◌, refl, sym, arith, err_from_is_err_and}
+use Rattle.aprs_fold.proofs.Streamed.{begins_other, differing_gap, same_gap, HasGot-none, IsAsked-none}
+use Rattle.aprs_fold.proofs.Reading.{gets_asked}
 use Rattle.aprs_fold.proofs.opening.open_one.Goals as goal
 
 pub returns-in-Err-clause-refuses : goal.returns-in-Err-clause-refuses
@@ -17,7 +18,7 @@ returns-then-ne-clause-refuses g c =
       refl,
       begins_other g.R.Read.remaining c.args.limit c.args.gap c.args.input.now c.advance.new.source
           c.advance.new.self (λ same. differs (c.gap.ensures ∙ same)) gets,
-      gets_calls g.R.Read.remaining c.args.limit c.args.gap c.args.input.now c.advance.new.source
+      gets_asked g.R.Read.remaining c.args.limit c.args.gap c.args.input.now c.advance.new.source
           c.advance.new.self [] gets,
     )
 
@@ -30,3 +31,8 @@ returns-clause-reads g c =
       size = omega (arith, c.in_default.ensures.size, c.in_ok-stream.ensures.size, c.requires);
       gets = c.in_default.ensures.one c.args.limit c.args.input.now [] first;
     }
+
+pub returns-in_err-stream-clause-refuses : goal.returns-in_err-stream-clause-refuses
+returns-in_err-stream-clause-refuses g c =
+    let p = err_from_is_err_and c.from_residual.result c.from_residual.ensures.1 in
+    rw (p.1, p.2) (IsAsked-none g.R.Read.remaining c.args.limit c.args.input.now)

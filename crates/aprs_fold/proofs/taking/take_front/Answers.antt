@@ -1,6 +1,5 @@
 use Rattle.aprs_fold.proofs.Common.{◌≡◌, ◌∙◌, None, Some, Row, sym, subst, millis_of, IfErr-weaker, IfOk-weaker, IsSoundRow}
-use Rattle.aprs_folding.specs.Folding.{TakesNext}
-use Rattle.aprs_fold.specs.Taking.{FailsTaking}
+use Rattle.aprs_fold.specs.Taking.{FailsTaking, Takes}
 use Rattle.aprs_fold.proofs.Fronts.{row_none, row_some}
 use Rattle.aprs_fold.proofs.taking.take_front.Goals as goal
 
@@ -11,7 +10,8 @@ returns-in-Some-clause-takes g c =
     IfOk-weaker c.take.result _ _ (λ wrote takes x is.
     let same : c.in-Some.next ≡ x = (let e : Some c.in-Some.next ≡ Some x = sym at ∙ is in cc) in
     subst (λ (z : Row). IsSoundRow z
-    × TakesNext wrote (millis_of c.args.gap) c.args.last.now z c.take.new.last) same
+    × Takes g.W.Write.contents c.args.range.now wrote (millis_of c.args.gap) c.args.out.now
+    c.take.new.out c.args.last.now z c.take.new.last) same
     (c.in-Some.ensures.own.0, takes)) c.take.ensures.takes
 
 pub returns-in-Some-clause-fails : goal.returns-in-Some-clause-fails
@@ -20,7 +20,7 @@ returns-in-Some-clause-fails g c =
     c.requires.first.within c.index-streams-index.is c.in-Some.next c.in-Some.ensures.some in
     IfErr-weaker c.take.result _ _ (λ fault fails x is.
     let same : c.in-Some.next ≡ x = (let e : Some c.in-Some.next ≡ Some x = sym at ∙ is in cc) in
-    subst (λ (z : Row). IsSoundRow z × FailsTaking g.W.Write.contents (millis_of c.args.gap) fault
+    subst (λ (z : Row). IsSoundRow z × FailsTaking g.W.Write.contents c.args.range.now (millis_of c.args.gap) fault
     c.args.out.now c.take.new.out c.args.last.now z) same
     (c.in-Some.ensures.own.0, fails)) c.take.ensures.fails
 

@@ -1,9 +1,8 @@
-use Rattle.aprs_listing.proofs.Common.{◌∙◌, [], ◌∷◌, ◌++◌, map, Some, None, ap, codes, decimal, Call, call_text, parts_of, mic_e_view, message_name, Puts-is}
+use Rattle.aprs_listing.proofs.Common.{◌∙◌, [], ◌∷◌, ◌++◌, map, Some, None, ap, codes, Call, call_text, parts_of, mic_e_view, Puts-is}
 use Rattle.aprs_listing.specs.History.{other_line}
 use Rattle.aprs_listing.specs.Lines.{field_text}
-use Rattle.aprs_listing.specs.Listing.{line_with_text, place_fields}
-use Rattle.aprs_listing.specs.declared.field.Field.TheVariants as field
-use Rattle.aprs_listing.proofs.Histories.{mic_e_read, text_line}
+use Rattle.aprs_listing.specs.Listing.{line_with_text}
+use Rattle.aprs_listing.proofs.Histories.{mic_e_read, told_text}
 use Rattle.aprs_listing.proofs.history.put_other.Goals as goal
 
 pub returns-in-Some : goal.returns-in-Some
@@ -12,9 +11,7 @@ returns-in-Some g c =
     let p = parts_of c.args.frame.now in
     let says = mic_e_view c.in-Some.says in
     Puts-is c.put_text_line.ensures
-    (text_line (codes "mic-e") c.args.told.now c.mic_e_fields-fields.result
-    (decimal says.course ∷ decimal says.speed ∷ message_name says.message
-    ∷ place_fields None says.place says.symbol) says.comment c.mic_e_fields-fields.ensures
+    (told_text (codes "mic-e") told says.comment c.mic_e_fields-fields.ensures
     ∙ ap (other_line told p)
     (mic_e_read p c.destination-destination.result c.info-info.result.now (Some c.in-Some.says)
     c.destination-destination.ensures c.info-info.ensures.value c.in-Some.ensures.value))
@@ -24,8 +21,7 @@ returns-in-None g c =
     let told = map field_text c.args.told.now in
     let p = parts_of c.args.frame.now in
     Puts-is c.put_text_line-in-None.ensures
-    (text_line (codes "raw") c.args.told.now (field.Call c.destination-destination.result ∷ [])
-    (call_text p.destination.call ∷ []) c.info-info.result.now
+    (told_text (codes "raw") told c.info-info.result.now
     (ap (λ (call : Call). call_text call ∷ []) c.destination-destination.ensures)
     ∙ ap (line_with_text (codes "raw") (told ++ call_text p.destination.call ∷ []))
     c.info-info.ensures.value

@@ -8,8 +8,8 @@ returns g c =
     let hops = map hop_of (parts_of c.read_frame-frame.result).digipeaters in
     Puts-is c.put_told.ensures
     (row_told c.args.row.now c.first.result c.last.result c.receivers.result.now
-    c.via_of.result.now c.read_frame-frame.result c.info.result.now c.source.result
+    c.via_or_dash.result.now c.read_frame-frame.result c.info.result.now c.source.result
     (map field_text c.told_fields-told.result) (view c.read.result) c.read_frame-frame.ensures
     c.first.ensures c.last.ensures c.receivers.ensures.text c.source.ensures
-    (c.via_of.ensures hops (c.as_slice.ensures.value ∙ c.hops_text-hops.ensures))
+    (c.via_or_dash.ensures hops (c.as_slice.ensures.value ∙ c.hops_text-hops.ensures))
     c.told_fields-told.ensures c.info.ensures.value c.read.ensures.value)

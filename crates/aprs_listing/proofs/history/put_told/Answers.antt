@@ -1,9 +1,8 @@
-use Rattle.aprs_listing.proofs.Common.{◌≡◌, ◌∙◌, ℕ, List, [], ◌∷◌, map, ap, sym, refl, codes, option_map, Parts, parts_of, view, Report, Puts-is}
-use Rattle.aprs_listing.specs.History.{id_word, told_line}
+use Rattle.aprs_listing.proofs.Common.{◌≡◌, ◌∙◌, ℕ, List, [], ◌∷◌, map, ap, sym, refl, codes, Parts, parts_of, view, Report, Puts-is}
+use Rattle.aprs_listing.specs.History.{told_line}
 use Rattle.aprs_listing.specs.Lines.{field_text, told_named_line}
-use Rattle.aprs_listing.specs.Listing.{place_fields, stamp_text, word}
-use Rattle.aprs_listing.specs.declared.field.Field.TheVariants as field
-use Rattle.aprs_listing.proofs.Histories.{id_of, text_line}
+use Rattle.aprs_listing.specs.Listing.{word}
+use Rattle.aprs_listing.proofs.Histories.{told_text}
 use Rattle.aprs_listing.proofs.history.put_told.Goals as goal
 
 line_by : (told : List (List ℕ)) (p : Parts) (r s : Report) → r ≡ s
@@ -19,8 +18,8 @@ pub returns-in-Position : goal.returns-in-Position
 returns-in-Position g c =
     let it = c.in-Position in
     Puts-is c.put_text_line.ensures
-    (text_line (codes "position") c.args.told.now c.place_fields-fields.result
-    (place_fields it.stamp it.place it.symbol) it.comment.now c.place_fields-fields.ensures
+    (told_text (codes "position") (map field_text c.args.told.now) it.comment.now
+    c.place_fields-fields.ensures
     ∙ line_by (map field_text c.args.told.now) (parts_of c.args.frame.now) c.args.report _ it.is)
 
 pub returns-in-Object : goal.returns-in-Object
@@ -37,20 +36,15 @@ returns-in-Item g c =
 
 pub returns-in-Status : goal.returns-in-Status
 returns-in-Status g c =
-    let it = c.in-Status in
     Puts-is c.put_text_line-in-Status.ensures
-    (text_line (codes "status") c.args.told.now (field.Stamp it.stamp ∷ [])
-    (stamp_text it.stamp ∷ []) it.text.now refl
-    ∙ line_by (map field_text c.args.told.now) (parts_of c.args.frame.now) c.args.report _ it.is)
+    (line_by (map field_text c.args.told.now) (parts_of c.args.frame.now) c.args.report _ c.in-Status.is)
 
 pub returns-in-Message : goal.returns-in-Message
 returns-in-Message g c =
     let it = c.in-Message in
     Puts-is c.put_text_line-in-Message.ensures
-    (text_line (codes "message") c.args.told.now
-    (field.Word it.addressee ∷ field.Plain c.id_text.result ∷ [])
-    (word it.addressee.now ∷ id_word (option_map (λ x. x.now) it.id) ∷ []) it.text.now
-    (ap (λ id. word it.addressee.now ∷ id ∷ []) (c.id_text.ensures ∙ id_of it.id))
+    (told_text (codes "message") (map field_text c.args.told.now) it.text.now
+    (ap (λ id. word it.addressee.now ∷ id ∷ []) c.id_text.ensures)
     ∙ line_by (map field_text c.args.told.now) (parts_of c.args.frame.now) c.args.report _ it.is)
 
 pub returns-in-Ack : goal.returns-in-Ack

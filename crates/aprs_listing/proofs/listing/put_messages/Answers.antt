@@ -1,18 +1,17 @@
-use Rattle.aprs_listing.proofs.Common.{arith, Puts-broken, Puts-more, Puts-none}
-use Rattle.aprs_listing.specs.Listing.{message_line}
+use Rattle.aprs_listing.proofs.SoFar.{PutSoFar-all, PutSoFar-broken, PutSoFar-more, PutSoFar-none}
 use Rattle.aprs_listing.proofs.listing.put_messages.Goals as goal
 
 pub loop-message-init : goal.loop-message-init
-loop-message-init g c = Puts-none _
+loop-message-init g c = rw (c.into_iter-message-iterator.ensures.into_iter_gives) (PutSoFar-none _ _)
 
 pub loop-message-preserved : goal.loop-message-preserved
 loop-message-preserved g c =
-    Puts-more message_line c.args.messages.now c.loop-message.message-index _
-    (omega arith) c.message-item.is c.loop-message.invariant c.in_ok-put_message.ensures
+    PutSoFar-more c.loop-message.invariant _ _ c.in-Some.ensures.steps c.in_ok-put_message.ensures
 
 pub returns-in_err-put_message : goal.returns-in_err-put_message
 returns-in_err-put_message g c =
-    Puts-broken message_line c.args.messages.now c.loop-message.message-index _
-    (omega arith) c.message-item.is c.loop-message.invariant c.from_residual.result
-    c.from_residual.ensures.0
-    c.in_err-put_message.ensures
+    PutSoFar-broken c.loop-message.invariant _ _ c.in-Some.ensures.steps _
+    c.from_residual.ensures.0 c.in_err-put_message.ensures
+
+pub returns : goal.returns
+returns g c = PutSoFar-all c.loop-message.invariant c.in-None.ensures.steps.0

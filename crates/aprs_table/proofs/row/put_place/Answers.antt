@@ -10,7 +10,7 @@ returns-in_err-put_cells g c =
     Puts-is
     (Puts-fails c.from_residual.result c.from_residual.ensures.0
     (Puts-is c.in_err-put_cells.ensures (tabbed c.name_cells.result _ c.name_cells.ensures)) _)
-    (three_groups (name_cells x) (where_cells x.place x.symbol) (motion_cells x))
+    (three_groups (name_cells x) (where_cells x.fix x.place x.symbol) (motion_cells x))
 
 pub returns-in_err-put_where : goal.returns-in_err-put_where
 returns-in_err-put_where g c =
@@ -19,7 +19,7 @@ returns-in_err-put_where g c =
     (Puts-then (Puts-is c.in_ok-put_cells.ensures (tabbed c.name_cells.result _ c.name_cells.ensures))
     (Puts-fails c.from_residual-in_err-put_where.result c.from_residual-in_err-put_where.ensures.0
     c.in_err-put_where.ensures _))
-    (three_groups (name_cells x) (where_cells x.place x.symbol) (motion_cells x))
+    (three_groups (name_cells x) (where_cells x.fix x.place x.symbol) (motion_cells x))
 
 pub returns : goal.returns
 returns g c =
@@ -28,4 +28,4 @@ returns g c =
     (Puts-then (Puts-is c.in_ok-put_cells.ensures (tabbed c.name_cells.result _ c.name_cells.ensures))
     (Puts-then c.in_ok-put_where.ensures
     (Puts-is c.put_cells-2.ensures (tabbed c.motion_cells.result _ c.motion_cells.ensures))))
-    (three_groups (name_cells x) (where_cells x.place x.symbol) (motion_cells x))
+    (three_groups (name_cells x) (where_cells x.fix x.place x.symbol) (motion_cells x))

@@ -1,17 +1,12 @@
-use Rattle.aprs_tool.proofs.Common.{Sends-ok}
-use Rattle.aprs_tool.proofs.Folds.{fold_writes}
+use Rattle.aprs_tool.proofs.Folds.{fold_of_all}
 use Rattle.aprs_tool.proofs.fold.fold_run.Goals as goal
 
-pub returns-in-Ok-clause-writes : goal.returns-in-Ok-clause-writes
-returns-in-Ok-clause-writes g c =
-    let h = c.in-Ok.ensures.folds in
-    fold_writes g.R.Read.remaining c.args.limit c.args.gap g.W.Write.contents h.3.version c.args.inputs.now _ h.0
-    _ _ h.1 (Sends-ok h.2)
-
-pub returns-in-Err-clause-refuses : goal.returns-in-Err-clause-refuses
-returns-in-Err-clause-refuses g c = record {
-  fault = c.in-Err.fault;
-  is = c.run_fault_of.ensures;
-  refused = c.in-Err.ensures.refuses;
-  left = c.in-Err.ensures.left;
-}
+pub returns-clause-writes : goal.returns-clause-writes
+returns-clause-writes g c inputs e =
+    let h = c.fold_range_run.ensures.writes inputs e in (
+      h.0,
+      h.1,
+      h.2,
+      fold_of_all c.args.limit c.args.gap g.W.Write.contents c.args.w.now c.fold_range_run.new.w
+          h.0 c.fold_range_run.result c.all.result c.all.ensures h.3,
+    )

@@ -9,5 +9,5 @@ invariant_of-result g c =
     c.in_ok-rows.ensures.book c.in_ok-notes.ensures in (
       c.in_ok-indexes.ensures c.args.store.now.rows builder.notes,
       subst (AreTallies c.args.store.now.rows) (sym c.in_ok-tallies.ensures) builder.tallies,
-      c.in_ok-messages.ensures _ _ builder.exchange,
+      builder.exchange,
     )

@@ -1,0 +1,68 @@
+//! Ranges of sources.
+ghost use Rattle.std.specs.Prelude.{◌≡◌};
+ghost use Rattle.aprs_laws.specs.Row.{row_key};
+ghost use Rattle.aprs_fold.specs.Range as Spec;
+
+use aprs_ax25::Callsign;
+use aprs_rows::RowView;
+
+/// The sources from one to another, in the order of a book: by letters and digits, and then by SSID
+/// as a number.
+#[derive(Drop)]
+pub struct SourceRange {
+    /// The first of them; where there is none, the range begins with the first source of all.
+    pub from: Option<Callsign>,
+    /// The first after them; where there is none, the range ends with the last source of all.
+    pub until: Option<Callsign>,
+}
+
+impl SourceRange {
+    /// The range of all sources. Takes no memory.
+    pub fn all() -> SourceRange
+        ensures { result ≡ Spec.all_sources }
+    {
+        SourceRange {
+            from: None,
+            until: None,
+        }
+    }
+
+    /// Whether the source is within the range: not before its first, and before its end. Takes no
+    /// memory.
+    pub fn contains(&self, source: &Callsign) -> bool
+        ensures { result ≡ Spec.is_within self.now source.now }
+    {
+        is_from(&self.from, source) && is_until(&self.until, source)
+    }
+
+    /// Whether the row's source is within the range.
+    #[tactic(auto, unfolding(aprs_laws::specs::Key::key_of))]
+    pub(crate) fn contains_row(&self, row: &RowView<'_>) -> bool
+        ensures { result ≡ Spec.is_within self.now (row_key row.now).source }
+    {
+        if self.from.is_none() && self.until.is_none() {
+            return true;
+        }
+        self.contains(&row.read_frame().source())
+    }
+}
+
+/// Whether the source isn't before the first one of a range, if it has one.
+fn is_from(first: &Option<Callsign>, source: &Callsign) -> bool
+    ensures { result ≡ Spec.is_from first.now source.now }
+{
+    match first {
+        Some(first) => first.cmp(source).is_le(),
+        None => true,
+    }
+}
+
+/// Whether the source is before the end of a range, if it has one.
+fn is_until(end: &Option<Callsign>, source: &Callsign) -> bool
+    ensures { result ≡ Spec.is_until end.now source.now }
+{
+    match end {
+        Some(end) => source.cmp(end).is_lt(),
+        None => true,
+    }
+}

@@ -1,0 +1,12 @@
+use Rattle.aprs_monitor.proofs.Common.{arith, parts_of, hop_of, hop_text, shown-each}
+use Rattle.aprs_monitor.proofs.hops.push_hops_text.Goals as goal
+
+pub loop-i-preserved : goal.loop-i-preserved
+loop-i-preserved g c =
+    let digipeaters = (parts_of c.args.frame.now).digipeaters in
+    record {
+      text = shown-each hop_text hop_of c.loop-i.out.items c.push_hop.new.out.items
+          digipeaters c.loop-i.i (omega (arith, c.loop-i-test.true, c.hops-i-end.ensures.value))
+          c.push_hop.ensures.text c.args.out.now.items c.loop-i.invariant.text;
+      most = omega (arith, c.push_hop.ensures.most, c.loop-i.invariant.most);
+    }

@@ -1,0 +1,89 @@
+// @ts-check
+// What the reader brings to the page: maps, a roster, and the operator's own lines.
+
+import { readBrought } from "./bases.js";
+import { refresh } from "./drawing.js";
+import { readBase } from "./overlays.js";
+import { readRoster } from "./roster.js";
+import { page, tell } from "./state.js";
+import { count, messageOf, printable } from "./words.js";
+
+/** @typedef {import("./state.js").Brought} Brought */
+
+/**
+ * What a text is: a base map or a roster; throws where it is none.
+ * @param {string} text
+ */
+function readText(text) {
+  if (/^\s*[<{[]/.test(text)) return { base: readBase(text), roster: null };
+  const roster = readRoster(text);
+  if (!roster.list.length) throw new Error("no map and no list of calls");
+  return { base: null, roster };
+}
+/**
+ * Takes a base map or a roster, in place of one of its name; says so where it is none.
+ * @param {string} name
+ * @param {string} text
+ */
+export function bring(name, text) {
+  /** @type {Brought} */
+  const it = { name, text, base: null, roster: null, fault: "" };
+  try {
+    Object.assign(it, readText(text));
+  } catch (fault) {
+    it.fault = messageOf(fault);
+  }
+  page.brought = [...page.brought.filter(one => one.name !== name), it];
+  tell(page.brought.map(toldOf).reverse().join("; "), page.brought.some(isBad));
+  readBrought();
+  refresh();
+}
+const isBad = (/** @type {Brought} */ { fault, roster }) =>
+  fault !== "" || roster !== null && roster.faults.length > 0;
+/**
+ * What came of something that was brought.
+ * @param {Brought} it
+ */
+function toldOf({ name, roster, fault }) {
+  const calls = roster ? [count(roster.list.length, "call"),
+    ...roster.faults.map(it => `line ${it.line}: ${it.why}`)].join(", ") : "a map";
+  return `${printable(name)}: ${fault || calls}`;
+}
+/** @param {File[]} files */
+export async function bringAll(files) {
+  for (const it of files) {
+    const fault = await bringGround(it);
+    if (fault === null) bring(it.name, await it.text());
+    else if (fault) tell(`${printable(it.name)}: ${fault}`, true);
+  }
+}
+/**
+ * Takes a map of squares or a picture of one; null where it is none, or why it can't be drawn.
+ * @param {File} file
+ */
+export async function bringGround(file) {
+  try {
+    return await page.grounds.take(file) ? "" : null;
+  } catch (fault) {
+    return `can\u2019t be drawn as a map: ${messageOf(fault)}`;
+  }
+}
+/** Takes all away that the reader brought. */
+export function takeAllAway() {
+  page.brought = [];
+  page.grounds.clear();
+  tell("");
+  readBrought();
+  refresh();
+}
+/**
+ * Takes the operator's own lines of the pages of events.
+ * @param {{ name: string, lines: import("./ownlines.js").Line[] }[]} pages
+ */
+export function bringLines(pages) {
+  const lines = pages.flatMap(it => it.lines);
+  page.form.tell(page.own.bring(lines));
+  tell(pages.map(it =>
+    `${printable(it.name)}: ${count(it.lines.length, "line")} of your own for ICS-309`).join("; "));
+  page.form.draw();
+}

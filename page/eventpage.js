@@ -1,0 +1,52 @@
+// @ts-check
+// The page of the event that is saved, the same that event-page makes of these files.
+
+import { boxAround, carriedIn, nearIn } from "./carried.js";
+import { contents } from "./contents.js";
+import { page, textOf } from "./drawn.js";
+import { rosterText } from "./roster.js";
+
+const asData = (/** @type {unknown} */ value) => JSON.stringify(value)
+  .replaceAll("&", "\\u0026").replaceAll("<", "\\u003c").replaceAll(">", "\\u003e");
+/** @type {Record<string, string>} */
+const MARKUP = { "&": "&amp;", "<": "&lt;", ">": "&gt;", '"': "&quot;", "'": "&#x27;" };
+const asHtml = (/** @type {string} */ text) => text.replace(/[&<>"']/g, it => MARKUP[it]);
+
+/** So many bytes are a megabyte. */
+const MEGABYTE = 1e6;
+
+/**
+ * The squares of the reader's own map around the places, in so many megabytes at most.
+ * @param {number} most
+ */
+export async function squaresWithin(most) {
+  const { tiles } = page.map, box = boxAround(nearIn(page.net.placed.map(it => it.track)));
+  if (tiles.least > tiles.most || !most || !box) return { squares: {}, leftOut: null };
+  return carriedIn(tiles, box, most * MEGABYTE);
+}
+/** The data of the page, with the maps, the roster and the lines that the reader brought. */
+function dataOf() {
+  const { waits, ...data } = page.data, rosters = page.brought.filter(it => it.roster);
+  const bases = page.brought.filter(it => it.base);
+  data.maps = [...data.maps, ...bases.map(it => it.text)];
+  if (rosters.length + (data.roster ? 1 : 0) > 1) data.roster = rosterText(page.roster.list);
+  else if (rosters.length) data.roster = rosters[0].text;
+  if (page.own.lines.length) data.lines = page.own.lines;
+  return data;
+}
+/**
+ * The page of the event as a text, with these squares of a map.
+ * @param {Record<string, string>} squares
+ */
+export function eventPage(squares = {}) {
+  const { digests, shell } = contents, data = dataOf();
+  if (Object.keys(squares).length) data.tiles = squares;
+  /** @type {Record<string, string>} */
+  const values = { TITLE: asHtml(data.title),
+    STYLE: document.querySelector("style")?.textContent || "",
+    POLICY: `default-src 'none'; script-src ${digests.draws}; style-src ${digests.style}; ` +
+      "base-uri 'none'; form-action 'none'",
+    FILES: "", COAST: textOf("coast"), FOOTER: "Made by event-page from a book of aprsbook.",
+    DATA: asData(data), SCRIPTS: `<script>${textOf("draws")}<\/script>` };
+  return shell.replace(/@([A-Z]+)@/g, (_, /** @type {string} */ name) => values[name]);
+}

@@ -1,0 +1,62 @@
+// @ts-check
+// What stands above all else: when and by whom the net was heard, what is new, what wants doing.
+
+import { byId, make } from "./dom.js";
+import { needsOf, newsOf } from "./news.js";
+import { expectedOf } from "./roster.js";
+import { page, presentOf, view } from "./state.js";
+import { clocks, count, dateText, secondText, timeText, zoneText } from "./words.js";
+
+/** Says when, of how many and by whom the net was heard. */
+export function drawAbout() {
+  const { net, all } = page, stations = net.things.filter(it => it.kind === "station").length;
+  const zone = net.rows.length ? zoneText(net.end) : "UTC";
+  byId("zone").textContent = `All times are ${zone}.`;
+  if (!net.rows.length)
+    byId("about").textContent = all.rows.length ? "Nothing was heard in this time." :
+      page.data.waits ? "" : "Nothing was heard yet.";
+  else {
+    const by = net.receivers.map(it => it.name).join(", ");
+    const to = (clocks.dated ? dateText(net.end) + " " : "") + secondText(net.end);
+    byId("about").textContent = `${dateText(net.begin)} ${secondText(net.begin)} to ${to} ` +
+      `${zone} \u00b7 ${count(net.rows.length, "transmission")} of ` +
+      `${count(stations, "station")} \u00b7 heard by ${by}`;
+  }
+}
+/** Says what is new since the reader looked, where the page goes on. */
+export function drawLooked() {
+  const { net, data, looked } = page, goesOn = Boolean(data.live || page.follows);
+  if (!goesOn) looked.forget();
+  else if (!looked.seen && net.rows.length) looked.look(net, Date.now() / 1000);
+  if (page.turned) looked.reveal(net);
+  page.turned = false;
+  const fresh = looked.count(net), button = byId("looked");
+  button.hidden = !fresh;
+  button.textContent = `${fresh} new since ${timeText(looked.at)}: mark as seen`;
+  document.title = fresh ? `(${fresh}) ${data.title}` : data.title;
+}
+/**
+ * The words of the news, and notes and faults of the roster.
+ * @returns {HTMLElement[]}
+ */
+function newsNodes() {
+  const { net, data } = page, now = presentOf(page);
+  const expected = expectedOf(page.roster.list, net.things);
+  const missing = expected.filter(it => now - it.last > view.silent).map(it => it.call);
+  const news = net.rows.length ? newsOf(net, { gap: data.gap, silent: data.silent,
+    isSilent: view.isSilent, missing, expected: expected.length }) : [];
+  const faults = page.roster.faults.map(it => `roster, line ${it.line}: ${it.why}`);
+  return [...news.map(({ href, grade, text, pick: key }) => make("a", { href, className: grade,
+    textContent: text, data: key ? { key } : {} })),
+  ...[...data.notes, ...faults].map(text => make("span", { className: "bad", textContent: text }))];
+}
+/** What wants doing, as links; what says the same stays, and keeps the focus. */
+export function drawNews() {
+  const nodes = newsNodes();
+  const words = (/** @type {Element[]} */ list) =>
+    list.map(it => it.className + it.textContent).join("\n");
+  if (words(nodes) !== words([...byId("news").children]))
+    byId("news").replaceChildren(...nodes.flatMap(it => [it, " "]));
+  page.alarm.hear(needsOf(page.net.things).filter(it => it.grade === "alarm" || it.grade === "bad")
+    .map(it => it.text));
+}

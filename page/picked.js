@@ -1,0 +1,97 @@
+// @ts-check
+// What is picked: a station, an object or an item, and all that is known of it.
+
+import { wordsOf } from "./details.js";
+import { air, byId, choose, make, momentOf } from "./dom.js";
+import { detailLines } from "./facts.js";
+import { numbersOf } from "./frames.js";
+import { bearing, distance } from "./globe.js";
+import { graphNode, graphsOf } from "./graphs.js";
+import { cell, List, timeCell } from "./lists.js";
+import { placeFacts } from "./placeforms.js";
+import { who } from "./roster.js";
+import { page } from "./state.js";
+import { markOf, symbolOf } from "./symbols.js";
+import { NO_FIX, whereOf } from "./tables.js";
+import { channelsOf } from "./telemetry.js";
+import { far } from "./units.js";
+
+/** @typedef {import("./net.js").Thing} Thing */
+/** @typedef {import("./reading.js").Place} Place */
+/** @typedef {import("./facts.js").Fact} Fact */
+
+const thingOf = (/** @type {string | null} */ key) => page.net.things.find(it => it.key === key);
+/**
+ * Picks a thing, or, where it is picked already, nothing. Where it wasn't picked on the map, the
+ * map comes into view; its row in the table is marked.
+ * @param {string | null} key
+ */
+export function pick(key, onMap = false) {
+  page.from = page.picked && page.picked !== key ? page.picked : page.from;
+  page.picked = page.picked === key ? null : key;
+  if (!page.picked) page.from = null;
+  choose("pick", page.picked || "");
+  Object.assign(page.map, { picked: page.picked, from: page.from });
+  const thing = thingOf(page.picked);
+  if (thing?.now) page.map.reach(thing.now.vector);
+  drawOne();
+  page.lists.things.mark(page.picked, onMap);
+  if (thing?.now && !onMap) byId("map").scrollIntoView({ block: "nearest" });
+  page.map.paintSoon();
+}
+/** What is known of the thing that is picked. */
+export function drawOne() {
+  const thing = thingOf(page.picked);
+  byId("one").hidden = !thing;
+  if (!thing) return;
+  byId("one-name").replaceChildren(...(thing.now ? [markOf(thing, thing.now)] : []), thing.label,
+    make("small", { textContent: ` ${thing.kind}${thing.killed ? ", killed" : ""}` }));
+  const channels = channelsOf(page.all.messages, thing.name);
+  byId("one-about").replaceChildren(...factsOf(thing, channels).flatMap(([name, ...value]) =>
+    [make("dt", { textContent: name }), make("dd", {}, ...value)]));
+  page.lists.places.show(thing.places.reverse());
+  const numbers = numbersOf(thing, page.net.rows);
+  byId("one-graphs").replaceChildren(
+    ...graphsOf(page.all.rows, numbers, channels).map(it => graphNode(it, page.net)));
+  page.lists.frames.show(numbers.reverse());
+}
+/** @param {Thing} thing @param {import("./telemetry.js").Channel[]} channels */
+function factsOf(thing, channels) {
+  const { now } = thing;
+  /** @type {Fact[]} */
+  const facts = [["last heard", momentOf(thing.last), ` by ${thing.by.join(", ")}`],
+    ["sent", String(thing.sent)]];
+  if (thing.unfixed) facts.push(["0, 0", NO_FIX]);
+  if (now) facts.push(...factsAt(thing, now));
+  if (thing.status) facts.push(["status", air(thing.status)]);
+  facts.push(...detailLines(thing, page.net.rows, channels));
+  const from = thingOf(page.from);
+  if (now && from?.now && from !== thing) {
+    const way = bearing(from.now.vector, now.vector);
+    facts.push([`from ${from.label}`,
+      `${far(distance(from.now.vector, now.vector))}, ${Math.round(way) % 360}\u00b0`]);
+  }
+  return facts;
+}
+/** @param {Thing} thing @param {Place} now */
+function factsAt({ kind }, now) {
+  const word = symbolOf(now).word, words = wordsOf(now);
+  /** @type {Fact[]} */
+  const facts = word ? [["symbol", word]] : [];
+  facts.push(...placeFacts(now.north, now.east));
+  if (words.length) facts.push(["says", words.join(", ")]);
+  if (now.comment) facts.push(["comment", air(now.comment)]);
+  if (kind !== "station") facts.push(["put by", who(now.source)]);
+  return facts;
+}
+/** @param {HTMLElement} box */
+export function placeList(box) {
+  const row = (/** @type {Place} */ it) => make("tr", {}, timeCell(it.first),
+    cell("where", ...whereOf(it)), cell("about", wordsOf(it).join(", ")),
+    cell("about", air(it.comment)), cell("by", it.receivers.join(", ")));
+  return new List(box, { id: "places", caption: "places", row, none: "no place", columns: [
+    { title: "heard", number: true, value: it => it.first },
+    { title: "place", value: it => it.north }, { title: "says", value: it => wordsOf(it).join() },
+    { title: "comment", value: it => it.comment },
+    { title: "by", value: it => it.receivers.join() }] });
+}

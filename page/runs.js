@@ -1,0 +1,70 @@
+// @ts-check
+// The runs that make a book and its tables of files, which begin before the files are checked.
+
+import { placeOf } from "./intake.js";
+import { run } from "./workers.js";
+
+/** @typedef {import("./intake.js").Given} Given */
+/** @typedef {import("./workers.js").Got} Got */
+/** @typedef {"merge" | "rows" | "messages"} Command */
+/** @typedef {Partial<Record<Command, Promise<Got | null>>>} Begun */
+/**
+ * A book, the texts of its tables, and the columns of its rows.
+ * @typedef {{ book: Uint8Array, rows: string, messages: string,
+ *   read: import("./reading.js").Read | null }} Made
+ */
+/** A run of all files that was refused: for which of them, or -1 where it is for none. */
+export class Refused extends Error {
+  /** @param {Got} got */
+  constructor(got) {
+    super(placeOf(got));
+    this.input = got.status === 1 ? got.input : -1;
+  }
+}
+
+/**
+ * Runs that began before their files were checked: the files, the gap, and what comes of each run.
+ * @type {{ all: Given[], gap: number, got: Begun } | null}
+ */
+let early = null;
+/** Of so many bytes at most, the table is made of the files themselves. */
+const EARLY_BYTES = 2 ** 26;
+/**
+ * Begins with files that aren't checked yet. Files have the same table as their book, so it need
+ * not wait for the book; but two runs then hold all files at once, so only where they are small.
+ * @param {Given[]} all
+ * @param {number} gap
+ */
+export function beginEarly(all, gap) {
+  const inputs = all.map(it => it.taken || it.bytes);
+  const size = inputs.reduce((sum, it) => sum + it.length, 0);
+  const begin = (/** @type {Command} */ command, /** @type {Uint8Array[]} */ given) =>
+    run(command, gap, given).catch(() => null);
+  const rows = size <= EARLY_BYTES ? begin("rows", inputs) : null, merge = begin("merge", inputs);
+  const ofBook = (/** @type {Command} */ command) =>
+    merge.then(book => book?.status === 0 ? begin(command, [book.bytes]) : null);
+  early = { all, gap, got: { merge, rows: rows || ofBook("rows"), messages: ofBook("messages") } };
+}
+/**
+ * Book and tables of these files, also where they began early and well.
+ * @param {Given[]} good
+ * @param {number} gap
+ * @param {(share: number) => void} tellShare
+ * @returns {Promise<Made>}
+ */
+export async function textsOf(good, gap, tellShare) {
+  const begun = early && early.gap === gap && early.all.length === good.length &&
+    early.all.every(it => good.includes(it)) ? early.got : {};
+  early = null;
+  const answerOf = async (/** @type {Command} */ command, /** @type {Uint8Array[]} */ inputs) => {
+    const before = await begun[command];
+    const got = before?.status === 0 ? before : await run(command, gap, inputs);
+    if (got.status) throw new Refused(got);
+    return got;
+  };
+  const book = (await answerOf("merge", good.map(it => it.taken || it.bytes))).bytes;
+  tellShare(0.6);
+  const [rows, messages] =
+    await Promise.all([answerOf("rows", [book]), answerOf("messages", [book])]);
+  return { book, rows: rows.text || "", read: rows.read || null, messages: messages.text || "" };
+}

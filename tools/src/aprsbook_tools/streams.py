@@ -1,0 +1,42 @@
+"""Lines that are read and written as they come, however many there are."""
+import contextlib
+import sys
+from typing import IO, Iterator, Optional, Sequence
+
+from aprsbook_tools import whole
+
+BLOCK = 1 << 16  # bytes that are written at a time
+
+
+def name_of(path: Optional[str]) -> str:
+    """What a fault calls a file, or standard input."""
+    return path if path is not None else "standard input"
+
+
+@contextlib.contextmanager
+def opened(path: Optional[str]) -> Iterator[IO[bytes]]:
+    """A file to read, or standard input."""
+    if path is None:
+        if sys.stdin is None:
+            raise OSError("standard input is closed")
+        yield sys.stdin.buffer
+    else:
+        with open(path, "rb") as file:
+            yield file
+
+
+def put(output: Optional[str], lines: Iterator[bytes], inputs: Sequence[str],
+        at_once: bool = False) -> None:
+    """Writes lines into a file, whole or not at all; or to standard output, each at once where the
+    input goes on."""
+    if output is not None and output != "-":
+        with whole.writing(output, inputs) as new:
+            new.file.writelines(lines)
+        return
+    block = bytearray()
+    for line in lines:
+        block += line
+        if at_once or len(block) > BLOCK:
+            whole.write_out(bytes(block))
+            block.clear()
+    whole.write_out(bytes(block))
