@@ -4,11 +4,11 @@
 # of .ci/run. Then the commands of its example print what the README says, those of the table and
 # that of the page end well, and the files of a release have the names that it has.
 #
-# With --whole both commands build and prove everything, as for somebody who begins here. That takes
-# the time that the README says. Otherwise the first one runs the given program, and the second
-# nothing. Needs a POSIX system, git, tar and GNU make (with --whole what the README says), and says
-# what it leaves out because a tool isn't there.
-# usage: tests/readme.sh PROGRAM [--whole]
+# With --whole both commands build and prove everything, as for somebody who begins here, and with
+# --first or --second that one alone does. That takes the time that the README says. Otherwise the
+# first one runs the given program, and the second nothing. Needs a POSIX system, git, tar and GNU make
+# (with such an option what the README says), and says what it leaves out because a tool isn't there.
+# usage: tests/readme.sh PROGRAM [--whole | --first | --second]
 whole=${2-}
 set -- "${1-}"
 . "$(dirname "$0")/program.sh"
@@ -36,17 +36,21 @@ if has 'the two commands of the README' make git tar &&
     mkdir checkout
     (cd "$repository" && git ls-files | tar -cf - -T -) | tar -xf - -C checkout
     cd checkout
-    if [ "$whole" = --whole ]; then
-        # as somebody who has just logged in
-        anew() { env -i HOME="$scratch" PATH="/usr/local/bin:/usr/bin:/bin" LC_ALL=C sh -c "$1"; }
-        anew "$first" > ../printed
-        anew "$second" > ../tested
+    # as somebody who has just logged in
+    anew() { env -i HOME="$scratch" PATH="/usr/local/bin:/usr/bin:/bin" LC_ALL=C sh -c "$1"; }
+    case $whole in
+    --whole | --first) anew "$first" > ../printed ;;
+    *) sh -c "$first -s -o build PROGRAM='$program'" > ../printed ;;
+    esac
+    case $whole in
+    --whole | --second)
+        anew "$second" > ../tested || fail "$second: $(tail ../tested)"
         tail -n 1 ../tested | grep -qx '[1-9][0-9]* passed, 0 failed' ||
             fail "$second: $(tail ../tested)"
-    else
-        sh -c "$first -s -o build PROGRAM='$program'" > ../printed
-        make -n "${second#make }" > /dev/null || fail "there is no '$second'"
-    fi
+        tail -n 1 ../tested
+        ;;
+    *) make -n "${second#make }" > /dev/null || fail "there is no '$second'" ;;
+    esac
     cd ..
     tail -n "$(wc -l < expected)" printed | cmp - expected || fail "$first prints: $(cat printed)"
 fi

@@ -1,7 +1,8 @@
 #!/usr/bin/env bash
 # Does README from its top in a clean Debian 12, with the packages that it names, the kit and what the
-# kit keeps, and a clone of the last commit. Takes what README says.
-# usage: tests/clean/readme.sh PROGRAM
+# kit keeps, and a clone of the last commit. Takes what README says. With --first or --second only that
+# command of README is done from nothing.
+# usage: tests/clean/readme.sh PROGRAM [--first | --second]
 . "$(dirname "$0")/debian.sh"
 if [ ! -x "${1:-}" ] || [ ! -f "$1" ]; then fail "there is no program '${1:-}'"; fi
 command -v rt > /dev/null || fail 'needs the kit'
@@ -21,4 +22,4 @@ for name in aprsbook aprsbook-history aprsbook-table aprsbook-fold; do
         if [ -f "$it" ]; then cp "$it" "$debian/root/programs/$name"; fi
     done
 done
-in_it /root/aprsbook/tests/readme.sh /root/programs/aprsbook --whole
+in_it /root/aprsbook/tests/readme.sh /root/programs/aprsbook "${2:---whole}"
