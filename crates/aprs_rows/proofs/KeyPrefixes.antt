@@ -1,9 +1,10 @@
 -- Prefixes are in order as the keys are, as far as they go.
-use Rattle.aprs_rows.proofs.Common.{◌≡◌, ◌∙◌, ℕ, zero, suc, ◌+◌, ◌*◌, ◌-◌, ◌/◌, ◌%◌, ◌<◌, ◌≤◌, List, [], ◌∷◌, ◌++◌, length, take, drop, replicate, get_or, slice_index, append_assoc, true, refl, sym, ap, arith, w64, from_be_bytes, nat_cmp, ordering_then, Ordering, Less, Equal, Greater, list_all, nat_tests, and_parts, IsTotalOrder, tied_itself, then_total, on_total, nat_cmp_total, length-append, length-replicate, take_at, drop_at, take-take, Parts, FrameOf, address_field, call_of, parts_of, FrameOf-IsSound, bytes_cmp, Key, ordering_then_assoc}
+use Rattle.aprs_rows.proofs.Common.{◌≡◌, ◌∙◌, ℕ, zero, suc, ◌+◌, ◌*◌, ◌-◌, ◌/◌, ◌%◌, ◌<◌, ◌≤◌, List, [], ◌∷◌, ◌++◌, length, take, drop, replicate, get_or, slice_index, append_assoc, true, refl, sym, ap, arith, w64, from_be_bytes, nat_cmp, ordering_then, Ordering, Less, Equal, Greater, list_all, nat_tests, and_parts, IsTotalOrder, tied_itself, then_total, on_total, nat_cmp_total, length-append, length-replicate, take_at, drop_at, take-take, Parts, FrameOf, address_field, call_of, parts_of, bytes_cmp, Key, ordering_then_assoc}
 use Rattle.aprs_laws.specs.Key.{key_of, key_cmp}
 use Rattle.std.proofs.lemmas.Map.Lookups.{CmpEqualImpliesEq, exact_pairs, exact_unsigned}
 use Rattle.aprs_ax25.specs.Address.{Address, IsAddress, letters_and_spaces, address_octets}
 use Rattle.aprs_ax25.specs.Callsign.{Call, IsCall, call_cmp, is_callsign_byte}
+use Rattle.aprs_ax25.specs.Frame.{control_ui, pid_none}
 use Rattle.aprs_ax25.proofs.Addresses.{double, half, length-address_octets}
 use Rattle.aprs_rows.proofs.Digits.{Bytes, be_cmp, be_cmp_all, first_then_all, then_equal}
 use Rattle.aprs_rows.specs.KeyPrefix.{call_number, key_prefix_of, HasKeyPrefix}
@@ -126,64 +127,136 @@ half_double (x ∷ xs) =
     let e : (2 * x) / 2 ≡ x = omega arith in
     ap (λ y. y ∷ half (double xs)) e ∙ ap (λ t. x ∷ t) (half_double xs)
 
--- the letters of an address that stands first
-first_letters : (extension : ℕ) (a : Address) → IsAddress a → (more : List ℕ)
-    → half (take 6 (take 7 (address_octets extension a ++ more))) ≡ letters_and_spaces a.call.letters
-first_letters extension a h more =
+-- the letters of an address that stands first, each shifted left by one bit
+first_doubled : (extension : ℕ) (a : Address) → IsAddress a → (more : List ℕ)
+    → take 6 (take 7 (address_octets extension a ++ more)) ≡ double (letters_and_spaces a.call.letters)
+first_doubled extension a h more =
     let letters = double (letters_and_spaces a.call.letters) in
     let last = 32 * a.flags + 2 * a.call.ssid + extension in
-    ap (λ t. half (take 6 (take 7 t))) (append_assoc letters (last ∷ []) more)
-    ∙ ap half (take-take 6 7 (letters ++ last ∷ more) (omega arith)
+    ap (λ t. take 6 (take 7 t)) (append_assoc letters (last ∷ []) more)
+    ∙ take-take 6 7 (letters ++ last ∷ more) (omega arith)
     ∙ take_at letters (last ∷ more) 6
-    (omega (arith, length-address_octets extension a h, length-append letters (last ∷ []))))
-    ∙ half_double (letters_and_spaces a.call.letters)
+    (omega (arith, length-address_octets extension a h, length-append letters (last ∷ [])))
 
-field_letters : (a : Address) (others : List Address) → IsAddress a → (more : List ℕ)
-    → half (take 6 (take 7 (address_field (a ∷ others) ++ more))) ≡ letters_and_spaces a.call.letters
-field_letters a [] h more = first_letters 1 a h more
-field_letters a (b ∷ others) h more =
-    ap (λ t. half (take 6 (take 7 t)))
+field_doubled : (a : Address) (others : List Address) → IsAddress a → (more : List ℕ)
+    → take 6 (take 7 (address_field (a ∷ others) ++ more)) ≡ double (letters_and_spaces a.call.letters)
+field_doubled a [] h more = first_doubled 1 a h more
+field_doubled a (b ∷ others) h more =
+    ap (λ t. take 6 (take 7 t))
     (append_assoc (address_octets 0 a) (address_field (b ∷ others)) more)
-    ∙ first_letters 0 a h _
+    ∙ first_doubled 0 a h _
+
+-- what follows the seven octets of an address says nothing
+seven_say : (octets : List ℕ) → octets_number (take 8 octets) ≡ octets_number (take 7 octets)
+seven_say [] = refl
+seven_say (a ∷ []) = refl
+seven_say (a ∷ b ∷ []) = refl
+seven_say (a ∷ b ∷ c ∷ []) = refl
+seven_say (a ∷ b ∷ c ∷ d ∷ []) = refl
+seven_say (a ∷ b ∷ c ∷ d ∷ e ∷ []) = refl
+seven_say (a ∷ b ∷ c ∷ d ∷ e ∷ f ∷ []) = refl
+seven_say (a ∷ b ∷ c ∷ d ∷ e ∷ f ∷ g ∷ []) = refl
+seven_say (a ∷ b ∷ c ∷ d ∷ e ∷ f ∷ g ∷ h ∷ more) = refl
+
+-- the first six octets are even
+even_at : (letters octets : List ℕ) → take 6 (take 7 octets) ≡ double letters → (i : ℕ) → i < 6
+    → slice_index (take 8 octets) i % 2 ≡ 0
+even_at letters octets e i h = ap (λ n. n % 2) (first_six octets i h ∙ ap (λ l. slice_index l i) e)
+    ∙ doubled_even letters i where
+      first_six : (l : List ℕ) (i : ℕ) → i < 6 → slice_index (take 8 l) i ≡ slice_index (take 6 (take 7 l)) i
+      first_six [] i h = refl
+      first_six (a ∷ l) zero h = refl
+      first_six (a ∷ []) (suc i) h = refl
+      first_six (a ∷ b ∷ l) (suc zero) h = refl
+      first_six (a ∷ b ∷ []) (suc (suc i)) h = refl
+      first_six (a ∷ b ∷ c ∷ l) (suc (suc zero)) h = refl
+      first_six (a ∷ b ∷ c ∷ []) (suc (suc (suc i))) h = refl
+      first_six (a ∷ b ∷ c ∷ d ∷ l) (suc (suc (suc zero))) h = refl
+      first_six (a ∷ b ∷ c ∷ d ∷ []) (suc (suc (suc (suc i)))) h = refl
+      first_six (a ∷ b ∷ c ∷ d ∷ e ∷ l) (suc (suc (suc (suc zero)))) h = refl
+      first_six (a ∷ b ∷ c ∷ d ∷ e ∷ []) (suc (suc (suc (suc (suc i))))) h = refl
+      first_six (a ∷ b ∷ c ∷ d ∷ e ∷ f ∷ l) (suc (suc (suc (suc (suc zero))))) h = refl
+      first_six (a ∷ b ∷ c ∷ d ∷ e ∷ f ∷ l) (suc (suc (suc (suc (suc (suc i)))))) h = absurd (omega (arith, h))
+
+      doubled_even : (xs : List ℕ) (i : ℕ) → slice_index (double xs) i % 2 ≡ 0
+      doubled_even [] i = refl
+      doubled_even (x ∷ xs) zero = let e : (2 * x) % 2 ≡ 0 = omega arith in e
+      doubled_even (x ∷ xs) (suc i) = doubled_even xs i
 
 spelled_number : (octets : List ℕ) → half (take 6 octets) ≡ letters_and_spaces (call_of octets).letters
     → octets_number octets ≡ call_number (call_of octets)
 spelled_number octets e =
     ap (λ t. from_be_bytes w64 (0 ∷ t ++ slice_index octets 6 / 2 % 16 ∷ [])) e
 
+field_at_least : (a : Address) (others : List Address) → IsAddress a
+    → 7 ≤ length (address_field (a ∷ others))
+field_at_least a [] h = omega (arith, length-address_octets 1 a h)
+field_at_least a (b ∷ others) h =
+    omega (
+      arith,
+      length-address_octets 0 a h,
+      length-append (address_octets 0 a) (address_field (b ∷ others)),
+    )
+
 module _ (f : List ℕ) (h : FrameOf (parts_of f) f) where
   abbrev p : Parts
   p = parts_of f
 
-  pub two_addresses : 14 ≤ length f
-  two_addresses = let s = FrameOf-IsSound p f h in omega (arith, s.size.0, s.within)
+  -- two addresses, control and PID
+  pub two_addresses : 16 ≤ length f
+  two_addresses =
+      let first = address_octets 0 p.destination in
+      let others = address_field (p.source ∷ p.digipeaters) in
+      omega (
+        arith,
+        ap length h.spelled,
+        length-append (first ++ others) (control_ui ∷ pid_none ∷ p.info),
+        length-append first others,
+        length-address_octets 0 p.destination h.parts.destination,
+        field_at_least p.source p.digipeaters h.parts.source,
+      )
 
-  source_number : octets_number (take 7 (drop 7 f)) ≡ call_number p.source.call
-  source_number =
-      spelled_number (take 7 (drop 7 f))
-      (ap (λ t. half (take 6 (take 7 (drop 7 t))))
+  source_doubled : take 6 (take 7 (drop 7 f)) ≡ double (letters_and_spaces p.source.call.letters)
+  source_doubled =
+      ap (λ t. take 6 (take 7 (drop 7 t)))
       (h.spelled ∙ append_assoc (address_octets 0 p.destination)
       (address_field (p.source ∷ p.digipeaters)) _)
-      ∙ ap (λ t. half (take 6 (take 7 t)))
+      ∙ ap (λ t. take 6 (take 7 t))
       (drop_at (address_octets 0 p.destination) _ 7
       (length-address_octets 0 p.destination h.parts.destination))
-      ∙ field_letters p.source p.digipeaters h.parts.source _)
+      ∙ field_doubled p.source p.digipeaters h.parts.source _
 
-  destination_number : octets_number (take 7 f) ≡ call_number p.destination.call
+  destination_doubled : take 6 (take 7 f) ≡ double (letters_and_spaces p.destination.call.letters)
+  destination_doubled = ap (λ t. take 6 (take 7 t)) h.spelled
+      ∙ field_doubled p.destination (p.source ∷ p.digipeaters) h.parts.destination _
+
+  pub source_even : (i : ℕ) → i < 6 → slice_index (take 8 (drop 7 f)) i % 2 ≡ 0
+  source_even = even_at (letters_and_spaces p.source.call.letters) (drop 7 f) source_doubled
+
+  pub destination_even : (i : ℕ) → i < 6 → slice_index (take 8 f) i % 2 ≡ 0
+  destination_even = even_at (letters_and_spaces p.destination.call.letters) f destination_doubled
+
+  source_number : octets_number (take 8 (drop 7 f)) ≡ call_number p.source.call
+  source_number =
+      seven_say (drop 7 f)
+      ∙ spelled_number (take 7 (drop 7 f))
+      (ap half source_doubled ∙ half_double (letters_and_spaces p.source.call.letters))
+
+  destination_number : octets_number (take 8 f) ≡ call_number p.destination.call
   destination_number =
-      spelled_number (take 7 f)
-      (ap (λ t. half (take 6 (take 7 t))) h.spelled
-      ∙ field_letters p.destination (p.source ∷ p.digipeaters) h.parts.destination _)
+      seven_say f
+      ∙ spelled_number (take 7 f)
+      (ap half destination_doubled ∙ half_double (letters_and_spaces p.destination.call.letters))
 
   pub head_made : (bytes info : List ℕ) (s d i : ℕ) → bytes ≡ f → info ≡ p.info
-      → s ≡ octets_number (take 7 (drop 7 bytes)) → d ≡ octets_number (take 7 bytes)
+      → s ≡ octets_number (take 8 (drop 7 bytes)) → d ≡ octets_number (take 8 bytes)
       → i ≡ from_be_bytes w64 info
       → record { source = s; destination = d; info = i } ≡ key_prefix_of (key_of f)
   unfolding key_of key_prefix_of
   head_made bytes info s d i b e q r k = λ t.
       record {
-        source = (q ∙ ap (λ l. octets_number (take 7 (drop 7 l))) b ∙ source_number) t;
-        destination = (r ∙ ap (λ l. octets_number (take 7 l)) b ∙ destination_number) t;
+        source = (q ∙ ap (λ l. octets_number (take 8 (drop 7 l))) b ∙ source_number) t;
+        destination = (r ∙ ap (λ l. octets_number (take 8 l)) b ∙ destination_number) t;
         info = (k ∙ ap (from_be_bytes w64) e) t;
       }
 

@@ -1,5 +1,5 @@
 //! Prefixes of keys: numbers that are compared before the keys themselves.
-ghost use Rattle.std.specs.Prelude.{◌≡◌, ℕ, ◌<◌, List, length, slice_index};
+ghost use Rattle.std.specs.Prelude.{◌≡◌, ℕ, ◌<◌, ◌%◌, List, length, slice_index};
 ghost use Rattle.std.specs.Int.{w64, from_be_bytes};
 ghost use Rattle.aprs_ax25.specs.Frame.{FrameOf};
 ghost use Rattle.aprs_ax25.specs.FrameFault.{parts_of};
@@ -37,8 +37,8 @@ impl KeyPrefix {
         ensures bytes { (i : ℕ) → slice_index (parts_of frame.now).info i < 256 }
     {
         KeyPrefix {
-            source: call_number(&frame[7..14]),
-            destination: call_number(&frame[..7]),
+            source: call_number(&frame[7..15]),
+            destination: call_number(&frame[..8]),
             info: info_number(info),
         }
     }
@@ -74,17 +74,20 @@ pub fn order_of_keys(a: &Frame, b: &Frame) -> Ordering
     )
 }
 
-/// The number of the callsign in the seven octets of an address: base 256, of the six letters and
-/// then the SSID. In the octets each letter is shifted left by one bit, and the SSID is bits 1 to 4
-/// of the last.
+/// The number of the callsign in the seven octets of an address, which one more follows: base 256, of
+/// the six letters and then the SSID. In the octets each letter is shifted left by one bit, and the
+/// SSID is bits 1 to 4 of the last. One load takes all of them.
 fn call_number(octets: &[u8]) -> u64
-    requires { length octets.now ≡ 7 }
+    requires size { length octets.now ≡ 8 }
+    requires even { (i : ℕ) → i < 6 → slice_index octets.now i % 2 ≡ 0 }
     ensures { result ≡ octets_number octets.now }
 {
-    let [a, b, c, d, e, f, ssid] = octets else {
+    let Some(first) = octets.first_chunk::<8>() else {
         unreachable!()
     };
-    u64::from_be_bytes([0, a / 2, b / 2, c / 2, d / 2, e / 2, f / 2, ssid / 2 % 16])
+    let number = u64::from_be_bytes(*first);
+    let (letters, ssid) = (number / 131_072, number / 512 % 16);
+    letters * 256 + ssid
 }
 
 /// The number of the first eight bytes, base 256. Where there are fewer, zeros follow them.
