@@ -57,13 +57,7 @@ pub fn read_book<R: Read, A: Allocator + Copy>(
     ensures over { IfSome (R.remaining (device_of source.old)) (λ input. Takes result
         (limit - length head.now) input (R.remaining (device_of source.new))) }
 {
-    let mut stream = stream_of(alloc, limit, head)?;
-    stream.read_lines(source)?;
-    let Ok(book) = book_in(alloc, stream.gap(), stream.take_rows(alloc)) else {
-        return Err(stream.memory_at_last());
-    };
-    stream.end(source)?;
-    Ok(book)
+    book_of_text(alloc, limit, head, source)
 }
 
 /// Reads the rows of a book from its text, which begins with `head` and goes on with the bytes of
@@ -109,6 +103,48 @@ pub fn read_rows<R: Read, A: Allocator + Copy>(
     ensures over { IfSome (R.remaining (device_of source.old))
         (λ input. Takes (book_read result rows.new) (limit - length head.now) input
         (R.remaining (device_of source.new))) }
+{
+    rows_of_text(alloc, limit, head, source, rows)
+}
+
+/// The book of a text, which is made before the end is asked for: after that nothing may be short of
+/// memory.
+fn book_of_text<R: Read, A: Allocator + Copy>(
+    alloc: A,
+    limit: u64,
+    head: &[u8],
+    source: &mut Counted<R>,
+) -> Result<Book<A>, BookFault>
+    requires limit { limit ≤ most_input }
+    requires head { length head.now ≤ 8 }
+    requires within { length head.now ≤ limit }
+    ensures { IsAnswered R.remaining limit head.now result source.old source.new }
+{
+    let mut stream = stream_of(alloc, limit, head)?;
+    stream.read_lines(source)?;
+    let Ok(book) = book_in(alloc, stream.gap(), stream.take_rows(alloc)) else {
+        return Err(stream.memory_at_last());
+    };
+    stream.end(source)?;
+    Ok(book)
+}
+
+/// Puts the rows of a text into `rows`, which has to be empty, and returns the gap of their book.
+fn rows_of_text<R: Read, A: Allocator + Copy>(
+    alloc: A,
+    limit: u64,
+    head: &[u8],
+    source: &mut Counted<R>,
+    rows: &mut PackedRows<A>,
+) -> Result<Gap, BookFault>
+    requires limit { limit ≤ most_input }
+    requires head { length head.now ≤ 8 }
+    requires within { length head.now ≤ limit }
+    requires empty { rows.old ≡ [] }
+    ensures answer { IsAnswered R.remaining limit head.now (book_read result rows.new) source.old
+        source.new }
+    ensures sound { IfOk result (λ gap. IsSoundBook (record { gap = gap; rows = rows.new })) }
+    ensures stops { IfErr result (λ fault. StopsAfter fault rows.new) }
 {
     let mut stream = stream_of(alloc, limit, head)?;
     let answer = read_text(source, &mut stream);
