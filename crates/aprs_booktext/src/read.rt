@@ -29,7 +29,7 @@ use std::io::Read;
 /// Requires a limit of at most `MAX_INPUT` (1,073,741,824) and a head of at most 8 bytes and at
 /// most `limit`. A fault is the text's first, with the number of its line; `Memory` comes instead
 /// where an allocation failed before that fault, with the number of the line that was being read.
-/// Holds one line and the rows in bytes, and then the book beside them.
+/// Holds 16,384 bytes of the source, one line and the rows in bytes, and then the book beside them.
 pub fn read_book<R: Read, A: Allocator + Copy>(
     alloc: A,
     limit: u64,
@@ -67,7 +67,7 @@ pub fn read_book<R: Read, A: Allocator + Copy>(
 /// most 8 bytes and at most `limit`. A fault is the text's first, with the number of its line;
 /// `Memory` comes instead where an allocation failed before that fault, with the number of the line
 /// that was being read, and then the rows are those of the lines before it. After another fault
-/// they may be any. Holds the rows and one line.
+/// they may be any. Holds the rows, one line and 16,384 bytes of the source.
 pub fn read_rows<R: Read, A: Allocator + Copy>(
     alloc: A,
     limit: u64,
