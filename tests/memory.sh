@@ -26,8 +26,8 @@ MAKERS = {
     # the fault that a call answers for the `Memory` of a call below
     "aprs_book/src/book.rt": 3,
     "aprs_booktext/src/fault.rt": 1,
-    "aprs_booktext/src/reader.rt": 3,
-    "aprs_booktext/src/row_reader.rt": 3,
+    "aprs_booktext/src/read.rt": 1,
+    "aprs_booktext/src/row_reader.rt": 4,
     "aprs_fold/src/fault.rt": 1,
     "aprs_fold/src/opening.rt": 1,
     "aprs_fold/src/taking.rt": 1,

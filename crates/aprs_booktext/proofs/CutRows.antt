@@ -1,7 +1,7 @@
 -- A book's text that was cut among the lines of its rows.
 use Rattle.aprs_booktext.proofs.Common.{◌≡◌, ◌∙◌, ◌⊎◌, ◌+◌, ℕ, List, [], ◌∷◌, ◌++◌, length, map, inl, inr, refl, sym, ap, subst, append-nil, append_assoc, All, All-nil, All-cons, All-head, All-tail, Row, Sound, millis_of, text_of_lines, MomentForm}
 use Rattle.aprs_io.specs.declared.input.InputEnd.TheVariants as how
-use Rattle.aprs_laws.specs.Lists.{◌∈◌, Ordered}
+use Rattle.aprs_laws.specs.Lists.{Ordered}
 use Rattle.aprs_laws.specs.Order.{IsBelow}
 use Rattle.aprs_laws.specs.Row.{row_cmp}
 use Rattle.aprs_laws.specs.Sound.{IsFar}
@@ -11,7 +11,7 @@ use Rattle.aprs_io.specs.Cut.{Lacks}
 use Rattle.aprs_booktext.specs.Reader.{HasReadLines}
 use Rattle.aprs_booktext.specs.Text.{row_line, IsBookRow, IsBookRows}
 use Rattle.aprs_booktext.specs.Version.{form_of, gap_of, header_of}
-use Rattle.aprs_booktext.specs.declared.reader.Stage.TheVariants.{Rows}
+use Rattle.aprs_booktext.specs.declared.stage.Stage.TheVariants.{Rows}
 use Rattle.aprs_booktext.specs.declared.version.Version.{Version}
 use Rattle.aprs_booktext.proofs.BookRows.{rows_are, rows_sound}
 use Rattle.aprs_booktext.proofs.OneText.{row_lacks}

@@ -16,8 +16,8 @@ use Rattle.aprs_booktext.specs.Version.{form_of, gap_of, header_of}
 use Rattle.aprs_booktext.specs.declared.fault.BookCause.{BookCause}
 use Rattle.aprs_booktext.specs.declared.fault.BookCause.TheVariants as cause
 use Rattle.aprs_booktext.specs.declared.fault.BookFault.{BookFault}
-use Rattle.aprs_booktext.specs.declared.reader.Stage.{Stage}
-use Rattle.aprs_booktext.specs.declared.reader.Stage.TheVariants.{Header, Rows, Done}
+use Rattle.aprs_booktext.specs.declared.stage.Stage.{Stage}
+use Rattle.aprs_booktext.specs.declared.stage.Stage.TheVariants.{Header, Rows, Done}
 use Rattle.aprs_booktext.specs.declared.version.Version.{Version}
 use Rattle.aprs_booktext.specs.declared.version.Version.TheVariants.{One, Two, Three}
 use Rattle.aprs_booktext.proofs.Cuts.{joined_pieces, pieces_some}

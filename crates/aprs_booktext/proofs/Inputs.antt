@@ -1,9 +1,8 @@
 -- Lemmas on what was got of an input.
-use Rattle.aprs_booktext.proofs.Common.{◌≡◌, ℕ, ◌+◌, ◌-◌, ◌≤◌, List, [], ◌++◌, length, drop, Option, None, Some, IfSome, Result, Ok, Err, inl, inr, refl, sym, ap, ◌∙◌, subst, append_assoc, append-nil, length-append, arith, drop-append-add, Calls, Going, Counted, EndsHere, EndsSo, Gets, last_of_ending, InputEnd, BookValue, Row}
+use Rattle.aprs_booktext.proofs.Common.{◌≡◌, ℕ, ◌+◌, ◌-◌, ◌≤◌, List, [], ◌++◌, length, drop, Option, None, Some, IfSome, Result, Err, inl, inr, refl, sym, ap, ◌∙◌, subst, append_assoc, append-nil, length-append, arith, drop-append-add, Calls, Going, Counted, EndsHere, EndsSo, Gets, last_of_ending, InputEnd, BookValue}
 use Rattle.std.specs.Io.KnownBytes.{Consumes}
 use Rattle.std.proofs.KnownBytes.{Consumes-nil, Consumes-trans}
 use Rattle.aprs_io.specs.declared.input.InputEnd.TheVariants as ending
-use Rattle.aprs_booktext.specs.ReadRows.{book_read}
 use Rattle.aprs_booktext.specs.Asking.{Takes, TakesAt, TakesAtMost}
 use Rattle.aprs_booktext.specs.TextFault.{most_ahead}
 use Rattle.aprs_booktext.specs.BookAnswers.{ReadsBook, IsAnswerFor}
@@ -176,9 +175,3 @@ module _ {R : Type 0} (remaining : R → Option (List ℕ)) (limit : ℕ) (head 
     calls = Asks-end calls way r is last;
     over = Takes-here P head _ _ limit left p way _ r is end;
   }
-
--- a book's answer is at the end alone, as that of its gap
-pub EndsIn-book : (e : InputEnd) (r : Result ℕ BookFault) (rows : List Row) → AgreesWithEnding e r
-    → AgreesWithEnding e (book_read r rows)
-EndsIn-book e (Ok gap) rows is = is
-EndsIn-book e (Err f) rows is = is

@@ -1,7 +1,7 @@
--- What a reader holds that keeps the last row alone.
-use Rattle.aprs_booktext.proofs.Common.{◌≡◌, ℕ, ◌+◌, ◌≤◌, Bool, true, false, List, [], ◌∷◌, ◌++◌, length, Option, Some, None, Result, Ok, Err, inl, inr, refl, sym, ap, ◌∙◌, subst, length-append, Row}
+-- What a reader holds, and which rows it keeps.
+use Rattle.aprs_booktext.proofs.Common.{◌≡◌, ℕ, ◌+◌, Bool, true, false, List, [], ◌∷◌, ◌++◌, length, Option, Some, None, Result, Ok, Err, inl, inr, refl, sym, ap, ◌∙◌, subst, length-append, Row}
 use Rattle.std.specs.List.{last_or}
-use Rattle.std.specs.Prelude.{◌≢◌, IfNone, IfSome}
+use Rattle.std.specs.Prelude.{◌≢◌, IfNone, IfSome, MatchResult}
 use Rattle.aprs_laws.specs.Gap.{millis_of}
 use Rattle.aprs_laws.specs.declared.row_cause.RowCause.{RowCause}
 use Rattle.aprs_laws.specs.declared.row_cause.RowCause.TheVariants as row
@@ -13,24 +13,42 @@ use Rattle.aprs_booktext.specs.TextFault.{is_end, IsWrong}
 use Rattle.aprs_booktext.specs.Version.{form_of, gap_of}
 use Rattle.aprs_booktext.specs.declared.fault.BookCause.TheVariants as cause
 use Rattle.aprs_booktext.specs.Reader.{HasReadLines, HoldsIn, IsFault, JudgesHeader, JudgesLine, is_done, line_number}
-use Rattle.aprs_booktext.specs.RowReader.{count_after, is_row_between, list_of_row, row_kept, HasReadTo, IsNoneAtHeader, JudgesKept, KeepsLast, ReadsOne}
+use Rattle.aprs_booktext.specs.ReadRows.{IsNextLine, StopsAfter}
+use Rattle.aprs_booktext.specs.RowReader.{count_after, is_row_between, kept_after, list_of_row, row_at_stage, row_lent, rows_kept, HasReadTo, JudgesKept, KeepsRows, ReadsOne}
 use Rattle.aprs_booktext.specs.declared.fault.BookCause.{BookCause}
-use Rattle.aprs_booktext.specs.declared.reader.Stage.{Stage}
-use Rattle.aprs_booktext.specs.declared.reader.Stage.TheVariants.{Header, Rows, Done}
+use Rattle.aprs_booktext.specs.declared.stage.Stage.{Stage}
+use Rattle.aprs_booktext.specs.declared.stage.Stage.TheVariants.{Header, Rows, Done}
+use Rattle.aprs_booktext.specs.declared.row_reader.Keeping.{Keeping}
+use Rattle.aprs_booktext.specs.declared.row_reader.Keeping.TheVariants.{Each, Last}
 use Rattle.aprs_booktext.specs.declared.row_reader.RowReader.{RowReader}
 use Rattle.aprs_booktext.specs.declared.version.Version.{Version}
-use Rattle.aprs_booktext.proofs.Standing.{ended_fault, ended_stands}
+use Rattle.aprs_booktext.proofs.Standing.{ended_fault, ended_stands, next_line}
 
 last_pushed : (rows : List Row) (x : Row) → last_or None (rows ++ x ∷ []) ≡ Some x
 last_pushed [] x = refl
 last_pushed (y ∷ []) x = refl
 last_pushed (y ∷ z ∷ rows) x = last_pushed (z ∷ rows) x
 
+-- the last row that is kept is that of all
+last_of_kept : (keeping : Keeping) (rows : List Row)
+    → last_or None (rows_kept keeping rows) ≡ last_or None rows
+last_of_kept Each rows = refl
+last_of_kept Last rows = by_last (last_or None rows) where
+  by_last : (o : Option Row) → last_or None (list_of_row o) ≡ o
+  by_last None = refl
+  by_last (Some x) = refl
+
+-- a row that is kept after the others is one of those that are to be kept
+kept_more : (keeping : Keeping) (rows kept : List Row) (x : Row) → kept ≡ rows_kept keeping rows
+    → kept_after keeping kept x ≡ rows_kept keeping (rows ++ x ∷ [])
+kept_more Each rows kept x e = ap (λ (l : List Row). l ++ x ∷ []) e
+kept_more Last rows kept x e = sym (ap list_of_row (last_pushed rows x))
+
 module _ {A : Type 0} (reader : RowReader A) (rows : List Row) (line t : List ℕ) (count : ℕ) where
   -- the same rows
   reads_none : (stage next : Stage) → is_row_between stage next ≡ false
       → HasReadLines stage rows line t → count ≡ length rows
-      → JudgesKept stage (Ok next) rows line reader.last → reader.stage ≡ next
+      → JudgesKept reader.keeping stage (Ok next) rows line reader.rows → reader.stage ≡ next
       → reader.line.items ≡ [] → reader.count ≡ count → HasReadTo reader rows (t ++ 10 ∷ [])
   reads_none stage next is s same j e f g =
       let new : j.new ≡ rows = none stage next is j.judged in
@@ -41,8 +59,7 @@ module _ {A : Type 0} (reader : RowReader A) (rows : List Row) (line t : List �
             (subst (λ (l : List ℕ). HasReadLines next rows l (t ++ 10 ∷ [])) (sym f)
             (subst (λ (r : List Row). HasReadLines next r [] (t ++ 10 ∷ [])) new lines));
         count = g ∙ same;
-        last = j.keeps ∙ ap (λ (r : List Row). row_kept next r) new
-            ∙ ap (λ (u : Stage). row_kept u rows) (sym e);
+        kept = j.keeps ∙ ap (rows_kept reader.keeping) new;
       } where
         none : (stage next : Stage) → is_row_between stage next ≡ false
             → JudgesLine stage (Ok next) rows line j.new → j.new ≡ rows
@@ -56,17 +73,20 @@ module _ {A : Type 0} (reader : RowReader A) (rows : List Row) (line t : List �
 
   -- one row more, where both stages are of rows
   reads_row : (v w : Version) → HasReadLines (Rows v) rows line t → count ≡ length rows
-      → JudgesKept (Rows v) (Ok (Rows w)) rows line reader.last → reader.stage ≡ Rows w
-      → reader.line.items ≡ [] → reader.count ≡ count + 1
+      → JudgesKept reader.keeping (Rows v) (Ok (Rows w)) rows line reader.rows
+      → reader.stage ≡ Rows w → reader.line.items ≡ [] → reader.count ≡ count + 1
       → ReadsOne true reader rows (t ++ 10 ∷ [])
   reads_row v w s same j e f g =
       let x = j.judged.1 in
       let new : j.new ≡ rows ++ x ∷ [] = j.judged.4 in
       let lines : HasReadLines (Rows w) j.new [] (t ++ 10 ∷ []) =
       ended_stands (Rows v) (Rows w) rows j.new line t j.judged s in
-      let own : reader.last ≡ x ∷ [] =
-      j.keeps ∙ ap (λ (r : List Row). list_of_row (last_or None r)) new
-      ∙ ap list_of_row (last_pushed rows x) in (
+      let kept : reader.rows ≡ rows_kept reader.keeping (rows ++ x ∷ []) =
+      j.keeps ∙ ap (rows_kept reader.keeping) new in
+      let last : last_or None reader.rows ≡ Some x = ap (last_or None) kept
+      ∙ last_of_kept reader.keeping (rows ++ x ∷ []) ∙ last_pushed rows x in
+      let own : row_lent reader ≡ x ∷ [] =
+      ap (λ (u : Stage). row_at_stage u reader.rows) e ∙ ap list_of_row last in (
         x,
         own,
         ap is_done e,
@@ -76,14 +96,13 @@ module _ {A : Type 0} (reader : RowReader A) (rows : List Row) (line t : List �
               (subst (λ (l : List ℕ). HasReadLines (Rows w) (rows ++ x ∷ []) l (t ++ 10 ∷ [])) (sym f)
               (subst (λ (r : List Row). HasReadLines (Rows w) r [] (t ++ 10 ∷ [])) new lines));
           count = g ∙ ap (λ n. n + 1) same ∙ sym (length-append rows (x ∷ []));
-          last = own ∙ sym (ap list_of_row (last_pushed rows x))
-              ∙ ap (λ u. row_kept u (rows ++ x ∷ [])) (sym e);
+          kept = kept;
         },
       )
 
   reads_between : (stage next : Stage) (b : Bool) → is_row_between stage next ≡ b
       → HasReadLines stage rows line t → count ≡ length rows
-      → JudgesKept stage (Ok next) rows line reader.last → reader.stage ≡ next
+      → JudgesKept reader.keeping stage (Ok next) rows line reader.rows → reader.stage ≡ next
       → reader.line.items ≡ [] → reader.count ≡ count_after b count
       → ReadsOne b reader rows (t ++ 10 ∷ [])
   reads_between stage next false is s same j e f g = reads_none stage next is s same j e f g
@@ -94,128 +113,146 @@ module _ {A : Type 0} (reader : RowReader A) (rows : List Row) (line t : List �
   reads_between (Done v) next true is s same j e f g = absurd (let h : false ≡ true = is in cc)
 
   -- the line that ends here is judged so
-  pub reads_line : (stage next : Stage) (b : Bool) → b ≡ is_row_between stage next
+  pub reads_line : (keeping : Keeping) (kept : List Row) (stage next : Stage) (b : Bool)
+      → reader.keeping ≡ keeping → reader.rows ≡ kept → b ≡ is_row_between stage next
       → HasReadLines stage rows line t → count ≡ length rows
-      → JudgesKept stage (Ok next) rows line reader.last → reader.stage ≡ next
+      → JudgesKept keeping stage (Ok next) rows line kept → reader.stage ≡ next
       → reader.line.items ≡ [] → reader.count ≡ count_after b count
       → ReadsOne b reader rows (t ++ 10 ∷ [])
-  reads_line stage next b is = reads_between stage next b (sym is)
+  reads_line keeping kept stage next b k r is s same j =
+      reads_between stage next b (sym is) s same
+      (subst (λ (u : Keeping). JudgesKept u stage (Ok next) rows line reader.rows) (sym k)
+      (subst (λ (l : List Row). JudgesKept keeping stage (Ok next) rows line l) (sym r) j))
+
+-- a line that isn't judged adds no rows
+stays : (stage : Stage) (rows : List Row) (line : List ℕ) (c : BookCause) (new : List Row)
+    → JudgesLine stage (Err c) rows line new → new ≡ rows
+stays Header rows line c new h = h.1
+stays (Rows v) rows line c new h = h.1
+stays (Done v) rows line c new h = h.1
 
 -- the line that ends here is wrong, or an allocation failed
-pub kept_fault : (stage : Stage) (rows : List Row) (line t more : List ℕ) (c : BookCause)
-    (kept : List Row) (count : ℕ) → JudgesKept stage (Err c) rows line kept
+pub kept_fault : (keeping : Keeping) (stage : Stage) (rows : List Row) (line t more : List ℕ)
+    (c : BookCause) (kept : List Row) (count : ℕ)
+    → JudgesKept keeping stage (Err c) rows line kept
     → HasReadLines stage rows line t → count ≡ length rows
     → IsFault (length more + 1) (record { line = line_number stage count; cause = c })
     (t ++ 10 ∷ more)
-kept_fault stage rows line t more c kept count j s same =
+kept_fault keeping stage rows line t more c kept count j s same =
     subst (λ n. IsFault (length more + 1) (record { line = line_number stage n; cause = c })
-    (t ++ 10 ∷ more)) (ap length (stays stage j.judged) ∙ sym same)
-    (ended_fault stage rows j.new line t more c j.judged s) where
-      stays : (stage : Stage) → JudgesLine stage (Err c) rows line j.new → j.new ≡ rows
-      stays Header h = h.1
-      stays (Rows v) h = h.1
-      stays (Done v) h = h.1
+    (t ++ 10 ∷ more)) (ap length (stays stage rows line c j.new j.judged) ∙ sym same)
+    (ended_fault stage rows j.new line t more c j.judged s)
+
+-- where each row is kept, memory is refused in the line after those of the rows
+pub stops_in : (stage : Stage) (rows kept : List Row) (line : List ℕ) (count : ℕ) (c : BookCause)
+    → is_done stage ≡ false → HoldsIn stage rows line → count ≡ length rows → kept ≡ rows
+    → StopsAfter (record { line = line_number stage count; cause = c }) kept
+stops_in stage rows kept line count c going h same is = λ e.
+    subst (λ n. IsNextLine (line_number stage n) kept) (ap length is ∙ sym same)
+    (next_line stage kept line going (subst (λ (r : List Row). HoldsIn stage r line) (sym is) h))
+
+pub kept_stop : (keeping : Keeping) (stage : Stage) (rows : List Row) (line own : List ℕ)
+    (c : BookCause) (kept : List Row) (count : ℕ)
+    → JudgesKept keeping stage (Err c) rows line kept → is_done stage ≡ false
+    → HoldsIn stage rows own → count ≡ length rows → keeping ≡ Each
+    → StopsAfter (record { line = line_number stage count; cause = c }) kept
+kept_stop keeping stage rows line own c kept count j going h same each =
+    stops_in stage rows kept own count c going h same
+    (j.keeps each ∙ stays stage rows line c j.new j.judged)
 
 -- ---- a line judged
 
-pub judged_wrong : (v : Version) (why : BookCause) (rows : List Row) (line : List ℕ)
-    (kept : List Row) → IsWrong (millis_of (gap_of v)) (form_of v) rows line why
-    → JudgesKept (Rows v) (Err why) rows line kept
-judged_wrong v why rows line kept w = record { new = rows; judged = (inr w, refl); keeps = tt }
+-- the same rows are kept
+same_kept : (keeping : Keeping) (answer : Result Stage BookCause) (rows kept : List Row)
+    → kept ≡ rows_kept keeping rows → KeepsRows keeping answer rows kept
+same_kept keeping (Ok stage) rows kept e = e
+same_kept keeping (Err c) rows kept e =
+    λ each. e ∙ ap (λ (k : Keeping). rows_kept k rows) each
 
-pub judged_memory : (v : Version) (rows : List Row) (line : List ℕ) (kept : List Row)
-    → JudgesKept (Rows v) (Err cause.Memory) rows line kept
-judged_memory v rows line kept = record { new = rows; judged = (inl refl, refl); keeps = tt }
+module _ (keeping : Keeping) (rows kept : List Row) (line : List ℕ) where
+  pub judged_wrong : (v : Version) (why : BookCause)
+      → IsWrong (millis_of (gap_of v)) (form_of v) rows line why
+      → (keeping ≡ Each → kept ≡ rows)
+      → JudgesKept keeping (Rows v) (Err why) rows line kept
+  judged_wrong v why w e = record { new = rows; judged = (inr w, refl); keeps = e }
 
-pub judged_end : (v : Version) (stage : Stage) (rows : List Row) (line : List ℕ) (kept : List Row)
-    (count : ℕ) → count ≡ length rows → (stage ≡ Done v) × (line ≡ end_line count) → kept ≡ []
-    → JudgesKept (Rows v) (Ok stage) rows line kept
-judged_end v stage rows line kept count same h none =
-    subst (λ (u : Stage). JudgesKept (Rows v) (Ok u) rows line kept) (sym h.0)
-    (record { new = rows; judged = (refl, h.1 ∙ ap end_line same, refl); keeps = none })
+  pub judged_memory : (v : Version) → (keeping ≡ Each → kept ≡ rows)
+      → JudgesKept keeping (Rows v) (Err cause.Memory) rows line kept
+  judged_memory v e = record { new = rows; judged = (inl refl, refl); keeps = e }
 
-pub judged_miscounted : (v : Version) (why : BookCause) (rows : List Row) (line : List ℕ)
-    (kept : List Row) (count : ℕ) → count ≡ length rows → is_end line ≡ true
-    → (why ≡ cause.Ending) × (line ≢ end_line count) → JudgesKept (Rows v) (Err why) rows line kept
-judged_miscounted v why rows line kept count same is h =
-    subst (λ (c : BookCause). JudgesKept (Rows v) (Err c) rows line kept) (sym h.0)
-    (judged_wrong v cause.Ending rows line kept (is, λ e. h.1 (e ∙ ap end_line (sym same))))
+  module _ (same : kept ≡ rows_kept keeping rows) where
+    each : keeping ≡ Each → kept ≡ rows
+    each is = same ∙ ap (λ (k : Keeping). rows_kept k rows) is
 
-pub judged_unread : (v : Version) (why : BookCause) (rows : List Row) (line : List ℕ)
-    (kept : List Row) → is_end line ≡ false → IsWrongRow (form_of v) line why
-    → JudgesKept (Rows v) (Err why) rows line kept
-judged_unread v why rows line kept is h = elim h [
-  | inl n ↦ subst (λ (c : BookCause). JudgesKept (Rows v) (Err c) rows line kept) (sym n.0)
-      (judged_wrong v cause.RowSyntax rows line kept (is, n.1))
-  | inr f ↦ subst (λ (c : BookCause). JudgesKept (Rows v) (Err c) rows line kept) (sym f.0)
-      (judged_wrong v cause.Frame rows line kept f.1)
-]
+    -- a line that begins as the last line does
+    pub judged_last : (v : Version) (answer : Result Stage BookCause) (count : ℕ)
+        → count ≡ length rows → is_end line ≡ true
+        → MatchResult answer (λ stage. (stage ≡ Done v) × (line ≡ end_line count))
+        (λ why. (why ≡ cause.Ending) × (line ≢ end_line count))
+        → JudgesKept keeping (Rows v) answer rows line kept
+    judged_last v (Ok stage) count is end h =
+        subst (λ (u : Stage). JudgesKept keeping (Rows v) (Ok u) rows line kept) (sym h.0)
+        (record { new = rows; judged = (refl, h.1 ∙ ap end_line is, refl); keeps = same })
+    judged_last v (Err why) count is end h =
+        subst (λ (c : BookCause). JudgesKept keeping (Rows v) (Err c) rows line kept) (sym h.0)
+        (judged_wrong v cause.Ending (end, λ e. h.1 (e ∙ ap end_line (sym is))) each)
 
--- the last row is that of all
-pub last_kept : (rows kept : List Row) (r : Option Row) → kept ≡ list_of_row (last_or None rows)
-    → IfSome r (λ x. last_or None kept ≡ Some x) → IfNone r (kept ≡ []) → last_or None rows ≡ r
-last_kept rows kept r e some none = by_last (last_or None rows) r e some none where
-  by_last : (o r : Option Row) → kept ≡ list_of_row o
-      → IfSome r (λ x. last_or None kept ≡ Some x) → IfNone r (kept ≡ []) → o ≡ r
-  by_last None None e some none = refl
-  by_last None (Some x) e some none =
-      absurd (let f : None ≡ Some x = ap (last_or None) (sym e) ∙ some in cc)
-  by_last (Some y) None e some none = absurd (let f : y ∷ [] ≡ [] = sym e ∙ none in cc)
-  by_last (Some y) (Some x) e some none = ap (last_or None) (sym e) ∙ some
+    pub judged_unread : (v : Version) (why : BookCause) → is_end line ≡ false
+        → IsWrongRow (form_of v) line why
+        → JudgesKept keeping (Rows v) (Err why) rows line kept
+    judged_unread v why end h = elim h [
+      | inl n ↦ subst (λ (c : BookCause). JudgesKept keeping (Rows v) (Err c) rows line kept)
+          (sym n.0) (judged_wrong v cause.RowSyntax (end, n.1) each)
+      | inr f ↦ subst (λ (c : BookCause). JudgesKept keeping (Rows v) (Err c) rows line kept)
+          (sym f.0) (judged_wrong v cause.Frame f.1 each)
+    ]
 
-pub judged_refused : (v : Version) (why : RowCause) (rows : List Row) (x : Row) (line : List ℕ)
-    (kept : List Row) → IsBookRow (form_of v) x → line ≡ row_line (form_of v) x
-    → refusal (millis_of (gap_of v)) rows x ≡ Some why
-    → JudgesKept (Rows v) (Err (book_cause_of why)) rows line kept
-judged_refused v why rows x line kept is spelled refused = by_cause why refused where
-  by_cause : (why : RowCause) → refusal (millis_of (gap_of v)) rows x ≡ Some why
-      → JudgesKept (Rows v) (Err (book_cause_of why)) rows line kept
-  by_cause row.Order e = judged_wrong v cause.Order rows line kept
-      (record { row = x; is = is; spelled = spelled; refused = e })
-  by_cause row.Span e = judged_wrong v cause.Span rows line kept
-      (record { row = x; is = is; spelled = spelled; refused = e })
-  by_cause row.Near e = judged_wrong v cause.Near rows line kept
-      (record { row = x; is = is; spelled = spelled; refused = e })
-  by_cause row.Receivers e = judged_wrong v cause.Receivers rows line kept
-      (record { row = x; is = is; spelled = spelled; refused = e })
-  by_cause row.NotGreatest e = judged_wrong v cause.NotGreatest rows line kept
-      (record { row = x; is = is; spelled = spelled; refused = e })
-  by_cause row.Memory e = judged_memory v rows line kept
+    -- the last row is that of all
+    pub last_kept : (r : Option Row) → IfSome r (λ x. last_or None kept ≡ Some x)
+        → IfNone r (kept ≡ []) → last_or None rows ≡ r
+    last_kept r some none =
+        sym (ap (last_or None) same ∙ last_of_kept keeping rows) ∙ by_row r some none where
+          by_row : (r : Option Row) → IfSome r (λ x. last_or None kept ≡ Some x)
+              → IfNone r (kept ≡ []) → last_or None kept ≡ r
+          by_row None some none = ap (last_or None) none
+          by_row (Some x) some none = some
 
-pub judged_row : (v : Version) (rows : List Row) (x : Row) (line : List ℕ) (kept : List Row)
-    → IsBookRow (form_of v) x → line ≡ row_line (form_of v) x
-    → refusal (millis_of (gap_of v)) rows x ≡ None → kept ≡ x ∷ []
-    → JudgesKept (Rows v) (Ok (Rows v)) rows line kept
-judged_row v rows x line kept is spelled free own = record {
-  new = rows ++ x ∷ [];
-  judged = (refl, x, is, spelled, refl, free);
-  keeps = own ∙ sym (ap list_of_row (last_pushed rows x));
-}
+    pub judged_refused : (v : Version) (why : RowCause) (x : Row) → IsBookRow (form_of v) x
+        → line ≡ row_line (form_of v) x → refusal (millis_of (gap_of v)) rows x ≡ Some why
+        → JudgesKept keeping (Rows v) (Err (book_cause_of why)) rows line kept
+    judged_refused v why x is spelled refused = by_cause why refused where
+      by_cause : (why : RowCause) → refusal (millis_of (gap_of v)) rows x ≡ Some why
+          → JudgesKept keeping (Rows v) (Err (book_cause_of why)) rows line kept
+      by_cause row.Order e = judged_wrong v cause.Order
+          (record { row = x; is = is; spelled = spelled; refused = e }) each
+      by_cause row.Span e = judged_wrong v cause.Span
+          (record { row = x; is = is; spelled = spelled; refused = e }) each
+      by_cause row.Near e = judged_wrong v cause.Near
+          (record { row = x; is = is; spelled = spelled; refused = e }) each
+      by_cause row.Receivers e = judged_wrong v cause.Receivers
+          (record { row = x; is = is; spelled = spelled; refused = e }) each
+      by_cause row.NotGreatest e = judged_wrong v cause.NotGreatest
+          (record { row = x; is = is; spelled = spelled; refused = e }) each
+      by_cause row.Memory e = judged_memory v each
 
-pub judged_header : (stage : Stage) (answer : Result Stage BookCause) (rows : List Row)
-    (line : List ℕ) (kept : List Row) → stage ≡ Header → kept ≡ row_kept stage rows
-    → IsNoneAtHeader stage rows → JudgesHeader answer rows line rows
-    → JudgesKept stage answer rows line kept
-judged_header Header answer rows line kept is e none h =
-    record { new = rows; judged = h; keeps = by_answer answer h } where
-      by_answer : (answer : Result Stage BookCause) → JudgesHeader answer rows line rows
-          → KeepsLast answer rows kept
-      by_answer (Ok Header) h = absurd h
-      by_answer (Ok (Rows v)) h =
-          e ∙ sym (ap (λ (r : List Row). list_of_row (last_or None r)) none)
-      by_answer (Ok (Done v)) h = absurd h
-      by_answer (Err c) h = tt
-judged_header (Rows v) answer rows line kept is e none h = absurd (cc)
-judged_header (Done v) answer rows line kept is e none h = absurd (cc)
+    pub judged_row : (v : Version) (x : Row) (new : List Row) → IsBookRow (form_of v) x
+        → line ≡ row_line (form_of v) x → refusal (millis_of (gap_of v)) rows x ≡ None
+        → new ≡ kept_after keeping kept x
+        → JudgesKept keeping (Rows v) (Ok (Rows v)) rows line new
+    judged_row v x new is spelled free own = record {
+      new = rows ++ x ∷ [];
+      judged = (refl, x, is, spelled, refl, free);
+      keeps = own ∙ kept_more keeping rows kept x same;
+    }
 
-pub judged_done : (stage : Stage) (v : Version) (rows : List Row) (line : List ℕ)
-    (kept : List Row) → stage ≡ Done v → JudgesKept stage (Err cause.After) rows line kept
-judged_done stage v rows line kept is =
-    subst (λ (u : Stage). JudgesKept u (Err cause.After) rows line kept) (sym is)
-    (record { new = rows; judged = (refl, refl); keeps = tt })
+    pub judged_header : (stage : Stage) (answer : Result Stage BookCause) → stage ≡ Header
+        → JudgesHeader answer rows line rows → JudgesKept keeping stage answer rows line kept
+    judged_header stage answer is h =
+        subst (λ (u : Stage). JudgesKept keeping u answer rows line kept) (sym is)
+        (record { new = rows; judged = h; keeps = same_kept keeping answer rows kept same })
 
-pub none_at_header : (stage : Stage) (rows : List Row) (line : List ℕ) → HoldsIn stage rows line
-    → IsNoneAtHeader stage rows
-none_at_header Header rows line h = h
-none_at_header (Rows v) rows line h = tt
-none_at_header (Done v) rows line h = tt
+    pub judged_done : (stage : Stage) (v : Version) → stage ≡ Done v
+        → JudgesKept keeping stage (Err cause.After) rows line kept
+    judged_done stage v is =
+        subst (λ (u : Stage). JudgesKept keeping u (Err cause.After) rows line kept) (sym is)
+        (record { new = rows; judged = (refl, refl); keeps = each })

@@ -1,12 +1,17 @@
--- A refused allocation after the last line was read.
-use Rattle.aprs_booktext.proofs.Common.{◌≡◌, ℕ, ◌+◌, ◌<◌, ◌^◌, true, false, List, [], ◌∷◌, ◌++◌, length, map, inl, inr, refl, ap, ◌∙◌, append-nil, arith, flat_map-append, Row, text_of_lines, IsSoundBook}
-use Rattle.aprs_booktext.specs.Reader.{HoldsIn, IsFault, HasReadLines, gap_in, is_done}
+-- A refused allocation before the first line or after the last.
+use Rattle.aprs_booktext.proofs.Common.{◌≡◌, ℕ, ◌+◌, ◌-◌, ◌<◌, ◌≤◌, ◌^◌, true, false, List, [], ◌∷◌, ◌++◌, length, map, Option, Err, inl, inr, refl, sym, ap, ◌∙◌, subst, append-nil, arith, flat_map-append, Row, text_of_lines, IsSoundBook, Counted, Calls-none}
+use Rattle.aprs_booktext.specs.ReadRows.{StopsAfter}
+use Rattle.aprs_booktext.specs.Reading.{IsAnswered}
+use Rattle.aprs_booktext.specs.TextFault.{most_ahead}
+use Rattle.aprs_booktext.specs.declared.fault.BookFault.{BookFault}
+use Rattle.aprs_booktext.proofs.Inputs.{Got-none, IsAnswered-fault}
+use Rattle.aprs_booktext.specs.Reader.{HoldsIn, IsFault, IsOfText, HasReadLines, gap_in, is_done}
 use Rattle.aprs_booktext.specs.Text.{row_line, end_line, lines_of}
 use Rattle.aprs_booktext.specs.RowLines.{ended_by_lf}
 use Rattle.aprs_booktext.specs.Version.{form_of, header_of}
 use Rattle.aprs_booktext.specs.declared.fault.BookCause.TheVariants as cause
-use Rattle.aprs_booktext.specs.declared.reader.Stage.{Stage}
-use Rattle.aprs_booktext.specs.declared.reader.Stage.TheVariants.{Header, Rows, Done}
+use Rattle.aprs_booktext.specs.declared.stage.Stage.{Stage}
+use Rattle.aprs_booktext.specs.declared.stage.Stage.TheVariants.{Header, Rows, Done}
 use Rattle.aprs_booktext.specs.declared.version.Version.{Version}
 use Rattle.aprs_booktext.proofs.OneText.{end_lacks}
 use Rattle.aprs_booktext.proofs.Standing.{number_is}
@@ -23,7 +28,33 @@ module _ (v : Version) (rows : List Row) where
       ∙ ap (λ l. text_of_lines lines_before ++ l)
       (append-nil (ended_by_lf (end_line (length rows))))
 
--- an allocation that failed there failed in the last line
+-- before anything of the text but its head was looked at, an allocation fails in the first line
+pub first_refused : {R : Type 0} (remaining : R → Option (List ℕ)) (limit : ℕ) (head : List ℕ)
+    (first : Counted R) (f : BookFault) → f ≡ record { line = 1; cause = cause.Memory }
+    → length head ≤ 8 → length head ≤ limit
+    → IsAnswered remaining limit head (Err f) first first
+first_refused remaining limit head first f is few within =
+    IsAnswered-fault remaining limit head first first (limit - length head) (Calls-none _) f
+    (subst (λ (g : BookFault). IsOfText g.cause) (sym is) ((λ e. cc), (λ e. cc)))
+    (Got-none (IsFault most_ahead f) head _ limit (limit - length head)
+    (subst (λ (g : BookFault). IsFault most_ahead g head) (sym is) (inl (record {
+      refused = refl;
+      lines = [];
+      line = [];
+      more = head;
+      whole = refl;
+      one = tt;
+      near = omega (arith, few);
+      begins = inl refl;
+      number = refl;
+    }))) (omega (arith, within)))
+
+-- no rows come before the first line
+pub first_stops : (f : BookFault) (rows : List Row) → f ≡ record { line = 1; cause = cause.Memory }
+    → rows ≡ [] → StopsAfter f rows
+first_stops f rows is none = λ e. inl (ap (λ (g : BookFault). g.line) is, none)
+
+-- after the last line it fails in that line
 pub done_refused : (stage : Stage) (rows : List Row) (line t : List ℕ) → is_done stage ≡ true
     → length rows < 2 ^ 64 → HasReadLines stage rows line t
     → IsFault 1 (record { line = length rows + 2; cause = cause.Memory }) t

@@ -1,11 +1,11 @@
--- Lemmas on what a reader of a book holds.
+-- Lemmas on what was read of a book's text at each stage.
 use Rattle.aprs_booktext.proofs.Common.{◌≡◌, ℕ, ◌+◌, ◌<◌, ◌≤◌, true, false, List, [], ◌∷◌, ◌++◌, length, map, None, Result, Ok, Err, inl, inr, refl, sym, ap, ◌∙◌, subst, append_assoc, append-nil, length-append, arith, ◌≢◌, All, IfErr, length-map, map_push, flat_map-append, All-nil, All-push, InputEnd, millis_of, Row, Sound, none_exactly, text_of_lines}
 use Rattle.aprs_rows.specs.Refusal.{refusal}
 use Rattle.aprs_io.specs.declared.input.InputEnd.TheVariants as ending
 use Rattle.aprs_io.specs.Cut.{Lacks}
 use Rattle.aprs_booktext.proofs.Cuts.{lacks_append}
 use Rattle.aprs_booktext.specs.FirstFault.{FirstFault}
-use Rattle.aprs_booktext.specs.Reader.{HoldsIn, HasReadLines, Fails, IsFault, JudgesLine, AgreesWithEnding, gap_in, is_done, line_number, lines_read, may_end}
+use Rattle.aprs_booktext.specs.Reader.{HoldsIn, HasReadLines, IsFault, JudgesLine, AgreesWithEnding, gap_in, is_done, line_number, lines_read, may_end}
 use Rattle.aprs_booktext.specs.ReadRows.{IsNextLine, StopsAfter}
 use Rattle.aprs_booktext.specs.Text.{row_line, end_line, lines_of, book_text, IsBookRow, IsBookRows}
 use Rattle.aprs_booktext.specs.RowLines.{ended_by_lf}
@@ -15,8 +15,8 @@ use Rattle.aprs_booktext.specs.Version.{form_of, gap_of, header_of, IsVersion}
 use Rattle.aprs_booktext.specs.declared.fault.BookCause.{BookCause}
 use Rattle.aprs_booktext.specs.declared.fault.BookCause.TheVariants as cause
 use Rattle.aprs_booktext.specs.declared.fault.BookFault.{BookFault}
-use Rattle.aprs_booktext.specs.declared.reader.Stage.{Stage}
-use Rattle.aprs_booktext.specs.declared.reader.Stage.TheVariants.{Header, Rows, Done}
+use Rattle.aprs_booktext.specs.declared.stage.Stage.{Stage}
+use Rattle.aprs_booktext.specs.declared.stage.Stage.TheVariants.{Header, Rows, Done}
 use Rattle.aprs_booktext.specs.declared.version.Version.{Version}
 use Rattle.aprs_booktext.proofs.BookRows.{rows_are, rows_sound}
 
@@ -341,98 +341,14 @@ ended_read stage rows line t e may s =
     let w = ended_whole stage rows line t e may s in
     (w.version, ap gap_in w.stage_is, w.text_is, w.is, w.ended)
 
--- ---- a piece, line by line
-
--- a prefix of the piece was read: what stood after t stands after t and that prefix
-pub record Fed (P Q : List ℕ → Type 0) (piece rest : List ℕ) : Type 0 where
-  pub prefix : List ℕ
-  pub whole : piece ≡ prefix ++ rest
-  pub fed : (t : List ℕ) → P t → Q (t ++ prefix)
-
-pub Fed-none : (P : List ℕ → Type 0) (piece : List ℕ) → Fed P P piece piece
-Fed-none P piece = record { prefix = []; whole = refl; fed = λ t p. subst P (sym (append-nil t)) p }
-
-module _ (P Q : List ℕ → Type 0) (piece rest part after : List ℕ) (p : Fed P Q piece rest)
-    (cuts : rest ≡ part ++ 10 ∷ after) where
-  pub Fed-line : (R : List ℕ → Type 0) → ((t : List ℕ) → Q t → R ((t ++ part) ++ 10 ∷ []))
-      → Fed P R piece after
-  Fed-line R step = record {
-    prefix = p.prefix ++ (part ++ 10 ∷ []);
-    whole = p.whole ∙ ap (λ r. p.prefix ++ r) (cuts ∙ sym (append_assoc part (10 ∷ []) after))
-        ∙ sym (append_assoc p.prefix (part ++ 10 ∷ []) after);
-    fed = λ t h. subst R (append_assoc (t ++ p.prefix) part (10 ∷ [])
-        ∙ append_assoc t p.prefix (part ++ 10 ∷ [])) (step (t ++ p.prefix) (p.fed t h));
-  }
-
-  -- a fault in the part, or at its end
-  pub Fed-fault : (F : List ℕ → Type 0) → ((t : List ℕ) → Q t → F ((t ++ part) ++ 10 ∷ after))
-      → (t : List ℕ) → P t → F (t ++ piece)
-  Fed-fault F fault t h =
-      subst F (append_assoc (t ++ p.prefix) part (10 ∷ after)
-      ∙ append_assoc t p.prefix (part ++ 10 ∷ after)
-      ∙ ap (λ l. t ++ l) (ap (λ r. p.prefix ++ r) (sym cuts) ∙ sym p.whole))
-      (fault (t ++ p.prefix) (p.fed t h))
-
-pub Fed-all : (P Q : List ℕ → Type 0) (piece rest : List ℕ) → Fed P Q piece rest
-    → (R : List ℕ → Type 0) → ((t : List ℕ) → Q t → R (t ++ rest)) → (t : List ℕ) → P t
-    → R (t ++ piece)
-Fed-all P Q piece rest p R last t h = subst R (append_assoc t p.prefix rest
-    ∙ ap (λ l. t ++ l) (sym p.whole)) (last (t ++ p.prefix) (p.fed t h))
-
--- what is left of the piece is no longer than it
-pub Fed-len : (P Q : List ℕ → Type 0) (piece rest : List ℕ) → Fed P Q piece rest
-    → length rest ≤ length piece
-Fed-len P Q piece rest p = let l = length-append p.prefix rest in
-    omega (arith, l, ap length p.whole)
-
-pub Fed-rest : (P Q : List ℕ → Type 0) (piece rest part after : List ℕ) → Fed P Q piece rest
-    → rest ≡ part ++ 10 ∷ after → length part + (length after + 1) ≤ length piece
-Fed-rest P Q piece rest part after p cuts =
-    let l = Fed-len P Q piece rest p in
-    let k = length-append part (10 ∷ after) in
-    omega (arith, l, k, ap length cuts)
-
 -- ---- where an allocation failed
 
-held_stop : (stage : Stage) (rows : List Row) (line t : List ℕ) → is_done stage ≡ false
-    → HasReadLines stage rows line t → IsNextLine (line_number stage (length rows)) rows
-held_stop Header rows line t going s = inl (refl, s.holds)
-held_stop (Rows v) rows line t going s = inr refl
-held_stop (Done v) rows line t going s = absurd (let f : true ≡ false = going in cc)
-
--- nothing more is kept of a line
-pub held_fails : (stage : Stage) (rows : List Row) (line t bytes more : List ℕ)
-    → is_done stage ≡ false → HasReadLines stage rows line t
-    → Fails (length bytes + length more) (record {
-      line = line_number stage (length rows);
-      cause = cause.Memory;
-    }) rows ((t ++ bytes) ++ more)
-held_fails stage rows line t bytes more going s = record {
-  is = held_fault stage rows line t bytes more going s;
-  stops = λ e. held_stop stage rows line t going s;
-}
-
-judged_stop : (stage : Stage) (old new : List Row) (line t : List ℕ) (c : BookCause)
-    → JudgesLine stage (Err c) old line new → HasReadLines stage old line t → c ≡ cause.Memory
-    → IsNextLine (line_number stage (length new)) new
-judged_stop Header old new line t c j s e = inl (refl, j.1 ∙ s.holds)
-judged_stop (Rows v) old new line t c j s e = inr refl
-judged_stop (Done v) old new line t c j s e = absurd (let f = j.0 in cc)
-
--- a line isn't judged
-pub ended_fails : (stage : Stage) (old new : List Row) (line t more : List ℕ) (c : BookCause)
-    → JudgesLine stage (Err c) old line new → HasReadLines stage old line t
-    → Fails (length more + 1) (record { line = line_number stage (length new); cause = c }) new
-    (t ++ 10 ∷ more)
-ended_fails stage old new line t more c j s = record {
-  is = ended_fault stage old new line t more c j s;
-  stops = judged_stop stage old new line t c j s;
-}
-
-pub fails_near : (few most : ℕ) (f : BookFault) (rows : List Row) (t : List ℕ) → few ≤ most
-    → Fails few f rows t → Fails most f rows t
-fails_near few most f rows t less h =
-    record { is = fault_near few most f t less h.is; stops = h.stops }
+-- the next line is that after those of the rows
+pub next_line : (stage : Stage) (rows : List Row) (line : List ℕ) → is_done stage ≡ false
+    → HoldsIn stage rows line → IsNextLine (line_number stage (length rows)) rows
+next_line Header rows line going h = inl (refl, h)
+next_line (Rows v) rows line going h = inr refl
+next_line (Done v) rows line going h = absurd (let f : true ≡ false = going in cc)
 
 -- the input ended
 pub ending_not_memory : (e : InputEnd) → ending_cause e ≢ cause.Memory

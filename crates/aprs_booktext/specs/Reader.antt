@@ -1,4 +1,4 @@
--- What a reader of a book holds.
+-- What was read of a book's text at each stage.
 use Rattle.std.specs.Prelude.{◌≡◌, ◌≢◌, ℕ, ◌+◌, ◌⊎◌, Bool, true, false, List, [], ◌∷◌, ◌++◌, length, map, None, Result, Ok, Err}
 use Rattle.aprs_io.specs.declared.input.InputEnd.{InputEnd}
 use Rattle.aprs_io.specs.declared.input.InputEnd.TheVariants as how
@@ -8,7 +8,6 @@ use Rattle.aprs_rows.specs.Refusal.{refusal}
 use Rattle.aprs_booktext.specs.FirstFault.{FirstFault, IsMemoryAt, IsNoHeader}
 use Rattle.aprs_booktext.specs.TextFault.{IsWrong}
 use Rattle.aprs_io.specs.Cut.{Lacks}
-use Rattle.aprs_booktext.specs.ReadRows.{StopsAfter}
 use Rattle.aprs_booktext.specs.Text.{row_line, end_line, lines_of, IsBookRow, IsBookRows}
 use Rattle.aprs_log.specs.LogText.{text_of_lines}
 use Rattle.aprs_booktext.specs.Fault.{ending_cause}
@@ -16,9 +15,8 @@ use Rattle.aprs_booktext.specs.Version.{form_of, gap_of, header_of, IsVersion}
 use Rattle.aprs_booktext.specs.declared.fault.BookCause.{BookCause}
 use Rattle.aprs_booktext.specs.declared.fault.BookCause.TheVariants as why
 use Rattle.aprs_booktext.specs.declared.fault.BookFault.{BookFault}
-use Rattle.aprs_booktext.specs.declared.reader.BookReader.{BookReader}
-use Rattle.aprs_booktext.specs.declared.reader.Stage.{Stage}
-use Rattle.aprs_booktext.specs.declared.reader.Stage.TheVariants.{Header, Rows, Done}
+use Rattle.aprs_booktext.specs.declared.stage.Stage.{Stage}
+use Rattle.aprs_booktext.specs.declared.stage.Stage.TheVariants.{Header, Rows, Done}
 use Rattle.aprs_booktext.specs.declared.version.Version.{Version}
 
 -- The whole lines that were read before this stage, where these are the rows.
@@ -44,12 +42,6 @@ pub record HasReadLines (stage : Stage) (rows : List Row) (line text : List ℕ)
 abbrev pub IsFault : ℕ → BookFault → List ℕ → Type 0
 IsFault most fault text =
     IsMemoryAt most text fault ⊎ ((ending : InputEnd) → FirstFault text ending fault)
-
--- The reader fails so, where this text was read or may follow: the fault is that of the text, and
--- where an allocation failed, the rows are those of the lines before the one that it names.
-pub record Fails (most : ℕ) (fault : BookFault) (rows : List Row) (text : List ℕ) : Type 0 where
-  pub is : IsFault most fault text
-  pub stops : StopsAfter fault rows
 
 -- The number of the line that is read after the lines of so many rows.
 abbrev pub line_number : Stage → ℕ → ℕ
@@ -111,13 +103,3 @@ abbrev pub JudgesLine : Stage → Result Stage BookCause → List Row → List �
 JudgesLine Header answer old line new = JudgesHeader answer old line new
 JudgesLine (Rows v) answer old line new = JudgesRowLine v answer old line new
 JudgesLine (Done v) answer old line new = (answer ≡ Err why.After) × (new ≡ old)
-
--- ---- a reader
-
--- How many rows there are, and how many bytes of a line the reader keeps, together.
-abbrev pub read_size : {A : Type 0} → BookReader A → List Row → ℕ
-read_size reader rows = length rows + length reader.line.items
-
--- The reader has read this text, which has these rows.
-abbrev pub HasRead : {A : Type 0} → BookReader A → List Row → List ℕ → Type 0
-HasRead reader rows text = HasReadLines reader.stage rows reader.line.items text

@@ -1,13 +1,16 @@
--- What a reader holds that keeps the last row alone.
+-- What a reader holds of a book's text, and which rows it keeps.
 use Rattle.std.specs.Prelude.{◌≡◌, ℕ, ◌+◌, Bool, true, false, List, [], ◌∷◌, ◌++◌, length, Option, None, Some, Result, Ok, Err}
 use Rattle.std.specs.List.{last_or}
 use Rattle.aprs_laws.specs.BookValue.{BookValue}
 use Rattle.aprs_laws.specs.Row.{Row}
 use Rattle.aprs_booktext.specs.Reader.{HasReadLines, is_done, JudgesLine}
+use Rattle.aprs_booktext.specs.ReadRows.{StopsAfter}
 use Rattle.aprs_booktext.specs.declared.fault.BookCause.{BookCause}
 use Rattle.aprs_booktext.specs.declared.fault.BookFault.{BookFault}
-use Rattle.aprs_booktext.specs.declared.reader.Stage.{Stage}
-use Rattle.aprs_booktext.specs.declared.reader.Stage.TheVariants.{Header, Rows, Done}
+use Rattle.aprs_booktext.specs.declared.stage.Stage.{Stage}
+use Rattle.aprs_booktext.specs.declared.stage.Stage.TheVariants.{Header, Rows, Done}
+use Rattle.aprs_booktext.specs.declared.row_reader.Keeping.{Keeping}
+use Rattle.aprs_booktext.specs.declared.row_reader.Keeping.TheVariants.{Each, Last}
 use Rattle.aprs_booktext.specs.declared.row_reader.RowReader.{RowReader}
 use Rattle.aprs_booktext.specs.declared.version.Version.{Version}
 
@@ -16,11 +19,21 @@ abbrev pub list_of_row : Option Row → List Row
 list_of_row None = []
 list_of_row (Some x) = x ∷ []
 
+-- What is kept of these rows: each, or the last alone.
+abbrev pub rows_kept : Keeping → List Row → List Row
+rows_kept Each rows = rows
+rows_kept Last rows = list_of_row (last_or None rows)
+
+-- What is kept after one row more.
+abbrev pub kept_after : Keeping → List Row → Row → List Row
+kept_after Each rows x = rows ++ x ∷ []
+kept_after Last rows x = x ∷ []
+
 -- The last of these rows, until the last line was read.
-abbrev pub row_kept : Stage → List Row → List Row
-row_kept Header rows = []
-row_kept (Rows v) rows = list_of_row (last_or None rows)
-row_kept (Done v) rows = []
+abbrev pub row_at_stage : Stage → List Row → List Row
+row_at_stage Header rows = []
+row_at_stage (Rows v) rows = list_of_row (last_or None rows)
+row_at_stage (Done v) rows = []
 
 -- Whether a line between these stages is a row's.
 abbrev pub is_row_between : Stage → Stage → Bool
@@ -37,11 +50,6 @@ version_in (Done v) = Some v
 abbrev pub KeepsVersion : Stage → Stage → Type 0
 KeepsVersion old new = (v : Version) → version_in old ≡ Some v → version_in new ≡ Some v
 
--- Before the header there are no rows.
-abbrev pub IsNoneAtHeader : Stage → List Row → Type 0
-IsNoneAtHeader Header rows = rows ≡ []
-IsNoneAtHeader stage rows = Unit {0}
-
 -- How many rows there are after a line, by whether it is a row's.
 abbrev pub count_after : Bool → ℕ → ℕ
 count_after true count = count + 1
@@ -52,18 +60,19 @@ abbrev pub answer_read : Result (Unit {0}) BookFault → ℕ → List Row → Re
 answer_read (Ok u) gap rows = Ok (record { gap = gap; rows = rows })
 answer_read (Err fault) gap rows = Err fault
 
--- After a line that was judged so, the last of the rows is kept, and after a fault anything may be.
-abbrev pub KeepsLast : Result Stage BookCause → List Row → List Row → Type 0
-KeepsLast (Ok stage) rows kept = kept ≡ row_kept stage rows
-KeepsLast (Err cause) rows kept = Unit {0}
+-- After a line that was judged so, there are these rows, and what is to be kept of them is kept.
+-- After a fault, where each is kept, each still is; else anything may be.
+abbrev pub KeepsRows : Keeping → Result Stage BookCause → List Row → List Row → Type 0
+KeepsRows keeping (Ok stage) rows kept = kept ≡ rows_kept keeping rows
+KeepsRows keeping (Err cause) rows kept = keeping ≡ Each → kept ≡ rows
 
--- A line after those of the rows `old` is judged so; there are `new` rows after it, and the last of
--- them is kept.
-pub record JudgesKept (stage : Stage) (answer : Result Stage BookCause) (old : List Row)
-    (line : List ℕ) (kept : List Row) : Type 0 where
+-- A line after those of the rows `old` is judged so; there are `new` rows after it, and these are
+-- kept of them.
+pub record JudgesKept (keeping : Keeping) (stage : Stage) (answer : Result Stage BookCause)
+    (old : List Row) (line : List ℕ) (kept : List Row) : Type 0 where
   pub new : List Row
   pub judged : JudgesLine stage answer old line new
-  pub keeps : KeepsLast answer new kept
+  pub keeps : KeepsRows keeping answer new kept
 
 -- ---- a reader
 
@@ -75,16 +84,30 @@ most_stream = 9223372036854775807
 abbrev pub size_read : {A : Type 0} → RowReader A → ℕ
 size_read reader = reader.count + length reader.line.items
 
--- The reader has read this text, which has these rows.
+-- The row that is lent, or none.
+abbrev pub row_lent : {A : Type 0} → RowReader A → List Row
+row_lent reader = row_at_stage reader.stage reader.rows
+
+-- The reader has read this text, which has these rows, whatever it keeps of them.
+pub record HasReadText {A : Type 0} (reader : RowReader A) (rows : List Row) (text : List ℕ)
+    : Type 0 where
+  pub lines : HasReadLines reader.stage rows reader.line.items text
+  pub count : reader.count ≡ length rows
+
+-- The reader has read this text, and keeps of its rows those that it is to keep.
 pub record HasReadTo {A : Type 0} (reader : RowReader A) (rows : List Row) (text : List ℕ)
     : Type 0 where
   pub lines : HasReadLines reader.stage rows reader.line.items text
   pub count : reader.count ≡ length rows
-  pub last : reader.last ≡ row_kept reader.stage rows
+  pub kept : reader.rows ≡ rows_kept reader.keeping rows
 
--- With one line more the reader has read this text: one row more, which it keeps, or the same rows.
+-- With one line more the reader has read this text: one row more, which it lends, or the same rows.
 abbrev pub ReadsOne : {A : Type 0} → Bool → RowReader A → List Row → List ℕ → Type 0
 ReadsOne true reader rows text =
-    (x : Row) × (reader.last ≡ x ∷ []) × (is_done reader.stage ≡ false)
+    (x : Row) × (row_lent reader ≡ x ∷ []) × (is_done reader.stage ≡ false)
     × HasReadTo reader (rows ++ x ∷ []) text
 ReadsOne false reader rows text = HasReadTo reader rows text
+
+-- Where each row is kept and an allocation failed, the rows are those of the lines before it.
+abbrev pub StopsHere : {A : Type 0} → BookFault → RowReader A → Type 0
+StopsHere fault reader = reader.keeping ≡ Each → StopsAfter fault reader.rows

@@ -6,7 +6,7 @@ use Rattle.aprs_laws.specs.Row.{Row}
 use Rattle.aprs_booktext.specs.Piece.{bytes_left}
 use Rattle.aprs_booktext.specs.Reader.{gap_in, is_done}
 use Rattle.aprs_booktext.specs.Reading.{Got, IsAnswered}
-use Rattle.aprs_booktext.specs.RowReader.{size_read, HasReadTo}
+use Rattle.aprs_booktext.specs.RowReader.{row_lent, size_read, HasReadText, HasReadTo, StopsHere}
 use Rattle.aprs_booktext.specs.declared.fault.BookFault.{BookFault}
 use Rattle.aprs_booktext.specs.declared.row_stream.RowStream.{RowStream}
 
@@ -21,7 +21,7 @@ stream_ahead stream = stream.left * 2 + length (bytes_left stream.piece)
 
 -- The row that is lent, or none.
 abbrev pub front_of : {A : Type 0} → RowStream A → List Row
-front_of stream = stream.reader.last
+front_of stream = row_lent stream.reader
 
 -- Whether the text was read to its end.
 abbrev pub is_ended : {A : Type 0} → RowStream A → Bool
@@ -36,34 +36,58 @@ abbrev pub HoldsTo : {A : Type 0} → RowStream A → List Row → List ℕ → 
 HoldsTo stream rows got =
     (t : List ℕ) × (got ≡ t ++ bytes_left stream.piece) × HasReadTo stream.reader rows t
 
--- Since the input was `first`, the text of these rows was got of it, at most `limit` bytes.
-pub record HasGot {R A : Type 0} (remaining : R → Option (List ℕ)) (limit : ℕ)
+-- So much was got, whatever is kept of the rows.
+abbrev pub HoldsText : {A : Type 0} → RowStream A → List Row → List ℕ → Type 0
+HoldsText stream rows got =
+    (t : List ℕ) × (got ≡ t ++ bytes_left stream.piece) × HasReadText stream.reader rows t
+
+-- Since the input was `first`, the text of these rows was got, which begins with `head`, at most
+-- `limit` bytes.
+pub record HasGot {R A : Type 0} (remaining : R → Option (List ℕ)) (limit : ℕ) (head : List ℕ)
     (first now : Counted R) (stream : RowStream A) (rows : List Row) : Type 0 where
-  pub got : Got (HoldsTo stream rows) [] (remaining first.device) (remaining now.device) limit
+  pub got : Got (HoldsTo stream rows) head (remaining first.device) (remaining now.device) limit
+      stream.left
+  pub calls : Calls Going first now
+
+-- So much was got, whatever is kept of the rows.
+pub record HasGotText {R A : Type 0} (remaining : R → Option (List ℕ)) (limit : ℕ)
+    (head : List ℕ) (first now : Counted R) (stream : RowStream A) (rows : List Row)
+    : Type 0 where
+  pub got : Got (HoldsText stream rows) head (remaining first.device) (remaining now.device) limit
       stream.left
   pub calls : Calls Going first now
 
 -- After these rows one more was got; or they are all, and the input has ended.
-abbrev pub GetsOne : {R A : Type 0} → (R → Option (List ℕ)) → ℕ → Counted R → Counted R
+abbrev pub GetsOne : {R A : Type 0} → (R → Option (List ℕ)) → ℕ → List ℕ → Counted R → Counted R
     → RowStream A → List Row → Type 0
-GetsOne remaining limit first now stream rows =
+GetsOne remaining limit head first now stream rows =
     ((x : Row) × (front_of stream ≡ x ∷ []) × (is_ended stream ≡ false)
-    × HasGot remaining limit first now stream (rows ++ x ∷ []))
+    × HasGot remaining limit head first now stream (rows ++ x ∷ []))
     ⊎ ((front_of stream ≡ []) × (is_ended stream ≡ true)
-    × IsAnswered remaining limit [] (Ok (record { gap = gap_of_stream stream; rows = rows })) first
-    now)
+    × IsAnswered remaining limit head (Ok (record { gap = gap_of_stream stream; rows = rows }))
+    first now)
 
 -- With one step more: a row more, or no row more.
-abbrev pub StepsTo : {R A : Type 0} → (R → Option (List ℕ)) → Bool → ℕ → Counted R → Counted R
-    → RowStream A → List Row → Type 0
-StepsTo remaining true limit first now stream rows =
+abbrev pub StepsTo : {R A : Type 0} → (R → Option (List ℕ)) → Bool → ℕ → List ℕ → Counted R
+    → Counted R → RowStream A → List Row → Type 0
+StepsTo remaining true limit head first now stream rows =
     (x : Row) × (front_of stream ≡ x ∷ []) × (is_ended stream ≡ false)
-    × HasGot remaining limit first now stream (rows ++ x ∷ [])
-StepsTo remaining false limit first now stream rows = HasGot remaining limit first now stream rows
+    × HasGot remaining limit head first now stream (rows ++ x ∷ [])
+StepsTo remaining false limit head first now stream rows =
+    HasGot remaining limit head first now stream rows
 
 -- The input is faulty so, since it was `first`, where the text of these rows was got before.
 abbrev pub IsFaultyAfter : {R A : Type 0} → (R → Option (List ℕ)) → BookFault → Counted R
     → Counted R → RowStream A → Type 0
 IsFaultyAfter {R = R} remaining fault old new stream =
-    (limit : ℕ) (first : Counted R) (rows : List Row) → HasGot remaining limit first old stream rows
-    → IsAnswered remaining limit [] (Err fault) first new
+    (limit : ℕ) (head : List ℕ) (first : Counted R) (rows : List Row)
+    → HasGot remaining limit head first old stream rows
+    → IsAnswered remaining limit head (Err fault) first new
+
+-- Where the text of some rows was got before and each is kept, an allocation failed in the line
+-- after those that are kept now.
+abbrev pub StopsFrom : {R A : Type 0} → (R → Option (List ℕ)) → BookFault → Counted R
+    → RowStream A → RowStream A → Type 0
+StopsFrom {R = R} remaining fault now old new =
+    (limit : ℕ) (head : List ℕ) (first : Counted R) (rows : List Row)
+    → HasGot remaining limit head first now old rows → StopsHere fault new.reader

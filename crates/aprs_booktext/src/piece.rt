@@ -2,7 +2,7 @@
 ghost use Rattle.std.specs.Prelude.{◌≡◌, ◌<◌, ◌≤◌, [], length, drop, IfOk, IfErr, OnOk};
 ghost use Rattle.aprs_booktext.specs.TextFault.{most_ahead};
 
-use aprs_io::{Counted, InputEnd, read_some};
+use aprs_io::{Counted, InputEnd, put, read_some};
 use aprs_rows::Memory;
 use std::alloc::Allocator;
 use std::io::Read;
@@ -28,16 +28,18 @@ impl<A: Allocator + Copy> Piece<A> {
     ghost use Rattle.aprs_io.specs.Input.{EndsHere, last_got};
     ghost use Rattle.aprs_booktext.specs.Piece.{bytes_left};
 
-    /// No bytes, and room for some.
-    pub fn new(alloc: A) -> Result<Piece<A>, Memory>
-        ensures { IfOk result (λ piece. bytes_left piece ≡ []) }
+    /// These bytes, at most 8, and room for more.
+    pub fn new(alloc: A, head: &[u8]) -> Result<Piece<A>, Memory>
+        requires { length head.now ≤ 8 }
+        ensures { IfOk result (λ piece. bytes_left piece ≡ head.now) }
     {
         let mut bytes = Vec::new(alloc);
         bytes.resize(PIECE, 0)?;
+        let end = put(bytes.as_mut_slice(), 0, head);
         Ok(Piece {
             bytes,
             start: 0,
-            end: 0,
+            end,
         })
     }
 

@@ -1,28 +1,25 @@
 //! Reading a book.
-ghost use Rattle.std.specs.Prelude.{◌≡◌, ◌≢◌, ◌≤◌, ◌-◌, ◌++◌, ℕ, [], List, Err, true, length, IfSome, IfOk, IfErr, OnOk};
-ghost use Rattle.aprs_io.specs.Device.{device_of, failures_of, Calls, Going, Rose};
+ghost use Rattle.std.specs.Prelude.{◌≡◌, ◌≤◌, ◌+◌, ◌-◌, ◌++◌, ℕ, [], List, length, IfSome, IfOk, IfErr};
+ghost use Rattle.aprs_io.specs.Device.{device_of, failures_of, Rose};
 ghost use Rattle.aprs_io.specs.Input.{most_input};
 ghost use Rattle.aprs_io.specs.declared.device.Counted.{Counted as CountedValue};
 ghost use Rattle.aprs_laws.specs.BookValue.{IsSoundBook};
-ghost use Rattle.aprs_laws.specs.Row.{Row};
 ghost use Rattle.aprs_booktext.specs.Asking.{Asks, Takes};
 ghost use Rattle.aprs_booktext.specs.BookAnswers.{AcceptsBook, ReadsBook};
 ghost use Rattle.aprs_booktext.specs.ReadRows.{book_read, StopsAfter};
-ghost use Rattle.aprs_booktext.specs.Reader.{gap_in, is_done, read_size, HasRead};
-ghost use Rattle.aprs_booktext.specs.Reading.{Got, IsAnswered};
+ghost use Rattle.aprs_booktext.specs.Reading.{IsAnswered};
+ghost use Rattle.aprs_booktext.specs.RowReader.{most_stream};
+ghost use Rattle.aprs_booktext.specs.RowStream.{stream_size, HasGot, HoldsTo};
 ghost use Rattle.aprs_booktext.specs.Seconds.{ReadsSeconds};
 
 use crate::fault::{BookCause, BookFault};
-use crate::reader::{BookReader, memory_fault_at_last};
+use crate::row_reader::Keeping;
+use crate::row_stream::RowStream;
 use aprs_book::{Book, Gap, Memory};
-use aprs_io::{Counted, read_some};
+use aprs_io::Counted;
 use aprs_rows::{BookStore, PackedRows, WalkRoom};
 use std::alloc::Allocator;
 use std::io::Read;
-
-/// How many bytes are asked of the reader at once: by so many it may be ahead of the line that is
-/// read.
-const MOST_AHEAD: usize = 16_384;
 
 /// Reads a book from its text, which begins with `head` and goes on with the bytes of `source`, to
 /// the end. The first line is `APRSBOOK 1`, and moments are written to the second (20 bytes each),
@@ -32,7 +29,7 @@ const MOST_AHEAD: usize = 16_384;
 /// Requires a limit of at most `MAX_INPUT` (1,073,741,824) and a head of at most 8 bytes and at
 /// most `limit`. A fault is the text's first, with the number of its line; `Memory` comes instead
 /// where an allocation failed before that fault, with the number of the line that was being read.
-/// Holds one line and the rows in bytes, and then the book beside them.
+/// Holds 16,384 bytes of the source, one line and the rows in bytes, and then the book beside them.
 pub fn read_book<R: Read, A: Allocator + Copy>(
     alloc: A,
     limit: u64,
@@ -60,15 +57,7 @@ pub fn read_book<R: Read, A: Allocator + Copy>(
     ensures over { IfSome (R.remaining (device_of source.old)) (λ input. Takes result
         (limit - length head.now) input (R.remaining (device_of source.new))) }
 {
-    let mut rows = PackedRows::new(alloc);
-    let mut reader = BookReader::new(alloc);
-    let left = read_lines(limit, head, source, &mut reader, &mut rows)?;
-    let count = rows.len();
-    let Ok(book) = book_in(alloc, reader.gap(), rows) else {
-        return Err(memory_fault_at_last(count));
-    };
-    gap_at_end(left, source, &reader, count)?;
-    Ok(book)
+    book_of_text(alloc, limit, head, source)
 }
 
 /// Reads the rows of a book from its text, which begins with `head` and goes on with the bytes of
@@ -78,7 +67,7 @@ pub fn read_book<R: Read, A: Allocator + Copy>(
 /// most 8 bytes and at most `limit`. A fault is the text's first, with the number of its line;
 /// `Memory` comes instead where an allocation failed before that fault, with the number of the line
 /// that was being read, and then the rows are those of the lines before it. After another fault
-/// they may be any. Holds the rows and one line.
+/// they may be any. Holds the rows, one line and 16,384 bytes of the source.
 pub fn read_rows<R: Read, A: Allocator + Copy>(
     alloc: A,
     limit: u64,
@@ -115,80 +104,101 @@ pub fn read_rows<R: Read, A: Allocator + Copy>(
         (λ input. Takes (book_read result rows.new) (limit - length head.now) input
         (R.remaining (device_of source.new))) }
 {
-    let mut reader = BookReader::new(alloc);
-    let left = read_lines(limit, head, source, &mut reader, rows)?;
-    gap_at_end(left, source, &reader, rows.len())
+    rows_of_text(alloc, limit, head, source, rows)
 }
 
-/// Reads a text, `head` and then bytes of `source`, to the end of its last line, with a reader that
-/// has read nothing before. Puts its rows into `rows`, which has to be empty, and returns how many
-/// bytes of the limit are left. Fails with the text's first fault, or with `Memory` where an
-/// allocation failed.
-fn read_lines<R: Read, A: Allocator + Copy>(
+/// The book of a text, which is made before the end is asked for: after that nothing may be short of
+/// memory.
+fn book_of_text<R: Read, A: Allocator + Copy>(
+    alloc: A,
     limit: u64,
     head: &[u8],
     source: &mut Counted<R>,
-    reader: &mut BookReader<A>,
-    rows: &mut PackedRows<A>,
-) -> Result<u64, BookFault>
+) -> Result<Book<A>, BookFault>
     requires limit { limit ≤ most_input }
     requires head { length head.now ≤ 8 }
     requires within { length head.now ≤ limit }
-    requires none { read_size reader.old rows.old ≡ 0 }
-    requires stands { HasRead reader.old rows.old [] }
-
-    // The reader has read `head` and what was got of the source, which has these rows.
-    ensures got { IfOk result (λ left. Got (HasRead reader.new rows.new) head.now
-        (R.remaining (device_of source.old)) (R.remaining (device_of source.new)) limit left) }
-    ensures few { OnOk result (length rows.new ≤ most_input) }
-    ensures done { OnOk result (is_done reader.new.stage ≡ true) }
-
-    ensures fault { IfErr result (λ fault.
-        IsAnswered R.remaining limit head.now (Err fault) source.old source.new) }
-    ensures rows { IfErr result (λ fault. StopsAfter fault rows.new) }
-
-    ensures going { OnOk result (Calls Going source.old source.new) }
+    ensures { IsAnswered R.remaining limit head.now result source.old source.new }
 {
-    reader.feed(rows, head)?;
-    let mut room = [0; MOST_AHEAD];
-    let mut left = limit - head.len() as u64;
-    while !reader.is_done() {
-        match read_some(source, &mut room, left) {
-            Ok(count) => {
-                reader.feed(rows, &room[..count])?;
-                left -= count as u64;
-            }
-            Err(ending) => return Err(reader.fault_of_ending(rows.len(), ending)),
-        }
-    }
-    Ok(left)
+    let mut stream = stream_of(alloc, limit, head)?;
+    stream.read_lines(source)?;
+    let Ok(book) = book_in(alloc, stream.gap(), stream.take_rows(alloc)) else {
+        return Err(stream.memory_at_last());
+    };
+    stream.end(source)?;
+    Ok(book)
 }
 
-/// The gap of the book whose last line was read after so many rows, where the input ends there. One
-/// byte more is asked for; the limit still allows `left`. Fails with `After` where a byte comes,
-/// with `TooLong` where one is there past the limit, and with `Read` where the read failed.
-fn gap_at_end<R: Read, A: Allocator + Copy>(
-    left: u64,
+/// Puts the rows of a text into `rows`, which has to be empty, and returns the gap of their book.
+fn rows_of_text<R: Read, A: Allocator + Copy>(
+    alloc: A,
+    limit: u64,
+    head: &[u8],
     source: &mut Counted<R>,
-    reader: &BookReader<A>,
-    count: usize,
+    rows: &mut PackedRows<A>,
 ) -> Result<Gap, BookFault>
-    requires few { count ≤ most_input }
-    requires done { is_done reader.now.stage ≡ true }
-    ensures gap { IfOk result (λ gap. gap ≡ gap_in reader.now.stage) }
-    ensures refused { IfErr result (λ fault. fault.cause ≢ BookCause.Memory) }
-    // This is the answer for the whole text, where the reader got `head` and then what came since
-    // the source was `first`.
-    ensures answer { (rows : List Row) (head : List ℕ) (first : CountedValue R) (limit : ℕ)
-        → count ≡ length rows → Got (HasRead reader.now rows) head (R.remaining (device_of first))
-        (R.remaining (device_of source.old)) limit left → Calls Going first source.old
-        → IsAnswered R.remaining limit head (book_read result rows) first source.new }
+    requires limit { limit ≤ most_input }
+    requires head { length head.now ≤ 8 }
+    requires within { length head.now ≤ limit }
+    requires empty { rows.old ≡ [] }
+    ensures answer { IsAnswered R.remaining limit head.now (book_read result rows.new) source.old
+        source.new }
+    ensures sound { IfOk result (λ gap. IsSoundBook (record { gap = gap; rows = rows.new })) }
+    ensures stops { IfErr result (λ fault. StopsAfter fault rows.new) }
 {
-    let mut one = [0];
-    match read_some(source, &mut one, left) {
-        Ok(_) => Err(reader.fault(count, BookCause::After)),
-        Err(ending) => reader.finish(count, ending),
+    let mut stream = stream_of(alloc, limit, head)?;
+    let answer = read_text(source, &mut stream);
+    *rows = stream.take_rows(alloc);
+    answer
+}
+
+/// The rows of a text that begins with `head`, each of which is to be kept. Where memory is refused,
+/// that is in the first line.
+fn stream_of<A: Allocator + Copy>(
+    alloc: A,
+    limit: u64,
+    head: &[u8],
+) -> Result<RowStream<A>, BookFault>
+    requires few { length head.now ≤ 8 }
+    requires within { length head.now ≤ limit }
+    ensures holds { IfOk result (λ stream. HoldsTo stream [] head.now) }
+    ensures left { IfOk result (λ stream. length head.now + stream.left ≡ limit) }
+    ensures size { IfOk result (λ stream. stream_size stream ≡ limit) }
+    ensures keeping { IfOk result (λ stream. stream.reader.keeping ≡ Keeping.Each) }
+    ensures first { IfErr result (λ fault.
+        fault ≡ record { line = 1; cause = BookCause.Memory }) }
+{
+    match RowStream::with_head(alloc, limit, head, Keeping::Each) {
+        Ok(stream) => Ok(stream),
+        Err(_) => Err(BookFault {
+            line: 1,
+            cause: BookCause::Memory,
+        }),
     }
+}
+
+/// Reads a text to its end with a stream that has read nothing and keeps each row, and returns the
+/// gap of its book. Fails with the text's first fault, or with `Memory` where an allocation failed.
+fn read_text<R: Read, A: Allocator + Copy>(
+    source: &mut Counted<R>,
+    stream: &mut RowStream<A>,
+) -> Result<Gap, BookFault>
+    requires few { stream_size stream.old ≤ most_stream }
+    requires each { stream.old.reader.keeping ≡ Keeping.Each }
+    ensures answer { (limit : ℕ) (head : List ℕ) (first : CountedValue R)
+        → HasGot R.remaining limit head first source.old stream.old []
+        → IsAnswered R.remaining limit head (book_read result stream.new.reader.rows) first
+        source.new }
+    ensures sound { IfOk result (λ gap. (limit : ℕ) (head : List ℕ) (first : CountedValue R)
+        → HasGot R.remaining limit head first source.old stream.old []
+        → IsSoundBook (record { gap = gap; rows = stream.new.reader.rows })) }
+    ensures stops { IfErr result (λ fault. (limit : ℕ) (head : List ℕ) (first : CountedValue R)
+        → HasGot R.remaining limit head first source.old stream.old []
+        → StopsAfter fault stream.new.reader.rows) }
+{
+    stream.read_lines(source)?;
+    stream.end(source)?;
+    Ok(stream.gap())
 }
 
 /// The book of these rows, which are those of a book with this gap.

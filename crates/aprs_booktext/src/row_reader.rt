@@ -1,6 +1,6 @@
-//! A book's text, while it is read line by line, of whose rows only the last is kept.
-ghost use Rattle.std.specs.Prelude.{◌≡◌, ◌+◌, ◌≤◌, ◌++◌, ◌∷◌, ℕ, [], false, List, length, None, Some, OnOk, IfErr, IfOk, IfSome, IfNone};
-ghost use Rattle.std.specs.List.{last_or};
+//! A book's text, while it is read line by line.
+ghost use Rattle.std.specs.Prelude.{◌≡◌, ◌<◌, ◌+◌, ◌≤◌, ◌++◌, ◌∷◌, ℕ, [], false, List, length, None, Some, OnErr, OnOk, IfErr, IfOk, IfSome, IfNone};
+ghost use Rattle.std.specs.List.{join_with_byte, last_or};
 ghost use Rattle.aprs_laws.specs.Row.{Row};
 ghost use Rattle.aprs_laws.specs.Sound.{IsSoundRow};
 ghost use Rattle.aprs_rows.specs.Packed.{IsShort};
@@ -8,46 +8,59 @@ ghost use Rattle.aprs_booktext.specs.BookAnswers.{IsAnswerFor};
 ghost use Rattle.aprs_booktext.specs.Fault.{ending_cause};
 ghost use Rattle.aprs_io.specs.Cut.{Lacks};
 ghost use Rattle.aprs_booktext.specs.Reader as Spec;
-ghost use Rattle.aprs_booktext.specs.RowReader.{answer_read, count_after, is_row_between, most_stream, row_kept, size_read, version_in, HasReadTo, IsNoneAtHeader, JudgesKept, KeepsVersion, ReadsOne};
+ghost use Rattle.aprs_booktext.specs.RowReader.{answer_read, count_after, is_row_between, kept_after, most_stream, row_lent, rows_kept, size_read, version_in, HasReadText, HasReadTo, JudgesKept, KeepsVersion, ReadsOne, StopsHere};
 
 use crate::end_line::end_line;
 use crate::fault::{BookCause, BookFault};
-use crate::reader::{Stage, ending_cause, is_done, judge_end, judge_header, may_end};
 use crate::row_buffers::RowBuffers;
 use crate::row_line::read_row;
+use crate::stage::{Stage, ending_cause, is_done, judge_end, judge_header, may_end};
 use crate::version::Version;
 use aprs_book::Gap;
 use aprs_io::InputEnd;
-use aprs_rows::{PackedRows, RowView};
+use aprs_rows::{Memory, PackedRows, RowView};
 use std::alloc::Allocator;
+use std::mem::replace;
 
 /// The most bytes that the names of a row's receivers have, with commas between, since more don't
 /// fit where rows are kept.
 const MOST_NAMES: usize = 4_294_967_295;
 
-/// What was read of a book's text: how far its whole lines went, the last of their rows, and the
-/// beginning of the next line.
+/// Which rows of a text are kept.
+#[derive(Clone, Copy, Debug, PartialEq, Eq)]
+pub enum Keeping {
+    /// Each row.
+    Each,
+    /// The last row alone.
+    Last,
+}
+
+/// What was read of a book's text: how far its whole lines went, the rows that are kept of it, and
+/// the beginning of the next line.
 #[derive(Drop)]
 pub struct RowReader<A: Allocator> {
     line: Vec<u8, A>,
     stage: Stage,
     buffers: RowBuffers,
-    /// The last row; none before the first and after the last line.
-    last: PackedRows<A>,
+    keeping: Keeping,
+    /// The rows that are kept.
+    rows: PackedRows<A>,
     /// How many rows there were.
     count: usize,
 }
 
 impl<A: Allocator + Copy> RowReader<A> {
-    /// A reader that has read nothing of a text.
-    pub fn new(alloc: A) -> RowReader<A>
-        ensures { HasReadTo result [] [] }
+    /// A reader that has read nothing of a text, and is to keep these rows of it.
+    pub fn new(alloc: A, keeping: Keeping) -> RowReader<A>
+        ensures reads { HasReadTo result [] [] }
+        ensures keeping { result.keeping ≡ keeping }
     {
         RowReader {
             line: Vec::new(alloc),
             stage: Stage::Header,
             buffers: RowBuffers::new(),
-            last: PackedRows::new(alloc),
+            keeping,
+            rows: PackedRows::new(alloc),
             count: 0,
         }
     }
@@ -71,13 +84,27 @@ impl<A: Allocator + Copy> RowReader<A> {
 
     /// The last row, or `None` before the first and after the last line.
     pub fn row(&self) -> Option<RowView<'_>>
-        ensures some { IfSome result (λ x. last_or None self.now.last ≡ Some x) }
-        ensures none { IfNone result (self.now.last ≡ []) }
+        ensures some { IfSome result (λ x. last_or None (row_lent self.now) ≡ Some x) }
+        ensures none { IfNone result (row_lent self.now ≡ []) }
         // A row is sound by itself, and its receivers' names have fewer than 4,294,967,296 bytes.
         ensures own { IfSome result (λ x. IsSoundRow x × IsShort x) }
     {
-        self.last.sound();
-        self.last.last()
+        self.rows.sound();
+        match self.stage {
+            Stage::Rows(_) => self.rows.last(),
+            Stage::Header | Stage::Done(_) => None,
+        }
+    }
+
+    /// The rows that are kept, which then are kept no more.
+    pub fn take_rows(&mut self, alloc: A) -> PackedRows<A>
+        ensures rows { result ≡ self.old.rows }
+        ensures reads { (rows : List Row) (t : List ℕ) → HasReadText self.old rows t
+            → HasReadText self.new rows t }
+        ensures stage { self.new.stage ≡ self.old.stage }
+        ensures size { size_read self.new ≡ size_read self.old }
+    {
+        replace(&mut self.rows, PackedRows::new(alloc))
     }
 
     /// Keeps bytes, none of them an LF, after those that are kept of the line.
@@ -88,9 +115,12 @@ impl<A: Allocator + Copy> RowReader<A> {
             → Lacks 10 bytes.now → HasReadTo self.new rows (t ++ bytes.now)) }
         ensures size { OnOk result (size_read self.new ≡ size_read self.old + length bytes.now) }
         ensures stage { self.new.stage ≡ self.old.stage }
+        ensures keeping { self.new.keeping ≡ self.old.keeping }
         ensures fault { IfErr result (λ fault. (rows : List Row) (t more : List ℕ)
             → HasReadTo self.old rows t
             → Spec.IsFault (length bytes.now + length more) fault ((t ++ bytes.now) ++ more)) }
+        ensures stops { IfErr result (λ fault. (rows : List Row) (t : List ℕ)
+            → HasReadTo self.old rows t → StopsHere fault self.new) }
         ensures cause { IfErr result (λ fault. Spec.IsOfText fault.cause) }
     {
         match self.line.extend_from_slice(bytes) {
@@ -99,7 +129,7 @@ impl<A: Allocator + Copy> RowReader<A> {
         }
     }
 
-    /// Judges the line that is the kept bytes and then `part`, and then keeps nothing. Returns
+    /// Judges the line that is the kept bytes and then `part`, and then keeps no bytes. Returns
     /// whether it is a row's, which then is the last row. Fails where the line is wrong, or
     /// where an allocation failed.
     pub fn end_line(&mut self, part: &[u8]) -> Result<bool, BookFault>
@@ -109,12 +139,15 @@ impl<A: Allocator + Copy> RowReader<A> {
             → HasReadTo self.old rows t → Lacks 10 part.now
             → ReadsOne is_row self.new rows ((t ++ part.now) ++ 10 ∷ [])) }
         ensures version { OnOk result (KeepsVersion self.old.stage self.new.stage) }
+        ensures keeping { self.new.keeping ≡ self.old.keeping }
         ensures size { OnOk result
             (size_read self.new ≤ size_read self.old + length part.now + 1) }
         ensures fault { IfErr result (λ fault. (rows : List Row) (t more : List ℕ)
             → HasReadTo self.old rows t → Lacks 10 part.now
             → Spec.IsFault (length part.now + (length more + 1)) fault
             ((t ++ part.now) ++ 10 ∷ more)) }
+        ensures stops { IfErr result (λ fault. (rows : List Row) (t : List ℕ)
+            → HasReadTo self.old rows t → Lacks 10 part.now → StopsHere fault self.new) }
         ensures cause { IfErr result (λ fault. Spec.IsOfText fault.cause) }
     {
         if self.line.is_empty() {
@@ -124,7 +157,7 @@ impl<A: Allocator + Copy> RowReader<A> {
         self.take_kept_line()
     }
 
-    /// Judges a whole line, where nothing is kept.
+    /// Judges a whole line, where no bytes are kept.
     fn take_line(&mut self, line: &[u8]) -> Result<bool, BookFault>
         requires few { size_read self.old + length line.now ≤ most_stream }
         requires none { self.old.line.items ≡ [] }
@@ -133,40 +166,49 @@ impl<A: Allocator + Copy> RowReader<A> {
             → HasReadTo self.old rows t → Lacks 10 line.now
             → ReadsOne is_row self.new rows ((t ++ line.now) ++ 10 ∷ [])) }
         ensures version { OnOk result (KeepsVersion self.old.stage self.new.stage) }
+        ensures keeping { self.new.keeping ≡ self.old.keeping }
         ensures size { OnOk result (size_read self.new ≤ size_read self.old + 1) }
         ensures fault { IfErr result (λ fault. (rows : List Row) (t more : List ℕ)
             → HasReadTo self.old rows t → Lacks 10 line.now
             → Spec.IsFault (length more + 1) fault ((t ++ line.now) ++ 10 ∷ more)) }
+        ensures stops { IfErr result (λ fault. (rows : List Row) (t : List ℕ)
+            → HasReadTo self.old rows t → StopsHere fault self.new) }
         ensures cause { IfErr result (λ fault. Spec.IsOfText fault.cause) }
     {
-        match judge(
+        let judged = judge(
             self.stage,
+            self.keeping,
             self.count,
-            &mut self.last,
+            &mut self.rows,
             &mut self.buffers,
             line,
-        ) {
+        );
+        match judged {
             Ok(stage) => Ok(self.enter(stage)),
             Err(cause) => Err(self.fault(cause)),
         }
     }
 
-    /// Judges the kept bytes as a whole line, and then keeps nothing.
+    /// Judges the kept bytes as a whole line, and then keeps none.
     fn take_kept_line(&mut self) -> Result<bool, BookFault>
         requires few { size_read self.old ≤ most_stream }
         requires going { Spec.is_done self.old.stage ≡ false }
         ensures reads { IfOk result (λ is_row. (rows : List Row) (t : List ℕ)
             → HasReadTo self.old rows t → ReadsOne is_row self.new rows (t ++ 10 ∷ [])) }
         ensures version { OnOk result (KeepsVersion self.old.stage self.new.stage) }
+        ensures keeping { self.new.keeping ≡ self.old.keeping }
         ensures size { OnOk result (size_read self.new ≤ size_read self.old + 1) }
         ensures fault { IfErr result (λ fault. (rows : List Row) (t more : List ℕ)
             → HasReadTo self.old rows t → Spec.IsFault (length more + 1) fault (t ++ 10 ∷ more)) }
+        ensures stops { IfErr result (λ fault. (rows : List Row) (t : List ℕ)
+            → HasReadTo self.old rows t → StopsHere fault self.new) }
         ensures cause { IfErr result (λ fault. Spec.IsOfText fault.cause) }
     {
         let judged = judge(
             self.stage,
+            self.keeping,
             self.count,
-            &mut self.last,
+            &mut self.rows,
             &mut self.buffers,
             self.line.as_slice(),
         );
@@ -186,7 +228,8 @@ impl<A: Allocator + Copy> RowReader<A> {
         ensures stage { self.new.stage ≡ stage }
         ensures count { self.new.count ≡ count_after result self.old.count }
         ensures line { self.new.line.items ≡ self.old.line.items }
-        ensures last { self.new.last ≡ self.old.last }
+        ensures rows { self.new.rows ≡ self.old.rows }
+        ensures keeping { self.new.keeping ≡ self.old.keeping }
     {
         let is_row = is_row_between(&self.stage, &stage);
         self.stage = stage;
@@ -200,7 +243,7 @@ impl<A: Allocator + Copy> RowReader<A> {
     /// of a text that ends in this way.
     pub fn finish(&self, ending: InputEnd) -> Result<(), BookFault>
         requires { self.now.count ≤ most_stream }
-        ensures reads { (rows : List Row) (t : List ℕ) → HasReadTo self.now rows t
+        ensures reads { (rows : List Row) (t : List ℕ) → HasReadText self.now rows t
             → IsAnswerFor (answer_read result (Spec.gap_in self.now.stage) rows) t ending }
         ensures ending { Spec.AgreesWithEnding ending result }
     {
@@ -220,6 +263,17 @@ impl<A: Allocator + Copy> RowReader<A> {
         } }
     {
         self.fault(ending_cause(ending))
+    }
+
+    /// The fault where memory is refused after the last line was read. It is in that line.
+    pub fn memory_at_last(&self) -> BookFault
+        requires { self.now.count ≤ most_stream }
+        ensures { result ≡ record { line = self.now.count + 2; cause = BookCause.Memory } }
+    {
+        BookFault {
+            line: self.count as u64 + 2,
+            cause: BookCause::Memory,
+        }
     }
 
     /// A fault of this cause in the next line.
@@ -249,24 +303,25 @@ fn is_row_between(before: &Stage, after: &Stage) -> bool
     }
 }
 
-/// Judges a whole line at this stage, after so many rows, of which `last` has the last one, and
-/// returns the stage after it. Then `last` has the line's row, if it has one. Fails with the cause
-/// for which the line is wrong, or with `Memory` where an allocation failed.
+/// Judges a whole line at this stage, after so many rows, of which `rows` has those that are kept,
+/// and returns the stage after it. A row of the line is kept too. Fails with the cause for which the
+/// line is wrong, or with `Memory` where an allocation failed.
 fn judge<A: Allocator + Copy>(
     stage: Stage,
+    keeping: Keeping,
     count: usize,
-    last: &mut PackedRows<A>,
+    rows: &mut PackedRows<A>,
     buffers: &mut RowBuffers,
     line: &[u8],
 ) -> Result<Stage, BookCause>
-    ensures judged { (rows : List Row) → count ≡ length rows → last.old ≡ row_kept stage rows
-        → IsNoneAtHeader stage rows → JudgesKept stage result rows line.now last.new }
+    ensures judged { (all : List Row) → count ≡ length all → rows.old ≡ rows_kept keeping all
+        → JudgesKept keeping stage result all line.now rows.new }
     ensures version { IfOk result (KeepsVersion stage) }
     ensures cause { IfErr result Spec.IsOfText }
 {
     match stage {
         Stage::Header => judge_header(line),
-        Stage::Rows(version) => judge_row(version, count, last, buffers, line),
+        Stage::Rows(version) => judge_row(version, keeping, count, rows, buffers, line),
         Stage::Done(_) => Err(BookCause::After),
     }
 }
@@ -274,32 +329,47 @@ fn judge<A: Allocator + Copy>(
 /// Judges a line after those of the header and so many rows in a text of this version.
 fn judge_row<A: Allocator + Copy>(
     version: Version,
+    keeping: Keeping,
     count: usize,
-    last: &mut PackedRows<A>,
+    rows: &mut PackedRows<A>,
     buffers: &mut RowBuffers,
     line: &[u8],
 ) -> Result<Stage, BookCause>
-    ensures judged { (rows : List Row) → count ≡ length rows
-        → last.old ≡ row_kept (Stage.Rows version) rows
-        → JudgesKept (Stage.Rows version) result rows line.now last.new }
+    ensures judged { (all : List Row) → count ≡ length all → rows.old ≡ rows_kept keeping all
+        → JudgesKept keeping (Stage.Rows version) result all line.now rows.new }
     ensures version { IfOk result (λ next. version_in next ≡ Some version) }
     ensures cause { IfErr result Spec.IsOfText }
 {
     if line.starts_with(b"END") {
-        let stage = judge_end(line, version, count)?;
-        last.clear();
-        return Ok(stage);
+        return judge_end(line, version, count);
     }
     let row = read_row(buffers, version.form(), line)?;
-    let before = last.last();
+    let before = rows.last();
     if let Some(cause) = row.refusal_after(before.as_ref(), version.gap()) {
         return Err(BookCause::from(cause));
     }
     if row.receivers().len() > MOST_NAMES {
         return Err(BookCause::Memory);
     }
-    match last.set(&row) {
+    match keep(keeping, rows, &row) {
         Ok(()) => Ok(Stage::Rows(version)),
         Err(_) => Err(BookCause::Memory),
+    }
+}
+
+/// Keeps a row: after the others where each is kept, and else in their place.
+fn keep<A: Allocator + Copy>(
+    keeping: Keeping,
+    rows: &mut PackedRows<A>,
+    row: &RowView<'_>,
+) -> Result<(), Memory>
+    requires sound { IsSoundRow row.now }
+    requires short { length (join_with_byte 44 row.now.receivers) < 4294967296 }
+    ensures kept { OnOk result (rows.new ≡ kept_after keeping rows.old row.now) }
+    ensures stays { OnErr result (keeping ≡ Keeping.Each → rows.new ≡ rows.old) }
+{
+    match keeping {
+        Keeping::Each => rows.push(row),
+        Keeping::Last => rows.set(row),
     }
 }

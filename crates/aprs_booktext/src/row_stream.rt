@@ -1,26 +1,29 @@
 //! The rows of a book's text, read one after another.
-ghost use Rattle.std.specs.Prelude.{◌≡◌, ◌≤◌, ◌<◌, ◌+◌, ◌*◌, ℕ, [], ◌∷◌, None, Some, List, false, true, length, IfErr, IfOk, IfSome, IfNone, OnOk};
+ghost use Rattle.std.specs.Prelude.{◌≡◌, ◌≢◌, ◌≤◌, ◌<◌, ◌+◌, ◌++◌, ◌*◌, ℕ, [], ◌∷◌, None, Some, List, false, true, length, IfErr, IfOk, IfSome, IfNone, OnOk};
 ghost use Rattle.std.specs.List.{last_or};
 ghost use Rattle.aprs_io.specs.declared.device.Counted.{Counted as CountedValue};
 ghost use Rattle.aprs_laws.specs.Row.{Row};
 ghost use Rattle.aprs_laws.specs.Sound.{IsSoundRow};
 ghost use Rattle.aprs_rows.specs.Packed.{IsShort};
+ghost use Rattle.aprs_booktext.specs.Reader.{IsFault};
 ghost use Rattle.aprs_booktext.specs.Reading.{IsAnswered};
 ghost use Rattle.aprs_booktext.specs.Piece.{bytes_left};
-ghost use Rattle.aprs_booktext.specs.RowReader.{most_stream, KeepsVersion};
+ghost use Rattle.aprs_booktext.specs.RowReader.{answer_read, most_stream, HasReadText, KeepsVersion};
 ghost use Rattle.aprs_booktext.specs.RowStream as Spec;
+ghost use Rattle.aprs_booktext.specs.TextFault.{most_ahead};
 
 use crate::cut::cut;
 use crate::fault::{BookCause, BookFault};
 use crate::piece::Piece;
-use crate::row_reader::RowReader;
+use crate::row_reader::{Keeping, RowReader};
 use aprs_book::Gap;
 use aprs_io::Counted;
-use aprs_rows::{Memory, RowView};
+use aprs_rows::{Memory, PackedRows, RowView};
 use std::alloc::Allocator;
 use std::io::Read;
 
-/// The rows of a book's text that is read of a source, of which one is kept at a time.
+/// The rows of a book's text that is read of a source: it keeps the last one, or in this crate each
+/// of them.
 #[derive(Drop)]
 pub struct RowStream<A: Allocator> {
     reader: RowReader<A>,
@@ -37,11 +40,30 @@ impl<A: Allocator + Copy> RowStream<A> {
         ensures size { IfOk result (λ stream. Spec.stream_size stream ≡ limit) }
         ensures going { IfOk result (λ stream. Spec.is_ended stream ≡ false) }
     {
-        let piece = Piece::new(alloc)?;
+        RowStream::with_head(alloc, limit, &[], Keeping::Last)
+    }
+
+    /// The rows of a text of at most `limit` bytes, which begins with `head`, and of which these are
+    /// to be kept.
+    pub(crate) fn with_head(
+        alloc: A,
+        limit: u64,
+        head: &[u8],
+        keeping: Keeping,
+    ) -> Result<RowStream<A>, Memory>
+        requires few { length head.now ≤ 8 }
+        requires within { length head.now ≤ limit }
+        ensures holds { IfOk result (λ stream. Spec.HoldsTo stream [] head.now) }
+        ensures left { IfOk result (λ stream. length head.now + stream.left ≡ limit) }
+        ensures size { IfOk result (λ stream. Spec.stream_size stream ≡ limit) }
+        ensures going { IfOk result (λ stream. Spec.is_ended stream ≡ false) }
+        ensures keeping { IfOk result (λ stream. stream.reader.keeping ≡ keeping) }
+    {
+        let piece = Piece::new(alloc, head)?;
         Ok(RowStream {
-            reader: RowReader::new(alloc),
+            reader: RowReader::new(alloc, keeping),
             piece,
-            left: limit,
+            left: limit - head.len() as u64,
         })
     }
 
@@ -68,9 +90,10 @@ impl<A: Allocator + Copy> RowStream<A> {
     pub fn advance<R: Read>(&mut self, source: &mut Counted<R>) -> Result<(), BookFault>
         requires few { Spec.stream_size self.old ≤ most_stream }
         requires going { Spec.is_ended self.old ≡ false }
-        ensures one { OnOk result ((limit : ℕ) (first : CountedValue R) (rows : List Row)
-            → Spec.HasGot R.remaining limit first source.old self.old rows
-            → Spec.GetsOne R.remaining limit first source.new self.new rows) }
+        ensures one { OnOk result ((limit : ℕ) (head : List ℕ) (first : CountedValue R)
+            (rows : List Row)
+            → Spec.HasGot R.remaining limit head first source.old self.old rows
+            → Spec.GetsOne R.remaining limit head first source.new self.new rows) }
         ensures version { OnOk result
             (KeepsVersion self.old.reader.stage self.new.reader.stage) }
         ensures size { OnOk result (Spec.stream_size self.new ≤ Spec.stream_size self.old) }
@@ -87,21 +110,69 @@ impl<A: Allocator + Copy> RowStream<A> {
         self.end(source)
     }
 
+    /// Reads on to the end of the last line, and keeps each row. Fails with the text's first fault,
+    /// or with `Memory` where an allocation failed. Then the rows are those of the lines before.
+    pub(crate) fn read_lines<R: Read>(&mut self, source: &mut Counted<R>) -> Result<(), BookFault>
+        requires few { Spec.stream_size self.old ≤ most_stream }
+        requires each { self.old.reader.keeping ≡ Keeping.Each }
+        ensures all { OnOk result ((limit : ℕ) (head : List ℕ) (first : CountedValue R)
+            (rows : List Row)
+            → Spec.HasGot R.remaining limit head first source.old self.old rows
+            → Spec.HasGot R.remaining limit head first source.new self.new self.new.reader.rows) }
+        ensures size { OnOk result (Spec.stream_size self.new ≤ Spec.stream_size self.old) }
+        ensures none { OnOk result (bytes_left self.new.piece ≡ []) }
+        ensures done { OnOk result (Spec.is_ended self.new ≡ true) }
+        ensures keeping { self.new.reader.keeping ≡ self.old.reader.keeping }
+        ensures fault { IfErr result (λ fault.
+            Spec.IsFaultyAfter R.remaining fault source.old source.new self.old) }
+        ensures stops { IfErr result (λ fault.
+            Spec.StopsFrom R.remaining fault source.old self.old self.new) }
+    {
+        while !self.reader.is_done() {
+            self.step(source)?;
+        }
+        self.refuse_rest()
+    }
+
+    /// The rows that are kept, which then are kept no more.
+    pub(crate) fn take_rows(&mut self, alloc: A) -> PackedRows<A>
+        ensures rows { result ≡ self.old.reader.rows }
+        ensures text { (rows : List Row) (got : List ℕ) → Spec.HoldsText self.old rows got
+            → Spec.HoldsText self.new rows got }
+        ensures left { self.new.left ≡ self.old.left }
+        ensures piece { self.new.piece ≡ self.old.piece }
+        ensures stage { self.new.reader.stage ≡ self.old.reader.stage }
+        ensures size { Spec.stream_size self.new ≡ Spec.stream_size self.old }
+    {
+        self.reader.take_rows(alloc)
+    }
+
+    /// The fault where memory is refused after the last line was read. It is in that line.
+    pub(crate) fn memory_at_last(&self) -> BookFault
+        requires { Spec.stream_size self.now ≤ most_stream }
+        ensures { result ≡ record { line = self.now.reader.count + 2; cause = BookCause.Memory } }
+    {
+        self.reader.memory_at_last()
+    }
+
     /// Judges the next line where its end is among the bytes that are here, and returns whether it
     /// is a row's. Otherwise keeps these bytes and reads some more.
     fn step<R: Read>(&mut self, source: &mut Counted<R>) -> Result<bool, BookFault>
         requires few { Spec.stream_size self.old ≤ most_stream }
         requires going { Spec.is_ended self.old ≡ false }
-        ensures steps { IfOk result (λ is_row. (limit : ℕ) (first : CountedValue R)
-            (rows : List Row)
-            → Spec.HasGot R.remaining limit first source.old self.old rows
-            → Spec.StepsTo R.remaining is_row limit first source.new self.new rows) }
+        ensures steps { IfOk result (λ is_row. (limit : ℕ) (head : List ℕ)
+            (first : CountedValue R) (rows : List Row)
+            → Spec.HasGot R.remaining limit head first source.old self.old rows
+            → Spec.StepsTo R.remaining is_row limit head first source.new self.new rows) }
         ensures version { OnOk result
             (KeepsVersion self.old.reader.stage self.new.reader.stage) }
+        ensures keeping { self.new.reader.keeping ≡ self.old.reader.keeping }
         ensures size { OnOk result (Spec.stream_size self.new ≤ Spec.stream_size self.old) }
         ensures less { OnOk result (Spec.stream_ahead self.new < Spec.stream_ahead self.old) }
         ensures fault { IfErr result (λ fault.
             Spec.IsFaultyAfter R.remaining fault source.old source.new self.old) }
+        ensures stops { IfErr result (λ fault.
+            Spec.StopsFrom R.remaining fault source.old self.old self.new) }
     {
         let bytes = self.piece.as_slice();
         match cut(bytes, b'\n') {
@@ -124,23 +195,35 @@ impl<A: Allocator + Copy> RowStream<A> {
         }
     }
 
+    /// `Ok` where no bytes are here after the last line, and else the fault `After`.
+    fn refuse_rest(&self) -> Result<(), BookFault>
+        requires few { Spec.stream_size self.now ≤ most_stream }
+        requires done { Spec.is_ended self.now ≡ true }
+        ensures none { OnOk result (bytes_left self.now.piece ≡ []) }
+        ensures fault { IfErr result (λ fault. (fault.cause ≡ BookCause.After)
+            × ((rows : List Row) (t : List ℕ) → HasReadText self.now.reader rows t
+            → IsFault most_ahead fault (t ++ bytes_left self.now.piece))) }
+    {
+        if self.piece.as_slice().is_empty() {
+            return Ok(());
+        }
+        Err(self.reader.fault(BookCause::After))
+    }
+
     /// Asks for one byte more after the last line. Fails where one is there, or where the read
     /// fails.
-    fn end<R: Read>(&mut self, source: &mut Counted<R>) -> Result<(), BookFault>
+    pub(crate) fn end<R: Read>(&mut self, source: &mut Counted<R>) -> Result<(), BookFault>
         requires few { Spec.stream_size self.old ≤ most_stream }
         requires done { Spec.is_ended self.old ≡ true }
-        ensures ends { OnOk result ((limit : ℕ) (first : CountedValue R) (rows : List Row)
-            → Spec.HasGot R.remaining limit first source.old self.old rows
-            → IsAnswered R.remaining limit []
-            (Ok (record { gap = Spec.gap_of_stream self.old; rows = rows })) first source.new) }
+        ensures answer { (limit : ℕ) (head : List ℕ) (first : CountedValue R) (rows : List Row)
+            → Spec.HasGotText R.remaining limit head first source.old self.old rows
+            → IsAnswered R.remaining limit head
+            (answer_read result (Spec.gap_of_stream self.old) rows) first source.new }
+        ensures refused { IfErr result (λ fault. fault.cause ≢ BookCause.Memory) }
         ensures reader { self.new.reader ≡ self.old.reader }
         ensures size { OnOk result (Spec.stream_size self.new ≤ Spec.stream_size self.old) }
-        ensures fault { IfErr result (λ fault.
-            Spec.IsFaultyAfter R.remaining fault source.old source.new self.old) }
     {
-        if !self.piece.as_slice().is_empty() {
-            return Err(self.reader.fault(BookCause::After));
-        }
+        self.refuse_rest()?;
         match self.piece.refill(source, self.left) {
             Ok(_) => Err(self.reader.fault(BookCause::After)),
             Err(ending) => self.reader.finish(ending),

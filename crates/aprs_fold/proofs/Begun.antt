@@ -7,8 +7,8 @@ use Rattle.aprs_booktext.specs.Reading.{Got, IsAnswered}
 use Rattle.aprs_booktext.specs.RowStream.{front_of, gap_of_stream, is_ended, HoldsTo}
 use Rattle.aprs_booktext.specs.Text.{row_line, IsBookRows}
 use Rattle.aprs_booktext.specs.Version.{form_of, gap_of, header_of}
-use Rattle.aprs_booktext.specs.declared.reader.Stage.{Stage}
-use Rattle.aprs_booktext.specs.declared.reader.Stage.TheVariants.{Header, Rows, Done}
+use Rattle.aprs_booktext.specs.declared.stage.Stage.{Stage}
+use Rattle.aprs_booktext.specs.declared.stage.Stage.TheVariants.{Header, Rows, Done}
 use Rattle.aprs_booktext.specs.declared.row_stream.RowStream.{RowStream}
 use Rattle.aprs_booktext.specs.declared.version.Version.{Version}
 use Rattle.aprs_folding.specs.Folding.{IsFolding}

@@ -10,15 +10,15 @@ use Rattle.aprs_booktext.specs.Asking.{AsksAt}
 use Rattle.aprs_booktext.specs.BookAnswers.{ReadsBook}
 use Rattle.aprs_booktext.specs.Reader.{gap_in, HoldsIn}
 use Rattle.aprs_booktext.specs.Reading.{Got, IsAnswered}
-use Rattle.aprs_booktext.specs.RowReader.{row_kept, version_in, KeepsVersion}
+use Rattle.aprs_booktext.specs.RowReader.{row_at_stage, version_in, KeepsVersion}
 use Rattle.aprs_booktext.specs.RowStream.{front_of, gap_of_stream, GetsOne, HasGot, HoldsTo, is_ended, IsFaultyAfter, stream_ahead, stream_size}
 use Rattle.aprs_booktext.specs.Text.{IsBookRows}
 use Rattle.aprs_booktext.specs.Version.{gap_of}
 use Rattle.aprs_booktext.specs.declared.fault.BookCause.{BookCause}
 use Rattle.aprs_booktext.specs.declared.fault.BookCause.TheVariants as why
 use Rattle.aprs_booktext.specs.declared.fault.BookFault.{BookFault}
-use Rattle.aprs_booktext.specs.declared.reader.Stage.{Stage}
-use Rattle.aprs_booktext.specs.declared.reader.Stage.TheVariants.{Header, Rows, Done}
+use Rattle.aprs_booktext.specs.declared.stage.Stage.{Stage}
+use Rattle.aprs_booktext.specs.declared.stage.Stage.TheVariants.{Header, Rows, Done}
 use Rattle.aprs_booktext.specs.declared.row_stream.RowStream.{RowStream}
 use Rattle.aprs_booktext.specs.declared.version.Version.{Version}
 use Rattle.aprs_booktext.proofs.BookRows.{rows_sound}
@@ -74,7 +74,7 @@ gap_of_version_in Header v e = absurd (cc)
 gap_of_version_in (Rows w) v e = let same : w ≡ v = cc in ap gap_of same
 gap_of_version_in (Done w) v e = let same : w ≡ v = cc in ap gap_of same
 
-gap_stays : (old new : Stage) (rows : List Row) (x : Row) → x ∷ [] ≡ row_kept old rows
+gap_stays : (old new : Stage) (rows : List Row) (x : Row) → x ∷ [] ≡ row_at_stage old rows
     → KeepsVersion old new → gap_in new ≡ gap_in old
 gap_stays Header new rows x e k = absurd (cc)
 gap_stays (Rows v) new rows x e k = gap_of_version_in new v (k v refl)
@@ -98,7 +98,7 @@ head_is x y e = cc
 
 module _ {R A : Type 0} (remaining : R → Option (List ℕ)) (limit gap : ℕ) where
   pub gets_asked : (f n : Counted R) (s : RowStream A) (t : List Row)
-      → GetsOne remaining limit f n s t → IsAsked remaining limit f n
+      → GetsOne remaining limit [] f n s t → IsAsked remaining limit f n
   gets_asked f n s t h = elim h [
     | inl one ↦ record {
       gets = got_gets (HoldsTo s (t ++ one.0 ∷ [])) (remaining f.device) (remaining n.device) limit
@@ -135,18 +135,19 @@ module _ {R A : Type 0} (remaining : R → Option (List ℕ)) (limit gap : ℕ) 
 
   -- one row is taken, and the stream is read on
   reads_on : (f n m : Counted R) (s r : RowStream A) (t : List Row) → is_ended s ≡ false
-      → ((limit : ℕ) (first : Counted R) (rows : List Row)
-      → HasGot remaining limit first n s rows → GetsOne remaining limit first m r rows)
+      → ((limit : ℕ) (head : List ℕ) (first : Counted R) (rows : List Row)
+      → HasGot remaining limit head first n s rows
+      → GetsOne remaining limit head first m r rows)
       → stream_size r ≤ stream_size s → KeepsVersion s.reader.stage r.reader.stage
       → IsReading remaining limit gap f n s t
       → IsReading remaining limit gap f m r (t ++ front_of s)
   reads_on f n m s r t going step size keeps h = elim h.gets [
     | inl one ↦ record {
-      gap_is = gap_stays s.reader.stage r.reader.stage (t ++ one.0 ∷ []) one.0
-          (sym one.1 ∙ one.3.got.stands.2.last) keeps ∙ h.gap_is;
+      gap_is = gap_stays s.reader.stage r.reader.stage s.reader.rows one.0 (sym one.1) keeps
+          ∙ h.gap_is;
       size = (let old = h.size in omega (arith, old, size));
-      gets = subst (λ (l : List Row). GetsOne remaining limit f m r (t ++ l)) (sym one.1)
-          (step limit f (t ++ one.0 ∷ []) one.3);
+      gets = subst (λ (l : List Row). GetsOne remaining limit [] f m r (t ++ l)) (sym one.1)
+          (step limit [] f (t ++ one.0 ∷ []) one.3);
     }
     | inr none ↦ absurd (let e : true ≡ false = sym none.1 ∙ going in cc)
   ]
@@ -184,8 +185,9 @@ module _ {R A : Type 0} (remaining : R → Option (List ℕ)) (limit gap : ℕ) 
     pub AreReading-on : (i : ℕ) (first now : List (Counted R)) (streams : List (RowStream A))
         (taken : List (List Row)) → slice_get now i ≡ Some n → slice_get streams i ≡ Some s
         → is_ended s ≡ false
-        → ((limit : ℕ) (first : Counted R) (rows : List Row)
-        → HasGot remaining limit first n s rows → GetsOne remaining limit first m r rows)
+        → ((limit : ℕ) (head : List ℕ) (first : Counted R) (rows : List Row)
+        → HasGot remaining limit head first n s rows
+        → GetsOne remaining limit head first m r rows)
         → stream_size r ≤ stream_size s → KeepsVersion s.reader.stage r.reader.stage
         → AreReading remaining limit gap first now streams taken
         → AreReading remaining limit gap first (set now i m) (set streams i r)
@@ -237,7 +239,7 @@ module _ {R A : Type 0} (remaining : R → Option (List ℕ)) (limit gap : ℕ) 
         (subst (λ (w : Counted R). IsReading remaining limit gap f w a t) (sym one) h.0) in
         let answered : IsAnswered remaining limit [] (Err fault) f m =
         elim is.gets [
-          | inl got ↦ faulty limit f (t ++ got.0 ∷ []) got.3
+          | inl got ↦ faulty limit [] f (t ++ got.0 ∷ []) got.3
           | inr none ↦ absurd (let e : true ≡ false = sym none.1 ∙ going in cc)
         ] in (
           (f, m, refl, refl, answered),

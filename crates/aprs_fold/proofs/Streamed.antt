@@ -3,7 +3,6 @@ use Rattle.aprs_fold.proofs.Common.{◌≡◌, ◌≢◌, ◌∙◌, ℕ, zero, 
 use Rattle.std.proofs.Common.{false, true, not, ◌==◌}
 use Rattle.std.proofs.lemmas.Bool.Decides.{nat_tests}
 use Rattle.std.specs.Prelude.{IfSome}
-use Rattle.std.specs.Io.KnownBytes.{Consumes}
 use Rattle.aprs_io.specs.Input.{Gets}
 use Rattle.aprs_io.specs.declared.input.InputEnd.{InputEnd}
 use Rattle.aprs_io.specs.declared.input.InputEnd.TheVariants as how
@@ -14,10 +13,10 @@ use Rattle.aprs_booktext.specs.Reader.{gap_in, HasReadLines}
 use Rattle.aprs_booktext.specs.Reading.{Got}
 use Rattle.aprs_booktext.specs.Text.{book_text, end_line, row_line}
 use Rattle.aprs_booktext.specs.RowLines.{ended_by_lf}
-use Rattle.aprs_booktext.specs.RowStream.{gap_of_stream, GetsOne, HasGot, HoldsTo}
+use Rattle.aprs_booktext.specs.RowStream.{gap_of_stream, GetsOne, HoldsTo}
 use Rattle.aprs_booktext.specs.Version.{form_of, gap_of, header_of, IsVersion}
-use Rattle.aprs_booktext.specs.declared.reader.Stage.{Stage}
-use Rattle.aprs_booktext.specs.declared.reader.Stage.TheVariants.{Header, Rows, Done}
+use Rattle.aprs_booktext.specs.declared.stage.Stage.{Stage}
+use Rattle.aprs_booktext.specs.declared.stage.Stage.TheVariants.{Header, Rows, Done}
 use Rattle.aprs_booktext.specs.declared.row_stream.RowStream.{RowStream}
 use Rattle.aprs_booktext.specs.declared.version.Version.{Version}
 use Rattle.aprs_fold.specs.Inputs.{AreAsked, BeginsOther, IsAsked, IsRefused}
@@ -110,28 +109,13 @@ module _ {R A : Type 0} (remaining : R → Option (List ℕ)) (limit gap : ℕ) 
 
   -- an input of another gap
   pub begins_other : (f n : Counted R) (s : RowStream A) → gap_of_stream s ≢ gap
-      → GetsOne remaining limit f n s [] → BeginsOther gap (remaining f.device)
+      → GetsOne remaining limit [] f n s [] → BeginsOther gap (remaining f.device)
   begins_other f n s unlike h = elim h [
     | inl one ↦ got_other s (remaining f.device) (remaining n.device) one.0 s.left unlike one.3.got
     | inr none ↦ book_other s (remaining f.device) (remaining n.device) [] unlike none.2.reads
   ]
 
 -- nothing was got of an input yet
-pub HasGot-none : {R A : Type 0} (remaining : R → Option (List ℕ)) (limit : ℕ) (f : Counted R)
-    (s : RowStream A) → HoldsTo s [] [] → s.left ≡ limit → HasGot remaining limit f f s []
-HasGot-none remaining limit f s holds left = record {
-  got = record {
-    got = [];
-    stands = holds;
-    took = consumes_none (remaining f.device);
-    size = omega (arith, left);
-  };
-  calls = Calls-none f;
-} where
-  consumes_none : (known : Option (List ℕ)) → Consumes known known []
-  consumes_none None = tt
-  consumes_none (Some text) = refl
-
 none_got : (limit : ℕ) (known : Option (List ℕ))
     → IfSome known (λ input. (text : List ℕ) × (ending : InputEnd)
     × Gets limit input known text ending)

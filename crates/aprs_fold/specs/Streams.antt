@@ -19,7 +19,7 @@ pub record IsReading {R A : Type 0} (remaining : R → Option (List ℕ)) (limit
     (first now : Counted R) (stream : RowStream A) (taken : List Row) : Type 0 where
   pub gap_is : gap_of_stream stream ≡ gap
   pub size : stream_size stream ≤ most_stream
-  pub gets : GetsOne remaining limit first now stream taken
+  pub gets : GetsOne remaining limit [] first now stream taken
 
 -- So it is with each input.
 abbrev pub AreReading : {R A : Type 0} → (R → Option (List ℕ)) → ℕ → ℕ → List (Counted R)

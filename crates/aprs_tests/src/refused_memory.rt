@@ -253,7 +253,8 @@ fn is_line_refused(alloc: Global, room: usize) -> Result<bool, Fail> {
 #[test]
 fn memory_is_refused_at_a_line(rt: HostRuntime) -> Result<(), Fail> {
     let (mut refused, mut granted) = (false, false);
-    for units in 0..128usize {
+    // what is read at once of a file takes 16,384 bytes
+    for units in 120..248usize {
         if is_line_refused(rt.alloc(), units * 128)? {
             refused = true;
         } else {

@@ -31,7 +31,7 @@ returns-in-Ok-clause-one g c =
     λ limit gap first taken h.
     let reading = AreReading-on g.R.Read.remaining limit gap (get_or n i e) c.advance.new.source
     (get_or s i d) c.advance.new.self i first n s taken here there going
-    (λ l f rows k. c.in-Ok.ensures.one l f rows k) c.in-Ok.ensures.size c.in-Ok.ensures.version h in (
+    (λ l head f rows k. c.in-Ok.ensures.one l head f rows k) c.in-Ok.ensures.size c.in-Ok.ensures.version h in (
       reading,
       λ k x y at own. elim (row_at-set s i k c.advance.new.self y own) [
         | inl old ↦ inl old

@@ -1,19 +1,20 @@
 use Rattle.aprs_fold.proofs.Common.{[], ◌∙◌, refl, sym, arith, err_from_is_err_and}
-use Rattle.aprs_fold.proofs.Streamed.{begins_other, differing_gap, same_gap, HasGot-none, IsAsked-none}
+use Rattle.aprs_booktext.proofs.RowStreams.{begun}
+use Rattle.aprs_fold.proofs.Streamed.{begins_other, differing_gap, same_gap, IsAsked-none}
 use Rattle.aprs_fold.proofs.Reading.{gets_asked}
 use Rattle.aprs_fold.proofs.opening.open_one.Goals as goal
 
 pub returns-in-Err-clause-refuses : goal.returns-in-Err-clause-refuses
 returns-in-Err-clause-refuses g c =
-    let first = HasGot-none g.R.Read.remaining c.args.limit c.args.input.now c.in_ok-stream.stream
-    c.in_ok-stream.ensures.holds c.in_ok-stream.ensures.left in
-    (refl, c.in-Err.ensures.fault c.args.limit c.args.input.now [] first)
+    let first = begun g.R.Read.remaining c.args.limit [] c.args.input.now c.in_ok-stream.stream
+    c.in_ok-stream.ensures.holds (omega (arith, c.in_ok-stream.ensures.left)) in
+    (refl, c.in-Err.ensures.fault c.args.limit [] c.args.input.now [] first)
 
 pub returns-then-ne-clause-refuses : goal.returns-then-ne-clause-refuses
 returns-then-ne-clause-refuses g c =
-    let first = HasGot-none g.R.Read.remaining c.args.limit c.args.input.now c.in_ok-stream.stream
-    c.in_ok-stream.ensures.holds c.in_ok-stream.ensures.left in
-    let gets = c.in_default.ensures.one c.args.limit c.args.input.now [] first in
+    let first = begun g.R.Read.remaining c.args.limit [] c.args.input.now c.in_ok-stream.stream
+    c.in_ok-stream.ensures.holds (omega (arith, c.in_ok-stream.ensures.left)) in
+    let gets = c.in_default.ensures.one c.args.limit [] c.args.input.now [] first in
     let differs = differing_gap c.gap.result c.args.gap c.if-ne.ensures in (
       refl,
       begins_other g.R.Read.remaining c.args.limit c.args.gap c.args.input.now c.advance.new.source
@@ -24,12 +25,12 @@ returns-then-ne-clause-refuses g c =
 
 pub returns-clause-reads : goal.returns-clause-reads
 returns-clause-reads g c =
-    let first = HasGot-none g.R.Read.remaining c.args.limit c.args.input.now c.in_ok-stream.stream
-    c.in_ok-stream.ensures.holds c.in_ok-stream.ensures.left in
+    let first = begun g.R.Read.remaining c.args.limit [] c.args.input.now c.in_ok-stream.stream
+    c.in_ok-stream.ensures.holds (omega (arith, c.in_ok-stream.ensures.left)) in
     record {
       gap_is = sym c.gap.ensures ∙ same_gap c.gap.result c.args.gap c.if-ne.ensures;
       size = omega (arith, c.in_default.ensures.size, c.in_ok-stream.ensures.size, c.requires);
-      gets = c.in_default.ensures.one c.args.limit c.args.input.now [] first;
+      gets = c.in_default.ensures.one c.args.limit [] c.args.input.now [] first;
     }
 
 pub returns-in_err-stream-clause-refuses : goal.returns-in_err-stream-clause-refuses

@@ -10,9 +10,9 @@ invariant-loop-self g l =
       size : stream_size l.self ≤ stream_size l.fn.self;
       less : stream_ahead l.self ≤ stream_ahead l.fn.self;
       version : KeepsVersion l.fn.self.reader.stage l.self.reader.stage;
-      fed : (limit : ℕ) (first : Counted _) (rows : List Row)
-          → HasGot remaining limit first l.fn.source l.fn.self rows
-          → HasGot remaining limit first l.source l.self rows;
+      fed : (limit : ℕ) (head : List ℕ) (first : Counted _) (rows : List Row)
+          → HasGot remaining limit head first l.fn.source l.fn.self rows
+          → HasGot remaining limit head first l.source l.self rows;
     }
 
 abbrev pub decreases-loop-self : goal.decreases-loop-self

@@ -1,38 +1,34 @@
-use Rattle.aprs_booktext.proofs.Common.{◌≡◌, ◌<◌, ◌≤◌, ◌-◌, ◌∙◌, [], arith, sym, subst, length, nil_from_length}
-use Rattle.aprs_booktext.specs.TextFault.{most_ahead}
-use Rattle.aprs_booktext.proofs.RowStreams.{ended_err, ended_ok, faulty_after, faulty_more}
+use Rattle.aprs_booktext.proofs.Common.{◌-◌, ◌∙◌, arith, sym, err_from_is_err_and, IfErr-weaker}
+use Rattle.aprs_booktext.proofs.RowStreams.{ends_here, ends_more, ends_rest}
+use Rattle.aprs_booktext.proofs.Standing.{ending_not_memory, ends_err}
 use Rattle.aprs_booktext.proofs.row_stream.RowStream.end.Goals as goal
 
-pub returns-then-not-is_empty-clause-fault : goal.returns-then-not-is_empty-clause-fault
-returns-then-not-is_empty-clause-fault g c =
-    rw c.fault.ensures (faulty_after g.R.Read.remaining c.args.source.now c.args.self.now
-    c.requires.done
-    (subst (λ l. 0 < length l) c.as_slice.ensures.value
-    (grind (arith, c.is_empty.ensures, c.if-not-is_empty.true)))
-    (subst (λ l. length l ≤ most_ahead) c.as_slice.ensures.value c.as_slice.ensures.few))
+pub returns-in_err-refuse_rest-clause-answer : goal.returns-in_err-refuse_rest-clause-answer
+returns-in_err-refuse_rest-clause-answer g c =
+    let p = err_from_is_err_and c.from_residual.result c.from_residual.ensures.1 in
+    rw (p.1, p.2) (ends_rest g.R.Read.remaining c.args.source.now c.args.self.now _
+    c.in_err-refuse_rest.ensures.fault)
 
-pub returns-in-Ok-clause-fault : goal.returns-in-Ok-clause-fault
-returns-in-Ok-clause-fault g c =
+pub returns-in_err-refuse_rest-clause-refused : goal.returns-in_err-refuse_rest-clause-refused
+returns-in_err-refuse_rest-clause-refused g c =
+    let p = err_from_is_err_and c.from_residual.result c.from_residual.ensures.1 in
+    rw (p.1, p.2) (λ e. absurd (let f = sym c.in_err-refuse_rest.ensures.fault.0 ∙ e in cc))
+
+pub returns-in-Ok-clause-answer : goal.returns-in-Ok-clause-answer
+returns-in-Ok-clause-answer g c =
     let some = c.in-Ok.ensures.some in
-    let none : c.as_slice.result.now ≡ [] =
-    nil_from_length _ (grind (arith, c.is_empty.ensures, c.if-not-is_empty.false)) in
-    rw c.fault-in-Ok.ensures (faulty_more g.R.Read.remaining c.args.source.now c.args.self.now
+    rw c.fault.ensures (ends_more g.R.Read.remaining c.args.source.now c.args.self.now
     c.requires.done c.refill.new.source _ (c.args.self.now.left - c.in-Ok.field-0)
-    (sym c.as_slice.ensures.value ∙ none) (omega (arith, some)) c.in-Ok.ensures.few
-    (omega (arith, some)) c.in-Ok.ensures.got c.in-Ok.ensures.calls)
+    c.in_ok-refuse_rest.ensures.none (omega (arith, some)) c.in-Ok.ensures.few (omega (arith, some))
+    c.in-Ok.ensures.got c.in-Ok.ensures.calls)
 
-pub returns-in-Err-clause-ends : goal.returns-in-Err-clause-ends
-returns-in-Err-clause-ends g c =
-    let none : c.as_slice.result.now ≡ [] =
-    nil_from_length _ (grind (arith, c.is_empty.ensures, c.if-not-is_empty.false)) in
-    ended_ok g.R.Read.remaining c.args.source.now c.refill.new.source c.args.self.now c.in-Err.ending
-    (sym c.as_slice.ensures.value ∙ none) c.in-Err.ensures.end.1 c.in-Err.ensures.calls
+pub returns-in-Err-clause-answer : goal.returns-in-Err-clause-answer
+returns-in-Err-clause-answer g c =
+    ends_here g.R.Read.remaining c.args.source.now c.args.self.now c.refill.new.source
+    c.in-Err.ending c.in_ok-refuse_rest.ensures.none c.in-Err.ensures.end.1 c.in-Err.ensures.calls
     c.finish.result c.finish.ensures.ending c.finish.ensures.reads
 
-pub returns-in-Err-clause-fault : goal.returns-in-Err-clause-fault
-returns-in-Err-clause-fault g c =
-    let none : c.as_slice.result.now ≡ [] =
-    nil_from_length _ (grind (arith, c.is_empty.ensures, c.if-not-is_empty.false)) in
-    ended_err g.R.Read.remaining c.args.source.now c.refill.new.source c.args.self.now
-    c.in-Err.ending (sym c.as_slice.ensures.value ∙ none) c.in-Err.ensures.end.1
-    c.in-Err.ensures.calls c.finish.result c.finish.ensures.ending c.finish.ensures.reads
+pub returns-in-Err-clause-refused : goal.returns-in-Err-clause-refused
+returns-in-Err-clause-refused g c = IfErr-weaker c.finish.result _ _
+    (λ f is e. ending_not_memory c.in-Err.ending (sym is ∙ e))
+    (ends_err _ _ c.finish.ensures.ending)

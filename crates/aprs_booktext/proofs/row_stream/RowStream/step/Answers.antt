@@ -1,13 +1,14 @@
 use Rattle.aprs_booktext.proofs.Common.{◌+◌, ◌++◌, ◌∙◌, ap, arith, sym, subst, refl, length, err_from_is_err_and}
 use Rattle.aprs_booktext.specs.Reader.{is_done, IsFault}
 use Rattle.aprs_booktext.specs.RowReader.{HasReadTo}
+use Rattle.aprs_booktext.proofs.Standing.{ending_stop}
 use Rattle.aprs_booktext.proofs.RowStreams.{faulty_end, faulty_kept, faulty_line, rest_after, steps_line, steps_more}
 use Rattle.aprs_booktext.proofs.row_stream.RowStream.step.Goals as goal
 
 pub returns-in_ok-is_row-in-Some-clause-steps : goal.returns-in_ok-is_row-in-Some-clause-steps
-returns-in_ok-is_row-in-Some-clause-steps g c = λ limit first rows h.
+returns-in_ok-is_row-in-Some-clause-steps g c = λ limit head first rows h.
     let cuts = sym c.as_slice-bytes.ensures.value ∙ c.in-Some.ensures.some.0 in
-    steps_line g.R.Read.remaining limit first c.args.source.now c.args.self.now _ rows
+    steps_line g.R.Read.remaining limit head first c.args.source.now c.args.self.now _ rows
     c.in-Some.part.now c.in-Some.after.now c.in_ok-is_row-in-Some.is_row cuts
     (rest_after _ c.in-Some.part.now c.in-Some.after.now _ _ cuts c.consume.ensures
     (omega (arith, c.in-Some.ensures.len))) refl
@@ -33,8 +34,8 @@ returns-in_err-append-in-None-clause-fault g c =
     c.as_slice-bytes.ensures.value (c.in_err-append-in-None.ensures.fault rows t more k)))
 
 pub returns-in-Ok-clause-steps : goal.returns-in-Ok-clause-steps
-returns-in-Ok-clause-steps g c = λ limit first rows h.
-    steps_more g.R.Read.remaining limit first c.args.source.now c.args.self.now _ rows
+returns-in-Ok-clause-steps g c = λ limit head first rows h.
+    steps_more g.R.Read.remaining limit head first c.args.source.now c.args.self.now _ rows
     c.refill.new.source (omega (arith, c.in-Ok.ensures.some))
     (λ t k. subst (λ b. HasReadTo c.append.new.self rows (t ++ b)) c.as_slice-bytes.ensures.value
     (c.in_ok-append-in-None.ensures.stands rows t k c.in-None.ensures.none))
@@ -48,3 +49,20 @@ returns-in-Err-clause-fault g c =
     (λ rows t k. subst (λ b. HasReadTo c.append.new.self rows (t ++ b)) c.as_slice-bytes.ensures.value
     (c.in_ok-append-in-None.ensures.stands rows t k c.in-None.ensures.none))
     c.in-Err.ensures.end.1 c.in-Err.ensures.calls)
+
+pub returns-in_err-is_row-in-Some-clause-stops : goal.returns-in_err-is_row-in-Some-clause-stops
+returns-in_err-is_row-in-Some-clause-stops g c =
+    let p = err_from_is_err_and c.from_residual.result c.from_residual.ensures.1 in
+    rw (p.1, p.2) (λ limit head first rows h. let held = h.got.stands in
+    c.in_err-is_row-in-Some.ensures.stops rows held.0 held.2 c.in-Some.ensures.some.1)
+
+pub returns-in_err-append-in-None-clause-stops : goal.returns-in_err-append-in-None-clause-stops
+returns-in_err-append-in-None-clause-stops g c =
+    let p = err_from_is_err_and c.from_residual-in_err-append-in-None.result
+    c.from_residual-in_err-append-in-None.ensures.1 in
+    rw (p.1, p.2) (λ limit head first rows h. let held = h.got.stands in
+    c.in_err-append-in-None.ensures.stops rows held.0 held.2)
+
+pub returns-in-Err-clause-stops : goal.returns-in-Err-clause-stops
+returns-in-Err-clause-stops g c = λ limit head first rows h each.
+    rw c.fault_of_ending.ensures (ending_stop c.in-Err.ending _ _)
