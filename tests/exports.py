@@ -25,6 +25,7 @@ HEARD_HERE = f"{FIRST}.000Z {FIRST}.000Z RX1 RX1"
 HEARD_BY_BOTH = f"{FIRST}.000Z {LAST}.000Z RX1,RX2 RX2"
 HEARD_THERE = f"{LAST}.000Z {LAST}.000Z RX2 RX2"
 LISTING = f"station N0CALL-7 1\nstatus {LAST}.000Z RX2 -:Hi\n".encode()
+HISTORY = f"status {FIRST}.000Z {LAST}.000Z RX1,RX2 N0CALL-7 - -:Hi\n".encode()
 COLUMNS = ("kind first last receivers receiver source destination via gate name state id latitude"
            " longitude ambiguity compressed symbol stamp course speed_knots altitude_m wind_from"
            " wind_mph gust_mph temperature_f rain_hour rain_day rain_midnight humidity"
@@ -165,8 +166,11 @@ def try_gathering():
     row = ("\t".join(ROW.get(it, "") for it in columns) + "\n").encode()
     for function, words, both, none in (
             ("aprs_merge", [], book(30, [HEARD_BY_BOTH]), book(30, [])),
-            ("aprs_show", [], LISTING, b""), ("aprs_table", [b"rows"], header + row, header)):
+            ("aprs_show", [], LISTING, b""), ("aprs_history", [], HISTORY, b""),
+            ("aprs_table", [b"rows"], header + row, header)):
         try_gathering_to(function, words, both, none)
+    for count in range(4, 101):
+        try_many(count, columns)
     for name in b"", b"row", b"rowss", b"Rows", b"rows\0":
         no_run("aprs_table", gathered(30, HERE, words=[name]))
     two = [HEARD_HERE, HEARD_THERE]
@@ -196,6 +200,29 @@ def try_gathering_to(function, words, both, none):
     no_run(function, [30, *words, b"", [1]])
     for gap in (0, 3601, 2 ** 64 - 1):
         no_run(function, given(gap, HERE, THERE))
+
+
+def try_many(count, columns):
+    """So many inputs, each of a receiver of its own: none is left out, and there is memory."""
+    names = [f"RX{it:03}" for it in range(count)]
+    logs = [HERE.replace(b"RX1", name.encode()) for name in names]
+    all_names, last = ",".join(names), names[-1]
+    cells = {**ROW, "last": f"{FIRST}.000Z", "receivers": all_names, "receiver": last}
+    for function, words, wanted in (
+            ("aprs_merge", [], book(30, [f"{FIRST}.000Z {FIRST}.000Z {all_names} {last}"])),
+            ("aprs_show", [], f"station N0CALL-7 1\nstatus {FIRST}.000Z {last} -:Hi\n".encode()),
+            ("aprs_history", [],
+             f"status {FIRST}.000Z {FIRST}.000Z {all_names} N0CALL-7 - -:Hi\n".encode()),
+            ("aprs_table", [b"rows"], "".join(
+                "\t".join(line) + "\n"
+                for line in (columns, [cells.get(it, "") for it in columns])).encode())):
+        for inputs, answer, text, fault in (
+                (logs, (0, 0, 0), wanted, b""),
+                ([*logs[:-1], TWICE], (1, count - 1, 2), b"", b"Moment")):
+            told, output, name = call(function, gathered(30, *inputs, words=words))
+            expect(told == (*answer, len(text), len(fault)), function, "of", count, "answers", told)
+            stands(output, 4096, text, function)
+            stands(name, 16, fault, function)
 
 
 def try_widening():

@@ -156,7 +156,8 @@ capture_of _ _ = None
 abbrev pub capture_form_of : Option Text → Option Text → Option Form
 capture_form_of r m = capture_of (option_and_then receiver_of r) (option_and_then moment_of m)
 
--- The form of this name: `capture` with both options, another without them, and else none.
+-- The form of this name: `text`, `kind`, `kiss` and `log` without options, and any other name as a
+-- capture with both. The command takes `capture` alone as another name.
 abbrev pub named_form_of : Text → Option Text → Option Text → Option Form
 named_form_of name r m = if bytes_eq name (codes "text") then plain_form_of form.Text r m
     else (if bytes_eq name (codes "kind") then plain_form_of form.Kind r m

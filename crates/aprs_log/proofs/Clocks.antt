@@ -142,6 +142,42 @@ moment_in-same_day form date time end midnight second n len e t f =
     f.below
     ∙ ap (λ k. Some k) sum
 
+-- eight bytes, one by one
+eight_apart : (text : List ℕ) → length text ≡ 8 → text ≡ slice_index text 0 ∷ slice_index text 1
+    ∷ slice_index text 2 ∷ slice_index text 3 ∷ slice_index text 4 ∷ slice_index text 5
+    ∷ slice_index text 6 ∷ slice_index text 7 ∷ []
+eight_apart (a ∷ b ∷ c ∷ d ∷ e ∷ f ∷ g ∷ h ∷ []) is = refl
+eight_apart [] is = absurd (omega arith)
+eight_apart (a ∷ []) is = absurd (omega arith)
+eight_apart (a ∷ b ∷ []) is = absurd (omega arith)
+eight_apart (a ∷ b ∷ c ∷ []) is = absurd (omega arith)
+eight_apart (a ∷ b ∷ c ∷ d ∷ []) is = absurd (omega arith)
+eight_apart (a ∷ b ∷ c ∷ d ∷ e ∷ []) is = absurd (omega arith)
+eight_apart (a ∷ b ∷ c ∷ d ∷ e ∷ f ∷ []) is = absurd (omega arith)
+eight_apart (a ∷ b ∷ c ∷ d ∷ e ∷ f ∷ g ∷ []) is = absurd (omega arith)
+eight_apart (a ∷ b ∷ c ∷ d ∷ e ∷ f ∷ g ∷ h ∷ i ∷ l) is = absurd (omega arith)
+
+-- what a time's eight bytes say
+pub SecondText-at : (text : List ℕ) (hour minute second n : ℕ) → length text ≡ 8
+    → slice_index text 2 ≡ 58 → slice_index text 5 ≡ 58 → hour < 24 → minute < 60 → second < 60
+    → two_digits hour ≡ slice_index text 0 ∷ slice_index text 1 ∷ []
+    → two_digits minute ≡ slice_index text 3 ∷ slice_index text 4 ∷ []
+    → two_digits second ≡ slice_index text 6 ∷ slice_index text 7 ∷ []
+    → n ≡ hour * 3600 + minute * 60 + second → SecondText n text
+SecondText-at text hour minute second n size first other lo mi se hs ms ss is = record {
+  hour = hour;
+  minute = minute;
+  second = second;
+  is_hour = lo;
+  is_minute = mi;
+  is_second = se;
+  number = is;
+  spelled = eight_apart text size
+      ∙ (λ i. slice_index text 0 ∷ slice_index text 1 ∷ first i ∷ slice_index text 3
+      ∷ slice_index text 4 ∷ other i ∷ slice_index text 6 ∷ slice_index text 7 ∷ [])
+      ∙ sym (λ i. hs i ++ 58 ∷ ms i ++ 58 ∷ ss i);
+}
+
 -- what follows the seconds says the form
 same_form : (text end : List ℕ) → (length text ≡ 20) ⊎ (length text ≡ 24)
     → length text ≡ 19 + length end → form_of_text text ≡ form_of_end end

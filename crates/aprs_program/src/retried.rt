@@ -1,5 +1,5 @@
 //! A device whose interrupted calls are tried again, a bounded number of times.
-ghost use Rattle.std.specs.Prelude.{◌≡◌, ◌≢◌, IfErr};
+ghost use Rattle.std.specs.Prelude.{◌≡◌, ◌≢◌, ◌↔◌, IfErr, IsOk};
 ghost use Rattle.std.specs.Io.{WritesAtMost};
 ghost use Rattle.std.specs.Io.KnownBytes.{WriteAppends};
 ghost use Rattle.std.specs.IoError.{error_kind};
@@ -31,12 +31,7 @@ impl<W: Write> Write for Retried<W> {
     }
 
     fn flush(&mut self) -> io::Result<()> {
-        match self.device.flush() {
-            Err(error) if error.kind() == ErrorKind::Interrupted => {
-                Err(Error::from(ErrorKind::TimedOut))
-            }
-            flushed => flushed,
-        }
+        uninterrupted(self.device.flush())
     }
 }
 
@@ -55,4 +50,18 @@ pub fn write_some<W: Write>(device: &mut W, bytes: &[u8]) -> io::Result<usize>
         }
     }
     Err(Error::from(ErrorKind::TimedOut))
+}
+
+/// What the device's flush answered, but an interruption, which is another error: so no caller
+/// tries again without end.
+fn uninterrupted(flushed: io::Result<()>) -> io::Result<()>
+    ensures answers { IsOk result ↔ IsOk flushed }
+    ensures retried { IfErr result (λ e. error_kind e ≢ ErrorKind.Interrupted) }
+{
+    match flushed {
+        Err(error) if error.kind() == ErrorKind::Interrupted => {
+            Err(Error::from(ErrorKind::TimedOut))
+        }
+        answered => answered,
+    }
 }

@@ -10,6 +10,8 @@ pub(crate) fn reserve_one<T, A: Allocator>(items: &mut Vec<T, A>) -> Result<(), 
     ensures items { items.new.items ≡ items.old.items }
     ensures room { OnOk result (vec_len items.new < vec_capacity items.new) }
     ensures bound { vec_capacity items.new ≤ vec_capacity items.old + vec_len items.old / 8 + 1 }
+    ensures eighth { OnOk result ((vec_capacity items.new ≡ vec_capacity items.old)
+        ⊎ (vec_len items.old + vec_len items.old / 8 < vec_capacity items.new)) }
 {
     if items.len() < items.capacity() {
         return Ok(());

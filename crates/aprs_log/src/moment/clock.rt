@@ -119,10 +119,11 @@ fn word_at(bytes: &[u8], place: usize) -> u64
     u64::from_le_bytes(word)
 }
 
-/// The second of the day that a text of 8 bytes says, as `12:00:00`. `None` decides nothing.
+/// The second of the day that a text of 8 bytes says, as `12:00:00`, or `None` where it says none.
 fn second_of_text(text: &[u8]) -> Option<u32>
     requires { length text.now ≡ TIME_LEN }
-    ensures { IfSome result (λ n. Spec.SecondText n text.now) }
+    ensures says { IfSome result (λ n. Spec.SecondText n text.now) }
+    ensures reads { (n : ℕ) → Spec.SecondText n text.now → result ≡ Some n }
 {
     let (hour, minute, second) = (number_at(text, 0), number_at(text, 3), number_at(text, 6));
     if text[2] == b':' && text[5] == b':' && hour < 24 && minute < 60 && second < 60 {
@@ -158,8 +159,10 @@ fn milli_of_text(text: &[u8]) -> Option<u32>
 /// digit.
 fn number_at(text: &[u8], i: usize) -> u8
     requires { i + 1 < length text.now }
-    ensures { result < 100
+    ensures says { result < 100
         → two_digits result ≡ slice_index text.now i ∷ slice_index text.now (i + 1) ∷ [] }
+    ensures reads { (n : ℕ) → n < 100
+        → two_digits n ≡ slice_index text.now i ∷ slice_index text.now (i + 1) ∷ [] → result ≡ n }
 {
     let tens = text[i].wrapping_sub(b'0');
     let units = text[i + 1].wrapping_sub(b'0');

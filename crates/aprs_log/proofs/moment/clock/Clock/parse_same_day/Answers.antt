@@ -17,6 +17,6 @@ returns c =
     (moment_of-same_day text date rest _ _ c.args.self.now.midnight c.in_ok-second.second
     c.in_ok-milli.milli
     c.requires
-    (omega arith) text_is rest_is c.args.self.now.reads c.in_ok-second.ensures
+    (omega arith) text_is rest_is c.args.self.now.reads c.in_ok-second.ensures.says
     c.in_ok-milli.ensures.says
     ∙ ap (λ n. Some n) sum)
