@@ -38,10 +38,8 @@ MAKERS = {
     "aprs_tool/src/widen.rt": 1,
     "aprs_web/src/written.rt": 4,
     # the same for clap's want of memory, and for that of an opening
-    "aprs_command/src/arguments.rt": 3,
-    "aprs_command/src/fold.rt": 3,
-    "aprs_command/src/history.rt": 2,
-    "aprs_command/src/table.rt": 2,
+    "aprs_command/src/arguments.rt": 1,
+    "aprs_command/src/jobs.rt": 1,
     "aprs_program/src/complaint.rt": 4,
     "aprs_program/src/host.rt": 5,
     "aprs_program/src/opening.rt": 3,
@@ -50,6 +48,7 @@ MAKERS = {
 # how often each source names what an allocation answers
 NAMERS = {
     "aprs_rows/src/memory.rt": 1,
+    "aprs_command/src/jobs.rt": 1,
     # the allocator of the library for C, where its region is full
     "aprs_arena/src/arena.rt": 1,
 }

@@ -264,6 +264,13 @@ abbrev pub JudgesArguments : {J : Type 0} → App → List Text → Result J Job
 JudgesArguments a arguments answer =
     MatchResult answer (λ j. fault_of a arguments ≡ []) (RefusesSo a arguments)
 
+-- Where a program gathers inputs, its arguments are refused only where the command doesn't take
+-- them, and for `Options` only where the gap can't be read.
+abbrev pub FailsGathering : App → List Text → JobFault → Type 0
+FailsGathering a arguments fault.Memory = Unit {0}
+FailsGathering a arguments fault.Options = chosen_gap (matches_of a arguments) ≡ None
+FailsGathering a arguments (fault.Clap error) = takes a arguments ≡ true → ⊥
+
 -- ---- the program of histories
 
 -- The job has the gap and the inputs that these matches ask for.
@@ -271,17 +278,10 @@ pub record IsHistoryJobOf (rows : List Row) (j : HistoryJob) : Type 0 where
   pub gap : chosen_gap rows ≡ Some j.gap
   pub inputs : paths_of j.inputs.items ≡ given_inputs rows
 
--- The arguments are refused only where the command doesn't take them, and for `Options` only where
--- the gap can't be read.
-abbrev pub FailsHistory : List Text → JobFault → Type 0
-FailsHistory arguments fault.Memory = Unit {0}
-FailsHistory arguments fault.Options = chosen_gap (matches_of history_app arguments) ≡ None
-FailsHistory arguments (fault.Clap error) = takes history_app arguments ≡ true → ⊥
-
 -- The answer is the job that the matches ask for, or the arguments are refused so.
 abbrev pub AnswersHistory : List Text → Result HistoryJob JobFault → Type 0
 AnswersHistory arguments answer = MatchResult answer
-    (IsHistoryJobOf (matches_of history_app arguments)) (FailsHistory arguments)
+    (IsHistoryJobOf (matches_of history_app arguments)) (FailsGathering history_app arguments)
 
 -- ---- the program of tables
 
@@ -308,14 +308,7 @@ pub record IsTableJobOf (rows : List Row) (j : TableJob) : Type 0 where
   pub gap : chosen_gap rows ≡ Some j.gap
   pub table_and_inputs : (j.table, paths_of j.inputs.items) ≡ table_and_paths (given_inputs rows)
 
--- The arguments are refused only where the command doesn't take them, and for `Options` only where
--- the gap can't be read.
-abbrev pub FailsTable : List Text → JobFault → Type 0
-FailsTable arguments fault.Memory = Unit {0}
-FailsTable arguments fault.Options = chosen_gap (matches_of table_app arguments) ≡ None
-FailsTable arguments (fault.Clap error) = takes table_app arguments ≡ true → ⊥
-
 -- The answer is the job that the matches ask for, or the arguments are refused so.
 abbrev pub AnswersTable : List Text → Result TableJob JobFault → Type 0
 AnswersTable arguments answer = MatchResult answer
-    (IsTableJobOf (matches_of table_app arguments)) (FailsTable arguments)
+    (IsTableJobOf (matches_of table_app arguments)) (FailsGathering table_app arguments)

@@ -1,6 +1,6 @@
 //! The arguments of the command line.
-ghost use Rattle.std.specs.Prelude.{◌≡◌, ◌≢◌, ◌⊎◌, option_map, IfOk, map, true, false};
-ghost use Rattle.clap.specs.Words.{app_of, first_of, found_of, is_simple, is_simple_and_free, kind_of, rows_of, rule_of, subcommand_rows_of};
+ghost use Rattle.std.specs.Prelude.{◌≡◌, ◌≢◌, ◌⊎◌, option_map, IfErr, IfOk, Some, map, true, false};
+ghost use Rattle.clap.specs.Words.{app_of, first_of, found_of, is_simple, is_simple_and_free, kind_of, matches_of, rows_of, rule_of, subcommand_rows_of};
 ghost use Rattle.clap.specs.declared.error.kind.ErrorKind.TheVariants.{OutOfMemory};
 ghost use Rattle.clap.specs.declared.builder.command.Command.TheViews.{out-Command};
 ghost use Rattle.clap.specs.declared.builder.value_parser.ValueParser.{ValueParser};
@@ -48,10 +48,7 @@ pub fn job(alloc: Global, arguments: &[&str]) -> Result<Job, JobFault>
         × Spec.JudgesArguments (Spec.program_app p) (map (λ a. a.now) arguments.now) result }
 {
     let forms = form_values();
-    let command = match program(alloc, forms.as_slice()) {
-        Ok(command) => command,
-        Err(_) => return Err(JobFault::Memory),
-    };
+    let command = program(alloc, forms.as_slice())?;
     let matches = match command.try_get_matches_from(arguments) {
         Ok(matches) => matches,
         Err(error) => return Err(clap_fault(error)),
@@ -59,10 +56,8 @@ pub fn job(alloc: Global, arguments: &[&str]) -> Result<Job, JobFault>
     let Some(task) = read_task(&matches) else {
         return Err(JobFault::Options);
     };
-    match read_inputs(alloc, &matches) {
-        Ok(inputs) => Ok(with_inputs(task, inputs)),
-        Err(_) => Err(JobFault::Memory),
-    }
+    let inputs = read_inputs(alloc, &matches)?;
+    Ok(with_inputs(task, inputs))
 }
 
 /// A law; the function does nothing. The program's command is simple: clap's definitions say what
@@ -276,6 +271,33 @@ pub(crate) fn clap_fault(error: clap::Error) -> JobFault
     match error.kind() {
         ErrorKind::OutOfMemory => JobFault::Memory,
         _ => JobFault::Clap(error),
+    }
+}
+
+/// What clap finds in the arguments of a program that gathers inputs, and the gap that they choose:
+/// 30 seconds where they give none. Fails where the command doesn't take the arguments, or where an
+/// allocation failed. (An unreadable gap would be `Options`, but the command has refused it before.)
+pub(crate) fn read_matches_and_gap<'a>(
+    command: &mut Command<'a>,
+    arguments: &'a [&'a str],
+) -> Result<(ArgMatches<'a>, Gap), JobFault>
+    requires { is_simple_and_free (app_of command.old) ≡ true }
+    ensures matches { IfOk result (λ found. rows_of (found_of found.0)
+        ≡ matches_of (app_of command.old) (map (λ a. a.now) arguments.entry.now)) }
+    ensures gap { IfOk result (λ found. Spec.chosen_gap
+        (matches_of (app_of command.old) (map (λ a. a.now) arguments.entry.now)) ≡ Some found.1) }
+    ensures refused { IfErr result
+        (Spec.FailsGathering (app_of command.old) (map (λ a. a.now) arguments.entry.now)) }
+    ensures judged { Spec.JudgesArguments (app_of command.old)
+        (map (λ a. a.now) arguments.entry.now) result }
+{
+    let matches = match command.try_get_matches_from_mut(arguments) {
+        Ok(matches) => matches,
+        Err(error) => return Err(clap_fault(error)),
+    };
+    match read_chosen_gap(&matches) {
+        Some(gap) => Ok((matches, gap)),
+        None => Err(JobFault::Options),
     }
 }
 

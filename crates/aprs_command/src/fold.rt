@@ -6,9 +6,7 @@ ghost use Rattle.clap.specs.declared.error.kind.ErrorKind.TheVariants.{ValueVali
 ghost use Rattle.aprs_command.specs.Arguments.{inputs_rule};
 ghost use Rattle.aprs_command.specs.Fold as Spec;
 
-use crate::arguments::{
-    clap_fault, gap_arg, option_arg, read_chosen_gap, read_given_inputs, text_at,
-};
+use crate::arguments::{gap_arg, option_arg, read_given_inputs, read_matches_and_gap, text_at};
 use crate::help;
 use crate::jobs::JobFault;
 use aprs_ax25::Callsign;
@@ -45,33 +43,22 @@ pub fn fold_job(alloc: Global, arguments: &[&str]) -> Result<FoldJob, JobFault>
     ensures asked { Spec.AnswersFold (map (λ a. a.now) arguments.now) result }
     ensures judged { Spec.JudgesFold (map (λ a. a.now) arguments.now) result }
 {
-    let mut command = match fold_command(alloc) {
-        Ok(command) => command,
-        Err(_) => return Err(JobFault::Memory),
-    };
-    let matches = match command.try_get_matches_from_mut(arguments) {
-        Ok(matches) => matches,
-        Err(error) => return Err(clap_fault(error)),
-    };
-    let Some(gap) = read_chosen_gap(&matches) else {
-        return Err(JobFault::Options);
-    };
+    let mut command = fold_command(alloc)?;
+    let (matches, gap) = read_matches_and_gap(&mut command, arguments)?;
     let Some(from) = read_source(&matches, "from") else {
         return Err(source_fault(&mut command, help::NO_FROM));
     };
     let Some(until) = read_source(&matches, "until") else {
         return Err(source_fault(&mut command, help::NO_UNTIL));
     };
-    match read_given_inputs(alloc, &matches) {
-        Ok(inputs) => Ok(FoldJob {
-            gap,
-            from,
-            until,
-            inputs,
-            is_check: is_check_asked(&matches),
-        }),
-        Err(_) => Err(JobFault::Memory),
-    }
+    let inputs = read_given_inputs(alloc, &matches)?;
+    Ok(FoldJob {
+        gap,
+        from,
+        until,
+        inputs,
+        is_check: is_check_asked(&matches),
+    })
 }
 
 /// A law; the function does nothing. The command is simple, and no argument has a rule on another:
@@ -115,7 +102,7 @@ fn source_fault(command: &mut Command<'_>, message: &str) -> JobFault
 {
     match command.error(ErrorKind::ValueValidation, message) {
         Ok(error) => JobFault::Clap(error),
-        Err(_) => JobFault::Memory,
+        Err(error) => JobFault::from(error),
     }
 }
 

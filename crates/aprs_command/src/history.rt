@@ -3,7 +3,7 @@ ghost use Rattle.std.specs.Prelude.{◌≡◌, IfOk, map, true};
 ghost use Rattle.clap.specs.Words.{app_of, is_simple_and_free};
 ghost use Rattle.aprs_command.specs.Arguments as Spec;
 
-use crate::arguments::{clap_fault, gap_arg, inputs_arg, read_chosen_gap, read_given_inputs};
+use crate::arguments::{gap_arg, inputs_arg, read_given_inputs, read_matches_and_gap};
 use crate::help;
 use crate::jobs::{HistoryJob, JobFault};
 use clap::Command;
@@ -21,21 +21,10 @@ pub fn history_job(alloc: Global, arguments: &[&str]) -> Result<HistoryJob, JobF
     ensures judged { Spec.JudgesArguments Spec.history_app (map (λ a. a.now) arguments.now)
         result }
 {
-    let command = match history_command(alloc) {
-        Ok(command) => command,
-        Err(_) => return Err(JobFault::Memory),
-    };
-    let matches = match command.try_get_matches_from(arguments) {
-        Ok(matches) => matches,
-        Err(error) => return Err(clap_fault(error)),
-    };
-    let Some(gap) = read_chosen_gap(&matches) else {
-        return Err(JobFault::Options);
-    };
-    match read_given_inputs(alloc, &matches) {
-        Ok(inputs) => Ok(HistoryJob { gap, inputs }),
-        Err(_) => Err(JobFault::Memory),
-    }
+    let mut command = history_command(alloc)?;
+    let (matches, gap) = read_matches_and_gap(&mut command, arguments)?;
+    let inputs = read_given_inputs(alloc, &matches)?;
+    Ok(HistoryJob { gap, inputs })
 }
 
 /// A law; the function does nothing. The command is simple, and no argument has a rule on another:

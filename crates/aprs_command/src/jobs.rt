@@ -4,6 +4,7 @@ ghost use Rattle.aprs_command.specs.Arguments.{named_table};
 
 use aprs_convert::Form;
 use aprs_laws::Gap;
+use std::alloc::AllocError;
 
 /// What the program's arguments ask for, with the paths of its inputs; without any, standard input
 /// is read.
@@ -87,4 +88,14 @@ pub enum JobFault {
     Options,
     /// An allocation failed.
     Memory,
+}
+
+impl From<AllocError> for JobFault {
+    ghost use Rattle.aprs_command.specs.declared.jobs.JobFault.TheVariants as fault;
+
+    ghost from_gives = { λ _ made. made ≡ fault.Memory };
+
+    fn from(_error: AllocError) -> JobFault {
+        JobFault::Memory
+    }
 }

@@ -3,7 +3,7 @@ ghost use Rattle.std.specs.Prelude.{◌≡◌, IfOk, map, true};
 ghost use Rattle.clap.specs.Words.{app_of, found_of, is_simple_and_free, rows_of};
 ghost use Rattle.aprs_command.specs.Arguments as Spec;
 
-use crate::arguments::{clap_fault, copy_paths, gap_arg, inputs_arg, read_chosen_gap};
+use crate::arguments::{copy_paths, gap_arg, inputs_arg, read_matches_and_gap};
 use crate::help;
 use crate::jobs::{JobFault, Table, TableJob};
 use clap::{ArgMatches, Command};
@@ -22,21 +22,10 @@ pub fn table_job(alloc: Global, arguments: &[&str]) -> Result<TableJob, JobFault
     ensures judged { Spec.JudgesArguments Spec.table_app (map (λ a. a.now) arguments.now)
         result }
 {
-    let command = match table_command(alloc) {
-        Ok(command) => command,
-        Err(_) => return Err(JobFault::Memory),
-    };
-    let matches = match command.try_get_matches_from(arguments) {
-        Ok(matches) => matches,
-        Err(error) => return Err(clap_fault(error)),
-    };
-    let Some(gap) = read_chosen_gap(&matches) else {
-        return Err(JobFault::Options);
-    };
-    match read_table_and_inputs(alloc, &matches) {
-        Ok((table, inputs)) => Ok(TableJob { table, gap, inputs }),
-        Err(_) => Err(JobFault::Memory),
-    }
+    let mut command = table_command(alloc)?;
+    let (matches, gap) = read_matches_and_gap(&mut command, arguments)?;
+    let (table, inputs) = read_table_and_inputs(alloc, &matches)?;
+    Ok(TableJob { table, gap, inputs })
 }
 
 /// A law; the function does nothing. The command is simple, and no argument has a rule on another:

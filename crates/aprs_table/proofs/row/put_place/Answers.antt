@@ -27,5 +27,5 @@ returns g c =
     Puts-is
     (Puts-then (Puts-is c.in_ok-put_cells.ensures (tabbed c.name_cells.result _ c.name_cells.ensures))
     (Puts-then c.in_ok-put_where.ensures
-    (Puts-is c.put_cells-2.ensures (tabbed c.motion_cells.result _ c.motion_cells.ensures))))
+    c.put_motion.ensures))
     (three_groups (name_cells x) (where_cells x.fix x.place x.symbol) (motion_cells x))
