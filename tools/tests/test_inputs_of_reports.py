@@ -1,6 +1,9 @@
 """What a report is made of: logs and books, those of folders, and compressed ones."""
+import bz2
 import gzip
+import lzma
 import os
+from typing import Callable, Dict, Set
 
 import pytest
 from standing import Programs, at, place
@@ -83,6 +86,31 @@ def test_a_fault_of_a_compressed_log_has_its_name(programs: Programs) -> None:
     (programs.folder / "RX1.log.gz").write_bytes(gzip.compress(b"faulty\n")[:-9])
     programs.run("tracks", "gpx", "RX1.log.gz", status=1)
     assert "RX1.log.gz" in programs.said
+
+
+PACKS: Dict[str, Callable[[bytes], bytes]] = {
+    ".gz": gzip.compress, ".xz": lzma.compress, ".bz2": bz2.compress}
+
+
+@pytest.mark.parametrize("ending", PACKS)
+@pytest.mark.parametrize("cut", [12, 40])
+def test_what_cannot_be_unpacked_is_named(programs: Programs, ending: str, cut: int) -> None:
+    """Cut short, or no such file at all: in words, by each command that reads it."""
+    name = f"RX1.log{ending}"
+    for octets in PACKS[ending](LINE.encode() * 9)[:cut], b"none of these\n":
+        (programs.folder / name).write_bytes(octets)
+        for words in (["page", name], ["tracks", "csv", name], ["sqlite", name, "net.db"],
+                      ["book", "net.book", name], ["clocks", name], ["shift", "1", name],
+                      ["shift", "1", name, "-o", "new"], ["mend", name], ["pcap", name],
+                      ["import", "monitor", name], ["csv", "rows", name]):
+            assert programs.run(*words, status=1) in ("", "\x00") or words[0] == "pcap"
+            assert f"{name}: can't be unpacked to its end" in programs.said
+            assert sorted(os.listdir()) == sorted({"bin", name, *before(programs)})
+
+
+def before(programs: Programs) -> Set[str]:
+    """What is there whatever a command does: the tables, the log, the list of calls and locks."""
+    return {it for it in os.listdir() if it.endswith((".tsv", ".lock")) or it in ("net.log", "calls")}
 
 
 def test_an_empty_book_is_refused(programs: Programs) -> None:

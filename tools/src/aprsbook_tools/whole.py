@@ -131,6 +131,8 @@ def writing(path: str, inputs: Sequence[str] = ()) -> Iterator[Writing]:
         new, result.changed = None, True
         sync_folder(folder)
     except OSError as fault:
+        if fault.errno is None:
+            raise  # of a compressed input
         raise Fault(f"{path}: {fault.strerror or fault}", errors.OUTPUT) from fault
     finally:
         if new is not None:
