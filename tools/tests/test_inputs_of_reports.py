@@ -110,7 +110,8 @@ def test_what_cannot_be_unpacked_is_named(programs: Programs, ending: str, cut: 
 
 def before(programs: Programs) -> Set[str]:
     """What is there whatever a command does: the tables, the log, the list of calls and locks."""
-    return {it for it in os.listdir() if it.endswith((".tsv", ".lock")) or it in ("net.log", "calls")}
+    endings = (".tsv", ".lock", "net.log", "calls")
+    return {it for it in os.listdir() if it.endswith(endings)}
 
 
 def test_an_empty_book_is_refused(programs: Programs) -> None:
