@@ -3,9 +3,12 @@ import bz2
 import gzip
 import lzma
 import os
-from typing import Callable, Dict, Set
+import pathlib
+import subprocess
+from typing import Callable, Dict, List, Set
 
 import pytest
+from conftest import command as aprs_net, environment
 from standing import Programs, at, place
 
 LINE = "2024-06-21T18:00:00.000Z RX1 c0c0\n"
@@ -112,6 +115,14 @@ def before(programs: Programs) -> Set[str]:
     """What is there whatever a command does: the tables, the log, the list of calls and locks."""
     endings = (".tsv", ".lock", "net.log", "calls")
     return {it for it in os.listdir() if it.endswith(endings)}
+
+
+@pytest.mark.parametrize("words", [["csv", "fields"], ["mend"], ["shift", "1"], ["pcap"],
+                                   ["import", "monitor"], ["log", "RX1", "logs"]])
+def test_standard_input_is_closed(tmp_path: pathlib.Path, words: List[str]) -> None:
+    done = subprocess.run(aprs_net(*words), cwd=tmp_path, env=environment(), capture_output=True,
+                          preexec_fn=lambda: os.close(0))
+    assert done.returncode == 1 and done.stderr.endswith(b": standard input is closed\n")
 
 
 def test_an_empty_book_is_refused(programs: Programs) -> None:
