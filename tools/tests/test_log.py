@@ -23,6 +23,8 @@ def logs(folder: pathlib.Path, kind: str = "log") -> Dict[str, List[bytes]]:
     result: Dict[str, List[bytes]] = {}
     for path in sorted(folder.glob(f"*/*.{kind}")):
         text = path.read_bytes()
+        if not text:
+            continue  # it was opened, and its first line isn't written yet
         assert text.endswith(b"\n")
         result[path.name] = text.splitlines()
         assert all(map(log_file.read_line, result[path.name])), path
