@@ -76,8 +76,19 @@ def run(arguments: Optional[Sequence[str]] = None) -> int:
         return errors.MEMORY
 
 
+def hold_standard_files() -> None:
+    """Where standard input, output or error is closed, the next file that is opened, a log or a
+    connection, would get its number, and what is said would go there."""
+    for number in range(3):
+        try:
+            os.fstat(number)
+        except OSError:
+            os.open(os.devnull, os.O_RDWR)
+
+
 def main(arguments: Optional[Sequence[str]] = None) -> int:
     """The program: as `run`, and ended by a signal as it has to be."""
+    hold_standard_files()
     for name in ("SIGTERM", "SIGHUP"):
         if hasattr(signal, name):
             signal.signal(getattr(signal, name), end)
