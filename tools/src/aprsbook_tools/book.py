@@ -260,9 +260,7 @@ def new_folder(path: str) -> Iterator[str]:
     try:
         new = tempfile.mkdtemp(whole.SUFFIX, f".{os.path.basename(real)}.", os.path.dirname(real))
         yield new
-        mask = os.umask(0)
-        os.umask(mask)
-        os.chmod(new, 0o777 & ~mask)
+        os.chmod(new, whole.mode_of_new(0o777))
         whole.sync_folder(new)
         os.rename(new, real)
     except OSError as fault:
