@@ -396,6 +396,9 @@ def test_parts_need_the_program_that_folds(club: Club) -> None:
 
 
 def test_parts_are_the_book(club: Club) -> None:
+    for program in "aprsbook-fold", "aprsbook-table":
+        if not shutil.which(program, path=club.env["PATH"]):
+            pytest.skip(f"needs {program}")
     for name in ALL:
         club.lay(f"logs/{name}.log", name)
     # and a book as it is, and one that is compressed
