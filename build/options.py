@@ -390,7 +390,7 @@ def manual_options(program: Program) -> List[str]:
         lines += [".TP", f'.BI {roff(name)} " {it.value}"' if it.value else f".B {roff(name)}"]
         lines += [roff(said)]
     for short, name, says in (("h", "help", HELP), ("V", "version", VERSION)):
-        behind = ", or behind a command help on it" if program.nested and name == "help" else ""
+        behind = ". After a command, write help on that" if program.nested and name == "help" else ""
         lines += [".PP", ".PD 0", ".TP", f".B \\-{short}", ".TP", f".B \\-\\-{name}", ".PD"]
         lines += [f"{says.capitalize()}{behind}."]
     return lines

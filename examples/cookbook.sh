@@ -49,7 +49,7 @@ if [ -x "$tools/old_names.py" ] && command -v python3 > /dev/null; then
     "$tools/old_names.py" "$scratch/bin" > /dev/null
 fi
 export PATH="$scratch/bin:$tools/bin:$here/recipes:$PATH"
-export RECIPES="$here/recipes" EXAMPLES="$here"
+export EXAMPLES="$here"
 cp "$here"/evening/*.log "$work"
 cp "$here"/evening/*.log "$work/logs/2024-06-21"
 cd "$work"

@@ -7,7 +7,9 @@ import { drawNews } from "./headline.js";
 import { page, view } from "./state.js";
 import { age, fullText } from "./words.js";
 
-export const alive = { asked: Date.now(), touched: 0, away: 0, refused: "" };
+export const alive = { asked: Date.now(), asks: false, touched: 0, away: 0, refused: "" };
+/** After how many milliseconds a server that doesn't answer is away, and is asked anew. */
+export const patience = { late: 10000, most: 120000 };
 
 /** Has the page of an event ask for itself again, unless somebody is at work in it. */
 export function beginAlive() {
@@ -21,7 +23,7 @@ export function beginAlive() {
   setInterval(() => {
     tick();
     const idle = Date.now() - alive.touched > 10000 && !page.playing;
-    if (!box.checked || !idle || Date.now() - alive.asked < live * 1000) return;
+    if (!box.checked || !idle || alive.asks || Date.now() - alive.asked < live * 1000) return;
     alive.asked = Date.now();
     again();
   }, 1000);
@@ -29,8 +31,11 @@ export function beginAlive() {
 /** Loads the page again: its data alone where a server has it, and all of it from a disk. */
 async function again() {
   if (!location.protocol.startsWith("http")) return location.reload();
+  alive.asks = true;
+  const late = setTimeout(() => { alive.away ||= alive.asked; tick(); }, patience.late);
   try {
-    const answer = await fetch(location.pathname + location.search, { cache: "no-store" });
+    const signal = /** @type {any} */ (AbortSignal).timeout(patience.most);
+    const answer = await fetch(location.pathname + location.search, { cache: "no-store", signal });
     if (!answer.ok) throw new Error(String(answer.status));
     const tree = new DOMParser().parseFromString(await answer.text(), "text/html");
     const policy = (/** @type {Document} */ it) =>
@@ -45,6 +50,8 @@ async function again() {
   } catch {
     alive.away ||= Date.now();
   }
+  clearTimeout(late);
+  alive.asks = false;
   tick();
 }
 /** Counts ages on, and says how long nothing came. */

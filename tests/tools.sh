@@ -53,13 +53,21 @@ sys.exit("\n".join(long) or 0)'
 if command -v python3 > /dev/null; then find . -name '*.py' -exec python3 -c "$long" {} +; fi
 [ "$all" = --all ] || exit 0
 if [ -n "$program" ]; then
-    crates=$repository/${program%/*/out/*}
+    case $program in
+    /*) ;;
+    *) program=$repository/$program ;;
+    esac
     names=$work/bin
     mkdir "$names"
-    for built in "$crates"/aprsbook*/out/aprsbook*; do
-        if [ -x "$built" ] && [ -f "$built" ]; then
-            ln -sf "$built" "$names/$(basename "$built" | tr _ -)"
-        fi
+    for built in "${program%/*}"/aprsbook* "${program%/*/out/*}"/aprsbook*/out/aprsbook*; do
+        name=$(basename "$built" | tr _ -)
+        case $name in
+        *.*) ;;
+        *) if [ -x "$built" ] && [ -f "$built" ]; then ln -sf "$built" "$names/$name"; fi ;;
+        esac
+    done
+    for name in aprsbook aprsbook-table aprsbook-fold; do
+        if [ ! -e "$names/$name" ]; then echo "left out: tests with $name (none is built)"; fi
     done
     PATH=$names:$PATH
 fi

@@ -672,7 +672,12 @@ def test_served(page, folder):
         is_(page.happened("Page.loadEventFired"), [])
     page.wait("stale.textContent.startsWith('the server has been away since 20')")
     is_(page.js("document.querySelector('#things tbody th').textContent"), "Q1BAY")
-    with Server(folder, server.port):
+    with Server(folder, server.port) as server:
+        page.wait("!stale.textContent.includes('away')")
+        # one that takes the question and doesn't answer
+        server.answers.clear()
+        page.wait("stale.textContent.startsWith('the server has been away since 20')")
+        server.answers.set()
         page.wait("!stale.textContent.includes('away')")
 
 

@@ -1,4 +1,4 @@
-"""A web server of a folder, which knows Range as most do, and can go away."""
+"""A web server of a folder, which knows Range as most do, and can go away, or keep silent."""
 import functools
 import http.server
 import pathlib
@@ -11,6 +11,7 @@ class Handler(http.server.SimpleHTTPRequestHandler):
         pass
 
     def do_GET(self):
+        self.server.answers.wait()
         asked = re.fullmatch(r"bytes=(\d+)-", self.headers.get("Range", ""))
         path = pathlib.Path(self.translate_path(self.path))
         if not asked or not path.is_file():
@@ -32,10 +33,13 @@ class Server:
             ("127.0.0.1", self.port), functools.partial(Handler, directory=self.folder))
         self.server.daemon_threads = True
         self.server.ranges = self.ranges = []
+        self.server.answers = self.answers = threading.Event()
+        self.answers.set()
         self.port = self.server.server_address[1]
         threading.Thread(target=self.server.serve_forever, daemon=True).start()
         return self
 
     def __exit__(self, *_):
+        self.answers.set()
         self.server.shutdown()
         self.server.server_close()

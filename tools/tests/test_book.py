@@ -149,6 +149,14 @@ def test_a_removed_log_stays_in_the_book(club: Club, days: List[str]) -> None:
     assert club.read() == club.merged(30, *ALL)
 
 
+def test_a_log_that_is_there_and_not_named_is_not_gone(club: Club) -> None:
+    club.lay("HILL.log", "hill")
+    club.lay("COAST.log", "coast")
+    club.book("net.book", "HILL.log")
+    assert club.book("net.book", "COAST.log") == ""
+    assert club.read() == club.merged(30, "hill", "coast")
+
+
 @pytest.mark.parametrize("days", [[], ["--days", "days"]])
 def test_an_emptied_log_stays_in_the_book(club: Club, days: List[str]) -> None:
     hill = club.lay("logs/2024-06-21/HILL.log", "hill")
@@ -388,6 +396,9 @@ def test_parts_need_the_program_that_folds(club: Club) -> None:
 
 
 def test_parts_are_the_book(club: Club) -> None:
+    for program in "aprsbook-fold", "aprsbook-table":
+        if not shutil.which(program, path=club.env["PATH"]):
+            pytest.skip(f"needs {program}")
     for name in ALL:
         club.lay(f"logs/{name}.log", name)
     # and a book as it is, and one that is compressed

@@ -118,6 +118,10 @@ def test_a_fault_takes_nothing_away(programs: Programs) -> None:
     programs.run("sqlite", "net.log", "net.db", status=1)
     assert asked(path, "select count(*) from transmissions") == [(4,)]
     assert "has no column" in programs.said
+    # a link to nothing stays one
+    (programs.folder / "link.db").symlink_to("new.db")
+    programs.run("sqlite", "net.log", "link.db", status=1)
+    assert (programs.folder / "link.db").is_symlink() and not (programs.folder / "new.db").exists()
 
 
 @pytest.mark.parametrize("name", ["net.log", "net.book", "notes.txt", "other.log"])

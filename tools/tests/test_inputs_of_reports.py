@@ -1,8 +1,14 @@
 """What a report is made of: logs and books, those of folders, and compressed ones."""
+import bz2
 import gzip
+import lzma
 import os
+import pathlib
+import subprocess
+from typing import Callable, Dict, List, Set
 
 import pytest
+from conftest import command as aprs_net, environment
 from standing import Programs, at, place
 
 LINE = "2024-06-21T18:00:00.000Z RX1 c0c0\n"
@@ -83,6 +89,40 @@ def test_a_fault_of_a_compressed_log_has_its_name(programs: Programs) -> None:
     (programs.folder / "RX1.log.gz").write_bytes(gzip.compress(b"faulty\n")[:-9])
     programs.run("tracks", "gpx", "RX1.log.gz", status=1)
     assert "RX1.log.gz" in programs.said
+
+
+PACKS: Dict[str, Callable[[bytes], bytes]] = {
+    ".gz": gzip.compress, ".xz": lzma.compress, ".bz2": bz2.compress}
+
+
+@pytest.mark.parametrize("ending", PACKS)
+@pytest.mark.parametrize("cut", [12, 40])
+def test_what_cannot_be_unpacked_is_named(programs: Programs, ending: str, cut: int) -> None:
+    """Cut short, or no such file at all: in words, by each command that reads it."""
+    name = f"RX1.log{ending}"
+    for octets in PACKS[ending](LINE.encode() * 9)[:cut], b"none of these\n":
+        (programs.folder / name).write_bytes(octets)
+        for words in (["page", name], ["tracks", "csv", name], ["sqlite", name, "net.db"],
+                      ["book", "net.book", name], ["clocks", name], ["shift", "1", name],
+                      ["shift", "1", name, "-o", "new"], ["mend", name], ["pcap", name],
+                      ["import", "monitor", name], ["csv", "rows", name]):
+            assert programs.run(*words, status=1) in ("", "\x00") or words[0] == "pcap"
+            assert f"{name}: can't be unpacked to its end" in programs.said
+            assert sorted(os.listdir()) == sorted({"bin", name, *before(programs)})
+
+
+def before(programs: Programs) -> Set[str]:
+    """What is there whatever a command does: the tables, the log, the list of calls and locks."""
+    endings = (".tsv", ".lock", "net.log", "calls")
+    return {it for it in os.listdir() if it.endswith(endings)}
+
+
+@pytest.mark.parametrize("words", [["csv", "fields"], ["mend"], ["shift", "1"], ["pcap"],
+                                   ["import", "monitor"], ["log", "RX1", "logs"]])
+def test_standard_input_is_closed(tmp_path: pathlib.Path, words: List[str]) -> None:
+    done = subprocess.run(aprs_net(*words), cwd=tmp_path, env=environment(), capture_output=True,
+                          preexec_fn=lambda: os.close(0))
+    assert done.returncode == 1 and done.stderr.endswith(b": standard input is closed\n")
 
 
 def test_an_empty_book_is_refused(programs: Programs) -> None:

@@ -135,7 +135,8 @@ def test_each_line_has_a_moment_of_its_own(
     monkeypatch.setattr(table, "of", of)
     (programs.folder / "a.log").write_text("\r\n".join(LINES[1:]) + "\r\n2024-06-21T18:0")
     (programs.folder / "b.log.gz").write_bytes(gzip.compress((LINES[0] + "\n").encode()))
-    found = receptions.receptions_of(["b.log.gz", "a.log"])
+    (programs.folder / "a.log.gz").write_bytes(gzip.compress((LINES[1] + "\n").encode()))
+    found = receptions.receptions_of(["b.log.gz", "a.log", "a.log.gz"])
     [(gap, lines)] = given
     firsts = [line.moment for line in lines if line]
     assert all(other - one > 1000 * gap for one, other in zip(firsts, firsts[1:]))

@@ -23,6 +23,8 @@ def logs(folder: pathlib.Path, kind: str = "log") -> Dict[str, List[bytes]]:
     result: Dict[str, List[bytes]] = {}
     for path in sorted(folder.glob(f"*/*.{kind}")):
         text = path.read_bytes()
+        if not text:
+            continue  # it was opened, and its first line isn't written yet
         assert text.endswith(b"\n")
         result[path.name] = text.splitlines()
         assert all(map(log_file.read_line, result[path.name])), path
@@ -252,6 +254,30 @@ def test_standard_error_is_on_the_full_disk(tmp_path: pathlib.Path) -> None:
         tried_ = started("log", "RX1", tmp_path, stdin=subprocess.PIPE, stderr=full)
     tried_.communicate(noise + FRAME * 2)
     assert tried_.returncode == 0 and count(tmp_path) == 2
+
+
+@pytest.mark.parametrize("closed", [0, 1, 2])
+def test_a_log_is_no_standard_file(tmp_path: pathlib.Path, closed: int) -> None:
+    """Where a standard file is closed, the next file that is opened gets its number."""
+    for ahead in 0, 86400:
+        day = tmp_path / time.strftime("%Y-%m-%d", time.gmtime(time.time() + ahead))
+        day.mkdir()
+        (day / "RX1.log").write_bytes(b"torn")  # which is said
+    with socket.create_server(("localhost", 0)) as server:
+        to = f"localhost:{server.getsockname()[1]}"
+        process = started("log", "--connect", to, "RX1", tmp_path, stderr=None,
+                          preexec_fn=lambda: os.close(closed))
+        connection = server.accept()[0]
+        connection.sendall(FRAME * 2)
+        wait_for(lambda: sum(it.read_bytes().count(b"\n") for it in tmp_path.glob("*/*")) == 2)
+        process.terminate()
+        assert process.wait() == 0
+        # nothing is sent to a TNC
+        assert connection.recv(100) == b""
+        connection.close()
+    for it in tmp_path.glob("*/*"):
+        if it.read_bytes() != b"torn":
+            assert all(map(log_file.read_line, it.read_bytes().splitlines()))
 
 
 def test_the_reader_of_standard_error_has_gone(tmp_path: pathlib.Path) -> None:

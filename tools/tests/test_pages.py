@@ -294,6 +294,19 @@ def test_logs_of_other_machines_lie_in_folders_of_their_own(tmp_path: pathlib.Pa
     assert net_logs.logs_of(str(tmp_path / "nowhere"), [day]) == []
 
 
+def test_a_system_s_fault_doesn_t_end_a_turn(net: Programs) -> None:
+    """As where the place of the page isn't there for a while."""
+    (net.folder / "out").write_text("")
+    with started("follow", "--every", "1", *NOW[1:]) as process:
+        try:
+            assert process.stderr is not None
+            assert process.stderr.readline() == b"aprs-net: out: File exists\n"
+            os.unlink(net.folder / "out")
+            wait_for(lambda: os.path.exists("out/index.html"), "a page")
+        finally:
+            process.terminate()
+
+
 def test_again_and_again(net: Programs) -> None:
     """A turn that fails doesn't end it, and what is new comes into the page."""
     log = net.folder / "logs/2024-06-21/RX1.log"

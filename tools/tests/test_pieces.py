@@ -5,7 +5,7 @@ import tempfile
 from typing import List
 
 import pytest
-from hypothesis import given
+from hypothesis import example, given
 from hypothesis import strategies as st
 
 from aprsbook_tools import building, jobs, pieces
@@ -16,6 +16,7 @@ LINES = st.lists(st.sampled_from([b"", b"a", b"2024-06-21T18:00:00Z RX1 c0c0", b
 
 
 @given(LINES, st.booleans(), st.integers(1, 20_000))
+@example([b"a", b"APRSBOOK 3 30", b"b"], True, 1)  # the cuts had no end
 def test_ranges_are_the_log(lines: List[bytes], is_whole: bool, step: int) -> None:
     text = b"\n".join(lines) + b"\n" * is_whole
     with tempfile.TemporaryDirectory() as folder:

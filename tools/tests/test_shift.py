@@ -1,4 +1,5 @@
 """aprs-net shift, mend and pcap: logs whose moments are wrong, or that were cut."""
+import gzip
 import pathlib
 import struct
 import tempfile
@@ -120,6 +121,14 @@ def test_carriage_returns_go_and_holes_are_left_out() -> None:
     assert mend(log.replace(b"\n", b"\r\n")) == log
     done = tried("mend", given=log + bytes(100_000) + b"\n" + log + b"2024")
     assert done.stdout == log * 2 and done.stderr == b"aprs-net mend: lines left out: 2\n"
+
+
+def test_a_compressed_log_is_read(tmp_path: pathlib.Path) -> None:
+    """As a text of bytes it had no whole line, and the status was 0."""
+    log = COAST.read_bytes()
+    (tmp_path / "a.log.gz").write_bytes(gzip.compress(log))
+    assert tried("mend", tmp_path / "a.log.gz").stdout == log
+    assert tried("shift", "0", tmp_path / "a.log.gz").stdout == log
 
 
 # ---- pcap ----

@@ -6,10 +6,19 @@ import pytest
 
 from aprsbook_tools import table, whole
 from aprsbook_tools.errors import Fault
+from standing import row, table_text
 
 
 def test_bytes_are_read_where_they_are_utf_8() -> None:
     assert table.text_of("caf\\xc3\\xa9 \\\\ \\xff \\x0a") == "café \\ \\xff \\x0a"
+
+
+def test_a_row_of_any_number_of_receivers() -> None:
+    """Python's csv has no field of more than 131,072 letters, if it isn't told."""
+    names = tuple(f"RECEIVER-{number:07}" for number in range(60_000))
+    one = row("status", "18:00", "Q1A", receivers=names)
+    assert [it.receivers for it in table.read(table.Row, table_text(table.Row, [one]).splitlines())
+            ] == [names]
 
 
 def test_a_file_is_written_whole(tmp_path: pathlib.Path) -> None:

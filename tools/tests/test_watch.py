@@ -7,7 +7,7 @@ import sys
 from typing import List
 
 import pytest
-from conftest import started
+from conftest import environment, started, tried
 from standing import Programs, at, message, place, row
 
 from aprsbook_tools import watching
@@ -138,6 +138,37 @@ def test_runs_at_once_tell_once(net: Programs) -> None:
     said_ = [it.communicate()[0] for it in runs]
     assert [it.returncode for it in runs] == [0, 0, 0]
     assert b"".join(said_).count(b"\n") == 3
+
+
+def test_texts_are_in_utf_8_whatever_the_locale_is(net: Programs, tmp_path: pathlib.Path) -> None:
+    (tmp_path / "roster").write_text("Q1A \u017di\u017eka\n", encoding="utf-8")
+    script = tmp_path / "tell"
+    script.write_text("import os, sys\nopen('heard', 'ab').write(os.fsencode(sys.argv[1]) "
+                      "+ os.environb[b'APRS_WORDS'] + b'\\n')\n")
+    ascii_alone = environment(LC_ALL="C", PYTHONCOERCECLOCALE="0", PYTHONUTF8="0")
+    words = ["watch", "--day", "2024-06-21", "--silent", "1", "--roster", "roster", "logs"]
+    told = tried(*words, cwd=tmp_path, env=ascii_alone).stdout
+    assert told.decode() == "silent: \u017di\u017eka (Q1A) wasn't heard since 18:00:00 UTC\n"
+    tried(*words, "--run", f"{sys.executable} tell", cwd=tmp_path, env=ascii_alone)
+    assert (tmp_path / "heard").read_text("utf-8").count("\u017di\u017eka (Q1A)") == 2
+
+
+@pytest.mark.skipif(not os.path.exists("/dev/full"), reason="needs /dev/full")
+def test_what_standard_output_refuses_is_told_again(net: Programs) -> None:
+    with open("/dev/full", "wb") as full:
+        process = started(*WORDS, "--state", "told", "logs", cwd=net.folder, stdout=full)
+        said_ = process.communicate()[1]
+    assert process.returncode == 1 and b"standard output: No space left" in said_
+    assert len(net.run(*WORDS, "--state", "told", "logs").splitlines()) == 3
+
+
+def test_it_ends_where_nobody_reads_it(net: Programs) -> None:
+    reads, writes = os.pipe()
+    os.close(reads)
+    process = started(*WORDS, "--every", "1", "logs", cwd=net.folder, stdout=writes)
+    os.close(writes)
+    assert process.wait(20) == 3
+    assert process.stderr is not None and b"nobody reads it" in process.stderr.read()
 
 
 def test_a_command_is_told_without_a_shell(net: Programs, tmp_path: pathlib.Path) -> None:

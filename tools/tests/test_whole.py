@@ -1,4 +1,5 @@
 """Files are written whole or not at all, and never over what must stay."""
+import concurrent.futures
 import os
 import pathlib
 import resource
@@ -46,6 +47,28 @@ def test_a_new_file_has_the_mode_of_any_new_file(tmp_path: pathlib.Path, mask: i
     finally:
         os.umask(before)
     assert stat.S_IMODE((tmp_path / "new").stat().st_mode) == 0o666 & ~mask
+
+
+def test_threads_do_not_take_each_others_umask(
+        tmp_path: pathlib.Path, monkeypatch: pytest.MonkeyPatch) -> None:
+    """Days' books, which threads make, could become writable by all."""
+    umask = os.umask
+
+    def slow_umask(mask: int) -> int:
+        result = umask(mask)
+        time.sleep(0.001)
+        return result
+
+    before = os.umask(0o022)
+    monkeypatch.setattr(os, "umask", slow_umask)
+    try:
+        with concurrent.futures.ThreadPoolExecutor(8) as pool:
+            paths = [tmp_path / str(number) for number in range(50)]
+            assert all(pool.map(lambda it: whole.write(str(it), b"new"), paths))
+        assert {stat.S_IMODE(it.stat().st_mode) for it in paths} == {0o644}
+        assert os.umask(0o022) == 0o022
+    finally:
+        os.umask(before)
 
 
 def test_a_link_to_nothing_makes_what_it_names(tmp_path: pathlib.Path) -> None:

@@ -124,7 +124,9 @@ def say_what_is_gone(path: str, before: Dict[str, Any], items: Sequence[Input], 
     now = {it.path: it for it in items}
     for name, (size, changed) in sorted(before.get("inputs", {}).items()):
         if name not in now:
-            if not any(name + ending in now for ending in inputs.PACKED):
+            is_packed = any(name + ending in now for ending in inputs.PACKED)
+            # one that is there, and isn't named this time, is nothing to tell of
+            if not is_packed and not os.path.lexists(name):
                 say(f"{name} is gone: what {path} has of it stays")
         elif now[name].size < size:
             say(f"{name} has become shorter: what {path} has of it stays")
@@ -258,9 +260,7 @@ def new_folder(path: str) -> Iterator[str]:
     try:
         new = tempfile.mkdtemp(whole.SUFFIX, f".{os.path.basename(real)}.", os.path.dirname(real))
         yield new
-        mask = os.umask(0)
-        os.umask(mask)
-        os.chmod(new, 0o777 & ~mask)
+        os.chmod(new, whole.mode_of_new(0o777))
         whole.sync_folder(new)
         os.rename(new, real)
     except OSError as fault:

@@ -8,7 +8,8 @@ import sys
 from typing import IO, NoReturn, Optional, Sequence
 
 from aprsbook_tools import VERSION, commands, errors, typed, whole
-from aprsbook_tools.errors import Fault, said
+from aprsbook_tools.errors import Fault, words_of
+from aprsbook_tools.saying import say
 
 
 class Ended(BaseException):
@@ -51,14 +52,6 @@ def make_parser(names: Sequence[str] = commands.NAMES) -> argparse.ArgumentParse
     return parser
 
 
-def say(text: str) -> None:
-    """Says a line on standard error, if that can be."""
-    try:
-        print(text, file=sys.stderr, flush=True)
-    except (OSError, ValueError, AttributeError):
-        pass
-
-
 def run(arguments: Optional[Sequence[str]] = None) -> int:
     """Runs a subcommand; its status."""
     words = typed.words_of(sys.argv) if arguments is None else arguments
@@ -70,21 +63,32 @@ def run(arguments: Optional[Sequence[str]] = None) -> int:
             sys.stdout.flush()
         return status
     except Fault as fault:
-        say(str(fault))
+        say(words_of(fault))
         return fault.status
     except BrokenPipeError:
         say("aprs-net: standard output: nobody reads it")
         return errors.OUTPUT
     except OSError as fault:
-        say(f"aprs-net: {said(fault)}")
+        say(words_of(fault))
         return errors.FAULTY
     except MemoryError:
         say("aprs-net: no memory is left")
         return errors.MEMORY
 
 
+def hold_standard_files() -> None:
+    """Where standard input, output or error is closed, the next file that is opened, a log or a
+    connection, would get its number, and what is said would go there."""
+    for number in range(3):
+        try:
+            os.fstat(number)
+        except OSError:
+            os.open(os.devnull, os.O_RDWR)
+
+
 def main(arguments: Optional[Sequence[str]] = None) -> int:
     """The program: as `run`, and ended by a signal as it has to be."""
+    hold_standard_files()
     for name in ("SIGTERM", "SIGHUP"):
         if hasattr(signal, name):
             signal.signal(getattr(signal, name), end)

@@ -82,22 +82,24 @@ def stored(name: str, value: Any) -> Union[str, int, float, None]:
     return None if name in SENT and value == "" else value_of(value)
 
 
-def check(path: str, inputs: Sequence[str]) -> None:
-    """Refuses a file that is there and is no database, an input or a log."""
-    whole.check(path, inputs)
+def check(path: str, inputs: Sequence[str]) -> str:
+    """Refuses a file that is there and is no database, an input or a log; the path behind links is
+    the result."""
+    real = whole.check(path, inputs)
     if os.path.exists(path) and os.path.getsize(path):
         with open(path, "rb") as file:
             if file.read(len(MAGIC)) != MAGIC:
                 raise Fault(f"{path} is no database of SQLite, and isn't replaced", ARGUMENTS)
+    return real
 
 
 @contextlib.contextmanager
 def writing(path: str, inputs: Sequence[str]) -> Iterator[sqlite3.Connection]:
     """A transaction, which is taken back where its block ends by a fault."""
-    check(path, inputs)
-    is_new = not os.path.exists(path)
+    real = check(path, inputs)
+    is_new = not os.path.exists(real)
     try:
-        base = sqlite3.connect(path, timeout=WAIT, isolation_level=None)
+        base = sqlite3.connect(real, timeout=WAIT, isolation_level=None)
         try:
             base.execute("begin immediate")
             yield base
@@ -110,7 +112,7 @@ def writing(path: str, inputs: Sequence[str]) -> Iterator[sqlite3.Connection]:
     finally:
         if is_new:
             with contextlib.suppress(OSError):
-                os.unlink(path)
+                os.unlink(real)
 
 
 def drop(base: sqlite3.Connection, name: str) -> None:

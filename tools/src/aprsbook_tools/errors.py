@@ -1,4 +1,5 @@
 """The one exception: what went wrong, in words, and the exit status, as of aprsbook."""
+from typing import Union
 
 FAULTY = 1  # an input can't be opened, is faulty or has another gap
 ARGUMENTS = 2
@@ -17,6 +18,11 @@ class Fault(Exception):
 
     def __str__(self) -> str:
         return f"{self.by}: {self.words}"
+
+
+def words_of(fault: Union[Fault, OSError]) -> str:
+    """What a command says of what ended it."""
+    return str(fault) if isinstance(fault, Fault) else f"aprs-net: {said(fault)}"
 
 
 def said(fault: OSError) -> str:

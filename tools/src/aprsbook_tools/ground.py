@@ -7,10 +7,9 @@ import math
 import os
 import re
 import sqlite3
-import sys
 from typing import Any, Callable, Dict, Iterator, List, NamedTuple, Optional, Sequence, Tuple
 
-from aprsbook_tools import arguments, coasts, page_files, places, pmtiles, table
+from aprsbook_tools import arguments, coasts, page_files, places, pmtiles, saying, table
 from aprsbook_tools.errors import Fault
 from aprsbook_tools.geo import Spot
 from aprsbook_tools.rings import Box
@@ -134,8 +133,8 @@ def within(
             text = base64.b64encode(data).decode()
             room -= len(text)
             if room < 0:
-                print(f"aprs-net: level {z} of the tiles, and what is finer, is left out: it takes "
-                      f"more than --most-mb", file=sys.stderr)
+                saying.say(f"aprs-net: level {z} of the tiles, and what is finer, is left out: it "
+                           "takes more than --most-mb")
                 return kept
             level["/".join(map(str, square))] = text
         kept.update(level)
@@ -187,7 +186,7 @@ def spots_of(rows: str) -> List[Spot]:
 @functools.lru_cache(maxsize=None)
 def say(words: str) -> None:
     """Says something once, however often a page is made."""
-    print(f"aprs-net: {words}", file=sys.stderr, flush=True)
+    saying.say(f"aprs-net: {words}")
 
 
 def of(args: argparse.Namespace, rows: str) -> Dict[str, Any]:

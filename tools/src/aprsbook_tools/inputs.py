@@ -123,7 +123,9 @@ def unpacking(path: str) -> Iterator[IO[bytes]]:
     try:
         with opened(path) as file:
             yield file
-    except (EOFError, lzma.LZMAError, zlib.error, gzip.BadGzipFile) as fault:
+    except (EOFError, lzma.LZMAError, zlib.error, OSError) as fault:
+        if isinstance(fault, OSError) and fault.errno is not None:
+            raise  # the system's, and not of what is packed
         raise Fault(f"{path}: can't be unpacked to its end: {fault}") from fault
 
 
@@ -176,5 +178,5 @@ def whole_lines(octets: bytes) -> List[bytes]:
 
 def gap_of(path: str) -> Optional[int]:
     """The gap of a book file in seconds; None of what is no book."""
-    with opened(path) as file:
+    with unpacking(path) as file:
         return book_file.gap_of(file.read(book_file.HEAD))

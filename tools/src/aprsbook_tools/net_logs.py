@@ -64,18 +64,17 @@ def logs_of(folder: str, days: Iterable[str]) -> List[Tuple[str, str]]:
 
 def octets_of(path: str) -> Tuple[bytes, str]:
     """What a log has, unpacked, and why that isn't all of it."""
-    octets = b""
+    parts: List[bytes] = []
+    why = ""
     try:
         with inputs.opened(path) as file:
-            while True:
-                part = file.read(log_file.BLOCK)
-                if not part:
-                    return octets, ""
-                octets += part
+            while not parts or parts[-1]:
+                parts.append(file.read(log_file.BLOCK))
     except (EOFError, lzma.LZMAError, zlib.error, gzip.BadGzipFile):
-        return octets, "can't be read to its end"
+        why = "can't be read to its end"
     except OSError as fault:
-        return octets, f"can't be read to its end ({fault.strerror or fault})"
+        why = f"can't be read to its end ({fault.strerror or fault})"
+    return b"".join(parts), why
 
 
 def whole_lines(octets: bytes) -> Tuple[bytes, int, bool]:

@@ -32,9 +32,9 @@ def begins(path: str, octets: bytes) -> bool:
 
 def line_start(file: IO[bytes], at: int) -> int:
     """Where the first line begins that begins at a byte or after it; or the end of the file."""
-    at = file.seek(max(0, at - 1))
-    if at == 0:
+    if at <= 0:
         return 0
+    at = file.seek(at - 1)
     while True:
         block = file.read(1 << 13)
         feed = block.find(b"\n")

@@ -56,8 +56,9 @@ def lines_of(path: str) -> List[Line]:
 
 
 def receptions_of(paths: Sequence[str]) -> List[Reception]:
-    """The receptions of logs, by moment."""
-    lines = sorted(line for path in logs_of(paths) for line in lines_of(path))
+    """The receptions of logs, by moment. What two files have, as a log and its compressed copy, is
+    one reception."""
+    lines = sorted({line for path in logs_of(paths) for line in lines_of(path)})
     log = b"".join(
         line._replace(moment=APART * number).write() for number, line in enumerate(lines)
     )

@@ -15,6 +15,7 @@ from aprsbook_tools import ax25, text_file
 from aprsbook_tools.errors import Fault
 
 ANY = "-*"  # stands for any SSID
+LONGEST = 100_000  # letters of a line
 BEGIN = re.compile(r'\s*(?:"[^"]*"|[^\s,;"]+) *([,;\t])')
 PLAIN = re.compile(r'\s*"?([^\s"]+)"?\s*(.*)')
 LINE_END = re.compile(r"\r\n|\n|\r")
@@ -116,9 +117,12 @@ def read_roster(text: str) -> Roster:
     for number, line in enumerate(LINE_END.split(text.lstrip("\ufeff")), 1):
         if not line.strip() or line.lstrip().startswith("#"):
             continue
+        if len(line) > LONGEST:
+            faults.append(LineFault(number, f"longer than {LONGEST} letters"))
+            continue
         try:
             fields, head = fields_of(line), None
-        except csv.Error as fault:
+        except csv.Error as fault:  # as a NUL is to an older Python
             faults.append(LineFault(number, str(fault)))
             continue
         if first:

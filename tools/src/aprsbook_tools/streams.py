@@ -3,7 +3,7 @@ import contextlib
 import sys
 from typing import IO, Iterator, Optional, Sequence
 
-from aprsbook_tools import whole
+from aprsbook_tools import inputs, whole
 
 BLOCK = 1 << 16  # bytes that are written at a time
 
@@ -15,22 +15,22 @@ def name_of(path: Optional[str]) -> str:
 
 @contextlib.contextmanager
 def opened(path: Optional[str]) -> Iterator[IO[bytes]]:
-    """A file to read, or standard input."""
+    """A file to read, which may be compressed, or standard input."""
     if path is None:
         if sys.stdin is None:
             raise OSError("standard input is closed")
         yield sys.stdin.buffer
     else:
-        with open(path, "rb") as file:
+        with inputs.unpacking(path) as file:
             yield file
 
 
-def put(output: Optional[str], lines: Iterator[bytes], inputs: Sequence[str],
+def put(output: Optional[str], lines: Iterator[bytes], given: Sequence[str],
         at_once: bool = False) -> None:
     """Writes lines into a file, whole or not at all; or to standard output, each at once where the
     input goes on."""
     if output is not None and output != "-":
-        with whole.writing(output, inputs) as new:
+        with whole.writing(output, given) as new:
             new.file.writelines(lines)
         return
     block = bytearray()

@@ -10,6 +10,8 @@ from typing import (
 from aprsbook_tools import programs
 from aprsbook_tools.errors import Fault
 
+csv.field_size_limit(1 << 30)  # as large as an input: a row may have any number of receivers
+
 T = TypeVar("T")
 SHOWN = re.compile(r"((?:\\x[0-9a-f]{2})+)|\\\\")
 BIDI = frozenset("\u061c\u200e\u200f\u202a\u202b\u202c\u202d\u202e\u2066\u2067\u2068\u2069")

@@ -12,6 +12,7 @@ import re
 import stat
 import sys
 import tempfile
+import threading
 import time
 from typing import IO, Iterator, List, Optional, Sequence, Union
 
@@ -25,6 +26,7 @@ except ImportError:  # not on Windows
 
 SUFFIX = ".aprs-net-new"
 DAY = 86_400  # seconds
+ASKING = threading.Lock()
 
 
 class Writing:
@@ -84,14 +86,21 @@ def remove_leftovers(real: str) -> None:
                 os.unlink(left)
 
 
+def mode_of_new(mode: int) -> int:
+    """The mode of a new file or folder. One thread asks at a time: another would take for the
+    user's mask what is set here meanwhile."""
+    with ASKING:
+        mask = os.umask(0o077)
+        os.umask(mask)
+    return mode & ~mask
+
+
 def take_over(file: int, real: str) -> None:
     """Gives a file the owner and the mode of the one that it replaces, or those of a new file."""
     try:
         old = os.stat(real)
     except FileNotFoundError:
-        mask = os.umask(0)
-        os.umask(mask)
-        mode = 0o666 & ~mask
+        mode = mode_of_new(0o666)
     else:
         mode = stat.S_IMODE(old.st_mode)
         with contextlib.suppress(OSError, AttributeError):
@@ -131,6 +140,8 @@ def writing(path: str, inputs: Sequence[str] = ()) -> Iterator[Writing]:
         new, result.changed = None, True
         sync_folder(folder)
     except OSError as fault:
+        if fault.errno is None:
+            raise  # of a compressed input
         raise Fault(f"{path}: {fault.strerror or fault}", errors.OUTPUT) from fault
     finally:
         if new is not None:

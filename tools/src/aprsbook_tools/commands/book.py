@@ -1,10 +1,9 @@
 """aprs-net book: the book of all logs and books below folders, kept up to date."""
 import argparse
 import os
-import sys
 from typing import List
 
-from aprsbook_tools import arguments, book, book_file, engines, inputs, whole
+from aprsbook_tools import arguments, book, book_file, engines, inputs, saying, whole
 from aprsbook_tools.commands import Subparsers
 from aprsbook_tools.errors import ARGUMENTS, FAULTY, Fault
 from aprsbook_tools.inputs import Input
@@ -49,7 +48,7 @@ def add_parser(subparsers: Subparsers) -> None:
 
 
 def say(text: str) -> None:
-    print(f"aprs-net book: {text}", file=sys.stderr, flush=True)
+    saying.say(f"aprs-net book: {text}")
 
 
 def run(args: argparse.Namespace) -> int:
@@ -88,7 +87,7 @@ def run_days(args: argparse.Namespace, wish: book.Wish) -> int:
     wish.gap = wish.gap or book.old_book(args.book, wish) or book_file.GAP
     faults = book.make_days(args.days, items, wish, say)
     for fault in faults:
-        print(fault, file=sys.stderr, flush=True)
+        saying.say(str(fault))
     if faults:
         return max(fault.status for fault in faults) if len(faults) == 1 else FAULTY
     books = [it for it in inputs.below(args.days) if it.is_book]

@@ -2,11 +2,11 @@
 import argparse
 import contextlib
 import os
-import sys
 import tempfile
 from typing import IO, Dict, List, Sequence, Tuple
 
-from aprsbook_tools import arguments, book_file, clocks, inputs, log_file, table, whole
+from aprsbook_tools import (
+    arguments, book_file, clocks, inputs, log_file, saying, table, whole)
 from aprsbook_tools.commands import Subparsers
 from aprsbook_tools.errors import FAULTY, OUTPUT, Fault, said
 
@@ -90,8 +90,7 @@ def run(args: argparse.Namespace) -> int:
     whole.put(args.output, "".join("\t".join(it) + "\n" for it in lines), args.inputs)
     gap = args.gap or book_file.GAP
     if not found:
-        print("aprs-net clocks: no two receivers heard the same frame", file=sys.stderr)
+        saying.say("aprs-net clocks: no two receivers heard the same frame")
     for receiver in clocks.wrong(found, gap):
-        print(f"aprs-net clocks: {receiver} differs by more than the gap, {gap} seconds",
-              file=sys.stderr)
+        saying.say(f"aprs-net clocks: {receiver} differs by more than the gap, {gap} seconds")
     return FAULTY if not found or any(abs(it.ahead) > gap for it in found) else 0

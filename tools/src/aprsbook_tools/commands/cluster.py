@@ -1,9 +1,8 @@
 """aprs-net cluster: the book of logs and books, made by the workers of a Dask cluster."""
 import argparse
 import os
-import sys
 
-from aprsbook_tools import arguments, book, cluster, inputs
+from aprsbook_tools import arguments, book, cluster, inputs, saying
 from aprsbook_tools.commands import Subparsers
 from aprsbook_tools.errors import Fault
 from aprsbook_tools.pieces import MEGABYTE
@@ -36,7 +35,7 @@ def add_parser(subparsers: Subparsers) -> None:
 
 
 def say(text: str) -> None:
-    print(f"aprs-net cluster: {text}", file=sys.stderr, flush=True)
+    saying.say(f"aprs-net cluster: {text}")
 
 
 def run(args: argparse.Namespace) -> int:

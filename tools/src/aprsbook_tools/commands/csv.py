@@ -1,10 +1,9 @@
 """The table of a book as CSV for a spreadsheet."""
 import argparse
 import dataclasses
-import sys
-from typing import Any, List
+from typing import Any, List, Optional, Sequence
 
-from aprsbook_tools import arguments, report, table, tactical
+from aprsbook_tools import arguments, report, streams, table, tactical
 from aprsbook_tools.commands import Subparsers
 from aprsbook_tools.roster import roster_of
 from aprsbook_tools.spreadsheet import Cell, csv_text
@@ -36,11 +35,12 @@ def cell_of(value: Any) -> Cell:
     return cell
 
 
-def fields_of(paths: List[str]) -> List[List[Cell]]:
+def fields_of(paths: Sequence[str]) -> List[List[Cell]]:
     """The fields of lines with tabs between them, as the table shows them."""
-    texts = [sys.stdin.buffer.read()] if not paths else []
-    for path in paths:
-        with open(path, "rb") as file:
+    texts: List[bytes] = []
+    given: List[Optional[str]] = [*paths] if paths else [None]
+    for path in given:
+        with streams.opened(path) as file:
             texts.append(file.read())
     lines = b"".join(texts).decode("utf-8", "backslashreplace").split("\n")
     return [[*map(table.text_of, line.rstrip("\r").split("\t"))] for line in lines if line]

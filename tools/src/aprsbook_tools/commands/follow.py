@@ -3,13 +3,12 @@ import argparse
 import functools
 import os
 import re
-import sys
 import time
 from typing import List, Optional
 
-from aprsbook_tools import arguments, ground, merged, net_logs, whole
+from aprsbook_tools import arguments, ground, merged, net_logs, saying, whole
 from aprsbook_tools.commands import Subparsers, page
-from aprsbook_tools.errors import FAULTY, Fault
+from aprsbook_tools.errors import FAULTY, Fault, words_of
 
 DESCRIPTION = """Makes OUT/net.book and OUT/index.html of the logs of today and yesterday (UTC).
 These are LOGS/DAY/NAME.log such as `aprs-net log` writes, also compressed (.log.gz). Both stay as
@@ -68,7 +67,7 @@ def make(args: argparse.Namespace) -> bool:
     said = page.brought(args)
     found = net_logs.gather(args.logs, days_of(args))
     for note in found.notes:
-        print(f"aprs-net: {note}", file=sys.stderr, flush=True)
+        saying.say(f"aprs-net: {note}")
     read = [*found.paths, *page.files_of(args)]
     os.makedirs(args.out, exist_ok=True)
     place, text = (os.path.join(args.out, name) for name in ("net.book", "index.html"))
@@ -99,6 +98,6 @@ def run(args: argparse.Namespace) -> int:
     while True:
         try:
             make(args)
-        except Fault as fault:  # the next turn may go well
-            print(str(fault), file=sys.stderr, flush=True)
+        except (Fault, OSError) as fault:  # the next turn may go well
+            saying.say(words_of(fault))
         time.sleep(args.every)

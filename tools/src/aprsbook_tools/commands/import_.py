@@ -1,12 +1,12 @@
 """aprs-net import: a log of what other programs have written down."""
 import argparse
-import sys
 from typing import IO, Dict, Iterator, List, Tuple
 
-from aprsbook_tools import arguments, kiss, log_file, streams, whole
+from aprsbook_tools import arguments, kiss, log_file, saying, streams, whole
 from aprsbook_tools.commands import Subparsers
-from aprsbook_tools.errors import FAULTY
-from aprsbook_tools.imports import Options, Reader, Refused, direwolf_csv, files, lines, packets
+from aprsbook_tools.errors import FAULTY, Fault
+from aprsbook_tools.imports import (
+    Found, Options, Reader, Refused, direwolf_csv, files, lines, packets)
 from aprsbook_tools.zones import Zones
 
 READERS: Dict[str, Tuple[Reader, str]] = {
@@ -71,14 +71,22 @@ class Count:
     def say(self, found: Refused) -> None:
         self.refused += 1
         self.untimed += found.untimed
-        print(f"aprs-net import: line {found.number}: {found.words}: {found.text[:100]!r}",
-              file=sys.stderr, flush=True)
+        saying.say(
+            f"aprs-net import: line {found.number}: {found.words}: {found.text[:100]!r}")
+
+
+def found_in(file: IO[bytes], args: argparse.Namespace, options: Options) -> Iterator[Found]:
+    """What the text has; a fault has its name."""
+    try:
+        yield from READERS[args.format][0](file, options)
+    except Fault as fault:
+        raise Fault(f"{streams.name_of(args.input)}: {fault.words}", fault.status) from fault
 
 
 def written(file: IO[bytes], args: argparse.Namespace, options: Options,
             count: Count) -> Iterator[bytes]:
     """The lines of the log."""
-    for found in READERS[args.format][0](file, options):
+    for found in found_in(file, args, options):
         if isinstance(found, Refused):
             count.say(found)
             continue
@@ -94,7 +102,7 @@ def run(args: argparse.Namespace) -> int:
     try:
         zones = Zones(args.zone)
     except ValueError as fault:
-        print(f"aprs-net import: --zone: {fault}", file=sys.stderr)
+        saying.say(f"aprs-net import: --zone: {fault}")
         return 2
     options = Options(args.name, zones, args.escapes, args.igate, args.now, args.start)
     inputs, count = whole.all_of(args.input), Count()
@@ -105,9 +113,8 @@ def run(args: argparse.Namespace) -> int:
     if args.own:
         whole.write(args.own, b"".join(count.own), inputs)
     elif count.own:
-        print(f"aprs-net import: frames that the station itself sent, left out: {len(count.own)}",
-              file=sys.stderr)
+        saying.say(
+            f"aprs-net import: frames that the station itself sent, left out: {len(count.own)}")
     elif not count.taken and not count.refused:
-        print(f"aprs-net import: nothing was found that {args.format} has of what was heard",
-              file=sys.stderr)
+        saying.say(f"aprs-net import: nothing was found that {args.format} has of what was heard")
     return FAULTY if count.untimed else 0

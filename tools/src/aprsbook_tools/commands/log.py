@@ -2,11 +2,10 @@
 import argparse
 import os
 import re
-import select
 import tempfile
 from typing import Callable, Iterator, Optional, Tuple
 
-from aprsbook_tools import arguments, ax25, kiss, log_file, sources
+from aprsbook_tools import arguments, ax25, kiss, log_file, saying, sources
 from aprsbook_tools.clock import Clock
 from aprsbook_tools.commands import Subparsers
 from aprsbook_tools.errors import said
@@ -76,13 +75,7 @@ def add_parser(subparsers: Subparsers) -> None:
 
 
 def say(text: str) -> None:
-    """Says a line on standard error. Where it is full, closed or stuck, nothing is said: a log goes
-    on."""
-    try:
-        if os.name == "nt" or select.select([], [2], [], 0)[1]:
-            os.write(2, f"aprs-net log: {text}\n".encode("utf-8", "backslashreplace"))
-    except (OSError, ValueError):
-        pass
+    saying.say_at_once(f"aprs-net log: {text}")
 
 
 def refusal(args: argparse.Namespace) -> Optional[str]:

@@ -1,9 +1,8 @@
 """aprs-net mend: the lines of a log that are whole."""
 import argparse
-import sys
 from typing import IO, Iterator
 
-from aprsbook_tools import arguments, log_file, streams, whole
+from aprsbook_tools import arguments, log_file, saying, streams, whole
 from aprsbook_tools.commands import Subparsers
 
 TEXT = """\
@@ -45,5 +44,5 @@ def run(args: argparse.Namespace) -> int:
     with streams.opened(args.log) as file:
         streams.put(args.output, whole_lines(file, left), whole.all_of(args.log))
     if left.out:
-        print(f"aprs-net mend: lines left out: {left.out}", file=sys.stderr)
+        saying.say(f"aprs-net mend: lines left out: {left.out}")
     return 0

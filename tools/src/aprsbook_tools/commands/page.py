@@ -2,11 +2,10 @@
 import argparse
 import functools
 import os
-import sys
 from typing import Any, Callable, Dict, List, Optional, Sequence
 
 from aprsbook_tools import (
-    arguments, book_file, ground, merged, page_files, report, text_file, whole)
+    arguments, book_file, ground, merged, page_files, report, saying, text_file, whole)
 from aprsbook_tools.commands import Subparsers
 from aprsbook_tools.roster import read_roster
 
@@ -71,7 +70,7 @@ def brought(args: argparse.Namespace) -> Dict[str, Any]:
     page itself."""
     roster = text_file.read(args.roster) if args.roster else ""
     for it in read_roster(roster).faults:
-        print(f"aprs-net: {args.roster}: {it}", file=sys.stderr)
+        saying.say(f"aprs-net: {args.roster}: {it}")
     return {
         "title": args.title,
         "live": args.live,

@@ -4,13 +4,12 @@ import json
 import os
 import shlex
 import subprocess
-import sys
 import time
-from typing import List, Optional, Set, Tuple
+from typing import Dict, List, Optional, Set, Tuple, Union
 
-from aprsbook_tools import arguments, merged, net_logs, table, watching, whole
+from aprsbook_tools import arguments, merged, net_logs, saying, table, watching, whole
 from aprsbook_tools.commands import Subparsers, follow
-from aprsbook_tools.errors import ARGUMENTS, FAULTY, Fault
+from aprsbook_tools.errors import ARGUMENTS, FAULTY, Fault, words_of
 from aprsbook_tools.heard import heard_of
 from aprsbook_tools.roster import roster_of
 from aprsbook_tools.table import Message, Row
@@ -88,30 +87,50 @@ def alerts_of(args: argparse.Namespace) -> List[Alert]:
 
 def tell(alert: Alert, command: Optional[str]) -> bool:
     """Tells of an alert; whether that went well."""
-    if command is None:
-        print(f"{alert.kind}: {alert.words}", flush=True)
-        return True
+    fault = fault_of_output(alert) if command is None else fault_of_command(alert, command)
+    if fault:
+        saying.say(f"aprs-net: {fault}")
+    return not fault
+
+
+def fault_of_output(alert: Alert) -> str:
+    """Tells of an alert on standard output; why that can't be, or nothing."""
+    try:
+        whole.write_out(f"{alert.kind}: {alert.words}\n".encode("utf-8", "surrogateescape"))
+    except Fault as fault:
+        if isinstance(fault.__cause__, BrokenPipeError):
+            raise fault.__cause__  # nobody reads it any more
+        return fault.words
+    return ""
+
+
+def given(text: str) -> Union[str, bytes]:
+    """A text as a command is given it: in UTF-8, whatever the locale is."""
+    return text if os.name == "nt" else text.encode("utf-8", "surrogateescape").replace(b"\0", b"")
+
+
+def fault_of_command(alert: Alert, command: str) -> str:
+    """Tells a command of an alert; why that can't be, or nothing."""
     said = {
         "APRS_KIND": alert.kind,
         "APRS_CALL": alert.call,
         "APRS_SINCE": alert.since,
         "APRS_WORDS": alert.words,
     }
+    environment: Dict[str, Union[str, bytes]] = {**os.environ}
+    environment.update((name, given(it)) for name, it in said.items())
     try:
         done = subprocess.run(
-            [*shlex.split(command), f"{alert.kind}: {alert.words}"],
-            env={**os.environ, **said},
+            [*shlex.split(command), given(f"{alert.kind}: {alert.words}")],
+            env=environment,
             stdin=subprocess.DEVNULL,
             timeout=PATIENCE,
         )
-        fault = f"ended with status {done.returncode}" if done.returncode else ""
     except subprocess.TimeoutExpired:
-        fault = f"took longer than {PATIENCE} seconds"
+        return f"{command}: took longer than {PATIENCE} seconds"
     except OSError as refusal:
-        fault = refusal.strerror or str(refusal)
-    if fault:
-        print(f"aprs-net: {command}: {fault}", file=sys.stderr, flush=True)
-    return not fault
+        return f"{command}: {refusal.strerror or refusal}"
+    return f"{command}: ended with status {done.returncode}" if done.returncode else ""
 
 
 def read_state(path: Optional[str]) -> Set[str]:
@@ -175,6 +194,8 @@ def run(args: argparse.Namespace) -> int:
                 turn_of_state(args)
             else:
                 told, _ = turn(args, told)
-        except Fault as fault:  # the next turn may go well
-            print(str(fault), file=sys.stderr, flush=True)
+        except BrokenPipeError:
+            raise
+        except (Fault, OSError) as fault:  # the next turn may go well
+            saying.say(words_of(fault))
         time.sleep(args.every)

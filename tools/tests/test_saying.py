@@ -1,0 +1,47 @@
+"""What is said on standard error, where nobody can be told: the work goes on, and is the same."""
+import os
+import pathlib
+import subprocess
+from typing import List
+
+import pytest
+from conftest import EVENING, command, environment
+
+HILL = pathlib.Path([it for it in EVENING if "hill" in it][0])
+CUT = HILL.read_bytes()[:1000]  # of which something has to be said
+WHOLE = CUT[:CUT.rfind(b"\n") + 1]
+COMMANDS: List[List[str]] = [["mend"], ["import", "monitor"]]
+
+
+def given(name: str) -> bytes:
+    """What a command says something of: a cut line, or a line of another kind."""
+    return CUT if name == "mend" else b"2024-06-21T12:00:00Z Q1A>APRS:>Hi\nyesterday Q1A>APRS:>Hi\n"
+
+
+@pytest.mark.parametrize("words", COMMANDS, ids=lambda it: str(it[0]))
+def test_standard_error_is_closed(words: List[str]) -> None:
+    """Python's print then writes to standard output, into the midst of a log."""
+    text = given(words[0])
+    told = subprocess.run(command(*words), input=text, capture_output=True, env=environment())
+    done = subprocess.run(command(*words), input=text, stdout=subprocess.PIPE, env=environment(),
+                          preexec_fn=lambda: os.close(2))
+    assert told.stderr and told.stdout
+    assert (done.returncode, done.stdout) == (told.returncode, told.stdout)
+
+
+@pytest.mark.skipif(not os.path.exists("/dev/full"), reason="needs /dev/full")
+def test_standard_error_is_on_the_full_disk(tmp_path: pathlib.Path) -> None:
+    new = tmp_path / "new"
+    with open("/dev/full", "wb") as full:
+        done = subprocess.run(command("mend", "-o", new), input=CUT, stderr=full,
+                              env=environment())
+    assert done.returncode == 0 and new.read_bytes() == WHOLE
+
+
+def test_the_reader_of_standard_error_has_gone() -> None:
+    reads, writes = os.pipe()
+    os.close(reads)
+    done = subprocess.run(command("mend"), input=CUT, stdout=subprocess.PIPE, stderr=writes,
+                          env=environment())
+    os.close(writes)
+    assert done.returncode == 0 and done.stdout == WHOLE
