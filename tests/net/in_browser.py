@@ -9,6 +9,7 @@ import csv
 import io
 import json
 import pathlib
+import shutil
 import subprocess
 import sys
 import tempfile
@@ -579,6 +580,31 @@ def test_coast(page, folder):
     picture(page, "coast")
 
 
+def test_shore(page, folder):
+    """A fine coast around the evening, where GMT is there: St Bees Head and the sea off it."""
+    if not shutil.which("gmt"):
+        print("left out: a fine coast (no gmt is there)")
+        return
+    page.open(event_page(folder / "shore.html", *EVENING))
+    page.wait("aprsbook.page.map.shore.of !== null")
+    assert "GSHHG" in page.js("document.querySelector('footer').innerText")
+    for spot, colour, said in (("54.513,-3.62,20", "land", ""), ("54.5,-3.68,20", "sheet", ""),
+                               ("54.513,-3.62,200", "sheet", "rough coast")):
+        got = page.js(f"(() => {{ const {{ map }} = aprsbook.page; map.things = []; map.look('{spot}'); "
+                      "const wrote = [], write = map.pen.fillText; "
+                      "map.pen.fillText = (...it) => { wrote.push(it[0]); write.apply(map.pen, it) }; "
+                      "map.paint(); map.pen.fillText = write; "
+                      "const at = map.pen.getImageData(map.canvas.width / 2 + 3, "
+                      "map.canvas.height / 2 + 3, 1, 1).data; map.pen.fillStyle = "
+                      f"map.colours.{colour}; map.pen.fillRect(0, 0, 1, 1); "
+                      "return [map.pen.getImageData(0, 0, 1, 1).data.join() === at.join(), "
+                      "wrote.find(it => it.includes('coast')) ?? ''] })()")
+        is_((spot, got), (spot, [True, said]))
+    page.js("(aprsbook.page.map.fill(true), aprsbook.page.map.fit(), aprsbook.page.map.paint())")
+    picture(page, "shore")
+    is_(page.problems(), [])
+
+
 def test_saves(page, folder):
     """GPX, KML, GeoJSON and CSV have the places of tracks; no cell is a formula."""
     (folder / "all.log").write_text("".join(hostile.log()))
@@ -683,7 +709,8 @@ def picture(page, name, whole=False):
 
 TESTS = (test_hostile, test_contained, test_controls, test_names, test_widths, test_times,
          test_messages, test_world, test_brought, test_clocks, test_needs, test_shown, test_far,
-         test_touch, test_keys, test_marks, test_graphs, test_coast, test_saves, test_scale, test_slices, test_live, test_served)
+         test_touch, test_keys, test_marks, test_graphs, test_coast, test_shore, test_saves,
+         test_scale, test_slices, test_live, test_served)
 page = browser.Browser()
 try:
     with tempfile.TemporaryDirectory() as name:
