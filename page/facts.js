@@ -25,7 +25,8 @@ export function kindsOf(thing, picks) {
   return counts;
 }
 /**
- * Telemetry in words: each number as its channel has it, with its name and unit where they are said.
+ * Telemetry in words: each number as its channel has it, with its name and unit where they are
+ * said.
  * @param {Record<string, string>} it
  * @param {Channel[]} channels
  */

@@ -9,11 +9,11 @@ import { RADIUS, vectorOf } from "./globe.js";
  * @typedef {{ line: Float32Array, places: Int32Array, middle: number[], wide: number }} Ring
  */
 
-/** By so many pixels a coast may be off; one that may be off by more is a line, said to be rough. */
+/** A coast that may be off by more pixels than these is a line, and said to be rough. */
 export const MOST_OFF = 8;
 /**
- * Of fewer metres for a pixel the coast is a line that is said to be rough, and then nothing. A tenth
- * of it is off by more than 2.3 km.
+ * Of fewer metres for a pixel the coast is a line that is said to be rough, and then nothing. A
+ * tenth of it is off by more than 2.3 km.
  */
 const ROUGH = 2300 / MOST_OFF, NONE = 10;
 /** What is said of a coast that is drawn closer than its data are. */
