@@ -10,12 +10,12 @@ import json
 import pathlib
 import sqlite3
 import sys
-import tempfile
 import threading
 import time
 
 import browser
 import hostile
+import trying
 from by_hand import together
 from serving import Server
 
@@ -27,6 +27,10 @@ MORE = ("Object.fromEntries([...document.querySelectorAll('#files tbody tr')].ma
         "[it.querySelector('th').textContent, it.querySelector('.more').textContent]))")
 MADE = "aprsfiles.made() !== null"
 ROWS = "aprsbook.page.all.rows.length"
+# the colour of the map beside its middle
+BESIDE_MIDDLE = ("(() => { const { map } = aprsbook.page, { width, height } = map.canvas; "
+                 "map.paint(); return map.pen.getImageData(width / 3, height / 3, 1, 1).data.slice(0, 3).join() "
+                 "})()")
 EMPTY_MODULE = b"\0asm\1\0\0\0"
 
 
@@ -103,8 +107,9 @@ def test_damaged(page, folder):
 def test_strangers(page, folder):
     """What is no log is named as what it is, and no more of it is read than its beginning."""
     fresh(page, folder)
-    give(page, folder, {"photo.log": b"\x89PNG\r\n\x1a\n" + bytes(2000), "zeros.log": bytes(3 << 20),
-                        "words.log": "so much is written here\n" * 9000, "a.log": log(3)})
+    give(page, folder, {"photo.log": b"\x89PNG\r\n\x1a\n" + bytes(2000), "a.log": log(3),
+                        "zeros.log": bytes(3 << 20),
+                        "words.log": "so much is written here\n" * 9000})
     page.wait(MADE)
     told = page.js(TOLD)
     is_(told["photo.log"], "is a picture, which no log is")
@@ -178,9 +183,7 @@ def squares(page):
     page.js("(aprsbook.page.map.look('54.65,-3.5,20'), aprsbook.page.map.paint())")
     page.wait("[...aprsbook.page.map.tiles.made.values()].some(Boolean)")
     page.settle()
-    is_(page.js("(() => { const { map } = aprsbook.page, { width, height } = map.canvas; map.paint(); "
-                "return [...map.pen.getImageData(width / 3, height / 3, 1, 1).data.slice(0, 3)] })()"),
-        [200, 30, 30])
+    is_(page.js(BESIDE_MIDDLE), "200,30,30")
     assert "400 squares" in page.js("document.getElementById('own-map').textContent")
     picture(page, "tiles")
 
@@ -223,9 +226,7 @@ def own_map(page):
 def is_red(page, words, where="54.65,-3.5,20"):
     """The map is red beside its middle, and says of what."""
     page.js(f"(aprsbook.page.map.look('{where}'), aprsbook.page.map.paint())")
-    page.wait("(() => { const { map } = aprsbook.page, { width, height } = map.canvas; map.paint(); "
-              "return map.pen.getImageData(width / 3, height / 3, 1, 1).data.slice(0, 3).join() "
-              "=== '200,30,30' })()")
+    page.wait(f"{BESIDE_MIDDLE} === '200,30,30'")
     is_(own_map(page), words)
 
 
@@ -238,8 +239,8 @@ def test_archives(page, folder):
     (folder / "a.log").write_text(log(3))
     page.give("#choose", *[folder / name for name in ("a.log", "map.mbtiles", "other.db")])
     page.wait(MADE)
-    is_(page.js(TOLD)["other.db"], "is a database (SQLite), which no log is, and can\u2019t be drawn as a "
-        "map: it has no table of tiles")
+    is_(page.js(TOLD)["other.db"], "is a database (SQLite), which no log is, and can\u2019t be drawn "
+        "as a map: it has no table of tiles")
     is_(sorted(page.js(TOLD)), ["a.log", "other.db"])
     is_red(page, "Own map: map.mbtiles.")
     page.js("document.getElementById('away').click()")
@@ -256,8 +257,9 @@ def test_sheet(page, folder):
     (folder / "sheet.pgw").write_text(f"{size}\n0\n0\n-{size}\n{-4 + size / 2}\n{55 - size / 2}\n")
     page.give("#choose", folder / "a.log", folder / "sheet.png")
     page.wait(f"{MADE} && !document.getElementById('sheet').hidden")
-    put = ("((...all) => { all.forEach((it, k) => { document.getElementById('corner-' + k).value = it });"
-           " document.getElementById('lay').click(); return told.textContent })")
+    put = ("((...all) => { all.forEach((it, k) => { "
+           "document.getElementById('corner-' + k).value = it }); "
+           "document.getElementById('lay').click(); return told.textContent })")
     is_(page.js(put + "('55, -4', '55, -3', '91, 0')"),
         "sheet.png: a corner is written as 54.5, -3.6, and not as 91, 0")
     is_(page.js(put + "('55, -4', '55, -3', '55, -2')"),
@@ -300,7 +302,8 @@ def test_units(page, folder):
     page.wait("document.querySelector('#things .where').textContent === '54.5000, -3.5000'")
     box = page.js("(aprsbook.page.map.look('54.5,-3.5,10'), aprsbook.page.map.paint(), "
                   "document.getElementById('map').scrollIntoView({ block: 'center' }), "
-                  "measure.click(), document.getElementById('map').getBoundingClientRect().toJSON())")
+                  "measure.click(), "
+                  "document.getElementById('map').getBoundingClientRect().toJSON())")
     middle = box["x"] + box["width"] / 2, box["y"] + box["height"] / 2
     click(page, *middle)
     click(page, middle[0] + 100, middle[1])
@@ -368,12 +371,14 @@ def test_brought(page, folder):
            "<Placemark><LineString><coordinates>-3.5,54.5 -3.4,54.6</coordinates></LineString>"
            "</Placemark></Document></kml>")
     fresh(page, folder)
-    give(page, folder, {"a.log": log(3), "course.kml": kml,
-                        "who.csv": "\ufeffnumber;callsign;name\r\n1;Q1A-2;\"The; leader\"\r\n2;not a call;x\r\n"})
+    who = "\ufeffnumber;callsign;name\r\n1;Q1A-2;\"The; leader\"\r\n2;not a call;x\r\n"
+    give(page, folder, {"a.log": log(3), "course.kml": kml, "who.csv": who})
     page.wait(MADE)
     told = page.js("told.textContent")
-    assert "course.kml: a map" in told and "who.csv: 1 call, line 3: not a call is no call" in told, told
-    is_(page.js("aprsbook.page.map.bases.map(it => [it.lines.length, it.points.map(one => one.name)])"),
+    for it in "course.kml: a map", "who.csv: 1 call, line 3: not a call is no call":
+        assert it in told, told
+    is_(page.js("aprsbook.page.map.bases.map(it => "
+                "[it.lines.length, it.points.map(one => one.name)])"),
         [[1, ["pier"]]])
     page.wait("[...document.querySelectorAll('#things th bdi')].some(it => "
               "it.textContent === 'The; leader (Q1A-2)')")
@@ -562,7 +567,8 @@ def test_followed(page, folder):
     assert more["b.log"].startswith("the server answers 500, since 20"), more
     assert "1 line left out" in more["c.log"], more
     is_(more["d.log"], "no longer on the list; what was read of it stays")
-    is_(sorted(page.js("aprsbook.page.net.receivers.map(it => it.name)")), ["RX0", "RX1", "RX2", "RX3"])
+    is_(sorted(page.js("aprsbook.page.net.receivers.map(it => it.name)")),
+        ["RX0", "RX1", "RX2", "RX3"])
     fail["logs.txt"] = 503
     follow_until(page, "stale.textContent.startsWith('logs.txt: the server answers 503, since 20')")
     hang.clear()
@@ -592,17 +598,8 @@ def square():
 
 
 SQUARE = square()
-TESTS = (test_damaged, test_strangers, test_windows, test_names, test_folders, test_archives,
-         test_sheet, test_units, test_edge, test_turns, test_brought, test_clock, test_followed, test_example, test_own_lines, test_new)
 
 if __name__ == "__main__":
-    page = browser.Browser()
-    try:
-        for test in TESTS:
-            with tempfile.TemporaryDirectory() as name:
-                test(page, pathlib.Path(name))
-                print(test.__name__, flush=True)
-    finally:
-        page.close()
+    trying.run(browser.Browser, trying.tests_in(globals()))
     print("the page that reads logs, by itself: what files are, damaged lines, Windows, folders, "
           "logs that are followed")
