@@ -32,8 +32,8 @@ export function nearIn(tracks) {
   return places;
 }
 /**
- * A box around places that is twice as high and three times as wide, as a window is; null where
- * that is too wide.
+ * A box around places that is three times as wide and as high, for any window; null where that is
+ * too wide.
  * @param {{ north: number, east: number }[]} places
  * @returns {Box | null}
  */
@@ -46,7 +46,7 @@ export function boxAround(places) {
   const norths = places.map(it => it.north), low = least(norths), high = most(norths);
   const west = least(east), right = most(east), level = Math.cos((low + high) / 2 * RADIAN);
   const side = Math.max(high - low, (right - west) * level, LEAST);
-  const up = side - (high - low) / 2, beside = 1.5 * side / level - (right - west) / 2;
+  const up = 1.5 * side - (high - low) / 2, beside = 1.5 * side / level - (right - west) / 2;
   const box = { south: low - up, north: high + up, west: west - beside, east: right + beside };
   const span = Math.max((box.east - box.west) * level, box.north - box.south);
   return span > MOST_SPAN || Math.max(-box.south, box.north) > MOST_NORTH ? null : box;

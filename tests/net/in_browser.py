@@ -597,7 +597,8 @@ def test_shore(page, folder):
     for spot, colour, said in (("54.513,-3.62,20", "land", ""), ("54.5,-3.68,20", "sheet", ""),
                                ("54.513,-3.62,200", "sheet", "rough coast")):
         got = page.js("(() => { const { map } = aprsbook.page, wrote = [], "
-                      f"write = map.pen.fillText; map.things = []; map.look('{spot}'); map.pen.fillText = (...it) => {{ "
+                      "write = map.pen.fillText; map.things = []; "
+                      f"map.look('{spot}'); map.pen.fillText = (...it) => {{ "
                       "wrote.push(it[0]); write.apply(map.pen, it) }; "
                       "map.paint(); map.pen.fillText = write; "
                       "const at = map.pen.getImageData(map.canvas.width / 2 + 3, "

@@ -29,8 +29,8 @@ MADE = "aprsfiles.made() !== null"
 ROWS = "aprsbook.page.all.rows.length"
 # the colour of the map beside its middle
 BESIDE_MIDDLE = ("(() => { const { map } = aprsbook.page, { width, height } = map.canvas; "
-                 "map.paint(); return map.pen.getImageData(width / 3, height / 3, 1, 1).data.slice(0, 3).join() "
-                 "})()")
+                 "map.paint(); return map.pen.getImageData(width / 3, height / 3, 1, 1)"
+                 ".data.slice(0, 3).join() })()")
 EMPTY_MODULE = b"\0asm\1\0\0\0"
 
 
@@ -239,8 +239,8 @@ def test_archives(page, folder):
     (folder / "a.log").write_text(log(3))
     page.give("#choose", *[folder / name for name in ("a.log", "map.mbtiles", "other.db")])
     page.wait(MADE)
-    is_(page.js(TOLD)["other.db"], "is a database (SQLite), which no log is, and can\u2019t be drawn "
-        "as a map: it has no table of tiles")
+    is_(page.js(TOLD)["other.db"], "is a database (SQLite), which no log is, and can\u2019t be "
+        "drawn as a map: it has no table of tiles")
     is_(sorted(page.js(TOLD)), ["a.log", "other.db"])
     is_red(page, "Own map: map.mbtiles.")
     page.js("document.getElementById('away').click()")

@@ -13,7 +13,7 @@ from aprsbook_tools.rings import Box, Line, Point, packed, rings_of, simpler_rin
 
 UNIT = 10_000  # so many are a degree
 # the data, the finest first, by how many metres they may be off, and the packages of Debian
-FINENESS = {"f": 80, "h": 200}
+FINENESS = {"f": 70, "h": 200}
 PACKAGES = "gmt gmt-gshhg-high"
 # what spans more degrees of latitude is no event, and what is so far north no map of GMT's
 MOST_DEGREES, MOST_NORTH = 6.0, 85.0
@@ -35,8 +35,8 @@ def near(spots: Sequence[Spot]) -> List[Spot]:
 
 
 def box_around(spots: Sequence[Spot]) -> Optional[Box]:
-    """A box around most of these places that is twice as high and three times as wide, as a window
-    is, or None where that is too wide. Its east may lie beyond 180 degrees."""
+    """A box around most of these places that is three times as wide and as high, for any window, or
+    None where that is too wide. Its east may lie beyond 180 degrees."""
     spots = near(spots)
     if not spots:
         return None
@@ -48,7 +48,7 @@ def box_around(spots: Sequence[Spot]) -> Optional[Box]:
         return None
     level = math.cos(math.radians((low + high) / 2))
     side = max(high - low, (right - west) * level, LEAST_MARGIN)
-    above, beside = side - (high - low) / 2, (1.5 * side - (right - west) * level / 2) / level
+    above, beside = 1.5 * side - (high - low) / 2, 1.5 * side / level - (right - west) / 2
     box = Box(*(round(it * UNIT) for it in (west - beside, low - above, right + beside,
                                             high + above)))
     wide = max((box.east - box.west) * level, box.north - box.south) > MOST_DEGREES * UNIT
