@@ -6,7 +6,7 @@ import { isoText, said } from "./words.js";
 
 /** @typedef {import("./net.js").Net} Net */
 /** @typedef {import("./net.js").Thing} Thing */
-/** @typedef {import("./reading.js").Place} Place */
+/** @typedef {import("./rows.js").Place} Place */
 /** @typedef {import("./ownlines.js").Line} Line */
 /** @typedef {Generator<string>} Pieces of a text */
 /** @typedef {[number, number]} Spot east and north, in degrees */

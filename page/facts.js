@@ -3,7 +3,7 @@
 
 import { weatherWords } from "./details.js";
 import { momentOf } from "./dom.js";
-import { detailsOf } from "./reading.js";
+import { detailsOf } from "./rows.js";
 
 /** @typedef {import("./net.js").Thing} Thing */
 /** @typedef {import("./telemetry.js").Channel} Channel */

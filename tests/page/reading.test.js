@@ -1,6 +1,6 @@
 import assert from "node:assert/strict";
 import { test } from "node:test";
-import { detailsOf, readMessages } from "../../page/reading.js";
+import { detailsOf, readMessages } from "../../page/rows.js";
 import { wordsOf } from "../../page/details.js";
 import { COLUMNS, message, moment, netOfLines, place, row, rowsOf, table, thing } from "./tables.js";
 

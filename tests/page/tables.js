@@ -1,7 +1,8 @@
 // Tables by hand, for the tests of the page's parts.
 import { atOnce } from "../../page/steps.js";
 import { netOf, rank } from "../../page/net.js";
-import { columnsOf, readMessages, Rows } from "../../page/reading.js";
+import { columnsOf } from "../../page/reading.js";
+import { readMessages, Rows } from "../../page/rows.js";
 
 export const COLUMNS = ("kind first last receivers receiver source destination via gate name state " +
   "id latitude longitude ambiguity compressed symbol stamp course speed_knots altitude_m wind_from " +
