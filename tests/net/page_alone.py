@@ -15,6 +15,7 @@ import time
 
 import browser
 import hostile
+import scale
 import trying
 from by_hand import together
 from serving import Server
@@ -477,6 +478,49 @@ def test_own_lines(page, folder):
     page.js("document.getElementById('ics-open').click()")
     is_(page.js(LOGGED), ["by <b>voice</b>", "=1+1"])
     page.js("(localStorage.clear(), 1)")
+
+
+LONGEST = """(() => { window.task = 0;
+    new PerformanceObserver(list => list.getEntries().forEach(it => {
+        window.task = Math.max(window.task, it.duration) })).observe({ type: 'longtask' });
+    return 1 })()"""
+
+
+def test_saves(page, folder):
+    """No save of a large net stops the page, and the page of the event is whole."""
+    fresh(page, folder)
+    give(page, folder, {"a.log": log(3)})
+    page.wait(MADE)
+    page.js("(async () => { const { page, show } = aprsbook, { rows } = page.data; "
+            "const at = rows.indexOf('\\n') + 1; "
+            "const many = rows.slice(0, at) + rows.slice(at).repeat(40000); "
+            "await show({ ...page.data, rows: many }) })()")
+    # all lists wait their turn
+    time.sleep(2)
+    page.saves_in(folder)
+    names = {"event": "event.html", "places and tracks (GPX)": "net.gpx",
+             "places and tracks (GeoJSON)": "net.geojson", "table (TSV)": "table.tsv"}
+
+    def measure():
+        page.js(LONGEST)
+        tasks = {}
+        for name, file in names.items():
+            (folder / file).unlink(missing_ok=True)
+            page.js("(task = 0, [...document.querySelectorAll('#saves button')].find(it => "
+                    f"it.id === '{name}' || it.textContent === '{name}').click(), 1)")
+            for _ in range(600):
+                if (folder / file).exists():
+                    break
+                time.sleep(0.05)
+            time.sleep(0.3)
+            tasks[file] = page.js("task")
+        return tasks
+
+    scale.judged(measure, dict.fromkeys(names.values(), 150), "saves of 120,000 rows, longest task")
+    saved = (folder / "event.html").read_text(encoding="utf-8")
+    data = json.loads(saved.partition('id="data">')[2].partition("</script>")[0])
+    is_(data["rows"].count("\n"), 120_001)
+    is_(page.js("aprsfiles.eventPage().length"), len(saved))
 
 
 def test_new(page, folder):
