@@ -106,6 +106,31 @@ def test_contained(page, folder):
     heights = page.js("[...document.querySelectorAll('#things tbody tr')]"
                       ".map(it => it.clientHeight)")
     assert max(heights) - min(heights) <= 2, heights
+    # nor does a name of the roster run over what is beside it
+    roster = "Q1A0 Runner 118\nQ1A1 The sweeper\nQ1A2 Medical\n"
+    for width in 360, 700, 820, 1000, 1280, 1600:
+        page.open(page_of(folder / "names.html", "".join(lines[:3]), roster=roster), width, 900)
+        is_((width, page.js("[...document.querySelectorAll('#things :is(td, th)')].filter(it => "
+                            "it.scrollWidth > it.clientWidth + 1).map(it => it.textContent)")),
+            (width, []))
+
+
+def test_edges(page, folder):
+    """On a map that became another size all names are whole."""
+    rows = "".join(place(k, f"Q1LONG-{k}", 54.5 + k / 100, -3.5 + k % 2 / 50) for k in range(8))
+    url = page_of(folder / "edges.html", rows, roster="Q1LONG-* A long name of it\n")
+    page.open(url, 1280, 900)
+    for width in 1280, 700, 820, 360:
+        page.call("Emulation.setDeviceMetricsOverride", width=width, height=900,
+                  deviceScaleFactor=1, mobile=False)
+        page.settle()
+        cut = page.js("(() => { const { map } = aprsbook.page, { pen } = map, "
+                      "{ width } = map.view, write = pen.fillText, cut = []; "
+                      "pen.fillText = (text, x, y) => { "
+                      "if (x < 0 || x + pen.measureText(text).width > width + 1) cut.push(text); "
+                      "write.call(pen, text, x, y) }; map.paint(); pen.fillText = write; "
+                      "return cut })()")
+        is_((width, [it for it in cut if "Q1" in it]), (width, []))
 
 
 def test_controls(page, folder):
