@@ -1,8 +1,9 @@
 #!/usr/bin/env python3
-"""Tries what the page that reads logs does by itself, in headless Chromium: what files are, damaged
-lines, Windows' spellings, folders, logs that are followed. The module is a stand-in.
+"""Tries what the page that reads logs does by itself, in each browser that is there: what files
+are, damaged lines, Windows' spellings, folders, logs that are followed. The module is a stand-in.
 
-usage: page_alone.py [PICTURES]    needs Python 3 and chromium; PICTURES is a folder for pictures
+usage: page_alone.py [PICTURES]    needs Python 3, and chromium or firefox; PICTURES is a folder for
+                                   pictures
 """
 import contextlib
 import http.server
@@ -13,7 +14,6 @@ import sys
 import threading
 import time
 
-import browser
 import hostile
 import scale
 import trying
@@ -150,6 +150,7 @@ def drop(page, *paths):
         page.call("Input.dispatchDragEvent", type=kind, x=300, y=130, data=data)
 
 
+@trying.in_chromium
 def test_folders(page, folder):
     """Files in dropped folders are read, and squares of a web map are drawn below all else."""
     (folder / "logs/day").mkdir(parents=True)
@@ -285,6 +286,7 @@ def click(page, x, y, kind="mouse"):
                   clickCount=1, pointerType=kind)
 
 
+@trying.in_chromium
 def test_units(page, folder):
     """Miles and the form of places are kept by the browser; a line is measured by clicks."""
     text = "/036/A=001000"
@@ -315,6 +317,7 @@ def test_units(page, folder):
     is_(page.js("[way.textContent, measure.getAttribute('aria-pressed')]"), ["", "false"])
 
 
+@trying.in_chromium
 def test_edge(page, folder):
     """The edge of the map is dragged, by keys too; on a wide screen lists stand beside."""
     fresh(page, folder)
@@ -398,9 +401,8 @@ def test_clock(page, folder):
     is_(page.js("aprsbook.page.data.notes"), ["the clock of COAST was put 60 min back here"])
     page.wait("document.querySelector('#receivers .clock')?.textContent === 'leave as it was'")
     assert "put 60 min back here" in page.js(MORE)["coast.log"]
-    page.saves_in(folder)
+    path = page.saves_in(folder) / "coast.put-right.log"
     page.js("document.querySelector('#files .moved').click()")
-    path = folder / "coast.put-right.log"
     for _ in range(100):
         if path.exists() and path.read_text().startswith("2024-06-21T18:00:00.000Z COAST"):
             break
@@ -486,6 +488,7 @@ LONGEST = """(() => { window.task = 0;
     return 1 })()"""
 
 
+@trying.in_chromium
 def test_saves(page, folder):
     """No save of a large net stops the page, and the page of the event is whole."""
     fresh(page, folder)
@@ -624,7 +627,7 @@ def test_followed(page, folder):
 
 def picture(page, name):
     if PICTURES:
-        page.picture(f"{PICTURES}/{name}.png")
+        page.picture(f"{PICTURES}/{page.name}-{name}.png")
 
 
 def square():
@@ -644,6 +647,7 @@ def square():
 SQUARE = square()
 
 if __name__ == "__main__":
-    trying.run(browser.Browser, trying.tests_in(globals()))
+    for kind in trying.browsers():
+        trying.run(kind, trying.tests_in(globals()))
     print("the page that reads logs, by itself: what files are, damaged lines, Windows, folders, "
           "logs that are followed")

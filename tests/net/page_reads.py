@@ -20,8 +20,6 @@ import subprocess
 import sys
 import time
 
-import browser
-import firefox
 import hostile
 import scale
 import trying
@@ -100,8 +98,7 @@ HEAR_RUNS = """(() => {
 def quiet(page):
     """Nothing was asked of any server, and no message was written, where the browser says so."""
     is_([it for it in page.requests() if not it.startswith(("blob:", "file:"))], [])
-    if hasattr(page, "problems"):
-        is_(page.problems(), [])
+    is_(page.problems(), [])
 
 
 def test_same(page, _):
@@ -629,10 +626,7 @@ def picture(page, name):
         page.picture(f"{PICTURES}/{page.name}-{name}.png")
 
 
-for kind, names in ((browser.Browser, ["chromium"]), (firefox.Firefox, ["firefox-esr", "firefox"])):
-    if any(map(shutil.which, names)):
-        trying.run(kind, trying.tests_in(globals()))
-        print(f"the page that reads logs, in {kind.name}: the program's bytes, faults named, "
-              "nothing ran, no request elsewhere, logs that grow")
-    else:
-        print(f"left out: the page that reads logs in {kind.name} (it isn't there)")
+for kind in trying.browsers():
+    trying.run(kind, trying.tests_in(globals()))
+    print(f"the page that reads logs, in {kind.name}: the program's bytes, faults named, nothing "
+          "ran, no request elsewhere, logs that grow")

@@ -18,7 +18,7 @@ with() {
 with 'python3 aprsbook-history' event_page.py "$examples"
 with 'python3 aprsbook-history chromium' in_browser.py "$examples"
 with 'python3 aprsbook-history firefox-esr' in_firefox.py "$examples"
-with 'python3 chromium' page_alone.py
+with 'python3' page_alone.py
 if [ -f "$page" ]; then
     with 'python3 aprsbook-history' page_reads.py "$page" "$examples"
 else

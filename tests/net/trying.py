@@ -1,10 +1,32 @@
-"""Runs the tests of a file: all of its functions whose names begin with test_, in their order, each
-in a browser and a folder. One that fails is told, and the others go on."""
+"""Runs the tests of a file: all of its functions whose names begin with test_, in their order, in
+one browser and each in a folder of its own. One that fails is told, and the others go on."""
 import os
 import pathlib
+import shutil
 import sys
 import tempfile
 import traceback
+
+import browser
+import firefox
+
+
+def browsers():
+    """The kinds of browsers that are there; says which isn't."""
+    there = []
+    for kind, programs in ((browser.Browser, ["chromium"]),
+                           (firefox.Firefox, ["firefox-esr", "firefox"])):
+        if any(map(shutil.which, programs)):
+            there.append(kind)
+        else:
+            print(f"left out: the page in {kind.name} (it isn't there)")
+    return there
+
+
+def in_chromium(test):
+    """Marks a test that needs what only Chromium's protocol has."""
+    test.needs = "Chromium"
+    return test
 
 
 def tests_in(names):
@@ -16,10 +38,13 @@ def tests_in(names):
 
 def run(kind, tests):
     """Runs tests in a browser of this kind; ends the program where one fails."""
-    failed = []
+    failed, count = [], 0
     page = kind()
     try:
         for test in tests:
+            if getattr(test, "needs", kind.name) != kind.name:
+                continue
+            count += 1
             with tempfile.TemporaryDirectory() as folder:
                 try:
                     test(page, pathlib.Path(folder))
@@ -29,5 +54,5 @@ def run(kind, tests):
     finally:
         page.close()
     if failed:
-        sys.exit(f"{page.name}: {len(failed)} of {len(tests)} tests failed: {' '.join(failed)}")
-    print(f"{page.name}: {len(tests)} tests")
+        sys.exit(f"{kind.name}: {len(failed)} of {count} tests failed: {' '.join(failed)}")
+    print(f"{kind.name}: {count} tests", flush=True)
