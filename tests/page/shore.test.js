@@ -19,8 +19,9 @@ const SHORE = [10000, -40000, 540000, -30000, 550000, 80,
 const text = numbers => zlib.deflateSync(packed(numbers)).toString("base64");
 /** A pen that keeps what it is told. */
 function recorder() {
-  const told = [], names = "save restore beginPath moveTo lineTo closePath clip fill stroke setLineDash";
-  const pen = Object.fromEntries(names.split(" ").map(it => [it, (...of) => told.push([it, ...of])]));
+  const told = [], names =
+    "save restore beginPath moveTo lineTo closePath clip fill stroke setLineDash".split(" ");
+  const pen = Object.fromEntries(names.map(it => [it, (...of) => told.push([it, ...of])]));
   return { pen, told, of: name => told.filter(it => it[0] === name) };
 }
 const viewOf = (north, east, metres) => {
@@ -32,7 +33,8 @@ const viewOf = (north, east, metres) => {
 const COLOURS = { sheet: "sea", land: "land", shore: "line" };
 
 test("numbers are unpacked as they were packed", () => {
-  const numbers = [0, -1, 1, 63, 64, -64, -65, 2 ** 40, -(2 ** 40)], read = new Numbers(packed(numbers));
+  const numbers = [0, -1, 1, 63, 64, -64, -65, 2 ** 40, -(2 ** 40)];
+  const read = new Numbers(packed(numbers));
   assert.deepEqual(numbers.map(() => read.next()), numbers);
   assert.equal(read.at, read.bytes.length);
 });
@@ -43,7 +45,7 @@ test("a fine coast has its box, its rings, and which of their sides are no coast
   assert.ok(Math.abs(north - 54) < 1e-5 && Math.abs(east + 4) < 1e-5);
   assert.deepEqual(rings.map(it => it.isSide), [[false, true, true, true], [false, false, false]]);
 });
-test("a fine coast is taken once, also where another comes meanwhile, and is taken away", async () => {
+test("a fine coast is taken once, also where another comes, and is taken away", async () => {
   const shore = new Shore();
   assert.equal(await shore.read(text(SHORE)), true);
   assert.equal(await shore.read(text(SHORE)), false);
@@ -54,7 +56,7 @@ test("a fine coast is taken once, also where another comes meanwhile, and is tak
   assert.equal(shore.of, null);
   assert.equal(shore.paint(recorder().pen, viewOf(54.5, -3.5, 50), COLOURS), null);
 });
-test("a fine coast is drawn by how close one looks, and says so where it is all of the map", async () => {
+test("a fine coast is drawn by how close one looks, and says so as all of the map", async () => {
   const shore = new Shore();
   await shore.read(text(SHORE));
   const tried = view => {
