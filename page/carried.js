@@ -12,7 +12,7 @@ import { squaresOf } from "./tiles.js";
  * one is.
  * @typedef {{ squares: Record<string, string>, leftOut: number | null }} Carried
  */
-/** In degrees: the least side of a box before it is widened, how far north it lies, and its span. */
+/** Of a box, in degrees: its least side before it is widened, how far north it lies, its height. */
 const LEAST = 0.09, MOST_NORTH = 85, MOST_SPAN = 6;
 /** A level of more squares than these isn't looked through. */
 const MOST_SQUARES = 40000;
@@ -32,8 +32,8 @@ export function nearIn(tracks) {
   return places;
 }
 /**
- * A box around places that is twice as high and three times as wide, as a window is; null where that
- * is too wide.
+ * A box around places that is three times as wide and as high, for any window; null where that is
+ * too wide.
  * @param {{ north: number, east: number }[]} places
  * @returns {Box | null}
  */
@@ -46,9 +46,9 @@ export function boxAround(places) {
   const norths = places.map(it => it.north), low = least(norths), high = most(norths);
   const west = least(east), right = most(east), level = Math.cos((low + high) / 2 * RADIAN);
   const side = Math.max(high - low, (right - west) * level, LEAST);
-  const above = side - (high - low) / 2, beside = 1.5 * side / level - (right - west) / 2;
-  const box = { south: low - above, north: high + above, west: west - beside, east: right + beside };
-  const span = Math.max(box.east - box.west, box.north - box.south);
+  const up = 1.5 * side - (high - low) / 2, beside = 1.5 * side / level - (right - west) / 2;
+  const box = { south: low - up, north: high + up, west: west - beside, east: right + beside };
+  const span = Math.max((box.east - box.west) * level, box.north - box.south);
   return span > MOST_SPAN || Math.max(-box.south, box.north) > MOST_NORTH ? null : box;
 }
 /** @param {Uint8Array} bytes */

@@ -3,7 +3,7 @@
 
 import { each } from "./steps.js";
 
-/** @typedef {import("./reading.js").Rows} Rows */
+/** @typedef {import("./rows.js").Rows} Rows */
 /**
  * How far one clock is ahead of another, in seconds, by so many transmissions that both heard.
  * @typedef {{ a: string, b: string, by: number, of: number }} Pair

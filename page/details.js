@@ -4,7 +4,7 @@
 
 import { far, inWords } from "./units.js";
 
-/** @typedef {import("./reading.js").Details} Details */
+/** @typedef {import("./rows.js").Details} Details */
 /**
  * Digits of the minutes that were left out leave so many metres open to each side.
  * @type {Record<number, number>}

@@ -6,12 +6,13 @@ import {
   bring, bringGround, bringLines, byId, count, make, messageOf, page, printable, save, show,
   unpacked,
 } from "./drawn.js";
-import { eventPage, squaresWithin } from "./eventpage.js";
+import { eventPieces, squaresWithin } from "./eventpage.js";
 import { filesOf } from "./folders.js";
 import { drawFiles, files, notesOf, numberIn, shiftText } from "./inputs.js";
 import { asText, fileOf, look, placeOf, shifts, take } from "./intake.js";
 import { beginEarly, Refused, textsOf } from "./runs.js";
 import { movedIn } from "./shift.js";
+import { gathered, inSlices } from "./steps.js";
 import { squareOf } from "./tiles.js";
 import { aMoment, beginWorkers, run } from "./workers.js";
 
@@ -199,9 +200,11 @@ async function saveRun(command, name) {
 }
 /** Saves the page of the event, with as much of the reader's own map as it may have. */
 async function saveEvent() {
-  const most = byId("most").validity.valid ? +byId("most").value : 0;
+  const most = byId("most").validity.valid ? +byId("most").value : 0, now = made;
   const { squares, leftOut } = await squaresWithin(most), many = Object.keys(squares).length;
-  save("event.html", eventPage(squares), "text/html");
+  const pieces = await inSlices(gathered(eventPieces(squares)), () => made === now);
+  if (!pieces) return; // other files came
+  save("event.html", pieces, "text/html");
   if (!many && leftOut === null) return;
   say(`event.html has ${count(many, "square")} of the map` + (leftOut === null ? ""
     : `; level ${leftOut}, and what is finer, would be more than ${most} MB`));

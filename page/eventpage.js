@@ -6,6 +6,9 @@ import { contents } from "./contents.js";
 import { page, textOf } from "./drawn.js";
 import { rosterText } from "./roster.js";
 
+/** @typedef {Generator<string>} Pieces of a text */
+/** So many letters of a table are a piece. */
+const PIECE = 2 ** 20;
 const asData = (/** @type {unknown} */ value) => JSON.stringify(value)
   .replaceAll("&", "\\u0026").replaceAll("<", "\\u003c").replaceAll(">", "\\u003e");
 /** @type {Record<string, string>} */
@@ -35,10 +38,37 @@ function dataOf() {
   return data;
 }
 /**
- * The page of the event as a text, with these squares of a map.
- * @param {Record<string, string>} squares
+ * A table as data, whose letters are all of ASCII, so that it can be cut anywhere.
+ * @param {string} table
+ * @returns {Pieces}
  */
-export function eventPage(squares = {}) {
+function* tableAsData(table) {
+  yield '"';
+  for (let at = 0; at < table.length; at += PIECE)
+    yield asData(table.slice(at, at + PIECE)).slice(1, -1);
+  yield '"';
+}
+/**
+ * @param {object} data
+ * @returns {Pieces}
+ */
+function* dataPieces(data) {
+  let before = "{";
+  for (const [name, value] of Object.entries(data)) {
+    if (value === undefined) continue;
+    yield `${before}${asData(name)}:`;
+    if (name === "rows" || name === "messages") yield* tableAsData(value);
+    else yield asData(value);
+    before = ",";
+  }
+  yield "}";
+}
+/**
+ * The page of the event, with these squares of a map.
+ * @param {Record<string, string>} squares
+ * @returns {Pieces}
+ */
+export function* eventPieces(squares) {
   const { digests, shell } = contents, data = dataOf();
   if (Object.keys(squares).length) data.tiles = squares;
   /** @type {Record<string, string>} */
@@ -47,6 +77,13 @@ export function eventPage(squares = {}) {
     POLICY: `default-src 'none'; script-src ${digests.draws}; style-src ${digests.style}; ` +
       "base-uri 'none'; form-action 'none'",
     FILES: "", COAST: textOf("coast"), FOOTER: "Made by event-page from a book of aprsbook.",
-    DATA: asData(data), SCRIPTS: `<script>${textOf("draws")}<\/script>` };
-  return shell.replace(/@([A-Z]+)@/g, (_, /** @type {string} */ name) => values[name]);
+    SCRIPTS: `<script>${textOf("draws")}<\/script>` };
+  const [before, after] = shell.split("@DATA@").map(text =>
+    text.replace(/@([A-Z]+)@/g, (_, /** @type {string} */ name) => values[name]));
+  yield before;
+  yield* dataPieces(data);
+  yield after;
 }
+/** The page of the event as a text. */
+export const eventPage = (/** @type {Record<string, string>} */ squares = {}) =>
+  [...eventPieces(squares)].join("");

@@ -6,7 +6,7 @@ import { isoText, said } from "./words.js";
 
 /** @typedef {import("./net.js").Net} Net */
 /** @typedef {import("./net.js").Thing} Thing */
-/** @typedef {import("./reading.js").Place} Place */
+/** @typedef {import("./rows.js").Place} Place */
 /** @typedef {import("./ownlines.js").Line} Line */
 /** @typedef {Generator<string>} Pieces of a text */
 /** @typedef {[number, number]} Spot east and north, in degrees */
@@ -35,6 +35,17 @@ const placeRow = (it, at) => [it.kind, said(it.name), at.state, isoText(at.first
   at.receivers.join(" "), at.source, Number(decimal(at.north)), Number(decimal(at.east)),
   at.compressed ? "c" : at.ambiguity, at.table + at.code, valueOf(at.course), valueOf(at.knots),
   valueOf(at.metres), said(at.comment)];
+/** So many places are a piece. */
+const PART = 512;
+/**
+ * The places of a thing, some at a time.
+ * @param {Thing} thing
+ * @returns {Generator<Place[]>}
+ */
+function* partsOf(thing) {
+  for (let at = 0; at < thing.placedBy.length; at += PART)
+    yield thing.placedBy.slice(at, at + PART).map(k => /** @type {Place} */ (thing.placeAt(k)));
+}
 /**
  * Each place of each thing, as rows.
  * @param {Net} net
@@ -42,7 +53,8 @@ const placeRow = (it, at) => [it.kind, said(it.name), at.state, isoText(at.first
  */
 function* placesCsv({ placed }) {
   yield csvOf([COLUMNS]);
-  for (const it of placed) yield csvOf(it.places.map(at => placeRow(it, at)));
+  for (const it of placed)
+    for (const part of partsOf(it)) yield csvOf(part.map(at => placeRow(it, at)));
 }
 /** @param {Net} net @param {unknown} _ @param {Line[]} lines @returns {Pieces} */
 function* messagesCsv(net, _, lines) {
@@ -67,8 +79,28 @@ function segmentsOf(thing) {
   }
   return segments;
 }
-const hasMoved = (/** @type {Thing} */ { places }) =>
-  places.some(it => it.north !== places[0].north || it.east !== places[0].east);
+const hasMoved = (/** @type {Thing} */ { rows: { north, east }, placedBy: [first, ...others] }) =>
+  others.some(k => north[k] !== north[first] || east[k] !== east[first]);
+/**
+ * The runs of a thing's places as text, each but the last ended by a kill.
+ * @param {Thing} thing
+ * @param {{ open: string, close: string, between?: string }} marks of a run, and between two places
+ * @param {(place: Place) => string} textOf
+ * @returns {Pieces}
+ */
+function* runsOf(thing, { open, close, between = "" }, textOf) {
+  let isOpen = false;
+  for (const part of partsOf(thing)) {
+    let text = "";
+    for (const place of part) {
+      text += (isOpen ? between : open) + textOf(place);
+      isOpen = place.state !== "killed";
+      if (!isOpen) text += close;
+    }
+    yield text;
+  }
+  if (isOpen) yield close;
+}
 /** Where something now is, of what has a place. */
 const nowOf = (/** @type {Thing} */ it) => /** @type {Place} */ (it.now);
 
@@ -82,10 +114,12 @@ function* gpxOf({ placed }, { title }) {
   for (const it of placed)
     yield `<wpt ${at(nowOf(it))}>${time(nowOf(it))}<name>${markup(it.label)}</name>` +
       `<desc>${markup(said(nowOf(it).comment))}</desc><type>${it.kind}</type></wpt>\n`;
-  for (const it of placed)
-    yield hasMoved(it) ? `<trk><name>${markup(it.label)}</name>` + segmentsOf(it).map(run =>
-      "<trkseg>" + run.map(one => `<trkpt ${at(one)}>${time(one)}</trkpt>`).join("") + "</trkseg>")
-      .join("") + "</trk>\n" : "";
+  for (const it of placed.filter(hasMoved)) {
+    yield `<trk><name>${markup(it.label)}</name>`;
+    yield* runsOf(it, { open: "<trkseg>", close: "</trkseg>" },
+      one => `<trkpt ${at(one)}>${time(one)}</trkpt>`);
+    yield "</trk>\n";
+  }
   yield "</gpx>\n";
 }
 
@@ -116,11 +150,13 @@ function* featuresOf({ placed }) {
   const spot = it => [Number(decimal(it.east)), Number(decimal(it.north))];
   const feature = (/** @type {object} */ geometry, /** @type {object} */ properties) =>
     JSON.stringify({ type: "Feature", geometry, properties });
-  for (const it of placed)
-    yield it.places.map(at => feature({ type: "Point", coordinates: spot(at) }, { kind: it.kind,
-      name: it.label, state: at.state, first: isoText(at.first), last: isoText(at.last),
+  const pointOf = (/** @type {Thing} */ it, /** @type {Place} */ at) =>
+    feature({ type: "Point", coordinates: spot(at) }, { kind: it.kind, name: it.label,
+      state: at.state, first: isoText(at.first), last: isoText(at.last),
       receivers: at.receivers.join(), source: at.source, symbol: at.table + at.code,
-      comment: said(at.comment) })).join(",");
+      comment: said(at.comment) });
+  for (const it of placed)
+    for (const part of partsOf(it)) yield part.map(at => pointOf(it, at)).join(",");
   for (const it of placed) {
     const lines = hasMoved(it) ? segmentsOf(it).flatMap(run => cutAtDateLine(run.map(spot))) : [];
     yield lines.length ? feature({ type: "MultiLineString", coordinates: lines },
@@ -146,11 +182,12 @@ function* kmlOf({ placed }, { title }) {
       `<description>${markup(said(nowOf(it).comment))}</description>` +
       `<TimeStamp><when>${isoText(nowOf(it).first)}</when></TimeStamp>` +
       `<Point><coordinates>${spot(nowOf(it))}</coordinates></Point></Placemark>\n`;
-  for (const it of placed)
-    yield hasMoved(it) ? `<Placemark><name>${markup(it.label)} track</name><MultiGeometry>` +
-      segmentsOf(it).map(run => "<LineString><tessellate>1</tessellate><coordinates>" +
-        `${run.map(spot).join(" ")}</coordinates></LineString>`).join("") +
-      "</MultiGeometry></Placemark>\n" : "";
+  for (const it of placed.filter(hasMoved)) {
+    yield `<Placemark><name>${markup(it.label)} track</name><MultiGeometry>`;
+    yield* runsOf(it, { open: "<LineString><tessellate>1</tessellate><coordinates>",
+      close: "</coordinates></LineString>", between: " " }, spot);
+    yield "</MultiGeometry></Placemark>\n";
+  }
   yield "</Document></kml>\n";
 }
 /** @param {Net} net @param {{ rows: string }} data @returns {Pieces} */
@@ -181,16 +218,3 @@ export const SAVES = {
  */
 export const savedText = (name, net, data, lines = []) =>
   [...SAVES[name][2](net, data, lines)].join("");
-/**
- * The pieces of what can be saved, with pauses, so that the page doesn't stand still.
- * @param {Iterable<string>} pieces
- * @returns {import("./steps.js").Steps<string[]>}
- */
-export function* gathered(pieces) {
-  const all = [];
-  for (const it of pieces) {
-    all.push(it);
-    yield;
-  }
-  return all;
-}

@@ -3,7 +3,7 @@
 
 import { weatherWords } from "./details.js";
 import { momentOf } from "./dom.js";
-import { detailsOf } from "./reading.js";
+import { detailsOf } from "./rows.js";
 
 /** @typedef {import("./net.js").Thing} Thing */
 /** @typedef {import("./telemetry.js").Channel} Channel */
@@ -25,7 +25,8 @@ export function kindsOf(thing, picks) {
   return counts;
 }
 /**
- * Telemetry in words: each number as its channel has it, with its name and unit where they are said.
+ * Telemetry in words: each number as its channel has it, with its name and unit where they are
+ * said.
  * @param {Record<string, string>} it
  * @param {Channel[]} channels
  */

@@ -6,7 +6,7 @@ import { air, letters, make } from "./dom.js";
 import { cell, List, timeCell } from "./lists.js";
 import { said } from "./words.js";
 
-/** @typedef {import("./reading.js").Rows} Rows */
+/** @typedef {import("./rows.js").Rows} Rows */
 
 /** The columns that have a place of their own in the list, or say what others say too. */
 const SHOWN = new Set(["kind", "first", "last", "receivers", "receiver", "source", "destination",

@@ -7,7 +7,7 @@ import { channelsOf, isBattery } from "./telemetry.js";
 import { unitOf } from "./units.js";
 import { timeText } from "./words.js";
 
-/** @typedef {import("./reading.js").Rows} Rows */
+/** @typedef {import("./rows.js").Rows} Rows */
 /** @typedef {import("./telemetry.js").Channel} Channel */
 /** @typedef {{ at: number, value: number }} Point a moment in seconds, and what was measured */
 /** @typedef {{ title: string, unit: string, lines: Point[][] }} Graph a line for each column */

@@ -7,7 +7,7 @@ import { isBulletin } from "./net.js";
 import { who } from "./roster.js";
 import { clocks, fullText, printable, said, zoneText } from "./words.js";
 
-/** @typedef {import("./reading.js").Message} Message */
+/** @typedef {import("./rows.js").Message} Message */
 /** @typedef {import("./ownlines.js").Line} Line */
 /**
  * An entry of the log: its number in it, a moment, from whom to whom, the message's number, what it

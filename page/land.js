@@ -9,8 +9,13 @@ import { RADIUS, vectorOf } from "./globe.js";
  * @typedef {{ line: Float32Array, places: Int32Array, middle: number[], wide: number }} Ring
  */
 
-/** Of fewer metres for a pixel the coast is a line that is said to be rough, and then nothing. */
-const ROUGH = 100, NONE = 10;
+/** A coast that may be off by more pixels than these is a line, and said to be rough. */
+export const MOST_OFF = 8;
+/**
+ * Of fewer metres for a pixel the coast is a line that is said to be rough, and then nothing. A
+ * tenth of it is off by more than 2.3 km.
+ */
+const ROUGH = 2300 / MOST_OFF, NONE = 10;
 /** What is said of a coast that is drawn closer than its data are. */
 export const ROUGH_COAST = "rough coast";
 

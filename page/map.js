@@ -136,6 +136,8 @@ export class NetMap extends Shown {
     Object.assign(this.view, { width, height });
     Object.assign(this.sides, { width, height });
     if (this.fitted) this.fit(this.isAll);
+    // of another size, names may stand half beside it
+    this.sides.by.clear();
     // at first there is much else to do before the next picture
     if (isFirst) this.paintSoon();
     else this.paint();

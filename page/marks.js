@@ -7,7 +7,7 @@ import { pathOf, symbolOf } from "./symbols.js";
 import { byColour } from "./tracks.js";
 
 /** @typedef {import("./net.js").Thing} Thing */
-/** @typedef {import("./reading.js").Place} Place */
+/** @typedef {import("./rows.js").Place} Place */
 /** @typedef {{ thing: Thing, place: Place, picked: boolean, colour: string, x: number,
  *   y: number }} Mark */
 

@@ -3,14 +3,15 @@
 
 import { clocksOf, pairsOf } from "./clocks.js";
 import { vectorOf } from "./globe.js";
-import { kindIn, nameIn, URGENT } from "./reading.js";
+import { URGENT } from "./reading.js";
+import { kindIn, nameIn } from "./rows.js";
 import { each } from "./steps.js";
 import { colourOf } from "./symbols.js";
 import { byLetters, said } from "./words.js";
 
-/** @typedef {import("./reading.js").Rows} Rows */
-/** @typedef {import("./reading.js").Place} Place */
-/** @typedef {import("./reading.js").Message} Message */
+/** @typedef {import("./rows.js").Rows} Rows */
+/** @typedef {import("./rows.js").Place} Place */
+/** @typedef {import("./rows.js").Message} Message */
 /** @typedef {import("./clocks.js").Clock} Clock */
 /** @typedef {ArrayLike<number>} Picks numbers of rows */
 /** @typedef {{ rows: Rows, messages: Message[], end: number }} All what was read of the tables */

@@ -17,7 +17,7 @@ import { channelsOf } from "./telemetry.js";
 import { far } from "./units.js";
 
 /** @typedef {import("./net.js").Thing} Thing */
-/** @typedef {import("./reading.js").Place} Place */
+/** @typedef {import("./rows.js").Place} Place */
 /** @typedef {import("./facts.js").Fact} Fact */
 
 const thingOf = (/** @type {string | null} */ key) => page.net.things.find(it => it.key === key);

@@ -234,13 +234,14 @@ export class Picture {
    * @param {boolean} small
    */
   name({ thing, place, picked, x, y }, room, reach, small) {
-    const { map, colours, writer } = this, isWanted = picked || thing.urgent !== "";
-    const width = writer.widthOf(thing.label, isWanted) + 2, isRinged = !small && thing.urgent !== "";
+    const { map, colours, writer } = this, isUrgent = thing.urgent !== "";
+    const isWanted = picked || isUrgent, isRinged = isUrgent && !small;
+    const width = writer.widthOf(thing.label, isWanted) + 2;
     const spot = map.sides.place(thing.key, { x, y },
       { width, reach: isRinged ? RING : reach, isWanted }, room);
     if (!spot) return;
     const colour = place.state === "killed" ? colours.soft
-      : thing.urgent ? colours.bad : colours.ink;
+      : isUrgent ? colours.bad : colours.ink;
     if (small && !isWanted) writer.writeOnSheet(thing.label, spot.left, spot.base, colour);
     else writer.write(thing.label, spot.left, spot.base, colour, 12, isWanted);
   }

@@ -2,9 +2,9 @@
 // The menu of what can be saved.
 
 import { byId, make, save } from "./dom.js";
-import { gathered, SAVES } from "./exports.js";
+import { SAVES } from "./exports.js";
 import { page, tell } from "./state.js";
-import { inSlices } from "./steps.js";
+import { gathered, inSlices } from "./steps.js";
 
 export function drawSaves() {
   byId("saves").lastElementChild?.replaceChildren(...Object.keys(SAVES).map(name =>

@@ -3,7 +3,7 @@
 // above the coast of the world.
 
 import { RADIUS, vectorOf } from "./globe.js";
-import { Numbers, ROUGH_COAST, unpacked } from "./land.js";
+import { MOST_OFF, Numbers, ROUGH_COAST, unpacked } from "./land.js";
 
 /** @typedef {import("./globe.js").Projection} Projection */
 /**
@@ -11,8 +11,13 @@ import { Numbers, ROUGH_COAST, unpacked } from "./land.js";
  * @typedef {{ line: Float32Array, isSide: boolean[] }} Ring
  */
 
-/** Of fewer metres for a pixel this coast is a line that is said to be rough, and then nothing. */
-const ROUGH = 10, NONE = 2;
+/**
+ * A coast within a box, and by how many metres it may be off.
+ * @typedef {{ box: Float32Array, off: number, rings: Ring[] }} Within
+ */
+
+/** A coast that may be off by more pixels than these isn't drawn. */
+const NONE_OFF = 5 * MOST_OFF;
 /** So many steps has a side of the box, as the tool writes it. */
 const STEPS = 16;
 
@@ -28,12 +33,13 @@ function vectorsOf(places, unit) {
   return line;
 }
 /**
- * What packed bytes have: numbers for a degree, the box, and its rings.
+ * What packed bytes have: numbers for a degree, the box, the metres that it may be off, and rings.
  * @param {Uint8Array} bytes
+ * @returns {Within}
  */
 export function shoreOf(bytes) {
   const numbers = new Numbers(bytes);
-  const [unit, west, south, east, north] = Array.from({ length: 5 }, () => numbers.next());
+  const [unit, west, south, east, north, off] = Array.from({ length: 6 }, () => numbers.next());
   const along = (/** @type {number} */ a, /** @type {number} */ b, /** @type {number} */ k) =>
     a + (b - a) * k / STEPS;
   const steps = Array.from({ length: STEPS }, (_, k) => k);
@@ -49,13 +55,13 @@ export function shoreOf(bytes) {
     });
     return { line: vectorsOf(places, unit), isSide };
   });
-  return { box: vectorsOf(around, unit), rings };
+  return { box: vectorsOf(around, unit), off, rings };
 }
 
 export class Shore {
   constructor() {
     this.text = "";
-    /** @type {{ box: Float32Array, rings: Ring[] } | null} */
+    /** @type {Within | null} */
     this.of = null;
   }
   /**
@@ -78,8 +84,9 @@ export class Shore {
    */
   paint(pen, view, colours) {
     if (!this.of) return null;
-    const pixel = RADIUS / view.scale;
     const { box, rings } = this.of, corners = spotsOf(view, box);
+    // in pixels
+    const off = this.of.off * view.scale / RADIUS, isDrawn = off <= NONE_OFF;
     if (!view.put(box) || !isNear(view, corners)) return null;
     const isAll = isAround(view, corners);
     pen.save();
@@ -89,10 +96,10 @@ export class Shore {
     pen.fillStyle = colours.sheet;
     pen.fill();
     Object.assign(pen, { fillStyle: colours.land, strokeStyle: colours.shore, lineWidth: 0.8 });
-    if (pixel >= NONE) paintRings(pen, view, rings, pixel < ROUGH);
+    if (isDrawn) paintRings(pen, view, rings, off > MOST_OFF);
     pen.restore();
     if (!isAll) return null;
-    return pixel < ROUGH && pixel >= NONE ? ROUGH_COAST : "";
+    return off > MOST_OFF && isDrawn ? ROUGH_COAST : "";
   }
 }
 /**

@@ -8,7 +8,7 @@ import { Alarm } from "./sound.js";
 
 /** @typedef {import("./lists.js").List<string>} Texts */
 /** @typedef {import("./net.js").Thing} Thing */
-/** @typedef {import("./reading.js").Message} Message */
+/** @typedef {import("./rows.js").Message} Message */
 /** @typedef {import("./roster.js").Roster} Roster */
 /**
  * What a page is made of: its title; the gap in seconds and the silence in minutes; after how many
@@ -34,7 +34,7 @@ import { Alarm } from "./sound.js";
  * The lists of the page; the last three are made anew for each net.
  * @typedef {{ messages: import("./lists.js").List<Message>,
  *   bulletins: import("./lists.js").List<Message>, things: import("./lists.js").List<Thing>,
- *   places: import("./lists.js").List<import("./reading.js").Place>,
+ *   places: import("./lists.js").List<import("./rows.js").Place>,
  *   frames: import("./lists.js").List<number>,
  *   receivers: import("./lists.js").List<import("./net.js").Receiver>,
  *   roster: import("./lists.js").List<import("./tables.js").Waited>,

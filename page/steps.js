@@ -33,6 +33,19 @@ export function* once(run) {
   run();
 }
 /**
+ * The pieces of a text, with pauses, so that the page doesn't stand still.
+ * @param {Iterable<string>} pieces
+ * @returns {Steps<string[]>}
+ */
+export function* gathered(pieces) {
+  const all = [];
+  for (const it of pieces) {
+    all.push(it);
+    yield;
+  }
+  return all;
+}
+/**
  * Takes all steps, and gives what they come to.
  * @template T
  * @param {Steps<T>} steps

@@ -99,7 +99,7 @@ export function colourOf(name) {
 /**
  * A thing's mark for a table: its symbol in the colour of its track.
  * @param {import("./net.js").Thing} thing
- * @param {import("./reading.js").Place} place
+ * @param {import("./rows.js").Place} place
  */
 export function markOf(thing, place) {
   const shape = thing.killed ? "x" : symbolOf(place).shape;

@@ -12,7 +12,7 @@ import { printable, said } from "./words.js";
 
 /** @typedef {import("./net.js").Thing} Thing */
 /** @typedef {import("./net.js").Receiver} Receiver */
-/** @typedef {import("./reading.js").Place} Place */
+/** @typedef {import("./rows.js").Place} Place */
 /** @typedef {import("./roster.js").Expected & { last: number }} Waited whom one waits for */
 /**
  * How a receiver's clock is put right: by how much it was, whether it can be, and what does so.

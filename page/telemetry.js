@@ -1,6 +1,6 @@
 // @ts-check
-// What a station's telemetry means: the names, units and equations of its channels. Messages to that
-// station say them (APRS Protocol Reference 1.0.1, chapter 13).
+// What a station's telemetry means: the names, units and equations of its channels. Messages to
+// that station say them (APRS Protocol Reference 1.0.1, chapter 13).
 
 import { said } from "./words.js";
 
@@ -28,13 +28,14 @@ function fieldsOf(messages, call, begin) {
   return last ? said(last.text.slice(begin.length)).split(",").map(it => it.trim()) : [];
 }
 /**
- * An equation of three coefficients, for the square, the number itself and the rest; null where they
- * are none.
+ * An equation of three coefficients, for the square, the number itself and the rest; null where
+ * they are none.
  * @param {string[]} texts
  */
 function equationOf(texts) {
   const [a, b, c] = texts.map(it => it === "" ? NaN : Number(it));
-  return [a, b, c].every(Number.isFinite) ? (/** @type {number} */ n) => a * n * n + b * n + c : null;
+  if (![a, b, c].every(Number.isFinite)) return null;
+  return (/** @type {number} */ n) => a * n * n + b * n + c;
 }
 /**
  * The channels of a station, as messages name them.

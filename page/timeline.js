@@ -3,7 +3,7 @@
 
 import { make, svg } from "./dom.js";
 import { cell, List } from "./lists.js";
-import { nameIn } from "./reading.js";
+import { nameIn } from "./rows.js";
 import { each } from "./steps.js";
 import { count, dateText, hourText } from "./words.js";
 
@@ -13,7 +13,7 @@ const PARTS = 144;
 /**
  * A strip for all and one for each station, as rows of a list.
  * @param {HTMLElement} box
- * @param {import("./reading.js").Rows} rows
+ * @param {import("./rows.js").Rows} rows
  * @param {Net} net
  * @param {Map<string, number>} sent how many transmissions each station sent
  * @returns {import("./steps.js").Steps<List<string>>}

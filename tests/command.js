@@ -1,6 +1,6 @@
-// Runs the command for Node and the programs, over damaged texts by files and by standard input, with
-// right words and wrong ones, and compares bytes, statuses and complaints. Of wrong words that the
-// programs don't name as their own, the status is compared.
+// Runs the command for Node and the programs, over damaged texts by files and by standard input,
+// with right words and wrong ones, and compares bytes, statuses and complaints. Of wrong words that
+// the programs don't name as their own, the status is compared.
 // usage: node tests/command.js COMMAND.mjs COUNT SEED FILE..    the programs are in the PATH
 import { spawnSync } from "node:child_process";
 import fs from "node:fs";
@@ -27,7 +27,8 @@ const HELPS = [["-h"], ["--help"], ["-V"], ["--version"], ["help"], ["help", "me
   ["show", "--help"], ["help", "convert"]];
 // words that may stand anywhere, most of them wrongly
 const ANY = ["--gap", "--gap=", "0", "60", "3601", "x", "--other", "-x", "-h", "--help", "--", "-",
-  "rows", "text", "capture", "--receiver", "RX1", "R.1", "--moment", "2024-05-01T12:00:00Z", "check",
+  "rows", "text", "capture", "--receiver", "RX1", "R.1", "--moment", "2024-05-01T12:00:00Z",
+  "check",
   "merge", "input-0", "nowhere", "", "+5", "007", "--version", "-V", "-hV", "--gap=30", "help"];
 
 /** Words at random: mostly right ones, and then some that are put in, left out or doubled. */
@@ -50,8 +51,8 @@ function compare(words, input) {
   const isOwn = wanted.status === 2 && wanted.stderr.toString().startsWith("error: ");
   const said = it => isOwn ? it.stderr.toString().slice(0, 7) : it.stderr.toString();
   statuses[wanted.status] = (statuses[wanted.status] || 0) + 1;
-  if (got.status === wanted.status && got.stdout.equals(wanted.stdout) && said(got) === said(wanted))
-    return;
+  if (got.status === wanted.status && got.stdout.equals(wanted.stdout) &&
+    said(got) === said(wanted)) return;
   if (++faults < 20)
     console.error("tests/command.js:", JSON.stringify(words), "ends with", got.status, "and not",
       wanted.status, got.stdout.length, "bytes and not", wanted.stdout.length,

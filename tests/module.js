@@ -41,7 +41,8 @@ function saidOf(command, it, names) {
   if (it.status === 0) return "";
   if (it.status !== 1) return null;
   const ofLine = /^[A-Z]/.test(it.fault);
-  return `${NAME_OF(command)}: ${names[it.input]}: ${ofLine ? `line ${it.line}: ` : ""}${it.fault}\n`;
+  const place = ofLine ? `line ${it.line}: ` : "";
+  return `${NAME_OF(command)}: ${names[it.input]}: ${place}${it.fault}\n`;
 }
 
 function compare(command, options, inputs) {

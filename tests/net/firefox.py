@@ -124,5 +124,9 @@ class Firefox:
         shot = self.call("WebDriver:TakeScreenshot", full=whole)["value"]
         pathlib.Path(path).write_bytes(base64.b64decode(shot))
 
+    def problems(self):
+        """Its protocol doesn't say what the page complains of."""
+        return []
+
     def requests(self):
         return self.js("performance.getEntriesByType('resource').map(it => it.name)")

@@ -9,15 +9,16 @@ import csv
 import io
 import json
 import pathlib
+import shutil
 import subprocess
 import sys
-import tempfile
 import time
 import xml.etree.ElementTree
 
 import browser
 import hostile
 import scale
+import trying
 from by_hand import message, moment, page_of, place, row
 from serving import Server
 
@@ -32,6 +33,7 @@ sorted_by_sent = SENT + ".getAttribute('aria-sort')"
 FIND = "document.getElementById('find')"
 marks = "(aprsbook.page.map.paint(), aprsbook.page.map.marks.length)"
 BADGES = texts % "#news > *"
+PICK = "[...document.querySelectorAll('.pick')].find(it => it.textContent === %r).click()"
 
 
 def event_page(path, *arguments):
@@ -104,6 +106,31 @@ def test_contained(page, folder):
     heights = page.js("[...document.querySelectorAll('#things tbody tr')]"
                       ".map(it => it.clientHeight)")
     assert max(heights) - min(heights) <= 2, heights
+    # nor does a name of the roster run over what is beside it
+    roster = "Q1A0 Runner 118\nQ1A1 The sweeper\nQ1A2 Medical\n"
+    for width in 360, 700, 820, 1000, 1280, 1600:
+        page.open(page_of(folder / "names.html", "".join(lines[:3]), roster=roster), width, 900)
+        is_((width, page.js("[...document.querySelectorAll('#things :is(td, th)')].filter(it => "
+                            "it.scrollWidth > it.clientWidth + 1).map(it => it.textContent)")),
+            (width, []))
+
+
+def test_edges(page, folder):
+    """On a map that became another size all names are whole."""
+    rows = "".join(place(k, f"Q1LONG-{k}", 54.5 + k / 100, -3.5 + k % 2 / 50) for k in range(8))
+    url = page_of(folder / "edges.html", rows, roster="Q1LONG-* A long name of it\n")
+    page.open(url, 1280, 900)
+    for width in 1280, 700, 820, 360:
+        page.call("Emulation.setDeviceMetricsOverride", width=width, height=900,
+                  deviceScaleFactor=1, mobile=False)
+        page.settle()
+        cut = page.js("(() => { const { map } = aprsbook.page, { pen } = map, "
+                      "{ width } = map.view, write = pen.fillText, cut = []; "
+                      "pen.fillText = (text, x, y) => { "
+                      "if (x < 0 || x + pen.measureText(text).width > width + 1) cut.push(text); "
+                      "write.call(pen, text, x, y) }; map.paint(); pen.fillText = write; "
+                      "return cut })()")
+        is_((width, [it for it in cut if "Q1" in it]), (width, []))
 
 
 def test_controls(page, folder):
@@ -126,8 +153,7 @@ def test_controls(page, folder):
     is_(page.js("aprsbook.page.map.things.every(it => it.kind === 'object')"), True)
     assert page.js(marks) > 0
     change(page, "kind", "")
-    page.js("[...document.querySelectorAll('.pick')].find(it => it.textContent === 'Q1RUN-7')"
-            ".click()")
+    page.js(PICK % "Q1RUN-7")
     is_(page.js("document.getElementById('one-name').textContent"), "Q1RUN-7 station")
     is_(page.js("document.querySelectorAll('#places tbody tr').length"), 9)
     picture(page, "picked")
@@ -194,7 +220,8 @@ def test_names(page, folder):
         page.key("Tab", 9)
         reached.add(page.js("document.activeElement.id || document.activeElement.className "
                             "|| document.activeElement.parentNode.id"))
-    wanted = "in out fit fill sound play clock colours map find kind live since local saves adds ics-open".split()
+    wanted = ("in out fit fill sound play clock colours map find kind live since local saves adds "
+              "ics-open").split()
     assert reached >= {*wanted, "pick station"}, reached
     page.js("document.querySelector('.pick').focus()")
     page.key("ArrowDown", 40)
@@ -349,7 +376,8 @@ def test_brought(page, folder):
     for name in "coast.geojson", "race.gpx", "roster.txt":
         page.give("#bring", folder / name)
         page.wait(f"told.textContent.startsWith('{name}')")
-    is_(page.js("aprsbook.page.map.bases.map(it => [it.lines.length, it.points.map(one => one.name)])"),
+    is_(page.js("aprsbook.page.map.bases.map(it => "
+                "[it.lines.length, it.points.map(one => one.name)])"),
         [[1, ["pier"]], [1, [hostile.TEXTS[0]]]])
     is_(page.js(texts % "#expected tbody th"), ["Q1RUN-*", "Q1NINE-9", "Q1MED-7"])
     is_(page.js(texts % "#expected .time"), ["20:02:14", "not heard", "19:44:12"])
@@ -406,7 +434,7 @@ def test_needs(page, folder):
     page.js("document.querySelector('#news > a').click()")
     is_(page.js("[aprsbook.page.picked, document.getElementById('one').hidden]"),
         ["station Q1MIC-7", False])
-    page.js("[...document.querySelectorAll('.pick')].find(it => it.textContent === 'Q1ODD').click()")
+    page.js(PICK % "Q1ODD")
     assert "1 other (beacon)" in page.js("document.getElementById('one-about').textContent")
     is_(page.problems(), [])
 
@@ -445,7 +473,8 @@ def test_far(page, folder):
 
 
 def touch(page, kind, *spots):
-    page.call("Input.dispatchTouchEvent", type=kind, touchPoints=[{"x": x, "y": y} for x, y in spots])
+    page.call("Input.dispatchTouchEvent", type=kind,
+              touchPoints=[{"x": x, "y": y} for x, y in spots])
 
 
 def test_touch(page, folder):
@@ -485,7 +514,8 @@ def test_touch(page, folder):
 
 def test_keys(page, folder):
     """Escape closes a menu and leaves the map that fills the window; the clock says its time."""
-    page.open(page_of(folder / "keys.html", place(1, "Q1A", 54.5, -3.5) + place(9, "Q1A", 54.6, -3.5)))
+    rows = place(1, "Q1A", 54.5, -3.5) + place(9, "Q1A", 54.6, -3.5)
+    page.open(page_of(folder / "keys.html", rows))
     is_(page.js("clock.getAttribute('aria-valuetext')"), "00:09:00")
     page.js("document.querySelector('#saves summary').focus()")
     page.key("Enter", 13)
@@ -527,7 +557,8 @@ def test_marks(page, folder):
                         "heard within 60 minbefore that")):
         change(page, "colours", way)
         is_(page.js("legend.textContent"), words)
-    many = "".join(place(n % 90, f"Q{n:04}", 54 + n % 71 / 300, -4 + n % 83 / 300) for n in range(3000))
+    many = "".join(place(n % 90, f"Q{n:04}", 54 + n % 71 / 300, -4 + n % 83 / 300)
+                   for n in range(3000))
     page.open(page_of(folder / "dense.html", many), 1280, 900)
     page.wait("aprsbook.page.map.isDense")
     assert page.js("dense.textContent").startswith("Each square has 1 to ")
@@ -539,11 +570,12 @@ def test_marks(page, folder):
 
 def test_graphs(page, folder):
     """What is picked has its transmissions, and graphs of what they say."""
-    rows = "".join(place(5 * k, "Q1WX", 54.5, -3.5, symbol="/_", temperature_f=50 + k, humidity=60 + k % 9,
-                         wind_mph=k, gust_mph=k + 3) for k in range(9) if k not in (3, 4, 5, 6))
+    rows = "".join(place(5 * k, "Q1WX", 54.5, -3.5, symbol="/_", temperature_f=50 + k,
+                         humidity=60 + k % 9, wind_mph=k, gust_mph=k + 3)
+                   for k in range(9) if k not in (3, 4, 5, 6))
     rows += row("telemetry", 46, "Q1WX", a1=7) + row("telemetry", 47, "Q1WX", a1=9)
     page.open(page_of(folder / "graphs.html", rows + place(1, "Q1A", 54.6, -3.5)), 1280, 900)
-    page.js("[...document.querySelectorAll('.pick')].find(it => it.textContent === 'Q1WX').click()")
+    page.js(PICK % "Q1WX")
     is_(page.js(texts % "#one-graphs figcaption"),
         ["temperature \u00b0C, last 14.4 \u00b0C", "wind, and gusts m/s, last 3.6 m/s",
          "humidity %, last 68 %", "telemetry 1 as sent, last 9"])
@@ -566,17 +598,43 @@ def test_coast(page, folder):
                    "it.fillStyle = aprsbook.page.map.colours.land; it.fillRect(0, 0, 1, 1); "
                    "return [...it.getImageData(0, 0, 1, 1).data] })()")
     # in view alone, without marks: land and sea, each seen from above and from far around
-    for north, east, is_land in ((47, 2, 1), (51, -21, 0), (-26, 134, 1), (-46, -141, 0), (-81, 7, 1),
-                                 (67, 176, 1), (41, -101, 1), (3, -4, 0)):
-        for scale in 0.02, 0.2:
+    for north, east, is_land in ((47, 2, 1), (51, -21, 0), (-26, 134, 1), (-46, -141, 0),
+                                 (-81, 7, 1), (67, 176, 1), (41, -101, 1), (3, -4, 0)):
+        for near in 0.02, 0.2:
             got = page.js(f"(() => {{ const {{ map }} = aprsbook.page; map.things = []; "
-                          f"map.look('{north},{east},{scale}'); map.paint(); "
+                          f"map.look('{north},{east},{near}'); map.paint(); "
                           "return [...map.pen.getImageData(map.canvas.width / 2, "
                           "map.canvas.height / 2, 1, 1).data] })()")
-            is_((north, east, scale, got == land), (north, east, scale, bool(is_land)))
+            is_((north, east, near, got == land), (north, east, near, bool(is_land)))
     assert "Natural Earth" in page.js("document.querySelector('footer').textContent")
     page.js("(aprsbook.page.map.look('30,-40,0.03'), aprsbook.page.map.paint())")
     picture(page, "coast")
+
+
+def test_shore(page, folder):
+    """A fine coast around the evening, where GMT is there: St Bees Head and the sea off it."""
+    if not shutil.which("gmt"):
+        print("left out: a fine coast (no gmt is there)")
+        return
+    page.open(event_page(folder / "shore.html", *EVENING))
+    page.wait("aprsbook.page.map.shore.of !== null")
+    assert "GSHHG" in page.js("document.querySelector('footer').innerText")
+    for spot, colour, said in (("54.513,-3.62,20", "land", ""), ("54.5,-3.68,20", "sheet", ""),
+                               ("54.513,-3.62,200", "sheet", "rough coast")):
+        got = page.js("(() => { const { map } = aprsbook.page, wrote = [], "
+                      "write = map.pen.fillText; map.things = []; "
+                      f"map.look('{spot}'); map.pen.fillText = (...it) => {{ "
+                      "wrote.push(it[0]); write.apply(map.pen, it) }; "
+                      "map.paint(); map.pen.fillText = write; "
+                      "const at = map.pen.getImageData(map.canvas.width / 2 + 3, "
+                      "map.canvas.height / 2 + 3, 1, 1).data; map.pen.fillStyle = "
+                      f"map.colours.{colour}; map.pen.fillRect(0, 0, 1, 1); "
+                      "return [map.pen.getImageData(0, 0, 1, 1).data.join() === at.join(), "
+                      "wrote.find(it => it.includes('coast')) ?? ''] })()")
+        is_((spot, got), (spot, [True, said]))
+    page.js("(aprsbook.page.map.fill(true), aprsbook.page.map.fit(), aprsbook.page.map.paint())")
+    picture(page, "shore")
+    is_(page.problems(), [])
 
 
 def test_saves(page, folder):
@@ -590,9 +648,9 @@ def test_saves(page, folder):
     own = subprocess.run(command, stdout=subprocess.PIPE, check=True)
     count = sum(it.startswith((b"position", b"object", b"item")) for it in own.stdout.splitlines())
     is_(len(rows), count)
-    for row in [*csv.reader(io.StringIO(saved["places (CSV)"])),
-                *csv.reader(io.StringIO(saved["messages (CSV)"]))]:
-        for it in row:
+    for cells in [*csv.reader(io.StringIO(saved["places (CSV)"])),
+                  *csv.reader(io.StringIO(saved["messages (CSV)"]))]:
+        for it in cells:
             assert not it.startswith(("=", "+", "@", "\t", "\r")), it
             assert not it.startswith("-") or float(it) <= 0, it
     for name in "places and tracks (GPX)", "places and tracks (KML)":
@@ -686,15 +744,6 @@ def picture(page, name, whole=False):
         page.picture(f"{PICTURES}/{name}.png", whole)
 
 
-TESTS = (test_hostile, test_contained, test_controls, test_names, test_widths, test_times,
-         test_messages, test_world, test_brought, test_clocks, test_needs, test_shown, test_far,
-         test_touch, test_keys, test_marks, test_graphs, test_coast, test_saves, test_scale, test_slices, test_live, test_served)
-page = browser.Browser()
-try:
-    with tempfile.TemporaryDirectory() as name:
-        for test in TESTS:
-            test(page, pathlib.Path(name))
-finally:
-    page.close()
+trying.run(browser.Browser, trying.tests_in(globals()))
 print("event-page in Chromium: nothing ran, one request, no message; controls, names, widths, "
       "times, the world, needs, fingers, coasts, what is brought and saved, live")

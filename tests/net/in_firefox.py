@@ -10,11 +10,11 @@ import pathlib
 import shutil
 import subprocess
 import sys
-import tempfile
 
 import firefox
 import hostile
 import scale
+import trying
 from serving import Server
 
 EXAMPLES = pathlib.Path(sys.argv[1])
@@ -93,7 +93,8 @@ def test_hostile(page, folder):
 def test_keys(page, folder):
     page.open(event_page(folder / "keys.html", *EVENING))
     page.wait("document.querySelectorAll('#timeline tbody tr').length > 10")
-    left = set("in out fit fill sound play clock colours map find kind since local saves adds ics-open".split())
+    left = set("in out fit fill sound play clock colours map find kind since local saves adds "
+               "ics-open".split())
     left |= {"pick station", "miles", "place-form", "measure", "edge"}
     for _ in range(60):  # more would leave the page
         if not left:
@@ -153,14 +154,10 @@ def test_served(page, folder):
         page.wait("!stale.textContent.includes('away')")
 
 
-TESTS = (test_evening, test_hostile, test_keys, test_roster, test_paper, test_served,
-         scale.judged_stations)
-page = firefox.Firefox()
-try:
-    with tempfile.TemporaryDirectory() as name:
-        for test in TESTS:
-            test(page, pathlib.Path(name))
-finally:
-    page.close()
+def test_scale(page, folder):
+    scale.judged_stations(page, folder)
+
+
+trying.run(firefox.Firefox, trying.tests_in(globals()))
 print("event-page in Firefox: the evening, a thing that is picked, nothing ran, no request; keys, "
       "a roster, paper, a server that goes away")

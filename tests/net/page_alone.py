@@ -1,8 +1,9 @@
 #!/usr/bin/env python3
-"""Tries what the page that reads logs does by itself, in headless Chromium: what files are, damaged
-lines, Windows' spellings, folders, logs that are followed. The module is a stand-in.
+"""Tries what the page that reads logs does by itself, in each browser that is there: what files
+are, damaged lines, Windows' spellings, folders, logs that are followed. The module is a stand-in.
 
-usage: page_alone.py [PICTURES]    needs Python 3 and chromium; PICTURES is a folder for pictures
+usage: page_alone.py [PICTURES]    needs Python 3, and chromium or firefox; PICTURES is a folder for
+                                   pictures
 """
 import contextlib
 import http.server
@@ -10,12 +11,12 @@ import json
 import pathlib
 import sqlite3
 import sys
-import tempfile
 import threading
 import time
 
-import browser
 import hostile
+import scale
+import trying
 from by_hand import together
 from serving import Server
 
@@ -27,6 +28,10 @@ MORE = ("Object.fromEntries([...document.querySelectorAll('#files tbody tr')].ma
         "[it.querySelector('th').textContent, it.querySelector('.more').textContent]))")
 MADE = "aprsfiles.made() !== null"
 ROWS = "aprsbook.page.all.rows.length"
+# the colour of the map beside its middle
+BESIDE_MIDDLE = ("(() => { const { map } = aprsbook.page, { width, height } = map.canvas; "
+                 "map.paint(); return map.pen.getImageData(width / 3, height / 3, 1, 1)"
+                 ".data.slice(0, 3).join() })()")
 EMPTY_MODULE = b"\0asm\1\0\0\0"
 
 
@@ -103,8 +108,9 @@ def test_damaged(page, folder):
 def test_strangers(page, folder):
     """What is no log is named as what it is, and no more of it is read than its beginning."""
     fresh(page, folder)
-    give(page, folder, {"photo.log": b"\x89PNG\r\n\x1a\n" + bytes(2000), "zeros.log": bytes(3 << 20),
-                        "words.log": "so much is written here\n" * 9000, "a.log": log(3)})
+    give(page, folder, {"photo.log": b"\x89PNG\r\n\x1a\n" + bytes(2000), "a.log": log(3),
+                        "zeros.log": bytes(3 << 20),
+                        "words.log": "so much is written here\n" * 9000})
     page.wait(MADE)
     told = page.js(TOLD)
     is_(told["photo.log"], "is a picture, which no log is")
@@ -144,6 +150,7 @@ def drop(page, *paths):
         page.call("Input.dispatchDragEvent", type=kind, x=300, y=130, data=data)
 
 
+@trying.in_chromium
 def test_folders(page, folder):
     """Files in dropped folders are read, and squares of a web map are drawn below all else."""
     (folder / "logs/day").mkdir(parents=True)
@@ -178,9 +185,7 @@ def squares(page):
     page.js("(aprsbook.page.map.look('54.65,-3.5,20'), aprsbook.page.map.paint())")
     page.wait("[...aprsbook.page.map.tiles.made.values()].some(Boolean)")
     page.settle()
-    is_(page.js("(() => { const { map } = aprsbook.page, { width, height } = map.canvas; map.paint(); "
-                "return [...map.pen.getImageData(width / 3, height / 3, 1, 1).data.slice(0, 3)] })()"),
-        [200, 30, 30])
+    is_(page.js(BESIDE_MIDDLE), "200,30,30")
     assert "400 squares" in page.js("document.getElementById('own-map').textContent")
     picture(page, "tiles")
 
@@ -223,9 +228,7 @@ def own_map(page):
 def is_red(page, words, where="54.65,-3.5,20"):
     """The map is red beside its middle, and says of what."""
     page.js(f"(aprsbook.page.map.look('{where}'), aprsbook.page.map.paint())")
-    page.wait("(() => { const { map } = aprsbook.page, { width, height } = map.canvas; map.paint(); "
-              "return map.pen.getImageData(width / 3, height / 3, 1, 1).data.slice(0, 3).join() "
-              "=== '200,30,30' })()")
+    page.wait(f"{BESIDE_MIDDLE} === '200,30,30'")
     is_(own_map(page), words)
 
 
@@ -238,8 +241,8 @@ def test_archives(page, folder):
     (folder / "a.log").write_text(log(3))
     page.give("#choose", *[folder / name for name in ("a.log", "map.mbtiles", "other.db")])
     page.wait(MADE)
-    is_(page.js(TOLD)["other.db"], "is a database (SQLite), which no log is, and can\u2019t be drawn as a "
-        "map: it has no table of tiles")
+    is_(page.js(TOLD)["other.db"], "is a database (SQLite), which no log is, and can\u2019t be "
+        "drawn as a map: it has no table of tiles")
     is_(sorted(page.js(TOLD)), ["a.log", "other.db"])
     is_red(page, "Own map: map.mbtiles.")
     page.js("document.getElementById('away').click()")
@@ -256,8 +259,9 @@ def test_sheet(page, folder):
     (folder / "sheet.pgw").write_text(f"{size}\n0\n0\n-{size}\n{-4 + size / 2}\n{55 - size / 2}\n")
     page.give("#choose", folder / "a.log", folder / "sheet.png")
     page.wait(f"{MADE} && !document.getElementById('sheet').hidden")
-    put = ("((...all) => { all.forEach((it, k) => { document.getElementById('corner-' + k).value = it });"
-           " document.getElementById('lay').click(); return told.textContent })")
+    put = ("((...all) => { all.forEach((it, k) => { "
+           "document.getElementById('corner-' + k).value = it }); "
+           "document.getElementById('lay').click(); return told.textContent })")
     is_(page.js(put + "('55, -4', '55, -3', '91, 0')"),
         "sheet.png: a corner is written as 54.5, -3.6, and not as 91, 0")
     is_(page.js(put + "('55, -4', '55, -3', '55, -2')"),
@@ -282,6 +286,7 @@ def click(page, x, y, kind="mouse"):
                   clickCount=1, pointerType=kind)
 
 
+@trying.in_chromium
 def test_units(page, folder):
     """Miles and the form of places are kept by the browser; a line is measured by clicks."""
     text = "/036/A=001000"
@@ -300,7 +305,8 @@ def test_units(page, folder):
     page.wait("document.querySelector('#things .where').textContent === '54.5000, -3.5000'")
     box = page.js("(aprsbook.page.map.look('54.5,-3.5,10'), aprsbook.page.map.paint(), "
                   "document.getElementById('map').scrollIntoView({ block: 'center' }), "
-                  "measure.click(), document.getElementById('map').getBoundingClientRect().toJSON())")
+                  "measure.click(), "
+                  "document.getElementById('map').getBoundingClientRect().toJSON())")
     middle = box["x"] + box["width"] / 2, box["y"] + box["height"] / 2
     click(page, *middle)
     click(page, middle[0] + 100, middle[1])
@@ -311,6 +317,7 @@ def test_units(page, folder):
     is_(page.js("[way.textContent, measure.getAttribute('aria-pressed')]"), ["", "false"])
 
 
+@trying.in_chromium
 def test_edge(page, folder):
     """The edge of the map is dragged, by keys too; on a wide screen lists stand beside."""
     fresh(page, folder)
@@ -368,12 +375,14 @@ def test_brought(page, folder):
            "<Placemark><LineString><coordinates>-3.5,54.5 -3.4,54.6</coordinates></LineString>"
            "</Placemark></Document></kml>")
     fresh(page, folder)
-    give(page, folder, {"a.log": log(3), "course.kml": kml,
-                        "who.csv": "\ufeffnumber;callsign;name\r\n1;Q1A-2;\"The; leader\"\r\n2;not a call;x\r\n"})
+    who = "\ufeffnumber;callsign;name\r\n1;Q1A-2;\"The; leader\"\r\n2;not a call;x\r\n"
+    give(page, folder, {"a.log": log(3), "course.kml": kml, "who.csv": who})
     page.wait(MADE)
     told = page.js("told.textContent")
-    assert "course.kml: a map" in told and "who.csv: 1 call, line 3: not a call is no call" in told, told
-    is_(page.js("aprsbook.page.map.bases.map(it => [it.lines.length, it.points.map(one => one.name)])"),
+    for it in "course.kml: a map", "who.csv: 1 call, line 3: not a call is no call":
+        assert it in told, told
+    is_(page.js("aprsbook.page.map.bases.map(it => "
+                "[it.lines.length, it.points.map(one => one.name)])"),
         [[1, ["pier"]]])
     page.wait("[...document.querySelectorAll('#things th bdi')].some(it => "
               "it.textContent === 'The; leader (Q1A-2)')")
@@ -392,9 +401,8 @@ def test_clock(page, folder):
     is_(page.js("aprsbook.page.data.notes"), ["the clock of COAST was put 60 min back here"])
     page.wait("document.querySelector('#receivers .clock')?.textContent === 'leave as it was'")
     assert "put 60 min back here" in page.js(MORE)["coast.log"]
-    page.saves_in(folder)
+    path = page.saves_in(folder) / "coast.put-right.log"
     page.js("document.querySelector('#files .moved').click()")
-    path = folder / "coast.put-right.log"
     for _ in range(100):
         if path.exists() and path.read_text().startswith("2024-06-21T18:00:00.000Z COAST"):
             break
@@ -472,6 +480,50 @@ def test_own_lines(page, folder):
     page.js("document.getElementById('ics-open').click()")
     is_(page.js(LOGGED), ["by <b>voice</b>", "=1+1"])
     page.js("(localStorage.clear(), 1)")
+
+
+LONGEST = """(() => { window.task = 0;
+    new PerformanceObserver(list => list.getEntries().forEach(it => {
+        window.task = Math.max(window.task, it.duration) })).observe({ type: 'longtask' });
+    return 1 })()"""
+
+
+@trying.in_chromium
+def test_saves(page, folder):
+    """No save of a large net stops the page, and the page of the event is whole."""
+    fresh(page, folder)
+    give(page, folder, {"a.log": log(3)})
+    page.wait(MADE)
+    page.js("(async () => { const { page, show } = aprsbook, { rows } = page.data; "
+            "const at = rows.indexOf('\\n') + 1; "
+            "const many = rows.slice(0, at) + rows.slice(at).repeat(40000); "
+            "await show({ ...page.data, rows: many }) })()")
+    # all lists wait their turn
+    time.sleep(2)
+    page.saves_in(folder)
+    names = {"event": "event.html", "places and tracks (GPX)": "net.gpx",
+             "places and tracks (GeoJSON)": "net.geojson", "table (TSV)": "table.tsv"}
+
+    def measure():
+        page.js(LONGEST)
+        tasks = {}
+        for name, file in names.items():
+            (folder / file).unlink(missing_ok=True)
+            page.js("(task = 0, [...document.querySelectorAll('#saves button')].find(it => "
+                    f"it.id === '{name}' || it.textContent === '{name}').click(), 1)")
+            for _ in range(600):
+                if (folder / file).exists():
+                    break
+                time.sleep(0.05)
+            time.sleep(0.3)
+            tasks[file] = page.js("task")
+        return tasks
+
+    scale.judged(measure, dict.fromkeys(names.values(), 150), "saves of 120,000 rows, longest task")
+    saved = (folder / "event.html").read_text(encoding="utf-8")
+    data = json.loads(saved.partition('id="data">')[2].partition("</script>")[0])
+    is_(data["rows"].count("\n"), 120_001)
+    is_(page.js("aprsfiles.eventPage().length"), len(saved))
 
 
 def test_new(page, folder):
@@ -562,7 +614,8 @@ def test_followed(page, folder):
     assert more["b.log"].startswith("the server answers 500, since 20"), more
     assert "1 line left out" in more["c.log"], more
     is_(more["d.log"], "no longer on the list; what was read of it stays")
-    is_(sorted(page.js("aprsbook.page.net.receivers.map(it => it.name)")), ["RX0", "RX1", "RX2", "RX3"])
+    is_(sorted(page.js("aprsbook.page.net.receivers.map(it => it.name)")),
+        ["RX0", "RX1", "RX2", "RX3"])
     fail["logs.txt"] = 503
     follow_until(page, "stale.textContent.startsWith('logs.txt: the server answers 503, since 20')")
     hang.clear()
@@ -574,7 +627,7 @@ def test_followed(page, folder):
 
 def picture(page, name):
     if PICTURES:
-        page.picture(f"{PICTURES}/{name}.png")
+        page.picture(f"{PICTURES}/{page.name}-{name}.png")
 
 
 def square():
@@ -592,17 +645,9 @@ def square():
 
 
 SQUARE = square()
-TESTS = (test_damaged, test_strangers, test_windows, test_names, test_folders, test_archives,
-         test_sheet, test_units, test_edge, test_turns, test_brought, test_clock, test_followed, test_example, test_own_lines, test_new)
 
 if __name__ == "__main__":
-    page = browser.Browser()
-    try:
-        for test in TESTS:
-            with tempfile.TemporaryDirectory() as name:
-                test(page, pathlib.Path(name))
-                print(test.__name__, flush=True)
-    finally:
-        page.close()
+    for kind in trying.browsers():
+        trying.run(kind, trying.tests_in(globals()))
     print("the page that reads logs, by itself: what files are, damaged lines, Windows, folders, "
           "logs that are followed")

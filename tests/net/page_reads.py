@@ -18,13 +18,11 @@ import random
 import shutil
 import subprocess
 import sys
-import tempfile
 import time
 
-import browser
-import firefox
 import hostile
 import scale
+import trying
 from serving import Server
 
 os.environ["LC_ALL"] = "C.UTF-8"  # by which browsers find any name
@@ -37,7 +35,8 @@ MADE = "aprsfiles.made() !== null"
 BOOK = "btoa(String.fromCharCode(...aprsfiles.made().book))"
 # each file, and what is said of it
 TOLD = ("Object.fromEntries([...document.querySelectorAll('#files tbody tr')]"
-        ".map(it => [it.querySelector('th').textContent, it.querySelector('.verdict').textContent]))")
+        ".map(it => [it.querySelector('th').textContent, "
+        "it.querySelector('.verdict').textContent]))")
 MORE = TOLD.replace("verdict", "more")
 # what a command of the program makes of the book that the page made
 OF_BOOK = ("aprsfiles.run(%r, 30, [aprsfiles.made().book])"
@@ -99,8 +98,7 @@ HEAR_RUNS = """(() => {
 def quiet(page):
     """Nothing was asked of any server, and no message was written, where the browser says so."""
     is_([it for it in page.requests() if not it.startswith(("blob:", "file:"))], [])
-    if hasattr(page, "problems"):
-        is_(page.problems(), [])
+    is_(page.problems(), [])
 
 
 def test_same(page, _):
@@ -352,6 +350,36 @@ def test_brought(page, folder):
     quiet(page)
 
 
+def test_first_minutes(page, folder):
+    """A net is led with the page alone: an emergency, a silent runner, an unanswered message, a
+    wrong clock and a damaged log are seen without a click."""
+    frame = hostile.address("543PPP", 0xE0) + hostile.address("Q1SOS-9", 0x60, 1) + b"\x03\xf0"
+    frame += bytes([0x60, 121, 58, 28, 28, 28, 28]) + b"j/help"
+    coast = EVENING[0].read_text()
+    late = coast.replace(" COAST ", " LATE ")
+    for hour in "18", "19", "20":
+        late = late.replace(f"T{hour}:", f"T{int(hour) - 2}:")
+    files = {"sos.log": hostile.line("2024-06-21T20:28:00Z", "COAST", frame), "late.log": late,
+             "torn.log": coast.replace("c000", "c0zz", 1),
+             "who.txt": "Q1SOS-9 sweeper\nQ1RUN-7 leader\nQ1NET\n"}
+    for name, text in files.items():
+        (folder / name).write_text(text)
+    fresh(page)
+    page.give("#choose", *EVENING, *[folder / name for name in files])
+    page.wait(f"{MADE} && told.textContent.startsWith('who.txt')")
+    page.wait("document.getElementById('news').textContent.includes('sweeper')")
+    is_(page.js("[...document.querySelectorAll('#news > *')].map(it => it.textContent)"), [
+        "EMERGENCY: sweeper (Q1SOS-9), 20:28:00", "1 message unanswered", "1 message rejected",
+        "7 stations silent for over 30 min",
+        "1 of 3 expected not heard for 30 min: leader (Q1RUN-7)",
+        "the clock of LATE is \u22122 h from the others", "torn.log was left out: line 1: Hex"])
+    is_(page.js("[...document.querySelectorAll('#news > *')].every(it => { "
+                "const { top, bottom } = it.getBoundingClientRect(); "
+                "return top >= 0 && bottom <= innerHeight && it.checkVisibility() })"), True)
+    picture(page, "first-minutes")
+    quiet(page)
+
+
 def test_narrow(page, folder):
     """On a telephone names of files stay whole, and no table runs past its box."""
     if not hasattr(page, "events"):
@@ -598,19 +626,7 @@ def picture(page, name):
         page.picture(f"{PICTURES}/{page.name}-{name}.png")
 
 
-TESTS = (test_same, test_saves, test_minute, test_faults, test_names, test_unread, test_options,
-         test_brought, test_narrow, test_hostile, test_random, test_follow, test_missed, test_large,
-         test_larger)
-there = [it for it, names in ((browser.Browser, ["chromium"]),
-                              (firefox.Firefox, ["firefox-esr", "firefox"]))
-         if any(map(shutil.which, names))]
-for kind in there:
-    page = kind()
-    try:
-        for test in TESTS:
-            with tempfile.TemporaryDirectory() as name:
-                test(page, pathlib.Path(name))
-    finally:
-        page.close()
-    print(f"the page that reads logs, in {page.name}: the program's bytes, faults named, nothing "
+for kind in trying.browsers():
+    trying.run(kind, trying.tests_in(globals()))
+    print(f"the page that reads logs, in {kind.name}: the program's bytes, faults named, nothing "
           "ran, no request elsewhere, logs that grow")

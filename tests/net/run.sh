@@ -1,6 +1,6 @@
 #!/bin/sh
-# Tests the page and the recipes of a receiver, each where its tools are there, and says which were left
-# out.
+# Tests the page and the recipes of a receiver, each where its tools are there, and says which were
+# left out. Of a file of tests the environment may choose some, as in TESTS='needs coast'.
 # usage: tests/net/run.sh PROGRAM [PAGE]    PAGE is the page that reads logs, out/aprsbook.html
 page=${2-}
 set -- "${1-}"
@@ -18,7 +18,7 @@ with() {
 with 'python3 aprsbook-history' event_page.py "$examples"
 with 'python3 aprsbook-history chromium' in_browser.py "$examples"
 with 'python3 aprsbook-history firefox-esr' in_firefox.py "$examples"
-with 'python3 chromium' page_alone.py
+with 'python3' page_alone.py
 if [ -f "$page" ]; then
     with 'python3 aprsbook-history' page_reads.py "$page" "$examples"
 else

@@ -29,12 +29,13 @@ function linesOf(bytes) {
   return { lines };
 }
 function callOf(bytes, at) {
-  const name = [...bytes.subarray(at, at + 6)].map(it => String.fromCharCode(it >> 1)).join("").trim();
+  const name = String.fromCharCode(...bytes.subarray(at, at + 6).map(it => it >> 1)).trim();
   const ssid = bytes[at + 6] >> 1 & 15;
   return name + (ssid ? `-${ssid}` : "");
 }
 function rowOf(line) {
-  const [, seconds, millis, receiver, hex] = LINE.exec(line), first = `${seconds}${millis || ".000"}Z`;
+  const [, seconds, millis, receiver, hex] = LINE.exec(line);
+  const first = `${seconds}${millis || ".000"}Z`;
   const bytes = Uint8Array.from(hex.match(/../g) || [], it => parseInt(it, 16)).subarray(2, -1);
   const text = textOf(bytes.subarray(16)), row = { kind: "raw", first, last: first,
     receivers: receiver, receiver, source: callOf(bytes, 7), destination: callOf(bytes, 0), text };
@@ -47,8 +48,8 @@ function rowOf(line) {
       symbol: place[4] + place[8], text: place[9] });
   } else if (message) {
     const [, to, said, id] = message, answer = /^(ack|rej)(\w+)$/.exec(said);
-    Object.assign(row, { kind: answer?.[1] || "message", name: to.trim(), id: answer?.[2] || id || "",
-      text: answer ? "" : said });
+    Object.assign(row, { kind: answer?.[1] || "message", name: to.trim(),
+      id: answer?.[2] || id || "", text: answer ? "" : said });
   }
   return row;
 }

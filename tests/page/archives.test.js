@@ -69,7 +69,8 @@ function directory(entries, joined = true) {
 test("directories are read as they are written", () => {
   const entries = [{ id: 0, run: 1, length: 9, offset: 0 }, { id: 5, run: 3, length: 200, offset: 9 },
     { id: 300, run: 0, length: 7, offset: 2 ** 33 }];
-  for (const joined of [true, false]) assert.deepEqual(entriesOf(directory(entries, joined)), entries);
+  for (const joined of [true, false])
+    assert.deepEqual(entriesOf(directory(entries, joined)), entries);
   for (let cut = 0; cut < directory(entries).length; cut++)
     assert.throws(() => entriesOf(directory(entries).subarray(0, cut)), /cut short/);
 });

@@ -26,7 +26,8 @@ function ended(words, program) {
 test("words ask for a run of the module", () => {
   assert.deepEqual(job([]), { run: "convert text", options: [], paths: [] });
   assert.deepEqual(job(["check", "a.log"]), { run: "check", options: 30, paths: ["a.log"] });
-  assert.deepEqual(job(["merge", "a", "--gap=60", "b"]), { run: "merge", options: 60, paths: ["a", "b"] });
+  assert.deepEqual(job(["merge", "a", "--gap=60", "b"]),
+    { run: "merge", options: 60, paths: ["a", "b"] });
   assert.deepEqual(job(["widen", "+5", "-"]), { run: "widen", options: 5, paths: ["-"] });
   assert.deepEqual(job(["convert", "--moment", "x", "capture", "--receiver", "RX1"]),
     { run: "convert capture", options: ["RX1", "x"], paths: [] });
@@ -42,7 +43,8 @@ test("wrong words end with 2, and help and the version with 0", () => {
     ["merge", "--gap"], ["merge", "--gap", "--help"], ["merge", "--gap=1", "--gap=1"],
     ["merge", "--gap="], ["--gap", "5", "merge"], ["check", "--version"], ["help", "x"]])
     assert.equal(ended(words)[0], 2, words.join(" "));
-  assert.deepEqual(ended(["convert", "text", "--receiver", "RX1"]), [2, "aprsbook: bad capture options"]);
+  assert.deepEqual(ended(["convert", "text", "--receiver", "RX1"]),
+    [2, "aprsbook: bad capture options"]);
   assert.deepEqual(ended(["convert", "capture", "--receiver", "RX1"]),
     [2, "aprsbook: bad capture options"]);
   assert.deepEqual(ended(["--version"]), [0, "aprsbook 1.2.3"]);

@@ -18,8 +18,9 @@ test("places: a row for each, with what the table says, and no formula", () => {
 test("messages: in the table's states, bulletins too", () => {
   const net = netOfLines([], [message("Q1A", "Q1B", "hi", "acknowledged", 5, { id: "7" }),
     message("Q1A", "BLN1", "' =2", "unnumbered", 4)]);
-  assert.deepEqual(savedText("messages (CSV)", net).split("\n"), ["time,from,number,to,message,state",
-    `${moment(4)},Q1A,,BLN1,'' =2,unnumbered`, `${moment(5)},Q1A,7,Q1B,hi,acknowledged`, ""]);
+  assert.deepEqual(savedText("messages (CSV)", net).split("\n"), [
+    "time,from,number,to,message,state", `${moment(4)},Q1A,,BLN1,'' =2,unnumbered`,
+    `${moment(5)},Q1A,7,Q1B,hi,acknowledged`, ""]);
 });
 test("a track over the date line is cut there", () => {
   const net = netOfLines([place(0, "Q1A", 0, 179.5), place(9, "Q1A", 0, -179.5)]);
@@ -34,9 +35,10 @@ test("GeoJSON is one collection, of nothing too", () => {
   }
 });
 test("a killed object ends a track's segment", () => {
-  const of = (second, state, east) => row("object", second, "Q1A", { name: "X", state, latitude: "1",
-    longitude: String(east), symbol: "/E" });
-  const net = netOfLines([of(0, "live", 1), of(1, "killed", 2), of(2, "live", 3), of(3, "live", 4)]);
+  const of = (second, state, east) => row("object", second, "Q1A", { name: "X", state,
+    latitude: "1", longitude: String(east), symbol: "/E" });
+  const net = netOfLines(
+    [of(0, "live", 1), of(1, "killed", 2), of(2, "live", 3), of(3, "live", 4)]);
   const gpx = savedText("places and tracks (GPX)", net, { title: "x" });
   assert.equal(gpx.split("<trkseg>").length - 1, 2);
 });

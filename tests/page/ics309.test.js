@@ -38,7 +38,7 @@ test("the log has messages, bulletins and own lines by time, each with a number"
   assert.equal(savedText("messages (CSV)", net, {}, [own(4.5, "\\x41=1")]).split("\n")[2],
     `${moment(4.5)},Net,,CP1,\\x41=1,own`);
 });
-test("a log goes on over sheets, a long text takes more room, and there is one sheet of nothing", () => {
+test("a log goes on over sheets, a long text takes more room, and one is of nothing", () => {
   const net = netOfLines([]), many = (n, text) => sheetsOf(entriesOf(net,
     Array.from({ length: n }, (_, k) => own(k, text))));
   assert.equal(many(0, "").length, 1);
@@ -93,7 +93,8 @@ test("without a store, with a full or a damaged one, lines stay in the page", ()
     assert.equal(lines.add(own(2, "b")), false);
     assert.deepEqual(textsOf(lines), ["a", "b"]);
   }
-  for (const text of ["{", "null", "7", "{\"lines\":7,\"gone\":{}}", "{\"lines\":[null,{\"at\":\"1\"}]}"]) {
+  for (const text of ["{", "null", "7", "{\"lines\":7,\"gone\":{}}",
+    "{\"lines\":[null,{\"at\":\"1\"}]}"]) {
     const store = new Store();
     store.setItem("aprsbook lines: Race", text);
     const lines = opened(store);

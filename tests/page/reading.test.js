@@ -1,8 +1,10 @@
 import assert from "node:assert/strict";
 import { test } from "node:test";
-import { detailsOf, readMessages } from "../../page/reading.js";
+import { detailsOf, readMessages } from "../../page/rows.js";
 import { wordsOf } from "../../page/details.js";
-import { COLUMNS, message, moment, netOfLines, place, row, rowsOf, table, thing } from "./tables.js";
+import {
+  COLUMNS, message, moment, netOfLines, place, row, rowsOf, table, thing,
+} from "./tables.js";
 
 test("columns are taken by name, also in another order, with more of them, or fewer", () => {
   const lines = [place(0, "Q1A", 49.0583333, -72.0291667, { text: "hi" })];
@@ -58,7 +60,8 @@ test("at one moment the greater receiver decides which place is the last", () =>
 });
 
 test("the state of a message is the table's, that of a reply-ack too", () => {
-  const columns = "source addressee id text state first last answer answer_source reply_ack".split(" ");
+  const columns =
+    "source addressee id text state first last answer answer_source reply_ack".split(" ");
   const [a, b, c] = readMessages(table([
     message("Q1A", "Q1B", "help{01}", "unnumbered", 0, { reply_ack: "unanswered" }),
     message("Q1A", "Q1B", "again{02}", "unnumbered", 0),

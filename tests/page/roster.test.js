@@ -11,7 +11,8 @@ test("a line is a call and a name, or fields with commas, semicolons or tabs", (
     ["Q1VAN-9", "Van", "", ""], ["Q1SEA-8", "the \"boat\"", "", ""]]);
 });
 test("a head names columns in any order, and others are passed over", () => {
-  assert.deepEqual(calls("\ufeff# of the race\r\n\r\nNumber,Phone,Tactical,Callsign\r\n7,555,Leader,q1run-7\r\n"),
+  assert.deepEqual(calls("\ufeff# of the race\r\n\r\nNumber,Phone,Tactical,Callsign\r\n" +
+    "7,555,Leader,q1run-7\r\n"),
     [["Q1RUN-7", "Leader", "", "7"]]);
 });
 test("what is no call, or stands there twice, is said with its line", () => {
@@ -20,7 +21,8 @@ test("what is no call, or stands there twice, is said with its line", () => {
   assert.deepEqual(faults.map(it => it.line), [4, 5, 6]);
 });
 test("a call stands for itself alone, and with -* for each of its SSIDs and none", () => {
-  const heard = [{ name: "Q1A-7", kind: "station", last: 5 }, { name: "Q1B", kind: "station", last: 6 }];
+  const heard = [{ name: "Q1A-7", kind: "station", last: 5 },
+    { name: "Q1B", kind: "station", last: 6 }];
   const last = text => expectedOf(readRoster(text).list, heard).map(it => it.last);
   assert.deepEqual(last("Q1A\nQ1A-*\nQ1A-7\nQ1B-*\nQ1B\nQ1B-1\n"),
     [-Infinity, 5, 5, 6, 6, -Infinity]);
@@ -33,8 +35,8 @@ test("a station has the name of its own line before that of its -* line", () => 
     "x\\xe2\\x80\\xaey (Q1A)");
 });
 test("of several rosters the first line of a call counts", () => {
-  assert.deepEqual(joined([readRoster("Q1A one\n"), readRoster("Q1A two\nQ1B\n")]).map(it => it.name),
-    ["one", ""]);
+  const rosters = [readRoster("Q1A one\n"), readRoster("Q1A two\nQ1B\n")];
+  assert.deepEqual(joined(rosters).map(it => it.name), ["one", ""]);
 });
 test("the text of a roster is read as that roster", () => {
   const text = "Q1A \"the; \"\"leader\"\"\",\nQ1B-*;x;\"g,h\";7\n", { list } = readRoster(text);

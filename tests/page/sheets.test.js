@@ -10,8 +10,10 @@ test("corners are read as they are written", () => {
   const spots = cornersOf(["54.6, -3.7", "54.6 -3.4", " 54.4;-3.7 "]).map(degreesOf);
   const near = [[54.6, -3.7], [54.6, -3.4], [54.4, -3.7]];
   assert.ok(spots.every((it, k) => it.every((value, n) => Math.abs(value - near[k][n]) < 1e-9)));
-  const refused = (text, why) => assert.throws(() => cornersOf(["54.6, -3.7", "54.6, -3.4", text]), why);
-  for (const it of ["", "54.6", "a, b", "91, 0", "0, 181", "54.4, -3.7, 1"]) refused(it, /written as/);
+  const refused = (text, why) =>
+    assert.throws(() => cornersOf(["54.6, -3.7", "54.6, -3.4", text]), why);
+  for (const it of ["", "54.6", "a, b", "91, 0", "0, 181", "54.4, -3.7, 1"])
+    refused(it, /written as/);
   refused("54.6, -3.7", /one line/);
   refused("54.6, -3.1", /one line/);
   refused("40, -3.7", /km apart/);
@@ -21,7 +23,8 @@ test("a world file has the corners of its picture", () => {
   const text = "0.01\n0\n0\n-0.01\n-3.995\n54.995\n", size = { width: 100, height: 50 };
   assert.deepEqual(cornersIn(text, size), ["55, -4", "55, -3", "54.5, -4"]);
   // turned by a quarter
-  assert.deepEqual(cornersIn("0 0.01 0.01 0 -3.995 54.005", size), ["54, -4", "55, -4", "54, -3.5"]);
+  assert.deepEqual(cornersIn("0 0.01 0.01 0 -3.995 54.005", size),
+    ["54, -4", "55, -4", "54, -3.5"]);
   for (const it of ["", "1 2 3 4 5", "a b c d e f", "10 0 0 -10 460000 6040000"])
     assert.equal(cornersIn(it, size), null, it);
 });
@@ -39,6 +42,7 @@ test("places in each form, and in degrees near a pole", () => {
   assert.deepEqual(placeFacts(89, 10).map(it => it[0]), ["place", "", "locator"]);
 });
 test("the size of the map has bounds", () => {
-  assert.deepEqual([0, 160, 300.6, 1e9, NaN].map(it => bounded("high", it)), [160, 160, 301, 4000, null]);
+  assert.deepEqual([0, 160, 300.6, 1e9, NaN].map(it => bounded("high", it)),
+    [160, 160, 301, 4000, null]);
   assert.deepEqual([24, 25, 60, 80].map(it => bounded("wide", it)), [25, 25, 60, 75]);
 });

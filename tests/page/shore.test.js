@@ -13,14 +13,15 @@ const packed = numbers => Uint8Array.from(numbers.flatMap(it => {
   return [...bytes, n];
 }));
 // of a box from 4 W to 3 W and 54 N to 55 N its eastern half, with a lake
-const SHORE = [10000, -40000, 540000, -30000, 550000,
+const SHORE = [10000, -40000, 540000, -30000, 550000, 80,
   4, -35000, 540000, 5000, 0, 0, 10000, -5000, 0,
   3, -32000, 545000, 1000, 0, 0, 1000];
 const text = numbers => zlib.deflateSync(packed(numbers)).toString("base64");
 /** A pen that keeps what it is told. */
 function recorder() {
-  const told = [], names = "save restore beginPath moveTo lineTo closePath clip fill stroke setLineDash";
-  const pen = Object.fromEntries(names.split(" ").map(it => [it, (...of) => told.push([it, ...of])]));
+  const told = [], names =
+    "save restore beginPath moveTo lineTo closePath clip fill stroke setLineDash".split(" ");
+  const pen = Object.fromEntries(names.map(it => [it, (...of) => told.push([it, ...of])]));
   return { pen, told, of: name => told.filter(it => it[0] === name) };
 }
 const viewOf = (north, east, metres) => {
@@ -32,29 +33,30 @@ const viewOf = (north, east, metres) => {
 const COLOURS = { sheet: "sea", land: "land", shore: "line" };
 
 test("numbers are unpacked as they were packed", () => {
-  const numbers = [0, -1, 1, 63, 64, -64, -65, 2 ** 40, -(2 ** 40)], read = new Numbers(packed(numbers));
+  const numbers = [0, -1, 1, 63, 64, -64, -65, 2 ** 40, -(2 ** 40)];
+  const read = new Numbers(packed(numbers));
   assert.deepEqual(numbers.map(() => read.next()), numbers);
   assert.equal(read.at, read.bytes.length);
 });
 test("a fine coast has its box, its rings, and which of their sides are no coast", () => {
-  const { box, rings } = shoreOf(packed(SHORE));
-  assert.equal(box.length, 3 * 64);
+  const { box, off, rings } = shoreOf(packed(SHORE));
+  assert.deepEqual([box.length, off], [3 * 64, 80]);
   const [north, east] = degreesOf([...box.slice(0, 3)]);
   assert.ok(Math.abs(north - 54) < 1e-5 && Math.abs(east + 4) < 1e-5);
   assert.deepEqual(rings.map(it => it.isSide), [[false, true, true, true], [false, false, false]]);
 });
-test("a fine coast is taken once, also where another comes meanwhile, and is taken away", async () => {
+test("a fine coast is taken once, also where another comes, and is taken away", async () => {
   const shore = new Shore();
   assert.equal(await shore.read(text(SHORE)), true);
   assert.equal(await shore.read(text(SHORE)), false);
   assert.equal(shore.of.rings.length, 2);
-  const late = shore.read(text(SHORE.slice(0, 5)));
+  const late = shore.read(text(SHORE.slice(0, 6)));
   assert.equal(await shore.read(""), true);
   await late;
   assert.equal(shore.of, null);
   assert.equal(shore.paint(recorder().pen, viewOf(54.5, -3.5, 50), COLOURS), null);
 });
-test("a fine coast is drawn by how close one looks, and says so where it is all of the map", async () => {
+test("a fine coast is drawn by how close one looks, and says so as all of the map", async () => {
   const shore = new Shore();
   await shore.read(text(SHORE));
   const tried = view => {
@@ -64,6 +66,11 @@ test("a fine coast is drawn by how close one looks, and says so where it is all 
   assert.deepEqual(tried(viewOf(54.5, -3.5, 50)), ["", 2, 1]);
   assert.deepEqual(tried(viewOf(54.5, -3.5, 9.9)), ["rough coast", 1, 1]);
   assert.deepEqual(tried(viewOf(54.5, -3.5, 1.9)), ["", 1, 0]);
+  // one that may be off by 200 m is rough sooner
+  await shore.read(text(SHORE.with(5, 200)));
+  assert.deepEqual(tried(viewOf(54.5, -3.5, 25.1)), ["", 2, 1]);
+  assert.deepEqual(tried(viewOf(54.5, -3.5, 24.9)), ["rough coast", 1, 1]);
+  await shore.read(text(SHORE));
   // the map shows more than the box, and nothing of it
   assert.deepEqual(tried(viewOf(54.5, -3.5, 500)), [null, 2, 1]);
   assert.deepEqual(tried(viewOf(54.05, -3.95, 50)), [null, 2, 1]);

@@ -1,13 +1,15 @@
 // Tables by hand, for the tests of the page's parts.
 import { atOnce } from "../../page/steps.js";
 import { netOf, rank } from "../../page/net.js";
-import { columnsOf, readMessages, Rows } from "../../page/reading.js";
+import { columnsOf } from "../../page/reading.js";
+import { readMessages, Rows } from "../../page/rows.js";
 
-export const COLUMNS = ("kind first last receivers receiver source destination via gate name state " +
-  "id latitude longitude ambiguity compressed symbol stamp course speed_knots altitude_m wind_from " +
-  "wind_mph gust_mph temperature_f rain_hour rain_day rain_midnight humidity pressure_tenths " +
-  "luminosity telemetry_sequence a1 a2 a3 a4 a5 bits says text").split(" ");
-const MESSAGES = "source addressee id text state first last answer answer_source reply_ack".split(" ");
+export const COLUMNS = ("kind first last receivers receiver source destination via gate name " +
+  "state id latitude longitude ambiguity compressed symbol stamp course speed_knots altitude_m " +
+  "wind_from wind_mph gust_mph temperature_f rain_hour rain_day rain_midnight humidity " +
+  "pressure_tenths luminosity telemetry_sequence a1 a2 a3 a4 a5 bits says text").split(" ");
+const MESSAGES =
+  "source addressee id text state first last answer answer_source reply_ack".split(" ");
 
 /** A moment of 21 June 2024, so many seconds after six in the evening. */
 export const moment = seconds => new Date(Date.UTC(2024, 5, 21, 18) + 1000 * seconds).toISOString();

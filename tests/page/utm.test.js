@@ -46,8 +46,8 @@ test("bands end at each eight degrees, and the last has twelve", () => {
     assert.equal(utmOf(north, -30).band, band, north);
 });
 test("south-west Norway is zone 32, and beside it nothing is", () => {
-  for (const [north, east, zone] of [[56, 3, 32], [63.9999, 3, 32], [60, 5.9999, 32], [60, 11.9999, 32],
-    [60, 12, 33], [60, 2.9999, 31], [55.9999, 5.9999, 31], [64, 5.9999, 31]])
+  for (const [north, east, zone] of [[56, 3, 32], [63.9999, 3, 32], [60, 5.9999, 32],
+    [60, 11.9999, 32], [60, 12, 33], [60, 2.9999, 31], [55.9999, 5.9999, 31], [64, 5.9999, 31]])
     assert.equal(zoneOf(north, east), zone, `${north} ${east}`);
   assert.equal(mgrsText(60.393, 5.3242), "32V KN 97480 00831");
 });

@@ -9,8 +9,8 @@ import { channelsOf, isBattery } from "../../page/telemetry.js";
 import { quarterOf } from "../../page/tracks.js";
 import { message, netOfLines, place, row, thing } from "./tables.js";
 
-const mark = (key, x, y) => ({ thing: { key }, place: { vector: [1, 0, 0] }, picked: false, colour: "",
-  x, y });
+const mark = (key, x, y) =>
+  ({ thing: { key }, place: { vector: [1, 0, 0] }, picked: false, colour: "", x, y });
 
 test("marks that cover one another are one pile, the top one first", () => {
   const marks = [mark("a", 50, 50), mark("b", 52, 51), mark("c", 70, 50), mark("d", 50, 58.5)];
@@ -75,8 +75,9 @@ test("a track is paler by quarters of its time", () => {
   assert.equal(quarterOf(5, { begin: 5, end: 5 }), 0);
 });
 
-test("graphs are of the table's columns, in the unit that is said, and of two values at least", () => {
-  const net = netOfLines([place(0, "Q1A", 1, 2, { temperature_f: 50, altitude_m: "376.1232", gust_mph: 9 }),
+test("graphs are of the table's columns, in the unit that is said, of two values or more", () => {
+  const high = { temperature_f: 50, altitude_m: "376.1232", gust_mph: 9 };
+  const net = netOfLines([place(0, "Q1A", 1, 2, high),
     place(60, "Q1A", 1, 2, { temperature_f: 68, wind_mph: 0, a1: 7 }),
     row("telemetry", 90, "Q1A", { a1: 8 }), place(99, "Q1B", 1, 2, { temperature_f: 1 })]);
   const { rows } = thing(net, "Q1A"), numbers = numbersOf(thing(net, "Q1A"), net.rows);
@@ -109,7 +110,8 @@ test("a gap isn't joined", () => {
 });
 test("a scale has round numbers around all values", () => {
   assert.deepEqual(ticksOf(9.8, 15.2), [8, 10, 12, 14, 16]);
-  for (const [least, most] of [[9.8, 15.2], [0, 0], [-40, -39.9], [1e6, 3e6], [0.001, 0.002], [255, 255]]) {
+  const spans = [[9.8, 15.2], [0, 0], [-40, -39.9], [1e6, 3e6], [0.001, 0.002], [255, 255]];
+  for (const [least, most] of spans) {
     const ticks = ticksOf(least, most);
     assert.ok(ticks[0] <= least && ticks.at(-1) >= most, `${ticks}`);
     assert.ok(ticks.length >= 2 && ticks.length <= 6, `${ticks}`);
@@ -117,8 +119,9 @@ test("a scale has round numbers around all values", () => {
   assert.deepEqual(ticksOf(0, 10), [0, 5, 10]);
 });
 test("a transmission is told whole: its way, and each column that says something", () => {
-  const net = netOfLines([row("object", 0, "Q1A", { via: "Q1DIG*,WIDE2-1", name: "CP1", state: "live",
-    latitude: "1.0000000", longitude: "2.0000000", text: "a\\x41" }), place(1, "Q1B", 1, 2)]);
+  const net = netOfLines([row("object", 0, "Q1A", { via: "Q1DIG*,WIDE2-1", name: "CP1",
+    state: "live", latitude: "1.0000000", longitude: "2.0000000", text: "a\\x41" }),
+  place(1, "Q1B", 1, 2)]);
   const numbers = ["CP1", "Q1A"].map(name => numbersOf(thing(net, name), net.rows));
   assert.deepEqual(numbers, [[0], [0]]);
   const it = net.things[0].rows.record(0);
@@ -128,7 +131,8 @@ test("a transmission is told whole: its way, and each column that says something
 
 test("what wasn't there when one looked is new: stations, messages, states", () => {
   const of = (lines, messages) => netOfLines(lines, messages);
-  const before = of([place(0, "Q1A", 1, 2)], [message("Q1A", "Q1B", "x", "unanswered", 0, { id: 1 })]);
+  const before = of([place(0, "Q1A", 1, 2)],
+    [message("Q1A", "Q1B", "x", "unanswered", 0, { id: 1 })]);
   const after = of([place(0, "Q1A", 1, 2), place(9, "Q1A", 1, 3), place(5, "Q1C", 1, 2)],
     [message("Q1A", "Q1B", "x", "acknowledged", 0, { id: 1 }),
       message("Q1A", "BLN1", "y", "unnumbered", 3)]);
@@ -137,7 +141,8 @@ test("what wasn't there when one looked is new: stations, messages, states", () 
   looked.look(before, 100);
   assert.equal(looked.count(before), 0);
   assert.equal(looked.count(after), 3);
-  assert.deepEqual(["Q1A", "Q1C"].map(name => looked.isNewThing(thing(after, name))), [false, true]);
+  assert.deepEqual(["Q1A", "Q1C"].map(name => looked.isNewThing(thing(after, name))),
+    [false, true]);
   looked.look(after, 200);
   assert.equal(looked.count(after), 0);
 });

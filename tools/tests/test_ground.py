@@ -1,6 +1,7 @@
 """What lies below the marks of a page: rings around land, fine coasts, squares of a web map."""
 import base64
 import gzip
+import itertools
 import os
 import pathlib
 import shutil
@@ -123,6 +124,9 @@ def test_the_box_of_an_event_leaves_out_what_is_far_from_all() -> None:
     assert over is not None and over.west < 1_799_000 and over.east > 1_801_000
     nothing: List[List[Spot]] = [[], [Spot(40, 0), Spot(46.1, 0)], [Spot(85.1, 0)]]
     assert [coasts.box_around(it) for it in nothing] == [None] * 3
+    # where a degree east is short, so many of them are an event
+    svalbard = coasts.box_around([Spot(78.2, 15.6), Spot(78.6, 12.0)])
+    assert svalbard is not None and svalbard.east - svalbard.west > 10 * coasts.UNIT
 
 
 def test_lines_of_gmt_over_the_date_line_are_whole() -> None:
@@ -148,8 +152,13 @@ def test_a_fine_coast_has_land_and_sea_where_they_are() -> None:
                          (Spot(54.5, -3.68), False), (Spot(54.6, -3.1), True)):
         point = round(spot.east * coasts.UNIT), round(spot.north * coasts.UNIT)
         assert is_within(found, point) == wanted, spot
-    assert 100 < len(coasts.packed_within(found, box, coasts.MOST_BYTES)) <= coasts.MOST_BYTES
-    assert len(coasts.packed_within(found, box, 300)) <= 300
+    whole = coasts.packed_within(found, box, 200, coasts.MOST_BYTES)
+    assert 100 < len(whole) <= coasts.MOST_BYTES
+    # a simpler one may be off by more, which it says
+    simple = coasts.packed_within(found, box, 200, 300)
+    assert len(simple) <= 300
+    heads = [[*itertools.islice(rings.unpacked(base64.b64decode(it)), 6)] for it in (whole, simple)]
+    assert heads[0] == [coasts.UNIT, *box, 211] and heads[1][5] > 300
 
 
 @pytest.mark.parametrize("script", ["echo 'no data' >&2; exit 1", "echo '>'; exit 2"])

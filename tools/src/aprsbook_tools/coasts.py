@@ -12,10 +12,10 @@ from aprsbook_tools.geo import DEGREE_METRES, Spot, eastward, metres_between
 from aprsbook_tools.rings import Box, Line, Point, packed, rings_of, simpler_ring, unpacked
 
 UNIT = 10_000  # so many are a degree
-# the data, the finest first, and the packages of Debian that bring them
-FINENESS = "fh"
+# the data, the finest first, by how many metres they may be off, and the packages of Debian
+FINENESS = {"f": 70, "h": 200}
 PACKAGES = "gmt gmt-gshhg-high"
-# what spans more degrees is no event, and what is so far north no map of GMT's
+# what spans more degrees of latitude is no event, and what is so far north no map of GMT's
 MOST_DEGREES, MOST_NORTH = 6.0, 85.0
 LEAST_MARGIN = 10_000 / DEGREE_METRES
 # a coast takes so many bytes of a page at most
@@ -35,8 +35,8 @@ def near(spots: Sequence[Spot]) -> List[Spot]:
 
 
 def box_around(spots: Sequence[Spot]) -> Optional[Box]:
-    """A box around most of these places that is twice as high and three times as wide, as a window
-    is, or None where that is too wide. Its east may lie beyond 180 degrees."""
+    """A box around most of these places that is three times as wide and as high, for any window, or
+    None where that is too wide. Its east may lie beyond 180 degrees."""
     spots = near(spots)
     if not spots:
         return None
@@ -48,10 +48,10 @@ def box_around(spots: Sequence[Spot]) -> Optional[Box]:
         return None
     level = math.cos(math.radians((low + high) / 2))
     side = max(high - low, (right - west) * level, LEAST_MARGIN)
-    above, beside = side - (high - low) / 2, (1.5 * side - (right - west) * level / 2) / level
+    above, beside = 1.5 * side - (high - low) / 2, 1.5 * side / level - (right - west) / 2
     box = Box(*(round(it * UNIT) for it in (west - beside, low - above, right + beside,
                                             high + above)))
-    wide = max(box.east - box.west, box.north - box.south) > MOST_DEGREES * UNIT
+    wide = max((box.east - box.west) * level, box.north - box.south) > MOST_DEGREES * UNIT
     return None if wide or max(-box.south, box.north) > 89 * UNIT else box
 
 
@@ -102,16 +102,19 @@ def rings_in(box: Box, fine: str) -> List[Line]:
     return rings_of(lines_of(text, box), box, is_land)
 
 
-def packed_within(rings: Sequence[Line], box: Box, most: int) -> str:
-    """Rings as text, made simpler until that takes so many bytes at most."""
+def packed_within(rings: Sequence[Line], box: Box, metres: int, most: int) -> str:
+    """Rings that may be off by so many metres as text, made simpler until that takes so many bytes
+    at most."""
     level = math.cos(math.radians((box.south + box.north) / 2 / UNIT))
-    off = 1.0
+    step, off = 1.0, 0.0
     while True:
-        rings = [it for it in (simpler_ring(it, off, level) for it in rings) if it]
-        text = base64.b64encode(packed(rings, [UNIT, *box])).decode()
+        rings = [it for it in (simpler_ring(it, step, level) for it in rings) if it]
+        off += step
+        may_be_off = metres + round(off / UNIT * DEGREE_METRES)
+        text = base64.b64encode(packed(rings, [UNIT, *box, may_be_off])).decode()
         if len(text) <= most:
             return text
-        off *= 2
+        step *= 2
 
 
 def is_near_rough(box: Box, text: str) -> bool:
@@ -136,9 +139,9 @@ def around(spots: Sequence[Spot], rough: str) -> str:
     if not box:
         return ""
     why = "no gmt is there"
-    for fine in FINENESS if programs.is_there("gmt") else "":
+    for fine, metres in FINENESS.items() if programs.is_there("gmt") else ():
         try:
-            return packed_within(rings_in(box, fine), box, MOST_BYTES)
+            return packed_within(rings_in(box, fine), box, metres, MOST_BYTES)
         except Fault as fault:
             why = fault.words
     if not is_near_rough(box, rough):

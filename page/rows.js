@@ -1,0 +1,146 @@
+// @ts-check
+// What the tables of a book say: the rows, of which what no column of numbers has is cut out of the
+// text when it is asked for; places, and messages.
+
+import { vectorOf } from "./globe.js";
+import { KINDS, recordOf, recordsOf, secondsAt } from "./reading.js";
+import { letterOf, said } from "./words.js";
+
+/**
+ * A number of a table, where there is one.
+ * @param {string | undefined} text
+ */
+const numeric = text => text ? Number(text) : undefined;
+/** What a row says beside its place, in numbers, each where it says so. */
+const NUMBERS = { course: "course", knots: "speed_knots", metres: "altitude_m",
+  windFrom: "wind_from", wind: "wind_mph", gust: "gust_mph", fahrenheit: "temperature_f",
+  rainHour: "rain_hour", rainDay: "rain_day", rainMidnight: "rain_midnight",
+  humidity: "humidity", pressure: "pressure_tenths", luminosity: "luminosity",
+  range: "range_miles" };
+/** @typedef {Partial<Record<keyof typeof NUMBERS, number>> & { says?: string }} Details */
+
+/** @param {Record<string, string>} it @returns {Details} */
+export function detailsOf(it) {
+  /** @type {Details} */
+  const details = {};
+  for (const [name, column] of Object.entries(NUMBERS)) {
+    const value = numeric(it[column]);
+    if (value !== undefined) details[/** @type {keyof typeof NUMBERS} */ (name)] = value;
+  }
+  if (it.says) details.says = it.says;
+  return details;
+}
+/**
+ * What a symbol of a table is: its two letters.
+ * @param {string} shown
+ */
+function symbolIn(shown) {
+  const table = letterOf(shown);
+  return { table: said(table), code: said(letterOf(shown.slice(table.length))) };
+}
+
+/**
+ * What is known of a thing at a place.
+ * @typedef {{ stamp: string, ambiguity: number, table: string, code: string, comment: string,
+ *   compressed: boolean, north: number, east: number, first: number, last: number,
+ *   receivers: string[], source: string, state: string, vector: number[] } & Details} Place
+ */
+
+/** The transmissions of a table: numbers of rows, in `order` by their first moments. */
+export class Rows {
+  /** @param {string} text @param {import("./reading.js").Read} read */
+  constructor(text, { columns, names, things, lists, until }) {
+    this.text = text;
+    this.names = names;
+    this.things = things;
+    this.until = until;
+    this.lists = lists.map(it => it === "" || it === "-" ? [] : it.split(","));
+    this.kind = columns.kind;
+    this.first = columns.first;
+    this.last = columns.last;
+    this.station = columns.station;
+    this.thing = columns.thing;
+    this.heard = columns.heard;
+    this.via = columns.via;
+    this.begin = columns.begin;
+    this.stop = columns.stop;
+    this.killed = columns.killed;
+    this.urgent = columns.urgent;
+    this.north = columns.north;
+    this.east = columns.east;
+    this.same = columns.same;
+    this.order = columns.order;
+    this.length = columns.order.length;
+  }
+  /**
+   * The numbers of those that were heard since a moment.
+   * @param {number} moment
+   */
+  since(moment) {
+    return moment === -Infinity ? this.order : this.order.filter(k => this.last[k] >= moment);
+  }
+  /**
+   * Whether a row has a place. At 0, 0 is no fix.
+   * @param {number} k
+   */
+  hasPlace(k) {
+    return !Number.isNaN(this.north[k]) && !this.isUnfixed(k);
+  }
+  /** @param {number} k */
+  isUnfixed(k) {
+    return this.north[k] === 0 && this.east[k] === 0;
+  }
+  /**
+   * A row by the names of its columns.
+   * @param {number} k
+   */
+  record(k) {
+    return recordOf(this.names, this.text.slice(this.begin[k], this.stop[k]));
+  }
+  /**
+   * The kind of a row, as the table names it.
+   * @param {number} k
+   */
+  kindOf(k) {
+    return KINDS[this.kind[k]] === "other" ? this.record(k).kind : KINDS[this.kind[k]];
+  }
+  /** @param {number} k @param {string} kind */
+  is(k, kind) {
+    return KINDS[this.kind[k]] === kind;
+  }
+  /**
+   * All that a row says of a place.
+   * @param {number} k
+   * @returns {Place}
+   */
+  placeOf(k) {
+    const it = this.record(k), north = this.north[k], east = this.east[k];
+    return { stamp: it.stamp || "", ambiguity: Number(it.ambiguity || 0), ...symbolIn(it.symbol),
+      comment: it.text || "", compressed: it.compressed === "yes", north, east,
+      first: this.first[k], last: this.last[k], receivers: this.lists[this.heard[k]],
+      source: nameIn(this.things[this.station[k]]), state: this.killed[k] ? "killed" : "live",
+      vector: vectorOf(north, east), ...detailsOf(it) };
+  }
+}
+export const kindIn = (/** @type {string} */ thing) => thing.slice(0, thing.indexOf(" "));
+export const nameIn = (/** @type {string} */ thing) => thing.slice(thing.indexOf(" ") + 1);
+
+/**
+ * A message as it stands in its table.
+ * @typedef {{ source: string, addressee: string, id: string, text: string, state: string,
+ *   first: number, last: number, answered: number, answeredBy: string, order: number }} Message
+ */
+/** @param {Record<string, string>} it @returns {Message} */
+function messageOf(it) {
+  return { source: it.source, addressee: it.addressee, id: it.id, text: it.text,
+    // a reply-ack of APRS 1.1 says what has no number of its own
+    state: it.reply_ack || it.state,
+    first: secondsAt(it.first, 0), last: secondsAt(it.last, 0),
+    answered: it.answer ? secondsAt(it.answer, 0) : NaN, answeredBy: it.answer_source || "",
+    order: 0 };
+}
+/**
+ * The messages of their table.
+ * @param {string} text
+ */
+export const readMessages = text => recordsOf(text).map(messageOf);
