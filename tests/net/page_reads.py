@@ -361,7 +361,7 @@ def test_first_minutes(page, folder):
         late = late.replace(f"T{hour}:", f"T{int(hour) - 2}:")
     files = {"sos.log": hostile.line("2024-06-21T20:28:00Z", "COAST", frame), "late.log": late,
              "torn.log": coast.replace("c000", "c0zz", 1),
-             "who.txt": "Q1SOS-9 sweeper\nQ1RUN-7 leader\nQ1NET\n"}
+             "who.txt": "Q1SOS-9 sweeper\nQ1MED-7 second post\nQ1NET\n"}
     for name, text in files.items():
         (folder / name).write_text(text)
     fresh(page)
@@ -370,8 +370,8 @@ def test_first_minutes(page, folder):
     page.wait("document.getElementById('news').textContent.includes('sweeper')")
     is_(page.js("[...document.querySelectorAll('#news > *')].map(it => it.textContent)"), [
         "EMERGENCY: sweeper (Q1SOS-9), 20:28:00", "1 message unanswered", "1 message rejected",
-        "7 stations silent for over 30 min",
-        "1 of 3 expected not heard for 30 min: leader (Q1RUN-7)",
+        "6 stations silent for over 30 min",
+        "1 of 3 expected not heard for 30 min: second post (Q1MED-7)",
         "the clock of LATE is \u22122 h from the others", "torn.log was left out: line 1: Hex"])
     is_(page.js("[...document.querySelectorAll('#news > *')].every(it => { "
                 "const { top, bottom } = it.getBoundingClientRect(); "
