@@ -276,7 +276,7 @@ pub(crate) fn clap_fault(error: clap::Error) -> JobFault
 
 /// What clap finds in the arguments of a program that gathers inputs, and the gap that they choose:
 /// 30 seconds where they give none. Fails where the command doesn't take the arguments, or where an
-/// allocation failed. (An unreadable gap would be `Options`, but the command has refused it before.)
+/// allocation failed. (An unreadable gap would be `Options`, but clap has refused it before.)
 pub(crate) fn read_matches_and_gap<'a>(
     command: &mut Command<'a>,
     arguments: &'a [&'a str],
