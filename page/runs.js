@@ -27,23 +27,23 @@ export class Refused extends Error {
  * @type {{ all: Given[], gap: number, got: Begun } | null}
  */
 let early = null;
-/** Of so many bytes at most, the table is made of the files themselves. */
+/** So many bytes at most are read by several runs at once. */
 const EARLY_BYTES = 2 ** 26;
 /**
  * Begins with files that aren't checked yet. Files have the same table as their book, so it need
- * not wait for the book; but two runs then hold all files at once, so only where they are small.
+ * not wait for the book; but each run holds all files, so only where they are small.
  * @param {Given[]} all
  * @param {number} gap
  */
 export function beginEarly(all, gap) {
   const inputs = all.map(it => it.taken || it.bytes);
-  const size = inputs.reduce((sum, it) => sum + it.length, 0);
+  early = null;
+  if (inputs.reduce((sum, it) => sum + it.length, 0) > EARLY_BYTES) return;
   const begin = (/** @type {Command} */ command, /** @type {Uint8Array[]} */ given) =>
     run(command, gap, given).catch(() => null);
-  const rows = size <= EARLY_BYTES ? begin("rows", inputs) : null, merge = begin("merge", inputs);
-  const ofBook = (/** @type {Command} */ command) =>
-    merge.then(book => book?.status === 0 ? begin(command, [book.bytes]) : null);
-  early = { all, gap, got: { merge, rows: rows || ofBook("rows"), messages: ofBook("messages") } };
+  const rows = begin("rows", inputs), merge = begin("merge", inputs);
+  const messages = merge.then(book => book?.status === 0 ? begin("messages", [book.bytes]) : null);
+  early = { all, gap, got: { merge, rows, messages } };
 }
 /**
  * Book and tables of these files, also where they began early and well.

@@ -10,7 +10,7 @@
  * A run that is asked for: a command of the program, or `rows` or `messages`, which gives a table.
  * @typedef {{ command: string, options: import("./host.js").Options, inputs: Uint8Array[] }} Asked
  */
-/** @typedef {{ it: Worker, busy: number }} Hand */
+/** @typedef {{ it: Worker, busy: number, isLarge: boolean }} Hand */
 
 /** @type {Hand[]} */
 const hands = [];
@@ -21,23 +21,37 @@ const queue = [];
 let last = 0;
 /** So many bytes are copied without a pause. */
 const PIECE = 2 ** 23;
+/** After a run over more bytes than these a worker is replaced, which frees its memory at once. */
+const LARGE = 2 ** 26;
+/**
+ * What workers are made of: their script, the module, and who hears that one stopped.
+ * @type {{ script: string, module: WebAssembly.Module | null, onStop: (fault: string) => void }}
+ */
+const made = { script: "", module: null, onStop: () => {} };
 export const aMoment = () => new Promise(done => setTimeout(done));
 
-/** @param {string} script @param {(fault: string) => void} onStop */
-function addWorker(script, onStop) {
-  const url = URL.createObjectURL(new Blob([script], { type: "text/javascript" }));
-  const hand = { it: new Worker(url), busy: 1 };
+/** Adds a worker, which loads the module. */
+function addWorker() {
+  const url = URL.createObjectURL(new Blob([made.script], { type: "text/javascript" }));
+  const hand = { it: new Worker(url), busy: 1, isLarge: false };
   hand.it.onmessage = ({ data: [id, value, fault] }) => {
     const [done, fail] = asked.get(id) || [() => {}, () => {}];
     asked.delete(id);
     hand.busy--;
     if (fault) fail(new Error(fault));
     else done(value);
-    queue.shift()?.();
+    if (hand.isLarge) replace(hand);
+    else queue.shift()?.();
   };
-  hand.it.onerror = event => onStop(event.message);
+  hand.it.onerror = event => made.onStop(event.message);
   hands.push(hand);
-  return hand;
+  return ask(hand, "load", made.module);
+}
+/** @param {Hand} hand */
+function replace(hand) {
+  hand.it.terminate();
+  hands.splice(hands.indexOf(hand), 1);
+  addWorker().catch(fault => made.onStop(fault.message));
 }
 /**
  * Asks a worker, which is busy already.
@@ -60,8 +74,8 @@ function ask(hand, what, given, buffers = []) {
  */
 export async function beginWorkers(script, module, onStop) {
   const many = Math.max(2, Math.min(3, navigator.hardwareConcurrency || 2));
-  await Promise.all(Array.from({ length: many }, () =>
-    ask(addWorker(script, onStop), "load", module)));
+  Object.assign(made, { script, module, onStop });
+  await Promise.all(Array.from({ length: many }, addWorker));
 }
 /**
  * Copies, with a pause after some of them, so that the page doesn't stand still for large ones.
@@ -92,6 +106,7 @@ export async function run(command, options, inputs) {
   while (!(free = hands.find(it => !it.busy)))
     await new Promise(done => queue.push(() => done(null)));
   free.busy++;
+  free.isLarge = inputs.reduce((sum, it) => sum + it.length, 0) > LARGE;
   // a copy that is handed over takes less time than what a browser copies itself
   const copies = await copiesOf(inputs), buffers = copies.map(it => it.buffer);
   return ask(free, "run", { command, options, inputs: copies }, buffers);

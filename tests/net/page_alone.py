@@ -184,8 +184,7 @@ def squares(page):
     """A red square lies below the middle of the map."""
     page.js("(aprsbook.page.map.look('54.65,-3.5,20'), aprsbook.page.map.paint())")
     page.wait("[...aprsbook.page.map.tiles.made.values()].some(Boolean)")
-    page.settle()
-    is_(page.js(BESIDE_MIDDLE), "200,30,30")
+    page.wait(f"{BESIDE_MIDDLE} === '200,30,30'")
     assert "400 squares" in page.js("document.getElementById('own-map').textContent")
     picture(page, "tiles")
 
