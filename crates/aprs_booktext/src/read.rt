@@ -107,8 +107,8 @@ pub fn read_rows<R: Read, A: Allocator + Copy>(
     rows_of_text(alloc, limit, head, source, rows)
 }
 
-/// The book of a text, which is made before the end is asked for: after that nothing may be short of
-/// memory.
+/// The book of a text, which is made before the end is asked for: after that nothing may be short
+/// of memory.
 fn book_of_text<R: Read, A: Allocator + Copy>(
     alloc: A,
     limit: u64,
@@ -152,8 +152,8 @@ fn rows_of_text<R: Read, A: Allocator + Copy>(
     answer
 }
 
-/// The rows of a text that begins with `head`, each of which is to be kept. Where memory is refused,
-/// that is in the first line.
+/// The rows of a text that begins with `head`, each of which is to be kept. Where memory is
+/// refused, that is in the first line.
 fn stream_of<A: Allocator + Copy>(
     alloc: A,
     limit: u64,

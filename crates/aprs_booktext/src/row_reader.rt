@@ -304,8 +304,8 @@ fn is_row_between(before: &Stage, after: &Stage) -> bool
 }
 
 /// Judges a whole line at this stage, after so many rows, of which `rows` has those that are kept,
-/// and returns the stage after it. A row of the line is kept too. Fails with the cause for which the
-/// line is wrong, or with `Memory` where an allocation failed.
+/// and returns the stage after it. A row of the line is kept too. Fails with the cause for which
+/// the line is wrong, or with `Memory` where an allocation failed.
 fn judge<A: Allocator + Copy>(
     stage: Stage,
     keeping: Keeping,

@@ -43,8 +43,8 @@ impl<A: Allocator + Copy> RowStream<A> {
         RowStream::with_head(alloc, limit, &[], Keeping::Last)
     }
 
-    /// The rows of a text of at most `limit` bytes, which begins with `head`, and of which these are
-    /// to be kept.
+    /// The rows of a text of at most `limit` bytes, which begins with `head`, and of which these
+    /// are to be kept.
     pub(crate) fn with_head(
         alloc: A,
         limit: u64,

@@ -79,8 +79,8 @@ fn put_thing<W: Write>(out: &mut Outlet<'_, W>, heard: &Heard<'_>) -> Result<(),
 }
 
 /// Puts a line of an object or an item, as `kind` says: its name, whether it is live or killed,
-/// when, by whom and from whom it was heard, and these fields of where it is. Fails where the output
-/// is refused.
+/// when, by whom and from whom it was heard, and these fields of where it is. Fails where the
+/// output is refused.
 fn put_named<'a, W: Write>(
     out: &mut Outlet<'_, W>,
     kind: &'a [u8],

@@ -52,8 +52,8 @@ pub fn compressed_examples()
 {}
 
 /// Examples of symbols: the tables `/`, `\`, digits and capitals, and the codes `!` to `~`. In a
-/// compressed position the letters a to j stand for the digits. The bytes next to these are no table
-/// and no code.
+/// compressed position the letters a to j stand for the digits. The bytes next to these are no
+/// table and no code.
 pub fn symbol_examples()
     ensures primary { Example (symbol_field 47 33) (with_symbol 47 33) }
     ensures alternate { Example (symbol_field 92 126) (with_symbol 92 126) }
@@ -88,8 +88,8 @@ pub fn stamped_examples()
     ensures after_digits { Example (codes "@:92345z4903.50N/07201.75W>") raw }
 {}
 
-/// Examples of names: those of objects, items and addressees have spaces to `~`, and spaces at their
-/// end are no part of them. `..ending` has this byte at the end of the name.
+/// Examples of names: those of objects, items and addressees have spaces to `~`, and spaces at
+/// their end are no part of them. `..ending` has this byte at the end of the name.
 pub fn name_examples()
     ensures object { Example (object_field 126) (object_ending 126) }
     ensures object_least { Example (object_field 33) (object_ending 33) }

@@ -220,9 +220,9 @@ pub extern "C" fn aprs_history(
 }
 
 /// Writes a table of the book of several inputs, logs or books, under a gap of so many seconds.
-/// `table` is the text that names it, such as `rows`. The inputs lie one after the other in `inputs`
-/// and have these lengths. No run where the text names no table, the seconds are no gap, or the
-/// lengths don't add up to that of `inputs`. Where an input is refused, nothing is written.
+/// `table` is the text that names it, such as `rows`. The inputs lie one after the other in
+/// `inputs` and have these lengths. No run where the text names no table, the seconds are no gap,
+/// or the lengths don't add up to that of `inputs`. Where an input is refused, nothing is written.
 #[unsafe(no_mangle)]
 pub extern "C" fn aprs_table(
     region: Region,

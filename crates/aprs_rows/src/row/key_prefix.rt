@@ -74,9 +74,9 @@ pub fn order_of_keys(a: &Frame, b: &Frame) -> Ordering
     )
 }
 
-/// The number of the callsign in the seven octets of an address, which one more follows: base 256, of
-/// the six letters and then the SSID. In the octets each letter is shifted left by one bit, and the
-/// SSID is bits 1 to 4 of the last. One load takes all of them.
+/// The number of the callsign in the seven octets of an address, which one more follows: base 256,
+/// of the six letters and then the SSID. In the octets each letter is shifted left by one bit, and
+/// the SSID is bits 1 to 4 of the last. One load takes all of them.
 fn call_number(octets: &[u8]) -> u64
     requires size { length octets.now ≡ 8 }
     requires even { (i : ℕ) → i < 6 → slice_index octets.now i % 2 ≡ 0 }
