@@ -76,7 +76,7 @@ export function* eventPieces(squares) {
     STYLE: document.querySelector("style")?.textContent || "",
     POLICY: `default-src 'none'; script-src ${digests.draws}; style-src ${digests.style}; ` +
       "base-uri 'none'; form-action 'none'",
-    FILES: "", COAST: textOf("coast"), FOOTER: "Made by event-page from a book of aprsbook.",
+    FILES: "", COAST: textOf("coast"), FOOTER: "Made by aprs-net page from a book of aprsbook.",
     SCRIPTS: `<script>${textOf("draws")}<\/script>` };
   const [before, after] = shell.split("@DATA@").map(text =>
     text.replace(/@([A-Z]+)@/g, (_, /** @type {string} */ name) => values[name]));

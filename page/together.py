@@ -109,7 +109,7 @@ def event(data):
     asks = "; connect-src 'self'" if data["live"] else ""
     return filled({
         "TITLE": html.escape(data["title"]), "STYLE": style, "FILES": "",
-        "POLICY": policy([draws], style) + asks, "FOOTER": FOOTER.format("event-page"),
+        "POLICY": policy([draws], style) + asks, "FOOTER": FOOTER.format("aprs-net page"),
         "COAST": coast(), "DATA": as_data(data), "SCRIPTS": f"<script>{draws}</script>",
     })
 
