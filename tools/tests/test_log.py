@@ -12,6 +12,7 @@ import pytest
 
 from aprsbook_tools import ax25, kiss, log_file, sources
 from aprsbook_tools.commands import log as log_command
+from aprsbook_tools.imports import feed
 from conftest import started, tried, wait_for
 
 FRAME = bytes.fromhex("c00082a0a4a64040e09c60868298986f03f03e4869c0")
@@ -79,7 +80,8 @@ def test_a_full_disk(tmp_path: pathlib.Path) -> None:
     ["--ports", "12345678901234", "made"], ["--aprs-is", "h:1", "RX1", "made"],
     ["--filter", "r/1/2/3", "RX1", "made"], ["--idle", "-1", "RX1", "made"],
     ["--baud", "1", "RX1", "made"], ["--own", "Q0OWN-16", "RX1", "made"],
-    ["--aprs-is", "h:1", "--call", "Q0X", "--filter", "a\nb", "RX1", "made"]])
+    ["--aprs-is", "h:1", "--call", "Q0X", "--filter", "a\nb", "RX1", "made"],
+    ["--aprs-is", "h:1", "--call", "Q0X", "--filter", "\udcff", "RX1", "made"]])
 def test_wrong_arguments(tmp_path: pathlib.Path, wrong: List[str]) -> None:
     (tmp_path / "file").write_bytes(b"")
     assert tried("log", *wrong, status=2, cwd=tmp_path).stderr.count(b"error: ") == 1
@@ -371,6 +373,52 @@ def test_a_feed_of_aprs_is(server: Server) -> None:
     assert lines[0].endswith(kiss.wrap(frame).hex().encode())
     said = server.said.read_text()
     assert "Q1lower is no call" in said and "unverified" in said
+
+
+FORGED = b"Q1BAD>APDW17,qAR,Q0GATE-1:>it stands within a line\n"
+GOOD = b"Q1RUN-7>APDW17,qAR,Q0GATE-1:>Hi\r\n"
+
+
+@pytest.mark.parametrize("size", [1, 100, 2049, 4096, 200_000])
+def test_a_line_that_is_too_long_is_noise_to_its_end(size: int) -> None:
+    """However it is cut, no part of it is a packet, and it is said once."""
+    said: List[str] = []
+    lines = feed.Lines(said.append)
+    long = b"x" * (feed.LONGEST + 1)
+    stream = GOOD + long + FORGED + long * 9 + FORGED + GOOD
+    heard = [it for at in range(0, len(stream), size) for it in lines.feed(stream[at:at + size])]
+    frame = kiss.wrap(ax25.frame("Q1RUN-7", "APDW17", b">Hi"))
+    assert heard == [("Q0GATE-1", frame)] * 2 and said == [feed.NOISE] * 2
+
+
+def test_what_a_server_says_is_no_order_to_a_terminal() -> None:
+    """And a text off the air isn't what a server says."""
+    said: List[str] = []
+    feed_of = feed.Lines(said.append).feed
+    assert [*feed_of(b"# logresp \x1b]0;x\x07\n# port full \x1b[2J\nQ1X>APRS:>full\x1b[2J\n")] == []
+    assert len(said) == 2 and all(map(str.isprintable, said))
+
+
+@pytest.mark.parametrize("name", ["SIGHUP", "SIGINT"])
+@pytest.mark.parametrize("words", [["log", "RX1"], ["follow", "--every", "60", "logs"]])
+def test_a_signal_that_is_ignored_ends_nothing(
+        tmp_path: pathlib.Path, words: List[str], name: str) -> None:
+    """As with nohup, once the terminal is closed."""
+    number = getattr(signal, name)
+    process = started(*words, "made", cwd=tmp_path, stdin=subprocess.PIPE,
+                      preexec_fn=lambda: signal.signal(number, signal.SIG_IGN))
+    assert process.stdin is not None and process.stderr is not None
+    process.stdin.write(FRAME)
+    process.stdin.flush()
+    if words[0] == "log":
+        wait_for(lambda: count(tmp_path / "made") == 1)
+    else:
+        process.stderr.readline()  # there are no logs
+    process.send_signal(number)
+    with pytest.raises(subprocess.TimeoutExpired):
+        process.wait(0.5)
+    process.kill()
+    process.communicate()
 
 
 def test_words_are_said_whatever_standard_error_is(monkeypatch: pytest.MonkeyPatch) -> None:

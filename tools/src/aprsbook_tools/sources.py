@@ -4,13 +4,12 @@ is made again at once."""
 import os
 import re
 import select
-import signal
 import socket
 import sys
 import time
 from typing import Any, Callable, List, NamedTuple, Optional, Tuple
 
-from aprsbook_tools import VERSION
+from aprsbook_tools import VERSION, signals
 from aprsbook_tools.errors import Fault, said
 
 AGAIN = 5.0  # seconds from one try to the next
@@ -52,9 +51,7 @@ class Waiting:
 
     def heed(self) -> None:
         """Takes SIGINT, SIGTERM and SIGHUP as asking for the end."""
-        for name in ("SIGINT", "SIGTERM", "SIGHUP"):
-            if hasattr(signal, name):
-                signal.signal(getattr(signal, name), self.ask)
+        signals.heed(self.ask, "SIGINT", "SIGTERM", "SIGHUP")
 
     def ask(self, *_: object) -> None:
         self.asked = True

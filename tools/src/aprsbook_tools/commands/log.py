@@ -86,8 +86,8 @@ def refusal(args: argparse.Namespace) -> Optional[str]:
         return "--aprs-is needs --call CALL, for its login"
     if args.filter and not args.aprs_is:
         return "--filter is for --aprs-is"
-    if re.search(r"[\r\n]", args.filter):
-        return "--filter is one line"
+    if not re.fullmatch("[ -~]*", args.filter):
+        return "--filter is one line of ASCII"
     try:
         os.makedirs(args.folder, exist_ok=True)
         with tempfile.TemporaryFile(dir=args.folder):
