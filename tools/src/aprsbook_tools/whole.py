@@ -43,7 +43,7 @@ def check(path: str, inputs: Sequence[str] = ()) -> str:
     if os.path.basename(path) in ("", ".", "..") or os.path.islink(real):
         raise Fault(f"'{path}' is no file, and can't become one", errors.OUTPUT)
     for it in inputs:
-        if os.path.realpath(it) == real or is_same(it, real):
+        if is_same(it, real):
             raise Fault(f"{path} is an input: it would be replaced", errors.ARGUMENTS)
     if not os.path.exists(real):
         if not os.path.isdir(os.path.dirname(real)):
@@ -61,7 +61,7 @@ def is_same(one: str, other: str) -> bool:
     try:
         return os.path.samefile(one, other)
     except OSError:
-        return False
+        return os.path.realpath(one) == os.path.realpath(other)
 
 
 def is_log(path: str) -> bool:
