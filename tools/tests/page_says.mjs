@@ -7,8 +7,9 @@ const page = name => import(pathToFileURL(`${process.argv[2]}/${name}.js`).href)
 const { pairsOf } = await page("clocks");
 const { SAVES, savedText } = await page("exports");
 const { netOf } = await page("net");
-const { columnsOf, readMessages, Rows } = await page("reading");
+const { columnsOf } = await page("reading");
 const { expectedOf, readRoster } = await page("roster");
+const { readMessages, Rows } = await page("rows");
 
 function ended(steps) {
   for (;;) {
