@@ -339,6 +339,37 @@ def test_a_serial_port_that_is_unplugged(tmp_path: pathlib.Path) -> None:
     assert last.endswith(b" RX1 c00003040d0a11131a7fffc0")
 
 
+def test_a_file_is_no_serial_port(tmp_path: pathlib.Path) -> None:
+    """As a copy makes one in /dev while the TNC is unplugged: it would be read again and again."""
+    device, said = tmp_path / "ttyUSB0", tmp_path / "said.txt"
+    device.write_bytes(FRAME)
+    with open(said, "wb") as file:
+        process = started("log", "--serial", device, "RX1", tmp_path / "logs", stderr=file)
+    wait_for(lambda: str(device) in said.read_text())
+    process.terminate()
+    assert process.wait() == 0 and count(tmp_path / "logs") == 0
+
+
+def test_two_loggers_do_not_share_the_bytes_of_a_serial_port(tmp_path: pathlib.Path) -> None:
+    said = tmp_path / "said.txt"
+    ours, theirs = os.openpty()
+    words = "log", "--serial", os.ttyname(theirs), "RX1", tmp_path / "logs"
+    one = started(*words)
+    assert one.stderr is not None and b"is open" in one.stderr.readline()
+    with open(said, "wb") as file:
+        other = started(*words, stderr=file)
+    try:
+        wait_for(lambda: "another logger reads it" in said.read_text())
+        os.write(ours, FRAME * 2)
+        wait_for(lambda: count(tmp_path / "logs") == 2)
+    finally:
+        for process in one, other:
+            process.kill()
+            process.communicate()
+        os.close(ours)
+        os.close(theirs)
+
+
 FEED = b"""# logresp Q0CALL unverified, server T2TEST\r
 Q1RUN-7>APDW17,Q1DIG,WIDE1*,WIDE2-1,qAR,Q0GATE-1:!5432.58N/00327.36W>caf\xc3\xa9 <0x41>\r
 Q1RUN-7>APDW17,qAO,Q0OTHER:!5432.58N/00327.36W>caf\xc3\xa9 <0x41>\r

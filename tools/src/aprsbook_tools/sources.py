@@ -146,14 +146,19 @@ class Serial(Source):
 
     def open(self, waiting: Waiting) -> Input:
         try:
+            import fcntl
             import termios
         except ImportError:
             return self.open_elsewhere()
         flags = os.O_RDONLY | os.O_NOCTTY | os.O_NONBLOCK
         file = os.open(self.path, flags)
         try:
-            if os.isatty(file):
-                make_raw(file, self.baud)
+            make_raw(file, self.baud)
+            # of two that read, each would get some of the bytes
+            fcntl.flock(file, fcntl.LOCK_EX | fcntl.LOCK_NB)
+        except BlockingIOError:
+            os.close(file)
+            raise OSError(f"{self.path}: another logger reads it")
         except (OSError, termios.error) as fault:
             os.close(file)
             raise OSError(f"{self.path}: {fault.args[-1]}")
