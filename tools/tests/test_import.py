@@ -335,6 +335,13 @@ def test_a_line_of_a_csv_that_was_cut_short_takes_no_other_in(torn: bytes) -> No
     assert said.count("\n") == 3
 
 
+@pytest.mark.parametrize("utime", [b"", b"x", b"-1", b"4102444800", b"9" * 5000],
+                         ids=["none", "x", "-1", "2100", "long"])
+def test_a_moment_of_a_csv_that_cannot_be_told(utime: bytes) -> None:
+    text = CSV.replace(b"1718992800", utime)
+    assert text != CSV and "line 2" in imported(text, "direwolf-csv", status=1)[1]
+
+
 ATEST = b"""DECODED[1] 1:02.345 N0CALL audio level = 50(21/22)     |||||||||
   000:  82 a0 a4 a6 40 40 e0 9c 60 86 82 98 98 6f 03 f0  ....@@..`....o..
   010:  3e 48 69                                         >Hi
