@@ -39,7 +39,7 @@ class Lines:
         """The frame of a line, if a gate heard it. What the server says of the login is said."""
         if line.startswith(b"#"):
             if b"logresp" in line or b"full" in line:
-                self.say(f"{line[:200]!r}")
+                self.say(repr(line[:200])[2:-1])
             return
         try:
             heard = gated(line)
