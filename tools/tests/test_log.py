@@ -1,4 +1,6 @@
 """aprs-net log: streams, servers that end, serial ports, APRS-IS, full disks and signals."""
+import argparse
+import errno
 import os
 import pathlib
 import resource
@@ -6,7 +8,7 @@ import signal
 import socket
 import subprocess
 import time
-from typing import Any, Dict, List
+from typing import Any, Dict, List, Optional
 
 import pytest
 
@@ -72,6 +74,18 @@ def test_a_full_disk(tmp_path: pathlib.Path) -> None:
     assert 900 < sum(len(it) + 1 for it in logs(tmp_path)["RX1.log"]) <= 1000
     assert f"frames that are lost: {40 - before}" in text
     assert run(tmp_path, FRAME) == "" and count(tmp_path) == before + 1
+
+
+@pytest.mark.parametrize("number, words", [
+    (errno.ENOSPC, None), (errno.EDQUOT, None), (errno.EROFS, "logs is no folder to write to: ")])
+def test_a_disk_that_is_full_at_the_start(
+        monkeypatch: pytest.MonkeyPatch, number: int, words: Optional[str]) -> None:
+    """The logger begins, and holds frames until there is room."""
+    def refuse(*_: object, **__: object) -> None:
+        raise OSError(number, os.strerror(number))
+    monkeypatch.setattr(os, "makedirs", refuse)
+    args = argparse.Namespace(ports=False, aprs_is=None, filter="", folder="logs", name="RX1")
+    assert log_command.refusal(args) == (words and words + os.strerror(number))
 
 
 @pytest.mark.parametrize("wrong", [

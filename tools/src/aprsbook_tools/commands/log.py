@@ -1,5 +1,6 @@
 """aprs-net log: a log of a receiver, for days on end."""
 import argparse
+import errno
 import os
 import re
 import tempfile
@@ -93,7 +94,9 @@ def refusal(args: argparse.Namespace) -> Optional[str]:
         with tempfile.TemporaryFile(dir=args.folder):
             pass
     except OSError as fault:
-        return f"{args.folder} is no folder to write to: {fault.strerror}"
+        # a full disk may get room: until then frames are held
+        if fault.errno not in (errno.ENOSPC, errno.EDQUOT):
+            return f"{args.folder} is no folder to write to: {fault.strerror}"
     return None
 
 
