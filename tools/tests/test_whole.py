@@ -201,6 +201,20 @@ def test_standard_input_is_never_replaced(tmp_path: pathlib.Path) -> None:
     assert done.returncode == 2 and path.read_bytes() == b"a\tb\n"
 
 
+def test_a_reader_that_is_slow_gets_all(tmp_path: pathlib.Path) -> None:
+    """Also of a pipe that doesn't wait, as programs of Node make it for those that they start."""
+    fields = tmp_path / "fields"
+    fields.write_bytes(b"x\n" * 200_000)
+    reads, writes = os.pipe()
+    os.set_blocking(writes, False)
+    process = subprocess.Popen(command("csv", "fields", fields), stdout=writes, env=environment())
+    os.close(writes)
+    time.sleep(1)
+    with open(reads, "rb") as file:
+        assert file.read() == b"x\n" * 200_000
+    assert process.wait() == 0
+
+
 @pytest.mark.parametrize("ending", [".log.gz", ".book.xz", ".csv.bz2"])
 def test_nothing_is_called_compressed_that_is_not(tmp_path: pathlib.Path, ending: str) -> None:
     with pytest.raises(Fault):

@@ -9,6 +9,7 @@ import errno
 import filecmp
 import os
 import re
+import select
 import stat
 import sys
 import tempfile
@@ -204,7 +205,10 @@ def write_out(octets: bytes) -> None:
         sys.stdout.flush()
         left = memoryview(octets)
         while left:
-            left = left[os.write(1, left):]
+            try:
+                left = left[os.write(1, left):]
+            except BlockingIOError:  # another program set it so
+                select.select([], [1], [])
     except OSError as fault:
         raise Fault(f"standard output: {said(fault)}", errors.OUTPUT) from fault
 
