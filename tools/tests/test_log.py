@@ -359,8 +359,10 @@ def test_a_file_is_no_serial_port(tmp_path: pathlib.Path) -> None:
     device.write_bytes(FRAME)
     with open(said, "wb") as file:
         process = started("log", "--serial", device, "RX1", tmp_path / "logs", stderr=file)
-    wait_for(lambda: str(device) in said.read_text())
-    process.terminate()
+    try:
+        wait_for(lambda: str(device) in said.read_text())
+    finally:
+        process.terminate()
     assert process.wait() == 0 and count(tmp_path / "logs") == 0
 
 

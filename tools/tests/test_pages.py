@@ -342,8 +342,10 @@ def test_one_file_leaves_no_other_when_it_is_killed(
     keeps = {**os.environ, "TMPDIR": str(held)}
     process = subprocess.Popen([sys.executable, pyz, *words], env=keeps)
     page = tmp_path / "out" / "index.html"
-    wait_for(page.exists)
-    process.kill()
-    process.wait()
+    try:
+        wait_for(page.exists)
+    finally:
+        process.kill()
+        process.wait()
     assert [*held.iterdir()] == []
     assert data_of(page.read_text())["title"] == "APRS net"
