@@ -1,4 +1,5 @@
 # The commands of this repository. The kit's `rt` does the work.
+unexport CDPATH # by which a script's cd goes elsewhere
 PREFIX ?= /usr/local
 PROGRAM = crates/aprsbook/out/aprsbook
 HISTORY = crates/aprsbook_history/out/aprsbook_history

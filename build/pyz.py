@@ -10,20 +10,8 @@ import zipfile
 REPOSITORY = pathlib.Path(__file__).resolve().parent.parent
 SOURCES = REPOSITORY / "tools/src"
 DAY = (1980, 1, 1, 0, 0, 0)  # of each file in it
-MAIN = '''"""aprs-net, of the archive in which this lies. A page is drawn of files beside this one."""
-import atexit
-import os
-import shutil
+MAIN = '''"""aprs-net, of the archive in which this lies."""
 import sys
-import tempfile
-import zipfile
-
-if sys.argv[1:2] in (["page"], ["follow"]) and "APRSBOOK_PAGE" not in os.environ:
-    folder = tempfile.mkdtemp()
-    atexit.register(shutil.rmtree, folder, True)
-    with zipfile.ZipFile(sys.path[0]) as archive:
-        archive.extractall(folder, [it for it in archive.namelist() if it.startswith("page/")])
-    os.environ["APRSBOOK_PAGE"] = os.path.join(folder, "page")
 
 from aprsbook_tools.cli import main
 

@@ -3,7 +3,8 @@
 # all may read them.
 set -eu
 umask 022
-mkdir -p "${1:-/usr/local}"
-prefix=$(cd "${1:-/usr/local}" && pwd)
-cd "$(dirname "$0")"
+unset CDPATH # by which cd goes elsewhere, and says so
+mkdir -p -- "${1:-/usr/local}"
+prefix=$(cd -- "${1:-/usr/local}" && pwd)
+cd -- "$(dirname -- "$0")"
 cp -RPf bin lib share "$prefix"

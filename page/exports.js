@@ -15,7 +15,7 @@ import { isoText, said } from "./words.js";
  * @param {string} text
  */
 function csvText(text) {
-  const isFormula = /^'* *[=+\-@\t\r]/.test(text) && !/^-?[0-9]+(\.[0-9]+)?$/.test(text);
+  const isFormula = /^'* *[=+\-@\t\r\uff0b\uff0d\uff1d\uff20]/.test(text) && !/^-?[0-9]+(\.[0-9]+)?$/.test(text);
   const safe = isFormula ? "'" + text : text;
   return /[",\n\r]/.test(safe) ? `"${safe.replaceAll('"', '""')}"` : safe;
 }
@@ -172,14 +172,17 @@ function* geoJsonOf(net) {
   }
   yield begin === "," ? "]}\n" : begin + "]}\n";
 }
-/** @param {Net} net @param {{ title: string }} data @returns {Pieces} */
+/**
+ * A description is read as HTML: what came off the air is its text.
+ * @param {Net} net @param {{ title: string }} data @returns {Pieces}
+ */
 function* kmlOf({ placed }, { title }) {
   const spot = (/** @type {Place} */ it) => `${decimal(it.east)},${decimal(it.north)}`;
   yield '<?xml version="1.0" encoding="UTF-8"?>\n<kml xmlns="http://www.opengis.net/kml/2.2">' +
     `<Document><name>${markup(title)}</name>\n`;
   for (const it of placed)
     yield `<Placemark><name>${markup(it.label)}</name>` +
-      `<description>${markup(said(nowOf(it).comment))}</description>` +
+      `<description>${markup(markup(said(nowOf(it).comment)))}</description>` +
       `<TimeStamp><when>${isoText(nowOf(it).first)}</when></TimeStamp>` +
       `<Point><coordinates>${spot(nowOf(it))}</coordinates></Point></Placemark>\n`;
   for (const it of placed.filter(hasMoved)) {

@@ -83,7 +83,7 @@ done
 [ ! -e none ] || fail 'make install puts something in place without a program'
 mkdir -p 'a root/usr/bin'
 : > 'a root/usr/bin/other'
-(umask 077 && make_it install DESTDIR="$scratch/a root" PREFIX=/usr)
+(umask 077 && export CDPATH=. && make_it install DESTDIR="$scratch/a root" PREFIX=/usr)
 runs 'a root/usr'
 cp -R 'a root/usr' installed
 make_it uninstall DESTDIR="$scratch/a root" PREFIX=/usr
@@ -112,7 +112,7 @@ if has 'make tarball' tar; then
     twice make-tarball amd64 "$program" "$history" "$table" "$fold"
     tar -xzf make-tarball-amd64/*.tar.gz
     # and again, over itself; all may read it, whoever puts it there
-    "aprsbook-$version/install.sh" prefix
+    CDPATH=.:/ "aprsbook-$version/install.sh" prefix
     (umask 077 && "aprsbook-$version/install.sh" prefix && "aprsbook-$version/install.sh" private)
     [ -z "$(find private ! -type l ! -perm -4)" ] || fail 'install.sh keeps files from others'
     diff -r --no-dereference installed prefix || fail 'the tar file has other files than make install'

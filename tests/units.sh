@@ -47,9 +47,9 @@ calls aprs-log@.service RX1 'log --connect localhost:8001 RX1 logs'
 calls aprs-log@.service RX-2:8002 'log --connect localhost:8002 --ports RX-2 logs' --ports
 calls aprs-serial@.service ttyUSB0 'log --serial /dev/ttyUSB0 --baud 9600 ttyUSB0 logs'
 calls aprs-serial@.service ttyUSB0:RX1 'log --serial /dev/ttyUSB0 --baud 9600 RX1 logs'
-export CALL=Q0CALL FILTER='r/54.5/-3.5/50 t/p'
+export CALL=Q0CALL FILTER='-t/o r/54.5/-3.5/50'
 calls aprs-is@.service FEED \
-    'log --aprs-is localhost:14580 --call Q0CALL --filter r/54.5/-3.5/50 t/p FEED logs'
+    'log --aprs-is localhost:14580 --call Q0CALL --filter=-t/o r/54.5/-3.5/50 FEED logs'
 calls aprs-book.service '' 'book --days days net.book logs'
 # the file below /etc says what the units say where it isn't there
 for unit in "$units"/*.service; do

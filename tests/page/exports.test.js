@@ -17,10 +17,11 @@ test("places: a row for each, with what the table says, and no formula", () => {
 });
 test("messages: in the table's states, bulletins too", () => {
   const net = netOfLines([], [message("Q1A", "Q1B", "hi", "acknowledged", 5, { id: "7" }),
-    message("Q1A", "BLN1", "' =2", "unnumbered", 4)]);
+    message("Q1A", "BLN1", "' =2", "unnumbered", 4),
+    message("Q1A", "BLN2", "\\xef\\xbc\\x9d1", "unnumbered", 6)]);
   assert.deepEqual(savedText("messages (CSV)", net).split("\n"), [
     "time,from,number,to,message,state", `${moment(4)},Q1A,,BLN1,'' =2,unnumbered`,
-    `${moment(5)},Q1A,7,Q1B,hi,acknowledged`, ""]);
+    `${moment(5)},Q1A,7,Q1B,hi,acknowledged`, `${moment(6)},Q1A,,BLN2,'\uff1d1,unnumbered`, ""]);
 });
 test("a track over the date line is cut there", () => {
   const net = netOfLines([place(0, "Q1A", 0, 179.5), place(9, "Q1A", 0, -179.5)]);
@@ -41,6 +42,11 @@ test("a killed object ends a track's segment", () => {
     [of(0, "live", 1), of(1, "killed", 2), of(2, "live", 3), of(3, "live", 4)]);
   const gpx = savedText("places and tracks (GPX)", net, { title: "x" });
   assert.equal(gpx.split("<trkseg>").length - 1, 2);
+});
+test("a description in KML is text of HTML", () => {
+  const net = netOfLines([place(0, "Q1A", 1, 2, { text: "<b>&" })]);
+  assert.match(savedText("places and tracks (KML)", net, { title: "x" }),
+    /<description>&#38;#60;b&#38;#62;&#38;#38;<\/description>/);
 });
 test("texts off the air: UTF-8, and what is none or can't be read as it is shown", () => {
   assert.equal(said("caf\\xc3\\xa9"), "caf\u00e9");

@@ -124,6 +124,12 @@ def test_no_checkpoint_is_said_with_its_line(line: str) -> None:
         read_checkpoints("points", f"# some\nEnd 54.5 -3.5 60\n{line}\n")
 
 
+def test_what_is_no_checkpoint_is_no_order_to_a_terminal() -> None:
+    with pytest.raises(Fault) as fault:
+        read_checkpoints("points", "\x1b[2J" * 10_000)
+    assert fault.value.words.isprintable() and len(fault.value.words) < 1000
+
+
 def test_a_file_of_checkpoints() -> None:
     text = "\ufeffHalf way 54.501 -3.5 60\r\n\r\n# none\r\nEnd +1 2. 3\r\n"
     assert read_checkpoints("points", text) == [

@@ -37,7 +37,9 @@ def test_a_clock_that_was_never_set_is_said(monkeypatch: pytest.MonkeyPatch) -> 
     times, it = Times(monkeypatch), Clock(said.append)
     times.now = 20.0
     assert it.stamp("RX1", b"f") == [(20_000, "RX1", b"f")]
-    assert said == ["the clock says 1970-01-01: set it"]
+    times.go(1)
+    assert it.stamp("RX1", b"f") == [(21_000, "RX1", b"f")]
+    assert said == ["the clock says 1970-01-01: set it"]  # once, and not with each frame
 
 
 def test_frames_of_the_year_2100_wait_until_the_clock_is_set(

@@ -88,6 +88,16 @@ def test_the_last_place_of_each(programs: Programs) -> None:
     ]
 
 
+def test_a_place_at_0_0_is_none(programs: Programs) -> None:
+    """As in tracks and on the page."""
+    there = place("18:01", "Q1B", 0, 1), place("18:02", "Q1C", 1, 0)
+    programs.say(place("18:00", "Q1A", 0, 0), *there, row("status", "18:03", "Q1D"))
+    programs.run("sqlite", "net.log", "net.db")
+    for view in "tracks", "places":
+        asked_of = asked(programs.folder / "net.db", f"select name from {view} order by name")
+        assert asked_of == [("Q1B",), ("Q1C",)]
+
+
 def test_other_tables_stay(programs: Programs) -> None:
     path = fill(programs)
     base = sqlite3.connect(path)

@@ -1,4 +1,5 @@
 """aprs-net import: what other programs have written down, each with its zone."""
+import codecs
 import datetime
 import importlib.util
 import pathlib
@@ -334,6 +335,13 @@ def test_a_line_of_a_csv_that_was_cut_short_takes_no_other_in(torn: bytes) -> No
     assert said.count("\n") == 3
 
 
+@pytest.mark.parametrize("utime", [b"", b"x", b"-1", b"4102444800", b"9" * 5000],
+                         ids=["none", "x", "-1", "2100", "long"])
+def test_a_moment_of_a_csv_that_cannot_be_told(utime: bytes) -> None:
+    text = CSV.replace(b"1718992800", utime)
+    assert text != CSV and "line 2" in imported(text, "direwolf-csv", status=1)[1]
+
+
 ATEST = b"""DECODED[1] 1:02.345 N0CALL audio level = 50(21/22)     |||||||||
   000:  82 a0 a4 a6 40 40 e0 9c 60 86 82 98 98 6f 03 f0  ....@@..`....o..
   010:  3e 48 69                                         >Hi
@@ -406,6 +414,52 @@ def test_an_output_is_whole_and_no_input(tmp_path: pathlib.Path) -> None:
     assert log.read_bytes() == before
     for wrong in ["--name", "a b.c"], ["--name", ""], ["--bytes", "hex"]:
         tried("import", *wrong, "direwolf", text, status=2)
+
+
+def test_what_was_sent_has_a_file_of_its_own(tmp_path: pathlib.Path) -> None:
+    words = "-o", tmp_path / "new.log", "--own", tmp_path / "." / "new.log"
+    assert b"--own" in tried("import", "direwolf", *words, given=WOLF, status=2).stderr
+    assert [*tmp_path.iterdir()] == []
+
+
+TIMED = {"monitor": b"1718992800 Q1NET>APRS:>Hi\r\n", "yaac": b"1718992800000 Q1NET>APRS:>Hi\r\n",
+         "xastir": b"# 1718992800 x\r\nQ1NET>APRS:>Hi\r\n",
+         "aprs-fi": b"2024-06-21 18:00:00: Q1NET>APRS,qAR,TEXT:>Hi\r\n",
+         "aprx": b"2024-06-21 18:00:00.000 TEXT R Q1NET>APRS:>Hi\r\n"}
+
+
+@pytest.mark.parametrize("name", [*TIMED])
+def test_a_text_that_another_system_saved(name: str) -> None:
+    """A byte order mark is no part of a line, and UTF-16 isn't passed over."""
+    marked = codecs.BOM_UTF8 + TIMED[name]
+    assert heads(imported(marked, name)[0]) == ["2024-06-21T18:00:00.000Z TEXT"]
+    done = tried("import", name, given=TIMED[name].decode().encode("utf-16"), status=1)
+    assert b"standard input: in UTF-16" in done.stderr and done.stdout == b""
+
+
+@pytest.mark.parametrize("size, kept", [(1024, True), (2047, True), (2048, False), (60_000, False)])
+def test_a_frame_that_no_log_has_is_refused(size: int, kept: bool) -> None:
+    """Or the log would have a line that is too long, at which aprsbook ends."""
+    octets = HI.ljust(size, b"x")
+    text = struct.pack("<IHHIIII", 0xA1B2C3D4, 2, 4, 0, 0, 65535, 3)
+    text += struct.pack("<IIII", 1718992800, 0, size, size) + octets
+    lines, said = imported(text, "pcap")
+    assert len(lines) == kept and said.count("none of the air") == (not kept)
+    rows = [b"  000:  %s \n" % octets[at:at + 16].hex(" ").encode() for at in range(0, size, 16)]
+    told = b"DECODED[1] 1:02.345 x\n" + b"".join(rows) + b"------\n"
+    assert len(imported(told, "atest", "--start", "2024-05-01T12:00:00Z")[0]) == kept
+
+
+@pytest.mark.parametrize("name, begin, often, end", [
+    ("direwolf", b"2024-06-21 18:00:00", b" [0L", b" Q1NET>APRS:>Hi"),
+    ("direwolf", b"2024-06-21 18:00:00", b" [ig", b" Q1NET>APRS:>Hi"),
+    ("aprx", b"2024-06-21 18:00:00 ", b"xxxx", b" Q1NET>APRS:>Hi"),
+    ("aprs-fi", b"2024-06-21 18:00:00 Q1NET>APRS,qAR,Q0GATE:>Hi", b" [Too old", b""),
+    ("atest", b"DECODED[1]  ", b"9999", b":00.000 x")])
+def test_a_line_of_any_length_takes_no_time(
+        name: str, begin: bytes, often: bytes, end: bytes) -> None:
+    text = begin + often * 100_000 + end
+    tried("import", "--start", "2024-05-01T12:00:00Z", name, given=text, timeout=20)
 
 
 def test_standard_output_that_takes_nothing() -> None:

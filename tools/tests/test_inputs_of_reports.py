@@ -125,6 +125,17 @@ def test_standard_input_is_closed(tmp_path: pathlib.Path, words: List[str]) -> N
     assert done.returncode == 1 and done.stderr.endswith(b": standard input is closed\n")
 
 
+def test_a_pipe_of_the_shell_is_read(programs: Programs) -> None:
+    """As of <(zcat RX1.log.gz), which a program that is run doesn't have."""
+    programs.say(place("18:00", "Q1A", 1, 2))
+    reads, writes = os.pipe()
+    os.write(writes, b"faulty")
+    os.close(writes)
+    programs.run("last-heard", f"/dev/fd/{reads}", status=1)
+    os.close(reads)
+    assert programs.said == f"aprsbook-table: /dev/fd/{reads}: line 1: Moment\n"
+
+
 def test_an_empty_book_is_refused(programs: Programs) -> None:
     (programs.folder / "net.book").write_bytes(b"")
     for command in ["tracks", "gpx"], ["page"], ["last-heard"], ["ics-309"], ["csv", "rows"]:

@@ -1,4 +1,6 @@
 """aprs-net log: streams, servers that end, serial ports, APRS-IS, full disks and signals."""
+import argparse
+import errno
 import os
 import pathlib
 import resource
@@ -6,12 +8,13 @@ import signal
 import socket
 import subprocess
 import time
-from typing import Any, Dict, List
+from typing import Any, Dict, List, Optional
 
 import pytest
 
 from aprsbook_tools import ax25, kiss, log_file, sources
 from aprsbook_tools.commands import log as log_command
+from aprsbook_tools.imports import feed
 from conftest import started, tried, wait_for
 
 FRAME = bytes.fromhex("c00082a0a4a64040e09c60868298986f03f03e4869c0")
@@ -73,13 +76,26 @@ def test_a_full_disk(tmp_path: pathlib.Path) -> None:
     assert run(tmp_path, FRAME) == "" and count(tmp_path) == before + 1
 
 
+@pytest.mark.parametrize("number, words", [
+    (errno.ENOSPC, None), (errno.EDQUOT, None), (errno.EROFS, "logs is no folder to write to: ")])
+def test_a_disk_that_is_full_at_the_start(
+        monkeypatch: pytest.MonkeyPatch, number: int, words: Optional[str]) -> None:
+    """The logger begins, and holds frames until there is room."""
+    def refuse(*_: object, **__: object) -> None:
+        raise OSError(number, os.strerror(number))
+    monkeypatch.setattr(os, "makedirs", refuse)
+    args = argparse.Namespace(ports=False, aprs_is=None, filter="", folder="logs", name="RX1")
+    assert log_command.refusal(args) == (words and words + os.strerror(number))
+
+
 @pytest.mark.parametrize("wrong", [
     [], ["RX1"], ["RX1", "made", "more"], ["RX.1", "made"], ["", "made"], ["RX1", ""],
     ["12345678901234567", "made"], ["RX1", "file/made"], ["RX1", "file"],
     ["--ports", "12345678901234", "made"], ["--aprs-is", "h:1", "RX1", "made"],
     ["--filter", "r/1/2/3", "RX1", "made"], ["--idle", "-1", "RX1", "made"],
     ["--baud", "1", "RX1", "made"], ["--own", "Q0OWN-16", "RX1", "made"],
-    ["--aprs-is", "h:1", "--call", "Q0X", "--filter", "a\nb", "RX1", "made"]])
+    ["--aprs-is", "h:1", "--call", "Q0X", "--filter", "a\nb", "RX1", "made"],
+    ["--aprs-is", "h:1", "--call", "Q0X", "--filter", "\udcff", "RX1", "made"]])
 def test_wrong_arguments(tmp_path: pathlib.Path, wrong: List[str]) -> None:
     (tmp_path / "file").write_bytes(b"")
     assert tried("log", *wrong, status=2, cwd=tmp_path).stderr.count(b"error: ") == 1
@@ -337,6 +353,39 @@ def test_a_serial_port_that_is_unplugged(tmp_path: pathlib.Path) -> None:
     assert last.endswith(b" RX1 c00003040d0a11131a7fffc0")
 
 
+def test_a_file_is_no_serial_port(tmp_path: pathlib.Path) -> None:
+    """As a copy makes one in /dev while the TNC is unplugged: it would be read again and again."""
+    device, said = tmp_path / "ttyUSB0", tmp_path / "said.txt"
+    device.write_bytes(FRAME)
+    with open(said, "wb") as file:
+        process = started("log", "--serial", device, "RX1", tmp_path / "logs", stderr=file)
+    try:
+        wait_for(lambda: str(device) in said.read_text())
+    finally:
+        process.terminate()
+    assert process.wait() == 0 and count(tmp_path / "logs") == 0
+
+
+def test_two_loggers_do_not_share_the_bytes_of_a_serial_port(tmp_path: pathlib.Path) -> None:
+    said = tmp_path / "said.txt"
+    ours, theirs = os.openpty()
+    words = "log", "--serial", os.ttyname(theirs), "RX1", tmp_path / "logs"
+    one = started(*words)
+    assert one.stderr is not None and b"is open" in one.stderr.readline()
+    with open(said, "wb") as file:
+        other = started(*words, stderr=file)
+    try:
+        wait_for(lambda: "another logger reads it" in said.read_text())
+        os.write(ours, FRAME * 2)
+        wait_for(lambda: count(tmp_path / "logs") == 2)
+    finally:
+        for process in one, other:
+            process.kill()
+            process.communicate()
+        os.close(ours)
+        os.close(theirs)
+
+
 FEED = b"""# logresp Q0CALL unverified, server T2TEST\r
 Q1RUN-7>APDW17,Q1DIG,WIDE1*,WIDE2-1,qAR,Q0GATE-1:!5432.58N/00327.36W>caf\xc3\xa9 <0x41>\r
 Q1RUN-7>APDW17,qAO,Q0OTHER:!5432.58N/00327.36W>caf\xc3\xa9 <0x41>\r
@@ -371,6 +420,52 @@ def test_a_feed_of_aprs_is(server: Server) -> None:
     assert lines[0].endswith(kiss.wrap(frame).hex().encode())
     said = server.said.read_text()
     assert "Q1lower is no call" in said and "unverified" in said
+
+
+FORGED = b"Q1BAD>APDW17,qAR,Q0GATE-1:>it stands within a line\n"
+GOOD = b"Q1RUN-7>APDW17,qAR,Q0GATE-1:>Hi\r\n"
+
+
+@pytest.mark.parametrize("size", [1, 100, 2049, 4096, 200_000])
+def test_a_line_that_is_too_long_is_noise_to_its_end(size: int) -> None:
+    """However it is cut, no part of it is a packet, and it is said once."""
+    said: List[str] = []
+    lines = feed.Lines(said.append)
+    long = b"x" * (feed.LONGEST + 1)
+    stream = GOOD + long + FORGED + long * 9 + FORGED + GOOD
+    heard = [it for at in range(0, len(stream), size) for it in lines.feed(stream[at:at + size])]
+    frame = kiss.wrap(ax25.frame("Q1RUN-7", "APDW17", b">Hi"))
+    assert heard == [("Q0GATE-1", frame)] * 2 and said == [feed.NOISE] * 2
+
+
+def test_what_a_server_says_is_no_order_to_a_terminal() -> None:
+    """And a text off the air isn't what a server says."""
+    said: List[str] = []
+    feed_of = feed.Lines(said.append).feed
+    assert [*feed_of(b"# logresp \x1b]0;x\x07\n# port full \x1b[2J\nQ1X>APRS:>full\x1b[2J\n")] == []
+    assert len(said) == 2 and all(map(str.isprintable, said))
+
+
+@pytest.mark.parametrize("name", ["SIGHUP", "SIGINT"])
+@pytest.mark.parametrize("words", [["log", "RX1"], ["follow", "--every", "60", "logs"]])
+def test_a_signal_that_is_ignored_ends_nothing(
+        tmp_path: pathlib.Path, words: List[str], name: str) -> None:
+    """As with nohup, once the terminal is closed."""
+    number = getattr(signal, name)
+    process = started(*words, "made", cwd=tmp_path, stdin=subprocess.PIPE,
+                      preexec_fn=lambda: signal.signal(number, signal.SIG_IGN))
+    assert process.stdin is not None and process.stderr is not None
+    process.stdin.write(FRAME)
+    process.stdin.flush()
+    if words[0] == "log":
+        wait_for(lambda: count(tmp_path / "made") == 1)
+    else:
+        process.stderr.readline()  # there are no logs
+    process.send_signal(number)
+    with pytest.raises(subprocess.TimeoutExpired):
+        process.wait(0.5)
+    process.kill()
+    process.communicate()
 
 
 def test_words_are_said_whatever_standard_error_is(monkeypatch: pytest.MonkeyPatch) -> None:

@@ -108,6 +108,18 @@ def test_frames_are_held_in_their_order_and_the_oldest_go_first(
     assert path(tmp_path).read_bytes() == b"".join(line(second).write() for second in (2, 3, 4))
 
 
+def test_frames_that_are_lost_are_told_by_the_hundred(
+        tmp_path: pathlib.Path, monkeypatch: pytest.MonkeyPatch) -> None:
+    """Or each would be a line of the journal, for days."""
+    said: List[str] = []
+    (tmp_path / DAY).write_bytes(b"in the way")
+    monkeypatch.setattr(log_file, "HELD", 100)
+    logs = Logs(str(tmp_path), said.append)
+    for second in range(500):
+        logs.put("RX1", line(second % 60))
+    assert len(said) == 6 and said[-1].endswith("held: 100, lost: 400")
+
+
 def test_a_log_of_each_day(tmp_path: pathlib.Path) -> None:
     logs = Logs(str(tmp_path), lambda _: None)
     midnight = moments.milliseconds("2024-06-22T00:00:00Z")

@@ -140,7 +140,7 @@ def logged(seed: int) -> Case:
 @pytest.fixture(scope="module", params=[tables_of, logged])
 def both(request: pytest.FixtureRequest) -> List[Tuple[Case, Any]]:
     """Cases, each with what the page says of it."""
-    folder = page_files.folder()
+    folder = pathlib.Path(str(page_files.folder()))
     if shutil.which("node") is None or not (folder / "roster.js").is_file():
         pytest.skip("needs node, and the page that reads tables")
     cases = [request.param(seed) for seed in range(CASES)]
@@ -267,7 +267,7 @@ def test_bytes_as_texts() -> None:
     octets = [b"".join(some.choices(pieces, k=3)) for _ in range(CASES)]
     octets += [some.randbytes(some.randrange(1, 12)) for _ in range(10 * CASES)]
     texts = [shown(it.decode("utf-8", "surrogateescape")) for it in octets]
-    folder = page_files.folder()
+    folder = pathlib.Path(str(page_files.folder()))
     if shutil.which("node") is None or not (folder / "words.js").is_file():
         pytest.skip("needs node, and the page that reads tables")
     script = (

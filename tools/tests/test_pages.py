@@ -5,6 +5,8 @@ import os
 import pathlib
 import re
 import signal
+import subprocess
+import sys
 from typing import Any, Dict
 
 import pytest
@@ -16,6 +18,7 @@ from standing import Programs, place
 from aprsbook_tools import net_logs
 
 DATA = re.compile('<script type="application/json" id="data">(.*?)</script>', re.S)
+BUILD = pathlib.Path(__file__).resolve().parent.parent.parent / "build" / "pyz.py"
 LINE = "2024-06-21T18:00:00.000Z RX1 c0c0\n"
 
 
@@ -325,3 +328,24 @@ def test_again_and_again(net: Programs) -> None:
             process.terminate()
         assert process.wait(20) == -signal.SIGTERM
     assert sorted(os.listdir("out")) == ["index.html", "net.book"]
+
+
+def test_one_file_leaves_no_other_when_it_is_killed(
+    programs: Programs, tmp_path: pathlib.Path
+) -> None:
+    pyz, held = tmp_path / "a b" / "aprs-net.pyz", tmp_path / "held"
+    held.mkdir()
+    subprocess.run([sys.executable, BUILD, pyz], check=True)
+    (tmp_path / "logs" / "2024-06-21").mkdir(parents=True)
+    (tmp_path / "logs" / "2024-06-21" / "RX1.log").write_text(LINE)
+    words = ["follow", "--every", "60", "--day", "2024-06-21", "logs", "out"]
+    keeps = {**os.environ, "TMPDIR": str(held)}
+    process = subprocess.Popen([sys.executable, pyz, *words], env=keeps)
+    page = tmp_path / "out" / "index.html"
+    try:
+        wait_for(page.exists)
+    finally:
+        process.kill()
+        process.wait()
+    assert [*held.iterdir()] == []
+    assert data_of(page.read_text())["title"] == "APRS net"

@@ -1,4 +1,5 @@
 """How far long work is: said at a terminal, and nowhere else."""
+import contextlib
 import io
 import os
 import select
@@ -32,6 +33,19 @@ def test_items_are_counted_at_a_terminal(
     # each count takes the place of the one before, and at last the line is empty
     counts = [f"\rdays: {number}{of}\x1b[K" for number in (1, 2, 3)]
     assert said == "".join([*counts, "\r\x1b[K"])
+
+
+def test_a_terminal_that_is_closed_ends_nothing(monkeypatch: pytest.MonkeyPatch) -> None:
+    """As of work that goes on behind nohup."""
+    ours, theirs = os.openpty()
+    terminal = open(theirs, "w", encoding="ascii")
+    monkeypatch.setattr(sys, "stderr", terminal)
+    items = progress.counted(slowly(), "days")
+    assert next(items) == 0
+    os.close(ours)
+    assert [*items] == [1, 2]
+    with contextlib.suppress(OSError):
+        terminal.close()
 
 
 @pytest.mark.parametrize("there", [True, False])

@@ -1,5 +1,8 @@
 """One syntax of a roster."""
+import pathlib
+
 import pytest
+from conftest import tried
 from hypothesis import given
 from hypothesis import strategies as st
 
@@ -130,3 +133,11 @@ def test_a_field_without_end_is_said_with_its_line() -> None:
     assert [it.line for it in roster.faults] == [2] and [it.call for it in roster.expected] == [
         "Q1B"
     ]
+
+
+def test_a_log_in_place_of_a_roster_is_not_told_line_by_line(tmp_path: pathlib.Path) -> None:
+    """As where ROSTER and INPUT change their places."""
+    path = tmp_path / "net.log"
+    path.write_text("2024-06-21T18:00:00.000Z RX1 c0c0\n" * 1000)
+    said = tried("roster", path, path, status=1).stderr.decode()
+    assert "line 1: " in said and "lines more: 980" in said and len(said) < 2000

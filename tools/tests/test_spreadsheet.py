@@ -9,7 +9,9 @@ TEXTS = st.text(st.characters(blacklist_categories=("Cs",), blacklist_characters
 ODD = st.text("'=+-@ 1.a\t")
 
 
-@pytest.mark.parametrize("text", ["=1+1", "+1+1", "-1+1", "@SUM(1)", "  =1", "'=1", "\t=1"])
+@pytest.mark.parametrize("text", [
+    "=1+1", "+1+1", "-1+1", "@SUM(1)", "  =1", "'=1", "\t=1", "\uff1d1", "\uff0b1", "\uff0d1",
+    "\uff20x"])
 def test_a_formula_is_text(text: str) -> None:
     assert guarded(text) == "'" + text
 

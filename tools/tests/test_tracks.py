@@ -1,5 +1,6 @@
 """Places and tracks in each form."""
 import csv
+import html
 import io
 import json
 import pathlib
@@ -121,6 +122,14 @@ def test_a_track_over_the_date_line_is_cut_there() -> None:
 @given(text=st.text(max_size=40))
 def test_any_text_is_text_in_xml(form: str, text: str) -> None:
     xml.etree.ElementTree.fromstring(made(form, [place("18:00", "Q1A", 1, 2, text=text)]))
+
+
+def test_a_description_in_kml_is_text_of_html() -> None:
+    """Or Google Earth would ask a server that a text off the air names."""
+    text = '<img src="http://example.org/">&amp;'
+    root = xml.etree.ElementTree.fromstring(made("kml", [place("18:00", "Q1A", 1, 2, text=text)]))
+    [said] = [it.text or "" for it in root.iter(KML + "description")]
+    assert "<" not in said and html.unescape(said).endswith(text)
 
 
 @given(st.text())

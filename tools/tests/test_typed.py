@@ -63,6 +63,16 @@ def test_what_stands_behind_two_dashes_is_no_option() -> None:
     assert typed.parse(cli.make_parser(), ["page", "--", "-x.log"]).inputs == ["./-x.log"]
 
 
+def test_what_lies_south_and_west_is_no_option() -> None:
+    parser = cli.make_parser()
+    args = typed.parse(parser, ["keeper", "--at", "-33.5,151.2", "--at", "RX1=-1,-2", "x.log"])
+    assert args.at == ["-33.5,151.2", "RX1=-1,-2"] and args.inputs == ["x.log"]
+    assert typed.parse(parser, ["import", "--zone", "-05:00", "monitor"]).zone == ["-05:00"]
+    for words in ["-5", "x.log"], ["--", "-5", "x.log"], ["x.log", "--to", "2024-06-21T18:00:00Z"]:
+        numbers = [] if "-5" in words else ["-5"]
+        assert typed.parse(parser, ["shift", *numbers, *words]).seconds == -5
+
+
 def test_what_isn_t_known_is_refused(programs: Programs) -> None:
     programs.run("tracks", "gpx", "net.log", "--nowhere", status=2)
     programs.run("nothing", status=2)

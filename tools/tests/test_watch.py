@@ -4,13 +4,15 @@ import os
 import pathlib
 import subprocess
 import sys
+import time
 from typing import List
 
 import pytest
 from conftest import environment, started, tried
 from standing import Programs, at, message, place, row
 
-from aprsbook_tools import watching
+from aprsbook_tools import watching, whole
+from aprsbook_tools.errors import Fault
 from aprsbook_tools.heard import Heard
 from aprsbook_tools.moments import milliseconds
 from aprsbook_tools.roster import Roster, read_roster
@@ -128,6 +130,26 @@ def test_each_is_told_once(net: Programs) -> None:
     assert net.run(*WORDS, "--state", "told", "logs") == ""
     net.say(row("status", "18:00", "Q1A"))
     assert net.run(*WORDS, "--state", "told", "logs").startswith("silent: Q1A")
+
+
+def test_each_is_told_once_while_the_state_cannot_be_written(
+    net: Programs, monkeypatch: pytest.MonkeyPatch
+) -> None:
+    """Or a full disk would call a command in each turn."""
+    turns = iter([None, None])
+
+    def refuse(*_: object) -> None:
+        raise Fault("told: No space left on device", 3)
+
+    def sleep(_: float) -> None:
+        next(turns)
+
+    monkeypatch.setattr(whole, "write", refuse)
+    monkeypatch.setattr(time, "sleep", sleep)
+    with pytest.raises((StopIteration, RuntimeError)):
+        net.run(*WORDS, "--state", "told", "--every", "1", "logs")
+    out = net.capture.readouterr()
+    assert len(out.out.splitlines()) == 3 and out.err.count("No space left") == 3
 
 
 def test_runs_at_once_tell_once(net: Programs) -> None:

@@ -1,5 +1,6 @@
 """Files are written whole or not at all, and never over what must stay."""
 import concurrent.futures
+import itertools
 import os
 import pathlib
 import resource
@@ -12,7 +13,7 @@ import pytest
 
 from aprsbook_tools import whole
 from aprsbook_tools.errors import Fault
-from conftest import environment
+from conftest import command, environment
 
 WRITE = """
 import sys
@@ -176,3 +177,46 @@ def test_an_input_is_never_replaced(tmp_path: pathlib.Path) -> None:
         with pytest.raises(Fault):
             whole.write(str(output), b"page", [str(path)])
     assert path.read_bytes().startswith(b"APRSBOOK")
+
+
+def test_an_input_of_a_folder_is_never_replaced(tmp_path: pathlib.Path) -> None:
+    """And no report becomes one."""
+    logs, link = tmp_path / "logs", tmp_path / "link"
+    logs.mkdir()
+    (logs / "net.book").write_bytes(b"APRSBOOK 3 30\nEND 0\n")
+    link.symlink_to("logs")
+    for folder, name in itertools.product([logs, link], ["net.book", "new.book", "new.log"]):
+        with pytest.raises(Fault):
+            whole.write(str(logs / name), b"page", [str(folder)])
+    assert names(logs) == ["net.book"] and whole.write(str(logs / "page.html"), b"", [str(logs)])
+    assert whole.write(str(tmp_path / "logs.book"), b"", [str(logs)])
+
+
+def test_standard_input_is_never_replaced(tmp_path: pathlib.Path) -> None:
+    path = tmp_path / "fields"
+    path.write_bytes(b"a\tb\n")
+    with open(path, "rb") as file:
+        done = subprocess.run(command("csv", "fields", "-o", path), stdin=file, env=environment(),
+                              capture_output=True)
+    assert done.returncode == 2 and path.read_bytes() == b"a\tb\n"
+
+
+def test_a_reader_that_is_slow_gets_all(tmp_path: pathlib.Path) -> None:
+    """Also of a pipe that doesn't wait, as programs of Node make it for those that they start."""
+    fields = tmp_path / "fields"
+    fields.write_bytes(b"x\n" * 200_000)
+    reads, writes = os.pipe()
+    os.set_blocking(writes, False)
+    process = subprocess.Popen(command("csv", "fields", fields), stdout=writes, env=environment())
+    os.close(writes)
+    time.sleep(1)
+    with open(reads, "rb") as file:
+        assert file.read() == b"x\n" * 200_000
+    assert process.wait() == 0
+
+
+@pytest.mark.parametrize("ending", [".log.gz", ".book.xz", ".csv.bz2"])
+def test_nothing_is_called_compressed_that_is_not(tmp_path: pathlib.Path, ending: str) -> None:
+    with pytest.raises(Fault):
+        whole.write(str(tmp_path / f"net{ending}"), b"plain")
+    assert names(tmp_path) == []

@@ -47,7 +47,7 @@ def read_checkpoints(path: str, text: str) -> List[Checkpoint]:
         if not words or words[0].startswith("#"):
             continue
         if len(words) < 4 or not all(NUMBER.fullmatch(it) for it in words[-3:]):
-            raise Fault(f"{path}: line {number} is no checkpoint: {line.strip()}")
+            raise Fault(f"{path}: line {number} is no checkpoint: {line[:100]!r}")
         north, east, metres = map(float, words[-3:])
         if not (abs(north) <= 90 and abs(east) <= 180 and metres > 0):
             raise Fault(f"{path}: line {number}: no place on the earth, or no circle")

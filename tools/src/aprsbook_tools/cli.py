@@ -7,7 +7,7 @@ import signal
 import sys
 from typing import IO, NoReturn, Optional, Sequence
 
-from aprsbook_tools import VERSION, commands, errors, typed, whole
+from aprsbook_tools import VERSION, commands, errors, signals, typed, whole
 from aprsbook_tools.errors import Fault, words_of
 from aprsbook_tools.saying import say
 
@@ -89,9 +89,7 @@ def hold_standard_files() -> None:
 def main(arguments: Optional[Sequence[str]] = None) -> int:
     """The program: as `run`, and ended by a signal as it has to be."""
     hold_standard_files()
-    for name in ("SIGTERM", "SIGHUP"):
-        if hasattr(signal, name):
-            signal.signal(getattr(signal, name), end)
+    signals.heed(end, "SIGTERM", "SIGHUP")
     try:
         status = run(arguments)
     except KeyboardInterrupt:

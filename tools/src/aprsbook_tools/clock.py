@@ -22,6 +22,7 @@ class Clock:
     def __init__(self, say: Callable[[str], None]) -> None:
         self.say = say
         self.lead: Optional[float] = None
+        self.unset = False
         self.waiting: Deque[Tuple[float, str, bytes]] = collections.deque()
         self.lost = 0
 
@@ -40,8 +41,9 @@ class Clock:
                 self.waiting.popleft()
                 self.lost += 1
             return []
-        if moment < OLDEST:
+        if moment < OLDEST and not self.unset:
             self.say(f"the clock says {moments.text_of(moment)[:10]}: set it")
+        self.unset = moment < OLDEST
         waited = [(max(0, moment - int(1000 * (up - then))), name_, frame)
                   for then, name_, frame in self.waiting]
         self.waiting.clear()

@@ -32,7 +32,7 @@ TABLES: Dict[str, Type[Any]] = {
 SENT = {f"a{number}": "real" for number in range(1, 6)}
 MAGIC = b"SQLite format 3\0"
 WAIT = 10.0  # seconds for another program's writing
-# each place, and the last one of each thing
+# each place, but for 0, 0, which GPS without a fix says, and the last one of each thing
 VIEWS = {
     "tracks": """create view tracks as select
         case when kind in ('object', 'item') then kind else 'station' end as kind,
@@ -40,7 +40,7 @@ VIEWS = {
         case when state = '' then 'live' else state end as state,
         first, last, receivers, receiver, source, latitude, longitude, ambiguity, compressed,
         symbol, course, speed_knots, altitude_m, text
-        from transmissions where latitude is not null""",
+        from transmissions where latitude <> 0 or longitude <> 0""",
     # of a group a column stands for the row that has the greatest
     "places": """create view places as select kind, name, state, first, last, receivers, receiver,
         source, latitude, longitude, ambiguity, compressed, symbol, course, speed_knots, altitude_m,

@@ -8,6 +8,7 @@ import lzma
 import os
 import re
 import shutil
+import stat
 import zlib
 from typing import IO, Callable, Dict, Iterable, Iterator, List, Optional, Set, cast
 
@@ -130,7 +131,7 @@ def unpacking(path: str) -> Iterator[IO[bytes]]:
 
 
 def unpack(it: Input, into: str) -> None:
-    """Writes a compressed input, read to its end, into a file."""
+    """Writes an input, read to its end and not compressed, into a file."""
     try:
         with unpacking(it.path) as packed, open(into, "wb") as file:
             shutil.copyfileobj(packed, file)
@@ -154,11 +155,19 @@ def is_utf_8(path: str) -> bool:
     return True
 
 
+def is_pipe(path: str) -> bool:
+    """Whether a path is a pipe, as the shell's <(..), which a program that is run doesn't have."""
+    try:
+        return stat.S_ISFIFO(os.stat(path).st_mode)
+    except OSError:
+        return False
+
+
 def plain(items: Iterable[Input], folder: str) -> Iterator[str]:
-    """The paths of inputs as programs read them: compressed ones are unpacked into a folder, and
-    where a path isn't UTF-8 there is a link to it."""
+    """The paths of inputs as programs read them: compressed ones are unpacked into a folder, as is
+    what comes of a pipe, and where a path isn't UTF-8 there is a link to it."""
     for number, it in enumerate(items):
-        if it.packing:
+        if it.packing or is_pipe(it.path):
             path = os.path.join(folder, f"{number:06}.unpacked")
             unpack(it, path)
             yield path

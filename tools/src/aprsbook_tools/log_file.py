@@ -166,8 +166,8 @@ class Logs:
                 append(*self.held[0], self.say)
                 self.held.popleft()
         except OSError as fault:
-            if waited == 1 or len(self.held) % 100 == 0:
-                held = len(self.held)
+            held = len(self.held)
+            if waited == 1 or (held + self.lost) % 100 == 0:
                 self.say(f"{said(fault)}: frames that are held: {held}, lost: {self.lost}")
         else:
             if waited > 1:

@@ -1,14 +1,16 @@
 """The page of an event: the files that draw it, and maps that are drawn below all else."""
-import importlib.util
 import json
 import os
 import pathlib
 import xml.etree.ElementTree
+import zipfile
 from types import ModuleType
-from typing import Any, Dict, List, Optional
+from typing import Any, Dict, List, Optional, Union
 
 from aprsbook_tools import programs, text_file
 from aprsbook_tools.errors import Fault
+
+Folder = Union[pathlib.Path, zipfile.Path]  # within aprs-net.pyz files have paths of their own
 
 HERE = pathlib.Path(__file__).resolve().parent
 VARIABLE = "APRSBOOK_PAGE"
@@ -23,10 +25,13 @@ GEOMETRIES = "Point MultiPoint LineString MultiLineString Polygon MultiPolygon".
 TYPES = [*GEOMETRIES, "GeometryCollection", "Feature", "FeatureCollection"]
 
 
-def folder() -> pathlib.Path:
+def folder() -> Folder:
     """Where the page's files are."""
-    said = os.environ.get(VARIABLE)
-    for it in [pathlib.Path(said)] if said else FOLDERS:
+    said, archive = os.environ.get(VARIABLE), HERE.parent
+    places: List[Folder] = [pathlib.Path(said)] if said else [*FOLDERS]
+    if not said and archive.is_file():
+        places = [zipfile.Path(str(archive), "page/")]
+    for it in places:
         if (it / "together.py").is_file():
             return it
     raise Fault(f"the folder of the page isn't there: {VARIABLE} says where it is")
@@ -34,11 +39,12 @@ def folder() -> pathlib.Path:
 
 def together() -> ModuleType:
     """What puts a page together of these files."""
-    spec = importlib.util.spec_from_file_location("together", folder() / "together.py")
-    if spec is None or spec.loader is None:
-        raise Fault(f"{folder()} can't be read")
-    module = importlib.util.module_from_spec(spec)
-    spec.loader.exec_module(module)
+    here = folder()
+    text = (here / "together.py").read_text(encoding="utf-8")
+    module = ModuleType("together")
+    vars(module)["__file__"] = str(here / "together.py")
+    exec(compile(text, module.__file__ or "", "exec"), vars(module))
+    vars(module)["HERE"] = here
     return module
 
 

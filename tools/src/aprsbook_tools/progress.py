@@ -3,6 +3,8 @@ import sys
 import time
 from typing import Iterable, Iterator, Optional, TypeVar
 
+from aprsbook_tools.saying import say
+
 T = TypeVar("T")
 STEP = 0.2  # seconds between two counts
 
@@ -19,8 +21,8 @@ def counted(items: Iterable[T], words: str, total: Optional[int] = None) -> Iter
             now = time.monotonic()
             if now - shown >= STEP:
                 shown = now
-                print(f"\r{words}: {number}{of}\x1b[K", end="", file=sys.stderr, flush=True)
+                say(f"\r{words}: {number}{of}\x1b[K", end="")
             yield item
     finally:
         if shown:
-            print("\r\x1b[K", end="", file=sys.stderr, flush=True)
+            say("\r\x1b[K", end="")

@@ -16,6 +16,7 @@ from aprsbook_tools.errors import Fault
 
 ANY = "-*"  # stands for any SSID
 LONGEST = 100_000  # letters of a line
+FEW = 20  # faults that are said
 BEGIN = re.compile(r'\s*(?:"[^"]*"|[^\s,;"]+) *([,;\t])')
 PLAIN = re.compile(r'\s*"?([^\s"]+)"?\s*(.*)')
 LINE_END = re.compile(r"\r\n|\n|\r")
@@ -102,6 +103,11 @@ class Roster:
         name = self.name_of(call)
         return f"{name} ({call})" if name else call
 
+    def words_of_faults(self) -> List[str]:
+        """What isn't understood, in words; of a file that is no roster not each line."""
+        more = len(self.faults) - FEW
+        return [*map(str, self.faults[:FEW]), *([f"lines more: {more}"] if more > 0 else [])]
+
     @property
     def has_names(self) -> bool:
         return any(it.name for it in self.expected)
@@ -178,5 +184,5 @@ def roster_of(path: Optional[str]) -> Roster:
         return Roster()
     roster = read_roster(text_file.read(path))
     if roster.faults:
-        raise Fault(f"{path}: " + "; ".join(map(str, roster.faults)))
+        raise Fault(f"{path}: " + "; ".join(roster.words_of_faults()))
     return roster

@@ -5,12 +5,12 @@ import select
 import sys
 
 
-def say(text: str) -> None:
-    """Says a line, if that can be."""
+def say(text: str, end: str = "\n") -> None:
+    """Says a line, or a part of one, if that can be."""
     if sys.stderr is None:
         return  # to print would go to standard output
     try:
-        print(text, file=sys.stderr, flush=True)
+        print(text, end=end, file=sys.stderr, flush=True)
     except (OSError, ValueError):
         pass
 

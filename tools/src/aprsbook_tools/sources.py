@@ -4,13 +4,12 @@ is made again at once."""
 import os
 import re
 import select
-import signal
 import socket
 import sys
 import time
 from typing import Any, Callable, List, NamedTuple, Optional, Tuple
 
-from aprsbook_tools import VERSION
+from aprsbook_tools import VERSION, signals
 from aprsbook_tools.errors import Fault, said
 
 AGAIN = 5.0  # seconds from one try to the next
@@ -52,9 +51,7 @@ class Waiting:
 
     def heed(self) -> None:
         """Takes SIGINT, SIGTERM and SIGHUP as asking for the end."""
-        for name in ("SIGINT", "SIGTERM", "SIGHUP"):
-            if hasattr(signal, name):
-                signal.signal(getattr(signal, name), self.ask)
+        signals.heed(self.ask, "SIGINT", "SIGTERM", "SIGHUP")
 
     def ask(self, *_: object) -> None:
         self.asked = True
@@ -149,14 +146,19 @@ class Serial(Source):
 
     def open(self, waiting: Waiting) -> Input:
         try:
+            import fcntl
             import termios
         except ImportError:
             return self.open_elsewhere()
         flags = os.O_RDONLY | os.O_NOCTTY | os.O_NONBLOCK
         file = os.open(self.path, flags)
         try:
-            if os.isatty(file):
-                make_raw(file, self.baud)
+            make_raw(file, self.baud)
+            # of two that read, each would get some of the bytes
+            fcntl.flock(file, fcntl.LOCK_EX | fcntl.LOCK_NB)
+        except BlockingIOError:
+            os.close(file)
+            raise OSError(f"{self.path}: another logger reads it")
         except (OSError, termios.error) as fault:
             os.close(file)
             raise OSError(f"{self.path}: {fault.args[-1]}")

@@ -200,7 +200,8 @@ def coordinates_of(spot: Spot) -> str:
 
 
 def kml_of(things: Sequence[Thing], roster: Roster, title: str = "APRS net") -> str:
-    """A placemark for the last place of each, and one with lines for what moved."""
+    """A placemark for the last place of each, and one with lines for what moved. A description is
+    read as HTML: what came off the air is its text."""
     parts = [
         XML,
         '<kml xmlns="http://www.opengis.net/kml/2.2">' f"<Document><name>{markup(title)}</name>\n",
@@ -208,7 +209,7 @@ def kml_of(things: Sequence[Thing], roster: Roster, title: str = "APRS net") -> 
     for it in things:
         parts.append(
             f"<Placemark><name>{markup(label_of(it, roster))}</name>"
-            f"<description>{markup(description_of(it.now))}</description>"
+            f"<description>{markup(escape(description_of(it.now)))}</description>"
             f"<TimeStamp><when>{it.now.row.first}</when></TimeStamp>"
             f"<Point><coordinates>{coordinates_of(it.now.spot)}</coordinates></Point></Placemark>\n"
         )

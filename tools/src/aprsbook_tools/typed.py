@@ -39,12 +39,28 @@ def words_of(called: Sequence[str]) -> List[str]:
 
 
 def no_options(words: Sequence[str]) -> List[str]:
-    """The words, in which nothing behind a `--` looks like an option: such a path gets a `./`."""
+    """The words, in which nothing behind a `--` looks like an option: such a path gets a `./`. A
+    number below 0 is none."""
     if "--" not in words:
         return list(words)
     end = list(words).index("--")
-    paths = [os.path.join(".", it) if re.match("-.", it) else it for it in words[end + 1 :]]
+    rest = words[end + 1 :]
+    paths = [os.path.join(".", it) if re.match("-(?![0-9]+$).", it) else it for it in rest]
     return [*words[:end], *paths]
+
+
+def joined(parser: argparse.ArgumentParser, words: Sequence[str]) -> List[str]:
+    """The words, in which a value that begins like a number below 0, as a place south of the
+    equator or a zone west of Greenwich, is one with its option."""
+    valued = {name for it in parser._actions if it.nargs is None for name in it.option_strings}
+    result: List[str] = []
+    for word in words:
+        option = result[-1] if result else ""
+        if option in valued and option.startswith("--") and re.match("-[0-9]", word):
+            result[-1] += f"={word}"
+        else:
+            result.append(word)
+    return result
 
 
 def parse(parser: argparse.ArgumentParser, words: Sequence[str]) -> argparse.Namespace:
@@ -53,5 +69,5 @@ def parse(parser: argparse.ArgumentParser, words: Sequence[str]) -> argparse.Nam
         choices = action.choices or {}
         if words and isinstance(choices, dict) and words[0] in choices:
             of: argparse.ArgumentParser = choices[words[0]]
-            return of.parse_intermixed_args(no_options(words[1:]))
+            return of.parse_intermixed_args(joined(of, no_options(words[1:])))
     return parser.parse_args(words)

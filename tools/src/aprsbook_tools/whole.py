@@ -9,6 +9,7 @@ import errno
 import filecmp
 import os
 import re
+import select
 import stat
 import sys
 import tempfile
@@ -16,7 +17,7 @@ import threading
 import time
 from typing import IO, Iterator, List, Optional, Sequence, Union
 
-from aprsbook_tools import errors, log_file
+from aprsbook_tools import errors, inputs, log_file
 from aprsbook_tools.errors import Fault, said
 
 try:
@@ -37,20 +38,23 @@ class Writing:
         self.changed = False
 
 
-def check(path: str, inputs: Sequence[str] = ()) -> str:
+def check(path: str, given: Sequence[str] = ()) -> str:
     """Refuses a path that is no file, an input or a log; the path behind links is the result."""
     real = os.path.realpath(path)
     if os.path.basename(path) in ("", ".", "..") or os.path.islink(real):
         raise Fault(f"'{path}' is no file, and can't become one", errors.OUTPUT)
-    for it in inputs:
-        if os.path.realpath(it) == real or is_same(it, real):
-            raise Fault(f"{path} is an input: it would be replaced", errors.ARGUMENTS)
+    if os.path.splitext(real)[1] in inputs.PACKED:
+        raise Fault(f"{path}: nothing is written compressed", errors.ARGUMENTS)
+    if any(is_of(real, it) for it in given):
+        raise Fault(f"{path} is an input, or would become one", errors.ARGUMENTS)
     if not os.path.exists(real):
         if not os.path.isdir(os.path.dirname(real)):
             raise Fault(f"{path}: no folder {os.path.dirname(real)} is there", errors.OUTPUT)
         return real
     if not os.path.isfile(real):
         raise Fault(f"'{path}' is no file, and can't become one", errors.OUTPUT)
+    if is_standard_input(real):
+        raise Fault(f"{path} is standard input: it would be replaced", errors.ARGUMENTS)
     if is_log(real):
         raise Fault(f"{path} is a log, and isn't replaced: take it away first", errors.ARGUMENTS)
     return real
@@ -60,6 +64,20 @@ def is_same(one: str, other: str) -> bool:
     """Whether two paths lead to one file."""
     try:
         return os.path.samefile(one, other)
+    except OSError:
+        return os.path.realpath(one) == os.path.realpath(other)
+
+
+def is_of(path: str, given: str) -> bool:
+    """Whether a path is that of an input, or of what would be one of a folder."""
+    return is_same(path, given) or inputs.is_input(path) and os.path.isdir(given) and \
+        path.startswith(os.path.join(os.path.realpath(given), ""))
+
+
+def is_standard_input(path: str) -> bool:
+    """Whether standard input is read from this file."""
+    try:
+        return os.path.samestat(os.fstat(0), os.stat(path))
     except OSError:
         return False
 
@@ -120,9 +138,9 @@ def sync_folder(folder: str) -> None:
 
 
 @contextlib.contextmanager
-def writing(path: str, inputs: Sequence[str] = ()) -> Iterator[Writing]:
+def writing(path: str, given: Sequence[str] = ()) -> Iterator[Writing]:
     """A file to write into, which becomes that of the path where the block ends without a fault."""
-    real = check(path, inputs)
+    real = check(path, given)
     folder, name = os.path.split(real)
     remove_leftovers(real)
     new = None
@@ -149,9 +167,9 @@ def writing(path: str, inputs: Sequence[str] = ()) -> Iterator[Writing]:
                 os.unlink(new)
 
 
-def write(path: str, octets: bytes, inputs: Sequence[str] = ()) -> bool:
+def write(path: str, octets: bytes, given: Sequence[str] = ()) -> bool:
     """A file becomes these bytes; whether it was another before."""
-    with writing(path, inputs) as new:
+    with writing(path, given) as new:
         new.file.write(octets)
     return new.changed
 
@@ -187,22 +205,25 @@ def write_out(octets: bytes) -> None:
         sys.stdout.flush()
         left = memoryview(octets)
         while left:
-            left = left[os.write(1, left):]
+            try:
+                left = left[os.write(1, left):]
+            except BlockingIOError:  # another program set it so
+                select.select([], [1], [])
     except OSError as fault:
         raise Fault(f"standard output: {said(fault)}", errors.OUTPUT) from fault
 
 
-def put(path: Optional[str], output: Union[str, bytes], inputs: Sequence[str] = ()) -> None:
+def put(path: Optional[str], output: Union[str, bytes], given: Sequence[str] = ()) -> None:
     """Writes a text, in UTF-8, or bytes into a file; to standard output without one or for `-`."""
     octets = output.encode("utf-8", "surrogateescape") if isinstance(output, str) else output
     if path is None or path == "-":
         write_out(octets)
     else:
-        write(path, octets, inputs)
+        write(path, octets, given)
 
 
 def all_of(*paths: Union[str, None, Sequence[str]]) -> List[str]:
-    """What a command reads, for `inputs`: paths, lists of paths, and None for what isn't given."""
+    """What a command reads, for `given`: paths, lists of paths, and None for what isn't given."""
     result: List[str] = []
     for it in paths:
         if isinstance(it, str):

@@ -4,7 +4,7 @@ from typing import IO, Dict, Iterator, List, Tuple
 
 from aprsbook_tools import arguments, kiss, log_file, saying, streams, whole
 from aprsbook_tools.commands import Subparsers
-from aprsbook_tools.errors import FAULTY, Fault
+from aprsbook_tools.errors import ARGUMENTS, FAULTY, Fault
 from aprsbook_tools.imports import (
     Found, Options, Reader, Refused, direwolf_csv, files, lines, packets)
 from aprsbook_tools.zones import Zones
@@ -108,6 +108,8 @@ def run(args: argparse.Namespace) -> int:
     inputs, count = whole.all_of(args.input), Count()
     for path in whole.all_of(args.output, args.own):
         whole.check(path, inputs)
+    if args.output and args.own and whole.is_same(args.output, args.own):
+        raise Fault(f"{args.own} is the log itself: --own needs another file", ARGUMENTS)
     with streams.opened(args.input) as file:
         streams.put(args.output, written(file, args, options, count), inputs, args.now)
     if args.own:

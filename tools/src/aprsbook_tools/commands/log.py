@@ -1,5 +1,6 @@
 """aprs-net log: a log of a receiver, for days on end."""
 import argparse
+import errno
 import os
 import re
 import tempfile
@@ -86,14 +87,16 @@ def refusal(args: argparse.Namespace) -> Optional[str]:
         return "--aprs-is needs --call CALL, for its login"
     if args.filter and not args.aprs_is:
         return "--filter is for --aprs-is"
-    if re.search(r"[\r\n]", args.filter):
-        return "--filter is one line"
+    if not re.fullmatch("[ -~]*", args.filter):
+        return "--filter is one line of ASCII"
     try:
         os.makedirs(args.folder, exist_ok=True)
         with tempfile.TemporaryFile(dir=args.folder):
             pass
     except OSError as fault:
-        return f"{args.folder} is no folder to write to: {fault.strerror}"
+        # a full disk may get room: until then frames are held
+        if fault.errno not in (errno.ENOSPC, errno.EDQUOT):
+            return f"{args.folder} is no folder to write to: {fault.strerror}"
     return None
 
 

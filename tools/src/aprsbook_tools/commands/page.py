@@ -69,7 +69,7 @@ def brought(args: argparse.Namespace) -> Dict[str, Any]:
     """The files and options of a page. What isn't understood of a roster is said here, and by the
     page itself."""
     roster = text_file.read(args.roster) if args.roster else ""
-    for it in read_roster(roster).faults:
+    for it in read_roster(roster).words_of_faults():
         saying.say(f"aprs-net: {args.roster}: {it}")
     return {
         "title": args.title,

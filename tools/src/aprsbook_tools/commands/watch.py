@@ -159,11 +159,14 @@ def turn(args: argparse.Namespace, told: Set[str]) -> Tuple[Set[str], bool]:
     return now, went_well
 
 
-def turn_of_state(args: argparse.Namespace) -> bool:
-    """A turn of those runs that share what was told; whether all could be told."""
+def turn_of_state(args: argparse.Namespace, told: Set[str]) -> bool:
+    """A turn of those runs that share what was told; whether all could be told. `told` is what this
+    run told, also where that can't be written."""
     whole.check(args.state, [args.logs])
     with whole.locked(args.state):
-        now, went_well = turn(args, read_state(args.state))
+        now, went_well = turn(args, read_state(args.state) | told)
+        told.clear()
+        told.update(now)
         whole.write(args.state, json.dumps(sorted(now), indent=0).encode(), [args.logs])
     return went_well
 
@@ -184,14 +187,15 @@ def check(args: argparse.Namespace) -> None:
 def run(args: argparse.Namespace) -> int:
     check(args)
     args.gap = follow.gap_of(args)
-    told = read_state(args.state)
+    read_state(args.state)  # refuses at once what is none
+    told: Set[str] = set()
     if args.every is None:
-        went_well = turn_of_state(args) if args.state else turn(args, told)[1]
+        went_well = turn_of_state(args, told) if args.state else turn(args, told)[1]
         return 0 if went_well else FAULTY
     while True:
         try:
             if args.state:
-                turn_of_state(args)
+                turn_of_state(args, told)
             else:
                 told, _ = turn(args, told)
         except BrokenPipeError:

@@ -61,10 +61,23 @@ def row_of(names: List[str], line: bytes) -> Dict[str, str]:
     return dict(zip(names, fields))
 
 
+class Untimed(ValueError):
+    """A line whose moment can't be told."""
+
+
+def moment_of(row: Dict[str, str]) -> int:
+    """When a row was heard."""
+    try:
+        moment = int(row["utime"]) * 1000
+        moments.text_of(moment)
+    except (ValueError, OverflowError) as fault:
+        raise Untimed(str(fault)) from fault
+    return moment
+
+
 def heard_of(row: Dict[str, str], options: Options) -> Heard:
     """A row's frame; ValueError of one that isn't made anew."""
-    moment = int(row["utime"]) * 1000
-    moments.text_of(moment)
+    moment = moment_of(row)
     made = frame(row)
     if made is None:
         raise ValueError(f"a report that begins with {row['dti']!r} isn't made anew")
@@ -86,4 +99,4 @@ def read(file: IO[bytes], options: Options) -> Iterator[Found]:
         try:
             yield heard_of(row_of(names, line), options)
         except (ValueError, OverflowError) as fault:
-            yield Refused(number, str(fault), line)
+            yield Refused(number, str(fault), line, untimed=isinstance(fault, Untimed))

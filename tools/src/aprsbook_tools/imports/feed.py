@@ -5,6 +5,7 @@ from aprsbook_tools import ax25, kiss
 from aprsbook_tools.imports import packets
 
 LONGEST = 2048  # bytes of a line: what is longer is noise
+NOISE = "a line that is too long is left out"
 
 
 class Lines:
@@ -12,30 +13,41 @@ class Lines:
 
     def __init__(self, say: Callable[[str], None]) -> None:
         self.say = say
-        self.rest = b""
+        self.restart()
 
     def restart(self) -> None:
-        self.rest = b""
+        self.rest, self.noise = b"", False
 
     def feed(self, octets: bytes) -> Iterator[Tuple[str, bytes]]:
         """What these bytes end, as frames that stand between two FEND."""
         *lines, self.rest = (self.rest + octets).split(b"\n")
-        if len(self.rest) > LONGEST:
-            self.say("noise without an end of line is left out")
-            self.rest = b""
         for line in lines:
-            line = line.rstrip(b"\r")
-            if line.startswith(b"# logresp") or b"full" in line[:40]:
-                self.say(line.decode("ascii", "backslashreplace"))
-            if line.startswith(b"#"):
-                continue
-            try:
-                heard = gated(line)
-            except ValueError as fault:
-                self.say(f"{fault}: {line[:100]!r}")
-                continue
-            if heard:
-                yield heard[0], kiss.wrap(heard[1])
+            if not self.is_noise(line):
+                yield from self.read(line.rstrip(b"\r"))
+            self.noise = False
+        if self.is_noise(self.rest):
+            self.rest = b""
+
+    def is_noise(self, line: bytes) -> bool:
+        """Whether a line, of which this is a part or all, is too long; that is said once."""
+        if not self.noise and len(line) > LONGEST:
+            self.noise = True
+            self.say(NOISE)
+        return self.noise
+
+    def read(self, line: bytes) -> Iterator[Tuple[str, bytes]]:
+        """The frame of a line, if a gate heard it. What the server says of the login is said."""
+        if line.startswith(b"#"):
+            if b"logresp" in line or b"full" in line:
+                self.say(repr(line[:200])[2:-1])
+            return
+        try:
+            heard = gated(line)
+        except ValueError as fault:
+            self.say(f"{fault}: {line[:100]!r}")
+            return
+        if heard:
+            yield heard[0], kiss.wrap(heard[1])
 
 
 def gated(line: bytes) -> Optional[Tuple[str, bytes]]:

@@ -3,13 +3,22 @@ import re
 import struct
 from typing import IO, Iterator, Optional
 
-from aprsbook_tools import book_file, moments
+from aprsbook_tools import book_file, kiss, moments
 from aprsbook_tools.errors import Fault
 from aprsbook_tools.imports import Found, Heard, Options, Refused
 
-DECODED = re.compile(rb"DECODED\[\d+\]\s+(?:(\d+):)?(\d+):(\d\d)\.(\d{3})\s")
+DECODED = re.compile(rb"DECODED\[\d+\]\s+(?:(\d{1,6}):)?(\d{1,6}):(\d\d)\.(\d{3})\s")
 BYTES = re.compile(rb"  [0-9a-f]{3}:  ((?:[0-9a-f]{2} ){1,16})")
 AX25, AX25_KISS = 3, 202  # types of links in captures
+
+
+def heard_or_refused(number: int, moment: int, receiver: str, frame: bytes) -> Found:
+    """A frame at a moment, if a log can have both."""
+    if not 0 <= moment < moments.END:
+        return Refused(number, "a log's years are 1970 to 2099", frame, untimed=True)
+    if not frame or len(kiss.wrap(frame)[1:-1]) > kiss.FRAME:
+        return Refused(number, f"a frame of {len(frame)} bytes is none of the air", frame)
+    return Heard(moment, receiver, frame)
 
 
 def atest(file: IO[bytes], options: Options) -> Iterator[Found]:
@@ -27,11 +36,7 @@ def atest(file: IO[bytes], options: Options) -> Iterator[Found]:
         elif octets:
             frame += bytes.fromhex(octets[1].decode())
         elif line.startswith(b"------") and at is not None and frame:
-            moment = options.start + at
-            if moment < moments.END:
-                yield Heard(moment, options.name or "TAPE", frame)
-            else:
-                yield Refused(number, "a log's years are 1970 to 2099", line, untimed=True)
+            yield heard_or_refused(number, options.start + at, options.name or "TAPE", frame)
             frame = b""
 
 
@@ -59,11 +64,7 @@ def pcap(file: IO[bytes], options: Options) -> Iterator[Found]:
         if link == AX25_KISS and octets[:1] and octets[0] & 15:
             continue
         frame = octets[1:] if link == AX25_KISS else octets
-        moment = seconds * 1000 + rest // fine
-        if 0 <= moment < moments.END and frame:
-            yield Heard(moment, options.name or "PCAP", frame)
-        else:
-            yield Refused(number, "no moment or no frame", octets, untimed=True)
+        yield heard_or_refused(number, seconds * 1000 + rest // fine, options.name or "PCAP", frame)
 
 
 def book(file: IO[bytes], options: Options) -> Iterator[Found]:

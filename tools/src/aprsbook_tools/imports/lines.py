@@ -1,23 +1,25 @@
 """Texts with a line for each frame: of monitors, Dire Wolf, aprx, aprs.fi, YAAC and Xastir."""
+import codecs
 import dataclasses
 import re
 import time
 from typing import Callable, Iterable, Iterator, NamedTuple, Optional
 
 from aprsbook_tools import ax25, moments, zones
+from aprsbook_tools.errors import Fault
 from aprsbook_tools.imports import Found, Heard, Options, Refused, packets
 
 # where a packet begins in a line, perhaps behind aprx's mark of one that it didn't pass on
 BEGIN = re.compile(rb"(?:^|[ \t\]|,])[*#]?([A-Za-z0-9/-]+>[A-Za-z0-9*,_/-]+:.+)$", re.DOTALL)
 # Dire Wolf's marks: what it sent, and what didn't come by radio
-SENT = re.compile(rb"\[\d+[HL][^\]]*\]\s*$")
-NET = re.compile(rb"\[(?:\d+\.(?:is|AIS)\b|ig\b|ig>tx|rx>ig)[^\]]*\]\s*$")
+SENT = re.compile(rb"\[\d+[HL][^][]*\]\s*$")
+NET = re.compile(rb"\[(?:\d+\.(?:is|AIS)\b|ig\b|ig>tx|rx>ig)[^][]*\]\s*$")
 # aprx's interface, and R for received, d for received and not passed on, or T for sent
-APRX = re.compile(rb"(\S+)\s+([A-Za-z])\s+[*#]?$")
+APRX = re.compile(rb"(?<!\S)(\S+)\s+([A-Za-z])\s+[*#]?$")
 EPOCH = re.compile(rb"^\s*(\d{10})(?:[.](\d{1,9})|(\d{3}))?(?![\d-])")
 # what aprs.fi says behind a packet
 SAYS = re.compile(rb" \[(?:Duplicate|Rate limited|Location changes|Invalid|Unsupported|Delayed|"
-                  rb"Uncompressed|Compressed|Too old|No position)[^\]]*\]$")
+                  rb"Uncompressed|Compressed|Too old|No position)[^][]*\]$")
 
 
 class Part(NamedTuple):
@@ -43,6 +45,14 @@ def cut(line: bytes) -> Optional[Part]:
     return Part(line[:found.start(1)], found[1]) if found else None
 
 
+def plain(file: Iterable[bytes]) -> Iterator[bytes]:
+    """The lines of a text in UTF-8, without a byte order mark."""
+    for number, line in enumerate(file):
+        if number == 0 and line.startswith((codecs.BOM_UTF16_LE, codecs.BOM_UTF16_BE)):
+            raise Fault("in UTF-16, as PowerShell writes: make it UTF-8")
+        yield line if number else line.removeprefix(codecs.BOM_UTF8)
+
+
 def moment_of(before: bytes, options: Options) -> int:
     """The moment that stands before a packet; ValueError without one."""
     found = zones.find(before)
@@ -61,7 +71,7 @@ def moment_of(before: bytes, options: Options) -> int:
 
 def read(file: Iterable[bytes], options: Options, marks: Marks, escapes: str) -> Iterator[Found]:
     """The packets of lines that have a time before each."""
-    for number, line in enumerate(file, 1):
+    for number, line in enumerate(plain(file), 1):
         line = line.rstrip(b"\r\n")
         part = cut(line)
         if part is None:
@@ -121,7 +131,7 @@ def aprx(file: Iterable[bytes], options: Options) -> Iterator[Found]:
 def aprs_fi(file: Iterable[bytes], options: Options) -> Iterator[Found]:
     """aprs.fi's raw packets, as its page shows them: the receivers are the gates."""
     def stripped() -> Iterator[bytes]:
-        for line in file:
+        for line in plain(file):
             yield SAYS.sub(b"", line.rstrip(b"\r\n")).replace(b": ", b" ", 1) + b"\n"
     told = dataclasses.replace(options, igate=options.name is None)
     return read(stripped(), told, lambda _: Mark(), "direwolf")
@@ -136,7 +146,7 @@ def xastir(file: Iterable[bytes], options: Options) -> Iterator[Found]:
     """Xastir's tnc.log or net.log: a line `# SECONDS ..` before the packets of that moment."""
     def timed() -> Iterator[bytes]:
         moment = b""
-        for line in file:
+        for line in plain(file):
             found = re.match(rb"# (\d{9,10})\b", line)
             if found:
                 moment = found[1].rjust(10, b"0") + b" "
