@@ -16,7 +16,7 @@ const lettersOf = (bytes, most = 2000) =>
  */
 const STRANGERS = [
   [/^\x89PNG|^\xff\xd8\xff|^GIF8|^BM[^]{4}\0\0\0\0|^RIFF....WEBP|^II\*\0|^MM\0\*/s, "a picture"],
-  [/^\s*(<\?xml[^]*?\?>\s*)?(<!--[^]*?-->\s*)*<svg[\s>]/, "a picture"],
+  [/^\s*(<\?xml[^]*?\?>\s*)?(<!--(?:(?!-->)[^])*-->\s*)*<svg[\s>]/, "a picture"],
   [/^%PDF/, "a PDF"], [/^PK\x03\x04/, "an archive (ZIP)"], [/^7z\xbc\xaf|^Rar!/, "an archive"],
   [/^SQLite format 3\0/, "a database (SQLite)"], [/^PMTiles/, "an archive of maps (PMTiles)"],
   [/^RIFF....WAVE|^OggS|^ID3|^fLaC/s, "a sound"], [/^....ftyp/s, "a film"],
@@ -32,7 +32,7 @@ export const isPicture = bytes =>
   /^\x89PNG|^\xff\xd8\xff|^RIFF....WEBP/s.test(String.fromCharCode(...bytes.subarray(0, 12)));
 /** How a line of a roster begins: a call, or the head of a column. */
 const WORD = "(?:[a-z0-9]{1,6}(?:-(?:\\d{1,2}|\\*))?|callsign|station|tactical)";
-const ROSTER = new RegExp(`^(?:\\s*#[^\\n]*\\n|\\s*\\n)*\\s*"?${WORD}"?([\\s,;]|$)`, "i");
+const ROSTER = new RegExp(`^(?:\\s*#[^\\n]*\\n)*\\s*"?${WORD}"?([\\s,;]|$)`, "i");
 
 /**
  * What a file is: book, KISS stream, map, roster, log, or what else it is, such as `a picture`.

@@ -1,5 +1,6 @@
 import assert from "node:assert/strict";
 import { test } from "node:test";
+import { runInThisContext } from "node:vm";
 import { damagedLines, kindOf, READ, spelled, without } from "../../page/kinds.js";
 import { movedIn, shifted } from "../../page/shift.js";
 
@@ -22,6 +23,15 @@ test("books, captures, maps, rosters and logs are known", () => {
     ["\xef\xbb\xbfcall,name\n", "x.csv", "roster"], ["# a\nQ1A-* x\n", "x.txt", "roster"],
     [LINE, "x.txt", "log"], ["", "x.log", "log"], ["Q1A x", "x.log", "log"]];
   for (const [text, name, kind] of cases) assert.equal(kindOf(bytesOf(text), name), kind, text);
+});
+test("what a file is takes no time that grows with blank lines or comments", () => {
+  const cases = [["\n", "!", "x.txt", "log"], ["\n", "Q1A x", "x.txt", "roster"],
+    ["# a\n\n", "!", "x.csv", "log"], ["<!---->", "<svg>", "x", "a picture"],
+    ["<!---->", "!", "x", "log"], ["<?xml ?>", "<!-- -->", "x", "XML"]];
+  for (const [part, end, name, kind] of cases) {
+    globalThis.asked = () => kindOf(bytesOf(part.repeat(200) + end), name);
+    assert.equal(runInThisContext("asked()", { timeout: 3000 }), kind, part + end);
+  }
 });
 test("Windows' spellings are read and named", () => {
   const windows = LINE.replace("\n", "\r\n").repeat(2), plain = LINE.repeat(2);
