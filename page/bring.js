@@ -4,7 +4,7 @@
 import { readBrought } from "./bases.js";
 import { refresh } from "./drawing.js";
 import { readBase } from "./overlays.js";
-import { readRoster } from "./roster.js";
+import { faultWords, readRoster } from "./roster.js";
 import { page, tell } from "./state.js";
 import { count, messageOf, printable } from "./words.js";
 
@@ -46,7 +46,7 @@ const isBad = (/** @type {Brought} */ { fault, roster }) =>
  */
 function toldOf({ name, roster, fault }) {
   const calls = roster ? [count(roster.list.length, "call"),
-    ...roster.faults.map(it => `line ${it.line}: ${it.why}`)].join(", ") : "a map";
+    ...faultWords(roster.faults)].join(", ") : "a map";
   return `${printable(name)}: ${fault || calls}`;
 }
 /** @param {File[]} files */

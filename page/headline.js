@@ -3,7 +3,7 @@
 
 import { byId, make } from "./dom.js";
 import { needsOf, newsOf } from "./news.js";
-import { expectedOf } from "./roster.js";
+import { expectedOf, faultWords } from "./roster.js";
 import { page, presentOf, view } from "./state.js";
 import { clocks, count, dateText, secondText, timeText, zoneText } from "./words.js";
 
@@ -45,7 +45,7 @@ function newsNodes() {
   const missing = expected.filter(it => now - it.last > view.silent).map(it => it.call);
   const news = net.rows.length ? newsOf(net, { gap: data.gap, silent: data.silent,
     isSilent: view.isSilent, missing, expected: expected.length }) : [];
-  const faults = page.roster.faults.map(it => `roster, line ${it.line}: ${it.why}`);
+  const faults = faultWords(page.roster.faults).map(it => `roster, ${it}`);
   return [...news.map(({ href, grade, text, pick: key }) => make("a", { href, className: grade,
     textContent: text, data: key ? { key } : {} })),
   ...[...data.notes, ...faults].map(text => make("span", { className: "bad", textContent: text }))];

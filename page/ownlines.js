@@ -9,6 +9,8 @@
 /** @typedef {{ lines: Line[], gone: string[] }} Kept lines, and the keys of those taken away */
 
 const NAMES = /** @type {("from" | "to" | "id" | "text")[]} */ (["from", "to", "id", "text"]);
+/** The last moment that a date can have, in seconds from 1970; the first is as far before. */
+const LAST = 8.64e12;
 const keyOf = (/** @type {Line} */ it) => JSON.stringify([it.at, ...NAMES.map(name => it[name])]);
 
 /**
@@ -18,8 +20,9 @@ const keyOf = (/** @type {Line} */ it) => JSON.stringify([it.at, ...NAMES.map(na
  */
 export function linesIn(values) {
   if (!Array.isArray(values)) return [];
-  return values.filter(it => Number.isFinite(it?.at) && NAMES.every(name =>
-    typeof it[name] === "string" && it[name].length <= 2000))
+  return values.filter(it => Math.abs(Number.isFinite(it?.at) ? it.at : NaN) <= LAST &&
+    NAMES.every(name =>
+      typeof it[name] === "string" && it[name].length <= 2000))
     .map(it => ({ at: it.at, from: it.from, to: it.to, id: it.id, text: it.text }));
 }
 /** This browser's store, where it has one. */

@@ -70,7 +70,7 @@ export function readRoster(text) {
   /** @type {Expected[]} */
   const list = [];
   /** @type {Fault[]} */
-  const faults = [];
+  const faults = [], calls = new Set();
   let places = [0, 1, 2, 3], isFirst = true;
   for (const [n, line] of text.replace(/^\ufeff/, "").split(/\r\n|\n|\r/).entries()) {
     if (!line.trim() || line.trim().startsWith("#")) continue;
@@ -84,10 +84,23 @@ export function readRoster(text) {
     const upper = call.toUpperCase().replace(/-0$/, "");
     const fault = (/** @type {string} */ why) => faults.push({ line: n + 1, why });
     if (!CALL.test(upper)) fault(`${call || "nothing"} is no call`);
-    else if (list.some(it => it.call === upper)) fault(`${upper} stands there twice`);
-    else list.push({ call: upper, name, group, bib });
+    else if (calls.has(upper)) fault(`${upper} stands there twice`);
+    else {
+      calls.add(upper);
+      list.push({ call: upper, name, group, bib });
+    }
   }
   return { list, faults };
+}
+/** So many faults are said; a list that is no roster has one in each line. */
+const SAID = 5;
+/**
+ * The faults of a roster, in words.
+ * @param {Fault[]} faults
+ */
+export function faultWords(faults) {
+  const words = faults.slice(0, SAID).map(it => `line ${it.line}: ${printable(it.why)}`);
+  return faults.length > SAID ? [...words, `and ${faults.length - SAID} lines more`] : words;
 }
 /**
  * Several rosters as one; of a call that stands in several, the first line counts.

@@ -103,6 +103,9 @@ test("without a store, with a full or a damaged one, lines stay in the page", ()
     assert.deepEqual(textsOf(opened(store)), ["a"]);
   }
   assert.deepEqual(linesIn([own(1, "x".repeat(2001)), own(2, "b", { more: 1 })]), [own(2, "b")]);
+  // a moment that no date has would stop the whole form
+  for (const at of [1e300, -8.7e12, NaN, "1", null])
+    assert.deepEqual(linesIn([own(0, "a", { at }), own(2, "b")]), [own(2, "b")]);
 });
 test("a field for date and time gives back its moment", () => {
   assert.equal(fieldOf(AT), "2024-06-21T18:00:00");
