@@ -57,6 +57,7 @@ export function drawNews() {
     list.map(it => it.className + it.textContent).join("\n");
   if (words(nodes) !== words([...byId("news").children]))
     byId("news").replaceChildren(...nodes.flatMap(it => [it, " "]));
-  page.alarm.hear(needsOf(page.net.things).filter(it => it.grade === "alarm" || it.grade === "bad")
-    .map(it => it.text));
+  const needs = needsOf(page.net.things).filter(it => it.grade === "alarm" || it.grade === "bad");
+  const fresh = page.alarm.hear(needs).map(it => it.text);
+  if (fresh.length) byId("needs").textContent = fresh.join("; ");
 }

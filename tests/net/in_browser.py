@@ -424,6 +424,12 @@ def test_needs(page, folder):
     page.js("aprsbook.show({ ...aprsbook.page.data, rows: aprsbook.page.data.rows + "
             f"{json.dumps(row('mic-e', 11, 'Q1MIC-7', says='emergency', **where))} }})")
     page.wait("window.rung === 2")
+    # a screen reader hears of the new one alone, and the same need in other words is none
+    is_(page.js("(it => [it.getAttribute('role'), it.textContent])"
+                "(document.getElementById('needs'))"), ["alert", "EMERGENCY: Q1MIC-7, 00:11:00"])
+    page.js("local.click()")
+    page.js("local.click()")
+    is_(page.js("window.rung"), 2)
     # they stay in sight where the map fills the window
     page.js("fill.click()")
     is_(page.js("(() => { const { x, y } = document.querySelector('#news > .alarm')"

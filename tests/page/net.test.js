@@ -3,6 +3,7 @@ import { test } from "node:test";
 import { needsOf, newsOf } from "../../page/news.js";
 import { know } from "../../page/roster.js";
 import { Alarm } from "../../page/sound.js";
+import { clocks } from "../../page/words.js";
 import { message, netOfLines, place, row, thing } from "./tables.js";
 
 const OF = { gap: 30, silent: 30, isSilent: () => false, missing: [], expected: 0 };
@@ -36,15 +37,34 @@ test("rejected messages are counted, and kinds that aren't known", () => {
 
 test("the alarm rings for what is new, and only where it is on", () => {
   let rung = 0;
-  const alarm = new Alarm(() => rung++);
-  alarm.hear(["a"]);
+  const alarm = new Alarm(() => rung++), hear = (...ids) => alarm.hear(ids.map(id => ({ id })));
+  assert.deepEqual(hear("a"), [{ id: "a" }]);
   assert.equal(rung, 0);
   alarm.turn(true);
   assert.equal(rung, 1);
-  alarm.hear(["a"]);
+  assert.deepEqual(hear("a"), []);
   assert.equal(rung, 1);
-  alarm.hear(["a", "b"]);
-  alarm.hear(["a", "b"]);
+  hear("a", "b");
+  hear("a", "b");
+  assert.equal(rung, 2);
+  // another part of the time, and all of it again
+  hear();
+  hear("a", "b");
+  assert.equal(rung, 2);
+});
+test("the alarm rings once for a need, also where it is worded in another way", () => {
+  let rung = 0;
+  const alarm = new Alarm(() => rung++), lines = [micE(0, "Q1A-7", "emergency")];
+  alarm.turn(true, false);
+  const hear = () => alarm.hear(needsOf(netOfLines(lines).things)).map(it => it.text);
+  assert.deepEqual(hear(), ["EMERGENCY: Q1A-7, 18:00:00"]);
+  clocks.dated = true;
+  know([{ call: "Q1A-*", name: "Leader", group: "", bib: "" }]);
+  assert.deepEqual(hear(), []);
+  clocks.dated = false;
+  know([]);
+  lines.push(micE(60, "Q1A-7", "emergency"));
+  assert.deepEqual(hear(), ["EMERGENCY: Q1A-7, 18:01:00"]);
   assert.equal(rung, 2);
 });
 
