@@ -110,3 +110,14 @@ test("weather and telemetry without a place are kept for their station", () => {
   assert.equal(thing(net, "Q1W").lastWeather, 0);
   assert.equal(thing(net, "Q1W").lastTelemetry, 1);
 });
+test("a kill at 0, 0 is a kill, where the thing was", () => {
+  const of = (second, name, state, north, east) => row("object", second, "Q1A", { name, state,
+    latitude: String(north), longitude: String(east), symbol: "/E", ambiguity: 0, compressed: "no" });
+  const lines = [of(0, "X", "live", 54, -3), of(9, "X", "killed", 0, 0), of(0, "Y", "killed", 0, 0),
+    of(0, "Z", "live", 5, 6), of(1, "Z", "killed", 0, 0), of(2, "Z", "live", 7, 8)];
+  const net = netOfLines(lines), it = thing(net, "X"), again = thing(net, "Z");
+  assert.deepEqual([it.killed, it.now.state, it.now.north, it.now.east], [true, "killed", 54, -3]);
+  assert.deepEqual([it.unfixed, thing(net, "Y").unfixed, thing(net, "Y").now], [0, 1, null]);
+  assert.equal(it.at(lines.length ? it.first + 1 : 0).state, "live");
+  assert.deepEqual([again.killed, again.places.map(one => one.north)], [false, [5, 5, 7]]);
+});
