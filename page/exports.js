@@ -26,6 +26,8 @@ const markup = (/** @type {string} */ text) => text
   .replace(/[&<>"']/g, it => `&#${it.charCodeAt(0)};`)
   .replace(/[^\t\n\r -\ud7ff\ue000-\ufffd\u{10000}-\u{10ffff}]/gu, "");
 const decimal = (/** @type {number} */ value) => value.toFixed(7);
+/** Degrees east for GPX, whose longitudes end below 180. */
+const belowDateLine = (/** @type {number} */ east) => decimal(east).replace(/^180\./, "-180.");
 
 const COLUMNS = ("kind name state first last receivers source lat lon ambiguity symbol course " +
   "speed_knots altitude_m comment").split(" ");
@@ -106,7 +108,8 @@ const nowOf = (/** @type {Thing} */ it) => /** @type {Place} */ (it.now);
 
 /** @param {Net} net @param {{ title: string }} data @returns {Pieces} */
 function* gpxOf({ placed }, { title }) {
-  const at = (/** @type {Place} */ it) => `lat="${decimal(it.north)}" lon="${decimal(it.east)}"`;
+  const at = (/** @type {Place} */ it) => `lat="${decimal(it.north)}" ` +
+    `lon="${belowDateLine(it.east)}"`;
   const time = (/** @type {Place} */ it) => `<time>${isoText(it.first)}</time>`;
   yield '<?xml version="1.0" encoding="UTF-8"?>\n<gpx version="1.1" creator="aprsbook" ' +
     'xmlns="http://www.topografix.com/GPX/1/1">\n' +

@@ -28,6 +28,11 @@ test("a track over the date line is cut there", () => {
   assert.deepEqual(JSON.parse(geojson).features.at(-1).geometry.coordinates,
     [[[179.5, 0], [180, 0]], [[-180, 0], [-179.5, 0]]]);
 });
+test("GPX has no longitude of 180, which its schema refuses", () => {
+  const net = netOfLines([place(0, "Q1A", 0, 180), place(9, "Q1A", 0, -180)]);
+  const gpx = savedText("places and tracks (GPX)", net, { title: "x" });
+  assert.deepEqual(new Set(gpx.match(/lon="[^"]*"/g)), new Set(['lon="-180.0000000"']));
+});
 test("GeoJSON is one collection, of nothing too", () => {
   for (const lines of [[], [place(0, "Q1A", 1, 2)]]) {
     const it = JSON.parse(savedText("places and tracks (GeoJSON)", netOfLines(lines)));

@@ -67,6 +67,11 @@ def test_a_kill_at_no_fix_lies_where_the_thing_was() -> None:
     assert thing.now.is_killed
 
 
+def test_gpx_has_no_longitude_of_180() -> None:
+    text = made("gpx", [place("18:00", "Q1A", 0.5, 180.0), place("18:01", "Q1A", 0.5, -180.0)])
+    assert text.count('lon="-180.0000000"') == text.count("lon=")
+
+
 def test_no_text_is_a_formula(programs: Programs) -> None:
     programs.say(
         *(
