@@ -68,11 +68,10 @@ export function callIn(text) {
   const [, name, call] = /^(.* )(\(\S+\))$/s.exec(text) || ["", "", text];
   return make("bdi", {}, name, make("span", { className: "whole", textContent: call }));
 }
-/** @param {number} seconds */
-export function momentOf(seconds) {
-  return make("time", {
-    dateTime: isoText(seconds), title: fullText(seconds), textContent: timeText(seconds),
-  });
+/** @param {number} seconds @param {boolean} [dated] whether its date is written too */
+export function momentOf(seconds, dated) {
+  return make("time", { dateTime: isoText(seconds), title: fullText(seconds),
+    textContent: timeText(seconds, dated) });
 }
 /**
  * @param {keyof SVGElementTagNameMap} tag

@@ -5,12 +5,12 @@ import { byId, make } from "./dom.js";
 import { needsOf, newsOf } from "./news.js";
 import { expectedOf, faultWords } from "./roster.js";
 import { page, presentOf, view } from "./state.js";
-import { clocks, count, dateText, secondText, timeText, zoneText } from "./words.js";
+import { clocks, count, dateText, secondText, timeText, zonesText } from "./words.js";
 
 /** Says when, of how many and by whom the net was heard. */
 export function drawAbout() {
   const { net, all } = page, stations = net.things.filter(it => it.kind === "station").length;
-  const zone = net.rows.length ? zoneText(net.end) : "UTC";
+  const zone = net.rows.length ? zonesText(net.begin, net.end) : "UTC";
   byId("zone").textContent = `All times are ${zone}.`;
   if (!net.rows.length)
     byId("about").textContent = all.rows.length ? "Nothing was heard in this time." :

@@ -118,18 +118,40 @@ export function secondText(seconds) {
   return `${two(hour)}:${two(minute)}:${two(second)}`;
 }
 /**
+ * Whether moments are of several days.
+ * @param {number[]} moments
+ */
+export function isDated(moments) {
+  let least = Infinity, most = -Infinity;
+  for (const it of moments)
+    if (Number.isFinite(it)) [least, most] = [Math.min(least, it), Math.max(most, it)];
+  return least < most && dateText(least) !== dateText(most);
+}
+/**
  * A moment, with the date where more than one day is shown.
  * @param {number} seconds
  */
-export function timeText(seconds) {
+export function timeText(seconds, dated = clocks.dated) {
   const [, month, day] = civil(seconds);
-  return (clocks.dated ? `${day} ${MONTHS[month]} ` : "") + secondText(seconds);
+  return (dated ? `${day} ${MONTHS[month]} ` : "") + secondText(seconds);
 }
 /** @param {number} seconds */
 export function zoneText(seconds) {
   if (!clocks.local) return "UTC";
   const ahead = -new Date(seconds * 1000).getTimezoneOffset(), far = Math.abs(ahead);
   return `UTC${ahead < 0 ? "\u2212" : "+"}${two(Math.floor(far / 60))}:${two(far % 60)}`;
+}
+/** In so many parts of a time it is asked which zone there is. */
+const ZONES = 400;
+/**
+ * The zones of a time, one after the other, such as those before and after a clock change.
+ * @param {number} begin
+ * @param {number} end
+ */
+export function zonesText(begin, end) {
+  const step = Math.max(900, (end - begin) / ZONES), zones = new Set();
+  if (clocks.local) for (let at = begin; at < end; at += step) zones.add(zoneText(at));
+  return [...zones.add(zoneText(end))].join(" and ");
 }
 /** @param {number} seconds */
 export const fullText = seconds =>
@@ -138,14 +160,16 @@ export const fullText = seconds =>
 export const isoText = seconds => new Date(seconds * 1000).toISOString();
 
 /**
- * How long ago something was.
+ * How long ago something was; less than nothing, of what is still to come.
  * @param {number} passed in seconds
  */
 export function age(passed) {
   /** @type {[number, number, string][]} */
   const units = [[60, 1, "s"], [5400, 60, "min"], [172800, 3600, "h"]];
-  const [, size, unit] = units.find(([below]) => passed < below) || [0, 86400, "d"];
-  return `${Math.floor(passed / size)} ${unit}`;
+  const far = Math.abs(passed);
+  const [, size, unit] = units.find(([below]) => far < below) || [0, 86400, "d"];
+  const n = Math.floor(far / size);
+  return `${passed < 0 && n ? "\u2212" : ""}${n} ${unit}`;
 }
 /** @param {number} n @param {string} word of one of them */
 export const count = (n, word) => `${n.toLocaleString("en")} ${word}${n === 1 ? "" : "s"}`;

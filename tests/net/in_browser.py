@@ -723,6 +723,32 @@ def test_live(page, folder):
     is_(page.problems(), [])
 
 
+def test_asleep(page, folder):
+    """A page that goes on and wakes: receivers and expected stations are silent too, and it says
+    how old it is, not that nothing was heard."""
+    rows = place(0, "Q1A", 54.5, -3.5, receivers="RX1") + place(9, "Q1B", 54.6, -3.5,
+                                                                receivers="RX2")
+    page.open(page_of(folder / "asleep.html", rows, live=60, roster="Q1A\nQ1B\n") + "#live=off")
+    at = lambda minute: page.js(f"(Date.now = () => Date.parse({moment(minute)!r}), "
+                                "aprsbook.tick(), 1)")
+    silent = ("['receivers', 'roster', 'things'].map(it => document.querySelectorAll("
+              "`#${it}-box tr.silent`).length)")
+    at(10)
+    page.js("(aprsbook.alive.answered = Date.now(), 1)")
+    at(11)
+    is_(page.js(f"[{silent}, stale.textContent]"), [[0, 0, 0], ""])
+    at(31)
+    is_(page.js(silent), [1, 1, 1])
+    at(70)
+    is_(page.js(f"[{silent}, stale.textContent]"),
+        [[2, 2, 2], "this was loaded 60 min ago, at 2024-06-21 00:10:00 UTC"])
+    # a clock that is behind counts no ages below nothing without a word
+    at(-60)
+    is_(page.js("document.querySelector('#things .age').textContent"), "\u221260 min")
+    assert "dated 69 min after now" in page.js("stale.textContent"), page.js("stale.textContent")
+    is_(page.problems(), [])
+
+
 def test_served(page, folder):
     """From a server: the data alone are asked for again, and the page stays while that is away."""
     event_page(folder / "live.html", "--live", "1", EVENING[0])

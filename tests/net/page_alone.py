@@ -596,12 +596,15 @@ def test_followed(page, folder):
     names = ["a.log", "b.log", "c.log", "d.log"]
     for k, name in enumerate(names):
         (folder / name).write_text(log(5 + k, f"RX{k}"))
-    (folder / "logs.txt").write_text("\n".join(names))
+    # what is none of this server takes no other log along, and a log that stands there twice is one
+    (folder / "logs.txt").write_text("\n".join(["// the hill", "http://[", *names, names[0]]))
     fresh(page, folder, f"http://127.0.0.1:{server.server_port}/page.html")
     page.js("(aprsfiles.pace.limit = 2000, 1)")
     page.js("(() => { const it = document.getElementById('follow'); it.value = 'logs.txt'; "
             "it.dispatchEvent(new Event('change')) })()")
     follow_until(page, f"{MADE} && {ROWS} === 8")
+    is_(page.js("[aprsfiles.files.length, stale.textContent.split(';')[0]]"),
+        [4, "logs.txt: no log of this server: // the hill"])
     hang.add("a.log")
     fail["b.log"] = 500
     # a bad line amid good ones, of a log that grows
