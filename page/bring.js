@@ -53,8 +53,10 @@ function toldOf({ name, roster, fault }) {
 export async function bringAll(files) {
   for (const it of files) {
     const fault = await bringGround(it);
-    if (fault === null) bring(it.name, await it.text());
-    else if (fault) tell(`${printable(it.name)}: ${fault}`, true);
+    const text = fault === null ? await it.text().catch(() => null) : null;
+    if (text !== null) bring(it.name, text);
+    else if (fault !== "")
+      tell(`${printable(it.name)}: ${fault || "it is gone, or can\u2019t be read"}`, true);
   }
 }
 /**

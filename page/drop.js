@@ -82,6 +82,7 @@ export async function work() {
     if (mine !== turn) return; // other files came
     tellProgress(0.9, "drawing");
     await aMoment();
+    if (mine !== turn) return;
     await draw(texts);
     if (mine !== turn) return;
     made = texts;

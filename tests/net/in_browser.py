@@ -330,6 +330,17 @@ def test_messages(page, folder):
     is_(page.problems(), [])
 
 
+def test_long_texts(page, folder):
+    """A message of octets that are no letters doesn't push others out of sight."""
+    said = (message("Q1A", "Q1B", "\\x00" * 67, "unanswered", 1, id=1) +
+            message("Q1A", "Q1B", "hi", "unanswered", 2, id=2))
+    page.open(page_of(folder / "long.html", place(0, "Q1A", 54.5, -3.5), said), 700, 900)
+    high = page.js("[...document.querySelectorAll('#messages .text')].map(it => "
+                   "[it.title.length, it.getBoundingClientRect().height])")
+    is_([it[0] for it in high], [2, 4 * 67])
+    assert high[1][1] < 170, high
+
+
 def test_world(page, folder):
     """Over the date line and round the pole: short tracks, and no place off the earth."""
     ferry = "".join(place(k, "Q1FERRY", -17.5, (179.95 + k / 100 + 180) % 360 - 180)

@@ -367,6 +367,24 @@ def test_turns(page, folder):
     assert "merging" not in page.js("document.getElementById('status').textContent")
 
 
+def test_taken(page, folder):
+    """A file that is taken away just before its book is drawn isn't drawn."""
+    fresh(page, folder)
+    (folder / "a.log").write_text(log(3))
+    # the last moment before it is drawn
+    page.js("(new MutationObserver(() => { "
+            "if (document.getElementById('status').textContent.startsWith('drawing')) "
+            "document.querySelector('#files td button').click() "
+            "}).observe(document.getElementById('status'), { childList: true }), 1)")
+    page.give("#choose", folder / "a.log")
+    page.wait("document.getElementById('files-box').hidden === false || !aprsfiles.files.length")
+    page.wait("!aprsfiles.files.length && document.getElementById('progress').hidden")
+    time.sleep(0.5)
+    is_(page.js(f"[{ROWS}, aprsfiles.made(), document.getElementById('net').hidden]"),
+        [0, None, True])
+    is_(page.problems(), [])
+
+
 def test_brought(page, folder):
     """A roster of a spreadsheet and a KML beside a log; faults of the roster have their lines."""
     kml = ("<?xml version='1.0'?><kml xmlns='http://www.opengis.net/kml/2.2'><Document><Placemark>"
