@@ -330,6 +330,18 @@ def test_messages(page, folder):
     is_(page.problems(), [])
 
 
+def test_links(page, folder):
+    """The news lead to what they tell of, out of the map too; the address keeps what was chosen."""
+    said = message("Q1A", "Q1B", "hi", "unanswered", 2, id=2)
+    page.open(page_of(folder / "links.html", place(0, "Q1A", 54.5, -3.5), said) + "#time=local",
+              700, 500)
+    page.js("(fill.click(), document.querySelector('#news a[href=\"#said\"]').click(), 1)")
+    is_(page.js("[location.hash, document.body.classList.contains('full'), document.activeElement.id,"
+                " Math.round(said.getBoundingClientRect().y)]"), ["#time=local", False, "said", 0])
+    page.key("Tab", 9)
+    assert page.js("said.contains(document.activeElement)")
+
+
 def test_long_texts(page, folder):
     """A message of octets that are no letters doesn't push others out of sight."""
     said = (message("Q1A", "Q1B", "\\x00" * 67, "unanswered", 1, id=1) +

@@ -385,6 +385,19 @@ def test_taken(page, folder):
     is_(page.problems(), [])
 
 
+def test_skipped(page, folder):
+    """By keys one is past many files at once."""
+    fresh(page, folder)
+    give(page, folder, {f"{k:02}.log": log(1, f"RX{k}") for k in range(30)})
+    page.wait(MADE)
+    page.js("document.getElementById('adds').querySelector('summary').focus()")
+    page.key("Tab", 9)
+    is_(page.js("document.activeElement.textContent"), "past the files, to the map")
+    page.js("document.activeElement.click()")
+    page.key("Tab", 9)
+    is_(page.js("document.activeElement.id"), "in")
+
+
 def test_brought(page, folder):
     """A roster of a spreadsheet and a KML beside a log; faults of the roster have their lines."""
     kml = ("<?xml version='1.0'?><kml xmlns='http://www.opengis.net/kml/2.2'><Document><Placemark>"
