@@ -10,12 +10,14 @@ import { isoText, said } from "./words.js";
 /** @typedef {import("./ownlines.js").Line} Line */
 /** @typedef {Generator<string>} Pieces of a text */
 /** @typedef {[number, number]} Spot east and north, in degrees */
+/** How formulas begin, in wide letters too, as spreadsheets of East Asia take them. */
+const FORMULA = /^'*[ \u00a0\u3000]*[=+\-@\t\r\n\uff1d\uff0b\uff0d\uff20]/;
 /**
  * A text off the air for a spreadsheet, which must not take it as a formula.
  * @param {string} text
  */
 function csvText(text) {
-  const isFormula = /^'* *[=+\-@\t\r]/.test(text) && !/^-?[0-9]+(\.[0-9]+)?$/.test(text);
+  const isFormula = FORMULA.test(text) && !/^-?[0-9]+(\.[0-9]+)?$/.test(text);
   const safe = isFormula ? "'" + text : text;
   return /[",\n\r]/.test(safe) ? `"${safe.replaceAll('"', '""')}"` : safe;
 }

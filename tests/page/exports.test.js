@@ -15,6 +15,11 @@ test("places: a row for each, with what the table says, and no formula", () => {
       "376.1232,'=1+1",
     `station,Q1C,live,${moment(1)},${moment(1)},RX1,Q1C,1,2,c,/>,,,,-1.5`, ""]);
 });
+test("no text is a formula after blanks or in wide letters either", () => {
+  for (const text of ["\uff1d1", "\u3000=1", "\u00a0+1", "\uff20A"])
+    assert.ok(savedText("messages (CSV)", netOfLines([], [message("Q1A", "Q1B", text, "x", 0)]))
+      .includes(`,'${text},`), text);
+});
 test("messages: in the table's states, bulletins too", () => {
   const net = netOfLines([], [message("Q1A", "Q1B", "hi", "acknowledged", 5, { id: "7" }),
     message("Q1A", "BLN1", "' =2", "unnumbered", 4)]);
