@@ -336,8 +336,9 @@ def test_links(page, folder):
     page.open(page_of(folder / "links.html", place(0, "Q1A", 54.5, -3.5), said) + "#time=local",
               700, 500)
     page.js("(fill.click(), document.querySelector('#news a[href=\"#said\"]').click(), 1)")
-    is_(page.js("[location.hash, document.body.classList.contains('full'), document.activeElement.id,"
-                " Math.round(said.getBoundingClientRect().y)]"), ["#time=local", False, "said", 0])
+    is_(page.js("[location.hash, document.body.classList.contains('full'), "
+                "document.activeElement.id, Math.round(said.getBoundingClientRect().y)]"),
+        ["#time=local", False, "said", 0])
     page.key("Tab", 9)
     assert page.js("said.contains(document.activeElement)")
 

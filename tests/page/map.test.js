@@ -90,5 +90,6 @@ test("a long name is short on the map, and has its call", () => {
     "Tactical nam\u2026 (Q1RUN-7)");
   assert.equal(nameOnMap("\\x00".repeat(9)), "\\x00".repeat(6) + "\\\u2026");
   // no letter is cut in two
-  assert.equal(nameOnMap("\u{1f600}".repeat(20) + " (Q1A)"), "\u{1f600}".repeat(12) + "\u2026 (Q1A)");
+  const face = "\u{1f600}";
+  assert.equal(nameOnMap(face.repeat(20) + " (Q1A)"), face.repeat(12) + "\u2026 (Q1A)");
 });

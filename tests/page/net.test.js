@@ -112,7 +112,7 @@ test("weather and telemetry without a place are kept for their station", () => {
 });
 test("a kill at 0, 0 is a kill, where the thing was", () => {
   const of = (second, name, state, north, east) => row("object", second, "Q1A", { name, state,
-    latitude: String(north), longitude: String(east), symbol: "/E", ambiguity: 0, compressed: "no" });
+    latitude: String(north), longitude: String(east), symbol: "/E" });
   const lines = [of(0, "X", "live", 54, -3), of(9, "X", "killed", 0, 0), of(0, "Y", "killed", 0, 0),
     of(0, "Z", "live", 5, 6), of(1, "Z", "killed", 0, 0), of(2, "Z", "live", 7, 8)];
   const net = netOfLines(lines), it = thing(net, "X"), again = thing(net, "Z");

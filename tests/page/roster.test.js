@@ -1,6 +1,8 @@
 import assert from "node:assert/strict";
 import { test } from "node:test";
-import { expectedOf, faultWords, joined, Names, readRoster, rosterText } from "../../page/roster.js";
+import {
+  expectedOf, faultWords, joined, Names, readRoster, rosterText,
+} from "../../page/roster.js";
 
 const calls = text => readRoster(text).list.map(it => [it.call, it.name, it.group, it.bib]);
 

@@ -1,8 +1,8 @@
 """CSV for a spreadsheet, in which no text off the air is a formula.
 
-A text that begins like a formula, with =, +, - or @ after blanks and apostrophes, wide ones too, or
-with a tab or an end of a line, gets an apostrophe before it, unless it is a number. Reading takes it
-away again.
+A text that begins like a formula gets an apostrophe before it, unless it is a number: with =, +, -
+or @ after blanks and apostrophes, wide ones too, or with a tab or an end of a line. Reading takes
+it away again.
 """
 import csv
 import io
