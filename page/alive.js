@@ -1,7 +1,7 @@
 // @ts-check
 // A page that goes on: it asks for itself again, ages count to now, and it says what it misses.
 
-import { byId, choose, chosen, textOf } from "./dom.js";
+import { byId, choose, chosen, textOf, write } from "./dom.js";
 import { show } from "./drawing.js";
 import { drawNews } from "./headline.js";
 import { aheadOf, staleWords } from "./stale.js";
@@ -94,7 +94,7 @@ export function tick() {
   drawNews();
   // colours of ages go on too
   if (Math.floor(now) % 10 === 0 && page.map.colouring.way === "age") page.map.paintSoon();
-  byId("stale").textContent = staleWords({ now, end: all.rows.length ? all.end : NaN,
+  write("stale", staleWords({ now, end: all.rows.length ? all.end : NaN,
     answered: alive.answered / 1000, away: alive.away / 1000, ahead: alive.ahead,
-    each: follows ? 0 : data.live, refused: alive.refused }).join("; ");
+    each: follows ? 0 : data.live, refused: alive.refused }).join("; "));
 }

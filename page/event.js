@@ -2,7 +2,7 @@
 // Makes the map, the lists and the form into which the page is drawn, with what was chosen before.
 
 import { listenToControls } from "./controls.js";
-import { byId, choose, chosen, kept } from "./dom.js";
+import { byId, choose, chosen, kept, write } from "./dom.js";
 import { Form } from "./form.js";
 import { frameList } from "./frames.js";
 import { Grounds } from "./grounds.js";
@@ -24,16 +24,15 @@ function fillWindow(full) {
 /** Says how many places are far from all others, and not in view. */
 function tellFar() {
   const { far, fitted } = page.map;
-  byId("far").textContent = fitted && far
-    ? `${count(far, "place")} far from the others not in view; “all” shows all.` : "";
+  write("far", fitted && far
+    ? `${count(far, "place")} far from the others not in view; “all” shows all.` : "");
 }
 /**
  * Says what the squares of the map mean, in place of what colours mean.
  * @param {string} text
  */
 function tellDense(text) {
-  if (byId("dense").textContent === text) return;
-  byId("dense").textContent = text;
+  write("dense", text);
   byId("legend").hidden = text !== "";
 }
 /**

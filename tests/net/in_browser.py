@@ -766,6 +766,10 @@ def test_asleep(page, folder):
     at(70)
     is_(page.js(f"[{silent}, stale.textContent]"),
         [[2, 2, 2], "this was loaded 60 min ago, at 2024-06-21 00:10:00 UTC"])
+    # what is said already isn't said each second again
+    is_(page.js("(async () => { let told = 0; const watch = { childList: true, subtree: true }; "
+                "new MutationObserver(() => told++).observe(stale, watch); "
+                "aprsbook.tick(); aprsbook.tick(); await 0; return told })()"), 0)
     # a clock that is behind counts no ages below nothing without a word
     at(-60)
     is_(page.js("document.querySelector('#things .age').textContent"), "\u221260 min")

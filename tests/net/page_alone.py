@@ -333,6 +333,10 @@ def test_edge(page, folder):
         page.settle()
         before = page.js(sizes)
         is_(before[2:], [back == 0, back == 1])
+        said = page.js("['orientation', 'valuemin', 'valuenow', 'valuemax'].map(it => "
+                       "document.getElementById('edge').getAttribute('aria-' + it))")
+        is_(said[0], "horizontal" if back else "vertical")
+        assert int(said[1]) <= int(said[2]) <= int(said[3]), said
         page.js(f"{key}('{turned}')")
         page.settle()
         after = page.js(sizes)
