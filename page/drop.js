@@ -270,7 +270,7 @@ export async function beginReading() {
     const bytes = Uint8Array.from(atob(contents.module), it => it.charCodeAt(0));
     // compiled once, for all workers
     const module = await WebAssembly.compile(bytes);
-    await beginWorkers(contents.worker, module, fault => say(`a worker stopped: ${fault}`, true));
+    await beginWorkers(contents.worker, module, why => say(why, true));
   } catch (fault) {
     say(`This browser can't run the page (${messageOf(fault)}): it takes Chromium or Edge ` +
       "133, Firefox 134, or newer.", true);

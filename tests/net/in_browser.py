@@ -343,6 +343,19 @@ def test_links(page, folder):
     assert page.js("said.contains(document.activeElement)")
 
 
+def test_rest(page, folder):
+    """Rows that aren't printed are said."""
+    said = "".join(message("Q1A", "Q1B", f"no. {k}", "unanswered", k / 60, id=k)
+                   for k in range(5004))
+    page.open(page_of(folder / "rest.html", place(0, "Q1A", 54.5, -3.5), said))
+    rest = texts % "#messages-box .rest, #things-box .rest"
+    is_(page.js(rest), ["", ""])
+    page.js("dispatchEvent(new Event('beforeprint'))")
+    is_(page.js(f"[{rest}, document.querySelectorAll('#messages tbody tr').length]"),
+        [["and 4 more", ""], 5000])
+    page.js("dispatchEvent(new Event('afterprint'))")
+
+
 def test_long_texts(page, folder):
     """A message of octets that are no letters doesn't push others out of sight."""
     said = (message("Q1A", "Q1B", "\\x00" * 67, "unanswered", 1, id=1) +

@@ -389,6 +389,17 @@ def test_taken(page, folder):
     is_(page.problems(), [])
 
 
+def test_stopped(page, folder):
+    """A worker that stops takes its own file along alone, and another one takes its place."""
+    fresh(page, folder)
+    for turn in range(4):
+        give(page, folder, {f"bad{turn}.log": place(0, "Q1A", 30, "CRASH")})
+        page.wait(f"aprsfiles.files.length === {turn + 1}")
+        assert "a worker stopped: " in page.js(TOLD)[f"bad{turn}.log"], page.js(TOLD)
+    give(page, folder, {"good.log": log(3)})
+    page.wait(f"{MADE} && {ROWS} === 3")
+
+
 def test_skipped(page, folder):
     """By keys one is past many files at once."""
     fresh(page, folder)
