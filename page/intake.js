@@ -5,6 +5,7 @@ import { count } from "./drawn.js";
 import { damagedLines, kindOf, READ, spelled, without } from "./kinds.js";
 import { shifted } from "./shift.js";
 import { linesIn } from "./ownlines.js";
+import { beginningOf, MOST, TOO_LARGE, unzipped } from "./unpacking.js";
 import { run } from "./workers.js";
 
 /** @typedef {import("./kinds.js").Damage} Damage */
@@ -50,14 +51,9 @@ export const fileOf = (name, kind, bytes, of = {}) => ({ name, kind, bytes, unre
 /** @param {Blob} file */
 async function bytesOf(file) {
   const head = new Uint8Array(await file.slice(0, HEAD).arrayBuffer());
-  if (head[0] !== 0x1f || head[1] !== 0x8b) return { head, all: () => file.arrayBuffer() };
-  const stream = file.stream().pipeThrough(new DecompressionStream("gzip"));
-  try {
-    const bytes = new Uint8Array(await new Response(stream).arrayBuffer());
-    return { head: bytes.subarray(0, HEAD), all: async () => bytes.buffer };
-  } catch {
-    throw new Error("can't be read: gzip can't unpack it");
-  }
+  if (head[0] === 0x1f && head[1] === 0x8b) return beginningOf(unzipped(file), HEAD);
+  if (file.size > MOST) throw new Error(TOO_LARGE);
+  return { head, all: async () => new Uint8Array(await file.arrayBuffer()) };
 }
 /**
  * Reads a file that was given; of one that is nothing of a net, no more than how it begins.
@@ -76,7 +72,7 @@ export async function take(file, bring) {
     }
     if (!READ.includes(kind)) return unread(`is ${kind}, which no log is`, kind);
     if (kind === "log" && await isNoLog(begin)) return unread("is no log", "file");
-    const bytes = new Uint8Array(await all());
+    const bytes = await all();
     if (kind === "book" || kind === "KISS stream") return fileOf(file.name, kind, bytes);
     const text = spelled(bytes);
     if (kind === "log") return fileOf(file.name, kind, text.bytes, { spelling: text.spelling });

@@ -6,6 +6,7 @@ usage: page_alone.py [PICTURES]    needs Python 3, and chromium or firefox; PICT
                                    pictures
 """
 import contextlib
+import gzip
 import http.server
 import json
 import pathlib
@@ -387,6 +388,26 @@ def test_taken(page, folder):
     is_(page.js(f"[{ROWS}, aprsfiles.made(), document.getElementById('net').hidden]"),
         [0, None, True])
     is_(page.problems(), [])
+
+
+def test_huge(page, folder):
+    """What is larger than an input may be isn't read, packed or not."""
+    fresh(page, folder)
+    for name in ("huge.log", "huge.log.gz"):
+        (folder / name).write_bytes(log(1000).encode())
+    packed = gzip.compress(log(1000).encode() + bytes(1 << 24))
+    (folder / "huge.log.gz").write_bytes(packed)
+    with open(folder / "huge.log", "r+b") as huge:
+        huge.truncate((1 << 30) + 1)
+    page.js("(window.read = [], Blob.prototype.arrayBuffer = (own => function () { "
+            "read.push(this.size); return own.call(this) })(Blob.prototype.arrayBuffer), 1)")
+    page.give("#choose", folder / "huge.log", folder / "huge.log.gz")
+    page.wait("aprsfiles.files.length === 2", 30)
+    told = page.js(TOLD)
+    is_(told["huge.log"], "can't be read: it has more than 1 GiB")
+    # zeros after a log are a damaged line of it
+    assert told["huge.log.gz"].startswith("line 1001: "), told
+    assert max(page.js("read")) <= 65536, page.js("read")
 
 
 def test_stopped(page, folder):
