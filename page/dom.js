@@ -76,7 +76,7 @@ export function callIn(text) {
   const [, name, call] = /^(.* )(\(\S+\))$/s.exec(text) || ["", "", text];
   return make("bdi", {}, name, make("span", { className: "whole", textContent: call }));
 }
-/** @param {number} seconds @param {boolean} [dated] whether its date is written too */
+/** @param {number} seconds @param {import("./words.js").Dated} [dated] */
 export function momentOf(seconds, dated) {
   return make("time", { dateTime: isoText(seconds), title: fullText(seconds),
     textContent: timeText(seconds, dated) });

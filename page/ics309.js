@@ -5,10 +5,11 @@ import { air, byId, callIn, letters, make, momentOf, textOf } from "./dom.js";
 import { cell } from "./lists.js";
 import { isBulletin } from "./net.js";
 import { who } from "./roster.js";
-import { clocks, fullText, isDated, printable, said, zonesText, zoneText } from "./words.js";
+import { clocks, datedBy, fullText, printable, said, zonesText, zoneText } from "./words.js";
 
 /** @typedef {import("./rows.js").Message} Message */
 /** @typedef {import("./ownlines.js").Line} Line */
+/** @typedef {import("./words.js").Dated} Dated */
 /**
  * An entry of the log: its number in it, a moment, from whom to whom, the message's number, what it
  * says, and what is noted behind it. `own` is the operator's line, where it is one.
@@ -66,7 +67,7 @@ export function sheetsOf(entries) {
   return sheets;
 }
 
-/** @param {Entry} it @param {boolean} dated @param {(line: Line) => void} onRemove */
+/** @param {Entry} it @param {Dated} dated @param {(line: Line) => void} onRemove */
 function rowOf(it, dated, onRemove) {
   const { own } = it, name = own ? printable : who;
   const remove = own && make("button", { type: "button", className: "no-print",
@@ -86,7 +87,7 @@ const HEADS = [["num", "no."], ["", "time"], ["", "from"], ["", "msg no."], ["",
  * A sheet, with its number; the first stands below the form's own head.
  * @param {Entry[]} entries
  * @param {number} n
- * @param {{ of: number, dated: boolean }} all how many sheets, and whether of several days
+ * @param {{ of: number, dated: Dated }} all how many sheets there are, and how dates are written
  * @param {(line: Line) => void} onRemove
  */
 function sheetNode(entries, n, { of, dated }, onRemove) {
@@ -113,7 +114,7 @@ export function fillForm(net, lines, onRemove) {
   byId("ics-zone").textContent = some ? zonesText(net.begin, net.end)
     : zoneText(Date.now() / 1000);
   byId("ics-date").textContent = fullText(Date.now() / 1000);
-  const all = { of: sheets.length, dated: isDated(entries.map(it => it.at)) };
+  const all = { of: sheets.length, dated: datedBy(entries.map(it => it.at)) };
   byId("ics-sheets").replaceChildren(...sheets.map((it, n) => sheetNode(it, n, all, onRemove)));
 }
 /**

@@ -86,8 +86,12 @@ export function byLetters(a, b) {
 export const messageOf = (/** @type {unknown} */ fault) =>
   fault instanceof Error ? fault.message : String(fault);
 
-/** How moments are written: in local time or UTC, and with the date where that matters. */
-export const clocks = { local: false, dated: false };
+/** @typedef {"" | "day" | "year"} Dated whether moments are written with a day, and its year */
+/**
+ * How moments are written: in local time or UTC, and with the date where that matters.
+ * @type {{ local: boolean, dated: Dated }}
+ */
+export const clocks = { local: false, dated: "" };
 const MONTHS = "Jan Feb Mar Apr May Jun Jul Aug Sep Oct Nov Dec".split(" ");
 const two = (/** @type {number} */ n) => String(n).padStart(2, "0");
 
@@ -118,22 +122,25 @@ export function secondText(seconds) {
   return `${two(hour)}:${two(minute)}:${two(second)}`;
 }
 /**
- * Whether moments are of several days.
+ * Whether moments are of several days, or years.
  * @param {number[]} moments
+ * @returns {Dated}
  */
-export function isDated(moments) {
+export function datedBy(moments) {
   let least = Infinity, most = -Infinity;
   for (const it of moments)
     if (Number.isFinite(it)) [least, most] = [Math.min(least, it), Math.max(most, it)];
-  return least < most && dateText(least) !== dateText(most);
+  if (!(least < most) || dateText(least) === dateText(most)) return "";
+  return civil(least)[0] === civil(most)[0] ? "day" : "year";
 }
 /**
- * A moment, with the date where more than one day is shown.
+ * A moment, with the date where more than one day is shown, and the year where more than one is.
  * @param {number} seconds
  */
 export function timeText(seconds, dated = clocks.dated) {
-  const [, month, day] = civil(seconds);
-  return (dated ? `${day} ${MONTHS[month]} ` : "") + secondText(seconds);
+  const [, month, day] = civil(seconds), text = secondText(seconds);
+  if (dated === "year") return `${dateText(seconds)} ${text}`;
+  return dated ? `${day} ${MONTHS[month]} ${text}` : text;
 }
 /** @param {number} seconds */
 export function zoneText(seconds) {

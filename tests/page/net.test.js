@@ -58,10 +58,10 @@ test("the alarm rings once for a need, also where it is worded in another way", 
   alarm.turn(true, false);
   const hear = () => alarm.hear(needsOf(netOfLines(lines).things)).map(it => it.text);
   assert.deepEqual(hear(), ["EMERGENCY: Q1A-7, 18:00:00"]);
-  clocks.dated = true;
+  clocks.dated = "day";
   know([{ call: "Q1A-*", name: "Leader", group: "", bib: "" }]);
   assert.deepEqual(hear(), []);
-  clocks.dated = false;
+  clocks.dated = "";
   know([]);
   lines.push(micE(60, "Q1A-7", "emergency"));
   assert.deepEqual(hear(), ["EMERGENCY: Q1A-7, 18:01:00"]);

@@ -1,7 +1,7 @@
 import assert from "node:assert/strict";
 import { test } from "node:test";
 import { aheadOf, staleWords } from "../../page/stale.js";
-import { age, clocks, isDated, zonesText } from "../../page/words.js";
+import { age, clocks, datedBy, timeText, zonesText } from "../../page/words.js";
 
 const AT = Date.UTC(2024, 5, 21, 18) / 1000;
 const words = of => staleWords({ now: AT, end: AT - 5, answered: AT - 9, away: 0, each: 60,
@@ -54,6 +54,9 @@ test("both zones of a night are said in which clocks change, and each day's date
   clocks.local = false;
   process.env.TZ = TZ || "";
   assert.equal(zonesText(change - 7200, change + 7200), "UTC");
-  assert.deepEqual([isDated([AT, AT + 1, Infinity]), isDated([AT, AT + 86400]), isDated([])],
-    [false, true, false]);
+  assert.deepEqual([[AT, AT + 1, Infinity], [AT, AT + 86400], [AT, 0], []].map(datedBy),
+    ["", "day", "year", ""]);
+  // such as of a receiver that began without a clock
+  assert.deepEqual(["", "day", "year"].map(it => timeText(0, it)),
+    ["00:00:00", "1 Jan 00:00:00", "1970-01-01 00:00:00"]);
 });
