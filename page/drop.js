@@ -9,7 +9,7 @@ import {
 import { eventPieces, squaresWithin } from "./eventpage.js";
 import { filesOf } from "./folders.js";
 import { drawFiles, files, notesOf, numberIn, shiftText } from "./inputs.js";
-import { asText, fileOf, look, placeOf, shifts, take } from "./intake.js";
+import { asText, fileOf, isSame, look, placeOf, shifts, take } from "./intake.js";
 import { beginEarly, Refused, textsOf } from "./runs.js";
 import { movedIn } from "./shift.js";
 import { gathered, inSlices } from "./steps.js";
@@ -141,7 +141,8 @@ export async function add(dropped) {
   const pages = [];
   for (const it of await Promise.all(plain.map(takeFile))) {
     if (it?.lines) pages.push({ name: it.name, lines: it.lines });
-    else if (it) read.push(it);
+    // one that is there already says nothing new
+    else if (it && ![...files, ...read].some(one => isSame(one, it))) read.push(it);
   }
   if (pages.length) bringLines(pages);
   const whole = [...files.filter(it => it.taken), ...read.filter(it => !it.unread)];

@@ -48,6 +48,13 @@ export const fileOf = (name, kind, bytes, of = {}) => ({ name, kind, bytes, unre
   receiver: "RX1", moment: "", passed: [], said: "", fault: "", reason: "", spelling: [],
   damage: [], leftOut: [], taken: null, ...of });
 
+/**
+ * Whether two files are one: of one name, with the same bytes. One that is followed goes on.
+ * @param {Given} a
+ * @param {Given} b
+ */
+export const isSame = (a, b) => a.name === b.name && !a.whole && a.unread === b.unread &&
+  a.bytes.length === b.bytes.length && a.bytes.every((it, k) => it === b.bytes[k]);
 /** @param {Blob} file */
 async function bytesOf(file) {
   const head = new Uint8Array(await file.slice(0, HEAD).arrayBuffer());

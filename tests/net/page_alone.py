@@ -372,6 +372,20 @@ def test_turns(page, folder):
     assert "merging" not in page.js("document.getElementById('status').textContent")
 
 
+def test_twice(page, folder):
+    """A log that is dropped twice stands there once; another one of its name stands beside it."""
+    (folder / "day").mkdir()
+    for name, text in {"a.log": log(3), "day/a.log": log(4), "b.png": "%PDF-1.7"}.items():
+        (folder / name).write_text(text)
+    fresh(page, folder)
+    for _ in range(2):
+        page.js("(document.getElementById('status').textContent = '', 1)")
+        page.give("#choose", folder / "a.log", folder / "a.log", folder / "day/a.log",
+                  folder / "b.png")
+        page.wait("document.getElementById('status').textContent.includes(' of 2 files, ')")
+        is_(page.js(f"[{ROWS}, aprsfiles.files.length]"), [4, 3])
+
+
 def test_taken(page, folder):
     """A file that is taken away just before its book is drawn isn't drawn."""
     fresh(page, folder)
