@@ -5,7 +5,7 @@ import { byId, make } from "./dom.js";
 import { needsOf, newsOf } from "./news.js";
 import { expectedOf, faultWords } from "./roster.js";
 import { page, presentOf, view } from "./state.js";
-import { clocks, count, dateText, secondText, timeText, zonesText } from "./words.js";
+import { clocks, count, dateText, firstOf, secondText, timeText, zonesText } from "./words.js";
 
 /** Says when, of how many and by whom the net was heard. */
 export function drawAbout() {
@@ -48,7 +48,7 @@ function newsNodes() {
   const faults = faultWords(page.roster.faults).map(it => `roster, ${it}`);
   return [...news.map(({ href, grade, text, pick: key }) => make("a", { href, className: grade,
     textContent: text, data: key ? { key } : {} })),
-  ...[...data.notes, ...faults].map(text => make("span", { className: "bad", textContent: text }))];
+  ...[...firstOf(data.notes), ...faults].map(text => make("span", { className: "bad", textContent: text }))];
 }
 /** What wants doing, as links; what says the same stays, and keeps the focus. */
 export function drawNews() {
@@ -59,5 +59,5 @@ export function drawNews() {
     byId("news").replaceChildren(...nodes.flatMap(it => [it, " "]));
   const needs = needsOf(page.net.things).filter(it => it.grade === "alarm" || it.grade === "bad");
   const fresh = page.alarm.hear(needs).map(it => it.text);
-  if (fresh.length) byId("needs").textContent = fresh.join("; ");
+  if (fresh.length) byId("needs").textContent = firstOf(fresh).join("; ");
 }

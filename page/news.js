@@ -34,6 +34,20 @@ export function needsOf(things) {
   }
   return words;
 }
+/** So many who are in need are named; nobody can fill the page by sending many of them. */
+const NEEDS = 6;
+/**
+ * Those who are in need most, and how many more there are.
+ * @param {Need[]} needs
+ * @returns {Word[]}
+ */
+function mostOf(needs) {
+  const left = needs.slice(NEEDS);
+  if (!left.length) return needs;
+  const { grade } = left[0], more = left.length.toLocaleString("en");
+  return [...needs.slice(0, NEEDS),
+    { href: "#list", grade, text: `and ${more} more who are or were in need` }];
+}
 /**
  * Wrong clocks, each in words. A pair that disagrees is said once.
  * @param {import("./net.js").Receiver[]} receivers
@@ -85,7 +99,7 @@ export function newsOf(net, { gap, silent, isSilent, missing, expected }) {
   const unanswered = of("unanswered"), rejected = of("rejected");
   const quiet = net.things.filter(isSilent).length;
   /** @type {Word[]} */
-  const words = [...needsOf(net.things)];
+  const words = [...mostOf(needsOf(net.things))];
   const unfixed = net.things.filter(it => it.unfixed).length;
   /** @param {string} href @param {Word["grade"]} grade @param {string} text */
   const say = (href, grade, text) => words.push({ href, grade, text });

@@ -2,7 +2,7 @@
 // The roster: who is expected, by call, with a name, a group and a number. What tool and page read
 // is the same.
 
-import { printable, said } from "./words.js";
+import { firstOf, printable, said } from "./words.js";
 
 /** @typedef {{ call: string, name: string, group: string, bib: string }} Expected */
 /** @typedef {{ line: number, why: string }} Fault */
@@ -92,16 +92,12 @@ export function readRoster(text) {
   }
   return { list, faults };
 }
-/** So many faults are said; a list that is no roster has one in each line. */
-const SAID = 5;
 /**
- * The faults of a roster, in words.
+ * The first faults of a roster, in words; a list that is none has one in each line.
  * @param {Fault[]} faults
  */
-export function faultWords(faults) {
-  const words = faults.slice(0, SAID).map(it => `line ${it.line}: ${printable(it.why)}`);
-  return faults.length > SAID ? [...words, `and ${faults.length - SAID} lines more`] : words;
-}
+export const faultWords = faults =>
+  firstOf(faults.map(it => `line ${it.line}: ${printable(it.why)}`));
 /**
  * Several rosters as one; of a call that stands in several, the first line counts.
  * @param {Roster[]} all

@@ -178,5 +178,11 @@ export function age(passed) {
   const n = Math.floor(far / size);
   return `${passed < 0 && n ? "\u2212" : ""}${n} ${unit}`;
 }
+/**
+ * The first of many texts, and how many more there are.
+ * @param {string[]} texts
+ */
+export const firstOf = (texts, most = 5) => texts.length > most
+  ? [...texts.slice(0, most), `and ${(texts.length - most).toLocaleString("en")} more`] : texts;
 /** @param {number} n @param {string} word of one of them */
 export const count = (n, word) => `${n.toLocaleString("en")} ${word}${n === 1 ? "" : "s"}`;

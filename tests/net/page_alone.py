@@ -119,6 +119,11 @@ def test_strangers(page, folder):
     is_(page.js("aprsfiles.files.map(it => [it.name, it.bytes.length]).sort()")[1:],
         [["photo.log", 0], ["words.log", 0], ["zeros.log", 0]])
     is_(len(page.js("aprsbook.page.data.notes")), 3)
+    # a folder of them doesn't fill the page
+    give(page, folder, {f"{k}.png": "%PDF-1.7" for k in range(9)})
+    page.wait("aprsbook.page.data.notes.length === 12")
+    is_(page.js("[...document.querySelectorAll('#news span')].map(it => it.textContent)")[5:],
+        ["and 7 more"])
 
 
 def test_windows(page, folder):

@@ -20,6 +20,13 @@ test("who is in need comes first of all news, an emergency before priority", () 
   assert.equal(news[0].pick, "station Q1B");
 });
 
+test("many in need don't fill the page", () => {
+  const lines = Array.from({ length: 1000 }, (_, k) => micE(k, `Q1N${k}`, "emergency"));
+  const news = newsOf(netOfLines([...lines, micE(0, "Q1A", "priority")]), OF);
+  assert.equal(news[5].text, "EMERGENCY: Q1N994, 18:16:34");
+  assert.deepEqual([news[6].grade, news[6].text, news[7].text],
+    ["alarm", "and 995 more who are or were in need", "0 messages unanswered"]);
+});
 test("an emergency that is over is said, and no longer as one", () => {
   const net = netOfLines([micE(0, "Q1A", "emergency"), micE(9, "Q1A", "in-service")]);
   assert.deepEqual(needsOf(net.things).map(it => [it.grade, it.text]),

@@ -28,7 +28,7 @@ test("a list of all calls is read at once, and of many faults a few are said", (
   assert.equal(readRoster(many.join("\n")).list.length, many.length);
   assert.ok(performance.now() - begin < 3000);
   const { faults } = readRoster("a-b\n".repeat(9) + "\u202eab x\n");
-  assert.deepEqual(faultWords(faults).slice(4), ["line 5: a-b is no call", "and 5 lines more"]);
+  assert.deepEqual(faultWords(faults).slice(4), ["line 5: a-b is no call", "and 5 more"]);
   assert.deepEqual(faultWords(faults.slice(9)), ["line 10: \\xe2\\x80\\xaeab is no call"]);
   assert.deepEqual(faultWords([]), []);
 });
