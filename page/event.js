@@ -11,6 +11,7 @@ import { bulletinList, messageList } from "./messages.js";
 import { pick, placeList } from "./picked.js";
 import { spotText } from "./placeforms.js";
 import { drawSaves, saveNow } from "./saving.js";
+import { isMute } from "./sound.js";
 import { page, presentOf, tell, view } from "./state.js";
 import { receiverList, rosterList, thingList } from "./tables.js";
 import { count } from "./words.js";
@@ -50,6 +51,9 @@ const makeMap = () => new NetMap(byId("map"), { onPick: key => pick(key, true),
     choose("view", text);
     tellFar();
   } });
+/** Says that the sound isn't heard, as in a page that was loaded again and not touched since. */
+const tellMute = () => write("mute", page.alarm.isOn && isMute()
+  ? "(not heard before you click here or press a key)" : "");
 /** What the reader chose before. */
 function readChoices() {
   page.picked = chosen.get("pick") || null;
@@ -62,6 +66,8 @@ function readChoices() {
   if (byId("place-form").selectedIndex < 0) byId("place-form").value = "";
   byId("sound").checked = chosen.get("sound") === "on";
   page.alarm.turn(byId("sound").checked, false);
+  tellMute();
+  for (const kind of ["pointerup", "keyup"]) addEventListener(kind, tellMute);
   byId("find").value = chosen.get("find") || "";
   byId("kind").value = chosen.get("kind") || "";
 }

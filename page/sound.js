@@ -3,9 +3,13 @@
 
 /** @type {AudioContext | null} */
 let context = null;
+/** Browsers play nothing before somebody clicks in a page or presses a key. */
+export const isMute = () => navigator.userActivation?.hasBeenActive === false;
 /** Three short tones. */
 export function ring() {
   context ||= new AudioContext();
+  // one that was made before the first click
+  if (context.state === "suspended") context.resume();
   const begin = context.currentTime;
   for (const k of [0, 1, 2]) {
     const tone = context.createOscillator(), volume = context.createGain();

@@ -482,6 +482,19 @@ def test_needs(page, folder):
     is_(page.problems(), [])
 
 
+def test_mute(page, folder):
+    """A page that was loaded again says that its sound isn't heard, until somebody clicks in it."""
+    url = page_of(folder / "mute.html", place(0, "Q1A", 54.5, -3.5))
+    page.open(url)
+    is_(page.js("mute.textContent"), "")
+    page.open(url + "#sound=on")
+    assert "not heard before you click" in page.js("mute.textContent")
+    for kind in "mousePressed", "mouseReleased":
+        page.call("Input.dispatchMouseEvent", type=kind, x=5, y=5, button="left", clickCount=1)
+    page.wait("mute.textContent === ''")
+    is_(page.problems(), [])
+
+
 def test_shown(page, folder):
     """What is picked comes into view on the map, and its row is marked."""
     rows = "".join(place(k, f"Q{k:03}", 54.5 + k % 9 / 100, -3.5) for k in range(120))
