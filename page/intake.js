@@ -2,7 +2,7 @@
 // The files that a reader gives: what each is, what the program says of it, and what is left of it.
 
 import { count } from "./drawn.js";
-import { damagedLines, kindOf, READ, spelled, without } from "./kinds.js";
+import { damagedLines, kindOf, MANY, READ, spelled, without } from "./kinds.js";
 import { shifted } from "./shift.js";
 import { linesIn } from "./ownlines.js";
 import { beginningOf, MOST, TOO_LARGE, unzipped } from "./unpacking.js";
@@ -162,7 +162,7 @@ async function lookInto(file, gap) {
     file.passed = lines.filter(Boolean);
     if (got.status) {
       file.reason = got.fault;
-      file.damage = await damagedLines(bytes, checkOf) || [];
+      file.damage = await damagedLines(bytes, checkOf, MANY) || [];
       return refuse(got);
     }
   }

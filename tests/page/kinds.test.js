@@ -5,7 +5,7 @@ import { damagedLines, kindOf, READ, spelled, without } from "../../page/kinds.j
 import { movedIn, shifted } from "../../page/shift.js";
 
 const bytesOf = text => Uint8Array.from(text, it => it.charCodeAt(0));
-const textOf = bytes => String.fromCharCode(...bytes);
+const textOf = bytes => new TextDecoder("latin1").decode(bytes);
 const LINE = "2024-06-21T18:00:00Z RX1 c000aac0\n";
 
 test("what is nothing of a net is named as what it is", () => {
@@ -61,6 +61,21 @@ test("all lines that are refused are found, and the rest is left", async () => {
   assert.equal(textOf(without(bytes, [])), "a\nx1\nb\nx2\nx3\nc\n");
   assert.equal(await damagedLines(bytesOf("x\n".repeat(200)), check), null);
   assert.equal(await damagedLines(bytes, async () => ({ line: 1, why: "Memory" })), null);
+});
+test("many damaged lines of a large log are found, and little of it is checked again", async () => {
+  const text = Array.from({ length: 200000 }, (_, k) => k % 500 === 7 ? "x" : "good").join("\n");
+  const bytes = bytesOf(text + "\n"), lines = text.split("\n");
+  let checked = 0;
+  const damage = await damagedLines(bytes, async piece => {
+    checked += piece.length;
+    return check(piece);
+  }, 1000);
+  assert.equal(damage.length, 400);
+  assert.ok(damage.every(it => lines[it.line - 1] === "x" &&
+    textOf(bytes.subarray(it.begin, it.end)) === "x\n"));
+  assert.ok(checked < 30 * bytes.length, String(checked / bytes.length));
+  assert.equal(await damagedLines(bytes, check, 399), null);
+  assert.equal(textOf(without(bytes.subarray(0, 40), damage.slice(0, 1))).includes("x"), false);
 });
 
 test("the moments of one receiver are moved, in each spelling and over midnight", () => {
