@@ -64,15 +64,15 @@ export class OwnLines {
     this.key = key;
     this.given = linesIn(given);
     this.kept = this.read();
-    if (before.length) this.add(...this.lines.length ? this.brought : before);
+    if (before.length) this.addAll(this.lines.length ? this.brought : before);
   }
   /**
    * Takes the lines of pages that were dropped here.
    * @param {Line[]} lines
    */
   bring(lines) {
-    this.brought.push(...lines);
-    return this.add(...lines);
+    this.brought = this.brought.concat(lines);
+    return this.addAll(lines);
   }
   /** @returns {Kept} */
   read() {
@@ -84,11 +84,15 @@ export class OwnLines {
       return { lines: [], gone: [] };
     }
   }
+  /** @param {Line[]} lines */
+  add(...lines) {
+    return this.addAll(lines);
+  }
   /**
-   * Keeps lines; says whether the browser does.
+   * Keeps lines, be they many; says whether the browser does.
    * @param {Line[]} lines
    */
-  add(...lines) {
+  addAll(lines) {
     if (!lines.length) return true;
     const keys = new Set(lines.map(keyOf));
     return this.change(({ lines: before, gone }) =>

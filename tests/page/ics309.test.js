@@ -77,6 +77,11 @@ test("a net that gets another title takes its lines along, but not into another 
   // what was dropped here comes along all the same
   assert.deepEqual(textsOf(lines), ["a", "b"]);
 });
+test("a page may bring very many lines", () => {
+  const lines = opened(new Store()), many = Array.from({ length: 200000 }, (_, k) => own(k, "a"));
+  assert.equal(lines.bring(many), true);
+  assert.equal(lines.lines.length, many.length);
+});
 test("two windows of one net lose nothing of each other", () => {
   const store = new Store(), one = opened(store), two = opened(store);
   one.add(own(1, "a"));
