@@ -124,10 +124,22 @@ async function takeFile(file) {
 }
 const UNREAD = "drop the files in it, or choose it as a folder";
 /**
- * Takes files: each is checked while the runs over all of them go on.
+ * Takes files, and says what goes wrong.
  * @param {Iterable<Dropped>} dropped
  */
 export async function add(dropped) {
+  try {
+    await takeAll(dropped);
+  } catch (fault) {
+    tellProgress(1);
+    say(messageOf(fault), true);
+  }
+}
+/**
+ * Takes files: each is checked while the runs over all of them go on.
+ * @param {Iterable<Dropped>} dropped
+ */
+async function takeAll(dropped) {
   began = performance.now();
   tellProgress(0, "reading");
   const plain = [], gap = numberIn("gap");

@@ -429,6 +429,16 @@ def test_huge(page, folder):
     assert max(page.js("read")) <= 65536, page.js("read")
 
 
+def test_fault(page, folder):
+    """A fault that nobody thought of is said, and nothing waits for ever."""
+    fresh(page, folder)
+    page.js("(aprsbook.page.map.tiles.take = () => { throw new Error('no room') }, 1)")
+    page.js("aprsfiles.add([Object.defineProperty(new File(['x'], '1.png'), 'way', "
+            "{ value: '3/1/1.png' })])")
+    is_(page.js("[document.getElementById('status').textContent.endsWith('no room'), "
+                "document.getElementById('progress').hidden]"), [True, True])
+
+
 def test_stopped(page, folder):
     """A worker that stops takes its own file along alone, and another one takes its place."""
     fresh(page, folder)
