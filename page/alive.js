@@ -1,19 +1,27 @@
 // @ts-check
 // A page that goes on: it asks for itself again, ages count to now, and it says what it misses.
 
-import { byId, choose, chosen, textOf } from "./dom.js";
+import { byId, choose, chosen, textOf, write } from "./dom.js";
 import { show } from "./drawing.js";
 import { drawNews } from "./headline.js";
+import { aheadOf, staleWords } from "./stale.js";
 import { page, view } from "./state.js";
-import { age, fullText } from "./words.js";
+import { age } from "./words.js";
 
-export const alive = { asked: Date.now(), asks: false, touched: 0, away: 0, refused: "" };
+/**
+ * When the page was asked for, answered and touched last, and since when its server is away, in
+ * milliseconds; by how many seconds this computer's clock is ahead of the server's; and what is
+ * refused.
+ */
+export const alive = { asked: Date.now(), asks: false, touched: 0, answered: 0, away: 0, ahead: 0,
+  refused: "" };
 /** After how many milliseconds a server that doesn't answer is away, and is asked anew. */
 export const patience = { late: 10000, most: 120000 };
 
 /** Has the page of an event ask for itself again, unless somebody is at work in it. */
 export function beginAlive() {
   const { live } = page.data, box = byId("live");
+  alive.answered = Date.now();
   byId("live-label").hidden = false;
   byId("live-label").lastElementChild?.replaceChildren(`load again each ${live} s`);
   for (const kind of ["keydown", "pointerdown", "wheel", "input"])
@@ -28,6 +36,15 @@ export function beginAlive() {
     again();
   }, 1000);
 }
+/**
+ * A server has answered what it was asked at a moment.
+ * @param {Response} answer
+ * @param {number} asked
+ */
+export function heard(answer, asked) {
+  alive.answered = Date.now();
+  alive.ahead = aheadOf(answer.headers.get("date"), asked, alive.answered);
+}
 /** Loads the page again: its data alone where a server has it, and all of it from a disk. */
 async function again() {
   if (!location.protocol.startsWith("http")) return location.reload();
@@ -37,6 +54,7 @@ async function again() {
     const signal = /** @type {any} */ (AbortSignal).timeout(patience.most);
     const answer = await fetch(location.pathname + location.search, { cache: "no-store", signal });
     if (!answer.ok) throw new Error(String(answer.status));
+    heard(answer, alive.asked);
     const tree = new DOMParser().parseFromString(await answer.text(), "text/html");
     const policy = (/** @type {Document} */ it) =>
       it.querySelector("meta[http-equiv]")?.getAttribute("content");
@@ -54,20 +72,29 @@ async function again() {
   alive.asks = false;
   tick();
 }
-/** Counts ages on, and says how long nothing came. */
+/** The lists whose rows are silent or not as time goes on. */
+const LISTS = { "things-box": "tr.station", "receivers-box": "tbody tr", "roster-box": "tbody tr" };
+/**
+ * Counts ages on.
+ * @param {number} now in seconds
+ */
+function countAges(now) {
+  const heardAt = (/** @type {Element | null} */ it) => Number(it?.getAttribute("data-v"));
+  for (const it of document.querySelectorAll(".age[data-v]"))
+    it.textContent = age(now - heardAt(it));
+  for (const [box, rows] of Object.entries(LISTS))
+    for (const row of byId(box).querySelectorAll(rows))
+      row.classList.toggle("silent", now - heardAt(row.querySelector(".age")) > view.silent);
+}
+/** Counts ages on, and says what this page misses. */
 export function tick() {
   if (!page.all) return;
-  const now = Date.now() / 1000, quiet = now - page.all.end, words = [];
-  const heard = (/** @type {Element | null} */ it) => Number(it?.getAttribute("data-v"));
-  for (const it of document.querySelectorAll(".age[data-v]"))
-    it.textContent = age(now - heard(it));
-  for (const row of byId("things-box").querySelectorAll("tr.station"))
-    row.classList.toggle("silent", now - heard(row.querySelector(".age")) > view.silent);
+  const now = Date.now() / 1000, { all, follows, data } = page;
+  countAges(now);
   drawNews();
   // colours of ages go on too
   if (Math.floor(now) % 10 === 0 && page.map.colouring.way === "age") page.map.paintSoon();
-  if (alive.refused) words.push(alive.refused);
-  if (alive.away) words.push(`the server has been away since ${fullText(alive.away / 1000)}`);
-  if (page.all.rows.length && quiet > 600) words.push(`nothing was heard for ${age(quiet)}`);
-  byId("stale").textContent = words.join("; ");
+  write("stale", staleWords({ now, end: all.rows.length ? all.end : NaN,
+    answered: alive.answered / 1000, away: alive.away / 1000, ahead: alive.ahead,
+    each: follows ? 0 : data.live, refused: alive.refused }).join("; "));
 }

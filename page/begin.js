@@ -1,7 +1,7 @@
 // @ts-check
 // The page of an event begins with the data that stand in it.
 
-import { alive, beginAlive, tick } from "./alive.js";
+import { alive, beginAlive, heard, tick } from "./alive.js";
 import { bring, bringGround, bringLines } from "./bring.js";
 import { byId, choose, chosen, make, save, textOf } from "./dom.js";
 import { refresh, show } from "./drawing.js";
@@ -21,5 +21,5 @@ if (textOf("data").trim())
 /** For the script that reads logs, and for tests. */
 export const shared = Object.freeze({ page, show, refresh, bring, bringGround, bringLines, make,
   byId, textOf, save, count, choose, chosen, tick, SAVES, savedText, alive, printable, fullText,
-  messageOf, age, unpacked });
+  heard, messageOf, age, unpacked });
 globalThis.aprsbook = shared;

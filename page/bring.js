@@ -4,7 +4,7 @@
 import { readBrought } from "./bases.js";
 import { refresh } from "./drawing.js";
 import { readBase } from "./overlays.js";
-import { readRoster } from "./roster.js";
+import { faultWords, readRoster } from "./roster.js";
 import { page, tell } from "./state.js";
 import { count, messageOf, printable } from "./words.js";
 
@@ -46,15 +46,17 @@ const isBad = (/** @type {Brought} */ { fault, roster }) =>
  */
 function toldOf({ name, roster, fault }) {
   const calls = roster ? [count(roster.list.length, "call"),
-    ...roster.faults.map(it => `line ${it.line}: ${it.why}`)].join(", ") : "a map";
+    ...faultWords(roster.faults)].join(", ") : "a map";
   return `${printable(name)}: ${fault || calls}`;
 }
 /** @param {File[]} files */
 export async function bringAll(files) {
   for (const it of files) {
     const fault = await bringGround(it);
-    if (fault === null) bring(it.name, await it.text());
-    else if (fault) tell(`${printable(it.name)}: ${fault}`, true);
+    const text = fault === null ? await it.text().catch(() => null) : null;
+    if (text !== null) bring(it.name, text);
+    else if (fault !== "")
+      tell(`${printable(it.name)}: ${fault || "it is gone, or can\u2019t be read"}`, true);
   }
 }
 /**

@@ -27,6 +27,7 @@ export function listenToControls() {
   listenToTools();
   listenToChoices();
   listenToHead();
+  listenToLinks();
   listenToEscape();
   listenToPaper();
   page.form.listen();
@@ -85,6 +86,22 @@ function listenToHead() {
     byId("bring").value = ""; // so that the same file can be brought again
   });
   on("away", "click", takeAllAway);
+}
+/**
+ * Links within the page go to what they name, out of the map where that fills the window. The
+ * address keeps what the reader chose.
+ */
+function listenToLinks() {
+  addEventListener("click", event => {
+    const link = /** @type {Element} */ (event.target).closest('a[href^="#"]'), { map } = page;
+    if (!link) return;
+    event.preventDefault();
+    const to = byId((link.getAttribute("href") || "").slice(1));
+    if (map.isFull && !to.contains(map.node)) map.fill(false);
+    to.tabIndex = -1;
+    to.focus({ preventScroll: true });
+    to.scrollIntoView();
+  });
 }
 const openMenus = () => [.../** @type {NodeListOf<HTMLDetailsElement>} */ (
   document.querySelectorAll("#controls details[open]"))];

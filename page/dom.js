@@ -30,6 +30,14 @@ export const byId = id => /** @type {Name extends keyof Kinds ? Kinds[Name] : HT
  */
 export const textOf = id => byId(id).textContent || "";
 
+/**
+ * Writes a text where another one stands; a screen reader says what is written, the same again too.
+ * @param {string} id
+ * @param {string} text
+ */
+export function write(id, text) {
+  if (textOf(id) !== text) byId(id).textContent = text;
+}
 /** @typedef {Node | string | null | undefined} Inside what stands in an element, or nothing */
 /**
  * An element with these properties, attributes and parts.
@@ -68,11 +76,10 @@ export function callIn(text) {
   const [, name, call] = /^(.* )(\(\S+\))$/s.exec(text) || ["", "", text];
   return make("bdi", {}, name, make("span", { className: "whole", textContent: call }));
 }
-/** @param {number} seconds */
-export function momentOf(seconds) {
-  return make("time", {
-    dateTime: isoText(seconds), title: fullText(seconds), textContent: timeText(seconds),
-  });
+/** @param {number} seconds @param {import("./words.js").Dated} [dated] */
+export function momentOf(seconds, dated) {
+  return make("time", { dateTime: isoText(seconds), title: fullText(seconds),
+    textContent: timeText(seconds, dated) });
 }
 /**
  * @param {keyof SVGElementTagNameMap} tag

@@ -19,7 +19,7 @@ import { atOnce, inSlices, later, once } from "./steps.js";
 import { pairList, shareText } from "./tables.js";
 import { timelineList } from "./timeline.js";
 import { units } from "./units.js";
-import { clocks, dateText } from "./words.js";
+import { clocks, datedBy } from "./words.js";
 
 /** @typedef {import("./net.js").All} All */
 /** @typedef {import("./net.js").Net} Net */
@@ -101,7 +101,9 @@ function turnTo(data, all, net) {
   clocks.local = byId("local").checked;
   units.miles = byId("miles").checked;
   forms.now = /** @type {import("./placeforms.js").Form} */ (byId("place-form").value);
-  clocks.dated = net.rows.length > 0 && dateText(net.begin) !== dateText(net.end);
+  // a message may have been sent first before the part of the time that is shown
+  clocks.dated = datedBy([net.begin, net.end, ...[...net.messages, ...net.bulletins]
+    .map(it => it.first)]);
   if (fresh) {
     readBrought();
     page.own.open(data.title, data.lines);

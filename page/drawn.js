@@ -4,6 +4,6 @@
 /** @type {typeof import("./begin.js").shared} */
 const shared = globalThis.aprsbook;
 export const {
-  age, alive, bring, bringGround, bringLines, byId, choose, chosen, count, fullText, make,
-  messageOf, page, printable, save, show, textOf, tick, unpacked,
+  age, alive, bring, bringGround, bringLines, byId, choose, chosen, count, fullText, heard,
+  make, messageOf, page, printable, save, show, textOf, tick, unpacked,
 } = shared;

@@ -9,7 +9,7 @@ import {
 import { eventPieces, squaresWithin } from "./eventpage.js";
 import { filesOf } from "./folders.js";
 import { drawFiles, files, notesOf, numberIn, shiftText } from "./inputs.js";
-import { asText, fileOf, look, placeOf, shifts, take } from "./intake.js";
+import { asText, fileOf, isSame, look, placeOf, shifts, take } from "./intake.js";
 import { beginEarly, Refused, textsOf } from "./runs.js";
 import { movedIn } from "./shift.js";
 import { gathered, inSlices } from "./steps.js";
@@ -82,6 +82,7 @@ export async function work() {
     if (mine !== turn) return; // other files came
     tellProgress(0.9, "drawing");
     await aMoment();
+    if (mine !== turn) return;
     await draw(texts);
     if (mine !== turn) return;
     made = texts;
@@ -123,10 +124,22 @@ async function takeFile(file) {
 }
 const UNREAD = "drop the files in it, or choose it as a folder";
 /**
- * Takes files: each is checked while the runs over all of them go on.
+ * Takes files, and says what goes wrong.
  * @param {Iterable<Dropped>} dropped
  */
 export async function add(dropped) {
+  try {
+    await takeAll(dropped);
+  } catch (fault) {
+    tellProgress(1);
+    say(messageOf(fault), true);
+  }
+}
+/**
+ * Takes files: each is checked while the runs over all of them go on.
+ * @param {Iterable<Dropped>} dropped
+ */
+async function takeAll(dropped) {
   began = performance.now();
   tellProgress(0, "reading");
   const plain = [], gap = numberIn("gap");
@@ -140,7 +153,8 @@ export async function add(dropped) {
   const pages = [];
   for (const it of await Promise.all(plain.map(takeFile))) {
     if (it?.lines) pages.push({ name: it.name, lines: it.lines });
-    else if (it) read.push(it);
+    // one that is there already says nothing new
+    else if (it && ![...files, ...read].some(one => isSame(one, it))) read.push(it);
   }
   if (pages.length) bringLines(pages);
   const whole = [...files.filter(it => it.taken), ...read.filter(it => !it.unread)];
@@ -269,7 +283,7 @@ export async function beginReading() {
     const bytes = Uint8Array.from(atob(contents.module), it => it.charCodeAt(0));
     // compiled once, for all workers
     const module = await WebAssembly.compile(bytes);
-    await beginWorkers(contents.worker, module, fault => say(`a worker stopped: ${fault}`, true));
+    await beginWorkers(contents.worker, module, why => say(why, true));
   } catch (fault) {
     say(`This browser can't run the page (${messageOf(fault)}): it takes Chromium or Edge ` +
       "133, Firefox 134, or newer.", true);

@@ -21,6 +21,19 @@ export function bounded(side, size) {
   const { least, most } = SIZES[side];
   return Number.isFinite(size) ? Math.round(Math.max(least, Math.min(most, size))) : null;
 }
+/**
+ * Says how large the map is, as whoever reads the screen wants it.
+ * @param {HTMLElement} edge
+ * @param {Side} side
+ * @param {number} size
+ */
+function tell(edge, side, size) {
+  const { least, most } = SIZES[side];
+  const values = { valuemin: least, valuemax: most, valuenow: bounded(side, size),
+    orientation: side === "wide" ? "vertical" : "horizontal" };
+  for (const [name, value] of Object.entries(values))
+    edge.setAttribute(`aria-${name}`, String(value));
+}
 const isWide = () => matchMedia(WIDE).matches;
 /**
  * Gives the map a size, or, with nothing, that which fits.
@@ -46,6 +59,7 @@ export function listenToEdge(edge, map) {
     return isWide() ? ["wide", (edge.getBoundingClientRect().right - box.left) / all * 100]
       : ["high", box.height];
   };
+  new ResizeObserver(() => tell(edge, ...now())).observe(map);
   for (const side of /** @type {Side[]} */ (["high", "wide"])) {
     const size = chosen.has(side) ? bounded(side, Number(chosen.get(side))) : null;
     if (size !== null) put(side, size);

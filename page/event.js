@@ -2,7 +2,7 @@
 // Makes the map, the lists and the form into which the page is drawn, with what was chosen before.
 
 import { listenToControls } from "./controls.js";
-import { byId, choose, chosen, kept } from "./dom.js";
+import { byId, choose, chosen, kept, write } from "./dom.js";
 import { Form } from "./form.js";
 import { frameList } from "./frames.js";
 import { Grounds } from "./grounds.js";
@@ -11,6 +11,7 @@ import { bulletinList, messageList } from "./messages.js";
 import { pick, placeList } from "./picked.js";
 import { spotText } from "./placeforms.js";
 import { drawSaves, saveNow } from "./saving.js";
+import { isMute } from "./sound.js";
 import { page, presentOf, tell, view } from "./state.js";
 import { receiverList, rosterList, thingList } from "./tables.js";
 import { count } from "./words.js";
@@ -24,16 +25,15 @@ function fillWindow(full) {
 /** Says how many places are far from all others, and not in view. */
 function tellFar() {
   const { far, fitted } = page.map;
-  byId("far").textContent = fitted && far
-    ? `${count(far, "place")} far from the others not in view; “all” shows all.` : "";
+  write("far", fitted && far
+    ? `${count(far, "place")} far from the others not in view; “all” shows all.` : "");
 }
 /**
  * Says what the squares of the map mean, in place of what colours mean.
  * @param {string} text
  */
 function tellDense(text) {
-  if (byId("dense").textContent === text) return;
-  byId("dense").textContent = text;
+  write("dense", text);
   byId("legend").hidden = text !== "";
 }
 /**
@@ -51,6 +51,9 @@ const makeMap = () => new NetMap(byId("map"), { onPick: key => pick(key, true),
     choose("view", text);
     tellFar();
   } });
+/** Says that the sound isn't heard, as in a page that was loaded again and not touched since. */
+const tellMute = () => write("mute", page.alarm.isOn && isMute()
+  ? "(not heard before you click here or press a key)" : "");
 /** What the reader chose before. */
 function readChoices() {
   page.picked = chosen.get("pick") || null;
@@ -63,6 +66,8 @@ function readChoices() {
   if (byId("place-form").selectedIndex < 0) byId("place-form").value = "";
   byId("sound").checked = chosen.get("sound") === "on";
   page.alarm.turn(byId("sound").checked, false);
+  tellMute();
+  for (const kind of ["pointerup", "keyup"]) addEventListener(kind, tellMute);
   byId("find").value = chosen.get("find") || "";
   byId("kind").value = chosen.get("kind") || "";
 }

@@ -10,12 +10,14 @@ import { isoText, said } from "./words.js";
 /** @typedef {import("./ownlines.js").Line} Line */
 /** @typedef {Generator<string>} Pieces of a text */
 /** @typedef {[number, number]} Spot east and north, in degrees */
+/** How formulas begin, in wide letters too, as spreadsheets of East Asia take them. */
+const FORMULA = /^'*[ \u00a0\u3000]*[=+\-@\t\r\n\uff1d\uff0b\uff0d\uff20]/;
 /**
  * A text off the air for a spreadsheet, which must not take it as a formula.
  * @param {string} text
  */
 function csvText(text) {
-  const isFormula = /^'* *[=+\-@\t\r\uff0b\uff0d\uff1d\uff20]/.test(text) && !/^-?[0-9]+(\.[0-9]+)?$/.test(text);
+  const isFormula = FORMULA.test(text) && !/^-?[0-9]+(\.[0-9]+)?$/.test(text);
   const safe = isFormula ? "'" + text : text;
   return /[",\n\r]/.test(safe) ? `"${safe.replaceAll('"', '""')}"` : safe;
 }
@@ -26,6 +28,8 @@ const markup = (/** @type {string} */ text) => text
   .replace(/[&<>"']/g, it => `&#${it.charCodeAt(0)};`)
   .replace(/[^\t\n\r -\ud7ff\ue000-\ufffd\u{10000}-\u{10ffff}]/gu, "");
 const decimal = (/** @type {number} */ value) => value.toFixed(7);
+/** Degrees east for GPX, whose longitudes end below 180. */
+const belowDateLine = (/** @type {number} */ east) => decimal(east).replace(/^180\./, "-180.");
 
 const COLUMNS = ("kind name state first last receivers source lat lon ambiguity symbol course " +
   "speed_knots altitude_m comment").split(" ");
@@ -106,7 +110,8 @@ const nowOf = (/** @type {Thing} */ it) => /** @type {Place} */ (it.now);
 
 /** @param {Net} net @param {{ title: string }} data @returns {Pieces} */
 function* gpxOf({ placed }, { title }) {
-  const at = (/** @type {Place} */ it) => `lat="${decimal(it.north)}" lon="${decimal(it.east)}"`;
+  const at = (/** @type {Place} */ it) => `lat="${decimal(it.north)}" ` +
+    `lon="${belowDateLine(it.east)}"`;
   const time = (/** @type {Place} */ it) => `<time>${isoText(it.first)}</time>`;
   yield '<?xml version="1.0" encoding="UTF-8"?>\n<gpx version="1.1" creator="aprsbook" ' +
     'xmlns="http://www.topografix.com/GPX/1/1">\n' +

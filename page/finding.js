@@ -1,7 +1,7 @@
 // @ts-check
 // What of the net is shown in its list and on the map: what the reader looks for.
 
-import { byId, choose } from "./dom.js";
+import { byId, choose, write } from "./dom.js";
 import { page, view } from "./state.js";
 import { haystack } from "./tables.js";
 import { count } from "./words.js";
@@ -32,8 +32,8 @@ export function sift() {
     !kind || (kind === "silent" ? view.isSilent(it) : it.kind === kind);
   const { things } = page.net;
   page.found = things.filter(it => isOfKind(it) && (!words || hayOf(it).includes(words)));
-  byId("found").textContent = page.found.length === things.length ? ""
-    : `${page.found.length} of ${things.length}`;
+  write("found", page.found.length === things.length ? ""
+    : `${page.found.length} of ${things.length}`);
   page.lists.things.show(page.found);
   page.map.show(page.found);
   const placed = count(page.map.things.length, "place");

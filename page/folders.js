@@ -21,7 +21,8 @@ async function filesIn(entry, way) {
   }
   const reader = /** @type {FileSystemDirectoryEntry} */ (entry).createReader(), files = [];
   for (let some; (some = await readSome(reader)).length;)
-    for (const it of some) files.push(...await filesIn(it, `${way}/${it.name}`));
+    for (const it of some)
+      for (const file of await filesIn(it, `${way}/${it.name}`)) files.push(file);
   return files;
 }
 /**

@@ -2,7 +2,7 @@
 // A page that is served beside logs: it reads a list of their names, and asks again for what has
 // grown. Each log is asked for by itself, and for so long; what was read of it stays.
 
-import { alive, byId, choose, chosen, fullText, page, tick } from "./drawn.js";
+import { alive, byId, choose, chosen, fullText, heard, page, printable, tick } from "./drawn.js";
 import { work } from "./drop.js";
 import { files, numberIn } from "./inputs.js";
 import { fileOf, leaveOut, look } from "./intake.js";
@@ -36,13 +36,18 @@ let following = false;
 async function follow() {
   const list = byId("follow").value;
   page.follows = list !== "";
-  if (!list) byId("stale").textContent = "";
+  if (!list) {
+    alive.answered = 0;
+    byId("stale").textContent = "";
+  }
   if (!list || following) return;
   following = true;
   try {
     const base = new URL(list, location.href), names = await namesOf(base);
-    Object.assign(alive, { away: 0, refused: "" });
-    await followAll(names, base);
+    const logs = addressesOf(names, base), strange = names.find(it => !addressOf(it, base));
+    const refused = strange ? `${list}: no log of this server: ${printable(strange)}` : "";
+    Object.assign(alive, { away: 0, refused });
+    await followAll(logs);
   } catch (fault) {
     const why = reasonOf(fault);
     if (why) alive.refused = `${list}: ${sinceOf(list, why)}`;
@@ -53,22 +58,18 @@ async function follow() {
 }
 /** @param {URL} base */
 async function namesOf(base) {
-  const answer = await fetchOwn(base), text = await answer.text();
+  const asked = Date.now(), answer = await fetchOwn(base.href), text = await answer.text();
+  heard(answer, asked);
   missed.delete(byId("follow").value);
   return text.split(/\r?\n/).map(it => it.trim()).filter(it => it && !it.startsWith("#"));
 }
-/**
- * @param {string[]} names
- * @param {URL} base
- */
-async function followAll(names, base) {
-  const urls = names.map(name => addressOf(name, base));
+/** @param {Map<string, string>} logs names by addresses */
+async function followAll(logs) {
   // what comes at once is shown, also where another one hangs
-  const came = await Promise.all(names.map((name, n) => followOne(name, urls[n])));
+  const came = await Promise.all([...logs].map(([address, name]) => followOne(name, address)));
   let isNew = came.some(Boolean);
   for (const [address, file] of followed) {
-    const isListed = urls.some(it => it.href === address);
-    if (!isListed) isNew = mark(file, "no longer on the list; what was read of it stays") || isNew;
+    if (!logs.has(address)) isNew = mark(file, "no longer on the list; what was read of it stays") || isNew;
   }
   if (isNew) await work();
 }
@@ -88,11 +89,26 @@ function mark(file, away) {
   return isNew;
 }
 /**
- * The address of a log: what means something else in an address is a letter of a name.
+ * The address of a log, or nothing where it is none of this server, the only one that may be asked.
+ * What means something else in an address is a letter of a name.
  * @param {string} name
  * @param {URL} base
  */
-const addressOf = (name, base) => new URL(name.replace(/[%?#]/g, encodeURIComponent), base);
+function addressOf(name, base) {
+  try {
+    const { origin, href } = new URL(name.replace(/[%?#]/g, encodeURIComponent), base);
+    return origin === base.origin ? href : "";
+  } catch {
+    return "";
+  }
+}
+/**
+ * Names by their addresses, each once.
+ * @param {string[]} names
+ * @param {URL} base
+ */
+const addressesOf = (names, base) => new Map(names.map(it =>
+  /** @type {[string, string]} */ ([addressOf(it, base), it])).filter(([address]) => address));
 /** The server is there, and hands out no such file. */
 class Refused extends Error {}
 const LATE = () => `no answer within ${pace.limit / 1000} s`;
@@ -100,7 +116,7 @@ const LATE = () => `no answer within ${pace.limit / 1000} s`;
 const reasonOf = (/** @type {any} */ fault) => fault instanceof Refused ? fault.message
   : fault?.name === "TimeoutError" ? LATE() : "";
 /**
- * @param {URL} url
+ * @param {string} url
  * @param {RequestInit} [options]
  */
 async function fetchOwn(url, options = {}) {
@@ -116,24 +132,24 @@ async function fetchOwn(url, options = {}) {
 /**
  * Asks for what is new in a log; says whether there was something.
  * @param {string} name
- * @param {URL} url
+ * @param {string} url
  */
 async function followOne(name, url) {
-  let file = followed.get(url.href);
+  let file = followed.get(url);
   if (!file) {
     file = fileOf(name, "log", new Uint8Array(), { whole: new Uint8Array(), mark: "" });
-    followed.set(url.href, file);
+    followed.set(url, file);
     files.push(file);
   }
   if (!files.includes(file)) return false;
   try {
     const grown = await growOne(file, url);
-    missed.delete(url.href);
+    missed.delete(url);
     return mark(file, "") || grown;
   } catch (fault) {
     file.mark = "";
     const why = reasonOf(fault) || "the server is away";
-    if (file.taken) return mark(file, sinceOf(url.href, why));
+    if (file.taken) return mark(file, sinceOf(url, why));
     const isNew = file.fault !== why;
     file.fault = why;
     return isNew;
@@ -141,7 +157,7 @@ async function followOne(name, url) {
 }
 /**
  * @param {Given} file
- * @param {URL} url
+ * @param {string} url
  */
 async function growOne(file, url) {
   const head = await fetchOwn(url, { method: "HEAD" });
@@ -169,7 +185,7 @@ async function growOne(file, url) {
 /**
  * The bytes of a file of which `had` are known: the rest alone, where the server can do so.
  * @param {Uint8Array} had
- * @param {URL} url
+ * @param {string} url
  * @param {number} length
  */
 async function grownOf(had, url, length) {

@@ -12,3 +12,6 @@ declare module "node:util";
 declare module "node:v8";
 declare var Buffer: any;
 declare var process: any;
+interface Navigator {
+  readonly userActivation?: { readonly hasBeenActive: boolean };
+}

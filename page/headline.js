@@ -3,14 +3,14 @@
 
 import { byId, make } from "./dom.js";
 import { needsOf, newsOf } from "./news.js";
-import { expectedOf } from "./roster.js";
+import { expectedOf, faultWords } from "./roster.js";
 import { page, presentOf, view } from "./state.js";
-import { clocks, count, dateText, secondText, timeText, zoneText } from "./words.js";
+import { clocks, count, dateText, firstOf, secondText, timeText, zonesText } from "./words.js";
 
 /** Says when, of how many and by whom the net was heard. */
 export function drawAbout() {
   const { net, all } = page, stations = net.things.filter(it => it.kind === "station").length;
-  const zone = net.rows.length ? zoneText(net.end) : "UTC";
+  const zone = net.rows.length ? zonesText(net.begin, net.end) : "UTC";
   byId("zone").textContent = `All times are ${zone}.`;
   if (!net.rows.length)
     byId("about").textContent = all.rows.length ? "Nothing was heard in this time." :
@@ -45,10 +45,10 @@ function newsNodes() {
   const missing = expected.filter(it => now - it.last > view.silent).map(it => it.call);
   const news = net.rows.length ? newsOf(net, { gap: data.gap, silent: data.silent,
     isSilent: view.isSilent, missing, expected: expected.length }) : [];
-  const faults = page.roster.faults.map(it => `roster, line ${it.line}: ${it.why}`);
+  const faults = faultWords(page.roster.faults).map(it => `roster, ${it}`);
   return [...news.map(({ href, grade, text, pick: key }) => make("a", { href, className: grade,
     textContent: text, data: key ? { key } : {} })),
-  ...[...data.notes, ...faults].map(text => make("span", { className: "bad", textContent: text }))];
+  ...[...firstOf(data.notes), ...faults].map(text => make("span", { className: "bad", textContent: text }))];
 }
 /** What wants doing, as links; what says the same stays, and keeps the focus. */
 export function drawNews() {
@@ -57,6 +57,7 @@ export function drawNews() {
     list.map(it => it.className + it.textContent).join("\n");
   if (words(nodes) !== words([...byId("news").children]))
     byId("news").replaceChildren(...nodes.flatMap(it => [it, " "]));
-  page.alarm.hear(needsOf(page.net.things).filter(it => it.grade === "alarm" || it.grade === "bad")
-    .map(it => it.text));
+  const needs = needsOf(page.net.things).filter(it => it.grade === "alarm" || it.grade === "bad");
+  const fresh = page.alarm.hear(needs).map(it => it.text);
+  if (fresh.length) byId("needs").textContent = firstOf(fresh).join("; ");
 }

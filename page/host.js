@@ -37,6 +37,7 @@ const WITH_GAP = [...OF_SEVERAL, "widen"];
 const TABLE = "table ";
 const PAGE = 65536;
 const NAME_ROOM = 16;
+const MOST = 2 ** 33;
 
 class OutOfMemory extends Error {}
 
@@ -90,18 +91,33 @@ function wordsOf(command, options) {
   return command.startsWith(TABLE) ? [command.slice(TABLE.length)] : [];
 }
 
+/** @typedef {(input: Uint8Array) => void} LetGo frees an input that was copied into the memory */
+/**
+ * Puts inputs one after the other into a memory; gives where each stands there.
+ * @param {Uint8Array} bytes the memory
+ * @param {number} at
+ * @param {Uint8Array[]} inputs
+ * @param {LetGo} letGo
+ */
+const putIn = (bytes, at, inputs, letGo) => inputs.map(input => {
+  const place = bytes.subarray(at, at += input.length);
+  place.set(input);
+  letGo(input);
+  return place;
+});
 /**
  * One run with so much room for its output and in its region, both in bytes. Gives null for what
- * was written where that had no room.
+ * was written where that had no room, and the inputs as they stand in its memory.
  * @param {WebAssembly.Module} module
  * @param {string} command
  * @param {Options} options
  * @param {Uint8Array[]} inputs
  * @param {number} outputRoom
  * @param {number} regionRoom
- * @returns {Omit<Run, "bytes"> & { bytes: Uint8Array | null }}
+ * @param {LetGo} letGo
+ * @returns {Omit<Run, "bytes"> & { bytes: Uint8Array | null, placed: Uint8Array[] }}
  */
-function attempt(module, command, options, inputs, outputRoom, regionRoom) {
+function attempt(module, command, options, inputs, outputRoom, regionRoom, letGo = () => {}) {
   const it = /** @type {Exports} */ (/** @type {unknown} */ (
     new WebAssembly.Instance(module).exports)), { memory } = it;
   const layout = new Layout(Number(it.__heap_base.value));
@@ -119,12 +135,8 @@ function attempt(module, command, options, inputs, outputRoom, regionRoom) {
   put(region, start);
   put(region + 8, Math.floor(regionRoom / 16));
   words.forEach((word, k) => bytes.set(word, places[k]));
-  let at = text;
-  inputs.forEach((input, k) => {
-    bytes.set(input, at);
-    at += input.length;
-    put(lengths + 8 * k, input.length);
-  });
+  const placed = putIn(bytes, text, inputs, letGo);
+  placed.forEach(({ length }, k) => put(lengths + 8 * k, length));
   const given = [answer, region];
   if (WITH_GAP.includes(command)) given.push(Number(options));
   words.forEach((word, k) => given.push(places[k], word.length));
@@ -134,7 +146,7 @@ function attempt(module, command, options, inputs, outputRoom, regionRoom) {
   const [status, input, line, written, named] =
     [0, 8, 16, 24, 32].map(field => Number(view.getBigUint64(answer + field, true)));
   return {
-    status, input, line, written,
+    status, input, line, written, placed,
     fault: String.fromCharCode(...bytes.subarray(name, name + named)),
     bytes: written <= outputRoom ? bytes.slice(output, output + written) : null,
   };
@@ -142,21 +154,25 @@ function attempt(module, command, options, inputs, outputRoom, regionRoom) {
 
 /**
  * A run of a command over inputs, again with more room where there was too little, up to a region
- * of `most` bytes.
+ * of `MOST` bytes. Inputs that aren't needed any more may be let go of as soon as they are copied.
  * @param {WebAssembly.Module} module
  * @param {string} command
  * @param {Options} options
  * @param {Uint8Array[]} inputs
+ * @param {LetGo} [letGo]
  * @returns {Run}
  */
-function run(module, command, options, inputs, most = 2 ** 33) {
+function run(module, command, options, inputs, letGo) {
   const total = inputs.reduce((sum, input) => sum + input.length, 0);
   let outputRoom = 2 * total + PAGE, regionRoom = 16 * Math.ceil(total / 2) + (1 << 22);
   for (;;) {
-    const got = attempt(module, command, options, inputs, outputRoom, regionRoom);
-    if ((got.status === 3 || got.status === 4) && 2 * regionRoom <= most) regionRoom *= 2;
-    else if (!got.bytes) outputRoom = got.written;
-    else return { ...got, bytes: got.bytes };
+    const { placed, bytes, ...got } =
+      attempt(module, command, options, inputs, outputRoom, regionRoom, letGo);
+    if ((got.status === 3 || got.status === 4) && 2 * regionRoom <= MOST) regionRoom *= 2;
+    else if (!bytes) outputRoom = got.written;
+    else return { ...got, bytes };
+    // they may be gone where they were, and a memory can't be let go of
+    [inputs, letGo] = [placed, undefined];
   }
 }
 

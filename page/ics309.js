@@ -1,14 +1,15 @@
 // @ts-check
 // The communications log ICS-309: messages and bulletins, and the operator's own lines, on sheets.
 
-import { air, byId, callIn, letters, make, textOf } from "./dom.js";
-import { cell, timeCell } from "./lists.js";
+import { air, byId, callIn, letters, make, momentOf, textOf } from "./dom.js";
+import { cell } from "./lists.js";
 import { isBulletin } from "./net.js";
 import { who } from "./roster.js";
-import { clocks, fullText, printable, said, zoneText } from "./words.js";
+import { clocks, datedBy, fullText, printable, said, zonesText, zoneText } from "./words.js";
 
 /** @typedef {import("./rows.js").Message} Message */
 /** @typedef {import("./ownlines.js").Line} Line */
+/** @typedef {import("./words.js").Dated} Dated */
 /**
  * An entry of the log: its number in it, a moment, from whom to whom, the message's number, what it
  * says, and what is noted behind it. `own` is the operator's line, where it is one.
@@ -66,14 +67,14 @@ export function sheetsOf(entries) {
   return sheets;
 }
 
-/** @param {Entry} it @param {(line: Line) => void} onRemove */
-function rowOf(it, onRemove) {
+/** @param {Entry} it @param {Dated} dated @param {(line: Line) => void} onRemove */
+function rowOf(it, dated, onRemove) {
   const { own } = it, name = own ? printable : who;
   const remove = own && make("button", { type: "button", className: "no-print",
     textContent: "take away", aria: { "aria-label": `take line ${it.number} away` },
     onclick: () => onRemove(own) });
   return make("tr", { className: own ? "own" : "" }, cell("num", String(it.number)),
-    timeCell(it.at), cell("call", callIn(name(it.from))),
+    cell("num time", momentOf(it.at, dated)), cell("call", callIn(name(it.from))),
     cell("id", own ? letters(printable(it.id)) : it.id),
     cell("call", callIn(name(it.to))),
     cell("text", own ? letters(printable(it.text)) : air(it.text),
@@ -86,10 +87,10 @@ const HEADS = [["num", "no."], ["", "time"], ["", "from"], ["", "msg no."], ["",
  * A sheet, with its number; the first stands below the form's own head.
  * @param {Entry[]} entries
  * @param {number} n
- * @param {number} of
+ * @param {{ of: number, dated: Dated }} all how many sheets there are, and how dates are written
  * @param {(line: Line) => void} onRemove
  */
-function sheetNode(entries, n, of, onRemove) {
+function sheetNode(entries, n, { of, dated }, onRemove) {
   const field = (/** @type {import("./dom.js").Input} */ id) => byId(id).value;
   const number = make("span", { className: "sheet-number", textContent: `page ${n + 1} of ${of}` });
   const above = n ? ["ICS 309", field("ics-incident"), textOf("ics-period"),
@@ -98,7 +99,7 @@ function sheetNode(entries, n, of, onRemove) {
     make("p", {}, make("span", { textContent: above || "5. communications log" }), " ", number),
     make("table", {}, make("thead", {}, make("tr", {}, ...HEADS.map(([className, textContent]) =>
       make("th", { scope: "col", className, textContent })))),
-    make("tbody", {}, ...entries.map(it => rowOf(it, onRemove)))));
+    make("tbody", {}, ...entries.map(it => rowOf(it, dated, onRemove)))));
 }
 /**
  * Fills the form with the messages that are shown and with own lines.
@@ -110,10 +111,11 @@ function sheetNode(entries, n, of, onRemove) {
 export function fillForm(net, lines, onRemove) {
   const entries = entriesOf(net, lines), sheets = sheetsOf(entries), some = net.rows.length > 0;
   byId("ics-period").textContent = some ? `${fullText(net.begin)} to ${fullText(net.end)}` : "";
-  byId("ics-zone").textContent = zoneText(some ? net.end : Date.now() / 1000);
+  byId("ics-zone").textContent = some ? zonesText(net.begin, net.end)
+    : zoneText(Date.now() / 1000);
   byId("ics-date").textContent = fullText(Date.now() / 1000);
-  byId("ics-sheets").replaceChildren(
-    ...sheets.map((it, n) => sheetNode(it, n, sheets.length, onRemove)));
+  const all = { of: sheets.length, dated: datedBy(entries.map(it => it.at)) };
+  byId("ics-sheets").replaceChildren(...sheets.map((it, n) => sheetNode(it, n, all, onRemove)));
 }
 /**
  * A moment as a field for date and time has it, in the time that the page shows.

@@ -2,9 +2,10 @@
 // The files that a reader gives: what each is, what the program says of it, and what is left of it.
 
 import { count } from "./drawn.js";
-import { damagedLines, kindOf, READ, spelled, without } from "./kinds.js";
+import { damagedLines, kindOf, MANY, READ, spelled, without } from "./kinds.js";
 import { shifted } from "./shift.js";
 import { linesIn } from "./ownlines.js";
+import { beginningOf, MOST, TOO_LARGE, unzipped } from "./unpacking.js";
 import { run } from "./workers.js";
 
 /** @typedef {import("./kinds.js").Damage} Damage */
@@ -47,17 +48,19 @@ export const fileOf = (name, kind, bytes, of = {}) => ({ name, kind, bytes, unre
   receiver: "RX1", moment: "", passed: [], said: "", fault: "", reason: "", spelling: [],
   damage: [], leftOut: [], taken: null, ...of });
 
+/**
+ * Whether two files are one: of one name, with the same bytes. One that is followed goes on.
+ * @param {Given} a
+ * @param {Given} b
+ */
+export const isSame = (a, b) => a.name === b.name && !a.whole && a.unread === b.unread &&
+  a.bytes.length === b.bytes.length && a.bytes.every((it, k) => it === b.bytes[k]);
 /** @param {Blob} file */
 async function bytesOf(file) {
   const head = new Uint8Array(await file.slice(0, HEAD).arrayBuffer());
-  if (head[0] !== 0x1f || head[1] !== 0x8b) return { head, all: () => file.arrayBuffer() };
-  const stream = file.stream().pipeThrough(new DecompressionStream("gzip"));
-  try {
-    const bytes = new Uint8Array(await new Response(stream).arrayBuffer());
-    return { head: bytes.subarray(0, HEAD), all: async () => bytes.buffer };
-  } catch {
-    throw new Error("can't be read: gzip can't unpack it");
-  }
+  if (head[0] === 0x1f && head[1] === 0x8b) return beginningOf(unzipped(file), HEAD);
+  if (file.size > MOST) throw new Error(TOO_LARGE);
+  return { head, all: async () => new Uint8Array(await file.arrayBuffer()) };
 }
 /**
  * Reads a file that was given; of one that is nothing of a net, no more than how it begins.
@@ -76,7 +79,7 @@ export async function take(file, bring) {
     }
     if (!READ.includes(kind)) return unread(`is ${kind}, which no log is`, kind);
     if (kind === "log" && await isNoLog(begin)) return unread("is no log", "file");
-    const bytes = new Uint8Array(await all());
+    const bytes = await all();
     if (kind === "book" || kind === "KISS stream") return fileOf(file.name, kind, bytes);
     const text = spelled(bytes);
     if (kind === "log") return fileOf(file.name, kind, text.bytes, { spelling: text.spelling });
@@ -159,7 +162,7 @@ async function lookInto(file, gap) {
     file.passed = lines.filter(Boolean);
     if (got.status) {
       file.reason = got.fault;
-      file.damage = await damagedLines(bytes, checkOf) || [];
+      file.damage = await damagedLines(bytes, checkOf, MANY) || [];
       return refuse(got);
     }
   }

@@ -16,7 +16,7 @@ const lettersOf = (bytes, most = 2000) =>
  */
 const STRANGERS = [
   [/^\x89PNG|^\xff\xd8\xff|^GIF8|^BM[^]{4}\0\0\0\0|^RIFF....WEBP|^II\*\0|^MM\0\*/s, "a picture"],
-  [/^\s*(<\?xml[^]*?\?>\s*)?(<!--[^]*?-->\s*)*<svg[\s>]/, "a picture"],
+  [/^\s*(<\?xml[^]*?\?>\s*)?(<!--(?:(?!-->)[^])*-->\s*)*<svg[\s>]/, "a picture"],
   [/^%PDF/, "a PDF"], [/^PK\x03\x04/, "an archive (ZIP)"], [/^7z\xbc\xaf|^Rar!/, "an archive"],
   [/^SQLite format 3\0/, "a database (SQLite)"], [/^PMTiles/, "an archive of maps (PMTiles)"],
   [/^RIFF....WAVE|^OggS|^ID3|^fLaC/s, "a sound"], [/^....ftyp/s, "a film"],
@@ -32,7 +32,7 @@ export const isPicture = bytes =>
   /^\x89PNG|^\xff\xd8\xff|^RIFF....WEBP/s.test(String.fromCharCode(...bytes.subarray(0, 12)));
 /** How a line of a roster begins: a call, or the head of a column. */
 const WORD = "(?:[a-z0-9]{1,6}(?:-(?:\\d{1,2}|\\*))?|callsign|station|tactical)";
-const ROSTER = new RegExp(`^(?:\\s*#[^\\n]*\\n|\\s*\\n)*\\s*"?${WORD}"?([\\s,;]|$)`, "i");
+const ROSTER = new RegExp(`^(?:\\s*#[^\\n]*\\n)*\\s*"?${WORD}"?([\\s,;]|$)`, "i");
 
 /**
  * What a file is: book, KISS stream, map, roster, log, or what else it is, such as `a picture`.
@@ -88,8 +88,20 @@ export const REASONS = {
  * A line of a log that is refused: its number, where it stands, why.
  * @typedef {{ line: number, begin: number, end: number, why: string }} Damage
  */
-/** More refused lines than these aren't looked for: it is no log then. */
-export const MOST = 100;
+/** More refused lines than these aren't looked for in the beginning of a file. */
+const FEW = 100;
+/** And in all of a file. */
+export const MANY = 1000;
+/** So many bytes are checked again after a line that is refused, up to the end of a line. */
+const PIECE = 2 ** 16;
+/** @param {Uint8Array} bytes @param {number} at */
+const lineEnd = (bytes, at) => bytes.indexOf(10, at) + 1 || bytes.length;
+/** @param {Uint8Array} bytes */
+function countLines(bytes) {
+  let n = 0;
+  for (let at = 0; at < bytes.length; at = lineEnd(bytes, at)) n++;
+  return n;
+}
 
 /**
  * The lines that a log has to lose so that the rest is read. `check` says where and why bytes are
@@ -98,16 +110,20 @@ export const MOST = 100;
  * @param {(bytes: Uint8Array) => Promise<{ line: number, why: string } | null>} check
  * @returns {Promise<Damage[] | null>} null where there are too many, or where it isn't for a line
  */
-export async function damagedLines(bytes, check) {
+export async function damagedLines(bytes, check, most = FEW) {
   /** @type {Damage[]} */
   const found = [];
   for (let at = 0, before = 0; at < bytes.length;) {
-    const fault = await check(bytes.subarray(at));
-    if (!fault) return found;
-    if (!REASONS[fault.why] || found.length === MOST) return null;
+    const piece = bytes.subarray(at, lineEnd(bytes, at + PIECE)), fault = await check(piece);
+    if (!fault) {
+      before += countLines(piece);
+      at += piece.length;
+      continue;
+    }
+    if (!REASONS[fault.why] || found.length === most) return null;
     let begin = at;
-    for (let n = 1; n < fault.line; n++) begin = bytes.indexOf(10, begin) + 1;
-    const stop = bytes.indexOf(10, begin), end = stop < 0 ? bytes.length : stop + 1;
+    for (let n = 1; n < fault.line; n++) begin = lineEnd(bytes, begin);
+    const end = lineEnd(bytes, begin);
     before += fault.line;
     found.push({ line: before, begin, end, why: fault.why });
     at = end;

@@ -31,6 +31,8 @@ export class List {
    */
   constructor(box, { id, caption, columns, row, none = "none", keyOf = () => "" }) {
     this.box = box;
+    /** What is said on paper of rows that aren't there. */
+    this.rest = make("p", { className: "rest" });
     this.id = id;
     this.columns = columns;
     this.row = row;
@@ -86,8 +88,9 @@ export class List {
     });
     this.built = 0;
     this.table.setAttribute("aria-rowcount", String(items.length + 1));
+    this.rest.textContent = "";
     if (!items.length) this.box.replaceChildren(make("p", { textContent: this.none }));
-    else if (this.table.parentNode !== this.box) this.box.replaceChildren(this.table);
+    else if (this.table.parentNode !== this.box) this.box.replaceChildren(this.table, this.rest);
     if (this.scrolled) this.box.scrollTop = 0;
     this.scrolled = false;
     const long = items.length > 10 * PART;
@@ -123,6 +126,7 @@ export class List {
     if (!this.built) this.rove(picksIn(this.body)[0]);
     else for (const it of rows) for (const pick of picksIn(it)) pick.tabIndex = -1;
     this.built += rows.length;
+    if (this.built === this.items.length) this.rest.textContent = "";
   }
   /** Builds on where the end of what is built comes near. */
   fill() {
@@ -149,9 +153,11 @@ export class List {
     const at = this.items.findIndex(it => this.keyOf(it) === key);
     if (at >= this.built && at < 5000) this.build(at + 1 - this.built);
   }
-  /** Builds all, for paper. */
+  /** Builds all, for paper; where that is too much, it says so. */
   whole(most = 5000) {
     this.build(Math.max(0, Math.min(this.items.length, most) - this.built));
+    const left = this.items.length - this.built;
+    this.rest.textContent = left > 0 ? `and ${left.toLocaleString("en")} more` : "";
   }
   /**
    * The one row that the tab key reaches.

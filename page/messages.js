@@ -4,7 +4,7 @@
 import { air, callIn, make } from "./dom.js";
 import { cell, List, newMark, timeCell } from "./lists.js";
 import { who } from "./roster.js";
-import { fullText } from "./words.js";
+import { fullText, said } from "./words.js";
 
 /** @typedef {import("./rows.js").Message} Message */
 /** @typedef {{ isNewMessage: (it: Message) => boolean }} View */
@@ -16,13 +16,16 @@ function answerOf(it) {
   if (Number.isNaN(it.answered)) return "";
   return `${it.answeredBy ? `by ${who(it.answeredBy)}, ` : ""}${fullText(it.answered)}`;
 }
+/** A text, of which the style shows so many lines; one of octets alone would hide other rows. */
+const textCell = (/** @type {string} */ text) =>
+  make("td", { className: "text", title: said(text) }, air(text));
 /** @param {Message} it @param {View} view */
 function messageRow(it, { isNewMessage }) {
   return make("tr", { className: it.state + (isNewMessage(it) ? " new" : "") },
     make("td", { className: "state", textContent: it.state, title: answerOf(it) },
       ...newMark(isNewMessage(it))),
     cell("call from", callIn(who(it.source))), cell("call to", callIn(who(it.addressee))),
-    cell("text", air(it.text)), cell("id", it.id), timeCell(it.first), timeCell(it.last));
+    textCell(it.text), cell("id", it.id), timeCell(it.first), timeCell(it.last));
 }
 /** @param {HTMLElement} box @param {View} view */
 export function messageList(box, view) {
@@ -42,7 +45,7 @@ export function bulletinList(box, { isNewMessage }) {
   const row = (/** @type {Message} */ it) => make("tr",
     { className: isNewMessage(it) ? "new" : "" },
     cell("call", air(it.addressee), ...newMark(isNewMessage(it))),
-    cell("call", callIn(who(it.source))), cell("text", air(it.text)),
+    cell("call", callIn(who(it.source))), textCell(it.text),
     timeCell(it.first), timeCell(it.last));
   return new List(box, { id: "bulletins", caption: "bulletins", row, columns: [
     { title: "bulletin", value: it => it.addressee }, { title: "from", value: it => it.source },

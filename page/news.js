@@ -12,10 +12,11 @@ import { age, count, timeText } from "./words.js";
  *   pick?: string }} Word
  */
 
+/** @typedef {Word & { id: string }} Need with what it is known by, however it is worded */
 /**
  * Who is in need, and who said so before: an emergency first, then by time.
  * @param {Thing[]} things
- * @returns {Word[]}
+ * @returns {Need[]}
  */
 export function needsOf(things) {
   const words = [], weight = (/** @type {Thing} */ it) => it.rows.urgent[it.lastUrgent];
@@ -23,15 +24,29 @@ export function needsOf(things) {
   urgent.sort((a, b) => Number(Boolean(b.urgent)) - Number(Boolean(a.urgent)) ||
     weight(b) - weight(a) || b.last - a.last);
   for (const it of urgent) {
-    const at = timeText(it.rows.last[it.lastUrgent]);
+    const last = it.rows.last[it.lastUrgent], at = timeText(last);
     const level = weight(it) === 2 ? "emergency" : "priority";
     /** @type {Word["grade"]} */
     const grade = !it.urgent ? "warn" : level === "emergency" ? "alarm" : "bad";
-    words.push({ href: "#where", pick: it.key, grade, text: it.urgent
+    words.push({ href: "#where", pick: it.key, id: `${last} ${it.key}`, grade, text: it.urgent
       ? `${level === "emergency" ? "EMERGENCY" : "priority"}: ${who(it.name)}, ${at}`
       : `${who(it.name)} said ${level} at ${at}, and no longer does` });
   }
   return words;
+}
+/** So many who are in need are named; nobody can fill the page by sending many of them. */
+const NEEDS = 6;
+/**
+ * Those who are in need most, and how many more there are.
+ * @param {Need[]} needs
+ * @returns {Word[]}
+ */
+function mostOf(needs) {
+  const left = needs.slice(NEEDS);
+  if (!left.length) return needs;
+  const { grade } = left[0], more = left.length.toLocaleString("en");
+  return [...needs.slice(0, NEEDS),
+    { href: "#list", grade, text: `and ${more} more who are or were in need` }];
 }
 /**
  * Wrong clocks, each in words. A pair that disagrees is said once.
@@ -82,7 +97,9 @@ function missingText(missing, expected, silent) {
 export function newsOf(net, { gap, silent, isSilent, missing, expected }) {
   const of = (/** @type {string} */ state) => net.messages.filter(it => it.state === state).length;
   const unanswered = of("unanswered"), rejected = of("rejected");
-  const quiet = net.things.filter(isSilent).length, words = needsOf(net.things);
+  const quiet = net.things.filter(isSilent).length;
+  /** @type {Word[]} */
+  const words = [...mostOf(needsOf(net.things))];
   const unfixed = net.things.filter(it => it.unfixed).length;
   /** @param {string} href @param {Word["grade"]} grade @param {string} text */
   const say = (href, grade, text) => words.push({ href, grade, text });

@@ -9,6 +9,8 @@
 /** @typedef {{ lines: Line[], gone: string[] }} Kept lines, and the keys of those taken away */
 
 const NAMES = /** @type {("from" | "to" | "id" | "text")[]} */ (["from", "to", "id", "text"]);
+/** The last moment that a date can have, in seconds from 1970; the first is as far before. */
+const LAST = 8.64e12;
 const keyOf = (/** @type {Line} */ it) => JSON.stringify([it.at, ...NAMES.map(name => it[name])]);
 
 /**
@@ -18,8 +20,9 @@ const keyOf = (/** @type {Line} */ it) => JSON.stringify([it.at, ...NAMES.map(na
  */
 export function linesIn(values) {
   if (!Array.isArray(values)) return [];
-  return values.filter(it => Number.isFinite(it?.at) && NAMES.every(name =>
-    typeof it[name] === "string" && it[name].length <= 2000))
+  return values.filter(it => Math.abs(Number.isFinite(it?.at) ? it.at : NaN) <= LAST &&
+    NAMES.every(name =>
+      typeof it[name] === "string" && it[name].length <= 2000))
     .map(it => ({ at: it.at, from: it.from, to: it.to, id: it.id, text: it.text }));
 }
 /** This browser's store, where it has one. */
@@ -61,15 +64,15 @@ export class OwnLines {
     this.key = key;
     this.given = linesIn(given);
     this.kept = this.read();
-    if (before.length) this.add(...this.lines.length ? this.brought : before);
+    if (before.length) this.addAll(this.lines.length ? this.brought : before);
   }
   /**
    * Takes the lines of pages that were dropped here.
    * @param {Line[]} lines
    */
   bring(lines) {
-    this.brought.push(...lines);
-    return this.add(...lines);
+    this.brought = this.brought.concat(lines);
+    return this.addAll(lines);
   }
   /** @returns {Kept} */
   read() {
@@ -81,11 +84,15 @@ export class OwnLines {
       return { lines: [], gone: [] };
     }
   }
+  /** @param {Line[]} lines */
+  add(...lines) {
+    return this.addAll(lines);
+  }
   /**
-   * Keeps lines; says whether the browser does.
+   * Keeps lines, be they many; says whether the browser does.
    * @param {Line[]} lines
    */
-  add(...lines) {
+  addAll(lines) {
     if (!lines.length) return true;
     const keys = new Set(lines.map(keyOf));
     return this.change(({ lines: before, gone }) =>

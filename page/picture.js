@@ -7,7 +7,7 @@ import { RADIUS } from "./globe.js";
 import { paintGrid } from "./grid.js";
 import { MarkPainter, rankOf, RING } from "./marks.js";
 import { paintSheets } from "./sheets.js";
-import { Room } from "./sides.js";
+import { nameOnMap, Room } from "./sides.js";
 import { trace, Tracks } from "./tracks.js";
 import { scaleOf } from "./units.js";
 import { Writer } from "./writer.js";
@@ -236,14 +236,14 @@ export class Picture {
   name({ thing, place, picked, x, y }, room, reach, small) {
     const { map, colours, writer } = this, isUrgent = thing.urgent !== "";
     const isWanted = picked || isUrgent, isRinged = isUrgent && !small;
-    const width = writer.widthOf(thing.label, isWanted) + 2;
+    const label = nameOnMap(thing.label), width = writer.widthOf(label, isWanted) + 2;
     const spot = map.sides.place(thing.key, { x, y },
       { width, reach: isRinged ? RING : reach, isWanted }, room);
     if (!spot) return;
     const colour = place.state === "killed" ? colours.soft
       : isUrgent ? colours.bad : colours.ink;
-    if (small && !isWanted) writer.writeOnSheet(thing.label, spot.left, spot.base, colour);
-    else writer.write(thing.label, spot.left, spot.base, colour, 12, isWanted);
+    if (small && !isWanted) writer.writeOnSheet(label, spot.left, spot.base, colour);
+    else writer.write(label, spot.left, spot.base, colour, 12, isWanted);
   }
   /** @param {string} coast what is said of it */
   paintScale(coast) {

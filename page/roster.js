@@ -2,7 +2,7 @@
 // The roster: who is expected, by call, with a name, a group and a number. What tool and page read
 // is the same.
 
-import { printable, said } from "./words.js";
+import { firstOf, printable, said } from "./words.js";
 
 /** @typedef {{ call: string, name: string, group: string, bib: string }} Expected */
 /** @typedef {{ line: number, why: string }} Fault */
@@ -70,7 +70,7 @@ export function readRoster(text) {
   /** @type {Expected[]} */
   const list = [];
   /** @type {Fault[]} */
-  const faults = [];
+  const faults = [], calls = new Set();
   let places = [0, 1, 2, 3], isFirst = true;
   for (const [n, line] of text.replace(/^\ufeff/, "").split(/\r\n|\n|\r/).entries()) {
     if (!line.trim() || line.trim().startsWith("#")) continue;
@@ -84,11 +84,20 @@ export function readRoster(text) {
     const upper = call.toUpperCase().replace(/-0$/, "");
     const fault = (/** @type {string} */ why) => faults.push({ line: n + 1, why });
     if (!CALL.test(upper)) fault(`${call || "nothing"} is no call`);
-    else if (list.some(it => it.call === upper)) fault(`${upper} stands there twice`);
-    else list.push({ call: upper, name, group, bib });
+    else if (calls.has(upper)) fault(`${upper} stands there twice`);
+    else {
+      calls.add(upper);
+      list.push({ call: upper, name, group, bib });
+    }
   }
   return { list, faults };
 }
+/**
+ * The first faults of a roster, in words; a list that is none has one in each line.
+ * @param {Fault[]} faults
+ */
+export const faultWords = faults =>
+  firstOf(faults.map(it => `line ${it.line}: ${printable(it.why)}`));
 /**
  * Several rosters as one; of a call that stands in several, the first line counts.
  * @param {Roster[]} all

@@ -71,6 +71,21 @@ export class Rows {
     this.same = columns.same;
     this.order = columns.order;
     this.length = columns.order.length;
+    this.placeKills();
+  }
+  /** A kill at 0, 0 lies where the thing was: its sender left the place out. */
+  placeKills() {
+    const { north, east, thing } = this;
+    const kills = this.order.filter(k => this.killed[k] && this.isUnfixed(k));
+    if (!kills.length) return;
+    const wanted = new Set(Array.from(kills, k => thing[k])), last = new Map();
+    for (const k of this.order) {
+      if (!wanted.has(thing[k])) continue;
+      const before = last.get(thing[k]);
+      if (this.hasPlace(k)) last.set(thing[k], k);
+      else if (this.killed[k] && before !== undefined)
+        [north[k], east[k]] = [north[before], east[before]];
+    }
   }
   /**
    * The numbers of those that were heard since a moment.

@@ -7,6 +7,18 @@
  */
 const SIDES = [[1, 0, 0, 0, 4], [-1, -1, 0, 0, 4], [0, -0.5, 0, -1, -4], [0, -0.5, 0, 1, 12],
   [1, 0, -2, 1, 12], [-1, -1, 2, 1, 12], [1, 0, -2, -1, -4], [-1, -1, 2, -1, -4]];
+/** Longer names have no room beside others; of the name before a call so much is shown. */
+const LONG = 26, SHORT = 12;
+/**
+ * A name as it stands on the map: of a long one its beginning, and its call.
+ * @param {string} label such as `Leader (Q1RUN-7)`
+ */
+export function nameOnMap(label) {
+  const [, name, call] = /^(.*) (\(\S+\))$/s.exec(label) || ["", label, ""];
+  if (label.length <= LONG) return label;
+  const begin = Array.from(name).slice(0, call ? SHORT : LONG - 1).join("").trimEnd();
+  return `${begin}\u2026 ${call}`.trimEnd();
+}
 /** The side of a square of room, in pixels. */
 const SQUARE = 4;
 

@@ -3,9 +3,13 @@
 
 /** @type {AudioContext | null} */
 let context = null;
+/** Browsers play nothing before somebody clicks in a page or presses a key. */
+export const isMute = () => navigator.userActivation?.hasBeenActive === false;
 /** Three short tones. */
 export function ring() {
   context ||= new AudioContext();
+  // one that was made before the first click
+  if (context.state === "suspended") context.resume();
   const begin = context.currentTime;
   for (const k of [0, 1, 2]) {
     const tone = context.createOscillator(), volume = context.createGain();
@@ -16,19 +20,24 @@ export function ring() {
     tone.stop(begin + 0.3 * k + 0.2);
   }
 }
-/** Rings for what wasn't there before: who is in need, by key and by what was said when. */
+/** Rings for what wasn't there before: who is in need, and since which of their transmissions. */
 export class Alarm {
   constructor(play = ring) {
     this.play = play;
     this.isOn = false;
-    /** @type {Set<string> | null} */
-    this.known = null;
+    /** @type {Set<string>} */
+    this.known = new Set();
   }
-  /** @param {string[]} needs */
+  /**
+   * Gives what is new; what is away for a while and there again isn't.
+   * @template {{ id: string }} Need
+   * @param {Need[]} needs
+   */
   hear(needs) {
-    const fresh = needs.filter(it => !this.known?.has(it));
-    this.known = new Set(needs);
+    const fresh = needs.filter(({ id }) => !this.known.has(id));
+    for (const { id } of fresh) this.known.add(id);
     if (fresh.length && this.isOn) this.play();
+    return fresh;
   }
   /**
    * Switches it on or off; on, it is heard once, so that one knows it works.

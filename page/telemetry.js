@@ -12,6 +12,8 @@ import { said } from "./words.js";
 /** How many channels have numbers; the others are bits. */
 const CHANNELS = [0, 1, 2, 3, 4];
 const same = (/** @type {number} */ n) => n;
+/** A coefficient beyond this means nothing, and numbers that come of it fill a line with digits. */
+const MOST = 1e9;
 
 /**
  * The fields of the last message to a station that begins so.
@@ -34,7 +36,7 @@ function fieldsOf(messages, call, begin) {
  */
 function equationOf(texts) {
   const [a, b, c] = texts.map(it => it === "" ? NaN : Number(it));
-  if (![a, b, c].every(Number.isFinite)) return null;
+  if (![a, b, c].every(it => Math.abs(it) <= MOST)) return null;
   return (/** @type {number} */ n) => a * n * n + b * n + c;
 }
 /**

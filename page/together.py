@@ -36,10 +36,15 @@ def words_in(text):
     return re.findall(r"\w+", text)
 
 
+def exported_by(text):
+    """The names that a module exports; of a declaration of several, the first alone."""
+    return [word for it in EXPORT.findall(text) + LIST.findall(text) for word in words_in(it)]
+
+
 def scope(name, text):
     """A module as a scope of its own, which gives away what it exports."""
     inside = COMMENT.sub("", IMPORT.sub(lambda it: f"const {it[1]} = in_{it[2]};\n", text))
-    exported = [word for it in EXPORT.findall(inside) + LIST.findall(inside) for word in words_in(it)]
+    exported = exported_by(inside)
     inside = LIST.sub("", EXPORT.sub("", inside))
     if re.search("^(?:import|export)", inside, re.M):
         raise ValueError(f"{name}.js: an import or export of another form")
@@ -54,8 +59,11 @@ def modules_of(name, found):
         return found
     found[name] = ""
     text = read(name + ".js")
-    for _, it in IMPORT.findall(text):
+    for names, it in IMPORT.findall(text):
         modules_of(it, found)
+        missing = set(words_in(names)) - set(exported_by(read(it + ".js")))
+        if missing:
+            raise ValueError(f"{it}.js exports no {', '.join(sorted(missing))}")
     del found[name]
     found[name] = scope(name, text)
     return found

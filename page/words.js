@@ -86,8 +86,12 @@ export function byLetters(a, b) {
 export const messageOf = (/** @type {unknown} */ fault) =>
   fault instanceof Error ? fault.message : String(fault);
 
-/** How moments are written: in local time or UTC, and with the date where that matters. */
-export const clocks = { local: false, dated: false };
+/** @typedef {"" | "day" | "year"} Dated whether moments are written with a day, and its year */
+/**
+ * How moments are written: in local time or UTC, and with the date where that matters.
+ * @type {{ local: boolean, dated: Dated }}
+ */
+export const clocks = { local: false, dated: "" };
 const MONTHS = "Jan Feb Mar Apr May Jun Jul Aug Sep Oct Nov Dec".split(" ");
 const two = (/** @type {number} */ n) => String(n).padStart(2, "0");
 
@@ -118,18 +122,43 @@ export function secondText(seconds) {
   return `${two(hour)}:${two(minute)}:${two(second)}`;
 }
 /**
- * A moment, with the date where more than one day is shown.
+ * Whether moments are of several days, or years.
+ * @param {number[]} moments
+ * @returns {Dated}
+ */
+export function datedBy(moments) {
+  let least = Infinity, most = -Infinity;
+  for (const it of moments)
+    if (Number.isFinite(it)) [least, most] = [Math.min(least, it), Math.max(most, it)];
+  if (!(least < most) || dateText(least) === dateText(most)) return "";
+  return civil(least)[0] === civil(most)[0] ? "day" : "year";
+}
+/**
+ * A moment, with the date where more than one day is shown, and the year where more than one is.
  * @param {number} seconds
  */
-export function timeText(seconds) {
-  const [, month, day] = civil(seconds);
-  return (clocks.dated ? `${day} ${MONTHS[month]} ` : "") + secondText(seconds);
+export function timeText(seconds, dated = clocks.dated) {
+  const [, month, day] = civil(seconds), text = secondText(seconds);
+  if (dated === "year") return `${dateText(seconds)} ${text}`;
+  return dated ? `${day} ${MONTHS[month]} ${text}` : text;
 }
 /** @param {number} seconds */
 export function zoneText(seconds) {
   if (!clocks.local) return "UTC";
   const ahead = -new Date(seconds * 1000).getTimezoneOffset(), far = Math.abs(ahead);
   return `UTC${ahead < 0 ? "\u2212" : "+"}${two(Math.floor(far / 60))}:${two(far % 60)}`;
+}
+/** In so many parts of a time it is asked which zone there is. */
+const ZONES = 400;
+/**
+ * The zones of a time, one after the other, such as those before and after a clock change.
+ * @param {number} begin
+ * @param {number} end
+ */
+export function zonesText(begin, end) {
+  const step = Math.max(900, (end - begin) / ZONES), zones = new Set();
+  if (clocks.local) for (let at = begin; at < end; at += step) zones.add(zoneText(at));
+  return [...zones.add(zoneText(end))].join(" and ");
 }
 /** @param {number} seconds */
 export const fullText = seconds =>
@@ -138,14 +167,22 @@ export const fullText = seconds =>
 export const isoText = seconds => new Date(seconds * 1000).toISOString();
 
 /**
- * How long ago something was.
+ * How long ago something was; less than nothing, of what is still to come.
  * @param {number} passed in seconds
  */
 export function age(passed) {
   /** @type {[number, number, string][]} */
   const units = [[60, 1, "s"], [5400, 60, "min"], [172800, 3600, "h"]];
-  const [, size, unit] = units.find(([below]) => passed < below) || [0, 86400, "d"];
-  return `${Math.floor(passed / size)} ${unit}`;
+  const far = Math.abs(passed);
+  const [, size, unit] = units.find(([below]) => far < below) || [0, 86400, "d"];
+  const n = Math.floor(far / size);
+  return `${passed < 0 && n ? "\u2212" : ""}${n} ${unit}`;
 }
+/**
+ * The first of many texts, and how many more there are.
+ * @param {string[]} texts
+ */
+export const firstOf = (texts, most = 5) => texts.length > most
+  ? [...texts.slice(0, most), `and ${(texts.length - most).toLocaleString("en")} more`] : texts;
 /** @param {number} n @param {string} word of one of them */
 export const count = (n, word) => `${n.toLocaleString("en")} ${word}${n === 1 ? "" : "s"}`;

@@ -12,6 +12,9 @@ import { messageOf } from "./words.js";
 /** @type {WebAssembly.Module | null} */
 let core = null;
 const NOTHING = new Uint8Array();
+/** Frees an input, which the page has too: large ones would be there three times. */
+const letGo = (/** @type {Uint8Array} */ { buffer }) =>
+  /** @type {ArrayBuffer & { transfer: (size: number) => void }} */ (buffer).transfer(0);
 /**
  * What a run gives, a table as text and its rows as columns too; and the buffers in it that need
  * not be copied.
@@ -21,7 +24,7 @@ const NOTHING = new Uint8Array();
  */
 function answer(module, { command, options, inputs }) {
   const table = `table ${command}`, isTable = Object.hasOwn(FUNCTIONS, table);
-  const got = run(module, isTable ? table : command, options, inputs);
+  const got = run(module, isTable ? table : command, options, inputs, letGo);
   if (!isTable || got.status) return [got, [got.bytes.buffer]];
   const text = new TextDecoder("latin1").decode(got.bytes);
   if (command !== "rows") return [{ ...got, bytes: NOTHING, text }, []];

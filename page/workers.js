@@ -10,11 +10,14 @@
  * A run that is asked for: a command of the program, or `rows` or `messages`, which gives a table.
  * @typedef {{ command: string, options: import("./host.js").Options, inputs: Uint8Array[] }} Asked
  */
-/** @typedef {{ it: Worker, busy: number, isLarge: boolean }} Hand */
+/** @typedef {{ it: Worker, busy: number, isLarge: boolean, began: boolean }} Hand */
 
 /** @type {Hand[]} */
 const hands = [];
-/** @type {Map<number, [(value: any) => void, (fault: Error) => void]>} */
+/**
+ * What is asked, by numbers: of which worker, and who waits for what comes of it.
+ * @type {Map<number, { hand: Hand, done: (value: any) => void, fail: (fault: Error) => void }>}
+ */
 const asked = new Map();
 /** @type {(() => void)[]} */
 const queue = [];
@@ -33,17 +36,19 @@ export const aMoment = () => new Promise(done => setTimeout(done));
 /** Adds a worker, which loads the module. */
 function addWorker() {
   const url = URL.createObjectURL(new Blob([made.script], { type: "text/javascript" }));
-  const hand = { it: new Worker(url), busy: 1, isLarge: false };
+  const hand = { it: new Worker(url), busy: 1, isLarge: false, began: false };
   hand.it.onmessage = ({ data: [id, value, fault] }) => {
-    const [done, fail] = asked.get(id) || [() => {}, () => {}];
+    const who = asked.get(id);
     asked.delete(id);
     hand.busy--;
-    if (fault) fail(new Error(fault));
-    else done(value);
+    if (!hand.began) URL.revokeObjectURL(url);
+    hand.began = true;
+    if (fault) who?.fail(new Error(fault));
+    else who?.done(value);
     if (hand.isLarge) replace(hand);
     else queue.shift()?.();
   };
-  hand.it.onerror = event => made.onStop(event.message);
+  hand.it.onerror = ({ message }) => stopped(hand, `a worker stopped: ${message}`);
   hands.push(hand);
   return ask(hand, "load", made.module);
 }
@@ -54,6 +59,21 @@ function replace(hand) {
   addWorker().catch(fault => made.onStop(fault.message));
 }
 /**
+ * A worker answers no more: nobody waits for it, and another one takes its place.
+ * @param {Hand} hand
+ * @param {string} why
+ */
+function stopped(hand, why) {
+  const own = [...asked].filter(([, it]) => it.hand === hand);
+  for (const [id, { fail }] of own) {
+    asked.delete(id);
+    fail(new Error(why));
+  }
+  // one that can't even begin isn't made again and again
+  if (hand.began) replace(hand);
+  else made.onStop(why);
+}
+/**
  * Asks a worker, which is busy already.
  * @param {Hand} hand
  * @param {string} what
@@ -62,7 +82,7 @@ function replace(hand) {
  */
 function ask(hand, what, given, buffers = []) {
   return new Promise((done, fail) => {
-    asked.set(++last, [done, fail]);
+    asked.set(++last, { hand, done, fail });
     hand.it.postMessage([last, what, given], buffers);
   });
 }

@@ -46,7 +46,9 @@ function saidOf(command, it, names) {
 }
 
 function compare(command, options, inputs) {
-  const wanted = byProgram(command, options, inputs), got = run(code, command, options, inputs);
+  // what is let go of isn't read again, also where a run wants more room
+  const wanted = byProgram(command, options, inputs), letGo = it => it.fill(0);
+  const got = run(code, command, options, inputs.map(it => Uint8Array.from(it)), letGo);
   const said = wanted.status === 2 ? null : wanted.said;
   runs++;
   if (wanted.status !== got.status || Buffer.compare(wanted.bytes, Buffer.from(got.bytes)) !== 0
@@ -73,6 +75,9 @@ function tryFiles(texts) {
   for (const command of COMMANDS) compare(command, optionsOf(command, 30), [book]);
   for (const gap of [30, 60]) compare("merge", gap, [book, ...texts]);
   for (const gap of [5, 60]) compare("widen", gap, [book]);
+  // a capture becomes more than the room that a run begins with
+  const kiss = byProgram("convert kiss", 30, [texts[0]]).bytes;
+  compare("convert capture", CAPTURE, [Buffer.concat(Array(400).fill(kiss))]);
   for (const options of [["", CAPTURE[1]], ["RX 1", CAPTURE[1]], ["RX1", "today"]])
     compare("convert capture", options, [texts[0]]);
 }

@@ -330,6 +330,43 @@ def test_messages(page, folder):
     is_(page.problems(), [])
 
 
+def test_links(page, folder):
+    """The news lead to what they tell of, out of the map too; the address keeps what was chosen."""
+    said = message("Q1A", "Q1B", "hi", "unanswered", 2, id=2)
+    page.open(page_of(folder / "links.html", place(0, "Q1A", 54.5, -3.5), said) + "#time=local",
+              700, 500)
+    page.js("(fill.click(), document.querySelector('#news a[href=\"#said\"]').click(), 1)")
+    is_(page.js("[location.hash, document.body.classList.contains('full'), "
+                "document.activeElement.id, Math.round(said.getBoundingClientRect().y)]"),
+        ["#time=local", False, "said", 0])
+    page.key("Tab", 9)
+    assert page.js("said.contains(document.activeElement)")
+
+
+def test_rest(page, folder):
+    """Rows that aren't printed are said."""
+    said = "".join(message("Q1A", "Q1B", f"no. {k}", "unanswered", k / 60, id=k)
+                   for k in range(5004))
+    page.open(page_of(folder / "rest.html", place(0, "Q1A", 54.5, -3.5), said))
+    rest = texts % "#messages-box .rest, #things-box .rest"
+    is_(page.js(rest), ["", ""])
+    page.js("dispatchEvent(new Event('beforeprint'))")
+    is_(page.js(f"[{rest}, document.querySelectorAll('#messages tbody tr').length]"),
+        [["and 4 more", ""], 5000])
+    page.js("dispatchEvent(new Event('afterprint'))")
+
+
+def test_long_texts(page, folder):
+    """A message of octets that are no letters doesn't push others out of sight."""
+    said = (message("Q1A", "Q1B", "\\x00" * 67, "unanswered", 1, id=1) +
+            message("Q1A", "Q1B", "hi", "unanswered", 2, id=2))
+    page.open(page_of(folder / "long.html", place(0, "Q1A", 54.5, -3.5), said), 700, 900)
+    high = page.js("[...document.querySelectorAll('#messages .text')].map(it => "
+                   "[it.title.length, it.getBoundingClientRect().height])")
+    is_([it[0] for it in high], [2, 4 * 67])
+    assert high[1][1] < 170, high
+
+
 def test_world(page, folder):
     """Over the date line and round the pole: short tracks, and no place off the earth."""
     ferry = "".join(place(k, "Q1FERRY", -17.5, (179.95 + k / 100 + 180) % 360 - 180)
@@ -424,6 +461,12 @@ def test_needs(page, folder):
     page.js("aprsbook.show({ ...aprsbook.page.data, rows: aprsbook.page.data.rows + "
             f"{json.dumps(row('mic-e', 11, 'Q1MIC-7', says='emergency', **where))} }})")
     page.wait("window.rung === 2")
+    # a screen reader hears of the new one alone, and the same need in other words is none
+    is_(page.js("(it => [it.getAttribute('role'), it.textContent])"
+                "(document.getElementById('needs'))"), ["alert", "EMERGENCY: Q1MIC-7, 00:11:00"])
+    page.js("local.click()")
+    page.js("local.click()")
+    is_(page.js("window.rung"), 2)
     # they stay in sight where the map fills the window
     page.js("fill.click()")
     is_(page.js("(() => { const { x, y } = document.querySelector('#news > .alarm')"
@@ -436,6 +479,19 @@ def test_needs(page, folder):
         ["station Q1MIC-7", False])
     page.js(PICK % "Q1ODD")
     assert "1 other (beacon)" in page.js("document.getElementById('one-about').textContent")
+    is_(page.problems(), [])
+
+
+def test_mute(page, folder):
+    """A page that was loaded again says that its sound isn't heard, until somebody clicks in it."""
+    url = page_of(folder / "mute.html", place(0, "Q1A", 54.5, -3.5))
+    page.open(url)
+    is_(page.js("mute.textContent"), "")
+    page.open(url + "#sound=on")
+    assert "not heard before you click" in page.js("mute.textContent")
+    for kind in "mousePressed", "mouseReleased":
+        page.call("Input.dispatchMouseEvent", type=kind, x=5, y=5, button="left", clickCount=1)
+    page.wait("mute.textContent === ''")
     is_(page.problems(), [])
 
 
@@ -714,6 +770,36 @@ def test_live(page, folder):
     time.sleep(2.5)
     page.js("1")
     is_(loads(), 0)
+    is_(page.problems(), [])
+
+
+def test_asleep(page, folder):
+    """A page that goes on and wakes: receivers and expected stations are silent too, and it says
+    how old it is, not that nothing was heard."""
+    rows = place(0, "Q1A", 54.5, -3.5, receivers="RX1") + place(9, "Q1B", 54.6, -3.5,
+                                                                receivers="RX2")
+    page.open(page_of(folder / "asleep.html", rows, live=60, roster="Q1A\nQ1B\n") + "#live=off")
+    at = lambda minute: page.js(f"(Date.now = () => Date.parse({moment(minute)!r}), "
+                                "aprsbook.tick(), 1)")
+    silent = ("['receivers', 'roster', 'things'].map(it => document.querySelectorAll("
+              "`#${it}-box tr.silent`).length)")
+    at(10)
+    page.js("(aprsbook.alive.answered = Date.now(), 1)")
+    at(11)
+    is_(page.js(f"[{silent}, stale.textContent]"), [[0, 0, 0], ""])
+    at(31)
+    is_(page.js(silent), [1, 1, 1])
+    at(70)
+    is_(page.js(f"[{silent}, stale.textContent]"),
+        [[2, 2, 2], "this was loaded 60 min ago, at 2024-06-21 00:10:00 UTC"])
+    # what is said already isn't said each second again
+    is_(page.js("(async () => { let told = 0; const watch = { childList: true, subtree: true }; "
+                "new MutationObserver(() => told++).observe(stale, watch); "
+                "aprsbook.tick(); aprsbook.tick(); await 0; return told })()"), 0)
+    # a clock that is behind counts no ages below nothing without a word
+    at(-60)
+    is_(page.js("document.querySelector('#things .age').textContent"), "\u221260 min")
+    assert "dated 69 min after now" in page.js("stale.textContent"), page.js("stale.textContent")
     is_(page.problems(), [])
 
 

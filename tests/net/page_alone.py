@@ -6,6 +6,7 @@ usage: page_alone.py [PICTURES]    needs Python 3, and chromium or firefox; PICT
                                    pictures
 """
 import contextlib
+import gzip
 import http.server
 import json
 import pathlib
@@ -118,6 +119,11 @@ def test_strangers(page, folder):
     is_(page.js("aprsfiles.files.map(it => [it.name, it.bytes.length]).sort()")[1:],
         [["photo.log", 0], ["words.log", 0], ["zeros.log", 0]])
     is_(len(page.js("aprsbook.page.data.notes")), 3)
+    # a folder of them doesn't fill the page
+    give(page, folder, {f"{k}.png": "%PDF-1.7" for k in range(9)})
+    page.wait("aprsbook.page.data.notes.length === 12")
+    is_(page.js("[...document.querySelectorAll('#news span')].map(it => it.textContent)")[5:],
+        ["and 7 more"])
 
 
 def test_windows(page, folder):
@@ -333,6 +339,10 @@ def test_edge(page, folder):
         page.settle()
         before = page.js(sizes)
         is_(before[2:], [back == 0, back == 1])
+        said = page.js("['orientation', 'valuemin', 'valuenow', 'valuemax'].map(it => "
+                       "document.getElementById('edge').getAttribute('aria-' + it))")
+        is_(said[0], "horizontal" if back else "vertical")
+        assert int(said[1]) <= int(said[2]) <= int(said[3]), said
         page.js(f"{key}('{turned}')")
         page.settle()
         after = page.js(sizes)
@@ -365,6 +375,92 @@ def test_turns(page, folder):
     time.sleep(1.5)
     is_(page.js("document.getElementById('progress').hidden"), True)
     assert "merging" not in page.js("document.getElementById('status').textContent")
+
+
+def test_twice(page, folder):
+    """A log that is dropped twice stands there once; another one of its name stands beside it."""
+    (folder / "day").mkdir()
+    for name, text in {"a.log": log(3), "day/a.log": log(4), "b.png": "%PDF-1.7"}.items():
+        (folder / name).write_text(text)
+    fresh(page, folder)
+    for _ in range(2):
+        page.js("(document.getElementById('status').textContent = '', 1)")
+        page.give("#choose", folder / "a.log", folder / "a.log", folder / "day/a.log",
+                  folder / "b.png")
+        page.wait("document.getElementById('status').textContent.includes(' of 2 files, ')")
+        is_(page.js(f"[{ROWS}, aprsfiles.files.length]"), [4, 3])
+
+
+def test_taken(page, folder):
+    """A file that is taken away just before its book is drawn isn't drawn."""
+    fresh(page, folder)
+    (folder / "a.log").write_text(log(3))
+    # the last moment before it is drawn
+    page.js("(new MutationObserver(() => { "
+            "if (document.getElementById('status').textContent.startsWith('drawing')) "
+            "document.querySelector('#files td button').click() "
+            "}).observe(document.getElementById('status'), { childList: true }), 1)")
+    page.give("#choose", folder / "a.log")
+    page.wait("document.getElementById('files-box').hidden === false || !aprsfiles.files.length")
+    page.wait("!aprsfiles.files.length && document.getElementById('progress').hidden")
+    time.sleep(0.5)
+    is_(page.js(f"[{ROWS}, aprsfiles.made(), document.getElementById('net').hidden]"),
+        [0, None, True])
+    is_(page.problems(), [])
+
+
+def test_huge(page, folder):
+    """What is larger than an input may be isn't read, packed or not."""
+    fresh(page, folder)
+    for name in ("huge.log", "huge.log.gz"):
+        (folder / name).write_bytes(log(1000).encode())
+    packed = gzip.compress(log(1000).encode() + bytes(1 << 24))
+    (folder / "huge.log.gz").write_bytes(packed)
+    with open(folder / "huge.log", "r+b") as huge:
+        huge.truncate((1 << 30) + 1)
+    page.js("(window.read = [], Blob.prototype.arrayBuffer = (own => function () { "
+            "read.push(this.size); return own.call(this) })(Blob.prototype.arrayBuffer), 1)")
+    page.give("#choose", folder / "huge.log", folder / "huge.log.gz")
+    page.wait("aprsfiles.files.length === 2", 30)
+    told = page.js(TOLD)
+    is_(told["huge.log"], "can't be read: it has more than 1 GiB")
+    # zeros after a log are a damaged line of it
+    assert told["huge.log.gz"].startswith("line 1001: "), told
+    assert max(page.js("read")) <= 65536, page.js("read")
+
+
+def test_fault(page, folder):
+    """A fault that nobody thought of is said, and nothing waits for ever."""
+    fresh(page, folder)
+    page.js("(aprsbook.page.map.tiles.take = () => { throw new Error('no room') }, 1)")
+    page.js("aprsfiles.add([Object.defineProperty(new File(['x'], '1.png'), 'way', "
+            "{ value: '3/1/1.png' })])")
+    is_(page.js("[document.getElementById('status').textContent.endsWith('no room'), "
+                "document.getElementById('progress').hidden]"), [True, True])
+
+
+def test_stopped(page, folder):
+    """A worker that stops takes its own file along alone, and another one takes its place."""
+    fresh(page, folder)
+    for turn in range(4):
+        give(page, folder, {f"bad{turn}.log": place(0, "Q1A", 30, "CRASH")})
+        page.wait(f"aprsfiles.files.length === {turn + 1}")
+        assert "a worker stopped: " in page.js(TOLD)[f"bad{turn}.log"], page.js(TOLD)
+    give(page, folder, {"good.log": log(3)})
+    page.wait(f"{MADE} && {ROWS} === 3")
+
+
+def test_skipped(page, folder):
+    """By keys one is past many files at once."""
+    fresh(page, folder)
+    give(page, folder, {f"{k:02}.log": log(1, f"RX{k}") for k in range(30)})
+    page.wait(MADE)
+    page.js("document.getElementById('adds').querySelector('summary').focus()")
+    page.key("Tab", 9)
+    is_(page.js("document.activeElement.textContent"), "past the files, to the map")
+    page.js("document.activeElement.click()")
+    page.key("Tab", 9)
+    is_(page.js("document.activeElement.id"), "in")
 
 
 def test_brought(page, folder):
@@ -596,12 +692,15 @@ def test_followed(page, folder):
     names = ["a.log", "b.log", "c.log", "d.log"]
     for k, name in enumerate(names):
         (folder / name).write_text(log(5 + k, f"RX{k}"))
-    (folder / "logs.txt").write_text("\n".join(names))
+    # what is none of this server takes no other log along, and a log that stands there twice is one
+    (folder / "logs.txt").write_text("\n".join(["// the hill", "http://[", *names, names[0]]))
     fresh(page, folder, f"http://127.0.0.1:{server.server_port}/page.html")
     page.js("(aprsfiles.pace.limit = 2000, 1)")
     page.js("(() => { const it = document.getElementById('follow'); it.value = 'logs.txt'; "
             "it.dispatchEvent(new Event('change')) })()")
     follow_until(page, f"{MADE} && {ROWS} === 8")
+    is_(page.js("[aprsfiles.files.length, stale.textContent.split(';')[0]]"),
+        [4, "logs.txt: no log of this server: // the hill"])
     hang.add("a.log")
     fail["b.log"] = 500
     # a bad line amid good ones, of a log that grows

@@ -84,6 +84,11 @@ function run(module, command, options, inputs) {
   // as slow as a test wants it, by a line of a log
   const slow = Math.max(0, ...all.map(it => Number(/ SLOW(\d+) /.exec(it)?.[1] || 0)));
   for (const until = Date.now() + slow; command === "merge" && Date.now() < until;);
+  // a worker that stops, and doesn't answer any more
+  if (all.some(it => it.includes(" CRASH "))) {
+    globalThis.postMessage = () => {};
+    setTimeout(() => { throw new Error("no more"); });
+  }
   const lines = [...new Set(all)].sort(), rows = rowsOf(lines);
   const texts = { check: `heard ${all.length} passed 0\n`,
     merge: `APRSBOOK stand-in\n${lines.map(it => it + "\n").join("")}END ${rows.length}\n`,

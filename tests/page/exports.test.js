@@ -15,6 +15,11 @@ test("places: a row for each, with what the table says, and no formula", () => {
       "376.1232,'=1+1",
     `station,Q1C,live,${moment(1)},${moment(1)},RX1,Q1C,1,2,c,/>,,,,-1.5`, ""]);
 });
+test("no text is a formula after blanks or in wide letters either", () => {
+  for (const text of ["\uff1d1", "\u3000=1", "\u00a0+1", "\uff20A"])
+    assert.ok(savedText("messages (CSV)", netOfLines([], [message("Q1A", "Q1B", text, "x", 0)]))
+      .includes(`,'${text},`), text);
+});
 test("messages: in the table's states, bulletins too", () => {
   const net = netOfLines([], [message("Q1A", "Q1B", "hi", "acknowledged", 5, { id: "7" }),
     message("Q1A", "BLN1", "' =2", "unnumbered", 4),
@@ -28,6 +33,11 @@ test("a track over the date line is cut there", () => {
   const geojson = savedText("places and tracks (GeoJSON)", net);
   assert.deepEqual(JSON.parse(geojson).features.at(-1).geometry.coordinates,
     [[[179.5, 0], [180, 0]], [[-180, 0], [-179.5, 0]]]);
+});
+test("GPX has no longitude of 180, which its schema refuses", () => {
+  const net = netOfLines([place(0, "Q1A", 0, 180), place(9, "Q1A", 0, -180)]);
+  const gpx = savedText("places and tracks (GPX)", net, { title: "x" });
+  assert.deepEqual(new Set(gpx.match(/lon="[^"]*"/g)), new Set(['lon="-180.0000000"']));
 });
 test("GeoJSON is one collection, of nothing too", () => {
   for (const lines of [[], [place(0, "Q1A", 1, 2)]]) {

@@ -77,6 +77,11 @@ test("a net that gets another title takes its lines along, but not into another 
   // what was dropped here comes along all the same
   assert.deepEqual(textsOf(lines), ["a", "b"]);
 });
+test("a page may bring very many lines", () => {
+  const lines = opened(new Store()), many = Array.from({ length: 200000 }, (_, k) => own(k, "a"));
+  assert.equal(lines.bring(many), true);
+  assert.equal(lines.lines.length, many.length);
+});
 test("two windows of one net lose nothing of each other", () => {
   const store = new Store(), one = opened(store), two = opened(store);
   one.add(own(1, "a"));
@@ -103,6 +108,9 @@ test("without a store, with a full or a damaged one, lines stay in the page", ()
     assert.deepEqual(textsOf(opened(store)), ["a"]);
   }
   assert.deepEqual(linesIn([own(1, "x".repeat(2001)), own(2, "b", { more: 1 })]), [own(2, "b")]);
+  // a moment that no date has would stop the whole form
+  for (const at of [1e300, -8.7e12, NaN, "1", null])
+    assert.deepEqual(linesIn([own(0, "a", { at }), own(2, "b")]), [own(2, "b")]);
 });
 test("a field for date and time gives back its moment", () => {
   assert.equal(fieldOf(AT), "2024-06-21T18:00:00");

@@ -1,10 +1,11 @@
 import assert from "node:assert/strict";
 import { test } from "node:test";
+import { runInThisContext } from "node:vm";
 import { damagedLines, kindOf, READ, spelled, without } from "../../page/kinds.js";
 import { movedIn, shifted } from "../../page/shift.js";
 
 const bytesOf = text => Uint8Array.from(text, it => it.charCodeAt(0));
-const textOf = bytes => String.fromCharCode(...bytes);
+const textOf = bytes => new TextDecoder("latin1").decode(bytes);
 const LINE = "2024-06-21T18:00:00Z RX1 c000aac0\n";
 
 test("what is nothing of a net is named as what it is", () => {
@@ -22,6 +23,15 @@ test("books, captures, maps, rosters and logs are known", () => {
     ["\xef\xbb\xbfcall,name\n", "x.csv", "roster"], ["# a\nQ1A-* x\n", "x.txt", "roster"],
     [LINE, "x.txt", "log"], ["", "x.log", "log"], ["Q1A x", "x.log", "log"]];
   for (const [text, name, kind] of cases) assert.equal(kindOf(bytesOf(text), name), kind, text);
+});
+test("what a file is takes no time that grows with blank lines or comments", () => {
+  const cases = [["\n", "!", "x.txt", "log"], ["\n", "Q1A x", "x.txt", "roster"],
+    ["# a\n\n", "!", "x.csv", "log"], ["<!---->", "<svg>", "x", "a picture"],
+    ["<!---->", "!", "x", "log"], ["<?xml ?>", "<!-- -->", "x", "XML"]];
+  for (const [part, end, name, kind] of cases) {
+    globalThis.asked = () => kindOf(bytesOf(part.repeat(200) + end), name);
+    assert.equal(runInThisContext("asked()", { timeout: 3000 }), kind, part + end);
+  }
 });
 test("Windows' spellings are read and named", () => {
   const windows = LINE.replace("\n", "\r\n").repeat(2), plain = LINE.repeat(2);
@@ -51,6 +61,21 @@ test("all lines that are refused are found, and the rest is left", async () => {
   assert.equal(textOf(without(bytes, [])), "a\nx1\nb\nx2\nx3\nc\n");
   assert.equal(await damagedLines(bytesOf("x\n".repeat(200)), check), null);
   assert.equal(await damagedLines(bytes, async () => ({ line: 1, why: "Memory" })), null);
+});
+test("many damaged lines of a large log are found, and little of it is checked again", async () => {
+  const text = Array.from({ length: 200000 }, (_, k) => k % 500 === 7 ? "x" : "good").join("\n");
+  const bytes = bytesOf(text + "\n"), lines = text.split("\n");
+  let checked = 0;
+  const damage = await damagedLines(bytes, async piece => {
+    checked += piece.length;
+    return check(piece);
+  }, 1000);
+  assert.equal(damage.length, 400);
+  assert.ok(damage.every(it => lines[it.line - 1] === "x" &&
+    textOf(bytes.subarray(it.begin, it.end)) === "x\n"));
+  assert.ok(checked < 30 * bytes.length, String(checked / bytes.length));
+  assert.equal(await damagedLines(bytes, check, 399), null);
+  assert.equal(textOf(without(bytes.subarray(0, 40), damage.slice(0, 1))).includes("x"), false);
 });
 
 test("the moments of one receiver are moved, in each spelling and over midnight", () => {

@@ -6,7 +6,7 @@ import { capOf, distance, locatorOf, Projection, vectorOf } from "../../page/glo
 import { rangeOf } from "../../page/grid.js";
 import { zoomOf } from "../../page/hands.js";
 import { crossings, ringsOf } from "../../page/land.js";
-import { Room, Sides } from "../../page/sides.js";
+import { nameOnMap, Room, Sides } from "../../page/sides.js";
 import { squareOf } from "../../page/tiles.js";
 
 const line = spots => Float64Array.from(spots.flatMap(([north, east]) => vectorOf(north, east)));
@@ -82,4 +82,14 @@ test("locators of known places", () => {
   // Munich and Newington (both of the literature on Maidenhead locators)
   assert.equal(locatorOf(48.14666, 11.60833), "JN58td");
   assert.equal(locatorOf(41.714775, -72.727260), "FN31pr");
+});
+test("a long name is short on the map, and has its call", () => {
+  assert.equal(nameOnMap("Leader (Q1RUN-7)"), "Leader (Q1RUN-7)");
+  assert.equal(nameOnMap("x".repeat(26)), "x".repeat(26));
+  assert.equal(nameOnMap("Tactical name of forty letters, number 7 (Q1RUN-7)"),
+    "Tactical nam\u2026 (Q1RUN-7)");
+  assert.equal(nameOnMap("\\x00".repeat(9)), "\\x00".repeat(6) + "\\\u2026");
+  // no letter is cut in two
+  const face = "\u{1f600}";
+  assert.equal(nameOnMap(face.repeat(20) + " (Q1A)"), face.repeat(12) + "\u2026 (Q1A)");
 });

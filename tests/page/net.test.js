@@ -3,6 +3,7 @@ import { test } from "node:test";
 import { needsOf, newsOf } from "../../page/news.js";
 import { know } from "../../page/roster.js";
 import { Alarm } from "../../page/sound.js";
+import { clocks } from "../../page/words.js";
 import { message, netOfLines, place, row, thing } from "./tables.js";
 
 const OF = { gap: 30, silent: 30, isSilent: () => false, missing: [], expected: 0 };
@@ -19,6 +20,13 @@ test("who is in need comes first of all news, an emergency before priority", () 
   assert.equal(news[0].pick, "station Q1B");
 });
 
+test("many in need don't fill the page", () => {
+  const lines = Array.from({ length: 1000 }, (_, k) => micE(k, `Q1N${k}`, "emergency"));
+  const news = newsOf(netOfLines([...lines, micE(0, "Q1A", "priority")]), OF);
+  assert.equal(news[5].text, "EMERGENCY: Q1N994, 18:16:34");
+  assert.deepEqual([news[6].grade, news[6].text, news[7].text],
+    ["alarm", "and 995 more who are or were in need", "0 messages unanswered"]);
+});
 test("an emergency that is over is said, and no longer as one", () => {
   const net = netOfLines([micE(0, "Q1A", "emergency"), micE(9, "Q1A", "in-service")]);
   assert.deepEqual(needsOf(net.things).map(it => [it.grade, it.text]),
@@ -36,15 +44,34 @@ test("rejected messages are counted, and kinds that aren't known", () => {
 
 test("the alarm rings for what is new, and only where it is on", () => {
   let rung = 0;
-  const alarm = new Alarm(() => rung++);
-  alarm.hear(["a"]);
+  const alarm = new Alarm(() => rung++), hear = (...ids) => alarm.hear(ids.map(id => ({ id })));
+  assert.deepEqual(hear("a"), [{ id: "a" }]);
   assert.equal(rung, 0);
   alarm.turn(true);
   assert.equal(rung, 1);
-  alarm.hear(["a"]);
+  assert.deepEqual(hear("a"), []);
   assert.equal(rung, 1);
-  alarm.hear(["a", "b"]);
-  alarm.hear(["a", "b"]);
+  hear("a", "b");
+  hear("a", "b");
+  assert.equal(rung, 2);
+  // another part of the time, and all of it again
+  hear();
+  hear("a", "b");
+  assert.equal(rung, 2);
+});
+test("the alarm rings once for a need, also where it is worded in another way", () => {
+  let rung = 0;
+  const alarm = new Alarm(() => rung++), lines = [micE(0, "Q1A-7", "emergency")];
+  alarm.turn(true, false);
+  const hear = () => alarm.hear(needsOf(netOfLines(lines).things)).map(it => it.text);
+  assert.deepEqual(hear(), ["EMERGENCY: Q1A-7, 18:00:00"]);
+  clocks.dated = "day";
+  know([{ call: "Q1A-*", name: "Leader", group: "", bib: "" }]);
+  assert.deepEqual(hear(), []);
+  clocks.dated = "";
+  know([]);
+  lines.push(micE(60, "Q1A-7", "emergency"));
+  assert.deepEqual(hear(), ["EMERGENCY: Q1A-7, 18:01:00"]);
   assert.equal(rung, 2);
 });
 
@@ -89,4 +116,15 @@ test("weather and telemetry without a place are kept for their station", () => {
     row("telemetry", 1, "Q1W", { a1: 199, bits: "01101001" })]);
   assert.equal(thing(net, "Q1W").lastWeather, 0);
   assert.equal(thing(net, "Q1W").lastTelemetry, 1);
+});
+test("a kill at 0, 0 is a kill, where the thing was", () => {
+  const of = (second, name, state, north, east) => row("object", second, "Q1A", { name, state,
+    latitude: String(north), longitude: String(east), symbol: "/E" });
+  const lines = [of(0, "X", "live", 54, -3), of(9, "X", "killed", 0, 0), of(0, "Y", "killed", 0, 0),
+    of(0, "Z", "live", 5, 6), of(1, "Z", "killed", 0, 0), of(2, "Z", "live", 7, 8)];
+  const net = netOfLines(lines), it = thing(net, "X"), again = thing(net, "Z");
+  assert.deepEqual([it.killed, it.now.state, it.now.north, it.now.east], [true, "killed", 54, -3]);
+  assert.deepEqual([it.unfixed, thing(net, "Y").unfixed, thing(net, "Y").now], [0, 1, null]);
+  assert.equal(it.at(lines.length ? it.first + 1 : 0).state, "live");
+  assert.deepEqual([again.killed, again.places.map(one => one.north)], [false, [5, 5, 7]]);
 });

@@ -1,6 +1,8 @@
 import assert from "node:assert/strict";
 import { test } from "node:test";
-import { expectedOf, joined, Names, readRoster, rosterText } from "../../page/roster.js";
+import {
+  expectedOf, faultWords, joined, Names, readRoster, rosterText,
+} from "../../page/roster.js";
 
 const calls = text => readRoster(text).list.map(it => [it.call, it.name, it.group, it.bib]);
 
@@ -19,6 +21,16 @@ test("what is no call, or stands there twice, is said with its line", () => {
   const { list, faults } = readRoster("Q1A\n\n# no\nTOOLONGCALL x\nQ1A-0 again\nQ1B-16\nQ1B-15\n");
   assert.deepEqual(list.map(it => it.call), ["Q1A", "Q1B-15"]);
   assert.deepEqual(faults.map(it => it.line), [4, 5, 6]);
+});
+test("a list of all calls is read at once, and of many faults a few are said", () => {
+  const call = n => `Q${String.fromCharCode(65 + n % 26)}${Math.floor(n / 26)}`;
+  const begin = performance.now(), many = Array.from({ length: 60000 }, (_, n) => call(n));
+  assert.equal(readRoster(many.join("\n")).list.length, many.length);
+  assert.ok(performance.now() - begin < 3000);
+  const { faults } = readRoster("a-b\n".repeat(9) + "\u202eab x\n");
+  assert.deepEqual(faultWords(faults).slice(4), ["line 5: a-b is no call", "and 5 more"]);
+  assert.deepEqual(faultWords(faults.slice(9)), ["line 10: \\xe2\\x80\\xaeab is no call"]);
+  assert.deepEqual(faultWords([]), []);
 });
 test("a call stands for itself alone, and with -* for each of its SSIDs and none", () => {
   const heard = [{ name: "Q1A-7", kind: "station", last: 5 },

@@ -97,6 +97,10 @@ test("telemetry has the names, units and equations that messages to its station 
   assert.deepEqual(graphsOf(rows, numbers, channels).map(it =>
     [it.title, it.unit, it.lines[0].map(one => Number(one.value.toFixed(6)))]),
   [["Vbat", "V", [12, 11.8]], ["Temp", "C", [123, 443]], ["telemetry 3", "as sent", [3, 4]]]);
+  // no equation fills a line with digits
+  const large = { addressee: "Q1A", text: "EQNS.0,0,1e99", last: 9e9 };
+  const [first] = channelsOf([...net.messages, large], "Q1A");
+  assert.deepEqual([first.of(7), first.unit], [7, "C"]);
   assert.deepEqual(["Battery", "batt", "Bat1 V", "Vbat", "Bath", "combat"].map(name =>
     isBattery({ name, unit: "x", of: Number })), [true, true, true, true, false, false]);
   assert.ok(isBattery({ name: "A1", unit: "mV", of: Number }));

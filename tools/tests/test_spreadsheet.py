@@ -6,12 +6,11 @@ from hypothesis import strategies as st
 from aprsbook_tools.spreadsheet import csv_text, guarded, read_csv, unguarded
 
 TEXTS = st.text(st.characters(blacklist_categories=("Cs",), blacklist_characters="\0\r\n"))
-ODD = st.text("'=+-@ 1.a\t")
+ODD = st.text("'=+-@ 1.a\t\n\u3000\uff1d")
+WIDE = ["\n=1", "\u00a0=1", "\u3000+1+1", "\uff1d1", "\uff0b1", "\uff0d1", "\uff20A"]
 
 
-@pytest.mark.parametrize("text", [
-    "=1+1", "+1+1", "-1+1", "@SUM(1)", "  =1", "'=1", "\t=1", "\uff1d1", "\uff0b1", "\uff0d1",
-    "\uff20x"])
+@pytest.mark.parametrize("text", ["=1+1", "+1+1", "-1+1", "@SUM(1)", "  =1", "'=1", "\t=1", *WIDE])
 def test_a_formula_is_text(text: str) -> None:
     assert guarded(text) == "'" + text
 

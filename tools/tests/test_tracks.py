@@ -53,6 +53,26 @@ def test_csv_has_each_place(programs: Programs) -> None:
     assert [it["ambiguity"] for it in rows[1:4]] == ["0", "2", "c"]
 
 
+def test_a_kill_at_no_fix_lies_where_the_thing_was() -> None:
+    rows = [
+        put("18:00", "Q1NET", "LEADER", 54.5, -3.5),
+        put("18:20", "Q1NET", "LEADER", 0, 0, state="killed"),
+        put("18:10", "Q1NET", "LEADER", 0, 0),
+        put("18:00", "Q1NET", "GONE", 0, 0, state="killed"),
+    ]
+    (thing,) = things_of(rows)
+    assert [(it.state, it.spot) for it in thing.places] == [
+        ("live", (54.5, -3.5)),
+        ("killed", (54.5, -3.5)),
+    ]
+    assert thing.now.is_killed
+
+
+def test_gpx_has_no_longitude_of_180() -> None:
+    text = made("gpx", [place("18:00", "Q1A", 0.5, 180.0), place("18:01", "Q1A", 0.5, -180.0)])
+    assert text.count('lon="-180.0000000"') == text.count("lon=")
+
+
 def test_no_text_is_a_formula(programs: Programs) -> None:
     programs.say(
         *(

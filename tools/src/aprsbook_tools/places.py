@@ -1,11 +1,12 @@
 """Where stations, objects and items were, of the rows of a book."""
-from dataclasses import dataclass
+from dataclasses import dataclass, replace
 from typing import Dict, Iterable, Iterator, List, Sequence, Tuple
 
 from aprsbook_tools.geo import Spot
 from aprsbook_tools.table import Row
 
 KINDS = ("station", "object", "item")
+NO_FIX = Spot(0, 0)
 
 
 @dataclass(frozen=True)
@@ -72,11 +73,15 @@ def heard(place: Place) -> Tuple[str, str]:
 
 def place_of(row: Row) -> "Place | None":
     """The place that a row gives, if it gives one: 0, 0 is what GPS without a fix says."""
+    place = spoken_of(row)
+    return place if place and place.spot != NO_FIX else None
+
+
+def spoken_of(row: Row) -> "Place | None":
+    """The place that stands in a row, 0, 0 too."""
     if row.latitude is None or row.longitude is None:
         return None
     spot = Spot(row.latitude, row.longitude)
-    if spot == (0, 0):
-        return None
     if row.kind in ("object", "item"):
         return Place(row.kind, row.name, spot, row)
     return Place("station", row.source, spot, row)
@@ -93,15 +98,28 @@ def places_of(rows: Iterable[Row]) -> Iterator[Place]:
 def things_of(rows: Iterable[Row]) -> List[Thing]:
     """Stations, then objects, then items, each kind by name, with their places."""
     groups: Dict[Tuple[str, str], List[Place]] = {}
-    for place in places_of(rows):
-        groups.setdefault((place.kind, place.name), []).append(place)
+    for place in filter(None, map(spoken_of, rows)):
+        if place.spot != NO_FIX or place.is_killed:
+            groups.setdefault((place.kind, place.name), []).append(place)
 
     def order(of: Tuple[str, str]) -> Tuple[int, str]:
         return KINDS.index(of[0]), of[1]
 
-    return [Thing(*key, in_time(groups[key])) for key in sorted(groups, key=order)]
+    things = (Thing(*key, settled(in_time(groups[key]))) for key in sorted(groups, key=order))
+    return [it for it in things if it.places]
 
 
 def in_time(places: Sequence[Place]) -> Tuple[Place, ...]:
     """Places by the moment when each was first heard; those of one moment as they stand."""
     return tuple(sorted(places, key=lambda it: it.row.first))
+
+
+def settled(places: Iterable[Place]) -> Tuple[Place, ...]:
+    """These places, each kill at 0, 0 where the thing was: its sender left the place out."""
+    found: List[Place] = []
+    for it in places:
+        if it.spot != NO_FIX:
+            found.append(it)
+        elif found:
+            found.append(replace(it, spot=found[-1].spot))
+    return tuple(found)

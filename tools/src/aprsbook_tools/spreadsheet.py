@@ -1,8 +1,8 @@
 """CSV for a spreadsheet, in which no text off the air is a formula.
 
-A text that begins like a formula, with =, +, - or @, also of full width, after blanks and
-apostrophes, or with a tab or a carriage return, gets an apostrophe before it, unless it is a
-number. Reading takes it away again.
+A text that begins like a formula gets an apostrophe before it, unless it is a number: with =, +, -
+or @ after blanks and apostrophes, wide ones too, or with a tab or an end of a line. Reading takes
+it away again.
 """
 import csv
 import io
@@ -10,7 +10,7 @@ import re
 from typing import Iterable, List, Sequence, Union
 
 Cell = Union[str, int, float, None]
-FORMULA = re.compile("'* *[-=+@\t\r\uff0b\uff0d\uff1d\uff20]")
+FORMULA = re.compile(r"'*[ \u00a0\u3000]*[=+\-@\t\r\n\uff1d\uff0b\uff0d\uff20]")
 QUOTED = re.compile(r'[",\r\n]')
 NUMBER = re.compile(r"-?[0-9]+(\.[0-9]+)?")
 

@@ -98,6 +98,8 @@ def description_of(place: Place) -> str:
 def point_of(tag: str, place: Place, name: str = "", more: str = "") -> str:
     """A point of GPX: a waypoint, or one of a track."""
     north, east = map(degrees, place.spot)
+    # its longitudes end below 180
+    east = east.replace("180.", "-180.") if east.startswith("180.") else east
     height = place.row.altitude_m
     return (
         f'<{tag} lat="{north}" lon="{east}">'

@@ -1,0 +1,62 @@
+import assert from "node:assert/strict";
+import { test } from "node:test";
+import { aheadOf, staleWords } from "../../page/stale.js";
+import { age, clocks, datedBy, timeText, zonesText } from "../../page/words.js";
+
+const AT = Date.UTC(2024, 5, 21, 18) / 1000;
+const words = of => staleWords({ now: AT, end: AT - 5, answered: AT - 9, away: 0, each: 60,
+  ahead: 0, refused: "", ...of });
+
+test("a page that is fresh says nothing, and what isn't heard is said", () => {
+  assert.deepEqual(words({}), []);
+  assert.deepEqual(words({ end: NaN, answered: 0 }), []);
+  assert.deepEqual(words({ end: AT - 660 }), ["nothing was heard for 11 min"]);
+  assert.deepEqual(words({ away: AT - 60, refused: "a.log: 404" }),
+    ["a.log: 404", "the server has been away since 2024-06-21 17:59:00 UTC"]);
+});
+test("a page that slept, or doesn't load again, says so, and not that nothing was heard", () => {
+  const slept = { answered: AT - 3600, end: AT - 3610 };
+  assert.deepEqual(words(slept), ["this was loaded 60 min ago, at 2024-06-21 17:00:00 UTC"]);
+  assert.deepEqual(words({ ...slept, end: AT - 7200 })[1],
+    "nothing was heard for 60 min before that");
+  // three questions may fail
+  assert.deepEqual(words({ each: 600, answered: AT - 1799 }), []);
+  assert.deepEqual(words({ answered: AT - 119, each: 10 }), []);
+});
+test("a wrong clock of this computer is said, and one that may be a receiver's", () => {
+  assert.deepEqual(words({ ahead: 365 * 86400, end: AT - 5 }),
+    ["this computer's clock is 365 d ahead of the server's, and ages are wrong"]);
+  assert.match(words({ ahead: -7200 })[0], /is 2 h behind the server's/);
+  assert.deepEqual(words({ end: AT + 7200 }), ["the last transmission is dated 2 h after now: " +
+    "a receiver's clock or this computer's is wrong"]);
+  assert.deepEqual(words({ ahead: -59, end: AT + 59 }), []);
+});
+test("a clock is compared with the date of an answer, however long it took", () => {
+  const date = new Date(AT * 1000).toUTCString(), ms = AT * 1000;
+  assert.equal(aheadOf(date, ms + 400, ms + 600), 0);
+  assert.equal(aheadOf(date, ms - 5000, ms + 9000), 0);
+  assert.equal(aheadOf(date, ms + 60000, ms + 61000), 60);
+  assert.equal(aheadOf(date, ms - 61000, ms - 60000), -60);
+  assert.deepEqual([aheadOf(null, 0, 1), aheadOf("x", 0, 1)], [0, 0]);
+});
+test("ages have units, what is to come too", () => {
+  assert.deepEqual([0, -0.4, 59, 5399, 5400, 172800, -30, -31536000].map(age),
+    ["0 s", "0 s", "59 s", "89 min", "1 h", "2 d", "\u221230 s", "\u2212365 d"]);
+});
+test("both zones of a night are said in which clocks change, and each day's date", () => {
+  const { TZ } = process.env, change = Date.UTC(2024, 9, 27, 1) / 1000;
+  process.env.TZ = "Europe/Berlin";
+  clocks.local = true;
+  assert.equal(zonesText(change - 7200, change - 1), "UTC+02:00");
+  assert.equal(zonesText(change - 7200, change + 7200), "UTC+02:00 and UTC+01:00");
+  // a year that ends as it begins
+  assert.equal(zonesText(change - 40 * 86400, change + 320 * 86400), "UTC+02:00 and UTC+01:00");
+  clocks.local = false;
+  process.env.TZ = TZ || "";
+  assert.equal(zonesText(change - 7200, change + 7200), "UTC");
+  assert.deepEqual([[AT, AT + 1, Infinity], [AT, AT + 86400], [AT, 0], []].map(datedBy),
+    ["", "day", "year", ""]);
+  // such as of a receiver that began without a clock
+  assert.deepEqual(["", "day", "year"].map(it => timeText(0, it)),
+    ["00:00:00", "1 Jan 00:00:00", "1970-01-01 00:00:00"]);
+});
