@@ -1,7 +1,8 @@
 #!/usr/bin/env python3
 """Merges of logs, and of the book files of their days, by one process, by aprs-net book with one to
 four processors, and by aprs-net cluster with 1, 2 and 4 workers, where Dask is there; and places of
-the logs: seconds, those of processors, and the greatest memory of a process.
+the logs: seconds, those of processors, the greatest memory of a process, and how many bytes all
+processes read and wrote, from files and pipes.
 
 usage: engines.py PROGRAM FOLDER LINES..    needs taskset; the other programs lie beside PROGRAM or
                                             where they are built. The inputs of so many lines stay
@@ -22,9 +23,16 @@ SCHEDULER = "127.0.0.1:8799"
 NAMES = "aprsbook", "aprsbook-table", "aprsbook-fold"
 
 
+def moved_by(process):
+    """How many bytes the process read and wrote, with those that it started and waited for."""
+    lines = pathlib.Path(f"/proc/{process}/io").read_text().splitlines()
+    counts = dict(line.split(": ") for line in lines)
+    return int(counts["rchar"]) + int(counts["wchar"])
+
+
 class Run:
-    """A process: the seconds that it took, those of processors, and MiB of the greatest process
-    that it started."""
+    """A process: the seconds that it took, those of processors, MiB of the greatest process that it
+    started, and the bytes that all of them read and wrote."""
 
     def __init__(self, *command, to=os.devnull):
         self.begin = time.monotonic()
@@ -33,6 +41,8 @@ class Run:
             self.started = subprocess.Popen(list(map(str, command)), stdout=out)
 
     def wait(self, may_fail=False):
+        os.waitid(os.P_PID, self.started.pid, os.WEXITED | os.WNOWAIT)
+        self.moved = moved_by(self.started.pid)
         _, status, used = os.wait4(self.started.pid, 0)
         self.started.returncode = status
         if status and not may_fail:
@@ -43,7 +53,13 @@ class Run:
         return self
 
     def __str__(self):
-        return f"{self.took:.1f} s, {self.used:.1f} of processors, {self.most:.0f} MiB"
+        return said(self.took, [self])
+
+
+def said(took, runs):
+    """So many seconds, and what these runs took together."""
+    return (f"{took:.1f} s, {sum(it.used for it in runs):.1f} of processors, "
+            f"{max(it.most for it in runs):.0f} MiB, {sum(it.moved for it in runs) / 1e9:.2f} GB")
 
 
 def days_of(folder, lines):
@@ -113,10 +129,7 @@ def measure_cluster(folder):
             for it in hosts:
                 it.started.kill()
                 it.wait(may_fail=True)
-            used = sum(it.used for it in [client, *hosts])
-            most = max(it.most for it in [client, *hosts])
-            print(f"    {n} workers: {client.took:.1f} s, {used:.1f} of processors, {most:.0f} MiB",
-                  flush=True)
+            print(f"    {n} workers: {said(client.took, [client, *hosts])}", flush=True)
 
 
 def main():
