@@ -1,9 +1,9 @@
 //! The arguments of `aprsbook-fold`.
-ghost use Rattle.std.specs.Prelude.{◌≡◌, ◌⊎◌, IfNone, IfOk, IfSome, map, false, true};
+ghost use Rattle.std.specs.Prelude.{◌≡◌, ◌⊎◌, IfErr, IfNone, IfOk, IfSome, Some, map, false, true};
 ghost use Rattle.clap.specs.Words.{app_of, first_of, found_of, is_simple_and_free, kind_of, rows_of, rule_of};
 ghost use Rattle.clap.specs.declared.error.Error.{Error};
 ghost use Rattle.clap.specs.declared.error.kind.ErrorKind.TheVariants.{ValueValidation};
-ghost use Rattle.aprs_command.specs.Arguments.{inputs_rule};
+ghost use Rattle.aprs_command.specs.Arguments.{chosen_gap, inputs_rule};
 ghost use Rattle.aprs_command.specs.Fold as Spec;
 
 use crate::arguments::{gap_arg, option_arg, read_given_inputs, read_matches_and_gap, text_at};
@@ -45,19 +45,36 @@ pub fn fold_job(alloc: Global, arguments: &[&str]) -> Result<FoldJob, JobFault>
 {
     let mut command = fold_command(alloc)?;
     let (matches, gap) = read_matches_and_gap(&mut command, arguments)?;
-    let Some(from) = read_source(&matches, "from") else {
-        return Err(source_fault(&mut command, help::NO_FROM));
+    read_fold(alloc, &mut command, &matches, gap)
+}
+
+/// The job that these matches ask for, of this gap. Where a source is no callsign, the fault of the
+/// command for it; `Memory` where an allocation failed.
+fn read_fold(
+    alloc: Global,
+    command: &mut Command<'_>,
+    matches: &ArgMatches<'_>,
+    gap: Gap,
+) -> Result<FoldJob, JobFault>
+    ensures job { IfOk result (λ j. chosen_gap (rows_of (found_of matches.now)) ≡ Some gap
+        → Spec.IsFoldJobOf (rows_of (found_of matches.now)) j) }
+    ensures refused { IfErr result (λ f. (f ≡ JobFault.Memory)
+        ⊎ (Spec.HasBadSource (rows_of (found_of matches.now)) × ((error : Error)
+        × (kind_of error ≡ ValueValidation) × (f ≡ JobFault.Clap error)))) }
+{
+    let Some(from) = read_source(matches, "from") else {
+        return Err(source_fault(command, help::NO_FROM));
     };
-    let Some(until) = read_source(&matches, "until") else {
-        return Err(source_fault(&mut command, help::NO_UNTIL));
+    let Some(until) = read_source(matches, "until") else {
+        return Err(source_fault(command, help::NO_UNTIL));
     };
-    let inputs = read_given_inputs(alloc, &matches)?;
+    let inputs = read_given_inputs(alloc, matches)?;
     Ok(FoldJob {
         gap,
         from,
         until,
         inputs,
-        is_check: is_check_asked(&matches),
+        is_check: is_check_asked(matches),
     })
 }
 

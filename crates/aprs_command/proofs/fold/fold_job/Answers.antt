@@ -1,9 +1,10 @@
 use Rattle.aprs_command.proofs.Common.{◌≡◌, ◌∙◌, ℕ, List, map, ap, rules, sym, subst, inl, inr, Bor, App, Row, err_from_is_err_and, fault_of, kind_of, matches_of}
-use Rattle.std.specs.Prelude.{◌⊎◌}
+use Rattle.std.specs.Prelude.{◌⊎◌, [], Err, IfErr, IfOk, Ok, Result, Some}
 use Rattle.clap.specs.declared.error.Error.{Error}
 use Rattle.clap.specs.declared.error.kind.ErrorKind.TheVariants.{ValueValidation}
 use Rattle.aprs_command.specs.Arguments.{FailsGathering, RefusesSo, chosen_gap}
-use Rattle.aprs_command.specs.Fold.{FailsFold, fold_app, HasBadSource, IsFoldJobOf, RefusesFold}
+use Rattle.aprs_command.specs.Fold.{FailsFold, fold_app, AnswersFold, HasBadSource, IsFoldJobOf, JudgesFold, RefusesFold}
+use Rattle.aprs_command.specs.declared.fold.FoldJob.{FoldJob}
 use Rattle.aprs_command.specs.declared.jobs.JobFault.{JobFault}
 use Rattle.aprs_command.specs.declared.jobs.JobFault.TheVariants as fault
 use Rattle.aprs_command.proofs.fold.fold_job.Goals as goal
@@ -35,79 +36,57 @@ returns-in_err-matches-clause-judged c =
     c.from_residual-in_err-matches.ensures.1 in
     rw (p.1, p.2) (refused_so arguments _ (rw c.in_ok-command.ensures at c.in_err-matches.ensures.judged))
 
--- a source is no callsign
-module _ (arguments : List (List ℕ)) (f : JobFault)
-    (made : (f ≡ fault.Memory) ⊎ ((error : Error) × (kind_of error ≡ ValueValidation)
-    × (f ≡ fault.Clap error))) (bad : HasBadSource (matches_of fold_app arguments)) where
-  fails_at : FailsFold arguments f
-  fails_at = elim made [
-    | inl h ↦ subst (FailsFold arguments) (sym h) tt
-    | inr h ↦ subst (FailsFold arguments) (sym h.2) (inr bad)
+-- what is read of the matches of the command, where they have this gap
+module _ (arguments : List (List ℕ)) (rows : List Row)
+    (are : rows ≡ matches_of fold_app arguments) where
+  abbrev IsSourceFault : JobFault → Type 0
+  IsSourceFault f = (f ≡ fault.Memory) ⊎ (HasBadSource rows × ((error : Error)
+      × (kind_of error ≡ ValueValidation) × (f ≡ fault.Clap error)))
+
+  fails_at : (f : JobFault) → IsSourceFault f → FailsFold arguments f
+  fails_at f h = elim h [
+    | inl m ↦ subst (FailsFold arguments) (sym m) tt
+    | inr b ↦ subst (FailsFold arguments) (sym b.1.2) (inr (subst HasBadSource are b.0))
   ]
 
-  refuses_at : RefusesFold arguments f
-  refuses_at = elim made [
-    | inl h ↦ subst (RefusesFold arguments) (sym h) tt
-    | inr h ↦ subst (RefusesFold arguments) (sym h.2) (inr (h.1, bad))
+  refuses_at : (f : JobFault) → IsSourceFault f → RefusesFold arguments f
+  refuses_at f h = elim h [
+    | inl m ↦ subst (RefusesFold arguments) (sym m) tt
+    | inr b ↦ subst (RefusesFold arguments) (sym b.1.2) (inr (b.1.1, subst HasBadSource are b.0))
   ]
 
-pub returns-in_default-clause-asked : goal.returns-in_default-clause-asked
-returns-in_default-clause-asked c =
-    let arguments = map (λ (w : Bor (List ℕ)). w.now) c.args.arguments.now in
-    let rows = c.in_ok-matches.ensures.matches
-    ∙ ap (λ (a : App). matches_of a arguments) c.in_ok-command.ensures in
-    fails_at arguments c.source_fault.result c.source_fault.ensures
-    (subst (λ (l : List Row). HasBadSource l) rows (inl c.in_default.ensures.refused))
+  answers : (r : Result FoldJob JobFault) → IfOk r (IsFoldJobOf rows) → IfErr r IsSourceFault
+      → AnswersFold arguments r
+  answers (Ok j) job refused = subst (λ (l : List Row). IsFoldJobOf l j) are job
+  answers (Err f) job refused = fails_at f refused
 
-pub returns-in_default-clause-judged : goal.returns-in_default-clause-judged
-returns-in_default-clause-judged c =
-    let arguments = map (λ (w : Bor (List ℕ)). w.now) c.args.arguments.now in
-    let rows = c.in_ok-matches.ensures.matches
-    ∙ ap (λ (a : App). matches_of a arguments) c.in_ok-command.ensures in
-    refuses_at arguments c.source_fault.result c.source_fault.ensures
-    (subst (λ (l : List Row). HasBadSource l) rows (inl c.in_default.ensures.refused))
+  judges : (r : Result FoldJob JobFault) → fault_of fold_app arguments ≡ []
+      → IfErr r IsSourceFault → JudgesFold arguments r
+  judges (Ok j) none refused = none
+  judges (Err f) none refused = refuses_at f refused
 
-pub returns-in_default-read_source-clause-asked : goal.returns-in_default-read_source-clause-asked
-returns-in_default-read_source-clause-asked c =
-    let arguments = map (λ (w : Bor (List ℕ)). w.now) c.args.arguments.now in
-    let rows = c.in_ok-matches.ensures.matches
-    ∙ ap (λ (a : App). matches_of a arguments) c.in_ok-command.ensures in
-    fails_at arguments c.source_fault-in_default-read_source.result
-    c.source_fault-in_default-read_source.ensures
-    (subst (λ (l : List Row). HasBadSource l) rows (inr c.in_default-read_source.ensures.refused))
-
-pub returns-in_default-read_source-clause-judged : goal.returns-in_default-read_source-clause-judged
-returns-in_default-read_source-clause-judged c =
-    let arguments = map (λ (w : Bor (List ℕ)). w.now) c.args.arguments.now in
-    let rows = c.in_ok-matches.ensures.matches
-    ∙ ap (λ (a : App). matches_of a arguments) c.in_ok-command.ensures in
-    refuses_at arguments c.source_fault-in_default-read_source.result
-    c.source_fault-in_default-read_source.ensures
-    (subst (λ (l : List Row). HasBadSource l) rows (inr c.in_default-read_source.ensures.refused))
+-- where the matches have the gap, the job is that of the matches
+of_gap : {gap : ℕ} (rows : List Row) (r : Result FoldJob JobFault) → chosen_gap rows ≡ Some gap
+    → IfOk r (λ j. chosen_gap rows ≡ Some gap → IsFoldJobOf rows j) → IfOk r (IsFoldJobOf rows)
+of_gap rows (Ok j) e job = job e
+of_gap rows (Err f) e job = tt
 
 pub returns-clause-asked : goal.returns-clause-asked
 returns-clause-asked c =
     let arguments = map (λ (w : Bor (List ℕ)). w.now) c.args.arguments.now in
-    let rows = c.in_ok-matches.ensures.matches
+    let are = c.in_ok-matches.ensures.matches
     ∙ ap (λ (a : App). matches_of a arguments) c.in_ok-command.ensures in
     let gap = ap (λ (a : App). chosen_gap (matches_of a arguments)) (sym c.in_ok-command.ensures)
     ∙ c.in_ok-matches.ensures.gap in
-    subst (λ (l : List Row). IsFoldJobOf l (record {
-      gap = c.in_ok-matches.gap;
-      from = c.in-Some.from;
-      until = c.in-Some-read_source.until;
-      inputs = c.in_ok-inputs.inputs;
-      is_check = c.is_check_asked.result;
-    })) rows (record {
-      gap = ap (λ (l : List Row). chosen_gap l) rows ∙ gap;
-      from = c.in-Some.ensures.read;
-      until = c.in-Some-read_source.ensures.read;
-      inputs = search rules;
-      checks = search rules;
-    })
+    answers arguments _ are c.read_fold.result
+    (of_gap _ c.read_fold.result (ap (λ (l : List Row). chosen_gap l) are ∙ gap)
+    c.read_fold.ensures.job) c.read_fold.ensures.refused
 
 pub returns-clause-judged : goal.returns-clause-judged
 returns-clause-judged c =
     let arguments = map (λ (w : Bor (List ℕ)). w.now) c.args.arguments.now in
-    ap (λ (a : App). fault_of a arguments) (sym c.in_ok-command.ensures)
-    ∙ c.in_ok-matches.ensures.judged
+    let are = c.in_ok-matches.ensures.matches
+    ∙ ap (λ (a : App). matches_of a arguments) c.in_ok-command.ensures in
+    judges arguments _ are c.read_fold.result
+    (ap (λ (a : App). fault_of a arguments) (sym c.in_ok-command.ensures)
+    ∙ c.in_ok-matches.ensures.judged) c.read_fold.ensures.refused
