@@ -1,5 +1,5 @@
 -- Messages and what answers them (APRS Protocol Reference 1.0.1, chapter 14).
-use Rattle.std.specs.Prelude.{◌≡◌, ℕ, Bool, true, ◌&&◌, nat_le, List, ◌∷◌, ◌++◌, length, Option}
+use Rattle.std.specs.Prelude.{◌≡◌, ℕ, Bool, true, ◌&&◌, nat_le, List, ◌++◌, length, Option}
 use Rattle.std.specs.Prelude.{Some, None, codes}
 use Rattle.std.specs.List.{list_all}
 use Rattle.aprs_report.specs.Bytes.{is_alphanumeric, is_line_end}
@@ -14,7 +14,7 @@ pub record IsAddressed (addressee part info : List ℕ) : Type 0 where
   pub nine : length field ≡ 9
   pub named : IsPaddedName addressee field
   pub cut : IsTrimmed is_line_end part bytes
-  pub whole : info ≡ 58 ∷ (field ++ (58 ∷ bytes))
+  pub whole : info ≡ codes ":" ++ (field ++ (codes ":" ++ bytes))
 
 -- An id is one to five letters or digits.
 abbrev pub is_id : List ℕ → Bool
@@ -28,7 +28,7 @@ pub record IsAnswer (word id part : List ℕ) : Type 0 where
 -- The part is a text, a brace and an id; no id has a brace, so this brace is the last.
 pub record IsNumbered (text id part : List ℕ) : Type 0 where
   pub an_id : is_id id ≡ true
-  pub whole : part ≡ text ++ 123 ∷ id
+  pub whole : part ≡ text ++ (codes "{" ++ id)
 
 -- The part is neither an acknowledgement nor a rejection.
 pub record IsNoAnswer (part : List ℕ) : Type 0 where

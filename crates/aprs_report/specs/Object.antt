@@ -28,7 +28,7 @@ pub record IsObject (name : List ℕ) (live : Bool) (stamp : Stamp) (place : Pla
   pub named : IsPaddedName name field
   pub stamped : IsStamp stamp
   pub at_place : IsPlace place symbol place_text
-  pub whole : info ≡ 59 ∷ (field ++ (state_mark 42 live ∷
+  pub whole : info ≡ codes ";" ++ (field ++ (state_mark 42 live ∷
       (stamp_bytes stamp ++ (place_text ++ comment))))
 
 -- The byte is ! or _.
@@ -46,4 +46,4 @@ pub record IsItem (name : List ℕ) (live : Bool) (place : Place) (symbol : Symb
   pub unmarked : list_all (λ b. not (is_item_mark b)) field ≡ true
   pub named : IsPaddedName name field
   pub at_place : IsPlace place symbol place_text
-  pub whole : info ≡ 41 ∷ (field ++ (state_mark 33 live ∷ (place_text ++ comment)))
+  pub whole : info ≡ codes ")" ++ (field ++ (state_mark 33 live ∷ (place_text ++ comment)))

@@ -1,5 +1,5 @@
 -- A status report (APRS Protocol Reference 1.0.1, chapter 16).
-use Rattle.std.specs.Prelude.{◌≡◌, ℕ, List, ◌∷◌, ◌++◌, Option, Some, None}
+use Rattle.std.specs.Prelude.{◌≡◌, ℕ, List, ◌++◌, Option, Some, None, codes}
 use Rattle.aprs_report.specs.declared.stamp.Stamp.{Stamp}
 use Rattle.aprs_report.specs.Stamp.{IsStamp, stamp_bytes}
 
@@ -13,6 +13,6 @@ pub record BeginsInUtc (stamp : Stamp) (bytes rest : List ℕ) : Type 0 where
 -- stamp.
 abbrev pub IsStatus : Option Stamp → List ℕ → List ℕ → Type 0
 IsStatus (Some stamp) text info = (bytes : List ℕ) × BeginsInUtc stamp bytes text ×
-    (info ≡ 62 ∷ bytes)
-IsStatus None text info = (info ≡ 62 ∷ text) × ((stamp : Stamp) (rest : List ℕ) →
+    (info ≡ codes ">" ++ bytes)
+IsStatus None text info = (info ≡ codes ">" ++ text) × ((stamp : Stamp) (rest : List ℕ) →
     BeginsInUtc stamp text rest → ⊥)
