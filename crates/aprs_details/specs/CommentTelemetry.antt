@@ -2,6 +2,7 @@
 -- number of the report, one to five values, and eight bits after a fifth, between two bars.
 use Rattle.std.specs.Prelude.{ℕ, ◌+◌, ◌/◌, ◌%◌, Bool, ◌==◌, List, [], ◌∷◌, length, Option, None, Some}
 use Rattle.aprs_io.specs.Cut.{cut_at}
+use Rattle.aprs_io.specs.Octet.{octet}
 use Rattle.aprs_report.specs.Reader.{◌>>=◌, value_when, chunk_of, byte_where, numeral_of}
 use Rattle.aprs_details.specs.First.{first_in}
 use Rattle.aprs_details.specs.declared.comment_telemetry.CommentTelemetry.{CommentTelemetry}
@@ -49,13 +50,13 @@ numbers_in text = do
 
 -- The byte is a bar.
 abbrev pub is_bar : ℕ → Bool
-is_bar b = b == 124
+is_bar b = b == octet "|"
 
 -- What stands at the start of the text, between a bar and the next.
 unfoldable pub telemetry_at : List ℕ → Option CommentTelemetry
 telemetry_at text = do
   bar ← byte_where is_bar text
-  parts ← cut_at 124 bar.1
+  parts ← cut_at (octet "|") bar.1
   numbers_in parts.before
 
 -- What stands first in the comment.

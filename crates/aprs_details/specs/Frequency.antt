@@ -3,6 +3,7 @@
 use Rattle.std.specs.Prelude.{ℕ, ℤ, pos, neg_ℤ, ◌+◌, ◌*◌, Bool, ◌==◌, ◌&&◌, ◌||◌, if◌then◌else◌, List, [], take, drop, slice_index, Option, None, Some}
 use Rattle.std.specs.List.{list_all}
 use Rattle.std.specs.Option.{is_some}
+use Rattle.aprs_io.specs.Octet.{octet}
 use Rattle.aprs_report.specs.Bytes.{is_digit, is_space}
 use Rattle.aprs_report.specs.Reader.{◌>>=◌, value_when, chunk_of, byte_where, numeral_of}
 use Rattle.aprs_details.specs.declared.frequency.Frequency.{Frequency}
@@ -25,7 +26,9 @@ frequency_view x = record { khz = x.khz; tone = x.tone.now; offset = x.offset }
 
 -- The three bytes are MHz.
 abbrev pub is_megahertz : List ℕ → Bool
-is_megahertz unit = slice_index unit 0 == 77 && slice_index unit 1 == 72 && slice_index unit 2 == 122
+is_megahertz unit =
+    slice_index unit 0 == octet "M" && slice_index unit 1 == octet "H"
+    && slice_index unit 2 == octet "z"
 
 -- Two digits and a space, which are tens.
 abbrev pub tens_of : List ℕ → Option ℕ
@@ -61,7 +64,8 @@ word_at text = do
 
 -- The letter of a tone: T, C or D, and t, c or d where the channel is narrow.
 abbrev pub is_tone_letter : ℕ → Bool
-is_tone_letter b = b == 84 || b == 67 || b == 68 || b == 116 || b == 99 || b == 100
+is_tone_letter b = b == octet "T" || b == octet "C" || b == octet "D"
+    || b == octet "t" || b == octet "c" || b == octet "d"
 
 -- The word is a tone: its letter and three digits.
 abbrev pub is_tone : List ℕ → Bool
@@ -78,9 +82,9 @@ tone_at text = tone_in text (word_at text)
 -- How far a repeater's input is from the frequency in kilohertz: a sign and three digits of tens.
 abbrev pub offset_of : List ℕ → Option ℤ
 offset_of word =
-    if slice_index word 0 == 43
+    if slice_index word 0 == octet "+"
     then (numeral_of 10 48 (drop 1 word) >>= λ n. Some (pos (n * 10)))
-    else if slice_index word 0 == 45
+    else if slice_index word 0 == octet "-"
     then (numeral_of 10 48 (drop 1 word) >>= λ n. Some (neg_ℤ (pos (n * 10))))
     else None
 

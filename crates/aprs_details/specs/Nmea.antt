@@ -6,6 +6,7 @@ use Rattle.std.specs.List.{fold}
 use Rattle.std.specs.Str.{bytes_eq}
 use Rattle.hex.specs.Hex.{hex_digit_value}
 use Rattle.aprs_io.specs.Cut.{Cut, cut_at}
+use Rattle.aprs_io.specs.Octet.{octet}
 use Rattle.aprs_report.specs.Coordinate.{with_sign}
 use Rattle.aprs_report.specs.Reader.{◌>>=◌, value_when, chunk_of, byte_where, numeral_of}
 use Rattle.aprs_details.specs.declared.nmea.Fix.{Fix}
@@ -32,14 +33,14 @@ number_in text (Some x) =
     digits_of x.before >>= λ n. (millionths_of x.after >>= λ more. Some (n * 1000000 + more))
 
 abbrev pub number_in_millionths : List ℕ → Option ℕ
-number_in_millionths text = number_in text (cut_at 46 text)
+number_in_millionths text = number_in text (cut_at (octet ".") text)
 
 -- ---- angles
 
 -- Nothing, or a point and digits, in millionths.
 abbrev pub after_point : List ℕ → Option ℕ
 after_point [] = Some 0
-after_point (b ∷ digits) = if b == 46 then millionths_of digits else None
+after_point (b ∷ digits) = if b == octet "." then millionths_of digits else None
 
 -- The minutes in millionths, below 60: two digits, and perhaps a point and digits.
 unfoldable pub sent_minutes : List ℕ → Option ℕ
@@ -72,28 +73,28 @@ sent_angle limit positive negative degree_text minute_text half = do
 unfoldable pub sent_latitude : (field half : List ℕ) → Option ℤ
 sent_latitude field half = do
   degrees ← chunk_of 2 field
-  sent_angle 90 78 83 degrees.0 degrees.1 half
+  sent_angle 90 (octet "N") (octet "S") degrees.0 degrees.1 half
 
 -- The longitude: DDDMM and perhaps a point and digits, at most 180 degrees, and E or W.
 unfoldable pub sent_longitude : (field half : List ℕ) → Option ℤ
 sent_longitude field half = do
   degrees ← chunk_of 3 field
-  sent_angle 180 69 87 degrees.0 degrees.1 half
+  sent_angle 180 (octet "E") (octet "W") degrees.0 degrees.1 half
 
 -- ---- fields, with a comma between two
 
 -- The field at the start of the text.
 abbrev pub next_field : List ℕ → List ℕ
-next_field text = (cut_or_all text (cut_at 44 text)).before
+next_field text = (cut_or_all text (cut_at (octet ",") text)).before
 
 -- The latitude, N or S, the longitude and E or W, each with a comma after it: the two angles, and
 -- the rest.
 unfoldable pub place_at : List ℕ → Option (ℤ × ℤ × List ℕ)
 place_at text = do
-  north ← cut_at 44 text
-  north_half ← cut_at 44 north.after
-  east ← cut_at 44 north_half.after
-  east_half ← cut_at 44 east.after
+  north ← cut_at (octet ",") text
+  north_half ← cut_at (octet ",") north.after
+  east ← cut_at (octet ",") north_half.after
+  east_half ← cut_at (octet ",") east.after
   latitude ← sent_latitude north.before north_half.before
   longitude ← sent_longitude east.before east_half.before
   Some (latitude, longitude, east_half.after)
@@ -124,7 +125,7 @@ sent_course field = whole_of field >>= course_from_north
 abbrev pub metres_of : List ℕ → Option ℤ
 metres_of field =
     number_in_millionths (without_minus field)
-    >>= λ n. Some (with_sign (slice_index field 0 == 45) (nearest n 100))
+    >>= λ n. Some (with_sign (slice_index field 0 == octet "-") (nearest n 100))
 
 -- The altitude, if its unit is the metre.
 abbrev pub altitude_in : (field unit : List ℕ) → Option ℤ
@@ -135,12 +136,12 @@ altitude_in field unit = if bytes_eq unit (codes "M") then metres_of field else 
 -- GGA: time, place, quality, satellites, dilution, altitude and its unit.
 unfoldable pub gga_of : List ℕ → Option Fix
 gga_of text = do
-  time ← cut_at 44 text
+  time ← cut_at (octet ",") text
   place ← place_at time.after
-  quality ← cut_at 44 place.2
-  satellites ← cut_at 44 quality.after
-  dilution ← cut_at 44 satellites.after
-  altitude ← cut_at 44 dilution.after
+  quality ← cut_at (octet ",") place.2
+  satellites ← cut_at (octet ",") quality.after
+  dilution ← cut_at (octet ",") satellites.after
+  altitude ← cut_at (octet ",") dilution.after
   value_when (is_quality quality.before) (record {
     latitude = place.0;
     longitude = place.1;
@@ -153,7 +154,7 @@ gga_of text = do
 unfoldable pub gll_of : List ℕ → Option Fix
 gll_of text = do
   place ← place_at text
-  time ← cut_at 44 place.2
+  time ← cut_at (octet ",") place.2
   value_when (is_valid (next_field time.after)) (record {
     latitude = place.0;
     longitude = place.1;
@@ -165,10 +166,10 @@ gll_of text = do
 -- RMC: time, whether it is valid, place, speed and course.
 unfoldable pub rmc_of : List ℕ → Option Fix
 rmc_of text = do
-  time ← cut_at 44 text
-  status ← cut_at 44 time.after
+  time ← cut_at (octet ",") text
+  status ← cut_at (octet ",") time.after
   place ← place_at status.after
-  speed ← cut_at 44 place.2
+  speed ← cut_at (octet ",") place.2
   value_when (is_valid status.before) (record {
     latitude = place.0;
     longitude = place.1;
@@ -204,16 +205,16 @@ checked_in text (Some x) =
     checksum_at x.after >>= λ sum. value_when (sum == checksum_of x.before) x.before
 
 abbrev pub checked : List ℕ → Option (List ℕ)
-checked text = checked_in text (cut_at 42 text)
+checked text = checked_in text (cut_at (octet "*") text)
 
 -- The byte is a dollar.
 abbrev pub is_dollar : ℕ → Bool
-is_dollar b = b == 36
+is_dollar b = b == octet "$"
 
 -- The fix that a field tells: a dollar, and a sentence, its name and a comma first.
 unfoldable pub fix_of : List ℕ → Option Fix
 fix_of info = do
   dollar ← byte_where is_dollar info
   sentence ← checked dollar.1
-  name ← cut_at 44 sentence
+  name ← cut_at (octet ",") sentence
   fix_named name.before name.after

@@ -1,5 +1,6 @@
 -- More digits of a position (APRS 1.2, !DAO!): three bytes in a comment between exclamation marks.
 use Rattle.std.specs.Prelude.{ℕ, ℤ, pos, ◌-◌, ◌+ℤ◌, ◌-ℤ◌, ◌*ℤ◌, int_lt, Bool, ◌==◌, ◌&&◌, if◌then◌else◌, List, slice_index, Option, None, Some}
+use Rattle.aprs_io.specs.Octet.{octet}
 use Rattle.aprs_report.specs.Bytes.{is_digit, is_space}
 use Rattle.aprs_report.specs.Reader.{◌>>=◌, value_when, chunk_of}
 use Rattle.aprs_report.specs.declared.place.Place.{Place}
@@ -15,7 +16,8 @@ use Rattle.aprs_details.specs.declared.precision.Precision.{Precision}
 
 -- The letter of the datum WGS 84: the digits are decimal after W, and of base 91 after w.
 abbrev pub scale_of : ℕ → Option Scale
-scale_of datum = if datum == 87 then Some Tenths else value_when (datum == 119) NinetyFirsts
+scale_of datum =
+    if datum == octet "W" then Some Tenths else value_when (datum == octet "w") NinetyFirsts
 
 -- The number of a decimal digit; a space is 0.
 abbrev pub tenth_of : ℕ → Option ℕ
@@ -31,7 +33,7 @@ scaled_digit NinetyFirsts b = ninety_first_of b
 
 -- The bytes at the ends of five are exclamation marks.
 abbrev pub are_marks : List ℕ → Bool
-are_marks field = slice_index field 0 == 33 && slice_index field 4 == 33
+are_marks field = slice_index field 0 == octet "!" && slice_index field 4 == octet "!"
 
 -- An exclamation mark, the letter of a datum, a digit of the latitude, a digit of the longitude, and
 -- an exclamation mark.

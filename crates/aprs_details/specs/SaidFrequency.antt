@@ -1,5 +1,5 @@
 -- A frequency as a comment says it (APRS 1.2, frequency specification).
-use Rattle.std.specs.Prelude.{◌≡◌, ℕ, ℤ, ◌+◌, ◌*◌, true, List, [], ◌∷◌, ◌++◌, length, Option, None, Some}
+use Rattle.std.specs.Prelude.{◌≡◌, ℕ, ℤ, ◌+◌, ◌*◌, true, List, [], ◌∷◌, ◌++◌, length, Option, None, Some, codes}
 use Rattle.aprs_report.specs.Reader.{numeral_of}
 use Rattle.aprs_details.specs.Details.{without_mark}
 use Rattle.aprs_details.specs.Frequency.{Tuned, is_tone, offset_of, is_extension, after_altitude}
@@ -8,7 +8,7 @@ use Rattle.aprs_details.specs.Frequency.{Tuned, is_tone, offset_of, is_extension
 pub data IsThousandths (n : ℕ) (places : List ℕ) : Type 0 where
   three : length places ≡ 3 → numeral_of 10 48 places ≡ Some n → IsThousandths n places
   two : (tens : List ℕ) (m : ℕ) → length tens ≡ 2 → numeral_of 10 48 tens ≡ Some m → n ≡ m * 10 →
-      places ≡ tens ++ 32 ∷ [] → IsThousandths n places
+      places ≡ tens ++ codes " " → IsThousandths n places
 
 -- The text begins with so many kilohertz: three digits of megahertz, a point, the places after it,
 -- and MHz; and this follows.
@@ -17,7 +17,7 @@ pub record BeginsWithKilohertz (khz : ℕ) (rest text : List ℕ) : Type 0 where
   pub places : List ℕ
   pub whole : ℕ
   pub thousandths : ℕ
-  pub parts : text ≡ megahertz ++ 46 ∷ (places ++ 77 ∷ 72 ∷ 122 ∷ rest)
+  pub parts : text ≡ megahertz ++ (codes "." ++ (places ++ (codes "MHz" ++ rest)))
   pub three : length megahertz ≡ 3
   pub at_megahertz : numeral_of 10 48 megahertz ≡ Some whole
   pub at_places : IsThousandths thousandths places
@@ -26,7 +26,7 @@ pub record BeginsWithKilohertz (khz : ℕ) (rest text : List ℕ) : Type 0 where
 -- The text begins with a space and this word of four bytes, and this follows.
 pub record BeginsWithWord (word rest text : List ℕ) : Type 0 where
   pub four : length word ≡ 4
-  pub whole : text ≡ 32 ∷ (word ++ rest)
+  pub whole : text ≡ codes " " ++ (word ++ rest)
 
 -- The text begins with this tone, and this follows; or with none.
 pub data IsNextTone (tone rest text : List ℕ) : Type 0 where

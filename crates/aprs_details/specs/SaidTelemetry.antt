@@ -1,6 +1,7 @@
 -- Telemetry as a comment says it (APRS 1.2, base-91 comment telemetry).
-use Rattle.std.specs.Prelude.{◌≡◌, ℕ, List, [], ◌∷◌, ◌++◌, length, Option, None, Some}
+use Rattle.std.specs.Prelude.{◌≡◌, ℕ, List, [], ◌∷◌, ◌++◌, length, Option, None, Some, codes}
 use Rattle.aprs_io.specs.Cut.{Lacks}
+use Rattle.aprs_io.specs.Octet.{octet}
 use Rattle.aprs_report.specs.Reader.{numeral_of}
 use Rattle.aprs_details.specs.declared.comment_telemetry.CommentTelemetry.{CommentTelemetry}
 use Rattle.aprs_details.specs.CommentTelemetry.{bits_of}
@@ -40,6 +41,6 @@ pub record AreNumbers (t : CommentTelemetry) (text : List ℕ) : Type 0 where
 pub record BeginsWithTelemetry (t : CommentTelemetry) (text : List ℕ) : Type 0 where
   pub numbers : List ℕ
   pub rest : List ℕ
-  pub whole : text ≡ 124 ∷ (numbers ++ 124 ∷ rest)
-  pub alone : Lacks 124 numbers
+  pub whole : text ≡ codes "|" ++ (numbers ++ (codes "|" ++ rest))
+  pub alone : Lacks (octet "|") numbers
   pub are : AreNumbers t numbers

@@ -1,7 +1,8 @@
 -- A weather report in the standard's words (APRS Protocol Reference 1.0.1, chapter 12): fields one
 -- after another, each of them a letter and its places.
-use Rattle.std.specs.Prelude.{◌≡◌, ℕ, ◌+◌, true, List, ◌∷◌, ◌++◌, length, Option, Some, None}
+use Rattle.std.specs.Prelude.{◌≡◌, ℕ, ◌+◌, true, List, ◌∷◌, ◌++◌, length, Option, Some, None, codes}
 use Rattle.std.specs.List.{list_all}
+use Rattle.aprs_io.specs.Octet.{octet}
 use Rattle.aprs_report.specs.Bytes.{is_digit}
 use Rattle.aprs_report.specs.Reader.{◌>>=◌}
 use Rattle.aprs_details.specs.declared.weather.Weather.{Weather}
@@ -45,25 +46,25 @@ bright_in places = known places >>= λ n. Some (n + 1000)
 pub record SaysWeather (w : Weather) (wind_from wind : Option ℕ) (text : List ℕ) : Type 0 where
   pub from : direction_in wind_from ≡ w.wind_from
   pub speed : wind ≡ w.wind
-  pub gust : Says known 103 text w.gust
-  pub temperature : Says fahrenheit 116 text w.temperature
-  pub rain_hour : Says known 114 text w.rain_hour
-  pub rain_day : Says known 112 text w.rain_day
-  pub rain_midnight : Says known 80 text w.rain_midnight
-  pub humidity : Says percent_in 104 text w.humidity
-  pub pressure : Says known 98 text w.pressure
+  pub gust : Says known (octet "g") text w.gust
+  pub temperature : Says fahrenheit (octet "t") text w.temperature
+  pub rain_hour : Says known (octet "r") text w.rain_hour
+  pub rain_day : Says known (octet "p") text w.rain_day
+  pub rain_midnight : Says known (octet "P") text w.rain_midnight
+  pub humidity : Says percent_in (octet "h") text w.humidity
+  pub pressure : Says known (octet "b") text w.pressure
   pub dark : Option ℕ
   pub bright : Option ℕ
-  pub below_thousand : Says known 76 text dark
-  pub thousand_more : Says bright_in 108 text bright
+  pub below_thousand : Says known (octet "L") text dark
+  pub thousand_more : Says bright_in (octet "l") text bright
   pub luminosity : or_else dark bright ≡ w.luminosity
 
 -- The fields of the text say this weather, and the wind too: its direction c and its speed s.
 pub record SaysWind (w : Weather) (text : List ℕ) : Type 0 where
   pub wind_from : Option ℕ
   pub wind : Option ℕ
-  pub direction : Says known 99 text wind_from
-  pub speed : Says known 115 text wind
+  pub direction : Says known (octet "c") text wind_from
+  pub speed : Says known (octet "s") text wind
   pub weather : SaysWeather w wind_from wind text
 
 -- The field is a weather report without a position: an underscore, eight digits of month, day, hour
@@ -71,7 +72,7 @@ pub record SaysWind (w : Weather) (text : List ℕ) : Type 0 where
 pub record IsWeatherReport (w : Weather) (info : List ℕ) : Type 0 where
   pub stamp : List ℕ
   pub text : List ℕ
-  pub whole : info ≡ 95 ∷ (stamp ++ text)
+  pub whole : info ≡ codes "_" ++ (stamp ++ text)
   pub eight : length stamp ≡ 8
   pub digits : list_all is_digit stamp ≡ true
   pub says : SaysWind w text

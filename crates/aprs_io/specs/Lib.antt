@@ -4,5 +4,6 @@ pub mod Device
 pub mod Hexadecimal
 pub mod Input
 pub mod InputSteps
+pub mod Octet
 pub mod Outlet
 pub mod Shown

@@ -1,5 +1,6 @@
 -- Times of a day whose date is known. No public clause cites this module.
 use Rattle.std.specs.Prelude.{◌≡◌, ℕ, ◌+◌, ◌*◌, ◌<◌, ◌==◌, if◌then◌else◌, List, [], ◌∷◌, ◌++◌, length}
+use Rattle.aprs_io.specs.Octet.{octet}
 use Rattle.aprs_log.specs.declared.moment_form.MomentForm.{MomentForm}
 use Rattle.aprs_log.specs.declared.moment_form.MomentForm.TheVariants.{Seconds, Millis}
 use Rattle.aprs_log.specs.Moment.{two_digits, fraction_text, room_of}
@@ -16,11 +17,12 @@ form_size Millis = millis_size
 
 -- The text HH:MM:SS of a time of the day.
 abbrev pub clock_text : ℕ → ℕ → ℕ → List ℕ
-clock_text hour minute second = two_digits hour ++ 58 ∷ two_digits minute ++ 58 ∷ two_digits second
+clock_text hour minute second =
+    two_digits hour ++ octet ":" ∷ two_digits minute ++ octet ":" ∷ two_digits second
 
 -- The end of the text of a day's first moment: 00:00:00Z.
 abbrev pub midnight_text : List ℕ
-midnight_text = clock_text 0 0 0 ++ 90 ∷ []
+midnight_text = clock_text 0 0 0 ++ octet "Z" ∷ []
 
 -- `text` is the text of second n of a day.
 pub record SecondText (n : ℕ) (text : List ℕ) : Type 0 where
@@ -36,7 +38,7 @@ pub record SecondText (n : ℕ) (text : List ℕ) : Type 0 where
 -- `text` is what follows the seconds, in this form, at millisecond n of a second.
 pub record IsFractionText (form : MomentForm) (n : ℕ) (text : List ℕ) : Type 0 where
   pub below : n < room_of form
-  pub spelled : text ≡ fraction_text form n ++ 90 ∷ []
+  pub spelled : text ≡ fraction_text form n ++ octet "Z" ∷ []
 
 -- The form of a text whose seconds these bytes follow: Z alone, or a fraction and Z.
 abbrev pub form_of_end : List ℕ → MomentForm

@@ -2,6 +2,7 @@
 pub use Rattle.aprs_io.specs.Cut
 pub use Rattle.aprs_io.specs.Device
 pub use Rattle.aprs_io.specs.Input
+pub use Rattle.aprs_io.specs.Octet
 pub mod Awaits
 pub mod CivilMoment
 pub mod Clock

@@ -9,6 +9,7 @@ use Rattle.aprs_kiss.specs.Judgement.{Judgement}
 use Rattle.aprs_ax25.specs.FrameFault.{frame_or_fault}
 use Rattle.aprs_ax25.specs.declared.fault.FrameFault.{FrameFault}
 use Rattle.aprs_io.specs.Cut.{cut_at}
+use Rattle.aprs_io.specs.Octet.{octet}
 use Rattle.aprs_log.specs.Fault.{reason_of_pass, reason_of_frame}
 use Rattle.aprs_log.specs.Moment.{moment_text}
 use Rattle.aprs_log.specs.MomentReading.{moment_of}
@@ -77,4 +78,5 @@ line_of l =
 
 -- The line of a reception, without its LF.
 abbrev pub written_line : Received → List ℕ
-written_line x = moment_text x.moment ++ 32 ∷ x.receiver ++ 32 ∷ encode_lower (kiss_text x.frame)
+written_line x =
+    moment_text x.moment ++ octet " " ∷ x.receiver ++ octet " " ∷ encode_lower (kiss_text x.frame)

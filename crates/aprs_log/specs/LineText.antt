@@ -1,5 +1,6 @@
 -- What a line of a log says, without its LF; and what is wrong with a line that is refused.
 use Rattle.std.specs.Prelude.{◌≡◌, ℕ, ◌%◌, ◌<◌, ◌≤◌, List, ◌∷◌, ◌++◌, length, replicate, Ok, IsErr}
+use Rattle.aprs_io.specs.Octet.{octet}
 use Rattle.hex.specs.Hex.{decode_of}
 use Rattle.aprs_kiss.specs.Spelling.{spelling_of}
 use Rattle.aprs_ax25.specs.UiFrame.{IsUiFrame}
@@ -14,11 +15,11 @@ use Rattle.aprs_log.specs.declared.fault.LogCause.TheVariants as why
 
 -- The line is a text of the moment, a space, and these bytes.
 abbrev pub HasMoment : List ℕ → ℕ → List ℕ → Type 0
-HasMoment line m more = (text : List ℕ) × IsTextOf m text × (line ≡ text ++ 32 ∷ more)
+HasMoment line m more = (text : List ℕ) × IsTextOf m text × (line ≡ text ++ octet " " ∷ more)
 
 -- The line is a text of the moment, a space, the name of a receiver, a space, and these bytes.
 abbrev pub HasReceiver : List ℕ → ℕ → List ℕ → List ℕ → Type 0
-HasReceiver line m name more = IsName name × HasMoment line m (name ++ 32 ∷ more)
+HasReceiver line m name more = IsName name × HasMoment line m (name ++ octet " " ∷ more)
 
 -- The line has at most 8,192 bytes: a text of the moment, a receiver's name, and these bytes in
 -- hexadecimal, with a space between.

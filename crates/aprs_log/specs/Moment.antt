@@ -1,6 +1,7 @@
 -- Moments, in milliseconds, and their texts.
 use Rattle.std.specs.Prelude.{◌≡◌, ℕ, zero, suc, ◌+◌, ◌/◌, ◌%◌, ◌<◌, ◌≤◌, if◌then◌else◌, List, [], ◌∷◌, ◌++◌, nat_lt, pos}
 use Rattle.jiff_core.specs.Calendar.{days_in_month}
+use Rattle.aprs_io.specs.Octet.{octet}
 use Rattle.aprs_log.specs.Sizes.{last_milli}
 use Rattle.aprs_log.specs.declared.moment_form.MomentForm.{MomentForm}
 use Rattle.aprs_log.specs.declared.moment_form.MomentForm.TheVariants.{Seconds, Millis}
@@ -40,27 +41,29 @@ day_after (suc n) = next_day (day_after n)
 
 -- The text of a day: YYYY-MM-DD.
 abbrev pub date_text : Day → List ℕ
-date_text d = four_digits d.year ++ 45 ∷ two_digits d.month ++ 45 ∷ two_digits d.day
+date_text d = four_digits d.year ++ octet "-" ∷ two_digits d.month ++ octet "-" ∷ two_digits d.day
 
 -- ---- a time of the day
 
 -- What stands between the seconds and the Z: nothing, or a point and the milliseconds.
 abbrev pub fraction_text : MomentForm → ℕ → List ℕ
 fraction_text Seconds n = []
-fraction_text Millis n = 46 ∷ three_digits n
+fraction_text Millis n = octet "." ∷ three_digits n
 
 -- The text of a millisecond of the day: HH:MM:SSZ, or with .mmm before the Z.
 abbrev pub time_text : MomentForm → ℕ → List ℕ
 time_text form n =
-    two_digits (n / 3600000) ++ 58 ∷ two_digits (n / 60000 % 60) ++ 58 ∷ two_digits (n / 1000 % 60)
-    ++ fraction_text form (n % 1000) ++ 90 ∷ []
+    two_digits (n / 3600000) ++ octet ":" ∷ two_digits (n / 60000 % 60)
+    ++ octet ":" ∷ two_digits (n / 1000 % 60)
+    ++ fraction_text form (n % 1000) ++ octet "Z" ∷ []
 
 -- ---- a moment
 
 -- The text of a moment in this form: its date, a T, and its time, in UTC without leap seconds. A
 -- form to the second leaves the milliseconds out.
 unfoldable pub moment_text_in : MomentForm → ℕ → List ℕ
-moment_text_in form m = date_text (day_after (m / 86400000)) ++ 84 ∷ time_text form (m % 86400000)
+moment_text_in form m =
+    date_text (day_after (m / 86400000)) ++ octet "T" ∷ time_text form (m % 86400000)
 
 -- The text that is written of a moment: to the millisecond.
 abbrev pub moment_text : ℕ → List ℕ

@@ -3,6 +3,7 @@
 use Rattle.std.specs.Prelude.{ℕ, ◌+◌, ◌-◌, ◌*◌, ◌==◌, ◌&&◌, Bool, if◌then◌else◌, List, [], ◌∷◌, ◌++◌, length, slice_index, Option, None, Some, nat_le, nat_lt, pos, unsigned_abs}
 use Rattle.std.specs.Str.{bytes_eq}
 use Rattle.jiff_core.specs.Calendar.{days_from_civil, days_in_month}
+use Rattle.aprs_io.specs.Octet.{octet}
 use Rattle.aprs_log.specs.Moment.{two_digits, four_digits, fraction_text, room_of}
 use Rattle.aprs_log.specs.Sizes.{seconds_size}
 use Rattle.aprs_log.specs.declared.moment_form.MomentForm.{MomentForm}
@@ -20,9 +21,10 @@ pub record Civil : Type 0 where
 -- The text of a civil time and its milliseconds: YYYY-MM-DDTHH:MM:SSZ, or with .mmm before the Z.
 abbrev pub civil_text : MomentForm → Civil → ℕ → List ℕ
 civil_text form civil n =
-    four_digits civil.year ++ 45 ∷ two_digits civil.month ++ 45 ∷ two_digits civil.day
-    ++ 84 ∷ two_digits civil.hour ++ 58 ∷ two_digits civil.minute ++ 58 ∷ two_digits civil.second
-    ++ fraction_text form n ++ 90 ∷ []
+    four_digits civil.year ++ octet "-" ∷ two_digits civil.month ++ octet "-" ∷ two_digits civil.day
+    ++ octet "T" ∷ two_digits civil.hour ++ octet ":" ∷ two_digits civil.minute
+    ++ octet ":" ∷ two_digits civil.second
+    ++ fraction_text form n ++ octet "Z" ∷ []
 
 -- The seconds from the start of the day to a civil time.
 abbrev pub second_of_day : Civil → ℕ
