@@ -17,4 +17,4 @@ pub use device::{Counted, DeviceFault, WriteFault, send};
 pub use hexadecimal::{decode_into, decode_lower_into, put_hex};
 pub use input::{InputEnd, MAX_INPUT, read_some};
 pub use outlet::{MAX_HELD, Outlet};
-pub use shown::{are_shown, shown_byte};
+pub use shown::{are_shown, put_shown, shown_byte};

@@ -3,10 +3,14 @@ ghost use Rattle.std.specs.Prelude.{◌≡◌, ◌+◌, ◌≤◌, ◌++◌, ◌
 ghost use Rattle.std.specs.List.{list_all};
 ghost use Rattle.arrayvec.specs.ArrayVec.{array_vec_len};
 ghost use Rattle.hex.specs.Hex.{encode_lower};
-ghost use Rattle.aprs_io.specs.Shown.{is_shown_as_is, shown_byte};
+ghost use Rattle.aprs_io.specs.Outlet.{Puts};
+ghost use Rattle.aprs_io.specs.Shown.{is_shown_as_is, shown_byte, shown_text};
 
 use crate::byte_vectors::push_all;
+use crate::device::WriteFault;
+use crate::outlet::Outlet;
 use arrayvec::ArrayVec;
+use std::io::Write;
 
 /// Whether `shown_byte` shows each of the bytes as itself; `true` where there are no bytes. Then
 /// they can be put as they are, in one piece. Takes no memory.
@@ -35,6 +39,20 @@ pub fn shown_byte(b: u8) -> ArrayVec<u8, 4>
         push_hex(&mut text, b);
     }
     text
+}
+
+/// Puts each of the bytes as `shown_byte` shows it. Fails where the output is refused. Takes no
+/// memory.
+pub fn put_shown<W: Write>(out: &mut Outlet<'_, W>, bytes: &[u8]) -> Result<(), WriteFault>
+    ensures { Puts W.contents result out.old out.new (shown_text bytes.now) }
+{
+    if are_shown(bytes) {
+        return out.put(bytes);
+    }
+    for b in bytes {
+        out.put(shown_byte(*b).as_slice())?;
+    }
+    Ok(())
 }
 
 /// Whether the byte is shown as itself: it is 0x20 to 0x7E and no backslash.

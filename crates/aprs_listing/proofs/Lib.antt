@@ -3,5 +3,4 @@ mod Lines
 mod Histories
 mod OneLines
 pub mod Listings
-pub mod SoFar
 pub mod Common

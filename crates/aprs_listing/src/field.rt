@@ -3,10 +3,9 @@ ghost use Rattle.std.specs.Prelude.{◌≡◌, map};
 ghost use Rattle.aprs_io.specs.Outlet.{Puts};
 ghost use Rattle.aprs_listing.specs.Lines.{field_text};
 ghost use Rattle.aprs_listing.specs.Listing as Spec;
-ghost use Rattle.aprs_io.specs.Shown.{shown_text};
 
 use aprs_ax25::Callsign;
-use aprs_io::{Outlet, WriteFault, are_shown, push_all, shown_byte};
+use aprs_io::{Outlet, WriteFault, push_all, put_shown, shown_byte};
 use aprs_log::Moment;
 use aprs_report::{Fraction, Place, Stamp, Symbol};
 use arrayvec::ArrayVec;
@@ -107,21 +106,6 @@ fn ambiguity_text(place: &Place) -> ArrayVec<u8, 40>
         Place::Base91 { .. } => text.push(b'c'),
     }
     text
-}
-
-/// Puts the bytes as they are shown: those of 0x20 to 0x7E, except the backslash, as they are,
-/// and all others as a backslash, `x` and two hexadecimal digits. Fails where the output is
-/// refused.
-pub fn put_shown<W: Write>(out: &mut Outlet<'_, W>, bytes: &[u8]) -> Result<(), WriteFault>
-    ensures { Puts W.contents result out.old out.new (shown_text bytes.now) }
-{
-    if are_shown(bytes) {
-        return out.put(bytes);
-    }
-    for b in bytes {
-        out.put(shown_byte(*b).as_slice())?;
-    }
-    Ok(())
 }
 
 /// Puts the bytes of a name as they are shown, and a space as `\x20`. Fails where the output is

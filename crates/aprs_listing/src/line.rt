@@ -6,7 +6,7 @@ ghost use Rattle.aprs_io.specs.Shown.{shown_text};
 ghost use Rattle.aprs_listing.specs.Lines.{field_text, spaced_field};
 ghost use Rattle.aprs_listing.specs.Listing.{after_space, line_with, line_with_text};
 
-use crate::field::{Field, put_field, put_shown};
+use crate::field::{Field, put_field};
 use aprs_io::{Outlet, WriteFault};
 use std::io::Write;
 

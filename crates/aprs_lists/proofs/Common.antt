@@ -18,7 +18,7 @@ pub use Rattle.aprs_report.specs.Reading.{Value, view}
 pub use Rattle.aprs_report.specs.declared.report.Report.{Report}
 pub use Rattle.aprs_book.specs.Reports.{report_of}
 pub use Rattle.aprs_table.proofs.Lines.{tabbed_cells}
-pub use Rattle.aprs_table.proofs.SoFar.{PutSoFar, PutSoFar-all, PutSoFar-broken, PutSoFar-more, PutSoFar-none}
+pub use Rattle.aprs_io.proofs.SoFar.{PutSoFar, PutSoFar-all, PutSoFar-broken, PutSoFar-more, PutSoFar-none}
 pub use Rattle.aprs_table.specs.Cells.{cell_text, tabbed_cell}
 pub use Rattle.aprs_table.specs.Table.{after_tab}
 pub use Rattle.std.proofs.Common.{Bool, Err, List, None, Ok, Option, Result, Some, [], ap, append-nil, append_assoc, ap₂, arith, codes, inl, inr, length, map, refl, rules, subst, sym, take, ℕ, ◌++◌, ◌∙◌, ◌∷◌, ◌≡◌}

@@ -1,4 +1,4 @@
-use Rattle.aprs_listing.proofs.SoFar.{PutSoFar-all, PutSoFar-broken, PutSoFar-more, PutSoFar-none}
+use Rattle.aprs_io.proofs.SoFar.{PutSoFar-all, PutSoFar-broken, PutSoFar-more, PutSoFar-none}
 use Rattle.aprs_listing.proofs.history.put_history.Goals as goal
 
 pub loop-row-init : goal.loop-row-init

@@ -1,5 +1,5 @@
 use Rattle.aprs_listing.specs.History.{history_line}
-use Rattle.aprs_listing.proofs.SoFar.{PutSoFar}
+use Rattle.aprs_io.proofs.SoFar.{PutSoFar}
 use Rattle.aprs_listing.proofs.history.put_history.Given as goal
 
 abbrev pub invariant-loop-row : goal.invariant-loop-row

@@ -1,6 +1,6 @@
 use Rattle.aprs_listing.proofs.Common.{length}
 use Rattle.aprs_listing.specs.Listing.{thing_line}
-use Rattle.aprs_listing.proofs.SoFar.{PutSoFar}
+use Rattle.aprs_io.proofs.SoFar.{PutSoFar}
 use Rattle.aprs_listing.proofs.listing.put_all_named.Given as goal
 
 abbrev pub invariant-loop-named : goal.invariant-loop-named

@@ -1,4 +1,4 @@
-use Rattle.aprs_listing.proofs.SoFar.{PutSoFar-all, PutSoFar-broken, PutSoFar-more, PutSoFar-none}
+use Rattle.aprs_io.proofs.SoFar.{PutSoFar-all, PutSoFar-broken, PutSoFar-more, PutSoFar-none}
 use Rattle.aprs_listing.proofs.listing.put_messages.Goals as goal
 
 pub loop-message-init : goal.loop-message-init

@@ -1,5 +1,5 @@
 use Rattle.aprs_listing.specs.Listing.{message_line}
-use Rattle.aprs_listing.proofs.SoFar.{PutSoFar}
+use Rattle.aprs_io.proofs.SoFar.{PutSoFar}
 use Rattle.aprs_listing.proofs.listing.put_messages.Given as goal
 
 abbrev pub invariant-loop-message : goal.invariant-loop-message

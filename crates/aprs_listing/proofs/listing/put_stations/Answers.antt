@@ -1,4 +1,4 @@
-use Rattle.aprs_listing.proofs.SoFar.{PutSoFar-broken, PutSoFar-more, PutSoFar-none}
+use Rattle.aprs_io.proofs.SoFar.{PutSoFar-broken, PutSoFar-more, PutSoFar-none}
 use Rattle.aprs_listing.proofs.listing.put_stations.Goals as goal
 
 pub loop-station-init : goal.loop-station-init

@@ -1,6 +1,6 @@
 use Rattle.aprs_listing.proofs.Common.{length}
 use Rattle.aprs_listing.specs.Listing.{station_lines}
-use Rattle.aprs_listing.proofs.SoFar.{PutSoFar}
+use Rattle.aprs_io.proofs.SoFar.{PutSoFar}
 use Rattle.aprs_listing.proofs.listing.put_stations.Given as goal
 
 abbrev pub invariant-loop-station : goal.invariant-loop-station

@@ -1,5 +1,8 @@
 -- What was put so far of a list.
-use Rattle.aprs_listing.proofs.Common.{◌≡◌, ◌∙◌, ◌∷◌, ◌++◌, [], ℕ, List, Option, Result, Ok, Err, ap, append-nil, append_assoc, flat_map, flat_map-append, flat_map_more, refl, sym, Puts, Puts-fails, Puts-is, Puts-none, Puts-then}
+use Rattle.std.proofs.lemmas.List.Concat.{flat_map-append}
+use Rattle.aprs_io.proofs.Common.{◌≡◌, ◌∙◌, ◌∷◌, ◌++◌, [], ℕ, List, Option, Result, Ok, Err, ap, append-nil, append_assoc, flat_map, flat_map_more, refl, sym}
+use Rattle.aprs_io.proofs.Outlets.{Puts-fails, Puts-is, Puts-none, Puts-then}
+use Rattle.aprs_io.specs.Outlet.{Puts}
 use Rattle.std.specs.Result.{IsErr}
 use Rattle.aprs_io.specs.declared.device.WriteFault.{WriteFault}
 use Rattle.aprs_io.specs.declared.outlet.Outlet.{Outlet}

@@ -1,5 +1,9 @@
-use Rattle.aprs_listing.proofs.Common.{Ok, Err, get_or, sym, arith, get_or_default, shown_byte, Puts-broken, Puts-is, Puts-more, Puts-none, shown-plain}
-use Rattle.aprs_listing.proofs.field.put_shown.Goals as goal
+use Rattle.std.proofs.lemmas.List.{get_or_default}
+use Rattle.aprs_io.proofs.Common.{Ok, Err, get_or, sym, arith}
+use Rattle.aprs_io.proofs.Outlets.{Puts-broken, Puts-is, Puts-more, Puts-none}
+use Rattle.aprs_io.proofs.Shows.{shown-plain}
+use Rattle.aprs_io.specs.Shown.{shown_byte}
+use Rattle.aprs_io.proofs.shown.put_shown.Goals as goal
 
 pub returns-then-are_shown : goal.returns-then-are_shown
 returns-then-are_shown g c = Puts-is c.put.ensures
