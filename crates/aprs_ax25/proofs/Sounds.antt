@@ -292,14 +292,11 @@ module _ (f : List ℕ) (s : IsUiFrame f) (i : ℕ) (h : i + 2 < field_len f / 7
       (slice_get-get_or (drop 2 (addresses f)) i [] many ∙ ap (λ l. Some l) e)
 
 -- a digipeater's number counts from after the destination and the source
-pub within-digipeaters : (f self : List ℕ) (hops i : ℕ) → frame_fault f ≡ None → f ≡ self → hops
-    ≡ length (parts_of self).digipeaters → i < hops
-    → i + 2 < field_len f / 7
-within-digipeaters f self hops i s is e h =
+pub within-digipeaters : (f : List ℕ) (hops i : ℕ) → frame_fault f ≡ None
+    → hops ≡ length (parts_of f).digipeaters → i < hops → i + 2 < field_len f / 7
+within-digipeaters f hops i s e h =
     let all = length-digipeaters f (frame_fault-IsSound f s) in
-    let same : hops ≡ length (parts_of f).digipeaters = e
-    ∙ ap (λ l. length (parts_of l).digipeaters) (sym is) in
-    omega (arith, all, same)
+    omega (arith, all, e)
 
 pub digipeaters-few : (f : List ℕ) → frame_fault f ≡ None → field_len f / 7 - 2 ≤ 8
 digipeaters-few f h = let most = (frame_fault-IsSound f h).size.1 in omega arith

@@ -4,6 +4,7 @@ pub mod Callsign
 pub mod Address
 pub mod Frame
 pub mod FrameFault
+pub mod FrameRef
 pub mod UiFrame
 pub mod Fault
 pub mod Scan

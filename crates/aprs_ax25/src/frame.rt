@@ -16,11 +16,12 @@ ghost use Rattle.std.specs.Cmp.{partial_order_from_own_ties};
 ghost use Rattle.std.specs.Cmp.Rules.{comparing};
 ghost use Rattle.aprs_ax25.specs.Order.{bytes_cmp, bytes_eq};
 
-use crate::callsign::{Callsign, push_text_at};
+use crate::callsign::Callsign;
 use crate::fault::{FrameFault, MakeFault};
+use crate::frame_ref::FrameRef;
 use crate::hop::Hop;
 use crate::plain::plain_field_len;
-use crate::scan::{CONTROL_UI, MAX_UI_FRAME, PID_NONE, end_of_field, fault_of, seven_at};
+use crate::scan::{CONTROL_UI, MAX_UI_FRAME, PID_NONE, fault_of};
 use aprs_io::{copy_bytes, push_all};
 use arrayvec::ArrayVec;
 use std::cmp::Ordering;
@@ -154,7 +155,7 @@ impl Frame {
     pub fn source(&self) -> Callsign
         ensures { result ≡ (parts_of self.now).source.call }
     {
-        Callsign::from_octets(seven_at(&self.bytes, 7))
+        FrameRef::of(self).source()
     }
 
     /// The destination, which APRS uses for the sender's software or equipment (APRS Protocol
@@ -162,52 +163,7 @@ impl Frame {
     pub fn destination(&self) -> Callsign
         ensures { result ≡ (parts_of self.now).destination.call }
     {
-        Callsign::from_octets(seven_at(&self.bytes, 0))
-    }
-
-    /// Puts the text of the source's callsign, as `Callsign::text` gives it, at the end of `out`:
-    /// at most 9 bytes. Takes no memory. For the crates of this repository.
-    pub fn push_source_text<const N: usize>(&self, out: &mut ArrayVec<u8, N>)
-        requires room { array_vec_len out.old + 9 ≤ N }
-        ensures text { out.new.items ≡ out.old.items ++ call_text (parts_of self.now).source.call }
-        ensures most { array_vec_len out.new ≤ array_vec_len out.old + 9 }
-    {
-        push_text_at(out, seven_at(&self.bytes, 7));
-    }
-
-    /// Puts the text of the destination's callsign, as `Callsign::text` gives it, at the end of
-    /// `out`: at most 9 bytes. Takes no memory. For the crates of this repository.
-    pub fn push_destination_text<const N: usize>(&self, out: &mut ArrayVec<u8, N>)
-        requires room { array_vec_len out.old + 9 ≤ N }
-        ensures text { out.new.items ≡ out.old.items
-            ++ call_text (parts_of self.now).destination.call }
-        ensures most { array_vec_len out.new ≤ array_vec_len out.old + 9 }
-    {
-        push_text_at(out, seven_at(&self.bytes, 0));
-    }
-
-    /// Puts the text of the callsign of digipeater number `i`, counted from 0, at the end of
-    /// `out`, at most 9 bytes, and returns whether this digipeater has repeated the frame. `None`
-    /// where there is no such digipeater, and then `out` stays. Takes no memory. For the crates
-    /// of this repository.
-    pub fn push_hop_text<const N: usize>(&self, i: usize, out: &mut ArrayVec<u8, N>) -> Option<bool>
-        requires room { array_vec_len out.old + 9 ≤ N }
-        ensures text { MatchOption (slice_get (parts_of self.now).digipeaters i)
-            (out.new.items ≡ out.old.items)
-            (λ a. out.new.items ≡ out.old.items ++ call_text a.call) }
-        ensures repeated { result
-            ≡ option_map is_repeated (slice_get (parts_of self.now).digipeaters i) }
-        ensures most { array_vec_len out.new ≤ array_vec_len out.old + 9 }
-    {
-        if i < self.hops() {
-            let octets = seven_at(&self.bytes, 7 * (i + 2));
-            // The high bit of an address's last octet is the H bit.
-            let repeated = octets[6] >= 128;
-            push_text_at(out, octets);
-            Some(repeated)
-        } else {
-            None
-        }
+        FrameRef::of(self).destination()
     }
 
     /// How many digipeaters the frame names, 0 to 8. Takes no memory.
@@ -215,8 +171,7 @@ impl Frame {
         ensures value { result ≡ length (parts_of self.now).digipeaters }
         ensures few { result ≤ 8 }
     {
-        // An address has 7 octets; the first two are the destination's and the source's.
-        end_of_field(&self.bytes) / 7 - 2
+        FrameRef::of(self).hops()
     }
 
     /// Digipeater number `i`, counted from 0 in the order of the path, or `None` where the frame
@@ -224,11 +179,7 @@ impl Frame {
     pub fn hop(&self, i: usize) -> Option<Hop>
         ensures { result ≡ option_map hop_of (slice_get (parts_of self.now).digipeaters i) }
     {
-        if i < self.hops() {
-            Some(Hop::from_octets(seven_at(&self.bytes, 7 * (i + 2))))
-        } else {
-            None
-        }
+        FrameRef::of(self).hop(i)
     }
 
     /// The information, 1 to 256 bytes. Takes no memory.
@@ -237,10 +188,7 @@ impl Frame {
         ensures some { 0 < length result.now }
         ensures most { length result.now ≤ 256 }
     {
-        // Control and PID stand before the information.
-        let start = end_of_field(&self.bytes) + 2;
-        let (_, info) = self.bytes.split_at(start);
-        info
+        FrameRef::of(self).info()
     }
 
     /// A copy of the frame. Takes no memory.

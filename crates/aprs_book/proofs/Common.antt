@@ -37,7 +37,7 @@ pub use Rattle.aprs_log.specs.Reception.{Received, bytes_cmp, heard_cmp}
 pub use Rattle.aprs_report.specs.Reader.{reading_of}
 pub use Rattle.aprs_report.specs.Reading.{Reads, Value, ack, item, message, object, position, raw, rej, status}
 pub use Rattle.aprs_rows.proofs.Cases.{by_order, on_err, on_not_err}
-pub use Rattle.aprs_rows.proofs.KeyPrefixes.{head_exact, head_greater, head_less, head_total, two_addresses}
+pub use Rattle.aprs_rows.proofs.KeyPrefixes.{head_exact, head_greater, head_less, head_total}
 pub use Rattle.aprs_rows.proofs.Refusals.{Answers, ascending_short, first_of, free_ascends, free_of_none, last_after, never_memory, next_of_free, none_exactly, of_last_got, pushes_exactly, refused_first}
 pub use Rattle.aprs_rows.specs.KeyPrefix.{HasKeyPrefix}
 pub use Rattle.aprs_rows.specs.KeyPrefixSteps.{head_cmp}

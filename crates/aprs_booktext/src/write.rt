@@ -112,7 +112,7 @@ pub fn put_row<W: Write>(
 {
     out.put(&row_start(&mut room.moments, row.first(), row.last()))?;
     out.put(row.receivers())?;
-    out.put(row_tail(&mut room.tail, row.receiver(), row.frame()))
+    out.put(row_tail(&mut room.tail, row.receiver(), row.frame().bytes()))
 }
 
 /// The part before the receivers in a row's line: `T`, a space, the first moment, a space, the last

@@ -5,7 +5,7 @@ ghost use Rattle.aprs_ax25.specs.FrameFault.{parts_of};
 ghost use Rattle.aprs_convert.specs.Monitor.{monitor_text};
 
 use crate::text::{Text, push_shown};
-use aprs_ax25::Frame;
+use aprs_ax25::{Frame, FrameRef};
 use aprs_monitor::push_hops_text;
 
 /// Puts the frame as a monitor prints it at the end of `out`: source, destination, digipeaters and
@@ -15,10 +15,11 @@ pub fn push_monitor_text(out: &mut Text, frame: &Frame)
     ensures text { out.new.items ≡ out.old.items ++ monitor_text (parts_of frame.now) }
     ensures most { array_vec_len out.new ≤ 1152 }
 {
+    let frame = FrameRef::of(frame);
     frame.push_source_text(out);
     out.push(b'>');
     frame.push_destination_text(out);
-    push_hops_text(out, frame);
+    push_hops_text(out, &frame);
     out.push(b':');
     push_shown(out, frame.info());
 }

@@ -43,7 +43,7 @@ impl SourceRange {
         if self.from.is_none() && self.until.is_none() {
             return true;
         }
-        self.contains(&row.read_frame().source())
+        self.contains(&row.frame().source())
     }
 }
 

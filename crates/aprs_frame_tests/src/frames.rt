@@ -1,6 +1,6 @@
 //! Frames and callsigns of the AX.25 and APRS documents, byte by byte.
 
-use aprs_ax25::{CallFault, Callsign, Frame, FrameFault, Hop, MakeFault};
+use aprs_ax25::{CallFault, Callsign, Frame, FrameFault, FrameRef, Hop, MakeFault};
 use arrayvec::ArrayVec;
 use std::alloc::Global;
 use std::test::Fail;
@@ -218,6 +218,7 @@ fn makes_no_other_frames(rt: HostRuntime) -> Result<(), Fail> {
 #[test]
 fn puts_texts_of_callsigns(rt: HostRuntime) -> Result<(), Fail> {
     let frame = Frame::read(&REPEATED).ok().ok_or("a frame")?;
+    let frame = FrameRef::of(&frame);
     let mut text: ArrayVec<u8, 27> = ArrayVec::new();
     frame.push_source_text(&mut text);
     frame.push_destination_text(&mut text);

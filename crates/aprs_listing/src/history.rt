@@ -4,6 +4,7 @@ ghost use Rattle.std.specs.Fmt.{decimal};
 ghost use Rattle.aprs_ax25.specs.Callsign.{call_text};
 ghost use Rattle.aprs_log.specs.Moment.{moment_text};
 ghost use Rattle.aprs_ax25.specs.FrameFault.{parts_of};
+ghost use Rattle.aprs_ax25.specs.FrameRef.{frame_bytes};
 ghost use Rattle.aprs_io.specs.Device.{Sends};
 ghost use Rattle.aprs_io.specs.Outlet.{Puts};
 ghost use Rattle.aprs_report.specs.Object as ReportWords;
@@ -19,7 +20,7 @@ use crate::field::{Field, place_fields};
 use crate::line::{put_line, put_text_line};
 use crate::listing::id_text;
 use crate::via::via_or_dash;
-use aprs_ax25::{Callsign, Frame};
+use aprs_ax25::{Callsign, FrameRef};
 use aprs_io::{Counted, Outlet, WriteFault};
 use aprs_log::Moment;
 use aprs_mice::MicE;
@@ -62,7 +63,7 @@ fn put_history<W: Write, A: Allocator + Copy>(
 fn put_row_history<W: Write>(out: &mut Outlet<'_, W>, row: &RowView<'_>) -> Result<(), WriteFault>
     ensures { Puts W.contents result out.old out.new (history_line row.now) }
 {
-    let frame = row.read_frame();
+    let frame = row.frame();
     let hops = hops_text(&frame);
     let told = told_fields(
         row.first(),
@@ -99,11 +100,12 @@ fn told_fields<'t>(
 fn put_told<W: Write>(
     out: &mut Outlet<'_, W>,
     told: &[Field<'_>],
-    frame: &Frame,
+    frame: &FrameRef<'_>,
     report: Report<'_>,
 ) -> Result<(), WriteFault>
     ensures { Puts W.contents result out.old out.new
-        (told_line (map field_text told.now) (parts_of frame.now) (view report.entry)) }
+        (told_line (map field_text told.now) (parts_of (frame_bytes frame.now))
+        (view report.entry)) }
 {
     match report {
         Report::Position {
@@ -194,11 +196,12 @@ fn put_answer_line<W: Write>(
 fn put_other<W: Write>(
     out: &mut Outlet<'_, W>,
     told: &[Field<'_>],
-    frame: &Frame,
+    frame: &FrameRef<'_>,
 ) -> Result<(), WriteFault>
     ensures { Puts W.contents result out.old out.new
-        (other_line (map field_text told.now) (parts_of frame.now)
-        (mic_e_or_none (parts_of frame.now).destination.call.letters (parts_of frame.now).info)) }
+        (other_line (map field_text told.now) (parts_of (frame_bytes frame.now))
+        (mic_e_or_none (parts_of (frame_bytes frame.now)).destination.call.letters
+        (parts_of (frame_bytes frame.now)).info)) }
 {
     let destination = frame.destination();
     let info = frame.info();

@@ -3,9 +3,10 @@ ghost use Rattle.std.specs.Prelude.{◌≡◌, ◌+◌, ◌≤◌, ◌++◌, dro
 ghost use Rattle.std.specs.List.{flat_map};
 ghost use Rattle.arrayvec.specs.ArrayVec.{array_vec_len};
 ghost use Rattle.aprs_ax25.specs.FrameFault.{parts_of};
+ghost use Rattle.aprs_ax25.specs.FrameRef.{frame_bytes};
 ghost use Rattle.aprs_ax25.specs.Hop.{hop_of, hop_text};
 
-use aprs_ax25::Frame;
+use aprs_ax25::FrameRef;
 use arrayvec::ArrayVec;
 
 /// The most bytes of the text: eight digipeaters, each a comma, at most 9 bytes and a star.
@@ -13,8 +14,9 @@ pub const MAX_HOPS_TEXT: usize = 88;
 
 /// The frame's digipeaters, at most 88 bytes: each a comma, its callsign, and a star where it has
 /// repeated the frame. Takes no memory.
-pub fn hops_text(frame: &Frame) -> ArrayVec<u8, MAX_HOPS_TEXT>
-    ensures { result.items ≡ flat_map hop_text (map hop_of (parts_of frame.now).digipeaters) }
+pub fn hops_text(frame: &FrameRef<'_>) -> ArrayVec<u8, MAX_HOPS_TEXT>
+    ensures { result.items
+        ≡ flat_map hop_text (map hop_of (parts_of (frame_bytes frame.now)).digipeaters) }
 {
     let mut text = ArrayVec::new();
     push_hops_text(&mut text, frame);
@@ -23,10 +25,10 @@ pub fn hops_text(frame: &Frame) -> ArrayVec<u8, MAX_HOPS_TEXT>
 
 /// Puts the frame's digipeaters, as `hops_text` returns them, at the end of `out`. Takes no
 /// memory.
-pub fn push_hops_text<const N: usize>(out: &mut ArrayVec<u8, N>, frame: &Frame)
+pub fn push_hops_text<const N: usize>(out: &mut ArrayVec<u8, N>, frame: &FrameRef<'_>)
     requires room { array_vec_len out.old + 88 ≤ N }
     ensures text { out.new.items ≡ out.old.items
-        ++ flat_map hop_text (map hop_of (parts_of frame.now).digipeaters) }
+        ++ flat_map hop_text (map hop_of (parts_of (frame_bytes frame.now)).digipeaters) }
     ensures most { array_vec_len out.new ≤ array_vec_len out.old + 88 }
 {
     for i in 0..frame.hops() {
@@ -37,9 +39,9 @@ pub fn push_hops_text<const N: usize>(out: &mut ArrayVec<u8, N>, frame: &Frame)
 /// Puts a comma, the callsign of digipeater number `i`, counted from 0, and a star where it has
 /// repeated the frame at the end of `out`. Where the frame has no such digipeater, puts the comma
 /// alone.
-fn push_hop<const N: usize>(out: &mut ArrayVec<u8, N>, frame: &Frame, i: usize)
+fn push_hop<const N: usize>(out: &mut ArrayVec<u8, N>, frame: &FrameRef<'_>, i: usize)
     requires room { array_vec_len out.old + 11 ≤ N }
-    ensures text { IfSome (slice_get (parts_of frame.now).digipeaters i) (λ a.
+    ensures text { IfSome (slice_get (parts_of (frame_bytes frame.now)).digipeaters i) (λ a.
         out.new.items ≡ out.old.items ++ hop_text (hop_of a)) }
     ensures most { array_vec_len out.new ≤ array_vec_len out.old + 11 }
 {

@@ -5,7 +5,6 @@ pub mod Counts
 pub mod Digits
 pub mod Fronts
 pub mod KeyPrefixes
-pub mod Infos
 pub mod InStore
 pub mod JoinedNames
 pub mod Judgements

@@ -1,5 +1,5 @@
 -- Rows packed in bytes, one after another.
-use Rattle.aprs_rows.proofs.Common.{◌≡◌, ◌∙◌, ℕ, suc, ◌+◌, ◌-◌, ◌<◌, ◌≤◌, List, [], ◌∷◌, ◌++◌, inl, inr, None, Some, length, take, drop, sym, ap, subst, arith, take-append_seam, drop-append_seam, length-append, length-drop, length-take, take_all, drop_all, refl, drop-drop, last_or, slice_get, join_with_byte, join_with_byte-slice_split, parts_of, Row, IsSoundRow, AllByRecursion}
+use Rattle.aprs_rows.proofs.Common.{◌≡◌, ◌∙◌, ℕ, suc, ◌+◌, ◌-◌, ◌<◌, ◌≤◌, List, [], ◌∷◌, ◌++◌, inl, inr, None, Some, length, take, drop, sym, ap, subst, arith, take-append_seam, drop-append_seam, length-append, length-drop, length-take, take_all, drop_all, refl, drop-drop, last_or, slice_get, join_with_byte, join_with_byte-slice_split, field_len, Row, IsSoundRow, AllByRecursion}
 use Rattle.std.proofs.lemmas.List.Sums.{sum_by_push, sum_by-cons}
 use Rattle.aprs_laws.specs.Sound.{AreSoundRows}
 use Rattle.aprs_rows.specs.Names.{row_of_text}
@@ -27,9 +27,8 @@ mark_row_of m a b c k n =
 
 pub notes : (m : Mark) (x : Row) (a b c : List ℕ) → row_of_text m.first m.last a b c ≡ x
     → m.receivers ≡ length a → m.receiver ≡ length b → m.frame ≡ length c
-    → m.receivers < 4294967296 → m.info_at ≤ length c → drop m.info_at c ≡ (parts_of c).info
-    → IsSoundRow x → IsTold (row_of_text m.first m.last a b c) → Notes m x
-notes m x a b c v k n f short w i s h =
+    → m.receivers < 4294967296 → m.info_at ≡ field_len c + 2 → IsSoundRow x → IsTold (row_of_text m.first m.last a b c) → Notes m x
+notes m x a b c v k n f short i s h =
     let text : row_bytes x ≡ a ++ (b ++ c) =
     ap row_bytes (sym v) ∙ ap (λ t. t ++ (b ++ c)) (join_with_byte-slice_split 44 a) in
     let is = mark_row_of m a b c k n in
@@ -40,8 +39,7 @@ notes m x a b c v k n f short w i s h =
         short = short;
         sound = subst IsSoundRow (sym (is ∙ v)) s;
         told = subst IsTold (sym is) h;
-        within = subst (λ fs. m.info_at ≤ length fs) frame w;
-        info = subst (λ fs. drop m.info_at fs ≡ (parts_of fs).info) frame i;
+        info = subst (λ fs. m.info_at ≡ field_len fs + 2) frame i;
       });
       is = ap (mark_row m) text ∙ is ∙ v;
     }

@@ -1,5 +1,5 @@
 -- Prefixes of keys.
-use Rattle.std.specs.Prelude.{◌≡◌, ℕ, ◌<◌, ◌≤◌, List, [], ◌∷◌, ◌++◌, length, drop, slice_index}
+use Rattle.std.specs.Prelude.{◌≡◌, ℕ, ◌<◌, List, [], ◌∷◌, ◌++◌, slice_index}
 use Rattle.std.specs.Int.{w64, from_be_bytes}
 use Rattle.aprs_ax25.specs.Callsign.{Call}
 use Rattle.aprs_ax25.specs.Address.{letters_and_spaces}
@@ -26,10 +26,3 @@ pub record HasKeyPrefix (h : KeyPrefix) (f : List ℕ) : Type 0 where
   pub frame : FrameOf (parts_of f) f
   pub bytes : (i : ℕ) → slice_index (parts_of f).info i < 256
   pub head : h ≡ key_prefix_of (key_of f)
-
--- The prefix is that of the key of this frame, whose information begins at a place.
-pub record HasKey (h : KeyPrefix) (place : ℕ) (frame : List ℕ) : Type 0 where
-  pub within : place ≤ length frame
-  pub info : drop place frame ≡ (parts_of frame).info
-  pub bytes : (i : ℕ) → slice_index (parts_of frame).info i < 256
-  pub head : h ≡ key_prefix_of (key_of frame)

@@ -1,7 +1,7 @@
 -- Rows packed in bytes, one after another.
-use Rattle.std.specs.Prelude.{◌≡◌, ℕ, ◌+◌, ◌<◌, ◌≤◌, List, [], ◌∷◌, ◌++◌, length, take, drop}
+use Rattle.std.specs.Prelude.{◌≡◌, ℕ, ◌+◌, ◌<◌, List, [], ◌∷◌, ◌++◌, length, take, drop}
 use Rattle.std.specs.List.{join_with_byte, sum_by}
-use Rattle.aprs_ax25.specs.FrameFault.{parts_of}
+use Rattle.aprs_ax25.specs.FrameFault.{field_len}
 use Rattle.aprs_laws.specs.Lists.{◌∈◌}
 use Rattle.aprs_laws.specs.Row.{Row}
 use Rattle.aprs_laws.specs.Sound.{IsSoundRow}
@@ -30,9 +30,7 @@ pub record IsMarked (m : Mark) (bytes : List ℕ) : Type 0 where
   pub short : m.receivers < 4294967296
   pub sound : IsSoundRow (mark_row m bytes)
   pub told : IsTold (mark_row m bytes)
-  pub within : m.info_at ≤ length (mark_row m bytes).greatest.frame
-  pub info : drop m.info_at (mark_row m bytes).greatest.frame
-      ≡ (parts_of (mark_row m bytes).greatest.frame).info
+  pub info : m.info_at ≡ field_len (mark_row m bytes).greatest.frame + 2
 
 -- The mark is that of the row.
 pub record Notes (m : Mark) (x : Row) : Type 0 where

@@ -235,7 +235,7 @@ fn shown_transmissions<A: Allocator + Copy>(rows: BookRows<'_, A>) -> usize {
         if row.first() == row.last()
             && row.receivers() == b"RX1".as_slice()
             && row.receiver() == b"RX1".as_slice()
-            && row.frame().ends_with(row.info())
+            && row.frame().bytes().ends_with(row.frame().info())
             && row.greatest().moment() == row.last()
         {
             shown = shown.saturating_add(1);

@@ -198,11 +198,13 @@ fn rows_are_made_of_what_rows_show(rt: HostRuntime) -> Result<(), Fail> {
     let x = heard(0, b"RX1", &DIRECT)?;
     rows.push_reception(&x).ok().ok_or("memory")?;
     let row = rows.last().ok_or("a row")?;
-    let frame = row.read_frame();
+    let frame = row.frame().to_frame();
     let again = made_again(&row, &frame);
     assert!(rt; again.refusal_after(Some(&row), Gap::STANDARD) == Some(RowCause::Order));
     assert!(rt; row.refusal_after(Some(&again), Gap::STANDARD) == Some(RowCause::Order));
-    assert!(rt; again.receivers() == row.receivers() && again.frame() == row.frame());
+    assert!(rt;
+        again.receivers() == row.receivers() && again.frame().bytes() == row.frame().bytes()
+    );
     Ok(())
 }
 

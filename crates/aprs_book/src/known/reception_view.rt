@@ -1,15 +1,14 @@
 //! A reception in bytes.
-ghost use Rattle.std.specs.Prelude.{◌≡◌, false, true, Some, take, drop};
+ghost use Rattle.std.specs.Prelude.{◌≡◌, false, true, Some};
 ghost use Rattle.std.specs.Option.{option_copied};
-ghost use Rattle.aprs_ax25.specs.Frame.{FrameOf};
-ghost use Rattle.aprs_ax25.specs.FrameFault.{parts_of};
+ghost use Rattle.aprs_ax25.specs.FrameRef.{frame_bytes};
 ghost use Rattle.aprs_log.specs.Reception.{heard_cmp};
 ghost use Rattle.aprs_laws.specs.Best.{greater_known};
 ghost use Rattle.aprs_laws.specs.Key.{key_of};
 ghost use Rattle.aprs_book.specs.Known.{Topic, subject_bytes, topic_bytes};
 
 use crate::known::subject::Subject;
-use aprs_ax25::{Callsign, Frame};
+use aprs_ax25::{Callsign, Frame, FrameRef};
 use aprs_log::{Moment, Receiver, Reception};
 use aprs_rows::RowView;
 use std::cmp::Ordering;
@@ -20,25 +19,20 @@ use std::marker::Model;
 pub(crate) struct ReceptionView<'a> {
     moment: Moment,
     receiver: &'a [u8],
-    frame: &'a [u8],
-    info: &'a [u8],
+    frame: FrameRef<'a>,
 }
 
 impl<'a> Model for ReceptionView<'a> {
-    ghost use Rattle.std.specs.Prelude.{◌≡◌};
-    ghost use Rattle.aprs_ax25.specs.Frame.{FrameOf};
-    ghost use Rattle.aprs_ax25.specs.FrameFault.{parts_of};
+    ghost use Rattle.aprs_ax25.specs.FrameRef.{frame_bytes};
     ghost use Rattle.aprs_log.specs.Receiver.{IsName};
     ghost use Rattle.aprs_log.specs.Reception.{Received};
 
     ghost Value = { Received };
 
     ghost view = { λ x.
-        record { moment = x.moment; receiver = x.receiver.now; frame = x.frame.now } };
+        record { moment = x.moment; receiver = x.receiver.now; frame = frame_bytes x.frame } };
 
-    ghost invariant = { λ x. IsName x.receiver.now
-        × FrameOf (parts_of x.frame.now) x.frame.now
-        × (x.info.now ≡ (parts_of x.frame.now).info) };
+    ghost invariant = { λ x. IsName x.receiver.now };
 }
 
 impl<'a> ReceptionView<'a> {
@@ -50,8 +44,7 @@ impl<'a> ReceptionView<'a> {
         ReceptionView {
             moment,
             receiver: receiver.as_bytes(),
-            frame: frame.bytes(),
-            info: frame.info(),
+            frame: FrameRef::of(frame),
         }
     }
 
@@ -70,7 +63,6 @@ impl<'a> ReceptionView<'a> {
             moment: row.last(),
             receiver: row.receiver(),
             frame: row.frame(),
-            info: row.info(),
         }
     }
 
@@ -86,7 +78,7 @@ impl<'a> ReceptionView<'a> {
     pub(crate) fn info(&self) -> &'a [u8]
         ensures { result.now ≡ (key_of self.now.frame).info }
     {
-        self.info
+        self.frame.info()
     }
 
     /// The station that sent the frame.
@@ -94,14 +86,14 @@ impl<'a> ReceptionView<'a> {
     pub(crate) fn source(&self) -> Callsign
         ensures { result ≡ (key_of self.now.frame).source }
     {
-        Frame::from_bytes(self.frame).source()
+        self.frame.source()
     }
 
-    /// The seven octets of the source's address, which follow the seven of the destination's.
-    pub(crate) fn source_octets(&self) -> &'a [u8]
-        ensures { result.now ≡ take 7 (drop 7 self.now.frame) }
+    /// The frame.
+    pub(crate) fn frame(&self) -> FrameRef<'a>
+        ensures { frame_bytes result ≡ self.now.frame }
     {
-        &self.frame[7..14]
+        self.frame
     }
 
     /// What the frame reports on, with the bytes under which an index has it.
@@ -110,7 +102,7 @@ impl<'a> ReceptionView<'a> {
         ensures { (topic : Topic)
             → subject_bytes topic result ≡ topic_bytes topic (key_of self.now.frame) }
     {
-        Subject::of(&self.source(), self.info)
+        Subject::of(&self.source(), self.info())
     }
 
     /// Whether this reception is greater than the one that is known, by moment, then receiver, then
@@ -133,7 +125,7 @@ impl<'a> ReceptionView<'a> {
     {
         match self.moment.cmp(&other.moment) {
             Ordering::Equal => match self.receiver.cmp(other.receiver) {
-                Ordering::Equal => self.frame.cmp(other.frame),
+                Ordering::Equal => self.frame.bytes().cmp(other.frame.bytes()),
                 unequal => unequal,
             },
             unequal => unequal,
@@ -148,7 +140,6 @@ impl<'a> ReceptionView<'a> {
             moment: self.moment,
             receiver: self.receiver,
             frame: self.frame,
-            info: self.info,
         }
     }
 
@@ -159,7 +150,7 @@ impl<'a> ReceptionView<'a> {
         Reception::new(
             self.moment,
             Receiver::with_name(self.receiver),
-            Frame::from_bytes(self.frame),
+            self.frame.to_frame(),
         )
     }
 }

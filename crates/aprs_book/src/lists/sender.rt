@@ -33,7 +33,7 @@ impl<'a> Sender<'a> {
     pub(crate) fn after(before: Option<Sender<'a>>, x: &ReceptionView<'a>) -> Sender<'a>
         ensures { result ≡ (key_of x.now.frame).source }
     {
-        let octets = x.source_octets();
+        let octets = x.frame().source_octets();
         match before {
             Some(sender) if sender.octets == octets => sender,
             _ => Sender {

@@ -1,13 +1,12 @@
 //! Prefixes of keys: numbers that are compared before the keys themselves.
 ghost use Rattle.std.specs.Prelude.{◌≡◌, ℕ, ◌<◌, ◌%◌, List, length, slice_index};
 ghost use Rattle.std.specs.Int.{w64, from_be_bytes};
-ghost use Rattle.aprs_ax25.specs.Frame.{FrameOf};
-ghost use Rattle.aprs_ax25.specs.FrameFault.{parts_of};
+ghost use Rattle.aprs_ax25.specs.FrameRef.{frame_bytes};
 ghost use Rattle.aprs_laws.specs.Key.{key_of, key_cmp};
-ghost use Rattle.aprs_rows.specs.KeyPrefix.{key_prefix_of, HasKeyPrefix};
+ghost use Rattle.aprs_rows.specs.KeyPrefix.{HasKeyPrefix};
 ghost use Rattle.aprs_rows.specs.KeyPrefixSteps.{octets_number};
 
-use aprs_ax25::Frame;
+use aprs_ax25::{Frame, FrameRef};
 use std::cmp::Ordering;
 
 /// The prefix of a frame's key: the numbers of its source, of its destination and of the first
@@ -24,40 +23,36 @@ impl KeyPrefix {
     pub fn of_frame(frame: &Frame) -> KeyPrefix
         ensures { HasKeyPrefix result frame.now }
     {
-        KeyPrefix::of(frame.bytes(), frame.info())
+        KeyPrefix::of(&FrameRef::of(frame))
     }
 
-    /// The prefix of the key of a frame, from the frame's bytes and its information.
+    /// The prefix of the key of a frame that is lent.
     #[tactic(auto, unfolding(aprs_laws::specs::Key::key_of))]
-    pub(crate) fn of(frame: &[u8], info: &[u8]) -> KeyPrefix
-        requires frame { FrameOf (parts_of frame.now) frame.now }
-        requires info { info.now ≡ (parts_of frame.now).info }
-        ensures value { result ≡ key_prefix_of (key_of frame.now) }
-        // Needed where prefixes are compared: the information's bytes are digits of its number.
-        ensures bytes { (i : ℕ) → slice_index (parts_of frame.now).info i < 256 }
+    pub(crate) fn of(frame: &FrameRef<'_>) -> KeyPrefix
+        ensures { HasKeyPrefix result (frame_bytes frame.now) }
     {
+        let bytes = frame.bytes();
         KeyPrefix {
-            source: call_number(&frame[7..15]),
-            destination: call_number(&frame[..8]),
-            info: info_number(info),
+            source: call_number(&bytes[7..15]),
+            destination: call_number(&bytes[..8]),
+            info: info_number(frame.info()),
         }
     }
 }
 
-/// The order of the keys of two frames, from the prefix of each key and the information of each
-/// frame.
+/// The order of the keys of two frames, each after the prefix of its key.
 pub(crate) fn key_order(
     head: KeyPrefix,
-    info: &[u8],
-    other: KeyPrefix,
-    other_info: &[u8],
+    frame: &FrameRef<'_>,
+    other_head: KeyPrefix,
+    other: &FrameRef<'_>,
 ) -> Ordering
-    ensures { (f g : List ℕ) → HasKeyPrefix head f → HasKeyPrefix other g
-        → info.now ≡ (parts_of f).info
-        → other_info.now ≡ (parts_of g).info → result ≡ key_cmp (key_of f) (key_of g) }
+    requires head { HasKeyPrefix head (frame_bytes frame.now) }
+    requires other { HasKeyPrefix other_head (frame_bytes other.now) }
+    ensures { result ≡ key_cmp (key_of (frame_bytes frame.now)) (key_of (frame_bytes other.now)) }
 {
-    match head.cmp(&other) {
-        Ordering::Equal => info.cmp(other_info),
+    match head.cmp(&other_head) {
+        Ordering::Equal => frame.info().cmp(other.info()),
         unequal => unequal,
     }
 }
@@ -66,12 +61,8 @@ pub(crate) fn key_order(
 pub fn order_of_keys(a: &Frame, b: &Frame) -> Ordering
     ensures { result ≡ key_cmp (key_of a.now) (key_of b.now) }
 {
-    key_order(
-        KeyPrefix::of_frame(a),
-        a.info(),
-        KeyPrefix::of_frame(b),
-        b.info(),
-    )
+    let (a, b) = (FrameRef::of(a), FrameRef::of(b));
+    key_order(KeyPrefix::of(&a), &a, KeyPrefix::of(&b), &b)
 }
 
 /// The number of the callsign in the seven octets of an address, which one more follows: base 256,
@@ -92,7 +83,9 @@ fn call_number(octets: &[u8]) -> u64
 
 /// The number of the first eight bytes, base 256. Where there are fewer, zeros follow them.
 fn info_number(info: &[u8]) -> u64
-    ensures { result ≡ from_be_bytes w64 info.now }
+    ensures value { result ≡ from_be_bytes w64 info.now }
+    // Needed where prefixes are compared: the bytes are digits of the number.
+    ensures bytes { (i : ℕ) → slice_index info.now i < 256 }
 {
     let first = match info.first_chunk::<8>() {
         Some(first) => *first,

@@ -1,14 +1,12 @@
 //! A row in bytes.
 ghost use Rattle.std.specs.Prelude.{◌≡◌, ◌<◌, ◌++◌, ◌∷◌, [], All, IfOk, OnOk, length};
 ghost use Rattle.std.specs.List.{join_with_byte};
-ghost use Rattle.aprs_ax25.specs.Frame.{FrameOf};
-ghost use Rattle.aprs_ax25.specs.FrameFault.{parts_of};
+ghost use Rattle.aprs_ax25.specs.FrameRef.{frame_bytes};
 ghost use Rattle.aprs_log.specs.Receiver.{IsName};
 ghost use Rattle.aprs_log.specs.Reception.{heard_cmp};
 ghost use Rattle.aprs_laws.specs.Key.{key_cmp};
 ghost use Rattle.aprs_laws.specs.Row.{last_moment, row_cmp, row_key};
 ghost use Rattle.aprs_laws.specs.Sound.{IsSoundRow};
-ghost use Rattle.aprs_rows.specs.KeyPrefix.{HasKeyPrefix};
 ghost use Rattle.aprs_rows.specs.Names.{names_in, row_of_text};
 ghost use Rattle.aprs_rows.specs.Packed.{IsMarked, IsShort, Notes, mark_row};
 
@@ -17,7 +15,7 @@ use crate::growth::reserve_one;
 use crate::row::key_prefix::{KeyPrefix, key_order};
 use crate::row::names::cut_name;
 use crate::store::mark::Mark;
-use aprs_ax25::Frame;
+use aprs_ax25::{Frame, FrameRef};
 use aprs_log::{Moment, Receiver, Reception};
 use std::alloc::Allocator;
 use std::cmp::Ordering;
@@ -31,26 +29,26 @@ pub struct RowView<'a> {
     last: Moment,
     names: &'a [u8],
     receiver: &'a [u8],
-    frame: &'a [u8],
-    /// Where the frame's information begins.
-    info_at: u8,
+    frame: FrameRef<'a>,
     /// The prefix of the frame's key.
     head: KeyPrefix,
 }
 
 impl<'a> Model for RowView<'a> {
+    ghost use Rattle.std.specs.Prelude.{All};
+    ghost use Rattle.aprs_ax25.specs.FrameRef.{frame_bytes};
+    ghost use Rattle.aprs_log.specs.Receiver.{IsName};
     ghost use Rattle.aprs_laws.specs.Row.{Row as RowValue};
-    ghost use Rattle.aprs_rows.specs.KeyPrefix.{HasKey};
-    ghost use Rattle.aprs_rows.specs.Names.{row_of_text};
-    ghost use Rattle.aprs_rows.specs.Told.{IsTold};
+    ghost use Rattle.aprs_rows.specs.KeyPrefix.{HasKeyPrefix};
+    ghost use Rattle.aprs_rows.specs.Names.{names_in, row_of_text};
 
     ghost Value = { RowValue };
 
-    ghost view = { λ r. row_of_text r.first r.last r.names.now r.receiver.now r.frame.now };
+    ghost view = { λ r.
+        row_of_text r.first r.last r.names.now r.receiver.now (frame_bytes r.frame) };
 
-    ghost invariant = { λ r.
-        IsTold (row_of_text r.first r.last r.names.now r.receiver.now r.frame.now)
-        × HasKey r.head r.info_at r.frame.now };
+    ghost invariant = { λ r. All IsName (names_in r.names.now) × IsName r.receiver.now
+        × HasKeyPrefix r.head (frame_bytes r.frame) };
 }
 
 impl<'a> RowView<'a> {
@@ -67,16 +65,14 @@ impl<'a> RowView<'a> {
         requires name { IsName receiver.now }
         ensures { result ≡ row_of_text first last receivers.now receiver.now frame.now }
     {
-        let bytes = frame.bytes();
-        let info = frame.info();
+        let frame = FrameRef::of(frame);
         RowView {
             first,
             last,
             names: receivers,
             receiver,
-            frame: bytes,
-            info_at: (bytes.len() - info.len()) as u8,
-            head: KeyPrefix::of(bytes, info),
+            frame,
+            head: KeyPrefix::of(&frame),
         }
     }
 
@@ -87,16 +83,15 @@ impl<'a> RowView<'a> {
         ensures { result ≡ mark_row mark.now bytes.now }
     {
         let (receivers, rest) = bytes.split_at(mark.receivers as usize);
-        let (receiver, frame) = rest.split_at(mark.receiver as usize);
-        let (_, info) = frame.split_at(mark.info_at as usize);
+        let (receiver, bytes) = rest.split_at(mark.receiver as usize);
+        let frame = FrameRef::with_info_at(bytes, mark.info_at as usize);
         RowView {
             first: mark.first,
             last: mark.last,
             names: receivers,
             receiver,
             frame,
-            info_at: mark.info_at,
-            head: KeyPrefix::of(frame, info),
+            head: KeyPrefix::of(&frame),
         }
     }
 
@@ -111,9 +106,9 @@ impl<'a> RowView<'a> {
             first: self.first,
             last: self.last,
             receivers: self.names.len() as u32,
-            frame: self.frame.len() as u16,
+            frame: self.frame.bytes().len() as u16,
             receiver: self.receiver.len() as u8,
-            info_at: self.info_at,
+            info_at: self.frame.info_at() as u8,
         }
     }
 
@@ -133,7 +128,6 @@ impl<'a> RowView<'a> {
             names: receivers,
             receiver: self.receiver,
             frame: self.frame,
-            info_at: self.info_at,
             head: self.head,
         }
     }
@@ -148,7 +142,6 @@ impl<'a> RowView<'a> {
             names: self.names,
             receiver: self.receiver,
             frame: self.frame,
-            info_at: self.info_at,
             head: self.head,
         }
     }
@@ -185,19 +178,10 @@ impl<'a> RowView<'a> {
     }
 
     /// The frame of the greatest reception. Takes no memory.
-    pub fn frame(&self) -> &'a [u8]
-        ensures value { result.now ≡ self.now.greatest.frame }
-        ensures frame { FrameOf (parts_of self.now.greatest.frame) self.now.greatest.frame }
+    pub fn frame(&self) -> FrameRef<'a>
+        ensures { frame_bytes result ≡ self.now.greatest.frame }
     {
         self.frame
-    }
-
-    /// The information of the greatest reception's frame. Takes no memory.
-    pub fn info(&self) -> &'a [u8]
-        ensures { result.now ≡ (parts_of self.now.greatest.frame).info }
-    {
-        let (_, info) = self.frame.split_at(self.info_at as usize);
-        info
     }
 
     /// The names of those who heard it, as a list in memory from `alloc`, or `Memory` where that is
@@ -219,7 +203,7 @@ impl<'a> RowView<'a> {
     pub fn greatest(&self) -> Reception
         ensures { result ≡ self.now.greatest }
     {
-        Reception::new(self.last, self.read_receiver(), self.read_frame())
+        Reception::new(self.last, self.read_receiver(), self.frame.to_frame())
     }
 
     /// The receiver of the greatest reception, in a place of its own. Can't fail, since a row's
@@ -228,14 +212,6 @@ impl<'a> RowView<'a> {
         ensures { result ≡ self.now.greatest.receiver }
     {
         Receiver::with_name(self.receiver())
-    }
-
-    /// The frame of the greatest reception, in a place of its own. Can't fail, since a row's bytes
-    /// hold a UI frame there. Takes no memory.
-    pub fn read_frame(&self) -> Frame
-        ensures { result ≡ self.now.greatest.frame }
-    {
-        Frame::from_bytes(self.frame())
     }
 
     /// The order of rows, by key, then first moment. Takes no memory.
@@ -252,7 +228,7 @@ impl<'a> RowView<'a> {
     pub(crate) fn key_order(&self, other: &RowView<'_>) -> Ordering
         ensures { result ≡ key_cmp (row_key self.now) (row_key other.now) }
     {
-        key_order(self.head(), self.info(), other.head(), other.info())
+        key_order(self.head, &self.frame, other.head, &other.frame)
     }
 
     /// The order of the greatest receptions, by moment, receiver and frame.
@@ -261,18 +237,11 @@ impl<'a> RowView<'a> {
     {
         match self.last.cmp(&other.last) {
             Ordering::Equal => match self.receiver.cmp(other.receiver) {
-                Ordering::Equal => self.frame.cmp(other.frame),
+                Ordering::Equal => self.frame.bytes().cmp(other.frame.bytes()),
                 unequal => unequal,
             },
             unequal => unequal,
         }
-    }
-
-    /// The prefix of the key: numbers that are compared before the keys themselves.
-    fn head(&self) -> KeyPrefix
-        ensures { HasKeyPrefix result self.now.greatest.frame }
-    {
-        self.head
     }
 }
 

@@ -117,7 +117,7 @@ impl<A: Allocator + Copy> PackedRows<A> {
         ensures pushed { OnOk result (self.new ≡ self.old ++ row.now ∷ []) }
         ensures unchanged { OnErr result (self.new ≡ self.old) }
     {
-        let (receivers, receiver, frame) = (row.receivers(), row.receiver(), row.frame());
+        let (receivers, receiver, frame) = (row.receivers(), row.receiver(), row.frame().bytes());
         let size = receivers.len() + receiver.len() + frame.len();
         reserve(&mut self.marks, 1)?;
         reserve(&mut self.bytes, size)?;

@@ -1,14 +1,16 @@
 use Rattle.aprs_convert.proofs.Common.{◌∙◌, ◌++◌, ℕ, List, ap, codes, map, flat_map}
 use Rattle.aprs_ax25.specs.Callsign.{call_text}
 use Rattle.aprs_ax25.specs.FrameFault.{parts_of}
+use Rattle.aprs_ax25.specs.FrameRef.{frame_bytes}
 use Rattle.aprs_ax25.specs.Hop.{hop_of, hop_text}
 use Rattle.aprs_io.specs.Shown.{shown_text}
+use Rattle.aprs_convert.specs.Monitor.{monitor_text}
 use Rattle.aprs_convert.proofs.Texts.{goes_on}
 use Rattle.aprs_convert.proofs.monitor.push_monitor_text.Goals as goal
 
 pub returns-clause-text : goal.returns-clause-text
 returns-clause-text c =
-    let p = parts_of c.args.frame.now in
+    let p = parts_of (frame_bytes c.of-frame.result) in
     let out = c.args.out.now.items in
     let source = call_text p.source.call in
     let stations = source ++ codes ">" ++ call_text p.destination.call in
@@ -21,3 +23,4 @@ returns-clause-text c =
     let colon = goes_on out path (codes ":") via c.push-2.ensures.items in
     goes_on out (path ++ codes ":") (shown_text p.info) colon (c.push_shown.ensures.shown
     ∙ ap (λ (l : List ℕ). c.push-2.new.self.items ++ shown_text l) c.info.ensures.value)
+    ∙ ap (λ (f : List ℕ). out ++ monitor_text (parts_of f)) c.of-frame.ensures

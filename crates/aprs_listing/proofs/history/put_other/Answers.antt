@@ -1,4 +1,4 @@
-use Rattle.aprs_listing.proofs.Common.{◌∙◌, [], ◌∷◌, ◌++◌, map, Some, None, ap, codes, Call, call_text, parts_of, mic_e_view, Puts-is}
+use Rattle.aprs_listing.proofs.Common.{◌∙◌, [], ◌∷◌, ◌++◌, map, Some, None, ap, codes, Call, call_text, frame_bytes, parts_of, mic_e_view, Puts-is}
 use Rattle.aprs_listing.specs.History.{other_line}
 use Rattle.aprs_listing.specs.Lines.{field_text}
 use Rattle.aprs_listing.specs.Listing.{line_with_text}
@@ -8,7 +8,7 @@ use Rattle.aprs_listing.proofs.history.put_other.Goals as goal
 pub returns-in-Some : goal.returns-in-Some
 returns-in-Some g c =
     let told = map field_text c.args.told.now in
-    let p = parts_of c.args.frame.now in
+    let p = parts_of (frame_bytes c.args.frame.now) in
     let says = mic_e_view c.in-Some.says in
     Puts-is c.put_text_line.ensures
     (told_text (codes "mic-e") told says.comment c.mic_e_fields-fields.ensures
@@ -19,7 +19,7 @@ returns-in-Some g c =
 pub returns-in-None : goal.returns-in-None
 returns-in-None g c =
     let told = map field_text c.args.told.now in
-    let p = parts_of c.args.frame.now in
+    let p = parts_of (frame_bytes c.args.frame.now) in
     Puts-is c.put_text_line-in-None.ensures
     (told_text (codes "raw") told c.info-info.result.now
     (ap (λ (call : Call). call_text call ∷ []) c.destination-destination.ensures)

@@ -1,4 +1,4 @@
-use Rattle.aprs_listing.proofs.Common.{◌≡◌, ◌∙◌, ℕ, List, [], ◌∷◌, map, ap, sym, refl, codes, Parts, parts_of, view, Report, Puts-is}
+use Rattle.aprs_listing.proofs.Common.{◌≡◌, ◌∙◌, ℕ, List, [], ◌∷◌, map, ap, sym, refl, codes, Parts, frame_bytes, parts_of, view, Report, Puts-is}
 use Rattle.aprs_listing.specs.History.{told_line}
 use Rattle.aprs_listing.specs.Lines.{field_text, told_named_line}
 use Rattle.aprs_listing.specs.Listing.{word}
@@ -20,24 +20,24 @@ returns-in-Position g c =
     Puts-is c.put_text_line.ensures
     (told_text (codes "position") (map field_text c.args.told.now) it.comment.now
     c.place_fields-fields.ensures
-    ∙ line_by (map field_text c.args.told.now) (parts_of c.args.frame.now) c.args.report _ it.is)
+    ∙ line_by (map field_text c.args.told.now) (parts_of (frame_bytes c.args.frame.now)) c.args.report _ it.is)
 
 pub returns-in-Object : goal.returns-in-Object
 returns-in-Object g c =
     Puts-is c.put_named.ensures
-    (named_by (map field_text c.args.told.now) (parts_of c.args.frame.now) c.args.report _
+    (named_by (map field_text c.args.told.now) (parts_of (frame_bytes c.args.frame.now)) c.args.report _
     c.in-Object.is refl)
 
 pub returns-in-Item : goal.returns-in-Item
 returns-in-Item g c =
     Puts-is c.put_named-in-Item.ensures
-    (named_by (map field_text c.args.told.now) (parts_of c.args.frame.now) c.args.report _
+    (named_by (map field_text c.args.told.now) (parts_of (frame_bytes c.args.frame.now)) c.args.report _
     c.in-Item.is refl)
 
 pub returns-in-Status : goal.returns-in-Status
 returns-in-Status g c =
     Puts-is c.put_text_line-in-Status.ensures
-    (line_by (map field_text c.args.told.now) (parts_of c.args.frame.now) c.args.report _ c.in-Status.is)
+    (line_by (map field_text c.args.told.now) (parts_of (frame_bytes c.args.frame.now)) c.args.report _ c.in-Status.is)
 
 pub returns-in-Message : goal.returns-in-Message
 returns-in-Message g c =
@@ -45,16 +45,16 @@ returns-in-Message g c =
     Puts-is c.put_text_line-in-Message.ensures
     (told_text (codes "message") (map field_text c.args.told.now) it.text.now
     (ap (λ id. word it.addressee.now ∷ id ∷ []) c.id_text.ensures)
-    ∙ line_by (map field_text c.args.told.now) (parts_of c.args.frame.now) c.args.report _ it.is)
+    ∙ line_by (map field_text c.args.told.now) (parts_of (frame_bytes c.args.frame.now)) c.args.report _ it.is)
 
 pub returns-in-Ack : goal.returns-in-Ack
 returns-in-Ack g c = Puts-is c.put_answer_line.ensures
-    (line_by (map field_text c.args.told.now) (parts_of c.args.frame.now) c.args.report _ c.in-Ack.is)
+    (line_by (map field_text c.args.told.now) (parts_of (frame_bytes c.args.frame.now)) c.args.report _ c.in-Ack.is)
 
 pub returns-in-Rej : goal.returns-in-Rej
 returns-in-Rej g c = Puts-is c.put_answer_line-in-Rej.ensures
-    (line_by (map field_text c.args.told.now) (parts_of c.args.frame.now) c.args.report _ c.in-Rej.is)
+    (line_by (map field_text c.args.told.now) (parts_of (frame_bytes c.args.frame.now)) c.args.report _ c.in-Rej.is)
 
 pub returns-in-Raw : goal.returns-in-Raw
 returns-in-Raw g c = Puts-is c.put_other.ensures
-    (line_by (map field_text c.args.told.now) (parts_of c.args.frame.now) c.args.report _ c.in-Raw.is)
+    (line_by (map field_text c.args.told.now) (parts_of (frame_bytes c.args.frame.now)) c.args.report _ c.in-Raw.is)

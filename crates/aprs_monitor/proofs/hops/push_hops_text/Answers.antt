@@ -1,9 +1,9 @@
-use Rattle.aprs_monitor.proofs.Common.{arith, parts_of, hop_of, hop_text, shown-each}
+use Rattle.aprs_monitor.proofs.Common.{frame_bytes, arith, parts_of, hop_of, hop_text, shown-each}
 use Rattle.aprs_monitor.proofs.hops.push_hops_text.Goals as goal
 
 pub loop-i-preserved : goal.loop-i-preserved
 loop-i-preserved g c =
-    let digipeaters = (parts_of c.args.frame.now).digipeaters in
+    let digipeaters = (parts_of (frame_bytes c.args.frame.now)).digipeaters in
     record {
       text = shown-each hop_text hop_of c.loop-i.out.items c.push_hop.new.out.items
           digipeaters c.loop-i.i (omega (arith, c.loop-i-test.true, c.hops-i-end.ensures.value))

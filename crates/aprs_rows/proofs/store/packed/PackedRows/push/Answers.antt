@@ -10,7 +10,7 @@ lies g c =
     let bytes = c.self.inside.bytes.items in
     let a = c.receivers-receivers.result.now in
     let b = c.receiver-receiver.result.now in
-    let f = c.frame-frame.result.now in
+    let f = c.bytes-frame.result.now in
     lies_after c.self.inside.marks.items c.push_reserved.new.self.items bytes
     c.put-3.new.items.items c.mark.result c.args.row.now c.self.invariant.0 c.mark.ensures
     (c.push_reserved.ensures.items
@@ -20,7 +20,7 @@ lies g c =
     ∙ ap (λ bs. bs ++ a) c.in_ok-reserve-2.ensures.items))
     ∙ append_assoc (bytes ++ a) b f ∙ append_assoc bytes a (b ++ f)
     ∙ (λ t. bytes ++ (c.receivers-receivers.ensures.text t
-    ++ (c.receiver-receiver.ensures.value t ++ c.frame-frame.ensures.value t))))
+    ++ (c.receiver-receiver.ensures.value t ++ (c.bytes-frame.ensures.value ∙ c.frame.ensures) t))))
 
 pub overflow_add-self-2 : goal.overflow_add-self-2
 overflow_add-self-2 g c =
