@@ -9,6 +9,7 @@ pub mod Digits
 pub mod Spellings
 pub mod Standing
 pub mod Inputs
+pub mod KeptLines
 pub mod KeptRows
 pub mod LastLines
 pub mod LastRows

@@ -9,6 +9,7 @@ pub mod RowLines
 pub mod Reader
 pub mod Reading
 pub mod ReadRows
+pub mod KeptLine
 pub mod RowFields
 pub mod Seconds
 pub mod Text

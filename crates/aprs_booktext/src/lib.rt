@@ -6,7 +6,10 @@ mod end_line;
 mod example;
 mod fault;
 mod hexadecimal;
+mod kept_rows;
 mod laws;
+mod lent_row;
+mod open_line;
 mod piece;
 mod read;
 mod row_buffers;
@@ -28,6 +31,8 @@ pub use laws::{
     each_text_has_one_fault_or_none, old_moments_are_told_to_the_second,
     read_books_are_written_back, written_books_are_read,
 };
+pub use lent_row::LentRow;
+pub use open_line::OpenLine;
 pub use read::{read_book, read_rows};
 pub use row_stream::RowStream;
 pub use version::Version;

@@ -8,16 +8,20 @@ ghost use Rattle.aprs_booktext.specs.BookAnswers.{IsAnswerFor};
 ghost use Rattle.aprs_booktext.specs.Fault.{ending_cause};
 ghost use Rattle.aprs_io.specs.Cut.{Lacks};
 ghost use Rattle.aprs_booktext.specs.Reader as Spec;
+ghost use Rattle.aprs_booktext.specs.Text.{row_line};
 ghost use Rattle.aprs_booktext.specs.RowReader.{answer_read, count_after, is_row_between, kept_after, most_stream, row_lent, rows_kept, size_read, version_in, HasReadText, HasReadTo, JudgesKept, KeepsVersion, ReadsOne, StopsHere};
 
 use crate::end_line::end_line;
 use crate::fault::{BookCause, BookFault};
+use crate::kept_rows::KeptRows;
+use crate::lent_row::LentRow;
 use crate::row_buffers::RowBuffers;
 use crate::row_line::read_row;
 use crate::stage::{Stage, ending_cause, is_done, judge_end, judge_header, may_end};
 use crate::version::Version;
 use aprs_book::Gap;
 use aprs_io::InputEnd;
+use aprs_log::MomentForm;
 use aprs_rows::{Memory, PackedRows, RowView};
 use std::alloc::Allocator;
 use std::mem::replace;
@@ -44,7 +48,7 @@ pub struct RowReader<A: Allocator> {
     buffers: RowBuffers,
     keeping: Keeping,
     /// The rows that are kept.
-    rows: PackedRows<A>,
+    rows: KeptRows<A>,
     /// How many rows there were.
     count: usize,
 }
@@ -60,7 +64,7 @@ impl<A: Allocator + Copy> RowReader<A> {
             stage: Stage::Header,
             buffers: RowBuffers::new(),
             keeping,
-            rows: PackedRows::new(alloc),
+            rows: KeptRows::new(alloc),
             count: 0,
         }
     }
@@ -96,6 +100,20 @@ impl<A: Allocator + Copy> RowReader<A> {
         }
     }
 
+    /// The last row with its line, or `None` before the first and after the last line.
+    pub fn front(&self) -> Option<LentRow<'_>>
+        ensures some { IfSome result (λ x. last_or None (row_lent self.now) ≡ Some x) }
+        ensures none { IfNone result (row_lent self.now ≡ []) }
+        // A row is sound by itself, and its receivers' names have fewer than 4,294,967,296 bytes.
+        ensures own { IfSome result (λ x. IsSoundRow x × IsShort x) }
+    {
+        self.rows.sound();
+        match self.stage {
+            Stage::Rows(_) => self.rows.last_lent(),
+            Stage::Header | Stage::Done(_) => None,
+        }
+    }
+
     /// The rows that are kept, which then are kept no more.
     pub fn take_rows(&mut self, alloc: A) -> PackedRows<A>
         ensures rows { result ≡ self.old.rows }
@@ -104,7 +122,7 @@ impl<A: Allocator + Copy> RowReader<A> {
         ensures stage { self.new.stage ≡ self.old.stage }
         ensures size { size_read self.new ≡ size_read self.old }
     {
-        replace(&mut self.rows, PackedRows::new(alloc))
+        replace(&mut self.rows, KeptRows::new(alloc)).into_rows()
     }
 
     /// Keeps bytes, none of them an LF, after those that are kept of the line.
@@ -310,7 +328,7 @@ fn judge<A: Allocator + Copy>(
     stage: Stage,
     keeping: Keeping,
     count: usize,
-    rows: &mut PackedRows<A>,
+    rows: &mut KeptRows<A>,
     buffers: &mut RowBuffers,
     line: &[u8],
 ) -> Result<Stage, BookCause>
@@ -331,7 +349,7 @@ fn judge_row<A: Allocator + Copy>(
     version: Version,
     keeping: Keeping,
     count: usize,
-    rows: &mut PackedRows<A>,
+    rows: &mut KeptRows<A>,
     buffers: &mut RowBuffers,
     line: &[u8],
 ) -> Result<Stage, BookCause>
@@ -351,25 +369,29 @@ fn judge_row<A: Allocator + Copy>(
     if row.receivers().len() > MOST_NAMES {
         return Err(BookCause::Memory);
     }
-    match keep(keeping, rows, &row) {
+    match keep(keeping, rows, &row, version.form(), line) {
         Ok(()) => Ok(Stage::Rows(version)),
         Err(_) => Err(BookCause::Memory),
     }
 }
 
-/// Keeps a row: after the others where each is kept, and else in their place.
+/// Keeps a row, whose line in this form is `line`: after the others where each is kept, and else
+/// in their place.
 fn keep<A: Allocator + Copy>(
     keeping: Keeping,
-    rows: &mut PackedRows<A>,
+    rows: &mut KeptRows<A>,
     row: &RowView<'_>,
+    form: MomentForm,
+    line: &[u8],
 ) -> Result<(), Memory>
     requires sound { IsSoundRow row.now }
     requires short { length (join_with_byte 44 row.now.receivers) < 4294967296 }
+    requires spelled { line.now ≡ row_line form row.now }
     ensures kept { OnOk result (rows.new ≡ kept_after keeping rows.old row.now) }
     ensures stays { OnErr result (keeping ≡ Keeping.Each → rows.new ≡ rows.old) }
 {
     match keeping {
         Keeping::Each => rows.push(row),
-        Keeping::Last => rows.set(row),
+        Keeping::Last => rows.set(row, form, line),
     }
 }

@@ -14,6 +14,7 @@ ghost use Rattle.aprs_booktext.specs.TextFault.{most_ahead};
 
 use crate::cut::cut;
 use crate::fault::{BookCause, BookFault};
+use crate::lent_row::LentRow;
 use crate::piece::Piece;
 use crate::row_reader::{Keeping, RowReader};
 use aprs_book::Gap;
@@ -82,6 +83,17 @@ impl<A: Allocator + Copy> RowStream<A> {
         ensures own { IfSome result (λ x. IsSoundRow x × IsShort x) }
     {
         self.reader.row()
+    }
+
+    /// The row that was read last, with its line where that is as it is written, or `None` before
+    /// the first and after the last. Takes no memory.
+    pub fn front(&self) -> Option<LentRow<'_>>
+        ensures some { IfSome result (λ x. last_or None (Spec.front_of self.now) ≡ Some x) }
+        ensures none { IfNone result (Spec.front_of self.now ≡ []) }
+        // A row is sound by itself, and its receivers' names have fewer than 4,294,967,296 bytes.
+        ensures own { IfSome result (λ x. IsSoundRow x × IsShort x) }
+    {
+        self.reader.front()
     }
 
     /// Reads on to the next row, or to the end of the book and of the source, and then there is no

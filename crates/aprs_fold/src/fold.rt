@@ -18,10 +18,9 @@ use crate::opening::{advance, open_all};
 use crate::range::SourceRange;
 use crate::taking::{count_after, has_line, put_last, take_front};
 use crate::tournament::Tournament;
-use aprs_booktext::{WrittenRow, end_line_and_lf, header_line};
+use aprs_booktext::{OpenLine, WrittenRow, end_line_and_lf, header_line};
 use aprs_io::{Counted, Outlet, WriteFault};
 use aprs_laws::Gap;
-use aprs_rows::OpenRow;
 use std::alloc::Allocator;
 use std::io::{Read, Write};
 
@@ -134,7 +133,7 @@ fn put_rows<R: Read, W: Write, A: Allocator + Copy>(
     let streams = opened.as_mut_slice();
     let mut tournament = Tournament::new(alloc, streams)?;
     let mut room = WrittenRow::new();
-    let mut last = OpenRow::new(alloc);
+    let mut last = OpenLine::new(alloc);
     let mut count = 0;
     while let Some(index) = tournament.first(streams) {
         let wrote = take_front(gap, range, streams, index, &mut last, out, &mut room)?;

@@ -10,10 +10,9 @@ ghost use Rattle.aprs_fold.specs.Taking as Spec;
 
 use crate::fault::FoldFault;
 use crate::range::SourceRange;
-use aprs_booktext::{RowStream, WrittenRow, put_row};
+use aprs_booktext::{LentRow, OpenLine, RowStream, WrittenRow};
 use aprs_io::Outlet;
 use aprs_laws::Gap;
-use aprs_rows::{OpenRow, RowView};
 use std::alloc::Allocator;
 use std::io::Write;
 
@@ -23,7 +22,7 @@ pub(crate) fn take_front<W: Write, A: Allocator + Copy>(
     range: &SourceRange,
     streams: &[RowStream<A>],
     index: usize,
-    last: &mut OpenRow<A>,
+    last: &mut OpenLine<A>,
     out: &mut Outlet<'_, W>,
     room: &mut WrittenRow,
 ) -> Result<bool, FoldFault>
@@ -35,7 +34,7 @@ pub(crate) fn take_front<W: Write, A: Allocator + Copy>(
         → IsSoundRow x × Spec.FailsTaking W.contents range.now (millis_of gap) fault
         out.old out.new last.old x) }
 {
-    match streams[index].row() {
+    match streams[index].front() {
         Some(next) => take(gap, range, &next, last, out, room),
         None => Ok(false),
     }
@@ -47,8 +46,8 @@ pub(crate) fn take_front<W: Write, A: Allocator + Copy>(
 fn take<W: Write, A: Allocator + Copy>(
     gap: Gap,
     range: &SourceRange,
-    next: &RowView<'_>,
-    last: &mut OpenRow<A>,
+    next: &LentRow<'_>,
+    last: &mut OpenLine<A>,
     out: &mut Outlet<'_, W>,
     room: &mut WrittenRow,
 ) -> Result<bool, FoldFault>
@@ -71,7 +70,7 @@ fn take<W: Write, A: Allocator + Copy>(
 /// whether it is.
 pub(crate) fn put_last<W: Write, A: Allocator + Copy>(
     range: &SourceRange,
-    last: &OpenRow<A>,
+    last: &OpenLine<A>,
     out: &mut Outlet<'_, W>,
     room: &mut WrittenRow,
 ) -> Result<bool, FoldFault>
@@ -85,19 +84,19 @@ pub(crate) fn put_last<W: Write, A: Allocator + Copy>(
     let Some(row) = last.row() else {
         return Ok(false);
     };
-    if !range.contains_row(&row) {
+    if !range.contains_row(row.row()) {
         return Ok(false);
     }
-    put_row(out, room, &row)?;
+    row.put(out, room)?;
     Ok(true)
 }
 
 /// Whether there is a last row that is within the range.
-pub(crate) fn has_line<A: Allocator + Copy>(range: &SourceRange, last: &OpenRow<A>) -> bool
+pub(crate) fn has_line<A: Allocator + Copy>(range: &SourceRange, last: &OpenLine<A>) -> bool
     ensures { Spec.IsThere result (rows_of_sources range.now last.now) }
 {
     match last.row() {
-        Some(row) => range.contains_row(&row),
+        Some(row) => range.contains_row(row.row()),
         None => false,
     }
 }

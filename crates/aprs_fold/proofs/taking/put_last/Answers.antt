@@ -1,42 +1,48 @@
 use Rattle.aprs_fold.proofs.Common.{◌∙◌, [], Err, List, Row, refl, sym, ap, subst, Puts-fails, Puts-is, err_from_is_err_and}
 use Rattle.aprs_fold.specs.Taking.{lines_of_rows, HasPut}
 use Rattle.aprs_fold.specs.declared.fault.FoldFault.TheVariants.{Write}
+use Rattle.aprs_fold.proofs.Kept.{is_row_within}
 use Rattle.aprs_fold.proofs.Puttings.{one_within, one_without, HasPut-none, HasPut-one}
 use Rattle.aprs_fold.proofs.taking.put_last.Goals as goal
 
 pub returns-then-not-contains_row-clause-wrote : goal.returns-then-not-contains_row-clause-wrote
 returns-then-not-contains_row-clause-wrote g c =
     one_without c.args.range.now c.in-Some.row c.args.last.now c.in-Some.ensures.some
-    (sym c.contains_row.ensures ∙ c.if-not-contains_row.true)
+    (ap (is_row_within c.args.range.now) (sym c.row-2.ensures) ∙ sym c.contains_row.ensures
+    ∙ c.if-not-contains_row.true)
 
 pub returns-then-not-contains_row-clause-puts : goal.returns-then-not-contains_row-clause-puts
 returns-then-not-contains_row-clause-puts g c =
     subst (λ (l : List Row). HasPut g.W.Write.contents c.args.out.now c.args.out.now l)
     (sym (one_without c.args.range.now c.in-Some.row c.args.last.now c.in-Some.ensures.some
-    (sym c.contains_row.ensures ∙ c.if-not-contains_row.true)))
+    (ap (is_row_within c.args.range.now) (sym c.row-2.ensures) ∙ sym c.contains_row.ensures
+    ∙ c.if-not-contains_row.true)))
     (HasPut-none c.args.out.now)
 
-pub returns-in_err-put_row-clause-fails : goal.returns-in_err-put_row-clause-fails
-returns-in_err-put_row-clause-fails g c =
+pub returns-in_err-put-clause-fails : goal.returns-in_err-put-clause-fails
+returns-in_err-put-clause-fails g c =
     let p = err_from_is_err_and c.from_residual.result c.from_residual.ensures.1 in
     rw (p.1, p.2) (
       refl,
-      Puts-is (Puts-fails (Err Write) refl c.in_err-put_row.ensures.puts [])
+      Puts-is (Puts-fails (Err Write) refl c.in_err-put.ensures.puts [])
           (ap lines_of_rows (sym (one_within c.args.range.now c.in-Some.row c.args.last.now
-          c.in-Some.ensures.some (sym c.contains_row.ensures ∙ c.if-not-contains_row.false)))),
+          c.in-Some.ensures.some (ap (is_row_within c.args.range.now) (sym c.row-2.ensures) ∙ sym c.contains_row.ensures
+          ∙ c.if-not-contains_row.false)))),
     )
 
 pub returns-clause-wrote : goal.returns-clause-wrote
 returns-clause-wrote g c = (
   c.in-Some.row,
   one_within c.args.range.now c.in-Some.row c.args.last.now c.in-Some.ensures.some
-      (sym c.contains_row.ensures ∙ c.if-not-contains_row.false),
+      (ap (is_row_within c.args.range.now) (sym c.row-2.ensures) ∙ sym c.contains_row.ensures
+      ∙ c.if-not-contains_row.false),
 )
 
 pub returns-clause-puts : goal.returns-clause-puts
 returns-clause-puts g c =
-    subst (λ (l : List Row). HasPut g.W.Write.contents c.args.out.now c.put_row.new.out l)
+    subst (λ (l : List Row). HasPut g.W.Write.contents c.args.out.now c.put.new.out l)
     (sym (one_within c.args.range.now c.in-Some.row c.args.last.now c.in-Some.ensures.some
-    (sym c.contains_row.ensures ∙ c.if-not-contains_row.false)))
-    (HasPut-one c.args.out.now c.put_row.new.out c.in-Some.row c.in_ok-put_row.ensures.puts
-    c.in_ok-put_row.ensures.spelled)
+    (ap (is_row_within c.args.range.now) (sym c.row-2.ensures) ∙ sym c.contains_row.ensures
+    ∙ c.if-not-contains_row.false)))
+    (HasPut-one c.args.out.now c.put.new.out c.in-Some.row c.in_ok-put.ensures.puts
+    c.in_ok-put.ensures.spelled)

@@ -1,6 +1,12 @@
 use Rattle.aprs_fold.proofs.Common.{◌<◌, ◌-◌, ℕ, arith}
-use Rattle.aprs_fold.proofs.Matches.{all_played, fewer_to_play, played_one, second_to_play}
+use Rattle.aprs_fold.proofs.Matches.{all_played, fewer_to_play, none_played, played_one, second_to_play}
 use Rattle.aprs_fold.proofs.tournament.play_all.Goals as goal
+
+pub loop-number-init : goal.loop-number-init
+loop-number-init g c = record {
+  most = omega arith;
+  played = none_played c.args.streams.now c.args.winners.now c.requires.each c.requires.within;
+}
 
 pub loop-number-preserved : goal.loop-number-preserved
 loop-number-preserved g c =
