@@ -85,7 +85,7 @@ fn is_spelled(row: &RowView<'_>)
 {
     are_writable(row.first(), row.last());
     let (_names, _receiver) = (row.receivers(), row.receiver());
-    are_bytes(row.frame());
+    are_bytes(row.frame().bytes());
 }
 
 /// Each moment can be written to the millisecond. Does nothing.
