@@ -1,6 +1,7 @@
 -- Which bytes are the text of a callsign, and what is wrong with others.
 use Rattle.std.specs.Prelude.{◌≡◌, ℕ, ◌<◌, ◌==◌, ◌⊎◌, Bool, false, List, length, drop}
 use Rattle.std.specs.List.{list_all, before_first}
+use Rattle.aprs_io.specs.Octet.{octet}
 use Rattle.aprs_ax25.specs.Callsign.{Call, IsCall, is_callsign_byte, call_text, ssid_text}
 use Rattle.aprs_ax25.specs.Fault.{call_fault_number}
 use Rattle.aprs_ax25.specs.declared.fault.CallFault.{CallFault}
@@ -13,7 +14,7 @@ pub record SpellsCall (c : Call) (text : List ℕ) : Type 0 where
 
 -- The byte is a dash.
 abbrev pub is_dash : ℕ → Bool
-is_dash byte = byte == 45
+is_dash byte = byte == octet "-"
 
 -- The part of a text before its first dash, or all of it.
 abbrev pub before_dash : List ℕ → List ℕ

@@ -6,6 +6,7 @@ use Rattle.std.specs.List.{list_all}
 use Rattle.std.specs.Fmt.{decimal}
 use Rattle.std.specs.declared.cmp.Ordering.{Ordering}
 use Rattle.std.specs.Ordering.{nat_cmp, on, then_cmp, eq_of_both}
+use Rattle.aprs_io.specs.Octet.{octet}
 use Rattle.aprs_ax25.specs.Order.{bytes_cmp, bytes_eq}
 
 -- A callsign: its letters and digits, and its SSID.
@@ -26,7 +27,7 @@ pub record IsCall (call : Call) : Type 0 where
 
 -- The text of an SSID: nothing for 0, and otherwise a dash and the number.
 abbrev pub ssid_text : ℕ → List ℕ
-ssid_text ssid = if ssid == 0 then [] else 45 ∷ decimal ssid
+ssid_text ssid = if ssid == 0 then [] else octet "-" ∷ decimal ssid
 
 -- The text of a callsign: its letters and digits, and the text of its SSID.
 abbrev pub call_text : Call → List ℕ

@@ -1,5 +1,6 @@
 -- A digipeater as a frame's address has it, and as monitors print it.
 use Rattle.std.specs.Prelude.{ℕ, if◌then◌else◌, List, [], ◌∷◌, ◌++◌}
+use Rattle.aprs_io.specs.Octet.{octet}
 use Rattle.aprs_ax25.specs.Address.{Address, is_repeated}
 use Rattle.aprs_ax25.specs.Callsign.{call_text}
 use Rattle.aprs_ax25.specs.declared.hop.Hop.{Hop}
@@ -10,4 +11,4 @@ hop_of address = record { call = address.call; repeated = is_repeated address }
 
 -- A comma, the digipeater, and a star where it has repeated the frame.
 abbrev pub hop_text : Hop → List ℕ
-hop_text hop = 44 ∷ call_text hop.call ++ (if hop.repeated then 42 ∷ [] else [])
+hop_text hop = octet "," ∷ call_text hop.call ++ (if hop.repeated then octet "*" ∷ [] else [])

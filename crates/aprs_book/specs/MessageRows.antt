@@ -6,6 +6,7 @@ use Rattle.std.specs.Map.{lookup}
 use Rattle.std.specs.Option.{option_and_then, option_map}
 use Rattle.std.specs.Ordering.{bool_cmp, on, then_cmp}
 use Rattle.std.specs.declared.cmp.Ordering.{Ordering}
+use Rattle.aprs_log.specs.Octet.{octet}
 use Rattle.aprs_ax25.specs.Callsign.{Call, call_cmp}
 use Rattle.aprs_ax25.specs.CallText.{SpellsCall, before_dash, from_dash}
 use Rattle.aprs_ax25.specs.Scan.{call_fault, ssid_of}
@@ -33,7 +34,7 @@ use Rattle.aprs_book.specs.ReplyTexts.{number_of}
 -- Whether information begins with a colon, as that of messages and their answers does.
 abbrev pub begins_with_colon : List ℕ → Bool
 begins_with_colon [] = false
-begins_with_colon (b ∷ bytes) = b == 58
+begins_with_colon (b ∷ bytes) = b == octet ":"
 
 -- ---- spans
 

@@ -1,6 +1,7 @@
 -- Reply-acks (APRS 1.1): the number that a text has, and what it acknowledges.
 use Rattle.std.specs.Prelude.{◌≡◌, ◌⊎◌, ℕ, Bool, true, ◌&&◌, nat_le, List, ◌∷◌, ◌++◌, length, codes}
 use Rattle.std.specs.List.{list_all}
+use Rattle.aprs_log.specs.Octet.{octet}
 use Rattle.aprs_report.specs.Bytes.{is_alphanumeric}
 
 -- At most two letters or digits.
@@ -17,14 +18,14 @@ pub record IsNumberedText (number acknowledged text : List ℕ) : Type 0 where
   pub body : List ℕ
   pub a_number : is_message_number number ≡ true
   pub a_number_or_nothing : is_number_or_nothing acknowledged ≡ true
-  pub whole : text ≡ body ++ 123 ∷ (number ++ 125 ∷ acknowledged)
+  pub whole : text ≡ body ++ octet "{" ∷ (number ++ octet "}" ∷ acknowledged)
 
 -- The text is "ack", the number, a brace, and what the acknowledged text acknowledges, or nothing.
 pub record IsAckText (number text : List ℕ) : Type 0 where
   pub acknowledged : List ℕ
   pub a_number : is_message_number number ≡ true
   pub a_number_or_nothing : is_number_or_nothing acknowledged ≡ true
-  pub whole : text ≡ codes "ack" ++ (number ++ 125 ∷ acknowledged)
+  pub whole : text ≡ codes "ack" ++ (number ++ octet "}" ∷ acknowledged)
 
 -- The text acknowledges this number: after its own number, or as an ack.
 pub record IsReplyAckText (number text : List ℕ) : Type 0 where

@@ -2,6 +2,7 @@
 use Rattle.std.specs.Prelude.{◌≡◌, ◌==◌, ◌&&◌, ◌↔◌, ℕ, true, if◌then◌else◌, List, [], ◌∷◌, ◌++◌, length, Option, None, Some}
 use Rattle.std.specs.List.{list_all}
 use Rattle.std.specs.Option.{option_or}
+use Rattle.aprs_log.specs.Octet.{octet}
 use Rattle.aprs_report.specs.Bytes.{is_alphanumeric}
 use Rattle.aprs_report.specs.Reader.{value_when}
 use Rattle.aprs_book.specs.ReplyAcks.{is_message_number, is_number_or_nothing}
@@ -27,23 +28,23 @@ number_at [] = None
 number_at (x ∷ []) = None
 number_at (x ∷ y ∷ []) = None
 number_at (x ∷ y ∷ z ∷ number) =
-    value_when (x == 97 && y == 99 && z == 107 && is_message_number number) number
+    value_when (x == octet "a" && y == octet "c" && z == octet "k" && is_message_number number) number
 
 -- The number that these bytes begin with, where a closing brace and at most two letters or digits
 -- are all that follow it.
 abbrev pub number_of_two : ℕ → ℕ → List ℕ → Option (List ℕ)
 number_of_two x y [] = None
 number_of_two x y (brace ∷ rest) = value_when
-    (brace == 125 && is_message_number (x ∷ y ∷ []) && is_number_or_nothing rest) (x ∷ y ∷ [])
+    (brace == octet "}" && is_message_number (x ∷ y ∷ []) && is_number_or_nothing rest) (x ∷ y ∷ [])
 
 abbrev pub closed_number : List ℕ → Option (List ℕ)
 closed_number [] = None
 closed_number (x ∷ []) = None
 closed_number (x ∷ y ∷ rest) = option_or
-    (value_when (y == 125 && is_message_number (x ∷ []) && is_number_or_nothing rest) (x ∷ []))
+    (value_when (y == octet "}" && is_message_number (x ∷ []) && is_number_or_nothing rest) (x ∷ []))
     (number_of_two x y rest)
 
 -- The number that a text has between braces at its end, or none.
 abbrev pub number_of : List ℕ → Option (List ℕ)
 number_of [] = None
-number_of (b ∷ text) = option_or (if b == 123 then closed_number text else None) (number_of text)
+number_of (b ∷ text) = option_or (if b == octet "{" then closed_number text else None) (number_of text)

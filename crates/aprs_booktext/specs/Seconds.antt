@@ -1,5 +1,6 @@
 -- Texts of version 1, whose moments are written to the second.
 use Rattle.std.specs.Prelude.{◌≡◌, ℕ, ◌*◌, ◌/◌, ◌%◌, ◌≤◌, List, ◌∷◌, ◌++◌, All, map, Result, IfOk}
+use Rattle.aprs_io.specs.Octet.{octet}
 use Rattle.aprs_log.specs.Moment.{date_text, day_after, moment_text_in, time_text}
 use Rattle.aprs_log.specs.Reception.{Received}
 use Rattle.aprs_log.specs.declared.moment_form.MomentForm.TheVariants.{Seconds}
@@ -30,4 +31,4 @@ ReadsSeconds text answer = (S : List Received) → IsTextInSeconds S text
 abbrev pub AreWrittenToTheSecond : Type 0
 AreWrittenToTheSecond = (s : ℕ) → s ≤ 4102444799
     → moment_text_in Seconds (s * 1000)
-    ≡ date_text (day_after (s / 86400)) ++ 84 ∷ time_text Seconds (s % 86400 * 1000)
+    ≡ date_text (day_after (s / 86400)) ++ octet "T" ∷ time_text Seconds (s % 86400 * 1000)

@@ -2,6 +2,7 @@
 use Rattle.std.specs.Prelude.{ℕ, ◌<◌, ◌≤◌, List, [], ◌∷◌, ◌++◌, length, map, codes, decimal, All}
 use Rattle.std.specs.List.{join_with_byte}
 use Rattle.hex.specs.Hex.{encode_lower, IsBytes}
+use Rattle.aprs_io.specs.Octet.{octet}
 use Rattle.aprs_ax25.specs.UiFrame.{IsUiFrame}
 use Rattle.aprs_log.specs.LogText.{text_of_lines}
 use Rattle.aprs_log.specs.Moment.{IsWritable, moment_text_in}
@@ -22,11 +23,11 @@ use Rattle.aprs_booktext.specs.declared.version.Version.TheVariants.{Three}
 -- and the greatest reception's receiver, and its frame in lower case hexadecimal.
 abbrev pub fields_of : MomentForm → Row → List (List ℕ)
 fields_of form x = codes "T" ∷ moment_text_in form x.first ∷ moment_text_in form (last_moment x)
-    ∷ join_with_byte 44 x.receivers ∷ x.greatest.receiver ∷ encode_lower x.greatest.frame ∷ []
+    ∷ join_with_byte (octet ",") x.receivers ∷ x.greatest.receiver ∷ encode_lower x.greatest.frame ∷ []
 
 -- The line of a row, without its LF: its fields with a space between.
 abbrev pub row_line : MomentForm → Row → List ℕ
-row_line form x = join_with_byte 32 (fields_of form x)
+row_line form x = join_with_byte (octet " ") (fields_of form x)
 
 -- The last line of a text, without its LF: END, a space, and how many rows there are.
 abbrev pub end_line : ℕ → List ℕ
