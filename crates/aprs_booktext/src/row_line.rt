@@ -1,5 +1,5 @@
 //! A row's line.
-ghost use Rattle.std.specs.Prelude.{◌≡◌, ◌≢◌, ◌↔◌, ◌∷◌, ◌++◌, ℕ, List, All, IsTrue, IfOk, OnOk, IfErr, IfNone, IfSome};
+ghost use Rattle.std.specs.Prelude.{◌≡◌, ◌≢◌, ◌↔◌, ◌<◌, ◌∷◌, ◌++◌, ℕ, List, length, All, IsTrue, IfOk, OnOk, IfErr, IfNone, IfSome};
 ghost use Rattle.aprs_log.specs.Clock.{form_size};
 ghost use Rattle.aprs_log.specs.Receiver.{IsName};
 ghost use Rattle.aprs_log.specs.Moment.{moment_text_in, IsWritable};
@@ -17,12 +17,15 @@ use aprs_rows::RowView;
 
 /// The row that a line spells, with its moments in this form. Fails with `RowSyntax` where the line
 /// spells no row, and with `Frame` where it spells one but for its frame, whose bytes aren't a UI
-/// frame. The frame is read into `buffers`, of which the row borrows it.
+/// frame. The frame is read into `buffers`, of which the row borrows it. `known` has names of
+/// receivers, with commas between, or is empty: a line mostly has those of the line before.
 pub fn read_row<'l>(
     buffers: &'l mut RowBuffers,
     form: MomentForm,
+    known: &[u8],
     line: &'l [u8],
 ) -> Result<RowView<'l>, BookCause>
+    requires { 0 < length known.now → All IsName (pieces 44 known.now) }
     ensures ok { IfOk result (λ x. IsBookRow form x × (line.now ≡ row_line form x)) }
     ensures err { IfErr result (λ cause. IsWrongRow form line.now cause) }
 {
@@ -32,10 +35,10 @@ pub fn read_row<'l>(
     let Some(first) = cut_moment(&mut buffers.clock, form, rest) else {
         return Err(BookCause::RowSyntax);
     };
-    let Some(last) = cut_moment(&mut buffers.clock, form, first.1) else {
+    let Some(last) = cut_last(&mut buffers.clock, form, first.0, rest, first.1) else {
         return Err(BookCause::RowSyntax);
     };
-    let Some((receivers, rest)) = cut_names(last.1) else {
+    let Some((receivers, rest)) = cut_names(known, last.1) else {
         return Err(BookCause::RowSyntax);
     };
     let Some((receiver, digits)) = cut_name(rest) else {
@@ -75,6 +78,29 @@ fn cut_moment<'l>(clock: &mut Clock, form: MomentForm, text: &'l [u8]) -> Option
     }
 }
 
+/// The last moment of a row, with which `text` begins, and what follows the space after it, or
+/// `None` where the text doesn't begin so. Before `text` stands the first moment in `before`: where
+/// the last is that, its text need not be read again.
+fn cut_last<'l>(
+    clock: &mut Clock,
+    form: MomentForm,
+    first: Moment,
+    before: &[u8],
+    text: &'l [u8],
+) -> Option<(Moment, &'l [u8])>
+    requires writable { IsWritable form first }
+    requires before { before.now ≡ moment_text_in form first ++ 32 ∷ text.now }
+    ensures some { IfSome result (λ p. IsWritable form p.0
+        × (text.now ≡ moment_text_in form p.0 ++ 32 ∷ p.1.now)) }
+    ensures none { IfNone result ((m : ℕ) (rest : List ℕ) → IsWritable form m
+        → text.now ≢ moment_text_in form m ++ 32 ∷ rest) }
+{
+    match cut_known(&before[..size_in(form)], text) {
+        Some((_, rest)) => Some((first, rest)),
+        None => cut_moment(clock, form, text),
+    }
+}
+
 /// How many bytes the text of a moment has in this form.
 fn size_in(form: MomentForm) -> usize
     ensures { result ≡ form_size form }
@@ -101,8 +127,42 @@ fn read_moment(clock: &mut Clock, form: MomentForm, field: &[u8]) -> Option<Mome
 }
 
 /// The names of receivers, with commas between, that a text begins with, and what follows the space
+/// after them, or `None` where the text doesn't begin so. Where they are the names in `known`, they
+/// need not be looked at again.
+fn cut_names<'l>(known: &[u8], text: &'l [u8]) -> Option<(&'l [u8], &'l [u8])>
+    requires { 0 < length known.now → All IsName (pieces 44 known.now) }
+    ensures some { IfSome result (λ p. All IsName (pieces 44 p.0.now)
+        × (text.now ≡ p.0.now ++ 32 ∷ p.1.now)) }
+    ensures none { IfNone result ((names rest : List ℕ) → All IsName (pieces 44 names)
+        → text.now ≢ names ++ 32 ∷ rest) }
+{
+    match cut_known(known, text) {
+        Some(found) => Some(found),
+        None => cut_other_names(text),
+    }
+}
+
+/// `known` and what follows the space after it, where it isn't empty and the text begins so. `None`
+/// decides nothing.
+fn cut_known<'l>(known: &[u8], text: &'l [u8]) -> Option<(&'l [u8], &'l [u8])>
+    ensures { IfSome result (λ p. (0 < length known.now) × (p.0.now ≡ known.now)
+        × (text.now ≡ p.0.now ++ 32 ∷ p.1.now)) }
+{
+    let size = known.len();
+    if size == 0 || text.len() <= size || text[size] != b' ' {
+        return None;
+    }
+    let own = &text[..size];
+    if own == known {
+        Some((own, &text[size + 1..]))
+    } else {
+        None
+    }
+}
+
+/// The names of receivers, with commas between, that a text begins with, and what follows the space
 /// after them, or `None` where the text doesn't begin so.
-fn cut_names(text: &[u8]) -> Option<(&[u8], &[u8])>
+fn cut_other_names(text: &[u8]) -> Option<(&[u8], &[u8])>
     ensures some { IfSome result (λ p. All IsName (pieces 44 p.0.now)
         × (text.now ≡ p.0.now ++ 32 ∷ p.1.now)) }
     ensures none { IfNone result ((names rest : List ℕ) → All IsName (pieces 44 names)

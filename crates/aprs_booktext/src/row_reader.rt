@@ -1,5 +1,5 @@
 //! A book's text, while it is read line by line.
-ghost use Rattle.std.specs.Prelude.{◌≡◌, ◌<◌, ◌+◌, ◌≤◌, ◌++◌, ◌∷◌, ℕ, [], false, List, length, None, Some, OnErr, OnOk, IfErr, IfOk, IfSome, IfNone};
+ghost use Rattle.std.specs.Prelude.{All, ◌≡◌, ◌<◌, ◌+◌, ◌≤◌, ◌++◌, ◌∷◌, ℕ, [], false, List, length, None, Some, OnErr, OnOk, IfErr, IfOk, IfSome, IfNone};
 ghost use Rattle.std.specs.List.{join_with_byte, last_or};
 ghost use Rattle.aprs_laws.specs.Row.{Row};
 ghost use Rattle.aprs_laws.specs.Sound.{IsSoundRow};
@@ -8,7 +8,9 @@ ghost use Rattle.aprs_booktext.specs.BookAnswers.{IsAnswerFor};
 ghost use Rattle.aprs_booktext.specs.Fault.{ending_cause};
 ghost use Rattle.aprs_io.specs.Cut.{Lacks};
 ghost use Rattle.aprs_booktext.specs.Reader as Spec;
+ghost use Rattle.aprs_booktext.specs.Lines.{pieces};
 ghost use Rattle.aprs_booktext.specs.Text.{row_line};
+ghost use Rattle.aprs_log.specs.Receiver.{IsName};
 ghost use Rattle.aprs_booktext.specs.RowReader.{answer_read, count_after, is_row_between, kept_after, most_stream, row_lent, rows_kept, size_read, version_in, HasReadText, HasReadTo, JudgesKept, KeepsVersion, ReadsOne, StopsHere};
 
 use crate::end_line::end_line;
@@ -361,8 +363,8 @@ fn judge_row<A: Allocator + Copy>(
     if line.starts_with(b"END") {
         return judge_end(line, version, count);
     }
-    let row = read_row(buffers, version.form(), line)?;
     let before = rows.last();
+    let row = read_row(buffers, version.form(), names_of(&before), line)?;
     if let Some(cause) = row.refusal_after(before.as_ref(), version.gap()) {
         return Err(BookCause::from(cause));
     }
@@ -372,6 +374,16 @@ fn judge_row<A: Allocator + Copy>(
     match keep(keeping, rows, &row, version.form(), line) {
         Ok(()) => Ok(Stage::Rows(version)),
         Err(_) => Err(BookCause::Memory),
+    }
+}
+
+/// The names of a row's receivers, with commas between, or an empty text where there is no row.
+fn names_of<'r>(row: &Option<RowView<'r>>) -> &'r [u8]
+    ensures { 0 < length result.now → All IsName (pieces 44 result.now) }
+{
+    match row {
+        Some(row) => row.receivers(),
+        None => &[],
     }
 }
 

@@ -1,7 +1,7 @@
 use Rattle.aprs_booktext.proofs.Common.{◌≡◌, ◌∙◌, sym, subst, true, false, All, IsName}
 use Rattle.aprs_booktext.specs.Lines.{pieces}
 use Rattle.aprs_booktext.proofs.RowReading.{if_none, lacks_field, no_field, one_field}
-use Rattle.aprs_booktext.proofs.row_line.cut_names.Goals as goal
+use Rattle.aprs_booktext.proofs.row_line.cut_other_names.Goals as goal
 
 pub returns-in_err-names-clause-none : goal.returns-in_err-names-clause-none
 returns-in_err-names-clause-none c = if_none c.from_residual.result
