@@ -1,0 +1,13 @@
+//! The rows of a range of sources, found by bisection in a book file that can be read at any place.
+#![tactic(auto)]
+
+mod book_range;
+mod cut;
+mod find;
+mod judge;
+mod line;
+mod read_at;
+mod tail;
+
+pub use book_range::BookRange;
+pub use read_at::ReadAt;
