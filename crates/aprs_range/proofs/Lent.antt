@@ -1,7 +1,7 @@
 -- What is lent of a book's text.
-use Rattle.std.proofs.Common.{◌≡◌, ◌≤◌, ◌+◌, ◌-◌, ◌∙◌, ℕ, Bool, true, false, List, [], ◌∷◌, ◌++◌, length, map, take, drop, Option, None, Some, refl, sym, ap, append_assoc, append-nil, arith}
+use Rattle.std.proofs.Common.{◌≡◌, ◌≤◌, ◌+◌, ◌-◌, ◌∙◌, ℕ, Bool, true, false, List, [], ◌∷◌, ◌++◌, length, map, take, drop, Option, None, Some, refl, sym, ap, append_assoc, append-nil, length-append, length-drop, arith}
 use Rattle.std.proofs.Math.Seq.{take-append-add, take-append_seam}
-use Rattle.std.proofs.lemmas.List.{drop-drop, drop_all, length-take-le, take-append-drop, take-append-le}
+use Rattle.std.proofs.lemmas.List.{drop-drop, drop_all, length-take-le, nil_from_length, take-append-drop, take-append-le}
 use Rattle.std.proofs.lemmas.List.Concat.{flat_map-append}
 use Rattle.std.proofs.lemmas.List.Elements.{All-cons, All-head, All-tail}
 use Rattle.std.specs.List.{filter}
@@ -21,7 +21,7 @@ use Rattle.aprs_booktext.specs.declared.version.Version.{Version}
 use Rattle.aprs_fold.specs.Range.{is_within, rows_of_sources}
 use Rattle.aprs_fold.specs.declared.range.SourceRange.{SourceRange}
 use Rattle.aprs_range.specs.Cuts.{HasStretch}
-use Rattle.aprs_range.specs.Lent.{after_line, lent, with_last}
+use Rattle.aprs_range.specs.Lent.{EndsWithLast, after_line, lent, with_last}
 use Rattle.aprs_range.specs.declared.book_range.BookRange.{BookRange}
 use Rattle.aprs_range.specs.declared.find.Stretch.{Stretch}
 use Rattle.aprs_range.proofs.Lines.{IsGiven, after_part}
@@ -182,3 +182,29 @@ lent_is bytes_of range r source s text is line known has v rows book text_is =
     ∙ ap (λ l. Some (l ++ with_last 0 kept)) line
     ∙ ap (λ l. Some l) (whole_text v s.version (rows_of_sources range rows) kept own.0 own.1
     (kept_each (IsBookRow (form_of v)) (λ x. is_within range (row_key x).source) rows book.each))
+
+-- ---- the end of a file
+
+pub ends_tail : (tail : List ℕ) (lf n : ℕ) {rest : List ℕ} → rest ≡ drop lf tail
+    → rest ≡ 10 ∷ ended_by_lf (end_line n) → EndsWithLast tail
+ends_tail tail lf n whole is = (
+  take lf tail,
+  n,
+  sym (take-append-drop lf tail) ∙ ap (λ l. take lf tail ++ l) (sym whole ∙ is),
+)
+
+pub ends_whole : (bytes : List ℕ) (size at n : ℕ) (room : List ℕ) → IsGiven bytes at room n
+    → n ≤ length room → size ≡ length bytes → at ≤ size → size - at ≡ n
+    → EndsWithLast (take n room) → EndsWithLast bytes
+ends_whole bytes size at n room given bound is le count ends =
+    let piece = take n room in
+    let sizes : length (drop at bytes) ≡ length piece + length given.rest =
+    ap length given.is ∙ length-append piece given.rest in
+    let none : given.rest ≡ [] = nil_from_length given.rest
+    (omega (arith, sizes, length-drop at bytes, length-take-le n room bound)) in
+    let tail : drop at bytes ≡ piece = given.is ∙ ap (λ l. piece ++ l) none ∙ append-nil piece in (
+      take at bytes ++ ends.0,
+      ends.1,
+      sym (take-append-drop at bytes) ∙ ap (λ l. take at bytes ++ l) (tail ∙ ends.2)
+          ∙ sym (append_assoc (take at bytes) ends.0 (10 ∷ ended_by_lf (end_line ends.1))),
+    )

@@ -102,3 +102,8 @@ has_size (Some own) bytes (Ok m) n k e h =
     let same : own ≡ bytes = cc in
     let count : n ≡ m = cc in
     count ∙ h ∙ ap length same
+
+-- whatever the value is
+pub iff_any : {X : Type 0} (r : Option X) (P : Type 0) → P → IfSome r (λ x. P)
+iff_any None P h = tt
+iff_any (Some x) P h = h

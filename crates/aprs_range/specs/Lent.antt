@@ -1,5 +1,5 @@
 -- What is lent of the text of a book.
-use Rattle.std.specs.Prelude.{◌≡◌, ℕ, ◌+◌, ◌-◌, Bool, false, true, List, [], ◌++◌, take, drop, Option, Some, count_by}
+use Rattle.std.specs.Prelude.{◌≡◌, ℕ, ◌+◌, ◌-◌, Bool, false, true, List, [], ◌∷◌, ◌++◌, take, drop, Option, Some, count_by}
 use Rattle.std.specs.Option.{option_map}
 use Rattle.aprs_io.specs.Cut.{is_byte}
 use Rattle.aprs_laws.specs.Row.{Row}
@@ -9,6 +9,11 @@ use Rattle.aprs_booktext.specs.declared.version.Version.{Version}
 use Rattle.aprs_fold.specs.Range.{rows_of_sources}
 use Rattle.aprs_fold.specs.declared.range.SourceRange.{SourceRange}
 use Rattle.aprs_range.specs.declared.book_range.BookRange.{BookRange}
+
+-- The bytes end with the last line of a book's text, and an LF stands before it.
+abbrev pub EndsWithLast : List ℕ → Type 0
+EndsWithLast bytes =
+    (before : List ℕ) × (n : ℕ) × (bytes ≡ before ++ 10 ∷ ended_by_lf (end_line n))
 
 -- These lines, and after them a last line, which counts them and as many rows more.
 abbrev pub with_last : ℕ → List ℕ → List ℕ

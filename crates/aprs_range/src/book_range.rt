@@ -1,5 +1,5 @@
 //! A reader of the rows of a range of sources in a book file.
-ghost use Rattle.std.specs.Prelude.{◌≡◌, ◌≤◌, ◌<◌, ◌++◌, ℕ, false, List, length, take, Some, IfErr, IfOk, OnErr};
+ghost use Rattle.std.specs.Prelude.{◌≡◌, ◌≤◌, ◌<◌, ◌++◌, ℕ, false, List, length, take, Some, IfErr, IfOk, OnErr, OnOk};
 ghost use Rattle.std.specs.Io.{ReadsAtMost};
 ghost use Rattle.aprs_booktext.specs.RowLines.{ended_by_lf};
 ghost use Rattle.aprs_booktext.specs.Version.{header_of};
@@ -43,6 +43,9 @@ impl<R: ReadAt> BookRange<R> {
     pub fn find<A: Allocator>(alloc: A, source: R, range: &SourceRange) -> Result<BookRange<R>, R>
         ensures lends { IfOk result (λ found. Spec.LendsRange range.now (R.bytes source)
             (Spec.lent R.bytes found)) }
+        // A file that doesn't end with a last line isn't taken.
+        ensures ends { OnOk result ((bytes : List ℕ) → R.bytes source ≡ Some bytes
+            → Spec.EndsWithLast bytes) }
         ensures stays { IfErr result (λ same. R.bytes same ≡ R.bytes source) }
     {
         let mut source = source;

@@ -2,6 +2,7 @@
 ghost use Rattle.std.specs.Prelude.{◌≡◌, ◌<◌, ℕ, List, length, Some, IfSome, not};
 ghost use Rattle.aprs_fold.specs.Range.{is_from, is_until};
 ghost use Rattle.aprs_range.specs.Cuts.{BeginsLine, CutsRows, HasStretch, IsLow};
+ghost use Rattle.aprs_range.specs.Lent.{EndsWithLast};
 ghost use Rattle.aprs_range.specs.Lines.{ReadsLine};
 
 use crate::judge::is_before;
@@ -43,6 +44,8 @@ pub fn find_stretch<R: ReadAt, A: Allocator>(
 ) -> Option<Stretch>
     ensures finds { IfSome result (λ s. (bytes : List ℕ) → R.bytes source.old ≡ Some bytes
         → HasStretch range.now bytes s) }
+    ensures ends { IfSome result (λ s. (bytes : List ℕ) → R.bytes source.old ≡ Some bytes
+        → EndsWithLast bytes) }
     ensures stays { R.bytes source.new ≡ R.bytes source.old }
 {
     let size = source.size().ok()?;
@@ -58,6 +61,8 @@ fn find_in<R: ReadAt, A: Allocator>(
 ) -> Option<Stretch>
     ensures finds { IfSome result (λ s. (bytes : List ℕ) → R.bytes source.old ≡ Some bytes
         → size ≡ length bytes → HasStretch range.now bytes s) }
+    ensures ends { IfSome result (λ s. (bytes : List ℕ) → R.bytes source.old ≡ Some bytes
+        → size ≡ length bytes → EndsWithLast bytes) }
     ensures stays { R.bytes source.new ≡ R.bytes source.old }
 {
     let end = last_line(source, size)?;

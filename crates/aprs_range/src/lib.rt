@@ -3,6 +3,7 @@
 
 mod book_range;
 mod cut;
+mod example;
 mod find;
 mod judge;
 mod line;
@@ -10,4 +11,5 @@ mod read_at;
 mod tail;
 
 pub use book_range::BookRange;
+pub use example::last_lines_count_the_lines_before_them;
 pub use read_at::ReadAt;

@@ -9,3 +9,10 @@ returns-clause-finds g c =
     finds bytes (c.size.ensures.stays ∙ known)
     (has_size _ bytes c.size.result c.in_ok-size.size known c.in_ok-size.ensures.value
     c.size.ensures.size))
+
+pub returns-clause-ends : goal.returns-clause-ends
+returns-clause-ends g c =
+    IfSome_then c.find_in.result c.find_in.ensures.ends (λ s ends bytes known.
+    ends bytes (c.size.ensures.stays ∙ known)
+    (has_size _ bytes c.size.result c.in_ok-size.size known c.in_ok-size.ensures.value
+    c.size.ensures.size))
