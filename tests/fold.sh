@@ -105,6 +105,22 @@ status=0
 aprsbook-fold --until Q1NET cut.book evening.book > left 2> said || status=$?
 [ "$status $(cat said)" = '1 aprsbook-fold: cut.book: line 4: Ending' ] ||
     fail "a part of a cut book: $status, $(cat said)"
+# what is wrong before a part of a file isn't seen, and what is wrong in it has its line in the file
+sed '2s/^T/U/' evening.book > syntax
+aprsbook-fold --from Q1NET syntax | cmp -s - part || fail 'a part is not found in a file'
+aprsbook-fold --from Q1NET < syntax > left 2> said && fail 'the part of a faulty input'
+[ "$(cat said)" = 'aprsbook-fold: standard input: line 2: RowSyntax' ] || fail "a part: $(cat said)"
+aprsbook-fold --check --from Q1NET syntax > left 2> said && fail 'a check of a part of a faulty book'
+sed "$((rows + 1))s/^T/U/" evening.book > syntax
+aprsbook-fold --from Q1NET syntax > left 2> said && fail 'a faulty part of a file'
+[ "$(cat said)" = "aprsbook-fold: syntax: line $((rows + 1)): RowSyntax" ] ||
+    fail "a faulty part: $(cat said)"
+for it in '--from Q1NET' '--until Q1NET' '--from Q1NET --until Q1RUN-10' '--from Q1RUN --until Q1NET'; do
+    # shellcheck disable=SC2086 # options and their values
+    aprsbook-fold $it < evening.book > left
+    # shellcheck disable=SC2086
+    aprsbook-fold $it evening.book two evening.book | cmp -s - left || fail "files and pipes: $it"
+done
 for it in '--from q1net' '--until Q1NET-16' '--from Q1NET-0' '--until ='; do
     status=0
     # shellcheck disable=SC2086 # an option and its value

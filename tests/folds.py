@@ -3,9 +3,11 @@
 status, or the same refusal. Books of several gaps and versions, empty ones, the same receptions in
 several books, rows near one another over all inputs, and a book that is damaged at a random place.
 Parts of a fold, from a source until another, are the merges of what these sources sent, and one
-after another the whole.
+after another the whole. Of files they are as of pipes, in which nothing is sought; but of files
+faults outside a part may go unseen.
 usage: tests/folds.py PROGRAM FOLD [COUNT [SEED]]"""
 
+import os
 import random
 import subprocess
 import sys
@@ -148,6 +150,43 @@ def compare_parts(
     return "" if rows == whole.splitlines()[1:-1] else f"the parts of {cuts}"
 
 
+def piped(fold: str, asked: list[str], paths: list[str]) -> Answer:
+    """How the fold of these files ends where each comes through a pipe."""
+    pipes = [f"{path}.pipe" for path in paths]
+    feeders = []
+    for path, pipe in zip(paths, pipes):
+        os.mkfifo(pipe)
+        words = ["sh", "-c", 'exec cat "$1" > "$2"', "sh", path, pipe]
+        feeders.append(subprocess.Popen(words, stderr=subprocess.DEVNULL))
+    answer = run(fold, *asked, *pipes)
+    for feeder, pipe in zip(feeders, pipes):
+        feeder.kill()
+        feeder.wait()
+        os.unlink(pipe)
+    return answer._replace(said=answer.said.replace(b".pipe", b""))
+
+
+def compare_sought(
+    program: str, fold: str, chance: random.Random, asked: list[str], paths: list[str]
+) -> str:
+    """Compares parts of a fold of files with those of pipes. Returns what differs, or an empty
+    text."""
+    for _ in range(3):
+        ends = [
+            None if chance.random() < 0.2 else (f"N{chance.randrange(8)}CALL", chance.randrange(4))
+            for _ in range(2)
+        ]
+        words = [*bounds(*ends), *asked]
+        sought, read = run(fold, *words, *paths), piped(fold, words, paths)
+        if sought.status == 0 and read.status == 1:
+            left = run(program, "merge", *asked, given=sought.out)
+            if (left.status, left.out) != (0, sought.out):
+                return f"{words}: no book is written: {left.said!r}"
+        elif judged(sought) != judged(read) or read.status == 0 and sought.out != read.out:
+            return f"{words}: of files {judged(sought)}, of pipes {judged(read)}"
+    return ""
+
+
 def compare(program: str, fold: str, chance: random.Random, folder: Path) -> str:
     """Compares one random fold with the merge. Returns what differs, or an empty text."""
     gap = chance.choice([1, 30, 30, 30, 600, 3600])
@@ -172,6 +211,8 @@ def compare(program: str, fold: str, chance: random.Random, folder: Path) -> str
     is_other = chance.random() < 0.05 and not is_damaged
     asked = ["--gap", str(31 if is_other else gap)]
     merged, folded = run(program, "merge", *asked, *paths), run(fold, *asked, *paths)
+    if said := compare_sought(program, fold, chance, asked, paths):
+        return said
     if judged(merged) != judged(folded):
         return f"merge {judged(merged)}, fold {judged(folded)}"
     if merged.status == 0:
@@ -181,7 +222,7 @@ def compare(program: str, fold: str, chance: random.Random, folder: Path) -> str
         if is_damaged:
             return ""
         return compare_parts(program, fold, chance, heard, [*asked, *paths], folded.out)
-    part = run(fold, *asked, *bounds(("N3CALL", 1), ("N5CALL", 0)), *paths)
+    part = piped(fold, [*asked, *bounds(("N3CALL", 1), ("N5CALL", 0))], paths)
     if judged(part) != judged(folded):
         return f"fold {judged(folded)}, a part {judged(part)}"
     left = run(program, "merge", *asked, given=folded.out)

@@ -41,7 +41,7 @@ MAKERS = {
     "aprs_command/src/arguments.rt": 1,
     "aprs_command/src/jobs.rt": 1,
     "aprs_program/src/complaint.rt": 4,
-    "aprs_program/src/host.rt": 5,
+    "aprs_program/src/host.rt": 7,
     "aprs_program/src/opening.rt": 3,
     "aprs_program/src/texts.rt": 1,
 }

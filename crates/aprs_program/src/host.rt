@@ -1,16 +1,17 @@
 //! A program between its host and its runs: arguments, files, standard streams and the exit status.
-use crate::complaint::{Complaint, EXIT_USAGE, complain, complaint_status};
-use crate::ending::complaint_after;
+use crate::complaint::{Complaint, EXIT_USAGE, complain, complaint_of, complaint_status};
+use crate::ending::{complaint_after, input_name};
 use crate::opening::{OpenFault, Opener, open_inputs};
 use crate::retried::Retried;
 use crate::work::{Work, run_work};
 use aprs_io::Counted;
 use aprs_laws::Gap;
-use aprs_tool::{FoldJob, JobFault, MAX_BOOK, SourceRange, fold_range_run};
-use std::alloc::Global;
+use aprs_range::BookRange;
+use aprs_tool::{FoldJob, InputFault, JobFault, MAX_BOOK, RunFault, SourceRange, fold_range_run};
+use std::alloc::{Allocator, Global};
 use std::env;
 use std::fs::File;
-use std::io::{self, BufWriter, ErrorKind, Read, Stdin, Write};
+use std::io::{self, BufWriter, ErrorKind, Read, Seek, Stdin, Write};
 use std::process::ExitCode;
 
 /// An input of a program: a file of the host, or its standard input.
@@ -18,14 +19,35 @@ use std::process::ExitCode;
 pub enum HostInput {
     /// A file that is open.
     File(File),
+    /// The rows of a range of sources in a book file.
+    Part(BookRange<File>),
     /// Standard input.
     Standard(Stdin),
+}
+
+impl HostInput {
+    /// The rows of this range alone, where the input is a book file in which they are found by
+    /// bisection; otherwise the input, from its beginning. What isn't a file stays.
+    fn within<A: Allocator>(self, alloc: A, range: &SourceRange) -> HostInput {
+        let HostInput::File(file) = self else {
+            return self;
+        };
+        match BookRange::find(alloc, file, range) {
+            Ok(part) => HostInput::Part(part),
+            Err(mut file) => {
+                // Of a file that can't be sought nothing was read.
+                let _ = file.rewind();
+                HostInput::File(file)
+            }
+        }
+    }
 }
 
 impl Read for HostInput {
     fn read(&mut self, buf: &mut [u8]) -> io::Result<usize> {
         match self {
             HostInput::File(file) => file.read(buf),
+            HostInput::Part(part) => part.read(buf),
             HostInput::Standard(standard) => standard.read(buf),
         }
     }
@@ -96,9 +118,10 @@ impl<'a> Program<'a> {
     }
 
     /// Folds the book files of a job, or standard input where it has none, and reports a fault to
-    /// standard error. Where a file can't be opened, none is read and nothing is written. The
-    /// output has no buffer of its own, so that its header is there as soon as the fold sends it.
-    /// Where the books are only checked, the same is done and nothing is written. Returns the exit
+    /// standard error. Where a file can't be opened, none is read and nothing is written. Of a file
+    /// that can be sought the rows of the job's range alone are read, where it has one. The output
+    /// has no buffer of its own, so that its header is there as soon as the fold sends it. Where
+    /// the books are only checked, they are read whole, and nothing is written. Returns the exit
     /// status.
     pub fn do_fold(&mut self, job: FoldJob) -> ExitCode {
         let FoldJob {
@@ -108,34 +131,74 @@ impl<'a> Program<'a> {
             inputs,
             is_check,
         } = job;
+        let paths = inputs.as_slice();
         let range = SourceRange { from, until };
-        if is_check {
-            self.fold_into(gap, &range, inputs.as_slice(), io::sink())
-        } else {
-            let output = Retried::new(self.rt.stdout());
-            self.fold_into(gap, &range, inputs.as_slice(), output)
-        }
-    }
-
-    /// Folds the book files of these paths into this output, of which the range's rows are written.
-    fn fold_into<W: Write + Drop>(
-        &mut self,
-        gap: Gap,
-        range: &SourceRange,
-        paths: &[String],
-        output: W,
-    ) -> ExitCode {
-        let alloc = self.rt.alloc();
-        let mut inputs = match open_inputs(self, alloc, paths) {
+        let mut inputs = match open_inputs(self, self.rt.alloc(), paths) {
             Ok(inputs) => inputs,
             Err(complaint) => return self.report(complaint),
         };
+        if is_check {
+            return self.fold_into(gap, &range, paths, inputs, io::sink());
+        }
+        if has_bounds(&range) {
+            inputs = match parts_of(self.rt.alloc(), inputs, &range) {
+                Ok(parts) => parts,
+                Err(complaint) => return self.report(complaint),
+            };
+        }
+        let output = Retried::new(self.rt.stdout());
+        self.fold_into(gap, &range, paths, inputs, output)
+    }
+
+    /// Folds the inputs, which have these paths, into this output, of which the range's rows are
+    /// written.
+    fn fold_into<W: Write + Drop>(
+        &self,
+        gap: Gap,
+        range: &SourceRange,
+        paths: &[String],
+        mut inputs: Vec<Counted<HostInput>>,
+        output: W,
+    ) -> ExitCode {
+        let alloc = self.rt.alloc();
         let mut w = Counted::new(output);
         let outcome = fold_range_run(alloc, MAX_BOOK, gap, range, inputs.as_mut_slice(), &mut w);
         let flushed = w.into_inner().flush().is_ok();
+        if let Err(RunFault::Input { index, fault }) = outcome {
+            return self.report_input(gap, input_name(paths, index), inputs, index, fault);
+        }
         match complaint_after(paths, &outcome, flushed) {
             Some(complaint) => self.report(complaint),
             None => ExitCode::SUCCESS,
+        }
+    }
+
+    /// Reports the fault of an input, and returns the exit status. Where the rows of a range alone
+    /// were read of it, its file is read from its beginning, and the file's first fault is reported
+    /// in its place. Where the file has none, as it may if it changed, the fault is in the rows of
+    /// the range, and the line is counted among them.
+    fn report_input(
+        &self,
+        gap: Gap,
+        name: &str,
+        mut inputs: Vec<Counted<HostInput>>,
+        index: usize,
+        fault: InputFault,
+    ) -> ExitCode {
+        let alloc = self.rt.alloc();
+        let found = RunFault::Input { index, fault };
+        if index >= inputs.len() {
+            return self.report(complaint_of(name.as_bytes(), &found));
+        }
+        let HostInput::Part(part) = inputs.swap_remove(index).into_inner() else {
+            return self.report(complaint_of(name.as_bytes(), &found));
+        };
+        if let Some(fault) = fault_of_file(alloc, gap, part.into_source()) {
+            return self.report(complaint_of(name.as_bytes(), &fault));
+        }
+        match format!(in alloc; "{name}, rows of the range") {
+            Ok(place) => self.report(complaint_of(place.as_bytes(), &found)),
+            Err(_) => self.report(Complaint::OutOfMemory),
         }
     }
 
@@ -171,4 +234,36 @@ impl<'a> Program<'a> {
             Err(_) => self.report(Complaint::CannotWrite),
         }
     }
+}
+
+/// Whether a range begins or ends with a source.
+fn has_bounds(range: &SourceRange) -> bool {
+    range.from.is_some() || range.until.is_some()
+}
+
+/// The inputs of which the rows of the range alone are read, where they can be found.
+fn parts_of(
+    alloc: Global,
+    inputs: Vec<Counted<HostInput>>,
+    range: &SourceRange,
+) -> Result<Vec<Counted<HostInput>>, Complaint<'static>> {
+    let mut parts = Vec::new(alloc);
+    for input in inputs {
+        let part = input.into_inner().within(alloc, range);
+        if parts.push(Counted::new(part)).is_err() {
+            return Err(Complaint::OutOfMemory);
+        }
+    }
+    Ok(parts)
+}
+
+/// The first fault of a whole book file of this gap, which is read from its beginning, or `None`
+/// where it has none.
+fn fault_of_file(alloc: Global, gap: Gap, file: File) -> Option<RunFault> {
+    let mut file = file;
+    file.rewind().ok()?;
+    let mut inputs = [Counted::new(HostInput::File(file))];
+    let mut w = Counted::new(io::sink());
+    let range = SourceRange::all();
+    fold_range_run(alloc, MAX_BOOK, gap, &range, &mut inputs, &mut w).err()
 }
