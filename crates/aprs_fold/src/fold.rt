@@ -30,9 +30,9 @@ pub const MAX_BOOK: u64 = 9_223_372_036_854_775_807;
 /// Writes the text of the book of all inputs, which have to be book files of this gap, of at most
 /// `limit` bytes each, in version 3. Of its rows the text has those whose sources are within the
 /// range. The inputs are read side by side to their ends, and the rows are written as they come:
-/// memory is taken for each input (a piece of 16 KiB, its longest line and its longest row) and for
-/// one row more, whatever the number of rows. Requires a limit of at most `MAX_BOOK`
-/// (9,223,372,036,854,775,807). The header is sent before an input is read.
+/// memory is taken for each input (a piece of 16 KiB, its longest line twice and its longest row)
+/// and for one row more with its line, whatever the number of rows. Requires a limit of at most
+/// `MAX_BOOK` (9,223,372,036,854,775,807). The header is sent before an input is read.
 /// Where an input is at fault or an allocation fails, the header and a part of the rows' lines were
 /// written, which are no book's text, since its last line isn't there. At `Write` a prefix of the
 /// text was written.
