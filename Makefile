@@ -74,6 +74,7 @@ words:
 	tests/names.sh
 	tests/numbers.sh
 	tests/memory.sh
+	tests/planted.py
 	tests/map.sh
 	tests/reading.sh
 	tests/library.sh
