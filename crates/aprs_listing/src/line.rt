@@ -7,7 +7,7 @@ ghost use Rattle.aprs_listing.specs.Lines.{field_text, spaced_field};
 ghost use Rattle.aprs_listing.specs.Listing.{after_space, line_with, line_with_text};
 
 use crate::field::{Field, put_field};
-use aprs_io::{Outlet, WriteFault};
+use aprs_io::{Outlet, WriteFault, put_shown};
 use std::io::Write;
 
 /// Puts a line: its kind, each of `fields` and then of `others` after a space, and LF. Fails where
