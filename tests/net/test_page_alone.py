@@ -1,28 +1,23 @@
-#!/usr/bin/env python3
-"""Tries what the page that reads logs does by itself, in each browser that is there: what files
-are, damaged lines, Windows' spellings, folders, logs that are followed. The module is a stand-in.
-
-usage: page_alone.py [PICTURES]    needs Python 3, and chromium or firefox; PICTURES is a folder for
-                                   pictures
-"""
+"""What the page that reads logs does by itself: what files are, damaged lines, Windows' spellings,
+folders, logs that are followed. The module is a stand-in."""
 import contextlib
 import gzip
 import http.server
 import json
 import pathlib
 import sqlite3
-import sys
 import threading
 import time
 
+import pytest
+
 import hostile
 import scale
-import trying
 from by_hand import together
+from given import is_, picture
 from serving import Server
 
 HERE = pathlib.Path(__file__).resolve().parent
-PICTURES = sys.argv[1] if len(sys.argv) > 1 else None
 TOLD = ("Object.fromEntries([...document.querySelectorAll('#files tbody tr')].map(it => "
         "[it.querySelector('th').textContent, it.querySelector('.verdict').textContent]))")
 MORE = ("Object.fromEntries([...document.querySelectorAll('#files tbody tr')].map(it => "
@@ -35,9 +30,6 @@ BESIDE_MIDDLE = ("(() => { const { map } = aprsbook.page, { width, height } = ma
                  ".data.slice(0, 3).join() })()")
 EMPTY_MODULE = b"\0asm\1\0\0\0"
 
-
-def is_(got, wanted):
-    assert got == wanted, f"{got!r} is not {wanted!r}"
 
 
 def page_text():
@@ -156,7 +148,7 @@ def drop(page, *paths):
         page.call("Input.dispatchDragEvent", type=kind, x=300, y=130, data=data)
 
 
-@trying.in_chromium
+@pytest.mark.browsers("Chromium")
 def test_folders(page, folder):
     """Files in dropped folders are read, and squares of a web map are drawn below all else."""
     (folder / "logs/day").mkdir(parents=True)
@@ -291,7 +283,7 @@ def click(page, x, y, kind="mouse"):
                   clickCount=1, pointerType=kind)
 
 
-@trying.in_chromium
+@pytest.mark.browsers("Chromium")
 def test_units(page, folder):
     """Miles and the form of places are kept by the browser; a line is measured by clicks."""
     text = "/036/A=001000"
@@ -322,7 +314,7 @@ def test_units(page, folder):
     is_(page.js("[way.textContent, measure.getAttribute('aria-pressed')]"), ["", "false"])
 
 
-@trying.in_chromium
+@pytest.mark.browsers("Chromium")
 def test_edge(page, folder):
     """The edge of the map is dragged, by keys too; on a wide screen lists stand beside."""
     fresh(page, folder)
@@ -334,8 +326,7 @@ def test_edge(page, folder):
     key = ("(name => document.getElementById('edge').dispatchEvent(new KeyboardEvent('keydown', "
            "{ key: name, cancelable: true })))")
     for width, turned, back in ((1400, "ArrowLeft", 0), (900, "ArrowDown", 1)):
-        page.call("Emulation.setDeviceMetricsOverride", width=width, height=860,
-                  deviceScaleFactor=1, mobile=False)
+        page.size(width, 860)
         page.settle()
         before = page.js(sizes)
         is_(before[2:], [back == 0, back == 1])
@@ -456,10 +447,10 @@ def test_skipped(page, folder):
     give(page, folder, {f"{k:02}.log": log(1, f"RX{k}") for k in range(30)})
     page.wait(MADE)
     page.js("document.getElementById('adds').querySelector('summary').focus()")
-    page.key("Tab", 9)
+    page.key("Tab")
     is_(page.js("document.activeElement.textContent"), "past the files, to the map")
     page.js("document.activeElement.click()")
-    page.key("Tab", 9)
+    page.key("Tab")
     is_(page.js("document.activeElement.id"), "in")
 
 
@@ -583,7 +574,7 @@ LONGEST = """(() => { window.task = 0;
     return 1 })()"""
 
 
-@trying.in_chromium
+@pytest.mark.browsers("Chromium")
 def test_saves(page, folder):
     """No save of a large net stops the page, and the page of the event is whole."""
     fresh(page, folder)
@@ -723,11 +714,6 @@ def test_followed(page, folder):
     server.server_close()
 
 
-def picture(page, name):
-    if PICTURES:
-        page.picture(f"{PICTURES}/{page.name}-{name}.png")
-
-
 def square():
     """A red picture of 256 by 256."""
     import struct
@@ -743,9 +729,3 @@ def square():
 
 
 SQUARE = square()
-
-if __name__ == "__main__":
-    for kind in trying.browsers():
-        trying.run(kind, trying.tests_in(globals()))
-    print("the page that reads logs, by itself: what files are, damaged lines, Windows, folders, "
-          "logs that are followed")
