@@ -1,9 +1,10 @@
 // @ts-check
 // The tables of a book (aprsbook-table): a first line that names the columns, then a line for each
 // row, with a tab between two fields. Fields are taken by the names of their columns alone. Of the
-// rows, columns of numbers are made in one pass.
+// rows, columns of numbers are made in one pass. A table stays in the bytes in which it came, and
+// of a row becomes text what is asked for.
 
-import { Parts } from "./parts.js";
+import { Parts, textIn, Words } from "./parts.js";
 import { STEP } from "./steps.js";
 
 /** What a row is. A kind that this page doesn't know is the last of these. */
@@ -13,21 +14,25 @@ const OTHER = KINDS.length - 1;
 /** What Mic-E says in need, by how much it matters. */
 export const URGENT = ["", "priority", "emergency"];
 
-/** @typedef {{ names: string[], begin: number }} Head the columns' names, and where rows begin */
-
-/** @param {string} text @returns {Head} */
-function headOf(text) {
-  const end = text.indexOf("\n");
-  return end < 0 ? { names: [], begin: text.length }
-    : { names: text.slice(0, end).split("\t"), begin: end + 1 };
-}
+/** The ends of a line and of a field. */
+const LINE = 10, TAB = 9;
+const encoder = new TextEncoder();
 /**
- * The rows of a small table, each by the names of its columns.
- * @param {string} text @returns {Record<string, string>[]}
+ * A table as it is read, of its text.
+ * @param {string} text
  */
-export function recordsOf(text) {
-  const { names, begin } = headOf(text), lines = text.slice(begin).split("\n");
-  return lines.filter(Boolean).map(line => recordOf(names, line));
+export const tableOf = text => encoder.encode(text);
+/** So many bytes of a table become text at once. */
+const PIECE = 2 ** 20;
+/**
+ * The text of a table, in pieces.
+ * @param {Uint8Array} table
+ * @returns {Generator<string>}
+ */
+export function* textsOf(table) {
+  const decoder = new TextDecoder("utf-8", { ignoreBOM: true });
+  for (let at = 0; at < table.length; at += PIECE)
+    yield decoder.decode(table.subarray(at, at + PIECE), { stream: true });
 }
 /** @param {string[]} names @param {string} line @returns {Record<string, string>} */
 export function recordOf(names, line) {
@@ -35,33 +40,33 @@ export function recordOf(names, line) {
   return Object.fromEntries(names.map((name, n) => [name, fields[n] ?? ""]));
 }
 
-const digit = (/** @type {string} */ text, /** @type {number} */ at) => text.charCodeAt(at) - 48;
-const digits2 = (/** @type {string} */ text, /** @type {number} */ at) =>
-  10 * digit(text, at) + digit(text, at + 1);
+const digit = (/** @type {Uint8Array} */ bytes, /** @type {number} */ at) => bytes[at] - 48;
+const digits2 = (/** @type {Uint8Array} */ bytes, /** @type {number} */ at) =>
+  10 * digit(bytes, at) + digit(bytes, at + 1);
 const lastDay = { is: -1, begin: 0 };
 /**
- * Seconds since 1970, of a moment such as 2024-06-21T18:00:30.000Z in a text.
- * @param {string} text @param {number} at
+ * Seconds since 1970, of a moment such as 2024-06-21T18:00:30.000Z in bytes.
+ * @param {Uint8Array} bytes @param {number} at
  */
-export function secondsAt(text, at) {
-  const year = 100 * digits2(text, at) + digits2(text, at + 2);
-  const month = digits2(text, at + 5), day = digits2(text, at + 8);
+function secondsAt(bytes, at) {
+  const year = 100 * digits2(bytes, at) + digits2(bytes, at + 2);
+  const month = digits2(bytes, at + 5), day = digits2(bytes, at + 8);
   const is = (year * 16 + month) * 32 + day;
   if (is !== lastDay.is)
     Object.assign(lastDay, { is, begin: Date.UTC(year, month - 1, day) / 1000 });
-  const millis = 10 * digits2(text, at + 20) + digit(text, at + 22);
-  return lastDay.begin + 3600 * digits2(text, at + 11) + 60 * digits2(text, at + 14) +
-    digits2(text, at + 17) + millis / 1000;
+  const millis = 10 * digits2(bytes, at + 20) + digit(bytes, at + 22);
+  return lastDay.begin + 3600 * digits2(bytes, at + 11) + 60 * digits2(bytes, at + 14) +
+    digits2(bytes, at + 17) + millis / 1000;
 }
 /**
- * A number such as -72.0291667 in a text.
- * @param {string} text @param {number} at @param {number} end
+ * A number such as -72.0291667 in bytes.
+ * @param {Uint8Array} bytes @param {number} at @param {number} end
  */
-function numberAt(text, at, end) {
-  const sign = text.charCodeAt(at) === 45 ? -1 : 1;
+function numberAt(bytes, at, end) {
+  const sign = bytes[at] === 45 ? -1 : 1;
   let all = 0, below = 1, isBelow = false;
   for (let k = sign < 0 ? at + 1 : at; k < end; k++) {
-    const n = digit(text, k);
+    const n = digit(bytes, k);
     if (n === -2) isBelow = true;
     else {
       all = 10 * all + n;
@@ -80,7 +85,7 @@ const emptyColumns = n => ({
   // who sent it and what it places, by their numbers in `things`; lists, by theirs in `lists`
   station: new Uint32Array(n), thing: new Uint32Array(n), heard: new Uint32Array(n),
   via: new Uint32Array(n),
-  // where its line begins and ends in the text
+  // where its line begins and ends in the table
   begin: new Uint32Array(n), stop: new Uint32Array(n),
   killed: new Uint8Array(n), urgent: new Uint8Array(n),
   // not a number, of what has no place
@@ -90,9 +95,9 @@ const emptyColumns = n => ({
 });
 /** @typedef {ReturnType<typeof emptyColumns>} Columns */
 /**
- * What a worker can hand over of the rows of a table.
- * @typedef {{ columns: Columns, names: string[], things: string[], lists: string[],
- *   until: number }} Read
+ * What a worker can hand over of the rows of a table, which is in these bytes.
+ * @typedef {{ bytes: Uint8Array, columns: Columns, names: string[], things: string[],
+ *   lists: string[], until: number }} Read
  */
 
 /**
@@ -118,30 +123,103 @@ export function orderOf(moments, n) {
 /** The columns that say when and by whom a row was heard, and not what it is. */
 const HEARD = ["kind", "first", "last", "receivers", "receiver", "source", "destination", "via"];
 
-/** Reads the rows of a table into columns. */
-class TableReader {
-  /** @param {string} text */
-  constructor(text) {
-    let n = -1;
-    for (let at = -1; (at = text.indexOf("\n", at + 1)) >= 0;) n++;
-    const { names, begin } = headOf(text);
-    const of = (/** @type {string} */ name) => names.indexOf(name);
-    this.names = names;
-    this.text = text;
-    this.n = 0;
-    this.at = begin;
-    this.until = -Infinity;
-    this.columns = emptyColumns(Math.max(0, n));
-    /** @type {string[]} */
-    this.things = [];
-    this.lists = new Parts(text);
-    this.rests = new Parts(text);
-    this.named = { station: new Parts(text), object: new Parts(text), item: new Parts(text) };
-    /** @type {Record<string, number[]>} */
-    this.numbers = { station: [], object: [], item: [] };
+/** Goes through a table line by line, and finds the fields of each. */
+class Lines {
+  /** @param {Uint8Array} bytes */
+  constructor(bytes) {
+    const end = bytes.indexOf(LINE);
+    this.bytes = bytes;
+    this.names = end < 0 ? [] : textIn(bytes, 0, end).split("\t");
+    this.at = end < 0 ? bytes.length : end + 1;
+    /** Where the line that was found last begins. */
+    this.begin = 0;
     // where each field begins, and the end of the line after them; of a column that isn't there,
     // two places where it is empty
-    this.begins = new Uint32Array(names.length + 2);
+    this.begins = new Uint32Array(this.names.length + 2);
+  }
+  /** How many lines there are below the head. */
+  count() {
+    let n = 0;
+    for (let { at } = this; (at = this.bytes.indexOf(LINE, at)) >= 0; at++) n++;
+    return n;
+  }
+  /** Finds the fields of the next line; says whether there is one. */
+  next() {
+    const { bytes, begins } = this, fields = this.names.length, { length } = bytes;
+    while (bytes[this.at] === LINE) this.at++;
+    let { at } = this, n = 1;
+    if (at >= length) return false;
+    this.begin = begins[0] = at;
+    for (; at < length; at++) {
+      const code = bytes[at];
+      if (code === LINE) break;
+      if (code === TAB && n < fields) begins[n++] = at + 1;
+    }
+    while (n <= fields) begins[n++] = at + 1;
+    this.at = at + 1;
+    return true;
+  }
+  /** Where the line that was found last ends. */
+  get end() {
+    return this.at - 1;
+  }
+  /**
+   * Whether a column is there and not empty.
+   * @param {number} column
+   */
+  has(column) {
+    return column >= 0 && this.begins[column + 1] > this.begins[column] + 1;
+  }
+  /** @param {number} column */
+  beginOf(column) {
+    return column < 0 ? 0 : this.begins[column];
+  }
+  /** @param {number} column */
+  endOf(column) {
+    return column < 0 ? 0 : Math.max(this.begins[column], this.begins[column + 1] - 1);
+  }
+  /** @param {number} column */
+  field(column) {
+    return this.has(column) ? textIn(this.bytes, this.beginOf(column), this.endOf(column)) : "";
+  }
+  /** @param {number} column */
+  seconds(column) {
+    return column < 0 ? NaN : secondsAt(this.bytes, this.begins[column]);
+  }
+  /** @param {number} column */
+  number(column) {
+    return numberAt(this.bytes, this.beginOf(column), this.endOf(column));
+  }
+}
+/**
+ * The rows of a small table, each by the names of its columns.
+ * @param {Uint8Array} bytes @returns {Record<string, string>[]}
+ */
+export function recordsOf(bytes) {
+  const lines = new Lines(bytes), records = [];
+  while (lines.next()) records.push(recordOf(lines.names, textIn(bytes, lines.begin, lines.end)));
+  return records;
+}
+
+/** Reads the rows of a table into columns. */
+class TableReader extends Lines {
+  /** @param {Uint8Array} bytes */
+  constructor(bytes) {
+    super(bytes);
+    const { names } = this, of = (/** @type {string} */ name) => names.indexOf(name);
+    this.n = 0;
+    this.until = -Infinity;
+    this.columns = emptyColumns(this.count());
+    /** @type {string[]} */
+    this.things = [];
+    this.lists = new Parts(bytes);
+    this.rests = new Parts(bytes);
+    const named = (/** @type {string} */ kind) =>
+      new Words(bytes, name => this.things.push(`${kind} ${name}`) - 1);
+    this.named = { station: named("station"), object: named("object"), item: named("item") };
+    this.kinds = new Words(bytes, text => KINDS.includes(text) ? KINDS.indexOf(text) : OTHER);
+    this.needs = new Words(bytes, text => Math.max(0, URGENT.indexOf(text)));
+    this.states = new Words(bytes, text => text === "killed" ? 1 : 0);
     this.kind = of("kind");
     this.first = of("first");
     this.last = of("last");
@@ -156,94 +234,92 @@ class TableReader {
     this.rest = Math.max(...HEARD.map(of)) + 1;
   }
   /**
-   * Finds the fields of the line that begins here; gives its end.
-   * @param {number} at
+   * What the field of a column stands for.
+   * @param {Words<number>} words @param {number} column
    */
-  cut(at) {
-    const { text, begins } = this, fields = this.names.length, { length } = text;
-    let n = 1;
-    begins[0] = at;
-    for (; at < length; at++) {
-      const code = text.charCodeAt(at);
-      if (code === 10) break;
-      if (code === 9 && n < fields) begins[n++] = at + 1;
-    }
-    while (n <= fields) begins[n++] = at + 1;
-    return at;
-  }
-  /**
-   * Whether a column is there and not empty.
-   * @param {number} column
-   */
-  has(column) {
-    return column >= 0 && this.begins[column + 1] > this.begins[column] + 1;
-  }
-  /** @param {number} column */
-  field(column) {
-    return column < 0 ? "" : this.text.slice(this.begins[column], this.begins[column + 1] - 1);
+  word(words, column) {
+    return words.of(this.beginOf(column), this.endOf(column));
   }
   /**
    * The number of a list, such as the receivers.
    * @param {number} column
    */
   list(column) {
-    return column < 0 ? this.lists.take(0, 0)
-      : this.lists.take(this.begins[column], this.begins[column + 1] - 1);
+    return this.lists.take(this.beginOf(column), this.endOf(column));
   }
-  /** The number of the thing of a kind whose name stands in a column. */
-  thing(/** @type {"station" | "object" | "item"} */ kind, /** @type {number} */ column) {
-    const n = this.named[kind].take(this.begins[column], this.begins[column + 1] - 1);
-    const numbers = this.numbers[kind];
-    if (n === numbers.length) {
-      numbers.push(this.things.length);
-      this.things.push(`${kind} ${this.field(column)}`);
-    }
-    return numbers[n];
-  }
+  /** Takes the line that was found last. */
   line() {
-    const { text, columns, n, begins } = this, begin = this.at, end = this.cut(begin);
-    this.at = end + 1;
-    if (end === begin) return;
-    const known = KINDS.indexOf(this.field(this.kind)), kind = known < 0 ? OTHER : known;
-    columns.kind[n] = kind;
-    columns.first[n] = secondsAt(text, begins[this.first]);
-    columns.last[n] = secondsAt(text, begins[this.last]);
+    const { columns, n, begins, end } = this;
+    const kind = columns.kind[n] = this.word(this.kinds, this.kind);
+    columns.first[n] = this.seconds(this.first);
+    columns.last[n] = this.seconds(this.last);
     this.until = Math.max(this.until, columns.last[n]);
     columns.heard[n] = this.list(this.receivers);
-    columns.station[n] = columns.thing[n] = this.thing("station", this.source);
+    columns.station[n] = columns.thing[n] = this.word(this.named.station, this.source);
     columns.via[n] = this.list(this.via);
-    columns.begin[n] = begin;
+    columns.begin[n] = this.begin;
     columns.stop[n] = end;
     columns.same[n] = this.rests.take(Math.min(begins[this.rest], end), end,
       columns.station[n] * KINDS.length + kind);
-    if (this.has(this.says)) columns.urgent[n] = Math.max(0, URGENT.indexOf(this.field(this.says)));
+    if (this.has(this.says)) columns.urgent[n] = this.word(this.needs, this.says);
     this.place(KINDS[kind], n);
     this.n++;
   }
   /** @param {string} kind @param {number} n */
   place(kind, n) {
-    const { text, columns, begins, latitude, longitude } = this;
+    const { columns, latitude, longitude } = this;
     columns.north[n] = columns.east[n] = NaN;
     if (kind === "object" || kind === "item") {
-      columns.thing[n] = this.thing(kind, this.name);
-      columns.killed[n] = text.startsWith("killed\t", begins[this.state]) ? 1 : 0;
+      columns.thing[n] = this.word(this.named[kind], this.name);
+      columns.killed[n] = this.word(this.states, this.state);
     }
     if (!this.has(latitude) || !this.has(longitude)) return;
-    columns.north[n] = numberAt(text, begins[latitude], begins[latitude + 1] - 1);
-    columns.east[n] = numberAt(text, begins[longitude], begins[longitude + 1] - 1);
+    columns.north[n] = this.number(latitude);
+    columns.east[n] = this.number(longitude);
   }
 }
 /**
  * The columns of the rows of a table, which a worker can hand over.
- * @param {string} text @returns {Generator<unknown, Read>}
+ * @param {Uint8Array} bytes @returns {Generator<unknown, Read>}
  */
-export function* columnsOf(text) {
-  const reader = new TableReader(text), { columns } = reader;
-  while (reader.at < text.length) {
+export function* columnsOf(bytes) {
+  const reader = new TableReader(bytes), { columns } = reader;
+  while (reader.next()) {
     reader.line();
     if (reader.n % STEP === 0) yield;
   }
   columns.order = orderOf(columns.first, reader.n);
-  return { columns, names: reader.names, things: reader.things, lists: reader.lists.texts,
-    until: reader.until };
+  return { bytes, columns, names: reader.names, things: reader.things,
+    lists: reader.lists.texts, until: reader.until };
+}
+
+/**
+ * A message as it stands in its table.
+ * @typedef {{ source: string, addressee: string, id: string, text: string, state: string,
+ *   first: number, last: number, answered: number, answeredBy: string, order: number }} Message
+ */
+/**
+ * The messages of their table. What many of them have in common is one text.
+ * @param {Uint8Array} bytes @returns {Generator<unknown, Message[]>}
+ */
+export function* messagesOf(bytes) {
+  const lines = new Lines(bytes), of = (/** @type {string} */ name) => lines.names.indexOf(name);
+  const [source, addressee, id, text, state, first, last, answer, answerer, replied] = ["source",
+    "addressee", "id", "text", "state", "first", "last", "answer", "answer_source", "reply_ack"]
+    .map(of);
+  const words = new Words(bytes, it => it);
+  const word = (/** @type {number} */ column) =>
+    words.of(lines.beginOf(column), lines.endOf(column));
+  /** @type {Message[]} */
+  const messages = [];
+  while (lines.next()) {
+    messages.push({ source: word(source), addressee: word(addressee), id: lines.field(id),
+      // a reply-ack of APRS 1.1 says what has no number of its own
+      text: lines.field(text), state: word(replied) || word(state),
+      first: lines.seconds(first), last: lines.seconds(last),
+      answered: lines.has(answer) ? lines.seconds(answer) : NaN, answeredBy: word(answerer),
+      order: 0 });
+    if (messages.length % STEP === 0) yield;
+  }
+  return messages;
 }

@@ -9,8 +9,8 @@ import { run } from "./workers.js";
 /** @typedef {"merge" | "rows" | "messages"} Command */
 /** @typedef {Partial<Record<Command, Promise<Got | null>>>} Begun */
 /**
- * A book, the texts of its tables, and the columns of its rows.
- * @typedef {{ book: Uint8Array, rows: string, messages: string,
+ * A book, its tables, and the columns of its rows.
+ * @typedef {{ book: Uint8Array, rows: Uint8Array, messages: Uint8Array,
  *   read: import("./reading.js").Read | null }} Made
  */
 /** A run of all files that was refused: for which of them, or -1 where it is for none. */
@@ -66,5 +66,5 @@ export async function textsOf(good, gap, tellShare) {
   tellShare(0.6);
   const [rows, messages] =
     await Promise.all([answerOf("rows", [book]), answerOf("messages", [book])]);
-  return { book, rows: rows.text || "", read: rows.read || null, messages: messages.text || "" };
+  return { book, rows: rows.bytes, read: rows.read || null, messages: messages.bytes };
 }

@@ -11,13 +11,12 @@ import { messageOf } from "./words.js";
 /** @typedef {import("./workers.js").Asked} Asked */
 /** @type {WebAssembly.Module | null} */
 let core = null;
-const NOTHING = new Uint8Array();
 /** Frees an input, which the page has too: large ones would be there three times. */
 const letGo = (/** @type {Uint8Array} */ { buffer }) =>
   /** @type {ArrayBuffer & { transfer: (size: number) => void }} */ (buffer).transfer(0);
 /**
- * What a run gives, a table as text and its rows as columns too; and the buffers in it that need
- * not be copied.
+ * What a run gives, of the rows of a table their columns too; and the buffers in it that need not
+ * be copied.
  * @param {WebAssembly.Module} module
  * @param {Asked} asked
  * @returns {[Got, ArrayBufferLike[]]}
@@ -25,12 +24,10 @@ const letGo = (/** @type {Uint8Array} */ { buffer }) =>
 function answer(module, { command, options, inputs }) {
   const table = `table ${command}`, isTable = Object.hasOwn(FUNCTIONS, table);
   const got = run(module, isTable ? table : command, options, inputs, letGo);
-  if (!isTable || got.status) return [got, [got.bytes.buffer]];
-  const text = new TextDecoder("latin1").decode(got.bytes);
-  if (command !== "rows") return [{ ...got, bytes: NOTHING, text }, []];
-  const read = atOnce(columnsOf(text));
-  return [{ ...got, bytes: NOTHING, text, read },
-    Object.values(read.columns).map(it => it.buffer)];
+  if (command !== "rows" || got.status) return [got, [got.bytes.buffer]];
+  const read = atOnce(columnsOf(got.bytes));
+  return [{ ...got, read },
+    [got.bytes.buffer, ...Object.values(read.columns).map(it => it.buffer)]];
 }
 /** @typedef {[number, "load", WebAssembly.Module] | [number, "run", Asked]} Question */
 /**

@@ -2,9 +2,9 @@
 // Workers, each with the module: a run is given to one that is free.
 
 /**
- * What a run gives: its status, which input and line it refused and why, and what it wrote; of a
- * table its text, and of the rows of one their columns.
- * @typedef {import("./host.js").Run & { text?: string, read?: import("./reading.js").Read }} Got
+ * What a run gives: its status, which input and line it refused and why, and what it wrote; of
+ * the rows of a table their columns too.
+ * @typedef {import("./host.js").Run & { read?: import("./reading.js").Read }} Got
  */
 /**
  * A run that is asked for: a command of the program, or `rows` or `messages`, which gives a table.

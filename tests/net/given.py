@@ -16,6 +16,8 @@ EVENING = sorted(EXAMPLES.glob("evening/*.log"))
 PAGE = pathlib.Path(os.environ.get("PAGE") or REPOSITORY / "out/aprsbook.html").resolve()
 PICTURES = os.environ.get("PICTURES")
 RUNS = int(os.environ.get("RUNS") or 1000)
+# the text of a table that the page has
+TABLE = "[...aprsbook.textsOf(aprsbook.page.data.%s)].join('')"
 TEXTS = "[...document.querySelectorAll('%s')].map(it => it.textContent)"
 
 

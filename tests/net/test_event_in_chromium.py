@@ -13,7 +13,7 @@ import pytest
 import hostile
 import scale
 from by_hand import message, moment, page_of, place, row
-from given import EVENING, PICTURES, TEXTS as texts, event_page, is_, picture
+from given import EVENING, PICTURES, TABLE, TEXTS as texts, event_page, is_, picture
 from serving import Server
 
 pytestmark = pytest.mark.browsers("Chromium")
@@ -442,8 +442,9 @@ def test_needs(page, folder):
     page.js("(aprsbook.page.alarm.play = () => { window.rung = (window.rung || 0) + 1 }, 1)")
     page.js("sound.click()")
     is_(page.js("[window.rung, location.hash]"), [1, "#sound=on"])
-    page.js("aprsbook.show({ ...aprsbook.page.data, rows: aprsbook.page.data.rows + "
-            f"{json.dumps(row('mic-e', 11, 'Q1MIC-7', says='emergency', **where))} }})")
+    new = json.dumps(row("mic-e", 11, "Q1MIC-7", says="emergency", **where))
+    page.js("aprsbook.show({ ...aprsbook.page.data, "
+            f"rows: aprsbook.tableOf({TABLE % 'rows'} + {new}) }})")
     page.wait("window.rung === 2")
     # a screen reader hears of the new one alone, and the same need in other words is none
     is_(page.js("(it => [it.getAttribute('role'), it.textContent])"
@@ -723,8 +724,8 @@ def test_slices(page, folder):
     page.open(page_of(folder / "small.html", place(1, "Q1OLD", 54.5, -3.5)))
     page.js("(window.names = () => aprsbook.page.net.things.map(it => it.name), "
             "window.small = aprsbook.page.data, "
-            f"window.large = {{ ...small, rows: small.rows.split('\\n')[0] + '\\n' + "
-            f"{json.dumps(''.join(lines))} }}, 1)")
+            f"window.large = {{ ...small, rows: aprsbook.tableOf({TABLE % 'rows'}"
+            f".split('\\n')[0] + '\\n' + {json.dumps(''.join(lines))}) }}, 1)")
     for then, wanted in ("1", 300), ("aprsbook.refresh()", 300), ("aprsbook.show(small)", 1):
         page.js("aprsbook.show(small)")
         is_(page.js("(async () => { const drawn = aprsbook.show(large), before = names(); "

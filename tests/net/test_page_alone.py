@@ -14,7 +14,7 @@ import pytest
 import hostile
 import scale
 from by_hand import together
-from given import is_, picture
+from given import TABLE, is_, picture
 from serving import Server
 
 HERE = pathlib.Path(__file__).resolve().parent
@@ -580,10 +580,9 @@ def test_saves(page, folder):
     fresh(page, folder)
     give(page, folder, {"a.log": log(3)})
     page.wait(MADE)
-    page.js("(async () => { const { page, show } = aprsbook, { rows } = page.data; "
-            "const at = rows.indexOf('\\n') + 1; "
-            "const many = rows.slice(0, at) + rows.slice(at).repeat(40000); "
-            "await show({ ...page.data, rows: many }) })()")
+    page.js(f"(async () => {{ const rows = {TABLE % 'rows'}, at = rows.indexOf('\\n') + 1; "
+            "const many = aprsbook.tableOf(rows.slice(0, at) + rows.slice(at).repeat(40000)); "
+            "await aprsbook.show({ ...aprsbook.page.data, rows: many }) })()")
     # all lists wait their turn
     time.sleep(2)
     page.saves_in(folder)

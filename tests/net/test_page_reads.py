@@ -17,7 +17,7 @@ import pytest
 
 import hostile
 import scale
-from given import EVENING, EXAMPLES, PAGE, RUNS, is_, needs, picture
+from given import EVENING, EXAMPLES, PAGE, RUNS, TABLE, is_, needs, picture
 from serving import Server
 
 pytestmark = [needs("aprsbook", "aprsbook-history", "aprsbook-table", "event-page"),
@@ -105,7 +105,7 @@ def test_same(page):
     for command in "history", "show":
         is_(page.js(OF_BOOK % command), base64_of(program([command], EVENING).stdout))
     for table in "rows", "messages":
-        is_(page.js(f"aprsbook.page.data.{table}"), program([table], EVENING).stdout.decode())
+        is_(page.js(TABLE % table), program([table], EVENING).stdout.decode())
     own = subprocess.run([*EVENT_PAGE, *EVENING], stdout=subprocess.PIPE, check=True).stdout
     is_(same_page(page, own), True)
     is_(page.js("(aprsbook.page.map.paint(), aprsbook.page.map.marks.length)"),
@@ -569,7 +569,7 @@ WATCH = """(() => {
         window.went = performance.now(); }, true);
     return 1; })()"""
 DIGEST = """Promise.all(
-    [aprsfiles.made().book, new TextEncoder().encode(aprsbook.page.data.rows)]
+    [aprsfiles.made().book, aprsbook.page.data.rows]
     .map(it => crypto.subtle.digest('SHA-256', it)))
     .then(them => them.map(it => [...new Uint8Array(it)]))"""
 

@@ -1,9 +1,9 @@
 import assert from "node:assert/strict";
 import { test } from "node:test";
-import { detailsOf, readMessages } from "../../page/rows.js";
+import { detailsOf } from "../../page/rows.js";
 import { wordsOf } from "../../page/details.js";
 import {
-  COLUMNS, message, moment, netOfLines, place, row, rowsOf, table, thing,
+  COLUMNS, message, moment, netOfLines, place, readMessages, row, rowsOf, table, thing,
 } from "./tables.js";
 
 test("columns are taken by name, also in another order, with more of them, or fewer", () => {
