@@ -191,7 +191,7 @@ async function shiftClock(name, by) {
 const clockOf = {
   shifted: name => shifts.get(name) || 0,
   can: name => files.some(it => it.taken && it.kind !== "book" &&
-    movedIn(it.taken, new Map([[name, 0]])).length > 0),
+    (it.taken instanceof Blob || movedIn(it.taken, new Map([[name, 0]])).length > 0)),
   put: shiftClock,
 };
 

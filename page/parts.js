@@ -12,48 +12,65 @@ const decoder = new TextDecoder("utf-8", { ignoreBOM: true });
  */
 export const textIn = (bytes, begin, end) => decoder.decode(bytes.subarray(begin, end));
 
+/** @param {Uint8Array} bytes */
+export const viewOf = bytes => new DataView(bytes.buffer, bytes.byteOffset, bytes.length);
+/**
+ * A number that equal parts of bytes have in common, and others hardly, in 32 bits.
+ * @param {DataView} view of the bytes
+ * @param {number} begin @param {number} end @param {number} own
+ */
+export function hashOf(view, begin, end, own) {
+  let hash = SEED ^ own, at = begin;
+  for (; at + 4 <= end; at += 4) {
+    hash = Math.imul(hash ^ view.getInt32(at, true), 0x5bd1e995);
+    hash ^= hash >>> 15;
+  }
+  for (; at < end; at++) hash = Math.imul(hash ^ view.getUint8(at), 0x5bd1e995);
+  return hash ^ hash >>> 15;
+}
+/**
+ * Whether two parts of bytes, each from one place to before another, are the same.
+ * @param {DataView} view of the bytes
+ * @param {number} a @param {number} aEnd @param {number} b @param {number} bEnd
+ */
+export function isSamePart(view, a, aEnd, b, bEnd) {
+  if (aEnd - a !== bEnd - b) return false;
+  for (; a + 4 <= aEnd; a += 4, b += 4) if (view.getInt32(a) !== view.getInt32(b)) return false;
+  while (a < aEnd) if (view.getUint8(a++) !== view.getUint8(b++)) return false;
+  return true;
+}
+
 /** Gives each of several parts of bytes a number, from 0 on. */
 export class Parts {
   /** @param {Uint8Array} bytes */
   constructor(bytes) {
     this.bytes = bytes;
+    this.view = viewOf(bytes);
     this.count = 0;
-    // of each part where it begins and ends, its own number, and its hash
-    this.all = new Int32Array(4 * 512);
+    // of each part where it begins and ends, and its hash
+    this.all = new Int32Array(3 * 512);
     this.slots = new Int32Array(1024);
   }
   /**
-   * The number of a part, which comes with a number of its own that must be the same too.
-   * @param {number} begin @param {number} end @param {number} [own]
+   * The number of a part.
+   * @param {number} begin @param {number} end
    */
-  take(begin, end, own = 0) {
-    const { bytes, all, slots } = this;
-    let hash = SEED ^ own;
-    for (let at = begin; at < end; at++) hash = Math.imul(hash ^ bytes[at], 0x5bd1e995);
-    hash ^= hash >>> 15;
+  take(begin, end) {
+    const { view, all, slots } = this, hash = hashOf(view, begin, end, 0);
     const mask = slots.length - 1;
     for (let slot = hash & mask; ; slot = (slot + 1) & mask) {
-      const n = slots[slot] - 1;
-      if (n < 0) return this.add(begin, end, own, hash, slot);
-      if (all[4 * n + 3] === hash && all[4 * n + 2] === own && this.isSame(n, begin, end))
-        return n;
+      const n = slots[slot] - 1, at = 3 * n;
+      if (n < 0) return this.add(begin, end, hash, slot);
+      if (all[at + 2] === hash && isSamePart(view, all[at], all[at + 1], begin, end)) return n;
     }
   }
-  /** @param {number} n @param {number} begin @param {number} end */
-  isSame(n, begin, end) {
-    const { bytes, all } = this, from = all[4 * n];
-    if (all[4 * n + 1] - from !== end - begin) return false;
-    for (let k = 0; k < end - begin; k++) if (bytes[from + k] !== bytes[begin + k]) return false;
-    return true;
-  }
-  /**
-   * @param {number} begin @param {number} end @param {number} own @param {number} hash
-   * @param {number} slot
-   */
-  add(begin, end, own, hash, slot) {
-    const n = this.count++;
+  /** @param {number} begin @param {number} end @param {number} hash @param {number} slot */
+  add(begin, end, hash, slot) {
+    const n = this.count++, { all } = this;
     this.slots[slot] = n + 1;
-    this.all.set([begin, end, own, hash], 4 * n);
+    all[3 * n] = begin;
+    all[3 * n + 1] = end;
+    all[3 * n + 2] = hash;
     if (2 * this.count >= this.slots.length) this.widen();
     return n;
   }
@@ -62,7 +79,7 @@ export class Parts {
     const all = new Int32Array(2 * this.all.length);
     all.set(this.all);
     for (let n = 0; n < this.count; n++) {
-      let slot = all[4 * n + 3] & mask;
+      let slot = all[3 * n + 2] & mask;
       while (slots[slot]) slot = (slot + 1) & mask;
       slots[slot] = n + 1;
     }
@@ -70,7 +87,7 @@ export class Parts {
   }
   /** @param {number} n */
   text(n) {
-    return textIn(this.bytes, this.all[4 * n], this.all[4 * n + 1]);
+    return textIn(this.bytes, this.all[3 * n], this.all[3 * n + 1]);
   }
   get texts() {
     return Array.from({ length: this.count }, (_, n) => this.text(n));

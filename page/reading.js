@@ -4,7 +4,7 @@
 // rows, columns of numbers are made in one pass. A table stays in the bytes in which it came, and
 // of a row becomes text what is asked for.
 
-import { Parts, textIn, Words } from "./parts.js";
+import { hashOf, isSamePart, Parts, textIn, viewOf, Words } from "./parts.js";
 import { STEP } from "./steps.js";
 
 /** What a row is. A kind that this page doesn't know is the last of these. */
@@ -16,6 +16,10 @@ export const URGENT = ["", "priority", "emergency"];
 
 /** The ends of a line and of a field. */
 const LINE = 10, TAB = 9;
+/** A moment has so many bytes. */
+const MOMENT = 24;
+/** By so many lines it is guessed how many there are. */
+const FIRST = 1000;
 const encoder = new TextEncoder();
 /**
  * A table as it is read, of its text.
@@ -90,8 +94,10 @@ const emptyColumns = n => ({
   killed: new Uint8Array(n), urgent: new Uint8Array(n),
   // not a number, of what has no place
   north: new Float64Array(n), east: new Float64Array(n),
-  // what has the same text but for moments, receivers and digipeaters has the same number
+  // the first row of the same text but for moments, receivers and digipeaters
   same: new Uint32Array(n), order: new Uint32Array(0),
+  // of what is the same in them a hash, and where it begins
+  hash: new Uint32Array(n), rest: new Uint32Array(n),
 });
 /** @typedef {ReturnType<typeof emptyColumns>} Columns */
 /**
@@ -105,18 +111,22 @@ const emptyColumns = n => ({
  * @param {Float64Array} moments @param {number} n
  */
 export function orderOf(moments, n) {
-  let least = Infinity, most = -Infinity;
+  const order = new Uint32Array(n);
+  let least = Infinity, most = -Infinity, isOrdered = true;
   for (let k = 0; k < n; k++) {
+    order[k] = k;
+    isOrdered = isOrdered && moments[k] >= most;
     least = Math.min(least, moments[k]);
     most = Math.max(most, moments[k]);
   }
-  const order = new Uint32Array(n), keys = new Float64Array(n);
+  if (isOrdered) return order;
+  const keys = new Float64Array(n);
   // numbers alone are sorted much faster, as long as they are exact
   if ((most - least) * 1000 * n > 2 ** 52)
-    return order.map((_, k) => k).sort((a, b) => moments[a] - moments[b] || a - b);
+    return order.sort((a, b) => moments[a] - moments[b] || a - b);
   for (let k = 0; k < n; k++) keys[k] = Math.round((moments[k] - least) * 1000) * n + k;
   keys.sort();
-  for (let k = 0; k < n; k++) order[k] = keys[k] % n;
+  for (let k = 0; k < n; k++) order[k] = keys[k] - Math.floor(keys[k] / n) * n;
   return order;
 }
 
@@ -136,26 +146,39 @@ class Lines {
     // where each field begins, and the end of the line after them; of a column that isn't there,
     // two places where it is empty
     this.begins = new Uint32Array(this.names.length + 2);
+    /** Which columns have a moment in each line. */
+    this.isMoment = this.names.map(it => it === "first" || it === "last");
+    this.lastMoment = this.isMoment.lastIndexOf(true);
   }
-  /** How many lines there are below the head. */
-  count() {
-    let n = 0;
-    for (let { at } = this; (at = this.bytes.indexOf(LINE, at)) >= 0; at++) n++;
-    return n;
+  /** About how many lines there are below the head, by the first ones. */
+  guess() {
+    const { bytes, at: begin } = this;
+    let n = 0, at = begin;
+    for (let end; n < FIRST && (end = bytes.indexOf(LINE, at)) >= 0; at = end + 1) n++;
+    return n < FIRST ? n : Math.ceil(1.02 * n * (bytes.length - begin) / (at - begin));
   }
-  /** Finds the fields of the next line; says whether there is one. */
-  next() {
-    const { bytes, begins } = this, fields = this.names.length, { length } = bytes;
+  /**
+   * Finds the fields of the next line, those of so many columns; says whether there is a line.
+   * @param {number} wanted
+   */
+  next(wanted = this.names.length) {
+    const { bytes, begins, isMoment, lastMoment } = this, { length } = bytes;
     while (bytes[this.at] === LINE) this.at++;
     let { at } = this, n = 1;
     if (at >= length) return false;
     this.begin = begins[0] = at;
-    for (; at < length; at++) {
+    for (; at < length && n <= wanted; at++) {
       const code = bytes[at];
       if (code === LINE) break;
-      if (code === TAB && n < fields) begins[n++] = at + 1;
+      if (code !== TAB) continue;
+      begins[n] = at + 1;
+      // of a moment all is known but what it says
+      if (n <= lastMoment && isMoment[n] && bytes[at + MOMENT + 1] === TAB) at += MOMENT;
+      n++;
     }
-    while (n <= fields) begins[n++] = at + 1;
+    if (n > wanted) at = bytes.indexOf(LINE, at);
+    if (at < 0) at = length;
+    while (n <= wanted) begins[n++] = at + 1;
     this.at = at + 1;
     return true;
   }
@@ -209,11 +232,12 @@ class TableReader extends Lines {
     const { names } = this, of = (/** @type {string} */ name) => names.indexOf(name);
     this.n = 0;
     this.until = -Infinity;
-    this.columns = emptyColumns(this.count());
+    this.view = viewOf(bytes);
+    this.room = this.guess();
+    this.columns = emptyColumns(this.room);
     /** @type {string[]} */
     this.things = [];
     this.lists = new Parts(bytes);
-    this.rests = new Parts(bytes);
     const named = (/** @type {string} */ kind) =>
       new Words(bytes, name => this.things.push(`${kind} ${name}`) - 1);
     this.named = { station: named("station"), object: named("object"), item: named("item") };
@@ -232,6 +256,16 @@ class TableReader extends Lines {
     this.longitude = of("longitude");
     this.says = of("says");
     this.rest = Math.max(...HEARD.map(of)) + 1;
+    /** More columns than these aren't looked at one by one. */
+    this.wanted = Math.min(names.length, Math.max(this.rest, this.kind, this.first, this.last,
+      this.name, this.state, this.latitude, this.longitude, this.says) + 1);
+  }
+  /** Makes room for more rows. */
+  grow() {
+    this.room = Math.ceil(1.25 * this.room) + 16;
+    const before = this.columns, columns = this.columns = emptyColumns(this.room);
+    for (const [name, column] of Object.entries(before))
+      if (name !== "order") columns[/** @type {"kind"} */ (name)].set(column);
   }
   /**
    * What the field of a column stands for.
@@ -249,6 +283,7 @@ class TableReader extends Lines {
   }
   /** Takes the line that was found last. */
   line() {
+    if (this.n === this.room) this.grow();
     const { columns, n, begins, end } = this;
     const kind = columns.kind[n] = this.word(this.kinds, this.kind);
     columns.first[n] = this.seconds(this.first);
@@ -259,11 +294,46 @@ class TableReader extends Lines {
     columns.via[n] = this.list(this.via);
     columns.begin[n] = this.begin;
     columns.stop[n] = end;
-    columns.same[n] = this.rests.take(Math.min(begins[this.rest], end), end,
-      columns.station[n] * KINDS.length + kind);
+    const rest = columns.rest[n] = Math.min(begins[this.rest], end);
+    columns.hash[n] = hashOf(this.view, rest, end, columns.station[n] * KINDS.length + kind);
     if (this.has(this.says)) columns.urgent[n] = this.word(this.needs, this.says);
     this.place(KINDS[kind], n);
     this.n++;
+  }
+  /**
+   * Whether two rows are of one station and kind, and say the same.
+   * @param {number} a @param {number} b
+   */
+  isSame(a, b) {
+    const { view, columns: { station, kind, rest, stop } } = this;
+    return station[a] === station[b] && kind[a] === kind[b] &&
+      isSamePart(view, rest[a], stop[a], rest[b], stop[b]);
+  }
+  /**
+   * Finds of each row the first one that says the same.
+   * @returns {Generator<unknown, void>}
+   */
+  *match() {
+    const { n, columns: { hash, same } } = this, keys = new Float64Array(n);
+    // as much of a hash as there is exact room for before a row's number
+    const cut = 2 ** Math.max(0, Math.ceil(Math.log2(n || 1)) - 21);
+    for (let k = 0; k < n; k++) keys[k] = Math.floor(hash[k] / cut) * n + k;
+    keys.sort();
+    yield;
+    for (let at = 0, begin = 0, last = -1; at < n; at++) {
+      const now = Math.floor(keys[at] / n), k = keys[at] - now * n;
+      if (now !== last) begin = at;
+      last = now;
+      same[k] = k;
+      // nearly always the first one of a hash says the same
+      for (let before = begin; before < at; before++) {
+        const it = keys[before] - now * n;
+        if (same[it] !== it || !this.isSame(it, k)) continue;
+        same[k] = it;
+        break;
+      }
+      if (at % STEP === 0) yield;
+    }
   }
   /** @param {string} kind @param {number} n */
   place(kind, n) {
@@ -283,23 +353,49 @@ class TableReader extends Lines {
  * @param {Uint8Array} bytes @returns {Generator<unknown, Read>}
  */
 export function* columnsOf(bytes) {
-  const reader = new TableReader(bytes), { columns } = reader;
-  while (reader.next()) {
+  const reader = new TableReader(bytes), { wanted } = reader;
+  while (reader.next(wanted)) {
     reader.line();
     if (reader.n % STEP === 0) yield;
   }
+  yield* reader.match();
+  const { columns } = reader;
   columns.order = orderOf(columns.first, reader.n);
   return { bytes, columns, names: reader.names, things: reader.things,
     lists: reader.lists.texts, until: reader.until };
 }
 
 /**
- * A message as it stands in its table.
- * @typedef {{ source: string, addressee: string, id: string, text: string, state: string,
- *   first: number, last: number, answered: number, answeredBy: string, order: number }} Message
+ * What many messages have in common is one text, and what a message says by itself is read when it
+ * is asked for: where its number and its text begin and end.
+ * @typedef {{ source: string, addressee: string, state: string, first: number, last: number,
+ *   answered: number, answeredBy: string, idAt: number, idEnd: number, textAt: number,
+ *   textEnd: number }} Told
  */
+/** A message as it stands in its table. */
+export class Message {
+  /** @param {Uint8Array} bytes the table @param {Told} told */
+  constructor(bytes, told) {
+    this.bytes = bytes;
+    this.told = told;
+    this.order = 0;
+  }
+  get source() { return this.told.source; }
+  get addressee() { return this.told.addressee; }
+  get state() { return this.told.state; }
+  get first() { return this.told.first; }
+  get last() { return this.told.last; }
+  get answered() { return this.told.answered; }
+  get answeredBy() { return this.told.answeredBy; }
+  get id() {
+    return textIn(this.bytes, this.told.idAt, this.told.idEnd);
+  }
+  get text() {
+    return textIn(this.bytes, this.told.textAt, this.told.textEnd);
+  }
+}
 /**
- * The messages of their table. What many of them have in common is one text.
+ * The messages of their table.
  * @param {Uint8Array} bytes @returns {Generator<unknown, Message[]>}
  */
 export function* messagesOf(bytes) {
@@ -313,12 +409,12 @@ export function* messagesOf(bytes) {
   /** @type {Message[]} */
   const messages = [];
   while (lines.next()) {
-    messages.push({ source: word(source), addressee: word(addressee), id: lines.field(id),
+    messages.push(new Message(bytes, { source: word(source), addressee: word(addressee),
       // a reply-ack of APRS 1.1 says what has no number of its own
-      text: lines.field(text), state: word(replied) || word(state),
-      first: lines.seconds(first), last: lines.seconds(last),
+      state: word(replied) || word(state), first: lines.seconds(first), last: lines.seconds(last),
       answered: lines.has(answer) ? lines.seconds(answer) : NaN, answeredBy: word(answerer),
-      order: 0 });
+      idAt: lines.beginOf(id), idEnd: lines.endOf(id), textAt: lines.beginOf(text),
+      textEnd: lines.endOf(text) }));
     if (messages.length % STEP === 0) yield;
   }
   return messages;

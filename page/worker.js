@@ -4,6 +4,7 @@
 
 import { FUNCTIONS, run } from "./host.js";
 import { columnsOf } from "./reading.js";
+import { bytesIn, GONE } from "./sources.js";
 import { atOnce } from "./steps.js";
 import { messageOf } from "./words.js";
 
@@ -11,6 +12,21 @@ import { messageOf } from "./words.js";
 /** @typedef {import("./workers.js").Asked} Asked */
 /** @type {WebAssembly.Module | null} */
 let core = null;
+const NOTHING = new Uint8Array();
+/**
+ * The bytes of inputs, or which of them can't be read.
+ * @param {import("./sources.js").Source[]} inputs
+ */
+async function readAll(inputs) {
+  /** @type {Uint8Array[]} */
+  const all = [];
+  for (const [input, it] of inputs.entries()) {
+    const bytes = await bytesIn(it).catch(() => null);
+    if (!bytes) return { all, input };
+    all.push(bytes);
+  }
+  return { all, input: -1 };
+}
 /** Frees an input, which the page has too: large ones would be there three times. */
 const letGo = (/** @type {Uint8Array} */ { buffer }) =>
   /** @type {ArrayBuffer & { transfer: (size: number) => void }} */ (buffer).transfer(0);
@@ -19,11 +35,14 @@ const letGo = (/** @type {Uint8Array} */ { buffer }) =>
  * be copied.
  * @param {WebAssembly.Module} module
  * @param {Asked} asked
- * @returns {[Got, ArrayBufferLike[]]}
+ * @returns {Promise<[Got, ArrayBufferLike[]]>}
  */
-function answer(module, { command, options, inputs }) {
+async function answer(module, { command, options, inputs }) {
   const table = `table ${command}`, isTable = Object.hasOwn(FUNCTIONS, table);
-  const got = run(module, isTable ? table : command, options, inputs, letGo);
+  const { all, input } = await readAll(inputs);
+  if (input >= 0)
+    return [{ status: 1, input, line: 0, written: 0, fault: GONE, bytes: NOTHING }, []];
+  const got = run(module, isTable ? table : command, options, all, letGo);
   if (command !== "rows" || got.status) return [got, [got.bytes.buffer]];
   const read = atOnce(columnsOf(got.bytes));
   return [{ ...got, read },
@@ -36,7 +55,7 @@ function answer(module, { command, options, inputs }) {
  *   postMessage: (answer: unknown[], buffers?: ArrayBufferLike[]) => void }} Scope
  */
 const worker = /** @type {Scope} */ (/** @type {unknown} */ (globalThis));
-worker.onmessage = (/** @type {MessageEvent<Question>} */ { data }) => {
+worker.onmessage = async (/** @type {MessageEvent<Question>} */ { data }) => {
   const [id] = data;
   try {
     if (data[1] === "load") {
@@ -44,7 +63,7 @@ worker.onmessage = (/** @type {MessageEvent<Question>} */ { data }) => {
       return worker.postMessage([id, true, ""]);
     }
     if (!core) throw new Error("no module was loaded");
-    const [got, buffers] = answer(core, data[2]);
+    const [got, buffers] = await answer(core, data[2]);
     worker.postMessage([id, got, ""], buffers);
   } catch (fault) {
     worker.postMessage([id, null, messageOf(fault)]);

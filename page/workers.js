@@ -1,6 +1,9 @@
 // @ts-check
 // Workers, each with the module: a run is given to one that is free.
 
+import { LARGE, sizeOf, sizeOfAll } from "./sources.js";
+
+/** @typedef {import("./sources.js").Source} Source */
 /**
  * What a run gives: its status, which input and line it refused and why, and what it wrote; of
  * the rows of a table their columns too.
@@ -8,7 +11,7 @@
  */
 /**
  * A run that is asked for: a command of the program, or `rows` or `messages`, which gives a table.
- * @typedef {{ command: string, options: import("./host.js").Options, inputs: Uint8Array[] }} Asked
+ * @typedef {{ command: string, options: import("./host.js").Options, inputs: Source[] }} Asked
  */
 /** @typedef {{ it: Worker, busy: number, isLarge: boolean, began: boolean }} Hand */
 
@@ -24,8 +27,6 @@ const queue = [];
 let last = 0;
 /** So many bytes are copied without a pause. */
 const PIECE = 2 ** 23;
-/** After a run over more bytes than these a worker is replaced, which frees its memory at once. */
-const LARGE = 2 ** 26;
 /**
  * What workers are made of: their script, the module, and who hears that one stopped.
  * @type {{ script: string, module: WebAssembly.Module | null, onStop: (fault: string) => void }}
@@ -98,27 +99,30 @@ export async function beginWorkers(script, module, onStop) {
   await Promise.all(Array.from({ length: many }, addWorker));
 }
 /**
- * Copies, with a pause after some of them, so that the page doesn't stand still for large ones.
- * @param {Uint8Array[]} inputs
+ * Copies, with a pause after some of them, so that the page doesn't stand still for large ones. A
+ * worker reads a file itself.
+ * @param {Source[]} inputs
  */
 async function copiesOf(inputs) {
-  const copies = inputs.map(it => new Uint8Array(it.length));
+  const copies = inputs.map(it => it instanceof Blob ? it : new Uint8Array(it.length));
   let left = PIECE;
   for (const [k, it] of inputs.entries())
-    for (let at = 0; at < it.length; at += PIECE) {
+    for (let at = 0; at < sizeOf(it); at += PIECE) {
+      const copy = copies[k];
+      if (it instanceof Blob || copy instanceof Blob) break;
       if (left <= 0) {
         await aMoment();
         left = PIECE;
       }
       const part = it.subarray(at, at + PIECE);
-      copies[k].set(part, at);
+      copy.set(part, at);
       left -= part.length;
     }
   return copies;
 }
 /**
  * A run of the module over inputs.
- * @param {string} command @param {number | string[]} options @param {Uint8Array[]} inputs
+ * @param {string} command @param {number | string[]} options @param {Source[]} inputs
  * @returns {Promise<Got>}
  */
 export async function run(command, options, inputs) {
@@ -126,8 +130,10 @@ export async function run(command, options, inputs) {
   while (!(free = hands.find(it => !it.busy)))
     await new Promise(done => queue.push(() => done(null)));
   free.busy++;
-  free.isLarge = inputs.reduce((sum, it) => sum + it.length, 0) > LARGE;
+  // a worker that had much is replaced afterwards, which frees its memory at once
+  free.isLarge = sizeOfAll(inputs) > LARGE;
   // a copy that is handed over takes less time than what a browser copies itself
-  const copies = await copiesOf(inputs), buffers = copies.map(it => it.buffer);
+  const copies = await copiesOf(inputs);
+  const buffers = copies.flatMap(it => it instanceof Blob ? [] : [it.buffer]);
   return ask(free, "run", { command, options, inputs: copies }, buffers);
 }

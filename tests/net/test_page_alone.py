@@ -420,6 +420,40 @@ def test_huge(page, folder):
     assert max(page.js("read")) <= 65536, page.js("read")
 
 
+def test_large_file(page, folder):
+    """A large file isn't kept in memory but read when it is needed; one that is gone meanwhile is
+    named, and one with a damaged line is put right as others are."""
+    fresh(page, folder)
+    lines = [place(9 * k, f"Q1A-{k % 15 + 1}", 30 + k % 20, "BIG", f"big {k}") for k in range(900)]
+    page.js("(aprsfiles.limits.kept = 60000, 1)")
+    kept = "aprsfiles.files.map(it => it.bytes instanceof Blob)"
+    (folder / "big.log").write_text("".join(lines))
+    (folder / "small.log").write_text(log(3, "RX2"))
+    page.give("#choose", folder / "big.log", folder / "small.log")
+    page.wait(f"{MADE} && {ROWS} === 903")
+    is_(page.js(kept), [True, False])
+    # the same file once more is no other one
+    page.give("#choose", folder / "big.log", folder / "small.log")
+    page.wait("document.getElementById('progress').hidden")
+    is_(page.js("aprsfiles.files.length"), 2)
+    (folder / "big.log").unlink()
+    (folder / "more.log").write_text(log(4, "RX3"))
+    page.give("#choose", folder / "more.log")
+    said = "document.getElementById('status').textContent"
+    page.wait(f"{said} === \"big.log: can't be read any more: it has changed, or is gone\"")
+    page.js("[...document.querySelectorAll('#files button')].find(it => "
+            "it.ariaLabel === 'take big.log away').click()")
+    page.wait(f"{MADE} && {ROWS} === 4")
+    lines[7] = "torn\n"
+    (folder / "big.log").write_text("".join(lines))
+    page.give("#choose", folder / "big.log")
+    page.wait(f"{MADE} && {TOLD}['big.log'] === 'line 8: Moment'")
+    page.js("document.querySelector('#files .leave').click()")
+    page.wait(f"{MADE} && {ROWS} === 903")
+    is_(page.js(kept), [False, False, False])
+    is_(page.problems(), [])
+
+
 def test_fault(page, folder):
     """A fault that nobody thought of is said, and nothing waits for ever."""
     fresh(page, folder)
