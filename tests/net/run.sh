@@ -6,15 +6,14 @@
 #        out/aprsbook.html; the words are for pytest, such as -k coast
 program=${1-} page=${2-}
 if [ $# -gt 2 ]; then shift 2; else shift $#; fi
-words=$*
-set -- "$program"
-. "$(dirname "$0")/../program.sh"
+# shellcheck source=tests/program.sh
+find_programs() { . "$(dirname "$0")/../program.sh"; }
+find_programs "$program"
 PAGE=${page:-$repository/out/aprsbook.html}
 export PAGE
 for python in python3 /usr/bin/python3; do
     if $python -c 'import pytest, selenium' 2> /dev/null; then
-        # shellcheck disable=SC2086 # each a word
-        $python -m pytest -q -rs -p no:cacheprovider "$repository/tests/net" $words
+        $python -m pytest -q -rs -p no:cacheprovider "$repository/tests/net" "$@"
         exit
     fi
 done
