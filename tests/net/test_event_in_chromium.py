@@ -716,6 +716,11 @@ def test_scale(page, folder):
     picture(page, "many")
 
 
+def test_many(page, folder):
+    """10,000 stations are moved as smoothly as a wheel turns."""
+    scale.judged_stations(page, folder, 10000, scale.MANY)
+
+
 def test_slices(page, folder):
     """A large net is drawn in slices: until then the one before stays, and a later one comes in
     its place."""

@@ -602,6 +602,26 @@ def test_own_lines(page, folder):
     page.js("(localStorage.clear(), 1)")
 
 
+@pytest.mark.browsers("Chromium")
+def test_denied(page, folder):
+    """Where a browser keeps nothing, the page works, and says that it keeps no lines."""
+    denied = ("Object.defineProperty(window, 'localStorage', "
+              "{ get() { throw new DOMException('denied', 'SecurityError') } })")
+    script = page.call("Page.addScriptToEvaluateOnNewDocument", source=denied)
+    fresh(page, folder)
+    give(page, folder, {"a.log": log(3)})
+    page.wait(MADE)
+    choose(page, "miles", True)
+    page.js("document.getElementById('ics-open').click()")
+    own_line(page, "by voice")
+    is_(page.js(LOGGED), ["by voice"])
+    is_(page.js("document.getElementById('own-told').textContent"),
+        "This browser keeps no lines: save the page of the event, which has them.")
+    assert "by voice" in page.js("aprsfiles.eventPage()")
+    is_(page.problems(), [])
+    page.call("Page.removeScriptToEvaluateOnNewDocument", identifier=script["identifier"])
+
+
 LONGEST = """(() => { window.task = 0;
     new PerformanceObserver(list => list.getEntries().forEach(it => {
         window.task = Math.max(window.task, it.duration) })).observe({ type: 'longtask' });
