@@ -28,6 +28,18 @@ ROWS = "aprsbook.page.all.rows.length"
 BESIDE_MIDDLE = ("(() => { const { map } = aprsbook.page, { width, height } = map.canvas; "
                  "map.paint(); return map.pen.getImageData(width / 3, height / 3, 1, 1)"
                  ".data.slice(0, 3).join() })()")
+# how many pixels of the middle of a red map, without lines of degrees, aren't red
+OTHERS = """(() => { const { map } = aprsbook.page, { line } = map.colours;
+    map.colours.line = 'transparent';
+    map.things = [];
+    map.paint();
+    const { width, height } = map.canvas;
+    const { data } = map.pen.getImageData(80, 20, width - 220, height - 100);
+    map.colours.line = line;
+    let others = 0;
+    for (let at = 0; at < data.length; at += 4)
+        if (data[at] !== 200 || data[at + 1] !== 30 || data[at + 2] !== 30) others++;
+    return others })()"""
 EMPTY_MODULE = b"\0asm\1\0\0\0"
 
 
@@ -184,6 +196,12 @@ def squares(page):
     page.wait("[...aprsbook.page.map.tiles.made.values()].some(Boolean)")
     page.wait(f"{BESIDE_MIDDLE} === '200,30,30'")
     assert "400 squares" in page.js("document.getElementById('own-map').textContent")
+    # no seam between two of them, where they are drawn smaller and larger than they are
+    for where in "54.65,-3.5,20", "54.65,-3.5,33.3", "54.6,-3.52,71":
+        page.js(f"(aprsbook.page.map.look('{where}'), aprsbook.page.map.paint())")
+        page.wait("[...aprsbook.page.map.tiles.made.values()].every(Boolean)")
+        is_((where, page.js(OTHERS)), (where, 0))
+    page.js("(aprsbook.page.map.look('54.65,-3.5,20'), aprsbook.page.map.paint())")
     picture(page, "tiles")
 
 
