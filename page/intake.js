@@ -13,11 +13,13 @@ import { run } from "./workers.js";
 /** @typedef {import("./sources.js").Source} Source */
 /**
  * A file that was given. `bytes` are its bytes as they are read, `taken` what goes into the book,
- * or null; `unread` says why it can't be read at all.
+ * or null; `unread` says why it can't be read at all. `ready` are the bytes of a file that were
+ * read for a check, and are the next book's.
  * @typedef {{ name: string, kind: string, bytes: Source, unread: string, receiver: string,
  *   moment: string, passed: string[], said: string, fault: string, reason: string,
  *   spelling: string[], damage: Damage[], leftOut: string[], taken: Source | null,
- *   lines?: import("./ownlines.js").Line[], row?: HTMLTableRowElement, whole?: Uint8Array,
+ *   ready?: Uint8Array, lines?: import("./ownlines.js").Line[], row?: HTMLTableRowElement,
+ *   whole?: Uint8Array,
  *   mark?: string, away?: string }} Given
  */
 
@@ -136,7 +138,7 @@ async function isNoLog(begin) {
  */
 export async function look(file, gap) {
   Object.assign(file, { fault: file.unread, said: "", reason: "", passed: [], damage: [],
-    taken: null });
+    taken: null, ready: undefined });
   try {
     if (!file.unread) await lookInto(file, gap);
   } catch (fault) {
@@ -146,6 +148,8 @@ export async function look(file, gap) {
 /** @param {Given} file @param {number} gap */
 async function lookInto(file, gap) {
   let { bytes } = file; // of a book and a log it may be a file
+  /** @type {Uint8Array | undefined} */
+  let ready;
   const refuse = (/** @type {{ fault: string, line?: number }} */ got) => {
     file.fault = placeOf(got);
   };
@@ -163,14 +167,16 @@ async function lookInto(file, gap) {
     const rows = /END (\d+)\n$/.exec(asText(got.bytes.subarray(-20)))?.[1];
     file.said = count(Number(rows), "transmission");
   } else {
-    const got = await run("check", 30, [bytes]), lines = asText(got.bytes).trimEnd().split("\n");
+    const got = await run("check", 30, [bytes], { keeps: bytes instanceof Blob });
+    const lines = asText(got.bytes).trimEnd().split("\n");
+    ready = got.inputs?.[0];
     if (!got.status) file.said = lines.pop() || "";
     file.passed = lines.filter(Boolean);
     if (got.status) {
       file.reason = got.fault;
       if (REASONS[got.fault]) {
         // what is damaged is at hand from now on
-        file.bytes = bytes = await bytesIn(bytes);
+        file.bytes = bytes = got.inputs?.[0] ?? await bytesIn(bytes);
         file.damage = await damagedLines(bytes, checkOf, MANY) || [];
       }
       return refuse(got);
@@ -178,7 +184,8 @@ async function lookInto(file, gap) {
   }
   // a book's moments stay: it no longer has what each receiver wrote
   const isMoved = file.kind !== "book" && shifts.size > 0;
-  file.taken = isMoved ? shifted(await bytesIn(bytes), shifts) : bytes;
+  file.taken = isMoved ? shifted(ready ?? await bytesIn(bytes), shifts) : bytes;
+  file.ready = isMoved ? undefined : ready;
 }
 /**
  * The bytes of a file with damaged lines, which are at hand.

@@ -56,18 +56,29 @@ export async function textsOf(good, gap, tellShare) {
   const begun = early && early.gap === gap && early.all.length === good.length &&
     early.all.every(it => good.includes(it)) ? early.got : {};
   early = null;
-  const answerOf = async (/** @type {Command} */ command, /** @type {Source[]} */ inputs) => {
+  const answerOf = async (/** @type {Command} */ command, /** @type {Source[]} */ inputs,
+    /** @type {{ lent?: Source[], keeps?: boolean }} */ of = {}) => {
     const before = await begun[command];
-    const got = before?.status === 0 ? before : await run(command, gap, inputs);
+    const got = before?.status === 0 ? before : await run(command, gap, inputs, of);
     if (got.status) throw new Refused(got);
     return got;
   };
-  const book = (await answerOf("merge", good.map(it => it.taken || it.bytes))).bytes;
+  const lent = good.flatMap(it => it.ready || []);
+  const inputs = good.map(it => it.ready || it.taken || it.bytes);
+  for (const it of good) it.ready = undefined;
+  let book = (await answerOf("merge", inputs, { lent })).bytes;
   tellShare(0.6);
-  const rows = answerOf("rows", [book]);
-  // of a large book one after the other, so that there is room for each
-  if (book.length > LARGE) await rows;
-  const [{ bytes, read = null }, messages] =
-    await Promise.all([rows, answerOf("messages", [book])]);
-  return { book, rows: bytes, read, messages: messages.bytes };
+  if (book.length <= LARGE) {
+    const [rows, messages] =
+      await Promise.all([answerOf("rows", [book]), answerOf("messages", [book])]);
+    return { book, rows: rows.bytes, read: rows.read || null, messages: messages.bytes };
+  }
+  // of a large book one after the other, so that there is room for each; the book goes to and fro
+  const ofBook = async (/** @type {Command} */ command) => {
+    const got = await answerOf(command, [book], { lent: [book], keeps: true });
+    [book] = got.inputs || [book];
+    return got;
+  };
+  const rows = await ofBook("rows"), messages = await ofBook("messages");
+  return { book, rows: rows.bytes, read: rows.read || null, messages: messages.bytes };
 }

@@ -37,16 +37,23 @@ const letGo = (/** @type {Uint8Array} */ { buffer }) =>
  * @param {Asked} asked
  * @returns {Promise<[Got, ArrayBufferLike[]]>}
  */
-async function answer(module, { command, options, inputs }) {
+async function answer(module, { command, options, inputs, keeps }) {
   const table = `table ${command}`, isTable = Object.hasOwn(FUNCTIONS, table);
   const { all, input } = await readAll(inputs);
   if (input >= 0)
     return [{ status: 1, input, line: 0, written: 0, fault: GONE, bytes: NOTHING }, []];
-  const got = run(module, isTable ? table : command, options, all, letGo);
-  if (command !== "rows" || got.status) return [got, [got.bytes.buffer]];
-  const read = atOnce(columnsOf(got.bytes));
-  return [{ ...got, read },
-    [got.bytes.buffer, ...Object.values(read.columns).map(it => it.buffer)]];
+  /** @type {Got} */
+  const got = run(module, isTable ? table : command, options, all, keeps ? undefined : letGo);
+  const buffers = [got.bytes.buffer];
+  if (keeps) {
+    got.inputs = all;
+    buffers.push(...all.map(it => it.buffer));
+  }
+  if (command === "rows" && !got.status) {
+    got.read = atOnce(columnsOf(got.bytes));
+    buffers.push(...Object.values(got.read.columns).map(it => it.buffer));
+  }
+  return [got, buffers];
 }
 /** @typedef {[number, "load", WebAssembly.Module] | [number, "run", Asked]} Question */
 /**

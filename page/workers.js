@@ -6,12 +6,15 @@ import { LARGE, sizeOf, sizeOfAll } from "./sources.js";
 /** @typedef {import("./sources.js").Source} Source */
 /**
  * What a run gives: its status, which input and line it refused and why, and what it wrote; of
- * the rows of a table their columns too.
- * @typedef {import("./host.js").Run & { read?: import("./reading.js").Read }} Got
+ * the rows of a table their columns too. `inputs` are the bytes of what was lent, or of files.
+ * @typedef {import("./host.js").Run & { read?: import("./reading.js").Read,
+ *   inputs?: Uint8Array[] }} Got
  */
 /**
  * A run that is asked for: a command of the program, or `rows` or `messages`, which gives a table.
- * @typedef {{ command: string, options: import("./host.js").Options, inputs: Source[] }} Asked
+ * What it gives back are the bytes of the inputs, where it `keeps` them.
+ * @typedef {{ command: string, options: import("./host.js").Options, inputs: Source[],
+ *   keeps: boolean }} Asked
  */
 /** @typedef {{ it: Worker, busy: number, isLarge: boolean, began: boolean }} Hand */
 
@@ -100,16 +103,17 @@ export async function beginWorkers(script, module, onStop) {
 }
 /**
  * Copies, with a pause after some of them, so that the page doesn't stand still for large ones. A
- * worker reads a file itself.
- * @param {Source[]} inputs
+ * worker reads a file itself, and what is lent needs no copy.
+ * @param {Source[]} inputs @param {Source[]} lent
  */
-async function copiesOf(inputs) {
-  const copies = inputs.map(it => it instanceof Blob ? it : new Uint8Array(it.length));
+async function copiesOf(inputs, lent) {
+  const copies = inputs.map(it =>
+    it instanceof Blob || lent.includes(it) ? it : new Uint8Array(it.length));
   let left = PIECE;
   for (const [k, it] of inputs.entries())
     for (let at = 0; at < sizeOf(it); at += PIECE) {
       const copy = copies[k];
-      if (it instanceof Blob || copy instanceof Blob) break;
+      if (it === copy || it instanceof Blob || copy instanceof Blob) break;
       if (left <= 0) {
         await aMoment();
         left = PIECE;
@@ -121,11 +125,13 @@ async function copiesOf(inputs) {
   return copies;
 }
 /**
- * A run of the module over inputs.
+ * A run of the module over inputs. Bytes that are lent go to the worker and are gone here; it gives
+ * them back, and those of files, where it `keeps` them.
  * @param {string} command @param {number | string[]} options @param {Source[]} inputs
+ * @param {{ lent?: Source[], keeps?: boolean }} of
  * @returns {Promise<Got>}
  */
-export async function run(command, options, inputs) {
+export async function run(command, options, inputs, { lent = [], keeps = false } = {}) {
   let free;
   while (!(free = hands.find(it => !it.busy)))
     await new Promise(done => queue.push(() => done(null)));
@@ -133,7 +139,7 @@ export async function run(command, options, inputs) {
   // a worker that had much is replaced afterwards, which frees its memory at once
   free.isLarge = sizeOfAll(inputs) > LARGE;
   // a copy that is handed over takes less time than what a browser copies itself
-  const copies = await copiesOf(inputs);
+  const copies = await copiesOf(inputs, lent);
   const buffers = copies.flatMap(it => it instanceof Blob ? [] : [it.buffer]);
-  return ask(free, "run", { command, options, inputs: copies }, buffers);
+  return ask(free, "run", { command, options, inputs: copies, keeps }, buffers);
 }
