@@ -2,7 +2,7 @@
 // The runs that make a book and its tables of files, which begin before the files are checked.
 
 import { placeOf } from "./intake.js";
-import { LARGE, sizeOfAll } from "./sources.js";
+import { limits, sizeOfAll } from "./sources.js";
 import { run } from "./workers.js";
 
 /** @typedef {import("./intake.js").Given} Given */
@@ -38,7 +38,7 @@ let early = null;
 export function beginEarly(all, gap) {
   const inputs = all.map(it => it.taken || it.bytes);
   early = null;
-  if (sizeOfAll(inputs) > LARGE) return;
+  if (sizeOfAll(inputs) > limits.alone) return;
   const begin = (/** @type {Command} */ command, /** @type {Source[]} */ given) =>
     run(command, gap, given).catch(() => null);
   const rows = begin("rows", inputs), merge = begin("merge", inputs);
@@ -68,7 +68,7 @@ export async function textsOf(good, gap, tellShare) {
   for (const it of good) it.ready = undefined;
   let book = (await answerOf("merge", inputs, { lent })).bytes;
   tellShare(0.6);
-  if (book.length <= LARGE) {
+  if (book.length <= limits.alone) {
     const [rows, messages] =
       await Promise.all([answerOf("rows", [book]), answerOf("messages", [book])]);
     return { book, rows: rows.bytes, read: rows.read || null, messages: messages.bytes };

@@ -2,9 +2,11 @@
 // Where the bytes of an input are: in memory, or in a large file, which is read when it is needed.
 
 /** @typedef {Uint8Array | Blob} Source */
-/** A file of more bytes than `kept` isn't kept in memory; runs over more than `LARGE` go alone. */
-export const limits = { kept: 2 ** 26 };
-export const LARGE = 2 ** 26;
+/**
+ * A file of more bytes than `kept` isn't kept in memory, and after a run over more than `alone` a
+ * worker is replaced; what is read so has no other run beside it.
+ */
+export const limits = { kept: 2 ** 26, alone: 2 ** 26 };
 export const GONE = "can't be read any more: it has changed, or is gone";
 
 /** @param {Source} source */

@@ -1,7 +1,7 @@
 // @ts-check
 // Workers, each with the module: a run is given to one that is free.
 
-import { LARGE, sizeOf, sizeOfAll } from "./sources.js";
+import { limits, sizeOf, sizeOfAll } from "./sources.js";
 
 /** @typedef {import("./sources.js").Source} Source */
 /**
@@ -137,7 +137,7 @@ export async function run(command, options, inputs, { lent = [], keeps = false }
     await new Promise(done => queue.push(() => done(null)));
   free.busy++;
   // a worker that had much is replaced afterwards, which frees its memory at once
-  free.isLarge = sizeOfAll(inputs) > LARGE;
+  free.isLarge = sizeOfAll(inputs) > limits.alone;
   // a copy that is handed over takes less time than what a browser copies itself
   const copies = await copiesOf(inputs, lent);
   const buffers = copies.flatMap(it => it instanceof Blob ? [] : [it.buffer]);

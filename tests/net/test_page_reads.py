@@ -80,7 +80,7 @@ HEAR_RUNS = """(() => {
     window.asked = [];
     Worker.prototype.postMessage = function (...it) {
         const { command, inputs } = it[0][2];
-        window.asked.push(`${command} ${inputs.length}`);
+        if (inputs) window.asked.push(`${command} ${inputs.length}`);
         post.apply(this, it);
     };
     return 1; })()"""
@@ -574,10 +574,11 @@ DIGEST = """Promise.all(
     .then(them => them.map(it => [...new Uint8Array(it)]))"""
 
 
-def dropped(page, what, logs, wanted):
+def dropped(page, what, logs, wanted, limits="{}"):
     """Gives logs to the page, and prints how long it takes until they are shown."""
     def measure():
         fresh(page)
+        page.js(f"(Object.assign(aprsfiles.limits, {limits}), 1)")
         page.js(WATCH)
         page.js(HEAR_RUNS)
         page.give("#choose", *logs)
@@ -598,7 +599,7 @@ def test_large(page, folder):
 
 def test_larger(page, folder):
     """More than 64 MB: the evening on each of 320 days, its lines ten times. The rows are the
-    book's then, and isn't made of all the files."""
+    book's then, and aren't made of all the files; files and book may go to and fro."""
     logs = [folder / it.name for it in EVENING]
     for own, path in zip(EVENING, logs):
         text = own.read_bytes()
@@ -606,8 +607,9 @@ def test_larger(page, folder):
         path.write_bytes(b"".join(10 * text.replace(b"2024-06-21", str(day).encode())
                                   for day in days))
     assert sum(it.stat().st_size for it in logs) > 2 ** 26
-    dropped(page, "more than 64 MB", logs, {})
-    # each log was looked into before it was read
-    is_(sorted(page.js("[...window.asked]")),
-        ["check 1"] * 6 + ["merge 3", "messages 1", "rows 1"])
+    for limits in "{}", "{ kept: 1e6, alone: 1e6 }":
+        dropped(page, "more than 64 MB", logs, {}, limits)
+        # each log was looked into before it was read
+        is_(sorted(page.js("[...window.asked]")),
+            ["check 1"] * 6 + ["merge 3", "messages 1", "rows 1"])
 
