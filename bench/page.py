@@ -1,10 +1,11 @@
 #!/usr/bin/python3
-"""Measures how large logs are shown by the page that reads logs, in Chromium: the seconds until they
-are shown, the processor seconds of all of Chromium's processes, and the most memory that these have
-at once, with what they share counted once (PSS).
+"""Measures how large logs are shown by the page that reads logs, in Chromium: the seconds until
+they are shown, the processor seconds of all of Chromium's processes, and the most memory that these
+have at once, with what they share counted once (PSS).
 
-usage: page.py PAGE.html [LINES]    in three logs of bench/make_log.py (5000000); needs Debian's
-                                    python3-selenium and chromium-driver, and Linux
+usage: page.py PAGE.html [LINES]    in three logs of bench/make_log.py (5000000), or in those of the
+                                    folder LOGS of the environment; needs Debian's python3-selenium
+                                    and chromium-driver, and Linux
 """
 import os
 import pathlib
@@ -135,13 +136,10 @@ def main() -> None:
         sys.exit(__doc__)
     with tempfile.TemporaryDirectory() as folder:
         lines = sys.argv[2] if len(sys.argv) > 2 else "5000000"
-        logs = [pathlib.Path(folder) / f"{it}.log" for it in "abc"]
-        given = os.environ.get("LOGS")  # they are made in a minute and a half
-        if given:
-            logs = sorted(pathlib.Path(given).glob("*.log"))
-        else:
+        given = os.environ.get("LOGS", folder)
+        if given == folder:
             subprocess.run([sys.executable, HERE / "make_log.py", lines, folder], check=True)
-        measured(sys.argv[1], logs)
+        measured(sys.argv[1], sorted(pathlib.Path(given).glob("*.log")))
 
 
 if __name__ == "__main__":

@@ -82,7 +82,8 @@ test("a place is found in symbols that are a backslash or a colon", () => {
 test("of thousands of rows each knows the first one of its station that says the same", () => {
   const said = k => [k % 7, k % 300];
   const lines = Array.from({ length: 3000 }, (_, k) =>
-    place(k, `Q1A-${said(k)[0]}`, 54, -3, { text: `no. ${said(k)[1]}`, receivers: `RX${k % 40}` }));
+    place(k, `Q1A-${said(k)[0]}`, 54, -3,
+      { text: `no. ${said(k)[1]}`, receivers: `RX${k % 40}` }));
   const rows = rowsOf(lines), first = new Map();
   for (let k = 0; k < lines.length; k++) {
     const key = said(k).join();
@@ -94,7 +95,7 @@ test("of thousands of rows each knows the first one of its station that says the
   assert.equal(rows.record(2999).text, "no. 299");
 });
 
-test("a table is read to its end, also where its lines become shorter or a last one is torn", () => {
+test("a table is read to its end, where its lines become shorter or a last one is torn", () => {
   const long = Array.from({ length: 1000 }, (_, k) =>
     row("status", k, "Q1A", { text: "x".repeat(300) }));
   const short = Array.from({ length: 9000 }, (_, k) => row("status", 1000 + k, "Q1\u00dc"));
