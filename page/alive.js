@@ -5,7 +5,7 @@ import { byId, choose, chosen, textOf, write } from "./dom.js";
 import { show } from "./drawing.js";
 import { drawNews } from "./headline.js";
 import { aheadOf, staleWords } from "./stale.js";
-import { page, view } from "./state.js";
+import { dataIn, page, view } from "./state.js";
 import { age } from "./words.js";
 
 /**
@@ -63,7 +63,7 @@ async function again() {
     alive.away = 0;
     if (text !== textOf("data")) {
       byId("data").textContent = text;
-      await show(JSON.parse(text));
+      await show(dataIn(text));
     }
   } catch {
     alive.away ||= Date.now();

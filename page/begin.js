@@ -9,17 +9,18 @@ import { begin } from "./event.js";
 import { SAVES, savedText } from "./exports.js";
 import { unpacked } from "./land.js";
 import { beginClock } from "./playing.js";
-import { page } from "./state.js";
+import { tableOf, textsOf } from "./reading.js";
+import { dataIn, page } from "./state.js";
 import { age, count, fullText, messageOf, printable } from "./words.js";
 
 begin();
 if (textOf("data").trim())
-  show(JSON.parse(textOf("data"))).then(() => {
+  show(dataIn(textOf("data"))).then(() => {
     beginClock();
     if (page.data.live) beginAlive();
   });
 /** For the script that reads logs, and for tests. */
 export const shared = Object.freeze({ page, show, refresh, bring, bringGround, bringLines, make,
   byId, textOf, save, count, choose, chosen, tick, SAVES, savedText, alive, printable, fullText,
-  heard, messageOf, age, unpacked });
+  heard, messageOf, age, unpacked, tableOf, textsOf });
 globalThis.aprsbook = shared;

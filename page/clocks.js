@@ -75,6 +75,38 @@ function middleOf(zeros, list) {
   return middle < below ? list[middle] : middle < below + zeros ? 0 : list[middle - zeros];
 }
 
+/** More rows of one text than these have no pairs. */
+const MOST = 8;
+/**
+ * Rows by the first one that says the same, those that are wanted; `ends` has where a group ends.
+ * @param {ArrayLike<number>} picks @param {Uint32Array} same
+ * @param {(k: number) => boolean} isWanted
+ * @returns {Generator<unknown, { ends: Uint32Array, members: Uint32Array }>}
+ */
+function* gathered(picks, same, isWanted) {
+  const ends = new Uint32Array(same.length);
+  yield* each(picks, k => { if (isWanted(k)) ends[same[k]]++; });
+  let sum = 0;
+  for (let k = 0; k < ends.length; k++) [ends[k], sum] = [sum, sum + ends[k]];
+  const members = new Uint32Array(sum);
+  yield* each(picks, k => { if (isWanted(k)) members[ends[same[k]]++] = k; });
+  return { ends, members };
+}
+/**
+ * Says of two lists of names, by their numbers, whether no name is in both.
+ * @param {string[][]} lists
+ */
+function apartIn(lists) {
+  /** @type {Map<number, boolean>} */
+  const known = new Map();
+  return (/** @type {number} */ a, /** @type {number} */ b) => {
+    const key = a * lists.length + b;
+    let is = known.get(key);
+    if (is === undefined) known.set(key, is = !lists[a].some(it => lists[b].includes(it)));
+    return is;
+  };
+}
+
 /**
  * The pairs of receivers that heard the same transmissions. What stands in several rows with the
  * same text, no receiver in two of them, was one transmission if clocks are wrong.
@@ -87,23 +119,19 @@ export function* pairsOf(rows, picks, heard) {
   for (const { names, heard: n } of heard) if (names.length > 1) all.same(names, n);
   const times = new Uint32Array(rows.length);
   yield* each(picks, k => { times[same[k]]++; });
-  /** @type {Map<number, number[]>} */
-  const groups = new Map();
+  // what is sent again and again has no partner that would be sure
+  const isPaired = (/** @type {number} */ k) => times[same[k]] > 1 && times[same[k]] <= MOST;
+  const { ends, members } = yield* gathered(picks, same, isPaired);
+  const isApart = apartIn(rows.lists);
   yield* each(picks, k => {
-    const n = times[same[k]];
-    // what is sent again and again has no partner that would be sure
-    if (n < 2 || n > 8) return;
-    const group = groups.get(same[k]);
-    if (group) group.push(k);
-    else groups.set(same[k], [k]);
-  });
-  yield* each([...groups.values()], group => {
-    const lists = group.map(k => rows.lists[rows.heard[k]]), names = lists.flat();
-    if (new Set(names).size < names.length) return;
-    for (const [m, k] of group.entries())
-      for (const [n, l] of group.entries())
-        if (m < n) for (const a of lists[m]) for (const b of lists[n])
-          all.add(a, b, first[k] - first[l]);
+    const end = ends[same[k]], begin = end - times[same[k]];
+    if (!isPaired(k) || members[begin] !== k) return;
+    const group = members.subarray(begin, end), lists = group.map(it => rows.heard[it]);
+    for (let m = 0; m < group.length; m++)
+      for (let n = 0; n < m; n++) if (!isApart(lists[n], lists[m])) return;
+    for (let n = 1; n < group.length; n++)
+      for (let m = 0; m < n; m++) for (const a of rows.lists[lists[m]])
+        for (const b of rows.lists[lists[n]]) all.add(a, b, first[group[m]] - first[group[n]]);
   });
   return all.pairs().filter(it => it.of >= FEWEST);
 }

@@ -11,9 +11,9 @@ import { hearings, netOf, rank } from "./net.js";
 import { drawOne } from "./picked.js";
 import { forms } from "./placeforms.js";
 import { turnClock } from "./playing.js";
-import { columnsOf } from "./reading.js";
+import { columnsOf, messagesOf } from "./reading.js";
 import { expectedOf, who } from "./roster.js";
-import { readMessages, Rows } from "./rows.js";
+import { Rows } from "./rows.js";
 import { page, presentOf, view } from "./state.js";
 import { atOnce, inSlices, later, once } from "./steps.js";
 import { pairList, shareText } from "./tables.js";
@@ -30,7 +30,7 @@ import { clocks, datedBy } from "./words.js";
  * @template T
  * @typedef {import("./steps.js").Steps<T>} Steps
  */
-/** Of rows of so many letters at most, some 10,000, all is drawn in one step. */
+/** Of rows of so many bytes at most, some 10,000, all is drawn in one step. */
 const SMALL = 2 ** 20;
 
 /**
@@ -63,8 +63,8 @@ async function draw(turn) {
  * @returns {Steps<All>}
  */
 function* allOf({ data, read }) {
-  const rows = new Rows(data.rows, read || (yield* columnsOf(data.rows)));
-  const messages = readMessages(data.messages);
+  const rows = new Rows(read || (yield* columnsOf(data.rows)));
+  const messages = yield* messagesOf(data.messages);
   messages.forEach(rank);
   return { rows, messages, end: rows.until };
 }

@@ -5,5 +5,5 @@
 const shared = globalThis.aprsbook;
 export const {
   age, alive, bring, bringGround, bringLines, byId, choose, chosen, count, fullText, heard,
-  make, messageOf, page, printable, save, show, textOf, tick, unpacked,
+  make, messageOf, page, printable, save, show, tableOf, textOf, textsOf, tick, unpacked,
 } = shared;

@@ -55,12 +55,13 @@ const optionsOf = () => ({ title: byId("name").value || "APRS net", gap: numberI
  * @param {Made} texts
  */
 const draw = ({ rows, messages, read }) => show({ ...optionsOf(), rows, messages }, read);
+const NONE = new Uint8Array();
 /**
  * Draws an empty page, and says why it is.
  * @param {string} why
  */
 function drawNothing(why) {
-  show({ ...optionsOf(), notes: [], rows: "", messages: "", waits: true });
+  show({ ...optionsOf(), notes: [], rows: NONE, messages: NONE, waits: true });
   say(why, true);
 }
 /** Makes the book of the files as they are now, and draws it. */
@@ -190,7 +191,7 @@ async function shiftClock(name, by) {
 const clockOf = {
   shifted: name => shifts.get(name) || 0,
   can: name => files.some(it => it.taken && it.kind !== "book" &&
-    movedIn(it.taken, new Map([[name, 0]])).length > 0),
+    (it.taken instanceof Blob || movedIn(it.taken, new Map([[name, 0]])).length > 0)),
   put: shiftClock,
 };
 
@@ -278,7 +279,7 @@ function listen() {
 export async function beginReading() {
   drawOwnSaves();
   page.clockOf = clockOf;
-  show({ ...optionsOf(), title: "aprsbook", rows: "", messages: "", waits: true });
+  show({ ...optionsOf(), title: "aprsbook", rows: NONE, messages: NONE, waits: true });
   try {
     const bytes = Uint8Array.from(atob(contents.module), it => it.charCodeAt(0));
     // compiled once, for all workers

@@ -3,12 +3,10 @@
 
 import { boxAround, carriedIn, nearIn } from "./carried.js";
 import { contents } from "./contents.js";
-import { page, textOf } from "./drawn.js";
+import { page, textOf, textsOf } from "./drawn.js";
 import { rosterText } from "./roster.js";
 
 /** @typedef {Generator<string>} Pieces of a text */
-/** So many letters of a table are a piece. */
-const PIECE = 2 ** 20;
 const asData = (/** @type {unknown} */ value) => JSON.stringify(value)
   .replaceAll("&", "\\u0026").replaceAll("<", "\\u003c").replaceAll(">", "\\u003e");
 /** @type {Record<string, string>} */
@@ -38,14 +36,13 @@ function dataOf() {
   return data;
 }
 /**
- * A table as data, whose letters are all of ASCII, so that it can be cut anywhere.
- * @param {string} table
+ * A table as data, a text.
+ * @param {Uint8Array} table
  * @returns {Pieces}
  */
 function* tableAsData(table) {
   yield '"';
-  for (let at = 0; at < table.length; at += PIECE)
-    yield asData(table.slice(at, at + PIECE)).slice(1, -1);
+  for (const it of textsOf(table)) yield asData(it).slice(1, -1);
   yield '"';
 }
 /**

@@ -2,6 +2,7 @@
 // What the reader can save: CSV, GPX, GeoJSON, KML of what is shown.
 
 import { entriesOf } from "./ics309.js";
+import { textsOf } from "./reading.js";
 import { isoText, said } from "./words.js";
 
 /** @typedef {import("./net.js").Net} Net */
@@ -198,16 +199,14 @@ function* kmlOf({ placed }, { title }) {
   }
   yield "</Document></kml>\n";
 }
-/** @param {Net} net @param {{ rows: string }} data @returns {Pieces} */
-function* tableOf(net, data) {
-  yield data.rows;
-}
+/** @param {Net} net @param {{ rows: Uint8Array }} data @returns {Pieces} */
+const tableText = (net, { rows }) => textsOf(rows);
 
 /**
  * What can be saved, by the name in the menu: a file's name, its type, and what it holds, in
  * pieces.
  * @type {Record<string, [string, string,
- *   (net: Net, data: { title: string, rows: string }, lines: Line[]) => Pieces]>}
+ *   (net: Net, data: { title: string, rows: Uint8Array }, lines: Line[]) => Pieces]>}
  */
 export const SAVES = {
   "places (CSV)": ["places.csv", "text/csv", placesCsv],
@@ -215,13 +214,13 @@ export const SAVES = {
   "places and tracks (GPX)": ["net.gpx", "application/gpx+xml", gpxOf],
   "places and tracks (GeoJSON)": ["net.geojson", "application/geo+json", geoJsonOf],
   "places and tracks (KML)": ["net.kml", "application/vnd.google-earth.kml+xml", kmlOf],
-  "table (TSV)": ["table.tsv", "text/tab-separated-values", tableOf],
+  "table (TSV)": ["table.tsv", "text/tab-separated-values", tableText],
 };
 /**
  * The whole text of what can be saved.
  * @param {string} name
  * @param {Net} net
- * @param {{ title: string, rows: string }} data
+ * @param {{ title: string, rows: Uint8Array }} data
  * @param {Line[]} lines
  */
 export const savedText = (name, net, data, lines = []) =>

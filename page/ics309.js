@@ -7,7 +7,7 @@ import { isBulletin } from "./net.js";
 import { who } from "./roster.js";
 import { clocks, datedBy, fullText, printable, said, zonesText, zoneText } from "./words.js";
 
-/** @typedef {import("./rows.js").Message} Message */
+/** @typedef {import("./reading.js").Message} Message */
 /** @typedef {import("./ownlines.js").Line} Line */
 /** @typedef {import("./words.js").Dated} Dated */
 /**

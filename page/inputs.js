@@ -6,6 +6,7 @@ import { age, byId, count, make, printable, save } from "./drawn.js";
 import { leaveOut, lineText, look, shifts } from "./intake.js";
 import { REASONS } from "./kinds.js";
 import { movedIn } from "./shift.js";
+import { sizeOf } from "./sources.js";
 
 /** @typedef {import("./intake.js").Given} Given */
 /** @typedef {() => unknown} Work makes the book anew of what the files are now */
@@ -98,7 +99,8 @@ export const shiftText = (name, by) =>
  * @param {Given} file
  */
 function movedOf({ name, kind, taken }) {
-  const moved = taken && kind !== "book" ? movedIn(taken, shifts) : [];
+  // where clocks are put right, all logs are at hand
+  const moved = taken instanceof Uint8Array && kind !== "book" ? movedIn(taken, shifts) : [];
   if (!taken || !moved.length) return [];
   const words = moved.map(it => shiftText(it, shifts.get(it) || 0)).join("; ");
   return [make("p", { textContent: words }),
@@ -131,7 +133,7 @@ function moreOf(file, work) {
 function rowOf(file, work) {
   const row = file.row ||= fileRow(file, work), [, kind, size, told] = row.cells;
   kind.textContent = file.kind;
-  size.textContent = file.unread ? "" : file.bytes.length.toLocaleString("en");
+  size.textContent = file.unread ? "" : sizeOf(file.bytes).toLocaleString("en");
   const [verdict, more] = /** @type {Iterable<HTMLElement>} */ (told.children);
   verdict.className = `verdict ${file.fault ? "bad" : "good"}`;
   verdict.textContent = file.fault || file.said;

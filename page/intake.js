@@ -2,20 +2,24 @@
 // The files that a reader gives: what each is, what the program says of it, and what is left of it.
 
 import { count } from "./drawn.js";
-import { damagedLines, kindOf, MANY, READ, spelled, without } from "./kinds.js";
+import { damagedLines, kindOf, MANY, READ, REASONS, spelled, without } from "./kinds.js";
 import { shifted } from "./shift.js";
 import { linesIn } from "./ownlines.js";
+import { bytesIn, isSameSource, limits, sizeOf } from "./sources.js";
 import { beginningOf, MOST, TOO_LARGE, unzipped } from "./unpacking.js";
 import { run } from "./workers.js";
 
 /** @typedef {import("./kinds.js").Damage} Damage */
+/** @typedef {import("./sources.js").Source} Source */
 /**
  * A file that was given. `bytes` are its bytes as they are read, `taken` what goes into the book,
- * or null; `unread` says why it can't be read at all.
- * @typedef {{ name: string, kind: string, bytes: Uint8Array, unread: string, receiver: string,
+ * or null; `unread` says why it can't be read at all. `ready` are the bytes of a file that were
+ * read for a check, and are the next book's.
+ * @typedef {{ name: string, kind: string, bytes: Source, unread: string, receiver: string,
  *   moment: string, passed: string[], said: string, fault: string, reason: string,
- *   spelling: string[], damage: Damage[], leftOut: string[], taken: Uint8Array | null,
- *   lines?: import("./ownlines.js").Line[], row?: HTMLTableRowElement, whole?: Uint8Array,
+ *   spelling: string[], damage: Damage[], leftOut: string[], taken: Source | null,
+ *   ready?: Uint8Array, lines?: import("./ownlines.js").Line[], row?: HTMLTableRowElement,
+ *   whole?: Uint8Array,
  *   mark?: string, away?: string }} Given
  */
 
@@ -40,7 +44,7 @@ export const placeOf = got =>
  * A file of the table of files.
  * @param {string} name
  * @param {string} kind
- * @param {Uint8Array} bytes
+ * @param {Source} bytes
  * @param {Partial<Given>} [of]
  * @returns {Given}
  */
@@ -54,11 +58,13 @@ export const fileOf = (name, kind, bytes, of = {}) => ({ name, kind, bytes, unre
  * @param {Given} b
  */
 export const isSame = (a, b) => a.name === b.name && !a.whole && a.unread === b.unread &&
-  a.bytes.length === b.bytes.length && a.bytes.every((it, k) => it === b.bytes[k]);
+  isSameSource(a.bytes, b.bytes);
+/** Whether gzip packed what begins so. */
+const isPacked = (/** @type {Uint8Array} */ head) => head[0] === 0x1f && head[1] === 0x8b;
 /** @param {Blob} file */
 async function bytesOf(file) {
   const head = new Uint8Array(await file.slice(0, HEAD).arrayBuffer());
-  if (head[0] === 0x1f && head[1] === 0x8b) return beginningOf(unzipped(file), HEAD);
+  if (isPacked(head)) return beginningOf(unzipped(file), HEAD);
   if (file.size > MOST) throw new Error(TOO_LARGE);
   return { head, all: async () => new Uint8Array(await file.arrayBuffer()) };
 }
@@ -71,7 +77,7 @@ export async function take(file, bring) {
   const unread = (/** @type {string} */ why, kind = "file") =>
     fileOf(file.name, kind, new Uint8Array(), { unread: why });
   try {
-    const { head, all } = await bytesOf(file), begin = spelled(head).bytes;
+    const { head, all } = await bytesOf(file), { bytes: begin, spelling } = spelled(head);
     const kind = kindOf(begin, file.name.replace(/\.gz$/i, ""));
     if (kind === "a web page") {
       const lines = ownLinesIn(new TextDecoder().decode(await all()));
@@ -79,6 +85,8 @@ export async function take(file, bring) {
     }
     if (!READ.includes(kind)) return unread(`is ${kind}, which no log is`, kind);
     if (kind === "log" && await isNoLog(begin)) return unread("is no log", "file");
+    const isPlain = kind === "book" || kind === "log" && !spelling.length;
+    if (isPlain && file.size > limits.kept && !isPacked(head)) return fileOf(file.name, kind, file);
     const bytes = await all();
     if (kind === "book" || kind === "KISS stream") return fileOf(file.name, kind, bytes);
     const text = spelled(bytes);
@@ -130,7 +138,7 @@ async function isNoLog(begin) {
  */
 export async function look(file, gap) {
   Object.assign(file, { fault: file.unread, said: "", reason: "", passed: [], damage: [],
-    taken: null });
+    taken: null, ready: undefined });
   try {
     if (!file.unread) await lookInto(file, gap);
   } catch (fault) {
@@ -139,11 +147,13 @@ export async function look(file, gap) {
 }
 /** @param {Given} file @param {number} gap */
 async function lookInto(file, gap) {
-  let { bytes } = file;
+  let { bytes } = file; // of a book and a log it may be a file
+  /** @type {Uint8Array | undefined} */
+  let ready;
   const refuse = (/** @type {{ fault: string, line?: number }} */ got) => {
     file.fault = placeOf(got);
   };
-  if (file.kind === "book" && !bytes.length) return refuse({ fault: EMPTY_BOOK });
+  if (file.kind === "book" && !sizeOf(bytes)) return refuse({ fault: EMPTY_BOOK });
   if (file.kind === "KISS stream") {
     if (!file.moment) return refuse({ fault: "give the receiver's name and the moment" });
     const got = await run("convert capture", [file.receiver, file.moment], [bytes]);
@@ -157,30 +167,43 @@ async function lookInto(file, gap) {
     const rows = /END (\d+)\n$/.exec(asText(got.bytes.subarray(-20)))?.[1];
     file.said = count(Number(rows), "transmission");
   } else {
-    const got = await run("check", 30, [bytes]), lines = asText(got.bytes).trimEnd().split("\n");
+    const got = await run("check", 30, [bytes], { keeps: bytes instanceof Blob });
+    const lines = asText(got.bytes).trimEnd().split("\n");
+    ready = got.inputs?.[0];
     if (!got.status) file.said = lines.pop() || "";
     file.passed = lines.filter(Boolean);
     if (got.status) {
       file.reason = got.fault;
-      file.damage = await damagedLines(bytes, checkOf, MANY) || [];
+      if (REASONS[got.fault]) {
+        // what is damaged is at hand from now on
+        file.bytes = bytes = got.inputs?.[0] ?? await bytesIn(bytes);
+        file.damage = await damagedLines(bytes, checkOf, MANY) || [];
+      }
       return refuse(got);
     }
   }
   // a book's moments stay: it no longer has what each receiver wrote
-  file.taken = file.kind === "book" ? bytes : shifted(bytes, shifts);
+  const isMoved = file.kind !== "book" && shifts.size > 0;
+  file.taken = isMoved ? shifted(ready ?? await bytesIn(bytes), shifts) : bytes;
+  file.ready = isMoved ? undefined : ready;
 }
+/**
+ * The bytes of a file with damaged lines, which are at hand.
+ * @param {Given} file
+ */
+const atHand = ({ bytes }) => /** @type {Uint8Array} */ (bytes);
 /**
  * The text of a line that is refused.
  * @param {Given} file
  * @param {Damage} it
  */
 export const lineText = (file, { begin, end }) =>
-  new TextDecoder().decode(file.bytes.subarray(begin, Math.min(end, begin + 200))).trimEnd();
+  new TextDecoder().decode(atHand(file).subarray(begin, Math.min(end, begin + 200))).trimEnd();
 /**
  * Leaves out the lines that are refused.
  * @param {Given} file
  */
 export function leaveOut(file) {
   file.leftOut.push(...file.damage.map(it => `line ${it.line}: ${it.why}: ${lineText(file, it)}`));
-  file.bytes = without(file.bytes, file.damage);
+  file.bytes = without(atHand(file), file.damage);
 }

@@ -2,7 +2,7 @@
 // What is new in a page that goes on: what wasn't there when the reader looked last.
 
 /** @typedef {import("./net.js").Thing} Thing */
-/** @typedef {import("./rows.js").Message} Message */
+/** @typedef {import("./reading.js").Message} Message */
 /** @typedef {{ things: Thing[], messages: Message[], bulletins: Message[],
  *   end: number }} Net until when something was heard */
 

@@ -6,7 +6,7 @@ import { cell, List, newMark, timeCell } from "./lists.js";
 import { who } from "./roster.js";
 import { fullText, said } from "./words.js";
 
-/** @typedef {import("./rows.js").Message} Message */
+/** @typedef {import("./reading.js").Message} Message */
 /** @typedef {{ isNewMessage: (it: Message) => boolean }} View */
 /**
  * What is said of a message's state beside the state.

@@ -11,7 +11,7 @@ import { byLetters, said } from "./words.js";
 
 /** @typedef {import("./rows.js").Rows} Rows */
 /** @typedef {import("./rows.js").Place} Place */
-/** @typedef {import("./rows.js").Message} Message */
+/** @typedef {import("./reading.js").Message} Message */
 /** @typedef {import("./clocks.js").Clock} Clock */
 /** @typedef {ArrayLike<number>} Picks numbers of rows */
 /** @typedef {{ rows: Rows, messages: Message[], end: number }} All what was read of the tables */

@@ -1,9 +1,10 @@
 // @ts-check
-// What the tables of a book say: the rows, of which what no column of numbers has is cut out of the
-// text when it is asked for; places, and messages.
+// What the rows of a book's table say: what no column of numbers has becomes text when it is asked
+// for; and places.
 
 import { vectorOf } from "./globe.js";
-import { KINDS, recordOf, recordsOf, secondsAt } from "./reading.js";
+import { textIn } from "./parts.js";
+import { KINDS, recordOf } from "./reading.js";
 import { letterOf, said } from "./words.js";
 
 /**
@@ -48,9 +49,9 @@ function symbolIn(shown) {
 
 /** The transmissions of a table: numbers of rows, in `order` by their first moments. */
 export class Rows {
-  /** @param {string} text @param {import("./reading.js").Read} read */
-  constructor(text, { columns, names, things, lists, until }) {
-    this.text = text;
+  /** @param {import("./reading.js").Read} read */
+  constructor({ bytes, columns, names, things, lists, until }) {
+    this.bytes = bytes;
     this.names = names;
     this.things = things;
     this.until = until;
@@ -110,7 +111,7 @@ export class Rows {
    * @param {number} k
    */
   record(k) {
-    return recordOf(this.names, this.text.slice(this.begin[k], this.stop[k]));
+    return recordOf(this.names, textIn(this.bytes, this.begin[k], this.stop[k]));
   }
   /**
    * The kind of a row, as the table names it.
@@ -139,23 +140,3 @@ export class Rows {
 }
 export const kindIn = (/** @type {string} */ thing) => thing.slice(0, thing.indexOf(" "));
 export const nameIn = (/** @type {string} */ thing) => thing.slice(thing.indexOf(" ") + 1);
-
-/**
- * A message as it stands in its table.
- * @typedef {{ source: string, addressee: string, id: string, text: string, state: string,
- *   first: number, last: number, answered: number, answeredBy: string, order: number }} Message
- */
-/** @param {Record<string, string>} it @returns {Message} */
-function messageOf(it) {
-  return { source: it.source, addressee: it.addressee, id: it.id, text: it.text,
-    // a reply-ack of APRS 1.1 says what has no number of its own
-    state: it.reply_ack || it.state,
-    first: secondsAt(it.first, 0), last: secondsAt(it.last, 0),
-    answered: it.answer ? secondsAt(it.answer, 0) : NaN, answeredBy: it.answer_source || "",
-    order: 0 };
-}
-/**
- * The messages of their table.
- * @param {string} text
- */
-export const readMessages = text => recordsOf(text).map(messageOf);

@@ -2,15 +2,17 @@
 // The runs that make a book and its tables of files, which begin before the files are checked.
 
 import { placeOf } from "./intake.js";
+import { limits, sizeOfAll } from "./sources.js";
 import { run } from "./workers.js";
 
 /** @typedef {import("./intake.js").Given} Given */
+/** @typedef {import("./sources.js").Source} Source */
 /** @typedef {import("./workers.js").Got} Got */
 /** @typedef {"merge" | "rows" | "messages"} Command */
 /** @typedef {Partial<Record<Command, Promise<Got | null>>>} Begun */
 /**
- * A book, the texts of its tables, and the columns of its rows.
- * @typedef {{ book: Uint8Array, rows: string, messages: string,
+ * A book, its tables, and the columns of its rows.
+ * @typedef {{ book: Uint8Array, rows: Uint8Array, messages: Uint8Array,
  *   read: import("./reading.js").Read | null }} Made
  */
 /** A run of all files that was refused: for which of them, or -1 where it is for none. */
@@ -27,8 +29,6 @@ export class Refused extends Error {
  * @type {{ all: Given[], gap: number, got: Begun } | null}
  */
 let early = null;
-/** So many bytes at most are read by several runs at once. */
-const EARLY_BYTES = 2 ** 26;
 /**
  * Begins with files that aren't checked yet. Files have the same table as their book, so it need
  * not wait for the book; but each run holds all files, so only where they are small.
@@ -38,8 +38,8 @@ const EARLY_BYTES = 2 ** 26;
 export function beginEarly(all, gap) {
   const inputs = all.map(it => it.taken || it.bytes);
   early = null;
-  if (inputs.reduce((sum, it) => sum + it.length, 0) > EARLY_BYTES) return;
-  const begin = (/** @type {Command} */ command, /** @type {Uint8Array[]} */ given) =>
+  if (sizeOfAll(inputs) > limits.alone) return;
+  const begin = (/** @type {Command} */ command, /** @type {Source[]} */ given) =>
     run(command, gap, given).catch(() => null);
   const rows = begin("rows", inputs), merge = begin("merge", inputs);
   const messages = merge.then(book => book?.status === 0 ? begin("messages", [book.bytes]) : null);
@@ -56,15 +56,29 @@ export async function textsOf(good, gap, tellShare) {
   const begun = early && early.gap === gap && early.all.length === good.length &&
     early.all.every(it => good.includes(it)) ? early.got : {};
   early = null;
-  const answerOf = async (/** @type {Command} */ command, /** @type {Uint8Array[]} */ inputs) => {
+  const answerOf = async (/** @type {Command} */ command, /** @type {Source[]} */ inputs,
+    /** @type {{ lent?: Source[], keeps?: boolean }} */ of = {}) => {
     const before = await begun[command];
-    const got = before?.status === 0 ? before : await run(command, gap, inputs);
+    const got = before?.status === 0 ? before : await run(command, gap, inputs, of);
     if (got.status) throw new Refused(got);
     return got;
   };
-  const book = (await answerOf("merge", good.map(it => it.taken || it.bytes))).bytes;
+  const lent = good.flatMap(it => it.ready || []);
+  const inputs = good.map(it => it.ready || it.taken || it.bytes);
+  for (const it of good) it.ready = undefined;
+  let book = (await answerOf("merge", inputs, { lent })).bytes;
   tellShare(0.6);
-  const [rows, messages] =
-    await Promise.all([answerOf("rows", [book]), answerOf("messages", [book])]);
-  return { book, rows: rows.text || "", read: rows.read || null, messages: messages.text || "" };
+  if (book.length <= limits.alone) {
+    const [rows, messages] =
+      await Promise.all([answerOf("rows", [book]), answerOf("messages", [book])]);
+    return { book, rows: rows.bytes, read: rows.read || null, messages: messages.bytes };
+  }
+  // of a large book one after the other, so that there is room for each; the book goes to and fro
+  const ofBook = async (/** @type {Command} */ command) => {
+    const got = await answerOf(command, [book], { lent: [book], keeps: true });
+    [book] = got.inputs || [book];
+    return got;
+  };
+  const rows = await ofBook("rows"), messages = await ofBook("messages");
+  return { book, rows: rows.bytes, read: rows.read || null, messages: messages.bytes };
 }

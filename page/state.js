@@ -4,19 +4,20 @@
 import { byId } from "./dom.js";
 import { Looked } from "./looked.js";
 import { OwnLines } from "./ownlines.js";
+import { tableOf } from "./reading.js";
 import { Alarm } from "./sound.js";
 
 /** @typedef {import("./lists.js").List<string>} Texts */
 /** @typedef {import("./net.js").Thing} Thing */
-/** @typedef {import("./rows.js").Message} Message */
+/** @typedef {import("./reading.js").Message} Message */
 /** @typedef {import("./roster.js").Roster} Roster */
 /**
  * What a page is made of: its title; the gap in seconds and the silence in minutes; after how many
- * seconds it is loaded again, or 0; maps, roster and notes as texts; two tables of a book; a fine
- * coast, squares of a map and the operator's own lines, where it has some; whether it waits for
- * logs.
+ * seconds it is loaded again, or 0; maps, roster and notes as texts; two tables of a book, in
+ * bytes; a fine coast, squares of a map and the operator's own lines, where it has some; whether it
+ * waits for logs.
  * @typedef {{ title: string, gap: number, silent: number, live: number, maps: string[],
- *   roster: string, notes: string[], rows: string, messages: string, coast?: string,
+ *   roster: string, notes: string[], rows: Uint8Array, messages: Uint8Array, coast?: string,
  *   tiles?: Record<string, string>, lines?: unknown, waits?: boolean }} Data
  */
 /**
@@ -51,6 +52,14 @@ import { Alarm } from "./sound.js";
  *   follows: boolean, picked: string | null, from: string | null }} Page
  */
 
+/**
+ * The data that stand in a page of an event, where tables are texts.
+ * @param {string} json @returns {Data}
+ */
+export function dataIn(json) {
+  const data = JSON.parse(json);
+  return { ...data, rows: tableOf(data.rows), messages: tableOf(data.messages) };
+}
 /** In place of what isn't there before the page is first drawn, and is there from then on. */
 const NOT_YET = /** @type {never} */ (/** @type {unknown} */ (null));
 /** @type {Page} */

@@ -51,14 +51,18 @@ const KEPT = 400;
  * @param {CanvasRenderingContext2D} pen
  * @param {ImageBitmap} picture
  * @param {number[][]} corners
- * @param {number} over so many pixels of the picture it is drawn too large, against seams
+ * @param {number} over so many pixels of the screen it is drawn too large, against seams
  */
 export function drawAt(pen, picture, [[x0, y0], [x1, y1], [x2, y2]], over) {
   const { width, height } = picture, ratio = devicePixelRatio || 1;
   pen.setTransform(ratio * (x1 - x0) / width, ratio * (y1 - y0) / width,
     ratio * (x2 - x0) / height, ratio * (y2 - y0) / height, ratio * x0, ratio * y0);
-  pen.drawImage(picture, 0, 0, width + over, height + over);
+  const right = over * width / (Math.hypot(x1 - x0, y1 - y0) || 1);
+  const down = over * height / (Math.hypot(x2 - x0, y2 - y0) || 1);
+  pen.drawImage(picture, 0, 0, width + right, height + down);
 }
+/** Squares reach over those beside them by so many pixels. */
+const OVER = 1.5;
 /** @param {string} text in base64 */
 const blobOf = text => new Blob([Uint8Array.from(atob(text), it => it.charCodeAt(0))]);
 
@@ -202,6 +206,6 @@ export class Tiles {
       view.put(vectorOf(northOf(y + b, z), (x + a) / 2 ** z * 360 - 180));
       return [view.x, view.y];
     };
-    drawAt(pen, picture, [corner(0, 0), corner(1, 0), corner(0, 1)], 0.6);
+    drawAt(pen, picture, [corner(0, 0), corner(1, 0), corner(0, 1)], OVER);
   }
 }

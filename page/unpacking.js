@@ -6,7 +6,7 @@ export const MOST = 2 ** 30;
 export const TOO_LARGE = "can't be read: it has more than 1 GiB";
 
 /** @param {Uint8Array[]} parts @param {number} size of all of them */
-function joined(parts, size) {
+export function joined(parts, size) {
   const all = new Uint8Array(size);
   let at = 0;
   for (const it of parts) {

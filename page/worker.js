@@ -4,6 +4,7 @@
 
 import { FUNCTIONS, run } from "./host.js";
 import { columnsOf } from "./reading.js";
+import { bytesIn, GONE } from "./sources.js";
 import { atOnce } from "./steps.js";
 import { messageOf } from "./words.js";
 
@@ -12,25 +13,47 @@ import { messageOf } from "./words.js";
 /** @type {WebAssembly.Module | null} */
 let core = null;
 const NOTHING = new Uint8Array();
+/**
+ * The bytes of inputs, or which of them can't be read.
+ * @param {import("./sources.js").Source[]} inputs
+ */
+async function readAll(inputs) {
+  /** @type {Uint8Array[]} */
+  const all = [];
+  for (const [input, it] of inputs.entries()) {
+    const bytes = await bytesIn(it).catch(() => null);
+    if (!bytes) return { all, input };
+    all.push(bytes);
+  }
+  return { all, input: -1 };
+}
 /** Frees an input, which the page has too: large ones would be there three times. */
 const letGo = (/** @type {Uint8Array} */ { buffer }) =>
   /** @type {ArrayBuffer & { transfer: (size: number) => void }} */ (buffer).transfer(0);
 /**
- * What a run gives, a table as text and its rows as columns too; and the buffers in it that need
- * not be copied.
+ * What a run gives, of the rows of a table their columns too; and the buffers in it that need not
+ * be copied.
  * @param {WebAssembly.Module} module
  * @param {Asked} asked
- * @returns {[Got, ArrayBufferLike[]]}
+ * @returns {Promise<[Got, ArrayBufferLike[]]>}
  */
-function answer(module, { command, options, inputs }) {
+async function answer(module, { command, options, inputs, keeps }) {
   const table = `table ${command}`, isTable = Object.hasOwn(FUNCTIONS, table);
-  const got = run(module, isTable ? table : command, options, inputs, letGo);
-  if (!isTable || got.status) return [got, [got.bytes.buffer]];
-  const text = new TextDecoder("latin1").decode(got.bytes);
-  if (command !== "rows") return [{ ...got, bytes: NOTHING, text }, []];
-  const read = atOnce(columnsOf(text));
-  return [{ ...got, bytes: NOTHING, text, read },
-    Object.values(read.columns).map(it => it.buffer)];
+  const { all, input } = await readAll(inputs);
+  if (input >= 0)
+    return [{ status: 1, input, line: 0, written: 0, fault: GONE, bytes: NOTHING }, []];
+  /** @type {Got} */
+  const got = run(module, isTable ? table : command, options, all, keeps ? undefined : letGo);
+  const buffers = [got.bytes.buffer];
+  if (keeps) {
+    got.inputs = all;
+    buffers.push(...all.map(it => it.buffer));
+  }
+  if (command === "rows" && !got.status) {
+    got.read = atOnce(columnsOf(got.bytes));
+    buffers.push(...Object.values(got.read.columns).map(it => it.buffer));
+  }
+  return [got, buffers];
 }
 /** @typedef {[number, "load", WebAssembly.Module] | [number, "run", Asked]} Question */
 /**
@@ -39,7 +62,7 @@ function answer(module, { command, options, inputs }) {
  *   postMessage: (answer: unknown[], buffers?: ArrayBufferLike[]) => void }} Scope
  */
 const worker = /** @type {Scope} */ (/** @type {unknown} */ (globalThis));
-worker.onmessage = (/** @type {MessageEvent<Question>} */ { data }) => {
+worker.onmessage = async (/** @type {MessageEvent<Question>} */ { data }) => {
   const [id] = data;
   try {
     if (data[1] === "load") {
@@ -47,7 +70,7 @@ worker.onmessage = (/** @type {MessageEvent<Question>} */ { data }) => {
       return worker.postMessage([id, true, ""]);
     }
     if (!core) throw new Error("no module was loaded");
-    const [got, buffers] = answer(core, data[2]);
+    const [got, buffers] = await answer(core, data[2]);
     worker.postMessage([id, got, ""], buffers);
   } catch (fault) {
     worker.postMessage([id, null, messageOf(fault)]);

@@ -1,14 +1,20 @@
 // @ts-check
 // Workers, each with the module: a run is given to one that is free.
 
+import { limits, sizeOf, sizeOfAll } from "./sources.js";
+
+/** @typedef {import("./sources.js").Source} Source */
 /**
- * What a run gives: its status, which input and line it refused and why, and what it wrote; of a
- * table its text, and of the rows of one their columns.
- * @typedef {import("./host.js").Run & { text?: string, read?: import("./reading.js").Read }} Got
+ * What a run gives: its status, which input and line it refused and why, and what it wrote; of
+ * the rows of a table their columns too. `inputs` are the bytes of what was lent, or of files.
+ * @typedef {import("./host.js").Run & { read?: import("./reading.js").Read,
+ *   inputs?: Uint8Array[] }} Got
  */
 /**
  * A run that is asked for: a command of the program, or `rows` or `messages`, which gives a table.
- * @typedef {{ command: string, options: import("./host.js").Options, inputs: Uint8Array[] }} Asked
+ * What it gives back are the bytes of the inputs, where it `keeps` them.
+ * @typedef {{ command: string, options: import("./host.js").Options, inputs: Source[],
+ *   keeps: boolean }} Asked
  */
 /** @typedef {{ it: Worker, busy: number, isLarge: boolean, began: boolean }} Hand */
 
@@ -24,8 +30,6 @@ const queue = [];
 let last = 0;
 /** So many bytes are copied without a pause. */
 const PIECE = 2 ** 23;
-/** After a run over more bytes than these a worker is replaced, which frees its memory at once. */
-const LARGE = 2 ** 26;
 /**
  * What workers are made of: their script, the module, and who hears that one stopped.
  * @type {{ script: string, module: WebAssembly.Module | null, onStop: (fault: string) => void }}
@@ -98,36 +102,44 @@ export async function beginWorkers(script, module, onStop) {
   await Promise.all(Array.from({ length: many }, addWorker));
 }
 /**
- * Copies, with a pause after some of them, so that the page doesn't stand still for large ones.
- * @param {Uint8Array[]} inputs
+ * Copies, with a pause after some of them, so that the page doesn't stand still for large ones. A
+ * worker reads a file itself, and what is lent needs no copy.
+ * @param {Source[]} inputs @param {Source[]} lent
  */
-async function copiesOf(inputs) {
-  const copies = inputs.map(it => new Uint8Array(it.length));
+async function copiesOf(inputs, lent) {
+  const copies = inputs.map(it =>
+    it instanceof Blob || lent.includes(it) ? it : new Uint8Array(it.length));
   let left = PIECE;
   for (const [k, it] of inputs.entries())
-    for (let at = 0; at < it.length; at += PIECE) {
+    for (let at = 0; at < sizeOf(it); at += PIECE) {
+      const copy = copies[k];
+      if (it === copy || it instanceof Blob || copy instanceof Blob) break;
       if (left <= 0) {
         await aMoment();
         left = PIECE;
       }
       const part = it.subarray(at, at + PIECE);
-      copies[k].set(part, at);
+      copy.set(part, at);
       left -= part.length;
     }
   return copies;
 }
 /**
- * A run of the module over inputs.
- * @param {string} command @param {number | string[]} options @param {Uint8Array[]} inputs
+ * A run of the module over inputs. Bytes that are lent go to the worker and are gone here; it gives
+ * them back, and those of files, where it `keeps` them.
+ * @param {string} command @param {number | string[]} options @param {Source[]} inputs
+ * @param {{ lent?: Source[], keeps?: boolean }} of
  * @returns {Promise<Got>}
  */
-export async function run(command, options, inputs) {
+export async function run(command, options, inputs, { lent = [], keeps = false } = {}) {
   let free;
   while (!(free = hands.find(it => !it.busy)))
     await new Promise(done => queue.push(() => done(null)));
   free.busy++;
-  free.isLarge = inputs.reduce((sum, it) => sum + it.length, 0) > LARGE;
+  // a worker that had much is replaced afterwards, which frees its memory at once
+  free.isLarge = sizeOfAll(inputs) > limits.alone;
   // a copy that is handed over takes less time than what a browser copies itself
-  const copies = await copiesOf(inputs), buffers = copies.map(it => it.buffer);
-  return ask(free, "run", { command, options, inputs: copies }, buffers);
+  const copies = await copiesOf(inputs, lent);
+  const buffers = copies.flatMap(it => it instanceof Blob ? [] : [it.buffer]);
+  return ask(free, "run", { command, options, inputs: copies, keeps }, buffers);
 }

@@ -1,10 +1,10 @@
 """Pages of an event of tables by hand, without a program."""
-import pathlib
 import sys
 
-sys.dont_write_bytecode = True
-sys.path.append(str(pathlib.Path(__file__).resolve().parent.parent.parent / "page"))
-import together  # noqa: E402 (it lies in the folder page)
+from given import REPOSITORY
+
+sys.path.append(str(REPOSITORY / "page"))
+import together  # noqa: E402 (it lies there)
 
 COLUMNS = (
     "kind first last receivers receiver source destination via gate name state id latitude "

@@ -1,4 +1,5 @@
-"""Headless Firefox, driven by its own protocol (Marionette)."""
+"""Headless Firefox, driven by its own protocol (Marionette): Debian has no geckodriver, without
+which Selenium doesn't drive it."""
 import base64
 import json
 import pathlib
@@ -7,40 +8,42 @@ import socket
 import subprocess
 import tempfile
 import time
+from typing import Any, List, Tuple
 
-# keys that write nothing, as WebDriver names them
-KEYS = {"Tab": "\ue004", "Enter": "\ue007", "End": "\ue010", "Home": "\ue011",
-        "ArrowLeft": "\ue012", "ArrowUp": "\ue013", "ArrowDown": "\ue015"}
+from browser import Browser, KEYS, Place
 
-class Firefox:
+SETTINGS = """user_pref("marionette.port", {port});
+user_pref("datareporting.policy.dataSubmissionEnabled", false);
+user_pref("browser.shell.checkDefaultBrowser", false);
+user_pref("browser.download.folderList", 2);
+user_pref("browser.download.dir", "{folder}");
+"""
+
+
+class Firefox(Browser):
     name = "Firefox"
 
-    def __init__(self, width=1280, height=900):
+    def __init__(self, width: int = 1280, height: int = 900) -> None:
         self.folder = tempfile.mkdtemp()
         with socket.create_server(("127.0.0.1", 0)) as free:
             port = free.getsockname()[1]
-        (pathlib.Path(self.folder) / "user.js").write_text(
-            f'user_pref("marionette.port", {port});\n'
-            'user_pref("datareporting.policy.dataSubmissionEnabled", false);\n'
-            'user_pref("browser.shell.checkDefaultBrowser", false);\n'
-            'user_pref("browser.download.folderList", 2);\n'
-            f'user_pref("browser.download.dir", "{self.folder}");\n')
+        settings = SETTINGS.format(port=port, folder=self.folder)
+        (pathlib.Path(self.folder) / "user.js").write_text(settings)
         program = "firefox-esr" if shutil.which("firefox-esr") else "firefox"
         self.process = subprocess.Popen(
             [program, "--headless", "--marionette", "--profile", self.folder, "--no-remote",
              f"--window-size={width},{height}"],
             stdout=subprocess.DEVNULL, stderr=subprocess.DEVNULL)
         self.rest, self.last = b"", 0
-        for _ in range(300):
-            try:
-                self.socket = socket.create_connection(("127.0.0.1", port), 120)
-                break
-            except OSError:
-                time.sleep(0.2)
+        self.socket = connected(port)
         self.receive()
         self.call("WebDriver:NewSession", capabilities={})
 
-    def close(self):
+    @staticmethod
+    def is_there() -> bool:
+        return bool(shutil.which("firefox-esr") or shutil.which("firefox"))
+
+    def close(self) -> None:
         try:
             self.call("Marionette:Quit", flags=["eForceQuit"])
         except (OSError, RuntimeError):
@@ -50,9 +53,10 @@ class Firefox:
         except subprocess.TimeoutExpired:
             self.process.kill()
             self.process.wait()
+        self.socket.close()
         shutil.rmtree(self.folder, ignore_errors=True)
 
-    def receive(self):
+    def receive(self) -> Any:
         while b":" not in self.rest:
             self.rest += self.read()
         size, _, self.rest = self.rest.partition(b":")
@@ -61,13 +65,13 @@ class Firefox:
         text, self.rest = self.rest[:int(size)], self.rest[int(size):]
         return json.loads(text)
 
-    def read(self):
+    def read(self) -> bytes:
         got = self.socket.recv(1 << 20)
         if not got:
             raise RuntimeError("the browser ended")
         return got
 
-    def call(self, command, **parameters):
+    def call(self, command: str, **parameters: Any) -> Any:
         self.last += 1
         text = json.dumps([0, self.last, command, parameters]).encode()
         self.socket.sendall(str(len(text)).encode() + b":" + text)
@@ -76,57 +80,48 @@ class Firefox:
             raise RuntimeError(error)
         return result
 
-    def js(self, text):
-        """The value of an expression in the page, also of a promise."""
-        script = ("const done = arguments[arguments.length - 1];"
-                  f"Promise.resolve().then(() => ({text}))"
-                  ".then(it => done([it, '']), fault => done([null, String(fault)]))")
-        value, fault = self.call("WebDriver:ExecuteAsyncScript", script=script, args=[],
-                                 newSandbox=False, sandbox=None)["value"]
-        if fault:
-            raise RuntimeError(fault)
-        return value
+    def run(self, script: str) -> Any:
+        return self.call("WebDriver:ExecuteAsyncScript", script=script, args=[],
+                         newSandbox=False, sandbox=None)["value"]
 
-    def open(self, url, *_):
+    def open(self, url: str, width: int = 1280, height: int = 860, scheme: str = "light") -> None:
         self.call("WebDriver:Navigate", url="about:blank")
         self.call("WebDriver:Navigate", url=url)
 
-    def wait(self, condition, seconds=60):
-        end = time.monotonic() + seconds
-        while time.monotonic() < end:
-            try:
-                if self.js(condition):
-                    return
-            except RuntimeError:
-                pass  # the page is being loaded
-            time.sleep(0.05)
-        raise AssertionError("never came true: " + condition)
-
-    def give(self, selector, *paths):
-        """Chooses files in a field."""
+    def give(self, selector: str, *paths: Place) -> None:
         it = self.call("WebDriver:FindElement", using="css selector", value=selector)["value"]
         self.call("WebDriver:ElementSendKeys", id=next(iter(it.values())),
                   text="\n".join(map(str, paths)))
 
-    def key(self, key, _=0):
+    def key(self, key: str) -> None:
         actions = [{"type": kind, "value": KEYS.get(key, key)} for kind in ("keyDown", "keyUp")]
         self.call("WebDriver:PerformActions",
                   actions=[{"type": "key", "id": "keys", "actions": actions}])
 
-    def pdf(self):
+    def pdf(self) -> bytes:
         return base64.b64decode(self.call("WebDriver:Print")["value"])
 
-    def saves_in(self, _):
-        """The folder where what the page saves goes."""
+    def saves_in(self, folder: pathlib.Path) -> pathlib.Path:
         return pathlib.Path(self.folder)
 
-    def picture(self, path, whole=False):
+    def picture(self, path: Place, whole: bool = False) -> None:
         shot = self.call("WebDriver:TakeScreenshot", full=whole)["value"]
         pathlib.Path(path).write_bytes(base64.b64decode(shot))
 
-    def problems(self):
-        """Its protocol doesn't say what the page complains of."""
-        return []
+    def problems(self) -> List[Any]:
+        return []  # its protocol doesn't say
 
-    def requests(self):
-        return self.js("performance.getEntriesByType('resource').map(it => it.name)")
+    def requests(self) -> List[str]:
+        found: List[str] = self.js("performance.getEntriesByType('resource').map(it => it.name)")
+        return found
+
+
+def connected(port: int) -> socket.socket:
+    """A connection to a browser that begins to listen there."""
+    address: Tuple[str, int] = ("127.0.0.1", port)
+    for _ in range(300):
+        try:
+            return socket.create_connection(address, 120)
+        except OSError:
+            time.sleep(0.2)
+    raise RuntimeError("the browser doesn't begin")

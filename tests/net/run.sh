@@ -1,26 +1,20 @@
 #!/bin/sh
-# Tests the page and the recipes of a receiver, each where its tools are there, and says which were
-# left out. Of a file of tests the environment may choose some, as in TESTS='needs coast'.
-# usage: tests/net/run.sh PROGRAM [PAGE]    PAGE is the page that reads logs, out/aprsbook.html
-page=${2-}
-set -- "${1-}"
-. "$(dirname "$0")/../program.sh"
-examples=$repository/examples
-page=${page:-$repository/out/aprsbook.html}
-# with TOOLS TEST ARGUMENT..: runs a test where its tools are there
-with() {
-    tools=$1 test=$2
-    shift 2
-    # shellcheck disable=SC2086 # one tool a word
-    if has "$test" $tools; then "$repository/tests/net/$test" "$@"; fi
-}
-
-with 'python3 aprsbook-history' event_page.py "$examples"
-with 'python3 aprsbook-history chromium' in_browser.py "$examples"
-with 'python3 aprsbook-history firefox-esr' in_firefox.py "$examples"
-with 'python3' page_alone.py
-if [ -f "$page" ]; then
-    with 'python3 aprsbook-history' page_reads.py "$page" "$examples"
-else
-    echo 'left out: page_reads.py (no page is there: make page)'
-fi
+# Tests the page and the recipes of a receiver by pytest, and says which tests were left out: each
+# needs its tools, such as Chromium or Firefox. PICTURES in the environment is a folder for
+# pictures, and RUNS says how many random runs there are.
+# usage: tests/net/run.sh PROGRAM [PAGE [WORD]..]    PAGE is the page that reads logs, by itself
+#        out/aprsbook.html; the words are for pytest, such as -k coast
+program=${1-} page=${2-}
+if [ $# -gt 2 ]; then shift 2; else shift $#; fi
+# shellcheck source=tests/program.sh
+find_programs() { . "$(dirname "$0")/../program.sh"; }
+find_programs "$program"
+PAGE=${page:-$repository/out/aprsbook.html}
+export PAGE
+for python in python3 /usr/bin/python3; do
+    if $python -c 'import pytest, selenium' 2> /dev/null; then
+        $python -m pytest -q -rs -p no:cacheprovider "$repository/tests/net" "$@"
+        exit
+    fi
+done
+echo 'left out: tests of the page (Debian: apt install python3-pytest python3-selenium)'

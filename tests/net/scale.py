@@ -5,7 +5,9 @@ import time
 from by_hand import page_of, place
 
 # of the page as it opens, and as it is shown again; of a letter in "find", the middle one of six
-# and the slowest; and of a frame of a drag, the middle one of sixty and the longest
+# and the slowest; and of a frame of a drag, the middle one of sixty and the longest; of 10,000
+# stations a frame of a drag alone
+MANY = {"step": 60}
 WANTED = {"first": 1000, "shown": 1000, "letter": 50, "slowest": 250, "step": 20, "longest": 100}
 TIMES = """(async () => {
     const frame = () => new Promise(requestAnimationFrame);
@@ -64,11 +66,11 @@ def judged(measure, wanted, what):
     raise AssertionError(f"{what}: too slow: {slow}")
 
 
-def judged_stations(page, folder):
-    """2,000 stations with three places each."""
+def judged_stations(page, folder, count=2000, wanted=WANTED):
+    """So many stations with three places each."""
     lines = [place(3 * n % 1400, f"Q{n:04}-{n % 15 + 1}", 54 + n % 50 / 25,
                    -4 + n % 61 / 20 + k / 100, f"mobile {n}")
-             for n in range(2000) for k in range(3)]
+             for n in range(count) for k in range(3)]
     url = page_of(folder / "many.html", "".join(lines))
 
     def measure():
@@ -76,4 +78,4 @@ def judged_stations(page, folder):
         page.wait("document.querySelectorAll('#timeline tbody tr').length > 10")
         return page.js(TIMES)
 
-    judged(measure, WANTED, f"2,000 stations in {page.name}")
+    judged(measure, wanted, f"{count:,} stations in {page.name}")

@@ -89,3 +89,10 @@ test("the moments of one receiver are moved, in each spelling and over midnight"
   const early = "1970-01-01T00:00:05Z RX1 c0\n";
   assert.equal(textOf(shifted(bytesOf(early), new Map([["RX1", -6]]))), early);
 });
+
+test("moments are moved in a log of many pieces, and a line stays whole", () => {
+  const line = k => `2024-06-21T18:00:${String(k % 60).padStart(2, "0")}.000Z RX${k % 2} c0\n`;
+  const log = Array.from({ length: 150000 }, (_, k) => line(k)).join("");
+  const moved = textOf(shifted(bytesOf(log), new Map([["RX0", 3600]])));
+  assert.equal(moved, log.replace(/T18(:..:..\.000Z RX0)/g, "T19$1"));
+});

@@ -1,9 +1,9 @@
 import assert from "node:assert/strict";
 import { test } from "node:test";
-import { detailsOf, readMessages } from "../../page/rows.js";
+import { detailsOf } from "../../page/rows.js";
 import { wordsOf } from "../../page/details.js";
 import {
-  COLUMNS, message, moment, netOfLines, place, row, rowsOf, table, thing,
+  COLUMNS, message, moment, netOfLines, place, readMessages, row, rowsOf, table, thing,
 } from "./tables.js";
 
 test("columns are taken by name, also in another order, with more of them, or fewer", () => {
@@ -77,4 +77,35 @@ test("a place is found in symbols that are a backslash or a colon", () => {
     place(0, "Q1B", 54, -3, { symbol: "/:" }), place(0, "Q1C", 54, -3, { symbol: "\\\\n" })]);
   assert.deepEqual([0, 1, 2].map(k => [rows.placeOf(k).table, rows.placeOf(k).code]),
     [["\\", "\\"], ["/", ":"], ["\\", "n"]]);
+});
+
+test("of thousands of rows each knows the first one of its station that says the same", () => {
+  const said = k => [k % 7, k % 300];
+  const lines = Array.from({ length: 3000 }, (_, k) =>
+    place(k, `Q1A-${said(k)[0]}`, 54, -3,
+      { text: `no. ${said(k)[1]}`, receivers: `RX${k % 40}` }));
+  const rows = rowsOf(lines), first = new Map();
+  for (let k = 0; k < lines.length; k++) {
+    const key = said(k).join();
+    if (!first.has(key)) first.set(key, k);
+    assert.equal(rows.same[k], first.get(key));
+  }
+  assert.equal(rows.length, 3000);
+  assert.equal(new Set(rows.heard).size, 40);
+  assert.equal(rows.record(2999).text, "no. 299");
+});
+
+test("a table is read to its end, where its lines become shorter or a last one is torn", () => {
+  const long = Array.from({ length: 1000 }, (_, k) =>
+    row("status", k, "Q1A", { text: "x".repeat(300) }));
+  const short = Array.from({ length: 9000 }, (_, k) => row("status", 1000 + k, "Q1\u00dc"));
+  const rows = rowsOf([...long, ...short, row("status", 10000, "Q1LAST").slice(0, -40)]);
+  assert.equal(rows.length, 10001);
+  assert.deepEqual([rows.record(0).text.length, rows.record(9999).source, rows.things.length],
+    [300, "Q1\u00dc", 3]);
+});
+
+test("rows stand by their first moment, equal ones as in the table", () => {
+  const rows = rowsOf([5, 3, 3, 9, 1].map((second, k) => row("status", second, `Q1A-${k}`)));
+  assert.deepEqual([...rows.order], [4, 1, 2, 0, 3]);
 });

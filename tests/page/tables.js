@@ -1,8 +1,8 @@
 // Tables by hand, for the tests of the page's parts.
 import { atOnce } from "../../page/steps.js";
 import { netOf, rank } from "../../page/net.js";
-import { columnsOf } from "../../page/reading.js";
-import { readMessages, Rows } from "../../page/rows.js";
+import { columnsOf, messagesOf, tableOf } from "../../page/reading.js";
+import { Rows } from "../../page/rows.js";
 
 export const COLUMNS = ("kind first last receivers receiver source destination via gate name " +
   "state id latitude longitude ambiguity compressed symbol stamp course speed_knots altitude_m " +
@@ -26,10 +26,9 @@ export const message = (source, addressee, text, state, second, fields = {}) => 
   { source, addressee, text, state, first: moment(second), last: moment(second), ...fields });
 
 export const table = (lines, columns = COLUMNS) => columns.join("\t") + "\n" + lines.join("");
-export const rowsOf = (lines, columns) => {
-  const text = table(lines, columns);
-  return new Rows(text, atOnce(columnsOf(text)));
-};
+export const rowsOf = (lines, columns) =>
+  new Rows(atOnce(columnsOf(tableOf(table(lines, columns)))));
+export const readMessages = text => atOnce(messagesOf(tableOf(text)));
 /** The net of rows and messages. */
 export function netOfLines(lines, messages = [], { since = -Infinity, gap = 30 } = {}) {
   const rows = rowsOf(lines), read = readMessages(table(messages, MESSAGES));

@@ -7,9 +7,9 @@ const page = name => import(pathToFileURL(`${process.argv[2]}/${name}.js`).href)
 const { pairsOf } = await page("clocks");
 const { SAVES, savedText } = await page("exports");
 const { netOf } = await page("net");
-const { columnsOf } = await page("reading");
+const { columnsOf, messagesOf, tableOf } = await page("reading");
 const { expectedOf, readRoster } = await page("roster");
-const { readMessages, Rows } = await page("rows");
+const { Rows } = await page("rows");
 
 function ended(steps) {
   for (;;) {
@@ -18,10 +18,11 @@ function ended(steps) {
   }
 }
 function saidOf({ rows, messages, roster }) {
-  const read = new Rows(rows, ended(columnsOf(rows)));
-  const all = { rows: read, messages: readMessages(messages), end: read.until };
+  const table = tableOf(rows), read = new Rows(ended(columnsOf(table)));
+  const all = { rows: read, messages: ended(messagesOf(tableOf(messages))), end: read.until };
   const net = ended(netOf(all, -Infinity, 30)), said = {};
-  for (const name of Object.keys(SAVES)) said[name] = savedText(name, net, { title: "net", rows });
+  for (const name of Object.keys(SAVES)) said[name] = 
+    savedText(name, net, { title: "net", rows: table });
   const { list, faults } = readRoster(roster);
   said.expected = expectedOf(list, net.things).map(it => [it.call, it.name, it.group, it.bib,
     it.last === -Infinity ? "never" : new Date(it.last * 1000).toISOString()]);

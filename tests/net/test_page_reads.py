@@ -1,11 +1,5 @@
-#!/usr/bin/env python3
-"""Tries the page that reads logs, in each browser that is there: what it makes of files is what the
-program makes of them, byte for byte, and what is wrong is named as the program names it.
-
-usage: page_reads.py PAGE.html EXAMPLES [RUNS [PICTURES]]
-       aprsbook, aprsbook-history and the recipes in the PATH; needs Python 3, and chromium or
-       firefox; RUNS is how many random runs there are in each browser (1000)
-"""
+"""The page that reads logs with its module: what it makes of files is what the programs make of
+them, byte for byte, and what is wrong is named as they name it."""
 import base64
 import collections
 import datetime
@@ -13,23 +7,23 @@ import gzip
 import hashlib
 import json
 import os
-import pathlib
 import random
 import shutil
 import subprocess
 import sys
 import time
 
+import pytest
+
 import hostile
 import scale
-import trying
+from given import EVENING, EXAMPLES, PAGE, RUNS, TABLE, is_, needs, picture
 from serving import Server
 
+pytestmark = [needs("aprsbook", "aprsbook-history", "aprsbook-table", "event-page"),
+              pytest.mark.skipif(not PAGE.is_file(), reason=f"needs {PAGE}: make page")]
+
 os.environ["LC_ALL"] = "C.UTF-8"  # by which browsers find any name
-PAGE, EXAMPLES = (pathlib.Path(it).resolve() for it in sys.argv[1:3])
-RUNS = int(sys.argv[3]) if len(sys.argv) > 3 else 1000
-PICTURES = sys.argv[4] if len(sys.argv) > 4 else None
-EVENING = sorted(EXAMPLES.glob("evening/*.log"))
 STATUS = "document.getElementById('status').textContent"
 MADE = "aprsfiles.made() !== null"
 BOOK = "btoa(String.fromCharCode(...aprsfiles.made().book))"
@@ -74,9 +68,6 @@ def base64_of(text):
     return base64.b64encode(text).decode()
 
 
-def is_(got, wanted):
-    assert got == wanted, f"{got!r} is not {wanted!r}"
-
 
 def fresh(page, url=None):
     page.open(url or PAGE.as_uri(), 1280, 1400)
@@ -89,7 +80,7 @@ HEAR_RUNS = """(() => {
     window.asked = [];
     Worker.prototype.postMessage = function (...it) {
         const { command, inputs } = it[0][2];
-        window.asked.push(`${command} ${inputs.length}`);
+        if (inputs) window.asked.push(`${command} ${inputs.length}`);
         post.apply(this, it);
     };
     return 1; })()"""
@@ -101,7 +92,7 @@ def quiet(page):
     is_(page.problems(), [])
 
 
-def test_same(page, _):
+def test_same(page):
     fresh(page)
     page.js(HEAR_RUNS)
     page.give("#choose", *EVENING)
@@ -114,7 +105,7 @@ def test_same(page, _):
     for command in "history", "show":
         is_(page.js(OF_BOOK % command), base64_of(program([command], EVENING).stdout))
     for table in "rows", "messages":
-        is_(page.js(f"aprsbook.page.data.{table}"), program([table], EVENING).stdout.decode())
+        is_(page.js(TABLE % table), program([table], EVENING).stdout.decode())
     own = subprocess.run([*EVENT_PAGE, *EVENING], stdout=subprocess.PIPE, check=True).stdout
     is_(same_page(page, own), True)
     is_(page.js("(aprsbook.page.map.paint(), aprsbook.page.map.marks.length)"),
@@ -204,19 +195,19 @@ def test_faults(page, folder):
     page.js("(document.querySelector('#files input').select(), 1)")
     for key in "TAPE":
         page.key(key)
-    page.key("Tab", 9)
+    page.key("Tab")
     time.sleep(0.3)
     page.wait("document.activeElement.placeholder !== undefined && aprsfiles.made() !== null")
     for key in "2024-06-21T18:00:00Z":
         page.key(key)
-    page.key("Tab", 9)
+    page.key("Tab")
     page.wait("aprsbook.page.net?.receivers.some(it => it.name === 'TAPE')")
     is_(page.js("document.activeElement.textContent"), "take away")
     picture(page, "faults")
     # so does it where files are taken away
     page.js("(document.querySelector('#files td:last-child button').focus(), 1)")
     for k in range(9):
-        page.key(" ", 32)
+        page.key(" ")
         page.wait(f"aprsfiles.files.length === {8 - k}")
     is_(page.js("document.activeElement.id"), "choose")
     quiet(page)
@@ -224,7 +215,7 @@ def test_faults(page, folder):
 
 def drop(page, *paths, items=()):
     """Drops files, or other items; Firefox has no such call, and chooses the files."""
-    if not hasattr(page, "events"):
+    if page.name != "Chromium":
         return paths and page.give("#choose", *[it for it in paths if it.is_file()])
     data = {"items": items, "files": list(map(str, paths)), "dragOperationsMask": 1}
     for kind in "dragEnter", "dragOver", "drop":
@@ -268,7 +259,7 @@ def test_unread(page, folder):
     (folder / "torn.log.gz").write_bytes(gzip.compress(EVENING[0].read_bytes())[:-9])
     bad = {"net.book": "is empty, which no book is",
            "torn.log.gz": "can't be read: gzip can't unpack it"}
-    if hasattr(page, "events"):
+    if page.name == "Chromium":
         bad["logs"] = "drop the files in it, or choose it as a folder"
     for good in [], EVENING:
         fresh(page)
@@ -300,7 +291,7 @@ def test_unread(page, folder):
     quiet(page)
 
 
-def test_options(page, _):
+def test_options(page):
     """A gap that is none is named, and the page keeps what it shows; a title is shown at once."""
     fresh(page)
     page.give("#choose", *EVENING)
@@ -382,7 +373,7 @@ def test_first_minutes(page, folder):
 
 def test_narrow(page, folder):
     """On a telephone names of files stay whole, and no table runs past its box."""
-    if not hasattr(page, "events"):
+    if page.name != "Chromium":
         return  # Firefox keeps its width
     log = folder / "receiver-coast-2024-06-21-evening.log"
     log.write_bytes(EVENING[0].read_bytes())
@@ -578,15 +569,16 @@ WATCH = """(() => {
         window.went = performance.now(); }, true);
     return 1; })()"""
 DIGEST = """Promise.all(
-    [aprsfiles.made().book, new TextEncoder().encode(aprsbook.page.data.rows)]
+    [aprsfiles.made().book, aprsbook.page.data.rows]
     .map(it => crypto.subtle.digest('SHA-256', it)))
     .then(them => them.map(it => [...new Uint8Array(it)]))"""
 
 
-def dropped(page, what, logs, wanted):
+def dropped(page, what, logs, wanted, limits="{}"):
     """Gives logs to the page, and prints how long it takes until they are shown."""
     def measure():
         fresh(page)
+        page.js(f"(Object.assign(aprsfiles.limits, {limits}), 1)")
         page.js(WATCH)
         page.js(HEAR_RUNS)
         page.give("#choose", *logs)
@@ -607,7 +599,7 @@ def test_large(page, folder):
 
 def test_larger(page, folder):
     """More than 64 MB: the evening on each of 320 days, its lines ten times. The rows are the
-    book's then, and isn't made of all the files."""
+    book's then, and aren't made of all the files; files and book may go to and fro."""
     logs = [folder / it.name for it in EVENING]
     for own, path in zip(EVENING, logs):
         text = own.read_bytes()
@@ -615,18 +607,9 @@ def test_larger(page, folder):
         path.write_bytes(b"".join(10 * text.replace(b"2024-06-21", str(day).encode())
                                   for day in days))
     assert sum(it.stat().st_size for it in logs) > 2 ** 26
-    dropped(page, "more than 64 MB", logs, {})
-    # each log was looked into before it was read
-    is_(sorted(page.js("[...window.asked]")),
-        ["check 1"] * 6 + ["merge 3", "messages 1", "rows 1"])
+    for limits in "{}", "{ kept: 1e6, alone: 1e6 }":
+        dropped(page, "more than 64 MB", logs, {}, limits)
+        # each log was looked into before it was read
+        is_(sorted(page.js("[...window.asked]")),
+            ["check 1"] * 6 + ["merge 3", "messages 1", "rows 1"])
 
-
-def picture(page, name):
-    if PICTURES:
-        page.picture(f"{PICTURES}/{page.name}-{name}.png")
-
-
-for kind in trying.browsers():
-    trying.run(kind, trying.tests_in(globals()))
-    print(f"the page that reads logs, in {kind.name}: the program's bytes, faults named, nothing "
-          "ran, no request elsewhere, logs that grow")

@@ -1,28 +1,23 @@
-#!/usr/bin/env python3
-"""Tries what the page that reads logs does by itself, in each browser that is there: what files
-are, damaged lines, Windows' spellings, folders, logs that are followed. The module is a stand-in.
-
-usage: page_alone.py [PICTURES]    needs Python 3, and chromium or firefox; PICTURES is a folder for
-                                   pictures
-"""
+"""What the page that reads logs does by itself: what files are, damaged lines, Windows' spellings,
+folders, logs that are followed. The module is a stand-in."""
 import contextlib
 import gzip
 import http.server
 import json
 import pathlib
 import sqlite3
-import sys
 import threading
 import time
 
+import pytest
+
 import hostile
 import scale
-import trying
 from by_hand import together
+from given import TABLE, is_, picture
 from serving import Server
 
 HERE = pathlib.Path(__file__).resolve().parent
-PICTURES = sys.argv[1] if len(sys.argv) > 1 else None
 TOLD = ("Object.fromEntries([...document.querySelectorAll('#files tbody tr')].map(it => "
         "[it.querySelector('th').textContent, it.querySelector('.verdict').textContent]))")
 MORE = ("Object.fromEntries([...document.querySelectorAll('#files tbody tr')].map(it => "
@@ -33,11 +28,20 @@ ROWS = "aprsbook.page.all.rows.length"
 BESIDE_MIDDLE = ("(() => { const { map } = aprsbook.page, { width, height } = map.canvas; "
                  "map.paint(); return map.pen.getImageData(width / 3, height / 3, 1, 1)"
                  ".data.slice(0, 3).join() })()")
+# how many pixels of the middle of a red map, without lines of degrees, aren't red
+OTHERS = """(() => { const { map } = aprsbook.page, { line } = map.colours;
+    map.colours.line = 'transparent';
+    map.things = [];
+    map.paint();
+    const { width, height } = map.canvas;
+    const { data } = map.pen.getImageData(80, 20, width - 220, height - 100);
+    map.colours.line = line;
+    let others = 0;
+    for (let at = 0; at < data.length; at += 4)
+        if (data[at] !== 200 || data[at + 1] !== 30 || data[at + 2] !== 30) others++;
+    return others })()"""
 EMPTY_MODULE = b"\0asm\1\0\0\0"
 
-
-def is_(got, wanted):
-    assert got == wanted, f"{got!r} is not {wanted!r}"
 
 
 def page_text():
@@ -156,7 +160,7 @@ def drop(page, *paths):
         page.call("Input.dispatchDragEvent", type=kind, x=300, y=130, data=data)
 
 
-@trying.in_chromium
+@pytest.mark.browsers("Chromium")
 def test_folders(page, folder):
     """Files in dropped folders are read, and squares of a web map are drawn below all else."""
     (folder / "logs/day").mkdir(parents=True)
@@ -192,6 +196,12 @@ def squares(page):
     page.wait("[...aprsbook.page.map.tiles.made.values()].some(Boolean)")
     page.wait(f"{BESIDE_MIDDLE} === '200,30,30'")
     assert "400 squares" in page.js("document.getElementById('own-map').textContent")
+    # no seam between two of them, where they are drawn smaller and larger than they are
+    for where in "54.65,-3.5,20", "54.65,-3.5,33.3", "54.6,-3.52,71":
+        page.js(f"(aprsbook.page.map.look('{where}'), aprsbook.page.map.paint())")
+        page.wait("[...aprsbook.page.map.tiles.made.values()].every(Boolean)")
+        is_((where, page.js(OTHERS)), (where, 0))
+    page.js("(aprsbook.page.map.look('54.65,-3.5,20'), aprsbook.page.map.paint())")
     picture(page, "tiles")
 
 
@@ -291,7 +301,7 @@ def click(page, x, y, kind="mouse"):
                   clickCount=1, pointerType=kind)
 
 
-@trying.in_chromium
+@pytest.mark.browsers("Chromium")
 def test_units(page, folder):
     """Miles and the form of places are kept by the browser; a line is measured by clicks."""
     text = "/036/A=001000"
@@ -322,7 +332,7 @@ def test_units(page, folder):
     is_(page.js("[way.textContent, measure.getAttribute('aria-pressed')]"), ["", "false"])
 
 
-@trying.in_chromium
+@pytest.mark.browsers("Chromium")
 def test_edge(page, folder):
     """The edge of the map is dragged, by keys too; on a wide screen lists stand beside."""
     fresh(page, folder)
@@ -334,8 +344,7 @@ def test_edge(page, folder):
     key = ("(name => document.getElementById('edge').dispatchEvent(new KeyboardEvent('keydown', "
            "{ key: name, cancelable: true })))")
     for width, turned, back in ((1400, "ArrowLeft", 0), (900, "ArrowDown", 1)):
-        page.call("Emulation.setDeviceMetricsOverride", width=width, height=860,
-                  deviceScaleFactor=1, mobile=False)
+        page.size(width, 860)
         page.settle()
         before = page.js(sizes)
         is_(before[2:], [back == 0, back == 1])
@@ -429,6 +438,40 @@ def test_huge(page, folder):
     assert max(page.js("read")) <= 65536, page.js("read")
 
 
+def test_large_file(page, folder):
+    """A large file isn't kept in memory but read when it is needed; one that is gone meanwhile is
+    named, and one with a damaged line is put right as others are."""
+    fresh(page, folder)
+    lines = [place(9 * k, f"Q1A-{k % 15 + 1}", 30 + k % 20, "BIG", f"big {k}") for k in range(900)]
+    page.js("(aprsfiles.limits.kept = 60000, 1)")
+    kept = "aprsfiles.files.map(it => it.bytes instanceof Blob)"
+    (folder / "big.log").write_text("".join(lines))
+    (folder / "small.log").write_text(log(3, "RX2"))
+    page.give("#choose", folder / "big.log", folder / "small.log")
+    page.wait(f"{MADE} && {ROWS} === 903")
+    is_(page.js(kept), [True, False])
+    # the same file once more is no other one
+    page.give("#choose", folder / "big.log", folder / "small.log")
+    page.wait("document.getElementById('progress').hidden")
+    is_(page.js("aprsfiles.files.length"), 2)
+    (folder / "big.log").unlink()
+    (folder / "more.log").write_text(log(4, "RX3"))
+    page.give("#choose", folder / "more.log")
+    said = "document.getElementById('status').textContent"
+    page.wait(f"{said} === \"big.log: can't be read any more: it has changed, or is gone\"")
+    page.js("[...document.querySelectorAll('#files button')].find(it => "
+            "it.ariaLabel === 'take big.log away').click()")
+    page.wait(f"{MADE} && {ROWS} === 4")
+    lines[7] = "torn\n"
+    (folder / "big.log").write_text("".join(lines))
+    page.give("#choose", folder / "big.log")
+    page.wait(f"{MADE} && {TOLD}['big.log'] === 'line 8: Moment'")
+    page.js("document.querySelector('#files .leave').click()")
+    page.wait(f"{MADE} && {ROWS} === 903")
+    is_(page.js(kept), [False, False, False])
+    is_(page.problems(), [])
+
+
 def test_fault(page, folder):
     """A fault that nobody thought of is said, and nothing waits for ever."""
     fresh(page, folder)
@@ -456,10 +499,10 @@ def test_skipped(page, folder):
     give(page, folder, {f"{k:02}.log": log(1, f"RX{k}") for k in range(30)})
     page.wait(MADE)
     page.js("document.getElementById('adds').querySelector('summary').focus()")
-    page.key("Tab", 9)
+    page.key("Tab")
     is_(page.js("document.activeElement.textContent"), "past the files, to the map")
     page.js("document.activeElement.click()")
-    page.key("Tab", 9)
+    page.key("Tab")
     is_(page.js("document.activeElement.id"), "in")
 
 
@@ -577,22 +620,41 @@ def test_own_lines(page, folder):
     page.js("(localStorage.clear(), 1)")
 
 
+@pytest.mark.browsers("Chromium")
+def test_denied(page, folder):
+    """Where a browser keeps nothing, the page works, and says that it keeps no lines."""
+    denied = ("Object.defineProperty(window, 'localStorage', "
+              "{ get() { throw new DOMException('denied', 'SecurityError') } })")
+    script = page.call("Page.addScriptToEvaluateOnNewDocument", source=denied)
+    fresh(page, folder)
+    give(page, folder, {"a.log": log(3)})
+    page.wait(MADE)
+    choose(page, "miles", True)
+    page.js("document.getElementById('ics-open').click()")
+    own_line(page, "by voice")
+    is_(page.js(LOGGED), ["by voice"])
+    is_(page.js("document.getElementById('own-told').textContent"),
+        "This browser keeps no lines: save the page of the event, which has them.")
+    assert "by voice" in page.js("aprsfiles.eventPage()")
+    is_(page.problems(), [])
+    page.call("Page.removeScriptToEvaluateOnNewDocument", identifier=script["identifier"])
+
+
 LONGEST = """(() => { window.task = 0;
     new PerformanceObserver(list => list.getEntries().forEach(it => {
         window.task = Math.max(window.task, it.duration) })).observe({ type: 'longtask' });
     return 1 })()"""
 
 
-@trying.in_chromium
+@pytest.mark.browsers("Chromium")
 def test_saves(page, folder):
     """No save of a large net stops the page, and the page of the event is whole."""
     fresh(page, folder)
     give(page, folder, {"a.log": log(3)})
     page.wait(MADE)
-    page.js("(async () => { const { page, show } = aprsbook, { rows } = page.data; "
-            "const at = rows.indexOf('\\n') + 1; "
-            "const many = rows.slice(0, at) + rows.slice(at).repeat(40000); "
-            "await show({ ...page.data, rows: many }) })()")
+    page.js(f"(async () => {{ const rows = {TABLE % 'rows'}, at = rows.indexOf('\\n') + 1; "
+            "const many = aprsbook.tableOf(rows.slice(0, at) + rows.slice(at).repeat(40000)); "
+            "await aprsbook.show({ ...aprsbook.page.data, rows: many }) })()")
     # all lists wait their turn
     time.sleep(2)
     page.saves_in(folder)
@@ -723,11 +785,6 @@ def test_followed(page, folder):
     server.server_close()
 
 
-def picture(page, name):
-    if PICTURES:
-        page.picture(f"{PICTURES}/{page.name}-{name}.png")
-
-
 def square():
     """A red picture of 256 by 256."""
     import struct
@@ -743,9 +800,3 @@ def square():
 
 
 SQUARE = square()
-
-if __name__ == "__main__":
-    for kind in trying.browsers():
-        trying.run(kind, trying.tests_in(globals()))
-    print("the page that reads logs, by itself: what files are, damaged lines, Windows, folders, "
-          "logs that are followed")

@@ -1,26 +1,18 @@
-#!/usr/bin/env python3
-"""Tries event-page in headless Firefox: nothing runs, nothing is asked for, the map, tables and
-times are there, keys reach each control, and paper has what the page has.
-
-usage: in_firefox.py EXAMPLES [PICTURES]    aprsbook, aprsbook-history and the recipes in the PATH;
-                                            needs Python 3 and firefox
-"""
+"""The page of an event in headless Firefox: nothing runs, nothing is asked for, the map, tables and
+times are there, keys reach each control, and paper has what the page has."""
 import json
-import pathlib
 import shutil
 import subprocess
-import sys
 
-import firefox
+import pytest
+
 import hostile
 import scale
-import trying
+from given import EVENING, TEXTS as texts, event_page, is_, picture
 from serving import Server
 
-EXAMPLES = pathlib.Path(sys.argv[1])
-PICTURES = sys.argv[2] if len(sys.argv) > 2 else None
-EVENING = sorted(map(str, EXAMPLES.glob("evening/*.log")))
-texts = "[...document.querySelectorAll('%s')].map(it => it.textContent)"
+pytestmark = pytest.mark.browsers("Firefox")
+
 FOUND = "document.getElementById('found').textContent"
 MOVED = "location.hash.includes('view=')"
 # a control, the keys that are pressed there, and what comes of it
@@ -49,13 +41,6 @@ KEYED = [
 ]
 
 
-def event_page(path, *arguments):
-    subprocess.run(["event-page", "-o", path, *arguments], check=True)
-    return "file://" + str(path)
-
-
-def is_(got, wanted):
-    assert got == wanted, f"{got!r} is not {wanted!r}"
 
 
 def test_evening(page, folder):
@@ -71,8 +56,7 @@ def test_evening(page, folder):
     is_(page.js(texts % "#things tbody th"), ["Q1MED-7"])
     page.js("document.querySelector('.pick').click()")
     is_(page.js("document.getElementById('one-name').textContent"), "Q1MED-7 station")
-    if PICTURES:
-        page.picture(f"{PICTURES}/firefox.png", whole=True)
+    picture(page, "evening", whole=True)
     is_(page.requests(), [])
 
 
@@ -157,7 +141,3 @@ def test_served(page, folder):
 def test_scale(page, folder):
     scale.judged_stations(page, folder)
 
-
-trying.run(firefox.Firefox, trying.tests_in(globals()))
-print("event-page in Firefox: the evening, a thing that is picked, nothing ran, no request; keys, "
-      "a roster, paper, a server that goes away")

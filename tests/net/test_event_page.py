@@ -1,24 +1,17 @@
-#!/usr/bin/env python3
-"""Tests event-page without a browser: what came off the air is data alone.
-
-usage: event_page.py EXAMPLES    aprsbook, aprsbook-table and aprs-net in the PATH; needs
-                                 Python 3
-"""
+"""event-page without a browser: what came off the air is data alone."""
 import base64
 import hashlib
 import html
 import itertools
 import json
-import pathlib
 import re
 import resource
 import subprocess
-import sys
-import tempfile
 
 import hostile
+from given import EXAMPLES, needs
 
-EXAMPLES = pathlib.Path(sys.argv[1])
+pytestmark = needs("aprsbook", "aprsbook-table", "event-page")
 LOGS = sorted(map(str, EXAMPLES.glob("evening/*.log")))
 DATA = re.compile('<script type="application/json" id="data">(.*?)</script>', re.S)
 INSIDE = re.compile(r"<(style|script)>(.*?)</\1>", re.S)
@@ -138,7 +131,7 @@ def test_two(folder):
     assert [it.name for it in folder.iterdir()] == ["page.html"]
 
 
-def test_contrast(_):
+def test_contrast():
     def light(colour):
         digits = colour[1:] if len(colour) == 7 else "".join(2 * digit for digit in colour[1:])
         parts = [int(digits[n:n + 2], 16) / 255 for n in (0, 2, 4)]
@@ -156,8 +149,3 @@ def test_contrast(_):
                 dark, bright = sorted([light(colours[ink]), light(colours[below])])
                 assert (bright + 0.05) / (dark + 0.05) >= 4.5, (ink, below)
 
-
-for test in (test_order, test_hostile, test_nothing, test_refused, test_two, test_contrast):
-    with tempfile.TemporaryDirectory() as name:
-        test(pathlib.Path(name))
-print("event-page: text off the air is data, one script, the same bytes in any order, contrast")

@@ -1,32 +1,24 @@
-#!/usr/bin/env python3
-"""Tries event-page in headless Chromium: text off the air does nothing, and the controls work.
-
-usage: in_browser.py EXAMPLES [PICTURES]    aprsbook, aprsbook-history and the recipes in the PATH;
-                                            needs Python 3 and chromium; PICTURES is a folder for
-                                            pictures of the page
-"""
+"""The page of an event in headless Chromium: text off the air does nothing, the controls work."""
 import csv
 import io
 import json
 import pathlib
 import shutil
 import subprocess
-import sys
 import time
 import xml.etree.ElementTree
 
-import browser
+import pytest
+
 import hostile
 import scale
-import trying
 from by_hand import message, moment, page_of, place, row
+from given import EVENING, PICTURES, TABLE, TEXTS as texts, event_page, is_, picture
 from serving import Server
 
-EXAMPLES = pathlib.Path(sys.argv[1])
-PICTURES = sys.argv[2] if len(sys.argv) > 2 else None
-EVENING = sorted(map(str, EXAMPLES.glob("evening/*.log")))
+pytestmark = pytest.mark.browsers("Chromium")
+
 CONTROLS = "button slider searchbox combobox checkbox link table img group textbox".split()
-texts = "[...document.querySelectorAll('%s')].map(it => it.textContent)"
 shown = texts % "#things tbody tr th"
 SENT = "document.querySelector('#things th[data-column=sent]')"
 sorted_by_sent = SENT + ".getAttribute('aria-sort')"
@@ -35,10 +27,6 @@ marks = "(aprsbook.page.map.paint(), aprsbook.page.map.marks.length)"
 BADGES = texts % "#news > *"
 PICK = "[...document.querySelectorAll('.pick')].find(it => it.textContent === %r).click()"
 
-
-def event_page(path, *arguments):
-    subprocess.run(["event-page", "-o", path, *arguments], check=True)
-    return "file://" + str(path)
 
 
 def placed(*inputs):
@@ -49,9 +37,6 @@ def placed(*inputs):
     return len({(it["kind"], it["name"]) if it["kind"] in ("object", "item")
                 else ("station", it["source"]) for it in rows if it["latitude"]})
 
-
-def is_(got, wanted):
-    assert got == wanted, f"{got!r} is not {wanted!r}"
 
 
 def change(page, name, value, kind="change"):
@@ -121,8 +106,7 @@ def test_edges(page, folder):
     url = page_of(folder / "edges.html", rows, roster="Q1LONG-* A long name of it\n")
     page.open(url, 1280, 900)
     for width in 1280, 700, 820, 360:
-        page.call("Emulation.setDeviceMetricsOverride", width=width, height=900,
-                  deviceScaleFactor=1, mobile=False)
+        page.size(width, 900)
         page.settle()
         cut = page.js("(() => { const { map } = aprsbook.page, { pen } = map, "
                       "{ width } = map.view, write = pen.fillText, cut = []; "
@@ -167,7 +151,7 @@ def test_controls(page, folder):
         page.key(key)
         assert page.js("location.hash") != hash_before, key
         hash_before = page.js("location.hash")
-    page.call("Page.reload")
+    page.reload()
     page.wait("aprsbook.page.map.picked === 'station Q1RUN-7'")
     is_(page.js("location.hash"), hash_before)
     is_(page.js("document.getElementById('then').textContent"), before[0])
@@ -217,16 +201,16 @@ def test_names(page, folder):
     # all are reached with the tab key, the rows of a table by one stop and then the arrow keys
     reached = set()
     for _ in range(70):
-        page.key("Tab", 9)
+        page.key("Tab")
         reached.add(page.js("document.activeElement.id || document.activeElement.className "
                             "|| document.activeElement.parentNode.id"))
     wanted = ("in out fit fill sound play clock colours map find kind live since local saves adds "
               "ics-open").split()
     assert reached >= {*wanted, "pick station"}, reached
     page.js("document.querySelector('.pick').focus()")
-    page.key("ArrowDown", 40)
+    page.key("ArrowDown")
     is_(page.js("document.activeElement.textContent"), page.js(shown + "[1]"))
-    page.key("End", 35)
+    page.key("End")
     is_(page.js("document.activeElement.textContent"), page.js(shown + ".at(-1)"))
 
 
@@ -339,7 +323,7 @@ def test_links(page, folder):
     is_(page.js("[location.hash, document.body.classList.contains('full'), "
                 "document.activeElement.id, Math.round(said.getBoundingClientRect().y)]"),
         ["#time=local", False, "said", 0])
-    page.key("Tab", 9)
+    page.key("Tab")
     assert page.js("said.contains(document.activeElement)")
 
 
@@ -458,8 +442,9 @@ def test_needs(page, folder):
     page.js("(aprsbook.page.alarm.play = () => { window.rung = (window.rung || 0) + 1 }, 1)")
     page.js("sound.click()")
     is_(page.js("[window.rung, location.hash]"), [1, "#sound=on"])
-    page.js("aprsbook.show({ ...aprsbook.page.data, rows: aprsbook.page.data.rows + "
-            f"{json.dumps(row('mic-e', 11, 'Q1MIC-7', says='emergency', **where))} }})")
+    new = json.dumps(row("mic-e", 11, "Q1MIC-7", says="emergency", **where))
+    page.js("aprsbook.show({ ...aprsbook.page.data, "
+            f"rows: aprsbook.tableOf({TABLE % 'rows'} + {new}) }})")
     page.wait("window.rung === 2")
     # a screen reader hears of the new one alone, and the same need in other words is none
     is_(page.js("(it => [it.getAttribute('role'), it.textContent])"
@@ -574,16 +559,16 @@ def test_keys(page, folder):
     page.open(page_of(folder / "keys.html", rows))
     is_(page.js("clock.getAttribute('aria-valuetext')"), "00:09:00")
     page.js("document.querySelector('#saves summary').focus()")
-    page.key("Enter", 13)
+    page.key("Enter")
     page.js("(saves.open = true, document.querySelector('#saves button').focus(), 1)")
-    page.key("Escape", 27)
+    page.key("Escape")
     is_(page.js("[saves.open, document.activeElement.tagName]"), [False, "SUMMARY"])
     page.js("map.focus()")
-    page.key("f", 70)
+    page.key("f")
     page.wait("aprsbook.page.map.view.width > 1200 && aprsbook.page.map.view.height > 700")
     is_(page.js("fill.getAttribute('aria-pressed')"), "true")
     picture(page, "full")
-    page.key("Escape", 27)
+    page.key("Escape")
     page.wait("aprsbook.page.map.view.width < 1000")
     is_(page.problems(), [])
 
@@ -603,7 +588,7 @@ def test_marks(page, folder):
     apart = page.js("aprsbook.page.map.marks.filter(it => it.thing.name !== 'Q1A').map(it => it.x)")
     assert max(apart) - min(apart) > 30, apart
     is_(page.js(TAP % "Q1CLB-3"), [5, "station Q1CLB-3"])
-    page.key("Escape", 27)
+    page.key("Escape")
     is_(page.js("aprsbook.page.map.fan.isOpen"), False)
     is_(page.js(TAP % "Q1A"), [0, "station Q1A"])
     picture(page, "track")
@@ -731,6 +716,11 @@ def test_scale(page, folder):
     picture(page, "many")
 
 
+def test_many(page, folder):
+    """10,000 stations are moved as smoothly as a wheel turns."""
+    scale.judged_stations(page, folder, 10000, scale.MANY)
+
+
 def test_slices(page, folder):
     """A large net is drawn in slices: until then the one before stays, and a later one comes in
     its place."""
@@ -739,8 +729,8 @@ def test_slices(page, folder):
     page.open(page_of(folder / "small.html", place(1, "Q1OLD", 54.5, -3.5)))
     page.js("(window.names = () => aprsbook.page.net.things.map(it => it.name), "
             "window.small = aprsbook.page.data, "
-            f"window.large = {{ ...small, rows: small.rows.split('\\n')[0] + '\\n' + "
-            f"{json.dumps(''.join(lines))} }}, 1)")
+            f"window.large = {{ ...small, rows: aprsbook.tableOf({TABLE % 'rows'}"
+            f".split('\\n')[0] + '\\n' + {json.dumps(''.join(lines))}) }}, 1)")
     for then, wanted in ("1", 300), ("aprsbook.refresh()", 300), ("aprsbook.show(small)", 1):
         page.js("aprsbook.show(small)")
         is_(page.js("(async () => { const drawn = aprsbook.show(large), before = names(); "
@@ -759,14 +749,14 @@ def test_live(page, folder):
     page.wait("document.querySelector('header p').textContent.includes('64 transmissions')")
     is_(page.js(FIND + ".value"), "net")
     assert "things=5d" in page.js("location.hash")
-    page.key("Shift", 16)
-    page.events.clear()
+    page.key("Shift")
+    page.forget()
     for _ in range(25):
-        page.key("Shift", 16)
+        page.key("Shift")
         time.sleep(0.1)
     is_(loads(), 0)
     page.open(f"file://{path}#live=off")
-    page.events.clear()
+    page.forget()
     time.sleep(2.5)
     page.js("1")
     is_(loads(), 0)
@@ -810,7 +800,7 @@ def test_served(page, folder):
         page.open(f"http://127.0.0.1:{server.port}/live.html")
         is_(page.problems(), [])
         event_page(folder / "live.html", "--live", "1", *EVENING)
-        page.events.clear()
+        page.forget()
         page.wait("document.querySelector('header p').textContent.includes('64 transmissions')")
         is_(page.happened("Page.loadEventFired"), [])
     page.wait("stale.textContent.startsWith('the server has been away since 20')")
@@ -823,12 +813,3 @@ def test_served(page, folder):
         server.answers.set()
         page.wait("!stale.textContent.includes('away')")
 
-
-def picture(page, name, whole=False):
-    if PICTURES:
-        page.picture(f"{PICTURES}/{name}.png", whole)
-
-
-trying.run(browser.Browser, trying.tests_in(globals()))
-print("event-page in Chromium: nothing ran, one request, no message; controls, names, widths, "
-      "times, the world, needs, fingers, coasts, what is brought and saved, live")
