@@ -4,55 +4,71 @@
 # of .ci/run. Then the commands of its example print what the README says, those of the table and
 # that of the page end well, and the files of a release have the names that it has.
 #
-# With --whole both commands build and prove everything, as for somebody who begins here, and with
-# --first or --second that one alone does. That takes the time that the README says. Otherwise the
-# first one runs the given program, and the second nothing. Needs a POSIX system, git, tar and GNU make
-# (with such an option what the README says), and says what it leaves out because a tool isn't there.
-# usage: tests/readme.sh PROGRAM [--whole | --first | --second]
-whole=${2-}
-set -- "${1-}"
-. "$(dirname "$0")/program.sh"
-page=$repository/README.md
-cd "$scratch"
+# With PROGRAM the first command runs it, and the second nothing. With --whole both commands build and
+# prove everything, as for somebody who begins here, and with --first or --second that one alone does;
+# all else is done with the programs that this made. That takes the time that the README says. Needs a
+# POSIX system, git, tar and GNU make (with such an option what the README says), and says what it
+# leaves out because a tool isn't there.
+# usage: tests/readme.sh PROGRAM | --whole | --first | --second
+set -eu
 
 # ---- the two commands of the first block ----
 
+page=$(dirname "$0")/../README.md
 # block NAME NUMBER: the block of this number in this language
 block() {
     awk -v name="$1" -v n="$2" '/^```/ { open = $0 == "```" name && ++at == n; next } open' "$page"
 }
-block sh 1 | sed 's/ *#.*//' > commands
+first=$(block sh 1 | sed -n '1s/ *#.*//p')
+second=$(block sh 1 | sed -n '2s/ *#.*//p')
+made=$(mktemp -d)
+trap 'rm -rf "$made"' EXIT
+mkdir "$made/checkout"
+# in_checkout COMMAND: runs it there, as somebody who has just logged in
+in_checkout() {
+    (cd "$made/checkout" &&
+        env -i HOME="$made" PATH="/usr/local/bin:/usr/bin:/bin" LC_ALL=C sh -c "$1")
+}
+checks_out() { (cd "${0%/*}/.." && git ls-files | tar -cf - -T -) | tar -xf - -C "$made/checkout"; }
+whole=
+case ${1-} in
+--whole | --first | --second)
+    whole=$1
+    checks_out
+    if [ "$whole" != --second ]; then in_checkout "$first" > "$made/printed"; fi
+    if [ "$whole" != --first ]; then
+        in_checkout "$second" > "$made/tested" || tail "$made/tested" >&2
+    fi
+    set -- "$made/checkout/crates/aprsbook/out/aprsbook"
+    ;;
+esac
+. "$(dirname "$0")/program.sh"
+trap 'rm -rf "$scratch" "$made"' EXIT
+page=$repository/README.md
+cd "$scratch"
+
 block text 1 > expected
-if [ "$(wc -l < commands)" != 2 ] || [ ! -s expected ]; then
+if [ "$(block sh 1 | wc -l)" != 2 ] || [ ! -s expected ]; then
     fail 'the first block of the README has no two commands'
 fi
-first=$(sed -n 1p commands) second=$(sed -n 2p commands)
 [ "$(sed '/^## The page/,$d' "$page" | wc -l)" -le 40 ] || fail 'its two commands are too far below'
 # the gate calls the second, in this folder and in no other
 [ "$(sed -n 's/^exec //p' "$repository/.ci/run" | sed 's/ --no-print-directory//')" = "$second" ] ||
     fail ".ci/run doesn't call '$second'"
-if has 'the two commands of the README' make git tar &&
+if [ -z "$whole" ] && has 'the two commands of the README' make git tar &&
     git -C "$repository" rev-parse HEAD > /dev/null 2>&1; then
-    mkdir checkout
-    (cd "$repository" && git ls-files | tar -cf - -T -) | tar -xf - -C checkout
-    cd checkout
-    # as somebody who has just logged in
-    anew() { env -i HOME="$scratch" PATH="/usr/local/bin:/usr/bin:/bin" LC_ALL=C sh -c "$1"; }
-    case $whole in
-    --whole | --first) anew "$first" > ../printed ;;
-    *) sh -c "$first -s -o build PROGRAM='$program'" > ../printed ;;
-    esac
-    case $whole in
-    --whole | --second)
-        anew "$second" > ../tested || fail "$second: $(tail ../tested)"
-        tail -n 1 ../tested | grep -qx '[1-9][0-9]* passed, 0 failed' ||
-            fail "$second: $(tail ../tested)"
-        tail -n 1 ../tested
-        ;;
-    *) make -n "${second#make }" > /dev/null || fail "there is no '$second'" ;;
-    esac
-    cd ..
-    tail -n "$(wc -l < expected)" printed | cmp - expected || fail "$first prints: $(cat printed)"
+    checks_out
+    in_checkout "$first -s -o build PROGRAM='$program'" > "$made/printed"
+    in_checkout "make -n '${second#make }'" > /dev/null || fail "there is no '$second'"
+fi
+if [ -f "$made/printed" ]; then
+    tail -n "$(wc -l < expected)" "$made/printed" | cmp - expected ||
+        fail "$first prints: $(cat "$made/printed")"
+fi
+if [ -f "$made/tested" ]; then
+    tail -n 1 "$made/tested"
+    tail -n 1 "$made/tested" | grep -qx '[1-9][0-9]* passed, 0 failed' ||
+        fail "$second: $(tail "$made/tested")"
 fi
 
 # ---- its other commands ----

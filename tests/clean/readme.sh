@@ -1,10 +1,17 @@
 #!/usr/bin/env bash
-# Does README from its top in a clean Debian 12, with the packages that it names, the kit and what the
-# kit keeps, and a clone of the last commit. Takes what README says. With --first or --second only that
-# command of README is done from nothing.
-# usage: tests/clean/readme.sh PROGRAM [--first | --second]
+# Does README from its top in a clean Debian 12, with the packages that it names, the kit, and a clone
+# of the last commit. Takes what README says. With --first or --second only that command of README is
+# done from nothing. With --kept the machine's kit and that one share what they keep of passed proofs.
+# usage: tests/clean/readme.sh [--first | --second] [--kept]
 . "$(dirname "$0")/debian.sh"
-if [ ! -x "${1:-}" ] || [ ! -f "$1" ]; then fail "there is no program '${1:-}'"; fi
+option=--whole shared=
+for it; do
+    case $it in
+    --first | --second) option=$it ;;
+    --kept) shared=yes ;;
+    *) fail "there is no option '$it'" ;;
+    esac
+done
 command -v rt > /dev/null || fail 'needs the kit'
 kit=$(realpath "$(command -v rt)")
 kit=${kit%/bin/rt}
@@ -13,13 +20,10 @@ apt_get install make git python3
 binds "$kit" ro
 # rt looks there for the processes that own what they are making, whose numbers are those of /proc
 kept=${kit%/*}/rattle-kept
-if [ -d "$kept" ]; then binds "$kept" rw; fi
+if [ -n "$shared" ]; then
+    mkdir -p "$kept"
+    binds "$kept" rw
+fi
 ln -s "$kit/bin/rt" "$debian/usr/local/bin/rt"
 git clone -q "$repository" "$debian/root/aprsbook"
-mkdir "$debian/root/programs"
-for name in aprsbook aprsbook-history aprsbook-table aprsbook-fold; do
-    for it in "${1%/*}/$name" "${1%/*/out/*}/${name//-/_}/out/${name//-/_}"; do
-        if [ -f "$it" ]; then cp "$it" "$debian/root/programs/$name"; fi
-    done
-done
-in_it /root/aprsbook/tests/readme.sh /root/programs/aprsbook "${2:---whole}"
+in_it /root/aprsbook/tests/readme.sh "$option"
