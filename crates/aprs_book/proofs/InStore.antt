@@ -1,7 +1,7 @@
 -- Rows of a book as a store takes them.
-use Rattle.aprs_book.proofs.Common.{◌≡◌, ◌∙◌, inl, inr, ℕ, ◌<◌, ◌≤◌, List, [], ◌∷◌, ◌++◌, length, Result, Ok, Err, refl, sym, ap, subst, append_assoc, append-nil, arith, All, IfOk, is_gt, join_with_byte, IsName, ◌∈◌, millis_of, AreInOrder, IsBelow, IsUpTo, Row, last_moment, row_cmp, IsSoundRow, Sound, merge, Joined, BookValue, IsSoundBook, HaveOneGap, AreJoined, widened_to, widened_rows, one_value, some_millis, ordered_weaker, one_book, together, witnesses, witnessed, widens_witnesses, joined_by_merge, AreSoundRows}
+use Rattle.aprs_book.proofs.Common.{◌≡◌, ◌∙◌, inl, inr, ℕ, ◌<◌, ◌≤◌, List, [], ◌∷◌, ◌++◌, length, Result, Ok, Err, refl, sym, ap, subst, append_assoc, append-nil, arith, All, IfOk, is_gt, join_with_byte, IsName, Received, ◌∈◌, millis_of, AreInOrder, IsBelow, IsUpTo, Row, row_cmp, IsSoundRow, Sound, merge, Joined, BookValue, IsSoundBook, HaveOneGap, AreJoined, widened_to, widened_rows, one_value, some_millis, ordered_weaker, one_book, together, witnesses, witnessed, widens_witnesses, joined_by_merge, AreSoundRows}
 use Rattle.aprs_rows.specs.declared.memory.Memory.{Memory}
-use Rattle.aprs_rows.specs.Names.{names_in, row_of_text}
+use Rattle.aprs_rows.specs.Names.{names_in}
 use Rattle.aprs_rows.proofs.NameTexts.{names_joined}
 use Rattle.aprs_book.specs.Taking.{MergesInto}
 use Rattle.aprs_book.proofs.Taking.{merges_into, value}
@@ -22,14 +22,11 @@ module _ (x : Row) (text : List ℕ) (t : text ≡ join_with_byte 44 x.receivers
   pub names_have : All IsName (names_in text)
   names_have = subst (All IsName) (sym names_are) n
 
-  pub row_is : (made : Row) (first last : ℕ) (who frame : List ℕ)
-      → made ≡ row_of_text first last text who frame → first ≡ x.first → last ≡ last_moment x
-      → who ≡ x.greatest.receiver → frame ≡ x.greatest.frame → made ≡ x
-  row_is made first last who frame e a b w f = e ∙ (λ i. record {
-    first = a i;
-    receivers = names_are i;
-    greatest = record { moment = b i; receiver = w i; frame = f i };
-  })
+  pub row_is : (made : Row) (first : ℕ) (heard : Received)
+      → made ≡ (record { first = first; receivers = names_in text; greatest = heard })
+      → first ≡ x.first → heard ≡ x.greatest → made ≡ x
+  row_is made first heard e a h =
+      e ∙ (λ i. record { first = a i; receivers = names_are i; greatest = h i })
 
 -- the text of the row is short where that of its names was
 pub is_short : (x made : Row) (text : List ℕ) → text ≡ join_with_byte 44 x.receivers → made ≡ x

@@ -10,7 +10,6 @@ ghost use Rattle.aprs_rows.specs.Refusal.{refusal};
 ghost use Rattle.aprs_book.specs.Known.{AreIndexesOf};
 
 use crate::known::indexes::Indexes;
-use crate::known::reception_view::ReceptionView;
 use crate::known::subject::Subject;
 use crate::rows::kept_row::KeptRow;
 use crate::rows::keyed::KeyedRows;
@@ -18,7 +17,7 @@ use crate::rows::millis::Millis;
 use crate::rows::walk::Walk;
 use crate::stored::{add_rows, book_of};
 use crate::{Gap, Join, Memory, MergeFault, RowCause, RowParts, Rows, WidenFault};
-use aprs_log::Reception;
+use aprs_log::{Reception, ReceptionRef};
 use aprs_rows::BookStore;
 use std::alloc::{Allocator, Global};
 use std::marker::Model;
@@ -122,8 +121,8 @@ impl<A: Allocator + Copy> Book<A> {
         ensures gap { self.new.gap ≡ self.old.gap }
         ensures unchanged { OnErr result (self.new ≡ self.old) }
     {
-        let heard = ReceptionView::of(x);
-        let subject = heard.subject();
+        let heard = ReceptionRef::of(x);
+        let subject = Subject::of_heard(&heard);
         self.indexes.reserve(&subject)?;
         // If no memory is left for this, an empty entry may stay, which says nothing.
         self.rows.insert(Millis::of(self.gap), x)?;
@@ -164,7 +163,7 @@ impl<A: Allocator + Copy> Book<A> {
         ensures unchanged { OnErr result (self.new ≡ self.old) }
     {
         let heard = parts.heard();
-        let subject = heard.subject();
+        let subject = Subject::of_heard(&heard);
         self.indexes.reserve(&subject)?;
         // If no memory is left for this, an empty entry may stay, which says nothing.
         self.rows

@@ -2,8 +2,7 @@
 ghost use Rattle.std.specs.Prelude.{◌≡◌, IfOk};
 
 use crate::known::notes::Notes;
-use crate::known::reception_view::ReceptionView;
-use crate::known::subject::Subject;
+use crate::known::subject::{Subject, info_of};
 use crate::lists::sender::Sender;
 use crate::rows::kept_row::KeptRow;
 use crate::rows::keyed::KeyedRows;
@@ -22,9 +21,9 @@ impl<A: Allocator + Copy> Book<A> {
         let mut notes = Notes::new(alloc);
         let mut before = None;
         for row in rows {
-            let heard = ReceptionView::of_row(&row);
+            let heard = row.greatest();
             let sender = Sender::after(before, &heard);
-            notes.take(Subject::of(sender.call(), heard.info()), heard)?;
+            notes.take(Subject::of(sender.call(), info_of(&heard)), heard)?;
             kept.append(KeptRow::of_view(alloc, &row)?)?;
             before = Some(sender);
         }

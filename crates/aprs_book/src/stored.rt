@@ -10,6 +10,7 @@ ghost use Rattle.aprs_laws.specs.Sound.{AreSoundRows, IsSoundRow};
 use crate::rows::kept_row::KeptRow;
 use crate::rows::walk::Walk;
 use crate::{Book, Memory};
+use aprs_log::ReceptionRef;
 use aprs_rows::{BookStore, PackedRows, RowView, WalkRoom, put_names};
 use std::alloc::Allocator;
 
@@ -70,12 +71,5 @@ fn view_of<'t, A: Allocator + Copy>(row: &'t KeptRow<A>, text: &'t [u8]) -> RowV
     requires names { All IsName row.now.receivers }
     ensures { result ≡ row.now }
 {
-    let greatest = row.greatest();
-    RowView::new(
-        row.first(),
-        greatest.moment(),
-        text,
-        greatest.receiver().as_bytes(),
-        greatest.frame(),
-    )
+    RowView::new(row.first(), text, ReceptionRef::of(row.greatest()))
 }

@@ -11,8 +11,8 @@ use crate::cut::cut_near;
 use crate::fault::BookCause;
 use crate::hexadecimal::decode_frame;
 use crate::row_buffers::RowBuffers;
-use aprs_ax25::{Frame, MAX_UI_FRAME};
-use aprs_log::{Clock, Moment, MomentForm, Receiver};
+use aprs_ax25::{Frame, FrameRef, MAX_UI_FRAME};
+use aprs_log::{Clock, Moment, MomentForm, Receiver, ReceptionRef};
 use aprs_rows::RowView;
 
 /// The row that a line spells, with its moments in this form. Fails with `RowSyntax` where the line
@@ -45,7 +45,8 @@ pub fn read_row<'l>(
         return Err(BookCause::RowSyntax);
     };
     read_frame(&mut buffers.bytes, &mut buffers.frame, digits)?;
-    Ok(RowView::new(first.0, last.0, receivers, receiver, &buffers.frame))
+    let greatest = ReceptionRef::new(last.0, receiver, FrameRef::of(&buffers.frame));
+    Ok(RowView::new(first.0, receivers, greatest))
 }
 
 /// What follows the tag of a row's line, `T`, and a space, or `None` where the line doesn't begin

@@ -10,6 +10,7 @@ mod moment_form;
 mod reader;
 mod receiver;
 mod reception;
+mod reception_ref;
 mod write;
 
 pub use aprs_io::{InputEnd, MAX_INPUT};
@@ -22,4 +23,5 @@ pub use moment_form::MomentForm;
 pub use reader::LogReader;
 pub use receiver::Receiver;
 pub use reception::Reception;
+pub use reception_ref::ReceptionRef;
 pub use write::{LogWriter, write_line};

@@ -104,13 +104,11 @@ impl Ord for Reception {
     ghost matches_eq = { Prim.search (comparing, rules) };
 
     fn cmp(&self, other: &Reception) -> Ordering {
-        match self.moment.cmp(&other.moment) {
-            Ordering::Equal => match self.receiver.cmp(&other.receiver) {
-                Ordering::Equal => self.frame.cmp(&other.frame),
-                unequal => unequal,
-            },
-            unequal => unequal,
-        }
+        heard_order(
+            (self.moment, other.moment),
+            (self.receiver.as_bytes(), other.receiver.as_bytes()),
+            (self.frame.bytes(), other.frame.bytes()),
+        )
     }
 }
 
@@ -122,5 +120,25 @@ impl PartialOrd for Reception {
 
     fn partial_cmp(&self, other: &Reception) -> Option<Ordering> {
         Some(self.cmp(other))
+    }
+}
+
+/// The order of two receptions by their moments, then the names of their receivers, then the bytes
+/// of their frames.
+pub(crate) fn heard_order(
+    moments: (Moment, Moment),
+    names: (&[u8], &[u8]),
+    frames: (&[u8], &[u8]),
+) -> Ordering
+    ensures { result ≡ heard_cmp
+        (record { moment = moments.0; receiver = names.entry.0.now; frame = frames.entry.0.now })
+        (record { moment = moments.1; receiver = names.entry.1.now; frame = frames.entry.1.now }) }
+{
+    match moments.0.cmp(&moments.1) {
+        Ordering::Equal => match names.0.cmp(names.1) {
+            Ordering::Equal => frames.0.cmp(frames.1),
+            unequal => unequal,
+        },
+        unequal => unequal,
     }
 }

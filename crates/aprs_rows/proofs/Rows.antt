@@ -24,18 +24,19 @@ pub record IsSingle (x : Received) (row : Row) : Type 0 where
   pub sound : IsSoundRow row
   pub short : length (join_with_byte 44 row.receivers) < 4294967296
 
-pub single_row : (x : Received) (row : Row) (m n : ℕ) (r f : List ℕ) → row ≡ row_of_text m n r r f
-    → m ≡ x.moment → n ≡ x.moment → r ≡ x.receiver → f ≡ x.frame → IsName x.receiver
-    → IsSingle x row
-single_row x row m n r f e moment again receiver frame name =
-    let is : row ≡ single x =
-    e ∙ (λ t. row_of_text (moment t) (again t) (receiver t) (receiver t) (frame t))
-    ∙ single_is x.moment x.receiver x.frame name in
+pub single_row : (x g : Received) (row : Row) (m : ℕ) (r : List ℕ)
+    → row ≡ (record { first = m; receivers = names_in r; greatest = g })
+    → m ≡ g.moment → r ≡ g.receiver → g ≡ x → IsName g.receiver → IsSingle x row
+single_row x g row m r e moment receiver heard name =
+    let alone : row ≡ single g =
+    e ∙ (λ t. record { first = moment t; receivers = names_in (receiver t); greatest = g })
+    ∙ single_is g.moment g.receiver g.frame name in
+    let is = alone ∙ ap single heard in
     record {
       is = is;
       sound = subst (λ (y : Row). IsSoundRow y) (sym is) (single_is_sound x);
-      short = subst (λ (y : Row). length (join_with_byte 44 y.receivers) < 4294967296) (sym is)
-          (few x.receiver name);
+      short = subst (λ (y : Row). length (join_with_byte 44 y.receivers) < 4294967296) (sym alone)
+          (few g.receiver name);
     } where
       few : (r : List ℕ) → IsName r → length r < 4294967296
       few r n = grind (arith, nat_tests)

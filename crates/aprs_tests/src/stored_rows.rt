@@ -2,7 +2,6 @@
 
 use crate::ample_memory::hundred;
 use crate::refused_calls::{ROWS, SENT};
-use aprs_ax25::Frame;
 use aprs_book::{Book, Gap, HeardRoom, Memory, RowCause, Summary};
 use aprs_fixtures::{DIRECT, NOON, heard, is_shown, sent, squeeze};
 use aprs_rows::{BookStore, PackedRows, RowView, WalkRoom};
@@ -180,15 +179,9 @@ fn refused_lists_are_made_again(rt: HostRuntime) -> Result<(), Fail> {
     Ok(())
 }
 
-/// A row of what a row shows, whose frame was read from it.
-fn made_again<'a>(row: &RowView<'a>, frame: &'a Frame) -> RowView<'a> {
-    RowView::new(
-        row.first(),
-        row.last(),
-        row.receivers(),
-        row.receiver(),
-        frame,
-    )
+/// A row of what a row shows.
+fn made_again<'a>(row: &RowView<'a>) -> RowView<'a> {
+    RowView::new(row.first(), row.receivers(), row.greatest())
 }
 
 // What a row shows is all that it takes to make one: it can't follow the first, nor come before it.
@@ -198,8 +191,7 @@ fn rows_are_made_of_what_rows_show(rt: HostRuntime) -> Result<(), Fail> {
     let x = heard(0, b"RX1", &DIRECT)?;
     rows.push_reception(&x).ok().ok_or("memory")?;
     let row = rows.last().ok_or("a row")?;
-    let frame = row.frame().to_frame();
-    let again = made_again(&row, &frame);
+    let again = made_again(&row);
     assert!(rt; again.refusal_after(Some(&row), Gap::STANDARD) == Some(RowCause::Order));
     assert!(rt; row.refusal_after(Some(&again), Gap::STANDARD) == Some(RowCause::Order));
     assert!(rt;

@@ -2,9 +2,8 @@
 ghost use Rattle.std.specs.Prelude.{◌≡◌};
 ghost use Rattle.std.specs.Option.{option_copied};
 
-use crate::known::reception_view::ReceptionView;
 use aprs_ax25::Frame;
-use aprs_log::{Moment, Receiver, Reception};
+use aprs_log::{Moment, Receiver, Reception, ReceptionRef};
 use aprs_report::Report;
 use std::marker::Model;
 
@@ -63,18 +62,18 @@ pub(crate) fn heard_of<'a>(known: Option<&'a Reception>) -> Option<Heard<'a>>
     }
 }
 
-/// The reception in this view, read into the place, with what it says.
-pub(crate) fn heard_at<'r>(place: &'r mut Option<Reception>, x: &ReceptionView<'_>) -> Heard<'r>
+/// The reception, read into the place, with what it says.
+pub(crate) fn heard_at<'r>(place: &'r mut Option<Reception>, x: &ReceptionRef<'_>) -> Heard<'r>
     ensures { result ≡ x.now }
 {
-    Heard::of(place.insert(x.read()))
+    Heard::of(place.insert(x.to_reception()))
 }
 
 /// The reception that is known, read into the place, with what it says, or `None` where none is
 /// known.
 pub(crate) fn heard_in<'r>(
     place: &'r mut Option<Reception>,
-    known: Option<&ReceptionView<'_>>,
+    known: Option<&ReceptionRef<'_>>,
 ) -> Option<Heard<'r>>
     ensures { result ≡ option_copied known.entry }
 {

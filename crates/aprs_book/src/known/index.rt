@@ -9,7 +9,8 @@ ghost use Rattle.aprs_book.specs.Known as Spec;
 
 use crate::Memory;
 use crate::known::kept::{Kept, KeptFrom};
-use crate::known::reception_view::ReceptionView;
+use crate::known::last_known::exceeds;
+use aprs_log::ReceptionRef;
 use std::alloc::{Allocator, Global};
 use std::collections::BTreeMap;
 use std::collections::btree_map::Iter;
@@ -66,7 +67,7 @@ impl<X: Kept, A: Allocator + Copy> Index<X, A> {
     /// Keeps the reception in the entry at these bytes, if nothing, or a lesser reception, is
     /// known there. The entry has to be there. What is known at other bytes stays. Takes no
     /// memory.
-    pub(crate) fn note<'t>(&mut self, bytes: &[u8], x: &ReceptionView<'t>)
+    pub(crate) fn note<'t>(&mut self, bytes: &[u8], x: &ReceptionRef<'t>)
     where
         X: KeptFrom<'t>,
         requires { Spec.HasEntry bytes.now self.old }
@@ -81,7 +82,7 @@ impl<X: Kept, A: Allocator + Copy> Index<X, A> {
     /// Keeps the reception in the entry at these bytes, if nothing, or a lesser reception, is
     /// known there. The entry is made where there is none. What is known at other bytes stays.
     /// After `Memory` the same is known as before.
-    pub(crate) fn take<'t>(&mut self, bytes: &[u8], x: &ReceptionView<'t>) -> Result<(), Memory>
+    pub(crate) fn take<'t>(&mut self, bytes: &[u8], x: &ReceptionRef<'t>) -> Result<(), Memory>
     where
         X: KeptFrom<'t>,
         ensures taken { OnOk result ((q : List ℕ)
@@ -120,12 +121,12 @@ impl<X: Kept, A: Allocator + Copy> Index<X, A> {
 }
 
 /// Puts `x` into `known`, unless a reception is there that is as great or greater.
-fn keep<'t, X: KeptFrom<'t>>(known: &mut Option<X>, x: &ReceptionView<'t>)
+fn keep<'t, X: KeptFrom<'t>>(known: &mut Option<X>, x: &ReceptionRef<'t>)
     ensures { option_map X.received known.new
         ≡ Some (greater_known (option_map X.received known.old) x.now) }
 {
     match &*known {
-        Some(greatest) if !x.exceeds(Some(&greatest.view())) => {}
+        Some(greatest) if !exceeds(x, Some(&greatest.lent())) => {}
         _ => *known = Some(X::kept_from(x)),
     }
 }

@@ -6,9 +6,9 @@ ghost use Rattle.aprs_book.specs.Known as Spec;
 use crate::Memory;
 use crate::known::index::Index;
 use crate::known::kept::{Kept, KeptFrom};
-use crate::known::reception_view::ReceptionView;
 use crate::known::subject::{Subject, call_bytes};
 use aprs_ax25::Callsign;
+use aprs_log::ReceptionRef;
 use std::alloc::{Allocator, Global};
 use std::marker::Model;
 
@@ -130,7 +130,7 @@ impl<X: Kept, A: Allocator + Copy> Indexes<X, A> {
 
     /// Keeps the reception as what is last known of its subject, where nothing was known or it is
     /// greater. The subject has to have its entry; for `Nothing` nothing is kept. Takes no memory.
-    pub(crate) fn note<'t>(&mut self, subject: &Subject<'_>, x: &ReceptionView<'t>)
+    pub(crate) fn note<'t>(&mut self, subject: &Subject<'_>, x: &ReceptionRef<'t>)
     where
         X: KeptFrom<'t>,
         requires { Spec.HaveEntries subject.now self.old }
@@ -151,7 +151,7 @@ impl<X: Kept, A: Allocator + Copy> Indexes<X, A> {
     pub(crate) fn take<'t>(
         &mut self,
         subject: &Subject<'_>,
-        x: &ReceptionView<'t>,
+        x: &ReceptionRef<'t>,
     ) -> Result<(), Memory>
     where
         X: KeptFrom<'t>,

@@ -1,5 +1,5 @@
 //! What is last known: the greatest reception that reports of something.
-ghost use Rattle.std.specs.Prelude.{◌≡◌, None, map};
+ghost use Rattle.std.specs.Prelude.{◌≡◌, false, true, None, Some, map};
 ghost use Rattle.std.specs.Option.{option_copied};
 ghost use Rattle.aprs_laws.specs.Best.{greater_known, known_after, known_of};
 ghost use Rattle.aprs_laws.specs.Gap.{millis_of};
@@ -8,11 +8,10 @@ ghost use Rattle.aprs_book.specs.LastKnown.{IsLastKnown};
 ghost use Rattle.aprs_book.specs.Reports as Spec;
 
 use crate::known::heard::heard_of;
-use crate::known::reception_view::ReceptionView;
 use crate::rows::walk::Walk;
 use crate::{Book, Heard};
 use aprs_ax25::Callsign;
-use aprs_log::Reception;
+use aprs_log::{Reception, ReceptionRef};
 use std::alloc::Allocator;
 
 impl<A: Allocator + Copy> Book<A> {
@@ -94,23 +93,35 @@ fn known_after<'a>(
     if !x.frame().source().cmp(station).is_eq() {
         return known;
     }
-    let view = ReceptionView::of(x);
     match known {
-        Some(greatest) if !view.exceeds(Some(&ReceptionView::of(greatest))) => known,
+        Some(greatest) if !greatest.cmp(x).is_lt() => known,
         _ => Some(x),
     }
 }
 
 /// The greater of the reception that is known and `x`; `x` where none is known.
 pub(crate) fn greater_known<'a>(
-    known: Option<&ReceptionView<'a>>,
-    x: ReceptionView<'a>,
-) -> ReceptionView<'a>
+    known: Option<&ReceptionRef<'a>>,
+    x: ReceptionRef<'a>,
+) -> ReceptionRef<'a>
     ensures { result ≡ greater_known (option_copied known.entry) x.entry }
 {
     match known {
-        Some(greatest) if !x.exceeds(known) => greatest.copy(),
+        Some(greatest) if !exceeds(&x, known) => greatest.copy(),
         _ => x,
+    }
+}
+
+/// Whether a reception is greater than the one that is known, by moment, then receiver, then frame.
+/// Where none is known it is.
+pub(crate) fn exceeds(x: &ReceptionRef<'_>, known: Option<&ReceptionRef<'_>>) -> bool
+    ensures kept { result ≡ false → option_copied known.entry
+        ≡ Some (greater_known (option_copied known.entry) x.now) }
+    ensures new { result ≡ true → greater_known (option_copied known.entry) x.now ≡ x.now }
+{
+    match known {
+        Some(greatest) => greatest.order(x).is_lt(),
+        None => true,
     }
 }
 

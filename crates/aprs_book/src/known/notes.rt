@@ -8,15 +8,15 @@ use crate::Memory;
 use crate::known::indexes::Indexes;
 use crate::known::kept::{Kept, KeptFrom};
 use crate::known::last_known::greater_known;
-use crate::known::reception_view::ReceptionView;
 use crate::known::subject::Subject;
+use aprs_log::ReceptionRef;
 use std::alloc::{Allocator, Global};
 
 /// What some rows, one after another, all report on, and the greatest of their receptions.
 #[derive(Drop)]
 pub(crate) struct Streak<'t> {
     subject: Subject<'t>,
-    greatest: ReceptionView<'t>,
+    greatest: ReceptionRef<'t>,
 }
 
 /// What rows report. The last rows that report on one thing are kept in `last`. They are put into
@@ -48,7 +48,7 @@ impl<'t, X: KeptFrom<'t>, A: Allocator + Copy> Notes<'t, X, A> {
     /// Notes one more row, by what it reports on and its greatest reception `x`: the notes of some
     /// rows become those of these rows and this one. A row that reports on nothing changes
     /// nothing. After `Memory` what was noted last may be lost.
-    pub(crate) fn take(&mut self, subject: Subject<'t>, x: ReceptionView<'t>) -> Result<(), Memory>
+    pub(crate) fn take(&mut self, subject: Subject<'t>, x: ReceptionRef<'t>) -> Result<(), Memory>
         ensures { OnOk result ((rows : List Row) (r : Row) → AreNotesOf rows self.old
             → ((topic : Spec.Topic)
             → Spec.subject_bytes topic subject.entry ≡ Spec.topic_bytes topic (row_key r))

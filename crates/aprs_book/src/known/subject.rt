@@ -1,9 +1,11 @@
 //! What a frame reports on.
 ghost use Rattle.std.specs.Prelude.{◌≡◌, true, None};
 ghost use Rattle.aprs_report.specs.Reader.{reading_of};
-ghost use Rattle.aprs_book.specs.Known.{Topic, call_bytes, subject_bytes, report_bytes};
+ghost use Rattle.aprs_laws.specs.Key.{key_of};
+ghost use Rattle.aprs_book.specs.Known.{Topic, call_bytes, subject_bytes, report_bytes, topic_bytes};
 
 use aprs_ax25::Callsign;
+use aprs_log::ReceptionRef;
 use aprs_report::Report;
 use arrayvec::ArrayVec;
 
@@ -40,7 +42,16 @@ impl<'a> Subject<'a> {
         }
     }
 
-    /// Whether the frame reports on nothing that an index has.
+    /// What the frame of a reception reports on.
+    #[tactic(auto, unfolding(aprs_laws::specs::Key::key_of))]
+    pub(crate) fn of_heard(heard: &ReceptionRef<'a>) -> Subject<'a>
+        ensures { (topic : Topic)
+            → subject_bytes topic result ≡ topic_bytes topic (key_of heard.now.frame) }
+    {
+        Subject::of(&heard.frame().source(), info_of(heard))
+    }
+
+    /// `true` only where the frame reports on nothing that an index has.
     pub(crate) fn is_nothing(&self) -> bool
         ensures { result ≡ true → (topic : Topic) → subject_bytes topic self.now ≡ None }
     {
@@ -64,6 +75,14 @@ impl<'a> Subject<'a> {
             _ => false,
         }
     }
+}
+
+/// The information of a reception's frame.
+#[tactic(auto, unfolding(aprs_laws::specs::Key::key_of))]
+pub(crate) fn info_of<'a>(heard: &ReceptionRef<'a>) -> &'a [u8]
+    ensures { result.now ≡ (key_of heard.now.frame).info }
+{
+    heard.frame().info()
 }
 
 /// The bytes under which an index has a callsign: its SSID, and then its text. No other callsign

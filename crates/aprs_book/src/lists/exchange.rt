@@ -8,14 +8,14 @@ ghost use Rattle.aprs_book.specs.Exchange.{IsExchangeOf};
 
 use crate::Memory;
 use crate::known::last_known::greater_known;
-use crate::known::reception_view::ReceptionView;
+use crate::known::subject::info_of;
 use crate::lists::message_key::{
     AnswerKey, MessageKey, Span, answer_in, is_addressed, message_in, reply_in, span_with,
 };
 use crate::lists::sender::Sender;
 use crate::rows::walk::Walk;
 use aprs_ax25::Callsign;
-use aprs_log::Moment;
+use aprs_log::{Moment, ReceptionRef};
 use std::alloc::{Allocator, Global};
 use std::collections::BTreeMap;
 
@@ -23,7 +23,7 @@ use std::collections::BTreeMap;
 /// reply-acks among them.
 pub(crate) struct Exchange<'t, A: Allocator = Global> {
     pub spans: BTreeMap<MessageKey<'t>, Span, A>,
-    pub answers: BTreeMap<AnswerKey<'t>, ReceptionView<'t>, A>,
+    pub answers: BTreeMap<AnswerKey<'t>, ReceptionRef<'t>, A>,
 }
 
 impl<'t, A: Allocator> Drop for Exchange<'t, A> {
@@ -53,14 +53,14 @@ impl<'t, A: Allocator + Copy> Exchange<'t, A> {
         &mut self,
         sender: &Callsign,
         first: Moment,
-        heard: &ReceptionView<'t>,
+        heard: &ReceptionRef<'t>,
     ) -> Result<(), Memory>
         requires { sender.now ≡ (key_of heard.now.frame).source }
         ensures { OnOk result ((rows : List Row) (r : Row) → IsExchangeOf rows self.old
             → first ≡ r.first → heard.now ≡ r.greatest
             → IsExchangeOf (rows ++ r ∷ []) self.new) }
     {
-        if !is_addressed(heard.info()) {
+        if !is_addressed(info_of(heard)) {
             return Ok(());
         }
         if let Some(message) = message_in(sender, heard) {
@@ -102,9 +102,9 @@ fn put_span<'t, A: Allocator + Copy>(
 /// Keeps this reception as the answer that its message gives by a reply-ack, unless one is kept
 /// that is as great or greater. A message that gives none changes nothing.
 fn put_reply<'t, A: Allocator + Copy>(
-    answers: &mut BTreeMap<AnswerKey<'t>, ReceptionView<'t>, A>,
+    answers: &mut BTreeMap<AnswerKey<'t>, ReceptionRef<'t>, A>,
     message: &MessageKey<'t>,
-    heard: &ReceptionView<'t>,
+    heard: &ReceptionRef<'t>,
 ) -> Result<(), Memory>
     // The answers of some rows become those of these rows and r, which reports this message.
     ensures { OnOk result ((rows : List Row) (r : Row) → Spec.AreAnswers rows answers.old.entries
@@ -121,9 +121,9 @@ fn put_reply<'t, A: Allocator + Copy>(
 /// Keeps this reception as the answer under this key, unless one is kept there that is as great or
 /// greater.
 fn put_answer<'t, A: Allocator + Copy>(
-    answers: &mut BTreeMap<AnswerKey<'t>, ReceptionView<'t>, A>,
+    answers: &mut BTreeMap<AnswerKey<'t>, ReceptionRef<'t>, A>,
     key: AnswerKey<'t>,
-    heard: &ReceptionView<'t>,
+    heard: &ReceptionRef<'t>,
 ) -> Result<(), Memory>
     // The answers of some rows become those of these rows and r, which gives this answer alone.
     ensures { OnOk result ((rows : List Row) (r : Row) → Spec.AreAnswers rows answers.old.entries
@@ -147,7 +147,7 @@ pub(crate) fn exchange_of<'t, A: Allocator + Copy>(
     let mut exchange = Exchange::new(alloc);
     let mut before = None;
     for row in rows {
-        let heard = ReceptionView::of(row.greatest());
+        let heard = ReceptionRef::of(row.greatest());
         let sender = Sender::after(before, &heard);
         exchange.take(sender.call(), row.first(), &heard)?;
         before = Some(sender);

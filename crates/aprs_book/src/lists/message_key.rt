@@ -7,10 +7,10 @@ ghost use Rattle.aprs_book.specs.Messages.{HasNumber, message_in};
 ghost use Rattle.aprs_book.specs.MessageRows as Spec;
 ghost use Rattle.aprs_book.specs.ReplyTexts.{HoldsOnly};
 
-use crate::known::reception_view::ReceptionView;
+use crate::known::subject::info_of;
 use crate::lists::reply_text::{acknowledged_in, number_in};
 use aprs_ax25::Callsign;
-use aprs_log::Moment;
+use aprs_log::{Moment, ReceptionRef};
 use aprs_report::Report;
 
 /// A message: receptions that agree in all of these fields are of one message.
@@ -56,11 +56,11 @@ pub(crate) struct AnswerKey<'a> {
 /// The message that a reception reports, or `None` where it reports none. `sender` has to be the
 /// source of its frame.
 #[tactic(auto, unfolding(aprs_laws::specs::Key::key_of))]
-pub(crate) fn message_in<'a>(sender: &Callsign, heard: &ReceptionView<'a>) -> Option<MessageKey<'a>>
+pub(crate) fn message_in<'a>(sender: &Callsign, heard: &ReceptionRef<'a>) -> Option<MessageKey<'a>>
     requires { sender.now ≡ (key_of heard.now.frame).source }
     ensures { option_map Spec.message_of result ≡ message_in (key_of heard.now.frame) }
 {
-    match Report::read(heard.info()) {
+    match Report::read(info_of(heard)) {
         Report::Message {
             addressee,
             text,
@@ -87,12 +87,12 @@ pub(crate) fn span_with(known: &Span, more: &Span) -> Span
 
 /// What a reception answers, or `None` where it is no ack or rej, or not to a callsign. `sender`,
 /// who answers, has to be the source of its frame.
-pub(crate) fn answer_in<'a>(sender: &Callsign, heard: &ReceptionView<'a>) -> Option<AnswerKey<'a>>
+pub(crate) fn answer_in<'a>(sender: &Callsign, heard: &ReceptionRef<'a>) -> Option<AnswerKey<'a>>
     requires { sender.now ≡ (key_of heard.now.frame).source }
     ensures { (a : Spec.Answer) → Spec.IsOfAnswer a (key_of heard.now.frame)
         ↔ (option_map Spec.answer_of result ≡ Some a) }
 {
-    let (addressee, id) = answer_fields(heard.info())?;
+    let (addressee, id) = answer_fields(info_of(heard))?;
     match Callsign::parse(addressee) {
         Ok(source) => Some(AnswerKey {
             source,

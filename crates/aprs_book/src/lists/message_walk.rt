@@ -8,13 +8,13 @@ ghost use Rattle.aprs_book.specs.Exchange.{IsExchangeOf};
 ghost use Rattle.aprs_book.specs.Messages.{ReportsMessages, answered_by, reported_state, state_by};
 ghost use Rattle.aprs_book.specs.MessageRows as Spec;
 
-use crate::known::reception_view::ReceptionView;
+use crate::known::subject::info_of;
 use crate::lists::exchange::Exchange;
 use crate::lists::message_key::{AnswerKey, MessageKey, Span, awaited_in};
 use crate::lists::reply_ack::reply_ack_by;
 use crate::{MessageRow, MessageState, ReplyAck};
 use aprs_ax25::Callsign;
-use aprs_log::Moment;
+use aprs_log::{Moment, ReceptionRef};
 use aprs_report::Report;
 use std::alloc::{Allocator, Global};
 use std::collections::BTreeMap;
@@ -25,7 +25,7 @@ use std::marker::Model;
 #[derive(Drop)]
 pub struct MessageWalk<'s, 't, A: Allocator = Global> {
     spans: Iter<'s, MessageKey<'t>, Span>,
-    answers: &'s BTreeMap<AnswerKey<'t>, ReceptionView<'t>, A>,
+    answers: &'s BTreeMap<AnswerKey<'t>, ReceptionRef<'t>, A>,
 }
 
 impl<'s, 't, A: Allocator> Model for MessageWalk<'s, 't, A> {
@@ -72,7 +72,7 @@ impl<'s, 't, A: Allocator + Copy> Iterator for MessageWalk<'s, 't, A> {
 fn row_of<'t, A: Allocator + Copy>(
     message: &MessageKey<'t>,
     span: &Span,
-    answers: &BTreeMap<AnswerKey<'t>, ReceptionView<'t>, A>,
+    answers: &BTreeMap<AnswerKey<'t>, ReceptionRef<'t>, A>,
 ) -> MessageRow<'t>
     ensures { result ≡ Spec.row_in answers.now.entries (message.now, span.now) }
 {
@@ -98,7 +98,7 @@ fn row_of<'t, A: Allocator + Copy>(
 fn reply_ack_of<'t, A: Allocator + Copy>(
     message: &MessageKey<'t>,
     first: Moment,
-    answers: &BTreeMap<AnswerKey<'t>, ReceptionView<'t>, A>,
+    answers: &BTreeMap<AnswerKey<'t>, ReceptionRef<'t>, A>,
 ) -> ReplyAck
     ensures { result ≡ Spec.reply_ack_in answers.now.entries (Spec.message_of message.now) first }
 {
@@ -114,8 +114,8 @@ fn greatest_answer<'t, 'b, A: Allocator + Copy>(
     message: &MessageKey<'t>,
     id: &'t [u8],
     is_reply: bool,
-    answers: &'b BTreeMap<AnswerKey<'t>, ReceptionView<'t>, A>,
-) -> Option<&'b ReceptionView<'t>>
+    answers: &'b BTreeMap<AnswerKey<'t>, ReceptionRef<'t>, A>,
+) -> Option<&'b ReceptionRef<'t>>
     ensures { option_copied result
         ≡ Spec.answer_to answers.now.entries (Spec.message_of message.now) id.now is_reply }
 {
@@ -135,12 +135,12 @@ fn greatest_answer<'t, 'b, A: Allocator + Copy>(
 
 /// What came of a message first heard at this moment, by its greatest answer, and when that was
 /// heard: `Unanswered` where there is none, or only one from before that moment.
-fn outcome_by(first: Moment, answer: Option<&ReceptionView<'_>>) -> (MessageState, Option<Moment>)
+fn outcome_by(first: Moment, answer: Option<&ReceptionRef<'_>>) -> (MessageState, Option<Moment>)
     ensures state { result.0 ≡ state_by first (option_copied answer.entry) }
     ensures answered { result.1 ≡ answered_by first (option_copied answer.entry) }
 {
     match answer {
-        Some(x) if x.moment() >= first => (reported_state(x.info()), Some(x.moment())),
+        Some(x) if x.moment() >= first => (reported_state(info_of(x)), Some(x.moment())),
         _ => (MessageState::Unanswered, None),
     }
 }

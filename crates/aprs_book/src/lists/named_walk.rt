@@ -8,8 +8,8 @@ ghost use Rattle.aprs_book.specs.NamedRows.{reports_by, reports_in};
 use crate::Named;
 use crate::known::heard::heard_at;
 use crate::known::indexes::Indexes;
-use crate::known::reception_view::ReceptionView;
 use crate::lists::heard_room::HeardRoom;
+use aprs_log::ReceptionRef;
 use std::alloc::{Allocator, Global};
 use std::collections::btree_map::Iter;
 use std::marker::Model;
@@ -17,8 +17,8 @@ use std::marker::Model;
 /// The objects that are still to come, ascending by name, and then the items, ascending by name.
 #[derive(Drop)]
 pub struct NamedWalk<'s, 't, A: Allocator = Global> {
-    objects: Iter<'s, Vec<u8, A>, Option<ReceptionView<'t>>>,
-    items: Iter<'s, Vec<u8, A>, Option<ReceptionView<'t>>>,
+    objects: Iter<'s, Vec<u8, A>, Option<ReceptionRef<'t>>>,
+    items: Iter<'s, Vec<u8, A>, Option<ReceptionRef<'t>>>,
 }
 
 impl<'s, 't, A: Allocator> Model for NamedWalk<'s, 't, A> {
@@ -35,7 +35,7 @@ impl<'s, 't, A: Allocator> Model for NamedWalk<'s, 't, A> {
 
 impl<'s, 't, A: Allocator + Copy> NamedWalk<'s, 't, A> {
     /// The objects and the items of these indexes.
-    pub(crate) fn of(indexes: &'s Indexes<ReceptionView<'t>, A>) -> NamedWalk<'s, 't, A>
+    pub(crate) fn of(indexes: &'s Indexes<ReceptionRef<'t>, A>) -> NamedWalk<'s, 't, A>
         ensures reports { result ≡ reports_in false (index_of objects indexes.now)
             ++ reports_in true (index_of items indexes.now) }
         ensures objects { Ordered IsEntryBefore (index_of objects indexes.now) }
@@ -72,8 +72,8 @@ impl<'s, 't, A: Allocator + Copy> NamedWalk<'s, 't, A> {
 
 /// The name and the reception of the next entry that isn't empty, or `None` after the last.
 fn next_report<'s, 't, A: Allocator + Copy>(
-    entries: &mut Iter<'s, Vec<u8, A>, Option<ReceptionView<'t>>>,
-) -> Option<(&'s [u8], &'s ReceptionView<'t>)>
+    entries: &mut Iter<'s, Vec<u8, A>, Option<ReceptionRef<'t>>>,
+) -> Option<(&'s [u8], &'s ReceptionRef<'t>)>
     ensures { (is_item : Bool) → MatchOption result
         ((reports_by (λ key. key.items) is_item entries.old ≡ [])
         × (reports_by (λ key. key.items) is_item entries.new ≡ []))

@@ -3,8 +3,7 @@ ghost use Rattle.std.specs.Prelude.{◌≡◌};
 ghost use Rattle.std.specs.Option.{option_copied};
 ghost use Rattle.aprs_book.specs.Messages as Spec;
 
-use crate::known::reception_view::ReceptionView;
-use aprs_log::Moment;
+use aprs_log::{Moment, ReceptionRef};
 
 /// What became of the number that a message has for reply-acks. The ids of acks and rejs say
 /// nothing of it.
@@ -20,7 +19,7 @@ pub enum ReplyAck {
 
 /// What came of the number of a message first heard at this moment, by its greatest reply-ack:
 /// `Awaited` where there is none, or only one from before that moment.
-pub(crate) fn reply_ack_by(first: Moment, reply: Option<&ReceptionView<'_>>) -> ReplyAck
+pub(crate) fn reply_ack_by(first: Moment, reply: Option<&ReceptionRef<'_>>) -> ReplyAck
     ensures { result ≡ Spec.reply_ack_by first (option_copied reply.entry) }
 {
     match reply {

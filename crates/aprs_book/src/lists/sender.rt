@@ -2,8 +2,8 @@
 ghost use Rattle.std.specs.Prelude.{◌≡◌};
 ghost use Rattle.aprs_laws.specs.Key.{key_of};
 
-use crate::known::reception_view::ReceptionView;
 use aprs_ax25::Callsign;
+use aprs_log::ReceptionRef;
 use std::marker::Model;
 
 /// The station that sent a frame, with the octets of its address. Most rows follow one of the same
@@ -30,14 +30,14 @@ impl<'a> Sender<'a> {
     /// Who sent the frame of a reception. `before` is who sent the frame of the row before it, if
     /// there is one: where the address octets are equal, no callsign is read.
     #[tactic(auto, unfolding(aprs_laws::specs::Key::key_of))]
-    pub(crate) fn after(before: Option<Sender<'a>>, x: &ReceptionView<'a>) -> Sender<'a>
+    pub(crate) fn after(before: Option<Sender<'a>>, x: &ReceptionRef<'a>) -> Sender<'a>
         ensures { result ≡ (key_of x.now.frame).source }
     {
         let octets = x.frame().source_octets();
         match before {
             Some(sender) if sender.octets == octets => sender,
             _ => Sender {
-                call: x.source(),
+                call: x.frame().source(),
                 octets,
             },
         }

@@ -6,9 +6,9 @@ ghost use Rattle.aprs_book.specs.StationRows.{IsStationBefore, station_in};
 use crate::Station;
 use crate::known::heard::heard_in;
 use crate::known::indexes::Indexes;
-use crate::known::reception_view::ReceptionView;
 use crate::lists::heard_room::HeardRoom;
 use aprs_ax25::Callsign;
+use aprs_log::ReceptionRef;
 use std::alloc::{Allocator, Global};
 use std::collections::BTreeMap;
 use std::collections::btree_map::Iter;
@@ -18,7 +18,7 @@ use std::marker::Model;
 #[derive(Drop)]
 pub struct StationWalk<'s, 't, A: Allocator = Global> {
     tallies: Iter<'s, Callsign, u64>,
-    indexes: &'s Indexes<ReceptionView<'t>, A>,
+    indexes: &'s Indexes<ReceptionRef<'t>, A>,
 }
 
 impl<'s, 't, A: Allocator> Model for StationWalk<'s, 't, A> {
@@ -35,7 +35,7 @@ impl<'s, 't, A: Allocator + Copy> StationWalk<'s, 't, A> {
     /// The stations of these tallies and indexes.
     pub(crate) fn of(
         tallies: &'s BTreeMap<Callsign, u64, A>,
-        indexes: &'s Indexes<ReceptionView<'t>, A>,
+        indexes: &'s Indexes<ReceptionRef<'t>, A>,
     ) -> StationWalk<'s, 't, A>
         ensures stations { result ≡ map (station_in indexes.now) tallies.now.entries }
         ensures ascending { Ordered IsStationBefore tallies.now.entries }

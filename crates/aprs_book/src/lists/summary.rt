@@ -8,13 +8,13 @@ ghost use Rattle.aprs_book.specs.Stations.{ReportsStations};
 
 use crate::Memory;
 use crate::known::indexes::Indexes;
-use crate::known::reception_view::ReceptionView;
 use crate::lists::exchange::Exchange;
 use crate::lists::message_walk::MessageWalk;
 use crate::lists::named_walk::NamedWalk;
 use crate::lists::station_walk::StationWalk;
 use crate::lists::summary_builder::{SummaryBuilder, summarize};
 use aprs_ax25::Callsign;
+use aprs_log::ReceptionRef;
 use aprs_rows::{BookStore, WalkRoom};
 use std::alloc::{Allocator, Global};
 use std::collections::BTreeMap;
@@ -23,7 +23,7 @@ use std::marker::Model;
 /// What the rows of the book in a store say. Their frames stay where they lie.
 pub struct Summary<'t, A: Allocator = Global> {
     store: &'t BookStore<A>,
-    indexes: Indexes<ReceptionView<'t>, A>,
+    indexes: Indexes<ReceptionRef<'t>, A>,
     tallies: BTreeMap<Callsign, u64, A>,
     exchange: Exchange<'t, A>,
 }

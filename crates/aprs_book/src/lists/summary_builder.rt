@@ -7,20 +7,19 @@ ghost use Rattle.aprs_book.specs.SummaryBuilder.{IsBuilderOf};
 
 use crate::Memory;
 use crate::known::notes::Notes;
-use crate::known::reception_view::ReceptionView;
-use crate::known::subject::Subject;
+use crate::known::subject::{Subject, info_of};
 use crate::lists::exchange::Exchange;
 use crate::lists::sender::Sender;
 use crate::lists::tally::Counting;
 use aprs_ax25::Callsign;
-use aprs_log::Moment;
+use aprs_log::{Moment, ReceptionRef};
 use aprs_rows::BookRows;
 use std::alloc::{Allocator, Global};
 
 /// What some rows report, how many each station has, and the messages and answers among them.
 #[derive(Drop)]
 pub(crate) struct SummaryBuilder<'t, A: Allocator = Global> {
-    pub notes: Notes<'t, ReceptionView<'t>, A>,
+    pub notes: Notes<'t, ReceptionRef<'t>, A>,
     pub tallies: Counting<A>,
     pub exchange: Exchange<'t, A>,
 }
@@ -45,7 +44,7 @@ impl<'t, A: Allocator + Copy> SummaryBuilder<'t, A> {
         &mut self,
         sender: &Callsign,
         first: Moment,
-        heard: ReceptionView<'t>,
+        heard: ReceptionRef<'t>,
     ) -> Result<(), Memory>
         requires sender { sender.now ≡ (key_of heard.frame).source }
         requires room { tally_of sender.now self.old.tallies < 18446744073709551615 }
@@ -55,7 +54,7 @@ impl<'t, A: Allocator + Copy> SummaryBuilder<'t, A> {
     {
         self.tallies.add(sender)?;
         self.exchange.take(sender, first, &heard)?;
-        let subject = Subject::of(sender, heard.info());
+        let subject = Subject::of(sender, info_of(&heard));
         self.notes.take(subject, heard)
     }
 }
@@ -73,7 +72,7 @@ pub(crate) fn summarize<'t, A: Allocator + Copy>(
     let mut builder = SummaryBuilder::new(alloc);
     let mut before = None;
     for row in rows {
-        let heard = ReceptionView::of_row(&row);
+        let heard = row.greatest();
         let sender = Sender::after(before, &heard);
         builder.take(sender.call(), row.first(), heard)?;
         before = Some(sender);

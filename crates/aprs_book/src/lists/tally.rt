@@ -4,10 +4,10 @@ ghost use Rattle.std.specs.Option.{option_copied};
 ghost use Rattle.aprs_book.specs.StationRows as Spec;
 
 use crate::Memory;
-use crate::known::reception_view::ReceptionView;
 use crate::lists::sender::Sender;
 use crate::rows::walk::Walk;
 use aprs_ax25::Callsign;
+use aprs_log::ReceptionRef;
 use std::alloc::{Allocator, Global};
 use std::collections::BTreeMap;
 use std::marker::Model;
@@ -117,7 +117,7 @@ pub(crate) fn tallies<A: Allocator + Copy>(
     let mut tallies = Counting::new(alloc);
     let mut before = None;
     for row in rows {
-        let sender = Sender::after(before, &ReceptionView::of(row.greatest()));
+        let sender = Sender::after(before, &ReceptionRef::of(row.greatest()));
         tallies.add(sender.call())?;
         before = Some(sender);
     }

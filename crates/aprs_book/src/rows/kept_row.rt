@@ -97,7 +97,7 @@ impl<A: Allocator + Copy> KeptRow<A> {
         ensures { IfOk result (λ kept. kept ≡ row.now) }
     {
         let receivers = Receivers::of_row(alloc, row)?;
-        KeptRow::new(alloc, row.first(), receivers, row.greatest())
+        KeptRow::new(alloc, row.first(), receivers, row.greatest().to_reception())
     }
 
     /// Where this row lies, seen from a reception: by key first; of one key it is `Less` where it

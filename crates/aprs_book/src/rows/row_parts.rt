@@ -1,9 +1,8 @@
 //! A row as it is handed over.
 ghost use Rattle.std.specs.Prelude.{◌≡◌};
 
-use crate::known::reception_view::ReceptionView;
-use aprs_ax25::Frame;
-use aprs_log::{Moment, Receiver, Reception};
+use aprs_ax25::{Frame, FrameRef};
+use aprs_log::{Moment, Receiver, Reception, ReceptionRef};
 use std::alloc::{Allocator, Global};
 use std::marker::Model;
 
@@ -39,10 +38,11 @@ impl<A: Allocator> RowParts<A> {
         Reception::new(self.last, self.receiver.copy(), self.frame.copy())
     }
 
-    /// A view of the greatest reception, which stays where it lies.
-    pub(crate) fn heard(&self) -> ReceptionView<'_>
+    /// The greatest reception, which stays where it lies.
+    pub(crate) fn heard(&self) -> ReceptionRef<'_>
         ensures { result ≡ self.now.greatest }
     {
-        ReceptionView::new(self.last, &self.receiver, &self.frame)
+        let frame = FrameRef::of(&self.frame);
+        ReceptionRef::new(self.last, self.receiver.as_bytes(), frame)
     }
 }

@@ -3,11 +3,10 @@ ghost use Rattle.std.specs.Prelude.{◌≡◌, ◌<◌, ◌++◌, ◌∷◌, [],
 ghost use Rattle.std.specs.List.{join_with_byte};
 ghost use Rattle.aprs_ax25.specs.FrameRef.{frame_bytes};
 ghost use Rattle.aprs_log.specs.Receiver.{IsName};
-ghost use Rattle.aprs_log.specs.Reception.{heard_cmp};
 ghost use Rattle.aprs_laws.specs.Key.{key_cmp};
 ghost use Rattle.aprs_laws.specs.Row.{last_moment, row_cmp, row_key};
 ghost use Rattle.aprs_laws.specs.Sound.{IsSoundRow};
-ghost use Rattle.aprs_rows.specs.Names.{names_in, row_of_text};
+ghost use Rattle.aprs_rows.specs.Names.{names_in};
 ghost use Rattle.aprs_rows.specs.Packed.{IsMarked, IsShort, Notes, mark_row};
 
 use crate::Memory;
@@ -15,64 +14,56 @@ use crate::growth::reserve_one;
 use crate::row::key_prefix::{KeyPrefix, key_order};
 use crate::row::names::cut_name;
 use crate::store::mark::Mark;
-use aprs_ax25::{Frame, FrameRef};
-use aprs_log::{Moment, Receiver, Reception};
+use aprs_ax25::FrameRef;
+use aprs_log::{Moment, Receiver, ReceptionRef};
 use std::alloc::Allocator;
 use std::cmp::Ordering;
 use std::marker::Model;
 
-/// One transmission: its moments, the names of its receivers with commas between, and the receiver
-/// and the frame of its greatest reception.
+/// One transmission: its first moment, the names of its receivers with commas between, and its
+/// greatest reception.
 #[derive(Drop)]
 pub struct RowView<'a> {
     first: Moment,
-    last: Moment,
     names: &'a [u8],
-    receiver: &'a [u8],
-    frame: FrameRef<'a>,
-    /// The prefix of the frame's key.
+    greatest: ReceptionRef<'a>,
+    /// The prefix of the key.
     head: KeyPrefix,
 }
 
 impl<'a> Model for RowView<'a> {
     ghost use Rattle.std.specs.Prelude.{All};
-    ghost use Rattle.aprs_ax25.specs.FrameRef.{frame_bytes};
     ghost use Rattle.aprs_log.specs.Receiver.{IsName};
     ghost use Rattle.aprs_laws.specs.Row.{Row as RowValue};
     ghost use Rattle.aprs_rows.specs.KeyPrefix.{HasKeyPrefix};
-    ghost use Rattle.aprs_rows.specs.Names.{names_in, row_of_text};
+    ghost use Rattle.aprs_rows.specs.Names.{names_in};
 
     ghost Value = { RowValue };
 
     ghost view = { λ r.
-        row_of_text r.first r.last r.names.now r.receiver.now (frame_bytes r.frame) };
+        record { first = r.first; receivers = names_in r.names.now; greatest = r.greatest } };
 
-    ghost invariant = { λ r. All IsName (names_in r.names.now) × IsName r.receiver.now
-        × HasKeyPrefix r.head (frame_bytes r.frame) };
+    ghost invariant = { λ r.
+        All IsName (names_in r.names.now) × HasKeyPrefix r.head r.greatest.frame };
 }
 
 impl<'a> RowView<'a> {
-    /// The row of a first and a last moment, of the receivers whose names stand in `receivers` with
-    /// commas between, and of the greatest reception's `receiver` and `frame`. Takes no memory.
-    pub fn new(
-        first: Moment,
-        last: Moment,
-        receivers: &'a [u8],
-        receiver: &'a [u8],
-        frame: &'a Frame,
-    ) -> RowView<'a>
-        requires names { All IsName (names_in receivers.now) }
-        requires name { IsName receiver.now }
-        ensures { result ≡ row_of_text first last receivers.now receiver.now frame.now }
+    /// The row of a first moment, of the receivers whose names stand in `receivers` with commas
+    /// between, and of this greatest reception. Takes no memory.
+    pub fn new(first: Moment, receivers: &'a [u8], greatest: ReceptionRef<'a>) -> RowView<'a>
+        requires { All IsName (names_in receivers.now) }
+        ensures { result ≡ record {
+          first = first;
+          receivers = names_in receivers.now;
+          greatest = greatest.entry;
+        } }
     {
-        let frame = FrameRef::of(frame);
+        let head = KeyPrefix::of(&greatest.frame());
         RowView {
             first,
-            last,
             names: receivers,
-            receiver,
-            frame,
-            head: KeyPrefix::of(&frame),
+            greatest,
+            head,
         }
     }
 
@@ -85,14 +76,8 @@ impl<'a> RowView<'a> {
         let (receivers, rest) = bytes.split_at(mark.receivers as usize);
         let (receiver, bytes) = rest.split_at(mark.receiver as usize);
         let frame = FrameRef::with_info_at(bytes, mark.info_at as usize);
-        RowView {
-            first: mark.first,
-            last: mark.last,
-            names: receivers,
-            receiver,
-            frame,
-            head: KeyPrefix::of(&frame),
-        }
+        let greatest = ReceptionRef::new(mark.last, receiver, frame);
+        RowView::new(mark.first, receivers, greatest)
     }
 
     /// The mark of the row. Requires that the row is sound by itself, and that its receivers' names
@@ -102,13 +87,14 @@ impl<'a> RowView<'a> {
         requires short { IsShort self.now }
         ensures { Notes result self.now }
     {
+        let frame = self.greatest.frame();
         Mark {
             first: self.first,
-            last: self.last,
+            last: self.greatest.moment(),
             receivers: self.names.len() as u32,
-            frame: self.frame.bytes().len() as u16,
-            receiver: self.receiver.len() as u8,
-            info_at: self.frame.info_at() as u8,
+            frame: frame.bytes().len() as u16,
+            receiver: self.greatest.receiver().len() as u8,
+            info_at: frame.info_at() as u8,
         }
     }
 
@@ -124,11 +110,8 @@ impl<'a> RowView<'a> {
     {
         RowView {
             first,
-            last: self.last,
             names: receivers,
-            receiver: self.receiver,
-            frame: self.frame,
-            head: self.head,
+            ..self
         }
     }
 
@@ -138,10 +121,8 @@ impl<'a> RowView<'a> {
     {
         RowView {
             first: self.first,
-            last: self.last,
             names: self.names,
-            receiver: self.receiver,
-            frame: self.frame,
+            greatest: self.greatest.copy(),
             head: self.head,
         }
     }
@@ -157,7 +138,7 @@ impl<'a> RowView<'a> {
     pub fn last(&self) -> Moment
         ensures { result ≡ last_moment self.now }
     {
-        self.last
+        self.greatest.moment()
     }
 
     /// The names of those who heard it, with commas between. Takes no memory.
@@ -174,14 +155,14 @@ impl<'a> RowView<'a> {
         ensures value { result.now ≡ self.now.greatest.receiver }
         ensures name { IsName self.now.greatest.receiver }
     {
-        self.receiver
+        self.greatest.receiver()
     }
 
     /// The frame of the greatest reception. Takes no memory.
     pub fn frame(&self) -> FrameRef<'a>
         ensures { frame_bytes result ≡ self.now.greatest.frame }
     {
-        self.frame
+        self.greatest.frame()
     }
 
     /// The names of those who heard it, as a list in memory from `alloc`, or `Memory` where that is
@@ -199,19 +180,11 @@ impl<'a> RowView<'a> {
         Ok(names)
     }
 
-    /// The greatest reception, in a place of its own. Takes no memory.
-    pub fn greatest(&self) -> Reception
+    /// The greatest reception, which lies at the same place. Takes no memory.
+    pub fn greatest(&self) -> ReceptionRef<'a>
         ensures { result ≡ self.now.greatest }
     {
-        Reception::new(self.last, self.read_receiver(), self.frame.to_frame())
-    }
-
-    /// The receiver of the greatest reception, in a place of its own. Can't fail, since a row's
-    /// bytes hold a name there. Takes no memory.
-    pub fn read_receiver(&self) -> Receiver
-        ensures { result ≡ self.now.greatest.receiver }
-    {
-        Receiver::with_name(self.receiver())
+        self.greatest.copy()
     }
 
     /// The order of rows, by key, then first moment. Takes no memory.
@@ -228,20 +201,7 @@ impl<'a> RowView<'a> {
     pub(crate) fn key_order(&self, other: &RowView<'_>) -> Ordering
         ensures { result ≡ key_cmp (row_key self.now) (row_key other.now) }
     {
-        key_order(self.head, &self.frame, other.head, &other.frame)
-    }
-
-    /// The order of the greatest receptions, by moment, receiver and frame.
-    pub(crate) fn heard_order(&self, other: &RowView<'_>) -> Ordering
-        ensures { result ≡ heard_cmp self.now.greatest other.now.greatest }
-    {
-        match self.last.cmp(&other.last) {
-            Ordering::Equal => match self.receiver.cmp(other.receiver) {
-                Ordering::Equal => self.frame.bytes().cmp(other.frame.bytes()),
-                unequal => unequal,
-            },
-            unequal => unequal,
-        }
+        key_order(self.head, &self.frame(), other.head, &other.frame())
     }
 }
 

@@ -126,7 +126,7 @@ pub(crate) fn grown<'a>(
     } else {
         first
     };
-    if greatest.heard_order(&row).is_lt() {
+    if greatest.greatest().order(&row.greatest()).is_lt() {
         (start, row)
     } else {
         (start, greatest)

@@ -102,7 +102,7 @@ impl<A: Allocator + Copy> BookStore<A> {
         }) }
         ensures unchanged { OnErr result (self.new ≡ self.old) }
     {
-        let _sound = rows.rows();
+        rows.sound();
         reserve(&mut self.sorted, 1)?;
         self.sorted.push_reserved(rows);
         Ok(())

@@ -94,7 +94,7 @@ impl<A: Allocator + Copy> OpenRow<A> {
         ensures { IfOk result (λ joined.
             JoinsOrNot joined (millis_of gap) self.old next.now self.new) }
     {
-        let _sound = self.row.rows();
+        self.row.sound();
         let Some(own) = self.row.last() else {
             return Ok(false);
         };

@@ -13,7 +13,7 @@ use crate::Memory;
 use crate::growth::{put, reserve};
 use crate::row::row_view::RowView;
 use crate::store::mark::Mark;
-use aprs_log::Reception;
+use aprs_log::{Reception, ReceptionRef};
 use std::alloc::{Allocator, Global};
 use std::marker::Model;
 
@@ -96,7 +96,7 @@ impl<A: Allocator + Copy> PackedRows<A> {
         ensures sound { AreSoundRows self.now }
         ensures short { AreShort self.now }
     {
-        let _rows = self.rows();
+        self.rows();
     }
 
     /// Puts a reception after the rows, as a row of its own. After `Memory` the rows are as before.
@@ -104,8 +104,8 @@ impl<A: Allocator + Copy> PackedRows<A> {
         ensures pushed { OnOk result (self.new ≡ self.old ++ single x.now ∷ []) }
         ensures unchanged { OnErr result (self.new ≡ self.old) }
     {
-        let name = x.receiver().as_bytes();
-        self.push(&RowView::new(x.moment(), x.moment(), name, name, x.frame()))
+        let heard = ReceptionRef::of(x);
+        self.push(&RowView::new(heard.moment(), heard.receiver(), heard))
     }
 
     /// Puts a row after the others. Requires that it is sound by itself, and that its receivers'

@@ -37,7 +37,7 @@ returns-in_err-read_frame-clause-err c =
 
 pub returns-clause-ok : goal.returns-clause-ok
 returns-clause-ok c =
-    rw c.new.ensures
+    rw (c.new.ensures, c.new-greatest.ensures, c.of.ensures)
     (row_found c.args.form c.args.line.now _ c.in-Some.ensures.some _ _
     c.in-Some-cut_moment.ensures.some _ _ c.in-Some-cut_last.ensures.some _ _
     c.in-Some-cut_names.ensures.some _ _ c.in-Some-cut_name.ensures.some c.read_frame.new.frame

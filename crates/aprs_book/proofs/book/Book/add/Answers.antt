@@ -39,12 +39,12 @@ invariant_of-self-2 g c =
             ((none_exactly gap c.self.inside.rows c.args.parts.now c.self.invariant.0.sound).0
             none);
       },
-      pushes_indexes c.subject-subject.result c.args.parts.now c.self.inside.rows c.append.new.self
+      pushes_indexes c.of_heard-subject.result c.args.parts.now c.self.inside.rows c.append.new.self
           c.self.inside.indexes c.reserve.new.self c.note.new.self c.self.invariant.1
-          (λ topic. c.subject-subject.ensures topic
+          (λ topic. c.of_heard-subject.ensures topic
           ∙ ap (λ (x : Received). topic_bytes topic (key_of x.frame)) c.heard-heard.ensures)
           c.in_ok-reserve.ensures.same
-          (subst (λ (x : Received). Noted c.subject-subject.result x c.reserve.new.self c.note.new.self)
+          (subst (λ (x : Received). Noted c.of_heard-subject.result x c.reserve.new.self c.note.new.self)
           c.heard-heard.ensures c.note.ensures)
           added,
     )

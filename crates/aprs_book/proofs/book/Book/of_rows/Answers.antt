@@ -38,12 +38,12 @@ pub loop-row-preserved : goal.loop-row-preserved
 loop-row-preserved g c =
     let kept = c.loop-row.kept in
     let row = c.in-Some.row in
-    let heard = c.of_row-heard.ensures in
+    let heard = c.greatest-heard.ensures in
     let added : c.append.new.self ≡ kept ++ row ∷ [] =
     c.in_ok-append.ensures.added ∙ ap (λ (x : Row). kept ++ x ∷ []) c.in_ok-of_view.ensures in
     let source = c.call.ensures ∙ c.after-sender.ensures
     ∙ ap (λ (x : Received). (key_of x.frame).source) heard in
-    let info = c.info.ensures ∙ ap (λ (x : Received). (key_of x.frame).info) heard in
+    let info = c.info_of.ensures ∙ ap (λ (x : Received). (key_of x.frame).info) heard in
     record {
       rows = ap (λ xs. xs ++ c.next.new.self.rows) added
           ∙ whole (millis_of c.args.rows.gap) kept c.loop-row.row-iterator.rows c.next.new.self.rows

@@ -24,7 +24,7 @@ pub loop-row-preserved : goal.loop-row-preserved
 loop-row-preserved g c =
     walk_goes _ _ _ _ _ c.in-Some.row c.in-Some.ensures.steps
     (λ done more adds held. last_added (λ rows. IsBuilderOf rows c.take.new.self) adds
-    (c.in_ok-take.ensures done c.in-Some.row held c.first.ensures c.of_row-heard.ensures))
+    (c.in_ok-take.ensures done c.in-Some.row held c.first.ensures c.greatest-heard.ensures))
     c.loop-row.invariant
 
 pub returns : goal.returns

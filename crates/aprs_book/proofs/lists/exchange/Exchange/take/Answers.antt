@@ -9,7 +9,7 @@ use Rattle.aprs_book.proofs.lists.exchange.Exchange.take.Goals as goal
 
 pub returns-then-not-is_addressed : goal.returns-then-not-is_addressed
 returns-then-not-is_addressed g c = λ rows r held first is.
-    let not = sym (ap begins_with_colon (c.info.ensures
+    let not = sym (ap begins_with_colon (c.info_of.ensures
     ∙ ap (λ (x : Received). (key_of x.frame).info) is))
     ∙ sym c.is_addressed.ensures ∙ c.if-not-is_addressed.true in
     record {

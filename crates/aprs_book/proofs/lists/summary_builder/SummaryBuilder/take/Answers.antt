@@ -10,7 +10,7 @@ pub returns : goal.returns
 returns g c =
     on_ok c.take-2.result (λ noted rows r held first is.
     let source = c.requires.sender ∙ ap (λ (x : Received). (key_of x.frame).source) is in
-    let info = c.info.ensures ∙ ap (λ (x : Received). (key_of x.frame).info) is in
+    let info = c.info_of.ensures ∙ ap (λ (x : Received). (key_of x.frame).info) is in
     record {
       notes =
           noted rows r held.notes

@@ -1,5 +1,6 @@
 use Rattle.aprs_rows.proofs.Common.{◌∙◌, refl, sym, ap, length, arith, join_with_byte, join_with_byte-slice_split, FrameOf-IsSound, Row}
 use Rattle.aprs_ax25.specs.FrameRef.{frame_bytes}
+use Rattle.aprs_rows.specs.Names.{row_of_text}
 use Rattle.aprs_ax25.proofs.Sounds.{IsSound-len}
 use Rattle.aprs_rows.proofs.Packed.{notes}
 use Rattle.aprs_rows.proofs.row.row_view.RowView.mark.Goals as goal
@@ -22,16 +23,18 @@ returns c =
     ∙ ap (λ (x : Row). join_with_byte 44 x.receivers) c.self.view_is) in
     notes (record {
       first = row.first;
-      last = row.last;
+      last = c.moment.result;
       receivers = length row.names.now;
       frame = length c.bytes.result.now;
-      receiver = length row.receiver.now;
+      receiver = length c.receiver.result.now;
       info_at = c.info_at.result;
-    }) c.args.self.now row.names.now row.receiver.now (frame_bytes row.frame) c.self.view_is
-    refl refl (ap length c.bytes.ensures.value) (omega (arith, c.requires.short, text))
-    c.info_at.ensures.value c.requires.sound
+    }) c.args.self.now row.names.now row.greatest.receiver (frame_bytes c.frame-frame.result)
+    ((λ i. row_of_text row.first (c.moment.ensures i) row.names.now row.greatest.receiver
+    (c.frame-frame.ensures i)) ∙ c.self.view_is)
+    refl (ap length c.receiver.ensures.value) (ap length c.bytes.ensures.value)
+    (omega (arith, c.requires.short, text)) c.info_at.ensures.value c.requires.sound
     (record {
       names_are = c.self.invariant.0;
-      name_is = c.self.invariant.1;
+      name_is = c.receiver.ensures.name;
       frame_is = c.bytes.ensures.frame;
     })

@@ -12,14 +12,14 @@ invariant_of-self g c =
 pub invariant_of-self-2 : goal.invariant_of-self-2
 invariant_of-self-2 g c =
     (more_rows c.self.inside.gap c.self.inside.sorted.items c.push_reserved.new.self.items
-    c.self.inside.chunk c.args.rows c.self.invariant c.requires c.rows-sound.ensures.sound
+    c.self.inside.chunk c.args.rows c.self.invariant c.requires c.sound.ensures.sound
     (c.push_reserved.ensures.items
     ∙ ap (λ (ls : List (List Row)). ls ++ c.args.rows ∷ []) c.in_ok-reserve.ensures.items)).stored
 
 pub returns-clause-added : goal.returns-clause-added
 returns-clause-added g c =
     (more_rows c.self.inside.gap c.self.inside.sorted.items c.push_reserved.new.self.items
-    c.self.inside.chunk c.args.rows c.self.invariant c.requires c.rows-sound.ensures.sound
+    c.self.inside.chunk c.args.rows c.self.invariant c.requires c.sound.ensures.sound
     (c.push_reserved.ensures.items
     ∙ ap (λ (ls : List (List Row)). ls ++ c.args.rows ∷ []) c.in_ok-reserve.ensures.items)).book_is
     ∙ ap (λ (b : BookValue). record {

@@ -16,14 +16,14 @@ returns-then-not-are_near g c = (
 
 pub join_into-requires-clause-sound : goal.join_into-requires-clause-sound
 join_into-requires-clause-sound g c = (
-  c.rows-sound.ensures.sound c.in-Some.own (alone_in c.self.inside.row c.in-Some.own
+  c.sound.ensures.sound c.in-Some.own (alone_in c.self.inside.row c.in-Some.own
       (only_one c.self.inside.row c.in-Some.own c.self.invariant c.in-Some.ensures.some)),
   c.requires.sound,
 )
 
 pub join_into-requires-clause-short : goal.join_into-requires-clause-short
 join_into-requires-clause-short g c = (
-  c.rows-sound.ensures.short c.in-Some.own (alone_in c.self.inside.row c.in-Some.own
+  c.sound.ensures.short c.in-Some.own (alone_in c.self.inside.row c.in-Some.own
       (only_one c.self.inside.row c.in-Some.own c.self.invariant c.in-Some.ensures.some)),
   c.requires.short,
 )
