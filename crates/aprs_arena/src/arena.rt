@@ -11,14 +11,20 @@ const CLASSES: usize = 64;
 
 /// An allocator of a region of memory. Each block begins at a multiple of 16. A block that a
 /// collection gives back is used again: of those from one power of two of units up to the next, the
-/// arena keeps the last. What no block holds is taken from the front of what was never used. Where
-/// a block is longer than what there is, the allocation fails, and a shorter one may still succeed.
-/// Collections hold a `&` to the arena.
+/// arena keeps the largest. Where none of these is long enough, a block is taken from the front of
+/// what was never used. If that is too short, the allocation fails, and a shorter one may still
+/// succeed. Collections hold a `&` to the arena.
 #[derive(Drop)]
 pub struct Arena {
     left: Cell<Option<Region>>,
-    /// Blocks that came back, each at the logarithm of its units as it came.
-    freed: [Cell<Option<Region>>; CLASSES],
+    freed: [Cell<Option<Freed>>; CLASSES],
+}
+
+/// A block that came back, and how many units it has.
+#[derive(Drop)]
+struct Freed {
+    units: usize,
+    block: Region,
 }
 
 impl Arena {
@@ -38,18 +44,59 @@ impl Arena {
             return None;
         }
         let units = units_of(size);
-        let freed = &self.freed[..];
-        for cell in &freed[class_of(units)..] {
-            if let Some(block) = taken(cell, units) {
-                return Some(block);
-            }
+        match self.take_freed(units) {
+            Some(block) => Some(block),
+            None => self.take_left(units),
         }
-        taken(&self.left, units)
     }
 
-    /// Keeps a block that came back, of so many units, in the place of the last of its class.
+    /// Takes so many units from the front of a block that came back, the first that is found from
+    /// the class of as many units on.
+    fn take_freed(&self, units: usize) -> Option<Region>
+        requires { units < 2 ^ 60 }
+        ensures { IfSome result (λ block. block.units ≡ units) }
+    {
+        let freed = &self.freed[..];
+        for cell in &freed[class_of(units)..] {
+            let Some(Freed { units: all, block }) = cell.replace(None) else {
+                continue;
+            };
+            match block.cut(units) {
+                Ok((block, rest)) => {
+                    self.keep(rest, all.saturating_sub(units));
+                    return Some(block);
+                }
+                Err(block) => cell.set(Some(Freed { units: all, block })),
+            }
+        }
+        None
+    }
+
+    /// Takes so many units from the front of what was never used.
+    fn take_left(&self, units: usize) -> Option<Region>
+        requires { units < 2 ^ 60 }
+        ensures { IfSome result (λ block. block.units ≡ units) }
+    {
+        match self.left.replace(None)?.cut(units) {
+            Ok((block, rest)) => {
+                self.left.set(Some(rest));
+                Some(block)
+            }
+            Err(all) => {
+                self.left.set(Some(all));
+                None
+            }
+        }
+    }
+
+    /// Keeps a block of so many units, or another of its class that has more.
     fn keep(&self, block: Region, units: usize) {
-        self.freed[class_of(units)].set(Some(block));
+        let cell = &self.freed[class_of(units)];
+        let kept = match cell.replace(None) {
+            Some(other) if other.units >= units => other,
+            _ => Freed { units, block },
+        };
+        cell.set(Some(kept));
     }
 }
 
@@ -65,23 +112,6 @@ fn class_of(units: usize) -> usize
     ensures { result < 64 }
 {
     units.max(1).ilog2() as usize
-}
-
-/// Takes so many units from the front of what is there, if it has them.
-fn taken(cell: &Cell<Option<Region>>, units: usize) -> Option<Region>
-    requires { units < 2 ^ 60 }
-    ensures { IfSome result (λ block. block.units ≡ units) }
-{
-    match cell.replace(None)?.cut(units) {
-        Ok((block, rest)) => {
-            cell.set(Some(rest));
-            Some(block)
-        }
-        Err(all) => {
-            cell.set(Some(all));
-            None
-        }
-    }
 }
 
 unsafe impl Allocator for Arena {
