@@ -6,22 +6,22 @@ use Rattle.std.proofs.Common.{◌≡◌, ℕ, zero, suc, ◌+◌, ◌-◌, ◌*�
 use seplogic.Ra.Ura.{Ura}
 use mir.Syntax.{Ty, w64, w128, ty_int, ty_array}
 use mir.Val.{Val, vint, vstruct, vcons, vnil, of_list, bytes}
-use base.Logic.{ent, sep, wand}
-use base.Fml.{Fml}
+use base.Logic.{SProp, ent, sep, wand, apply∗}
+use base.Fml.{Fml, fwand, froom}
 use prog.Align.{Dv, dv→, dv_mul, dv_self, align_w, align-bytes, align_size, bytes_pos}
 use prog.Memory.{size}
 use types.Logic.{Logic, sem}
 use types.Match.{live}
-use types.Kit.{Item, Goal, Seq, ‵, raw, ◌⊛◌, ◌$◌, ◌∵◌, !, qed, move, keep, drop, use1, split, fsplit, fjoin, fpick, feq_l, frame, rewrite, done}
+use types.Kit.{Item, Goal, Seq, ‵, raw, ◌⊛◌, ◌$◌, ◌∵◌, !, qed, by, assume, move, drop, use1, use2, split, fsplit, fjoin, fpick, fpack, feq_l, frame, rewrite, done}
 use denote.Builtin.{usize}
 use denote.Plain.{uint_vals, uint_Tells}
-use denote.RawPtr.{Ptr, RawPtr, block_ptr, ptr_val, rawptr_vals, rawptr_Tells}
-use denote.RawPtr.Room.{room_cut, past}
+use denote.RawPtr.{Ptr, RawPtr, block_ptr, ptr_val, room_for, rawptr_vals, rawptr_Tells}
+use denote.RawPtr.Room.{room_cut, room_glue, past}
 use denote.RattleType.{RattleType}
 use denote.Shadow.{pure_i, pure_l}
 use denote.Steps.{only}
 use denote.Struct.Struct.{Shape, Struct, Struct-Tells}
-use Rattle.aprs_arena.specs.Room.{units_of, units_at}
+use Rattle.aprs_arena.specs.Room.{units_of, units_at, units_for, to_give_back}
 use Rattle.aprs_arena.specs.contracts.region.Region as region
 
 abbrev pub region_val : Ptr → ℕ → Val
@@ -58,21 +58,37 @@ whole a n d = omega (arith, dv→ a n d, mod-add-div' n a)
 module _ {M : Type 1} {𝓤 : Ura M} (𝓛 : Logic 𝓤) where
   open 𝓛 use {H}
 
-  -- units are room for a type that they hold: as an array of integers of the type's alignment, cut at its size
-  pub serves : (τ : Ty) (b o k : ℕ) → size τ ≤ k * 16 → ent 𝓤 (sem 𝓛 (units_at k (block_ptr b o))) (H.room τ b o)
+  -- units are room for a type that they hold, and it is theirs again: as an array of integers of the type's alignment, cut at its size
+  pub serves : (τ : Ty) (b o k : ℕ) → size τ ≤ k * 16 → ent 𝓤 (sem 𝓛 (units_at k (block_ptr b o))) (sep 𝓤 (H.room τ b o) (wand 𝓤 (H.room τ b o) (H.room (units_of k) b o)))
   serves τ b o k enough =
       let w = align_w τ in let a = bytes w in let cell : Ty = ty_int w in
       let i = size τ / a in let m = k * 16 / a in
       let all : m * a ≡ k * 16 = whole a (k * 16) (dv_mul a 16 k (aligned cell)) in
       let part : i * a ≡ size τ = whole a (size τ) (subst (λ (d : ℕ). Dv d (size τ)) (align-bytes τ) (align_size τ)) in
       let less : i ≤ m = (le-div_iff_mul-le {k = a} {x = i} {y = k * 16} (bytes_pos w)).1 (omega (arith, part)) in
-      let sum : m ≡ i + (m - i) = omega arith in
+      let sum : i + (m - i) ≡ m = omega arith in
+      let Cells : ℕ → SProp 𝓤 = λ n. H.room (ty_array cell n) b o in
+      let Rest : SProp 𝓤 = H.room (ty_array cell (m - i)) b (past cell i o) in
+      let Room : SProp 𝓤 = H.room τ b o in let Units : SProp 𝓤 = H.room (units_of k) b o in
       qed 𝓛 (‵ (units_at k (block_ptr b o)) ∷ []) ∵
-      use1 𝓛 (raw (H.room (ty_array cell m) b o) ⊛ raw (wand 𝓤 (H.room (ty_array cell m) b o) (H.room (units_of k) b o))) (𝓛.laws.room_as (units_of k) (ty_array cell m) b o all (aligned cell)) $ split ! $
-      rewrite ! 0 (λ (n : ℕ). raw (H.room (ty_array cell n) b o)) sum refl $
-      use1 𝓛 (raw (H.room (ty_array cell i) b o) ⊛ raw (H.room (ty_array cell (m - i)) b (past cell i o))) (room_cut 𝓛 cell i (m - i) b o) $ split ! $
-      use1 𝓛 (raw (H.room τ b o) ⊛ raw (wand 𝓤 (H.room τ b o) (H.room (ty_array cell i) b o))) (𝓛.laws.room_as (ty_array cell i) τ b o (sym part) (subst (λ (d : ℕ). Dv d a) (sym (align-bytes τ)) (dv_self a))) $ split ! $
-      keep ! (0 ∷ []) $ done !
+      use1 𝓛 (raw (Cells m) ⊛ raw (wand 𝓤 (Cells m) Units)) (𝓛.laws.room_as (units_of k) (ty_array cell m) b o all (aligned cell)) $ split ! $
+      rewrite ! 0 (λ (n : ℕ). raw (Cells n)) (sym sum) refl $
+      use1 𝓛 (raw (Cells i) ⊛ raw Rest) (room_cut 𝓛 cell i (m - i) b o) $ split ! $
+      use1 𝓛 (raw Room ⊛ raw (wand 𝓤 Room (Cells i))) (𝓛.laws.room_as (ty_array cell i) τ b o (sym part) (subst (λ (d : ℕ). Dv d a) (sym (align-bytes τ)) (dv_self a))) $ split ! $
+      frame ! $ assume ! (raw Room) $
+      use2 𝓛 (raw (Cells i)) (apply∗ 𝓤 Room (Cells i)) $
+      use2 𝓛 (raw (Cells (i + (m - i)))) (room_glue 𝓛 cell i (m - i) b o) $
+      rewrite ! 0 (λ (n : ℕ). raw (Cells n)) sum refl $
+      by ! (apply∗ 𝓤 (Cells m) Units)
+
+  -- a block of as many units as a type asks for, as its room and the right to give it back
+  pub hands_out : (τ : Ty) (b o k : ℕ) → k ≡ units_for (size τ) → size τ < 2 ^ 63
+      → ent 𝓤 (sem 𝓛 (units_at k (block_ptr b o))) (sep 𝓤 (H.room τ b o) (sem 𝓛 (to_give_back τ (block_ptr b o))))
+  hands_out τ b o k exact small =
+      let p : Ptr = block_ptr b o in
+      qed 𝓛 (‵ (units_at k p) ∷ []) ∵ rewrite ! 0 (λ (n : ℕ). ‵ (units_at n p)) exact refl $
+      use1 𝓛 (‵ (froom τ b o) ⊛ ‵ (fwand (froom τ b o) (units_at (units_for (size τ)) p))) (serves τ b o (units_for (size τ)) (omega arith)) $ split ! $
+      frame ! $ fpack ! (size τ < 2 ^ 63) (λ _. fwand (room_for τ p) (units_at (units_for (size τ)) p)) small $ done !
 
   pub closed : (p : Ptr) (n : ℕ) → n < 2 ^ 64 → ent 𝓤 (sem 𝓛 (units_at n p)) (sem 𝓛 (region.the_row.own_val (record { start = p; units = n }) (region_val p n ∷ [])))
   closed p n small =

@@ -1,5 +1,5 @@
 //! The runs, with what they write in memory.
-ghost use Rattle.std.specs.Prelude.{◌≡◌};
+ghost use Rattle.std.specs.Prelude.{◌≡◌, []};
 ghost use Rattle.aprs_convert.specs.Check.{Checks};
 ghost use Rattle.aprs_convert.specs.Conversion.{Converts};
 ghost use Rattle.aprs_web.specs.Runs.{Merges, Shows, TellsHistory, TellsTable, Widens, WritesOver, input_texts};
@@ -21,7 +21,7 @@ pub(crate) fn check<A: Allocator + Copy>(
     ensures { WritesOver Checks input.now result.0 result.1.items }
 {
     let mut r = Counted::new(input);
-    let mut w = Counted::new(Vec::new(alloc));
+    let mut w = Counted::new(text_for(alloc, input));
     let outcome = check_run(alloc, MAX_INPUT, &mut r, &mut w);
     (outcome, w.into_inner())
 }
@@ -35,7 +35,7 @@ pub(crate) fn convert<A: Allocator + Copy>(
     ensures { WritesOver (Converts form) input.now result.0 result.1.items }
 {
     let mut r = Counted::new(input);
-    let mut w = Counted::new(Vec::new(alloc));
+    let mut w = Counted::new(text_for(alloc, input));
     let outcome = convert_run(alloc, MAX_INPUT, form, &mut r, &mut w);
     (outcome, w.into_inner())
 }
@@ -49,7 +49,7 @@ pub(crate) fn merge<A: Allocator + Copy>(
 ) -> (Result<(), RunFault>, Vec<u8, A>)
     ensures { Merges gap (input_texts lengths.now inputs.now) result.0 result.1.items }
 {
-    let mut w = Counted::new(Vec::new(alloc));
+    let mut w = Counted::new(text_for(alloc, inputs));
     let Ok(mut readers) = readers(alloc, inputs, lengths) else {
         return (Err(RunFault::Memory), w.into_inner());
     };
@@ -83,7 +83,7 @@ pub(crate) fn history<A: Allocator + Copy>(
 ) -> (Result<(), RunFault>, Vec<u8, A>)
     ensures { TellsHistory gap (input_texts lengths.now inputs.now) result.0 result.1.items }
 {
-    let mut w = Counted::new(Vec::new(alloc));
+    let mut w = Counted::new(text_for(alloc, inputs));
     let Ok(mut readers) = readers(alloc, inputs, lengths) else {
         return (Err(RunFault::Memory), w.into_inner());
     };
@@ -101,7 +101,7 @@ pub(crate) fn tabulate<A: Allocator + Copy>(
 ) -> (Result<(), RunFault>, Vec<u8, A>)
     ensures { TellsTable table gap (input_texts lengths.now inputs.now) result.0 result.1.items }
 {
-    let mut w = Counted::new(Vec::new(alloc));
+    let mut w = Counted::new(text_for(alloc, inputs));
     let Ok(mut readers) = readers(alloc, inputs, lengths) else {
         return (Err(RunFault::Memory), w.into_inner());
     };
@@ -118,7 +118,18 @@ pub(crate) fn widen<A: Allocator + Copy>(
     ensures { Widens gap input.now result.0 result.1.items }
 {
     let mut r = Counted::new(input);
-    let mut w = Counted::new(Vec::new(alloc));
+    let mut w = Counted::new(text_for(alloc, input));
     let outcome = widen_run(alloc, MAX_INPUT, gap, &mut r, &mut w);
     (outcome, w.into_inner())
+}
+
+/// A text that is to come of these inputs. It has room for twice as many bytes as they have, where
+/// there is memory for that, so that it doesn't move when it grows.
+fn text_for<A: Allocator + Copy>(alloc: A, inputs: &[u8]) -> Vec<u8, A>
+    ensures { result.items ≡ [] }
+{
+    match Vec::with_capacity(alloc, inputs.len().saturating_mul(2)) {
+        Ok(text) => text,
+        Err(_) => Vec::new(alloc),
+    }
 }

@@ -8,5 +8,5 @@ returns g c =
     over (Converts c.args.form) _ _ c.new-r.result c.convert_run-outcome.new.r c.new-w.result
     c.convert_run-outcome.new.w c.args.input.now c.into_inner.result.items _
     (ap (λ s. Some s.now) c.new-r.ensures.device)
-    (ap (λ v. Some v.items) c.new-w.ensures.device ∙ ap (λ (xs : List ℕ). Some xs) c.new.ensures.items)
+    (ap (λ v. Some v.items) c.new-w.ensures.device ∙ ap (λ (xs : List ℕ). Some xs) c.text_for.ensures)
     (sym (ap (λ v. Some v.items) c.into_inner.ensures)) c.convert_run-outcome.ensures

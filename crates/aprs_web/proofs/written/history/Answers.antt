@@ -4,12 +4,12 @@ use Rattle.aprs_web.proofs.Gathers.{gathers}
 use Rattle.aprs_web.proofs.written.history.Goals as goal
 
 pub returns-in_default : goal.returns-in_default
-returns-in_default g c = ap (λ v. v.items) (c.into_inner.ensures ∙ c.new-w.ensures.device) ∙ c.new.ensures.items
+returns-in_default g c = ap (λ v. v.items) (c.into_inner.ensures ∙ c.new-w.ensures.device) ∙ c.text_for.ensures
 
 pub returns : goal.returns
 returns g c =
     gathers (λ v. Some v.items) c.new-w.result c.history_run-outcome.new.w c.into_inner-2.result.items
-    (ap (λ v. Some v.items) c.new-w.ensures.device ∙ ap (λ (xs : List ℕ). Some xs) c.new.ensures.items)
+    (ap (λ v. Some v.items) c.new-w.ensures.device ∙ ap (λ (xs : List ℕ). Some xs) c.text_for.ensures)
     (sym (ap (λ v. Some v.items) c.into_inner-2.ensures)) _ c.args.gap (IsHistoryOf c.args.gap)
     _ _ _ c.history_run-outcome.result
     (ap (map (λ r. Some r.device.now)) c.as_mut_slice.ensures.value ∙ c.in-Ok.ensures)

@@ -1,5 +1,5 @@
 -- `allocate` hands out the units that were taken, as room for the type. Assumes `Logic`.
-use Rattle.std.proofs.Common.{◌≡◌, ℕ, ◌*◌, ◌^◌, ◌<◌, ◌≤◌, true, false, [], ◌∷◌, Ok, Err, Some, IfSome, refl, ap, subst, ◌∙◌, arith, lit<, w64}
+use Rattle.std.proofs.Common.{◌≡◌, ℕ, ◌^◌, ◌<◌, true, false, [], ◌∷◌, Ok, Err, Some, IfSome, refl, sym, ap, subst, ◌∙◌, arith, lit<, w64}
 use Rattle.std.proofs.raw_atomic.Walks.{proved, leaves}
 use Rattle.std.proofs.alloc.Calls.{Answer, answer_val, Answer-Ok, Answer-err}
 use Rattle.std.proofs.alloc.Shapes.{arm_body}
@@ -30,8 +30,8 @@ use denote.Triple.Entry.{alive}
 use denote.Triple.Spec.{triple_of}
 use denote.Triple.Table.{framed}
 use denote.Triple.Walked.{Stays, stay_dropped, walk_of, Goes-dropped}
-use Rattle.aprs_arena.proofs.Parts.{Maybe, region_val, matched, serves}
-use Rattle.aprs_arena.specs.Room.{units_at}
+use Rattle.aprs_arena.proofs.Parts.{Maybe, region_val, matched, hands_out}
+use Rattle.aprs_arena.specs.Room.{units_at, units_for, to_give_back}
 use Rattle.aprs_arena.specs.contracts.arena.Arena as arena
 use Rattle.aprs_arena.specs.contracts.arena.Arena.take as g
 use Rattle.aprs_arena.proofs.arena.Arena.take.Met.{met}
@@ -44,7 +44,7 @@ stayed = (stay_dropped _ _, (stay_dropped _ _, (stay_dropped _ _, tt)))
 
 -- what `take` tells of its block
 abbrev Told : ℕ → Maybe.Denot → Type 0
-Told n r = IfSome r (λ x. (n ≤ x.units * 16) × (n < 2 ^ 63))
+Told n r = IfSome r (λ x. (x.units ≡ units_for n) × (n < 2 ^ 63))
 
 pub allocate_spec : {M : Type 1} → statement M
 allocate_spec 𝓤 𝓛 𝓜 𝓡 wired =
@@ -83,14 +83,14 @@ allocate_spec 𝓤 𝓛 𝓜 𝓡 wired =
     (λ x taken is fits. in_a_block ! x.start (units_at x.units) (id⊢ 𝓤 _) (λ b o e.
     let said : Told n (Some x) = subst (Told n) taken told in
     let exact : capped (size τ) ≡ size τ = capped_is (size τ) (omega (arith, capped_small (size τ) (omega (arith, said.1, asked.0)))) in
-    use1 𝓛 (‵ (froom τ b o)) (serves 𝓛 τ b o x.units (omega (arith, said.0, asked.0, exact))) $
+    use1 𝓛 (‵ (froom τ b o) ⊛ ‵ (to_give_back τ (block_ptr b o))) (hands_out 𝓛 τ b o x.units (said.0 ∙ ap units_for (sym asked.0 ∙ exact)) (omega (arith, said.1, asked.0, exact))) $
     lands_as ! (is ∙ ap (λ (u : Ptr). live 1 (vcons (region_val u x.units) vnil)) e) refl (tt, (record { fits = lit< tt }, ((tt, (record { fits = fits }, tt)), tt))) $
     first ! $ switches_on ! (get_tag ! (vrt ! refl (fld ! refl (stop !))) (whole !)) $ exec ! 𝓣.C 𝓣.Λ En (arm_body 0 code.Mir.s-2) Then $
     sets ! (of_opd ! (get_in ! (vrt ! refl (fld ! refl (fld ! refl (stop !)))) (sub ! 0 refl (in_variant ! 1 0 refl refl (whole !))))) refl (tt, tt) $
     sets_last ! (agg ! (and_then ! (lit ! tt) (and_then ! (get ! refl) (no_more !)))) refl (tt, (record { fits = lit< tt }, (tt, tt))) $
     exec ! 𝓣.C 𝓣.Λ En code.Mir.t-3 (at_ret En Post) $
     sets ! (of_opd ! (get ! refl)) refl (tt, (record { fits = lit< tt }, (tt, tt))) $
-    returns ! (look_at ! 0 refl) $ free_all ! refl $ nothing ! $ move ! (1 ∷ 0 ∷ []) $ fjoin ! $
+    returns ! (look_at ! 0 refl) $ free_all ! refl $
     use0 𝓛 (‵ (Answer.own_val (Ok (block_ptr b o)) (answer_val true b o ∷ []))) (Answer-Ok 𝓛 b o) $
     nothing ! $ nothing ! $ fjoin ! $ nothing ! $ fjoin ! $ nothing ! $ fjoin ! $ move ! (3 ∷ 0 ∷ 1 ∷ 2 ∷ []) $
     by ! (leaves 𝓛 f.ended stayed c z (answer_val true b o) (Ok (block_ptr b o)) (tt, (tt, (tt, tt))) (tt, (tt, (tt, tt)))))))))))))
