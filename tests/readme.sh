@@ -14,7 +14,8 @@ set -eu
 
 # ---- the two commands of the first block ----
 
-page=$(dirname "$0")/../README.md
+top=$(cd "$(dirname "$0")/.." && pwd)
+page=$top/README.md
 # block NAME NUMBER: the block of this number in this language
 block() {
     awk -v name="$1" -v n="$2" '/^```/ { open = $0 == "```" name && ++at == n; next } open' "$page"
@@ -29,7 +30,7 @@ in_checkout() {
     (cd "$made/checkout" &&
         env -i HOME="$made" PATH="/usr/local/bin:/usr/bin:/bin" LC_ALL=C sh -c "$1")
 }
-checks_out() { (cd "${0%/*}/.." && git ls-files | tar -cf - -T -) | tar -xf - -C "$made/checkout"; }
+checks_out() { (cd "$top" && git ls-files | tar -cf - -T -) | tar -xf - -C "$made/checkout"; }
 whole=
 case ${1-} in
 --whole | --first | --second)
@@ -44,7 +45,6 @@ case ${1-} in
 esac
 . "$(dirname "$0")/program.sh"
 trap 'rm -rf "$scratch" "$made"' EXIT
-page=$repository/README.md
 cd "$scratch"
 
 block text 1 > expected
