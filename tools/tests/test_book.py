@@ -13,7 +13,7 @@ from typing import Callable, Dict, List, Optional, Set, Tuple
 
 import pytest
 
-from aprsbook_tools import book, log_file
+from aprsbook_tools import book, inputs, log_file
 from conftest import EVENING, HERE, command, environment, started, tried, wait_for
 
 PATH = os.environ["PATH"]
@@ -174,6 +174,20 @@ def test_anew_it_is_made_of_the_inputs_alone(club: Club) -> None:
     assert club.read() == club.merged(30, "hill", "coast")
     club.book("--anew", "net.book", "logs")
     assert club.read() == club.merged(30, "coast")
+
+
+def test_a_log_that_goes_while_its_book_is_made(tmp_path: pathlib.Path) -> None:
+    """As one that is compressed each night: the book is there, and that is no fault."""
+    log, path = tmp_path / "RX1.log", str(tmp_path / "net.book")
+    log.write_bytes(b"a line\n")
+    pathlib.Path(path).write_bytes(b"a book")
+    items = [inputs.look_at(str(log))]
+    made = book.made_of(30, items)
+    book.remember(path, made, {})
+    assert book.remembered(path) == {**made, "sums": {str(log): book.sum_of(str(log), 7)}}
+    log.unlink()
+    book.remember(path, made, {})
+    assert book.remembered(path) == {**made, "sums": {}}
 
 
 def test_a_log_that_was_changed_is_named(club: Club) -> None:
@@ -419,6 +433,18 @@ def test_parts_are_the_book(club: Club) -> None:
     assert "is there" in club.book("--parts", "3", "parts", "logs", status=3)
 
 
+def test_parts_are_files_of_their_own_and_leftovers_go(club: Club) -> None:
+    """One part of one book was the user's file under another name."""
+    club.path("given.book").write_bytes(club.merged(30, "hill"))
+    for name in ".parts.abcd0123.aprs-net-new", ".parts.abcd0124.aprs-net-work":
+        club.path(name).mkdir()
+        os.utime(club.path(name), (0, 0))
+    assert club.book("--parts", "1", "parts", "given.book") == ""
+    assert club.read("parts/0001.book") == club.merged(30, "hill")
+    assert not os.path.samefile(club.path("given.book"), club.path("parts/0001.book"))
+    assert club.names() == {"given.book", "parts", "parts/0001.book"}
+
+
 # ---- books of days ----
 
 def test_a_faulty_log_leaves_its_day_and_the_book_of_all(club: Club) -> None:
@@ -445,6 +471,15 @@ def test_a_faulty_log_leaves_its_day_and_the_book_of_all(club: Club) -> None:
     assert club.read() == club.merged(30, *ALL)
     assert {it.name for it in club.path("days").iterdir() if not it.name.startswith(".")} == {
         "2024-06-21.book", "2024-06-22.book"}
+
+
+def test_an_input_that_cannot_be_read_leaves_its_day_alone(club: Club) -> None:
+    club.lay("logs/2024-06-22/NORTH.log", "north")
+    club.path("logs/2024-06-21").mkdir()
+    club.path("logs/2024-06-21/HILL.log").symlink_to("nowhere")
+    said = club.book("--days", "days", "net.book", "logs", status=1)
+    assert said == "aprs-net: logs/2024-06-21/HILL.log: no file\n"
+    assert club.read("days/2024-06-22.book") == club.merged(30, "north")
 
 
 def test_a_day_whose_logs_are_gone_keeps_its_book(club: Club) -> None:
@@ -508,6 +543,16 @@ def test_a_fault_of_this_machine_is_no_fault_of_a_book(club: Club) -> None:
     program.write_text("#!/bin/sh\necho 'aprsbook-fold: cannot write' >&2\nexit 3\n")
     said = club.book("--pass-over", "own.book", "in", status=3)
     assert said == "aprsbook-fold: cannot write\n"
+
+
+def test_a_program_that_is_missing_is_no_fault_of_an_input(club: Club) -> None:
+    if club.bin is None:
+        pytest.skip("needs the stand-in")
+    club.lay("logs/HILL.log", "hill")
+    (club.bin / "aprsbook").unlink()
+    said = club.book("--pass-over", "net.book", "logs", status=3)
+    assert said == "aprs-net: the program aprsbook isn't in the PATH: install aprsbook\n"
+    assert not club.path("net.book").exists()
 
 
 @pytest.mark.parametrize("name", ["aprsbook", "aprsbook-fold"])

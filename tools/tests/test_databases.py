@@ -98,6 +98,30 @@ def test_a_place_at_0_0_is_none(programs: Programs) -> None:
         assert asked_of == [("Q1B",), ("Q1C",)]
 
 
+def test_a_kill_at_0_0_is_where_the_thing_was(programs: Programs) -> None:
+    """Or a killed object was live for ever in the views."""
+    programs.say(
+        put("18:00", "Q1NET", "CP 1", 54.6, -3.4),
+        put("18:01", "Q1NET", "CP 1", 54.7, -3.5),
+        put("18:02", "Q1NET", "CP 1", 0, 0, state="killed"),
+        put("18:03", "Q1NET", "CP 1", 54.8, -3.6),
+        put("18:04", "Q1NET", "CP 2", 0, 0, state="killed"),
+        put("18:05", "Q1NET", "CP 3", 54.9, -3.7),
+        put("18:06", "Q1B", "CP 3", 0, 0, state="killed"),
+    )
+    programs.run("sqlite", "net.log", "net.db")
+    path = programs.folder / "net.db"
+    kills = "select name, first, latitude, source from tracks where state = 'killed' order by name"
+    assert asked(path, kills) == [
+        ("CP 1", at("18:02"), 54.7, "Q1NET"),
+        ("CP 3", at("18:06"), 54.9, "Q1B"),
+    ]
+    assert asked(path, "select name, state, latitude from places order by name") == [
+        ("CP 1", "live", 54.8),
+        ("CP 3", "killed", 54.9),
+    ]
+
+
 def test_other_tables_stay(programs: Programs) -> None:
     path = fill(programs)
     base = sqlite3.connect(path)

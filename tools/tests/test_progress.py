@@ -5,11 +5,11 @@ import os
 import select
 import sys
 import time
-from typing import Iterator, List, Optional
+from typing import Any, Iterable, Iterator, List, Optional
 
 import pytest
 
-from aprsbook_tools import progress
+from aprsbook_tools import engines, jobs, progress
 
 
 def slowly() -> Iterator[int]:
@@ -54,3 +54,23 @@ def test_nothing_is_said_elsewhere(monkeypatch: pytest.MonkeyPatch, there: bool)
     monkeypatch.setattr(sys, "stderr", said if there else None)
     found: List[int] = [*progress.counted(slowly(), "days")]
     assert (found, said.getvalue()) == ([0, 1, 2], "")
+
+
+def test_what_is_counted_is_done(monkeypatch: pytest.MonkeyPatch) -> None:
+    """And not what is waited for."""
+    done: List[object] = []
+
+    def do(job: object, kept: bool) -> None:
+        time.sleep(0.05)
+        done.append(job)
+
+    def counted(items: Iterable[Any], *_: object) -> Iterator[Any]:
+        for number, it in enumerate(items, 1):
+            assert len(done) >= number
+            yield it
+
+    monkeypatch.setattr(jobs, "do", do)
+    monkeypatch.setattr(progress, "counted", counted)
+    todo: List[jobs.Job] = [jobs.Merge(str(number), 30, []) for number in range(3)]
+    engines.Here(1).do("pieces", todo)
+    assert done == todo

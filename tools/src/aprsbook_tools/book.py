@@ -74,7 +74,8 @@ def work_folder(path: str, wish: Wish, gap: int, items: Sequence[Input]) -> Iter
 def remove_leftovers(real: str) -> None:
     """Takes away the folders that runs which were killed have left of this book, after a day."""
     at, name = os.path.split(real)
-    form = re.compile(re.escape("." + name) + r"\.[a-z0-9_]{8}" + re.escape(WORK))
+    endings = "|".join(map(re.escape, (WORK, whole.SUFFIX)))
+    form = re.compile(re.escape("." + name) + rf"\.[a-z0-9_]{{8}}(?:{endings})")
     with contextlib.suppress(OSError):
         for it in os.scandir(at):
             if form.fullmatch(it.name) and it.is_dir(follow_symlinks=False) \
@@ -114,7 +115,8 @@ def remember(path: str, made: Dict[str, Any], before: Dict[str, Any]) -> None:
     sums, old = {}, before.get("inputs", {})
     for name, stamp in made["inputs"].items():
         known = before.get("sums", {}).get(name) if old.get(name) == stamp else None
-        sums[name] = known or sum_of(name, stamp[0])
+        with contextlib.suppress(OSError):  # gone since, as a log that is compressed each night
+            sums[name] = known or sum_of(name, stamp[0])
     text = json.dumps({**made, "sums": sums, "book": stamp_of(path)}, sort_keys=True) + "\n"
     whole.write(whole.beside(path, "of"), text.encode("utf-8", "surrogateescape"))
 
@@ -248,7 +250,7 @@ def make_parts(path: str, items: Sequence[Input], parts: int, wish: Wish, say: S
         with new_folder(path) as new:
             for number, book in enumerate(books, 1):
                 into = os.path.join(new, f"{number:04}.book")
-                put_beside(book, into)
+                put_beside(book, into, book in plan.made)
                 say_what_is_large(into, say)
 
 
@@ -263,6 +265,7 @@ def new_folder(path: str) -> Iterator[str]:
         os.chmod(new, whole.mode_of_new(0o777))
         whole.sync_folder(new)
         os.rename(new, real)
+        whole.sync_folder(os.path.dirname(real))
     except OSError as fault:
         raise Fault(f"{path}: {fault.strerror}", errors.OUTPUT) from fault
     finally:
@@ -270,11 +273,13 @@ def new_folder(path: str) -> Iterator[str]:
             shutil.rmtree(new, ignore_errors=True)
 
 
-def put_beside(path: str, into: str) -> None:
-    """A file gets another name too, or a copy where that can't be; it is on the disk then."""
-    try:
-        os.link(path, into)
-    except OSError:
+def put_beside(path: str, into: str, is_own: bool) -> None:
+    """A file is copied, or gets another name too where it is one's own and that can be; it is on
+    the disk then."""
+    if is_own:
+        with contextlib.suppress(OSError):
+            os.link(path, into)
+    if not os.path.lexists(into):
         shutil.copyfile(path, into)
     with open(into, "rb+") as file:
         os.fsync(file.fileno())
@@ -299,9 +304,16 @@ def make_days(folder: str, items: Sequence[Input], wish: Wish, say: Say) -> List
     with concurrent.futures.ThreadPoolExecutor(wish.engine.width) as pool:
         waiting = [pool.submit(make, os.path.join(folder, f"{day}.book"), of_day, alone, say)
                    for day, of_day in sorted(days.items())]
-        for done in progress.counted(waiting, "days", len(waiting)):
-            try:
-                done.result()
-            except Fault as fault:
-                faults.append(fault)
+        try:
+            done = concurrent.futures.as_completed(waiting)
+            for _ in progress.counted(done, "days", len(waiting)):
+                pass
+        finally:
+            for future in waiting:
+                future.cancel()
+    for future in waiting:
+        try:
+            future.result()
+        except Fault as fault:
+            faults.append(fault)
     return faults

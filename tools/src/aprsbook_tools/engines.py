@@ -1,7 +1,7 @@
 """Where jobs are done. An engine does them side by side, and tells the first of their faults."""
 import concurrent.futures
 import os
-from typing import Callable, Optional, Sequence
+from typing import Callable, Iterator, Optional, Sequence
 
 from aprsbook_tools import jobs, progress
 from aprsbook_tools.errors import FAULTY, Fault
@@ -31,14 +31,20 @@ class Here(Engine):
     def do(self, title: str, todo: Sequence[Job], passed: Optional[Passed] = None) -> None:
         with concurrent.futures.ThreadPoolExecutor(self.width) as pool:
             waiting = [pool.submit(jobs.do, job, self.kept) for job in todo]
-            try:
-                for job, it in progress.counted(zip(todo, waiting), title, len(waiting)):
+
+            def ended() -> Iterator[Job]:
+                for job, it in zip(todo, waiting):
                     try:
                         it.result()
                     except Fault as fault:
                         if passed is None or fault.status != FAULTY:
                             raise
                         passed(job, fault)
+                    yield job
+
+            try:
+                for _ in progress.counted(ended(), title, len(waiting)):
+                    pass
             finally:
                 for it in waiting:
                     it.cancel()

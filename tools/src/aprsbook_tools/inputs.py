@@ -7,7 +7,6 @@ import io
 import lzma
 import os
 import re
-import shutil
 import stat
 import zlib
 from typing import IO, Callable, Dict, Iterable, Iterator, List, Optional, Set, cast
@@ -51,11 +50,16 @@ def is_input(path: str) -> bool:
     return KIND.fullmatch(os.path.basename(path)) is not None
 
 
+def day_said(path: str) -> str:
+    """The day that a path says, as 2024-06-21, or nothing."""
+    return str((DAY.findall(os.path.abspath(path)) or [""])[-1])
+
+
 def day_of(path: str) -> str:
     """The day of a log or a book, as 2024-06-21, or nothing."""
-    found = DAY.findall(os.path.abspath(path))
-    if found:
-        return str(found[-1])
+    said_day = day_said(path)
+    if said_day:
+        return said_day
     try:
         with opened(path) as file:
             begin = file.read(10).decode("ascii", "replace")
@@ -69,15 +73,15 @@ def look_at(path: str) -> Input:
     try:
         status = os.stat(path)
     except OSError:
-        return Input("", path, 0, 0, "no file")
+        return Input(day_said(path), path, 0, 0, "no file")
     if not os.path.isfile(path):
-        return Input("", path, 0, 0, "no file")
+        return Input(day_said(path), path, 0, 0, "no file")
     fault = ""
     if not os.access(path, os.R_OK):
         fault = "no leave to read it"
     elif not status.st_size and re.search(r"\.book(\.[a-z0-9]+)?$", path):
         fault = "empty, which no book is"
-    day = "" if fault else day_of(path)
+    day = day_said(path) if fault else day_of(path)
     return Input(day, path, status.st_size, status.st_mtime_ns, fault)
 
 
@@ -130,15 +134,22 @@ def unpacking(path: str) -> Iterator[IO[bytes]]:
         raise Fault(f"{path}: can't be unpacked to its end: {fault}") from fault
 
 
+def blocks(path: str) -> Iterator[bytes]:
+    """What a file has, unpacked; a Fault of its own where it can't be read."""
+    try:
+        with unpacking(path) as file:
+            yield from iter(lambda: file.read(1 << 16), b"")
+    except OSError as fault:
+        raise Fault(f"{path}: {fault.strerror or fault}") from fault
+
+
 def unpack(it: Input, into: str) -> None:
     """Writes an input, read to its end and not compressed, into a file."""
     try:
-        with unpacking(it.path) as packed, open(into, "wb") as file:
-            shutil.copyfileobj(packed, file)
+        with open(into, "wb") as file:
+            file.writelines(blocks(it.path))
     except OSError as fault:
-        name = fault.filename if isinstance(fault.filename, str) else it.path
-        status = errors.OUTPUT if name == into else errors.FAULTY
-        raise Fault(f"{name}: {fault.strerror or fault}", status) from fault
+        raise Fault(f"{into}: {fault.strerror or fault}", errors.OUTPUT) from fault
 
 
 def no_option(path: str) -> str:

@@ -205,7 +205,7 @@ def do(job: Job, kept: bool) -> None:
 def fold(gap: int, books: Sequence[str], into: IO[bytes], since: str = "", until: str = "") -> None:
     """The book of books: by aprsbook-fold, which holds a row of each, or else by aprsbook."""
     bounds = [*(["--from", since] if since else []), *(["--until", until] if until else [])]
-    if programs.is_there("aprsbook-fold"):
+    if bounds or programs.is_there("aprsbook-fold"):  # which alone knows bounds
         programs.write_book(into, "aprsbook-fold", "--gap", str(gap), *bounds, *books)
     else:
         programs.write_book(into, "aprsbook", "merge", "--gap", str(gap), "--", *books)

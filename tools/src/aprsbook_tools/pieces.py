@@ -1,11 +1,12 @@
 """Logs cut into pieces of whole lines, each of what several logs have of about the same time, so
 that copies of a transmission meet at once. Where clocks don't fit, that costs time alone."""
+import contextlib
 import os
 import threading
 from typing import IO, Iterator, List, NamedTuple, Optional, Sequence, Tuple
 
 from aprsbook_tools import book_file, programs
-from aprsbook_tools.errors import FAULTY, Fault, said
+from aprsbook_tools.errors import FAULTY, MEMORY, OUTPUT, Fault, said
 
 MEGABYTE = 1 << 20
 LEAST = MEGABYTE  # bytes: nothing smaller is cut off a log
@@ -91,7 +92,7 @@ class Feeder(threading.Thread):
 
     def run(self) -> None:
         try:
-            with open(self.into, "wb", buffering=0) as into:
+            with open(self.into, "wb", buffering=0, closefd=False) as into:
                 all(self.feed(it, into) for it in self.ranges)
         except BrokenPipeError:
             pass  # the program has ended, and says why
@@ -99,6 +100,13 @@ class Feeder(threading.Thread):
             self.fault = Fault(said(fault))
         except Fault as fault:
             self.fault = fault
+        except MemoryError:
+            self.fault = Fault("no memory is left", MEMORY)
+        except BaseException as fault:  # whatever it is, the pipe's end is none of the log
+            self.fault = Fault(f"{type(fault).__name__}: {fault}", OUTPUT)
+        finally:
+            with contextlib.suppress(OSError):
+                os.close(self.into)
 
     def feed(self, it: Range, into: IO[bytes]) -> bool:
         """Writes a range; whether it ends with a whole line."""

@@ -22,7 +22,7 @@ def find(program: str) -> str:
     """The path of a program."""
     path = shutil.which(program)
     if path is None:
-        raise Fault(f"the program {program} isn't in the PATH: install aprsbook")
+        raise Fault(f"the program {program} isn't in the PATH: install aprsbook", errors.OUTPUT)
     return path
 
 

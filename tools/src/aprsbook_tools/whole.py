@@ -100,7 +100,8 @@ def remove_leftovers(real: str) -> None:
     with contextlib.suppress(OSError):
         for it in os.listdir(folder):
             left = os.path.join(folder, it)
-            if form.fullmatch(it) and time.time() - os.lstat(left).st_mtime > DAY:
+            if form.fullmatch(it) and time.time() - os.lstat(left).st_mtime > DAY \
+                    and not os.path.isdir(left):
                 os.unlink(left)
 
 
