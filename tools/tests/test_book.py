@@ -2,18 +2,20 @@
 
 Each test is run with a stand-in for aprsbook, and with aprsbook itself where it is there."""
 import bz2
+import glob
 import gzip
 import lzma
 import os
 import pathlib
 import shutil
+import signal
 import subprocess
 import time
 from typing import Callable, Dict, List, Optional, Set, Tuple
 
 import pytest
 
-from aprsbook_tools import book, inputs, log_file
+from aprsbook_tools import book, building, engines, inputs, log_file, whole
 from conftest import EVENING, HERE, command, environment, started, tried, wait_for
 
 PATH = os.environ["PATH"]
@@ -188,6 +190,15 @@ def test_a_log_that_goes_while_its_book_is_made(tmp_path: pathlib.Path) -> None:
     log.unlink()
     book.remember(path, made, {})
     assert book.remembered(path) == {**made, "sums": {}}
+
+
+def test_a_log_that_goes_before_it_is_read(tmp_path: pathlib.Path) -> None:
+    said: List[str] = []
+    it = inputs.Input("", str(tmp_path / "RX1.log"), 9, 1)
+    book.say_what_is_gone("net.book", {"inputs": {it.path: [7, 0]}}, [it], said.append)
+    plan = building.Plan(30, str(tmp_path))
+    made = building.books_of_each(engines.Here(1), plan, [it], lambda *words: said.extend(words))
+    assert (made, said) == ([], [it.path, "No such file or directory"])
 
 
 def test_a_log_that_was_changed_is_named(club: Club) -> None:
@@ -443,6 +454,82 @@ def test_parts_are_files_of_their_own_and_leftovers_go(club: Club) -> None:
     assert club.read("parts/0001.book") == club.merged(30, "hill")
     assert not os.path.samefile(club.path("given.book"), club.path("parts/0001.book"))
     assert club.names() == {"given.book", "parts", "parts/0001.book"}
+
+
+def test_names_that_are_no_utf_8(club: Club) -> None:
+    """The programs refuse these, where they would get them."""
+    inner = club.path(os.fsdecode(b"f\xff"))
+    try:
+        inner.mkdir()
+    except OSError:
+        pytest.skip("no such names here")
+    club.lay(f"{inner.name}/logs/hill.log", "hill")
+    (inner / "logs/coast.book").write_bytes(club.merged(30, "coast"))
+    (inner / "logs/north.book.gz").write_bytes(gzip.compress(club.merged(30, "north")))
+    (inner / "given.book").write_bytes(club.merged(30, "hill"))
+    for more in "", "--anew --fan 2 --pass-over", "--anew --work work":
+        tried("book", *more.split(), "net.book", "logs", cwd=inner, env=club.env)
+        assert (inner / "net.book").read_bytes() == club.merged(30, *ALL)
+    tried("book", "--gap", "60", "given.book", "logs/hill.log", cwd=inner, env=club.env)
+    assert (inner / "given.book").read_bytes() == club.merged(60, "hill")
+    tried("book", "--parts", "2", "parts", "logs", cwd=inner, env=club.env)
+    (inner / "logs/coast.book").write_bytes(club.merged(30, "coast")[:-3])
+    said = tried("book", "--anew", "net.book", "logs", cwd=inner, env=club.env, status=1).stderr
+    assert said.startswith(b"aprsbook-fold: logs/coast.book: line ")
+
+
+@pytest.mark.parametrize("words", [[], ["--days", "days"], ["--work", "work"]])
+def test_a_signal_ends_what_runs_at_once(club: Club, words: List[str]) -> None:
+    if club.bin is None:
+        pytest.skip("needs the stand-in")
+    for day in range(10, 15):
+        club.lay(f"logs/2024-06-{day}/HILL.log", "hill")
+    before = club.names()
+    text = f"echo $$ >>{club.runs}\nexec sleep 60\n"
+    (club.bin / "aprsbook").write_text(f"#!/bin/sh\n[ $1 != --version ] || exit 0\n{text}")
+    run = started("book", "--jobs", "2", *words, "net.book", "logs", cwd=club.folder, env=club.env)
+    count = 2 if words[:1] == ["--days"] else 1
+    wait_for(lambda: club.runs.exists() and runs_of(club) >= count, "a program")
+    run.terminate()
+    assert run.wait(20) == -signal.SIGTERM and runs_of(club) == count
+    for number in club.runs.read_text().split():
+        with pytest.raises(ProcessLookupError):
+            os.kill(int(number), 0)
+    left = {it for it in club.names() - before if not club.path(it).is_dir()}
+    assert not left and not [it for it in club.names() if "aprs-net" in it]
+
+
+def test_a_run_that_has_waited_looks_at_its_inputs_again(
+        club: Club, monkeypatch: pytest.MonkeyPatch) -> None:
+    """Or a log that has grown meanwhile was one that has become shorter."""
+    monkeypatch.chdir(club.folder)
+    monkeypatch.setenv("PATH", club.env["PATH"])
+    club.lay("logs/HILL.log", "hill")
+    with whole.locked("net.book"):
+        run = started("book", "net.book", "logs", cwd=club.folder, env=club.env)
+        lock = str(club.path(".net.book.lock"))
+        wait_for(lambda: lock in [
+            os.path.realpath(it) for it in glob.glob(f"/proc/{run.pid}/fd/*")], "its turn")
+        club.lay("logs/HILL.log", "hill", "north")
+        book.make_locked("net.book", inputs.of(["logs"]), book.Wish(), print)
+    assert run.communicate()[1] == b"" and run.returncode == 0
+    assert club.read() == club.merged(30, "hill", "north")
+
+
+def test_work_within_the_inputs_is_none(club: Club) -> None:
+    club.lay("logs/HILL.log", "hill")
+    words = "--work", "logs/work", "net.book", "logs"
+    assert club.book(*words) == "" and club.read() == club.merged(30, "hill")
+    assert club.book(*words) == "" and club.runs.read_bytes() == b""
+    # what stays there is what another run needs, and nothing that was left of one
+    [work] = club.path("logs/work").iterdir()
+    (work / ".unpacked-000000.book.abcd0123.aprs-net-work").mkdir()
+    os.utime(work / ".unpacked-000000.book.abcd0123.aprs-net-work", (0, 0))
+    assert club.book("--anew", *words) == ""
+    club.book("--gap", "60", *words)
+    assert club.read() == club.merged(60, "hill")
+    names = [it.name for it in club.path("logs/work").glob("*/*")]
+    assert names and not [it for it in names if it.startswith(("widened", ".unpacked"))]
 
 
 # ---- books of days ----

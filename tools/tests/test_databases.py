@@ -1,12 +1,17 @@
 """The tables of a book in SQLite and as CSV."""
+import concurrent.futures
 import pathlib
 import sqlite3
 import subprocess
-from typing import Any, List
+import time
+from typing import Any, Dict, List
 
 import pytest
 from standing import Programs, at, message, place, put, row, station
 
+from aprsbook_tools import databases
+from aprsbook_tools.errors import Fault
+from aprsbook_tools.roster import Roster
 from aprsbook_tools.spreadsheet import read_csv
 
 
@@ -177,6 +182,20 @@ def test_a_database_that_is_written_is_waited_for(programs: Programs) -> None:
     with subprocess.Popen(["python3", "-c", hold, str(path)], stdout=subprocess.PIPE) as other:
         assert other.stdout and other.stdout.readline() == b"held\n"
         programs.run("sqlite", "net.log", "net.db")
+
+
+def test_a_new_database_that_a_fault_takes_away_is_made_by_who_waits(
+    tmp_path: pathlib.Path,
+) -> None:
+    path = tmp_path / "net.db"
+    none: Dict[str, List[Any]] = {name: [] for name in databases.TABLES}
+    with concurrent.futures.ThreadPoolExecutor(1) as pool:
+        with pytest.raises(Fault, match="a fault"), databases.writing(str(path), []):
+            waits = pool.submit(databases.write, str(path), none, [], Roster())
+            time.sleep(0.3)
+            raise Fault("a fault")
+        waits.result()
+    assert asked(path, "select count(*) from places") == [(0,)]
 
 
 def test_csv_of_a_table(programs: Programs) -> None:

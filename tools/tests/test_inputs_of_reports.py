@@ -5,13 +5,15 @@ import lzma
 import os
 import pathlib
 import subprocess
+import tempfile
+import threading
 from typing import Callable, Dict, List, Set
 
 import pytest
 from conftest import command as aprs_net, environment, tried
 from standing import Programs, at, place
 
-from aprsbook_tools import inputs
+from aprsbook_tools import inputs, pieces
 from aprsbook_tools.errors import OUTPUT, Fault
 
 LINE = "2024-06-21T18:00:00.000Z RX1 c0c0\n"
@@ -75,6 +77,27 @@ def test_a_path_that_is_no_utf_8_is_read(programs: Programs) -> None:
     (programs.folder / name).write_text("faulty\n")
     programs.run("last-heard", name, status=1)
     assert ".log: line 1: Moment" in programs.said and ".named" not in programs.said
+
+
+def test_utf_8_is_what_the_bytes_of_a_name_are(monkeypatch: pytest.MonkeyPatch) -> None:
+    """And not its text, which a locale makes of them."""
+    assert inputs.is_utf_8("l\xe4.log") and not inputs.is_utf_8("l\udce4.log")
+    monkeypatch.setattr(os, "fsencode", lambda it: it.encode("iso-8859-1"))
+    assert inputs.is_utf_8("la.log") and not inputs.is_utf_8("l\xe4.log")
+
+
+def test_no_thread_can_be_had(programs: Programs, monkeypatch: pytest.MonkeyPatch) -> None:
+    """As where memory is short."""
+    def refuse(_: threading.Thread) -> None:
+        raise RuntimeError("can't start new thread")
+
+    monkeypatch.setattr(threading.Thread, "start", refuse)
+    files = len(os.listdir("/proc/self/fd"))
+    with tempfile.TemporaryFile() as into, pytest.raises(RuntimeError):
+        pieces.merge(30, [], into)
+    assert len(os.listdir("/proc/self/fd")) == files
+    programs.run("book", "net.book", "net.log", status=4)
+    assert programs.said == "aprs-net: no memory is left\n"
 
 
 def test_a_compressed_log_is_read(programs: Programs) -> None:

@@ -1,4 +1,5 @@
 """How far long work is: said at a terminal, and nowhere else."""
+import concurrent.futures
 import contextlib
 import io
 import os
@@ -33,6 +34,18 @@ def test_items_are_counted_at_a_terminal(
     # each count takes the place of the one before, and at last the line is empty
     counts = [f"\rdays: {number}{of}\x1b[K" for number in (1, 2, 3)]
     assert said == "".join([*counts, "\r\x1b[K"])
+
+
+def test_what_another_thread_counts_is_not_said(monkeypatch: pytest.MonkeyPatch) -> None:
+    """Or the pieces of a day stand in place of the days."""
+    ours, theirs = os.openpty()
+    with open(theirs, "w", encoding="ascii") as terminal:
+        monkeypatch.setattr(sys, "stderr", terminal)
+        with concurrent.futures.ThreadPoolExecutor(1) as pool:
+            found = pool.submit(lambda: [*progress.counted(slowly(), "pieces")]).result()
+        assert found == [0, 1, 2]
+        assert not select.select([ours], [], [], 0.1)[0]
+    os.close(ours)
 
 
 def test_a_terminal_that_is_closed_ends_nothing(monkeypatch: pytest.MonkeyPatch) -> None:

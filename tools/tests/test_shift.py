@@ -1,5 +1,6 @@
 """aprs-net shift, mend and pcap: logs whose moments are wrong, or that were cut."""
 import gzip
+import os
 import pathlib
 import struct
 import tempfile
@@ -129,6 +130,14 @@ def test_a_compressed_log_is_read(tmp_path: pathlib.Path) -> None:
     (tmp_path / "a.log.gz").write_bytes(gzip.compress(log))
     assert tried("mend", tmp_path / "a.log.gz").stdout == log
     assert tried("shift", "0", tmp_path / "a.log.gz").stdout == log
+
+
+@pytest.mark.skipif(not os.path.exists("/proc/self/mem"), reason="needs /proc")
+def test_an_input_that_refuses_is_named_and_not_the_output(tmp_path: pathlib.Path) -> None:
+    for output in "-", tmp_path / "out":
+        said = tried("mend", "-o", output, "/proc/self/mem", status=1).stderr
+        assert said == b"aprs-net: /proc/self/mem: Input/output error\n"
+    assert not (tmp_path / "out").exists()
 
 
 # ---- pcap ----

@@ -107,6 +107,12 @@ def check(path: str, inputs: Sequence[str]) -> str:
 def writing(path: str, inputs: Sequence[str]) -> Iterator[sqlite3.Connection]:
     """A transaction, which is taken back where its block ends by a fault."""
     real = check(path, inputs)
+    with whole.locked(path):  # so that nobody waits for a new one that a fault takes away
+        yield from transaction(path, real)
+
+
+def transaction(path: str, real: str) -> Iterator[sqlite3.Connection]:
+    """As `writing`, of the file behind links."""
     is_new = not os.path.exists(real)
     try:
         base = sqlite3.connect(real, timeout=WAIT, isolation_level=None)

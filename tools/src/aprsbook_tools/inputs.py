@@ -8,10 +8,11 @@ import lzma
 import os
 import re
 import stat
+import tempfile
 import zlib
-from typing import IO, Callable, Dict, Iterable, Iterator, List, Optional, Set, cast
+from typing import IO, Callable, Dict, Iterable, Iterator, List, Optional, Sequence, Set, cast
 
-from aprsbook_tools import book_file, errors, log_file
+from aprsbook_tools import book_file, errors, log_file, programs
 from aprsbook_tools.errors import Fault, said
 
 PACKED: Dict[str, Callable[[str], IO[bytes]]] = {
@@ -138,7 +139,9 @@ def blocks(path: str) -> Iterator[bytes]:
     """What a file has, unpacked; a Fault of its own where it can't be read."""
     try:
         with unpacking(path) as file:
-            yield from iter(lambda: file.read(1 << 16), b"")
+            for block in iter(lambda: file.read(1 << 16), b""):
+                programs.go_on()
+                yield block
     except OSError as fault:
         raise Fault(f"{path}: {fault.strerror or fault}") from fault
 
@@ -160,8 +163,8 @@ def no_option(path: str) -> str:
 def is_utf_8(path: str) -> bool:
     """Whether the bytes of a path are UTF-8: the programs take no other."""
     try:
-        path.encode("utf-8")
-    except UnicodeEncodeError:
+        os.fsencode(path).decode("utf-8")
+    except UnicodeError:
         return False
     return True
 
@@ -188,6 +191,26 @@ def plain(items: Iterable[Input], folder: str) -> Iterator[str]:
             yield path
         else:
             yield no_option(it.path)
+
+
+@contextlib.contextmanager
+def named(paths: Sequence[str]) -> Iterator[List[str]]:
+    """The names of files as programs take them: where a path isn't UTF-8 there is a link to it, of
+    which a Fault says the path."""
+    with contextlib.ExitStack() as stack:
+        links: Dict[str, str] = {}
+        for number, path in enumerate(paths):
+            if not is_utf_8(path):
+                if not links:
+                    folder = stack.enter_context(tempfile.TemporaryDirectory(prefix="aprs-net-"))
+                links[path] = os.path.join(folder, f"{number:06}.named")
+                os.symlink(os.path.abspath(path), links[path])
+        try:
+            yield [links.get(it) or no_option(it) for it in paths]
+        except Fault as fault:
+            for path, link in links.items():
+                fault.words = fault.words.replace(link, path)
+            raise
 
 
 def whole_lines(octets: bytes) -> List[bytes]:

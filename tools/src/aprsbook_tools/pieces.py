@@ -27,8 +27,11 @@ class FaultyLog(Fault):
 
 def begins(path: str, octets: bytes) -> bool:
     """Whether a file begins so."""
-    with open(path, "rb") as file:
-        return file.read(len(octets)) == octets
+    try:
+        with open(path, "rb") as file:
+            return file.read(len(octets)) == octets
+    except OSError as fault:
+        raise Fault(said(fault)) from fault
 
 
 def line_start(file: IO[bytes], at: int) -> int:
@@ -160,15 +163,20 @@ def merge(gap: int, ranges: Sequence[Range], into: IO[bytes]) -> None:
     that of the log, with its line there."""
     reads, writes = os.pipe()
     feeder = Feeder(ranges, writes)
-    feeder.start()
     fault: Optional[Fault] = None
-    try:
-        with open(reads, "rb") as given:
+    with open(reads, "rb") as given:
+        try:
+            feeder.start()
+        except RuntimeError:  # no thread can be had
+            os.close(writes)
+            raise
+        try:
             programs.write_book(into, "aprsbook", "merge", "--gap", str(gap), given=given)
-    except Fault as it:
-        fault = it
-    finally:
-        feeder.join()
+        except Fault as it:
+            fault = it
+        finally:
+            given.close()  # so that a feeder ends whose lines nobody reads
+            feeder.join()
     if feeder.fault:
         raise feeder.fault
     if fault:

@@ -28,9 +28,9 @@ def capture(file: IO[bytes], name: str) -> Iterator[bytes]:
         read = log_file.read_whole(line)
         if read is None:
             raise Fault(f"{name}: line {number}: no line of a log (aprs-net mend takes it out)")
-        *pieces, rest = bytes.fromhex(read.digits.decode()).split(kiss.FEND)
+        *pieces, unended = bytes.fromhex(read.digits.decode()).split(kiss.FEND)
         frames = [it for it in pieces if it]
-        if len(frames) == 1 and not rest:
+        if len(frames) == 1 and not unended:
             octets = frames[0][:1] + kiss.unwrap(frames[0])
             seconds, rest = divmod(read.moment, 1000)
             yield struct.pack("<IIII", seconds, rest * 1000, len(octets), len(octets)) + octets
