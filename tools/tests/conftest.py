@@ -12,7 +12,7 @@ from typing import Any, Callable, Dict, List, Optional
 import pytest
 from hypothesis import settings
 
-pytest_plugins = ["standing"]  # its fixture `programs`
+pytest_plugins = ["clubs", "standing"]  # their fixtures `club` and `programs`
 
 HERE = pathlib.Path(__file__).resolve().parent
 SOURCES = HERE.parent / "src"

@@ -87,6 +87,8 @@ def main() -> None:
         command, given = "", sys.argv[1:]
     args = parser.parse_args(given)
     words: List[str] = args.words
+    if any("\udc80" <= it <= "\udcff" for it in "".join(words)):
+        fail("a name that isn't UTF-8", 2)
     gap = int(words.pop(0)) if command == "widen" else args.gap or 30
     if os.environ.get("STAND_IN_RUNS"):
         with open(os.environ["STAND_IN_RUNS"], "a", encoding="utf-8") as file:

@@ -8,77 +8,13 @@ import os
 import pathlib
 import shutil
 import subprocess
-import time
-from typing import Callable, Dict, List, Optional, Set, Tuple
+from typing import Callable, List, Tuple
 
 import pytest
 
-from aprsbook_tools import book, log_file
-from conftest import EVENING, HERE, command, environment, started, tried, wait_for
-
-PATH = os.environ["PATH"]
-
-
-class Club:
-    """A folder with logs of the evening, and the programs."""
-
-    def __init__(self, folder: pathlib.Path, programs: str,
-                 bin: Optional[pathlib.Path] = None) -> None:
-        self.folder = folder
-        self.bin = bin  # the stand-ins, which a test may replace; None where they are the programs
-        self.runs = folder / "runs.txt"
-        self.env = environment(PATH=programs, STAND_IN_RUNS=str(self.runs))
-
-    def path(self, name: str) -> pathlib.Path:
-        return self.folder / name
-
-    def lay(self, name: str, *of: str) -> pathlib.Path:
-        """A file of logs of the evening, one after another."""
-        text = b"".join(pathlib.Path(it).read_bytes() for it in EVENING
-                        if pathlib.Path(it).stem in of)
-        self.path(name).parent.mkdir(parents=True, exist_ok=True)
-        self.path(name).write_bytes(text)
-        return self.path(name)
-
-    def merged(self, gap: int, *names: str) -> bytes:
-        """The book of logs of the evening."""
-        paths = [it for it in EVENING if pathlib.Path(it).stem in names]
-        return subprocess.run(["aprsbook", "merge", "--gap", str(gap), "--", *paths], env=self.env,
-                              stdout=subprocess.PIPE, check=True).stdout
-
-    def book(self, *arguments: object, status: int = 0) -> str:
-        """What the command says."""
-        self.runs.write_bytes(b"")
-        done = tried("book", *arguments, cwd=self.folder, env=self.env, status=status)
-        assert done.stdout == b""
-        return done.stderr.decode()
-
-    def read(self, name: str = "net.book") -> bytes:
-        return self.path(name).read_bytes()
-
-    def names(self) -> Set[str]:
-        """All that lies there but the notes and locks beside books."""
-        return {str(it.relative_to(self.folder)) for it in self.folder.rglob("*")
-                if not (it.name.startswith(".") and it.suffix in (".of", ".lock"))
-                and it != self.runs}
-
-
-@pytest.fixture(params=["stand-in", "aprsbook"])
-def club(request: pytest.FixtureRequest, tmp_path_factory: pytest.TempPathFactory) -> Club:
-    folder, bin = tmp_path_factory.mktemp("club"), tmp_path_factory.mktemp("bin")
-    if request.param == "aprsbook":
-        if not shutil.which("aprsbook", path=PATH):
-            pytest.skip("needs aprsbook")
-        return Club(folder, PATH)
-    for name in "aprsbook", "aprsbook-fold", "aprsbook-table":
-        shutil.copy(HERE / "stand_in.py", bin / name)
-        (bin / name).chmod(0o755)
-    rest = [it for it in PATH.split(os.pathsep)
-            if not os.path.exists(os.path.join(it, "aprsbook-fold"))]
-    return Club(folder, os.pathsep.join([str(bin), *rest]), bin)
-
-
-ALL = "hill", "coast", "north"
+from aprsbook_tools import book, building, engines, inputs
+from clubs import ALL, Club, runs_of, without_folds, write_large
+from conftest import command, started, tried, wait_for
 
 
 def test_all_logs_and_books_below_a_folder(club: Club) -> None:
@@ -176,6 +112,29 @@ def test_anew_it_is_made_of_the_inputs_alone(club: Club) -> None:
     assert club.read() == club.merged(30, "coast")
 
 
+def test_a_log_that_goes_while_its_book_is_made(tmp_path: pathlib.Path) -> None:
+    """As one that is compressed each night: the book is there, and that is no fault."""
+    log, path = tmp_path / "RX1.log", str(tmp_path / "net.book")
+    log.write_bytes(b"a line\n")
+    pathlib.Path(path).write_bytes(b"a book")
+    items = [inputs.look_at(str(log))]
+    made = book.made_of(30, items)
+    book.remember(path, made, {})
+    assert book.remembered(path) == {**made, "sums": {str(log): book.sum_of(str(log), 7)}}
+    log.unlink()
+    book.remember(path, made, {})
+    assert book.remembered(path) == {**made, "sums": {}}
+
+
+def test_a_log_that_goes_before_it_is_read(tmp_path: pathlib.Path) -> None:
+    said: List[str] = []
+    it = inputs.Input("", str(tmp_path / "RX1.log"), 9, 1)
+    book.say_what_is_gone("net.book", {"inputs": {it.path: [7, 0]}}, [it], said.append)
+    plan = building.Plan(30, str(tmp_path))
+    made = building.books_of_each(engines.Here(1), plan, [it], lambda *words: said.extend(words))
+    assert (made, said) == ([], [it.path, "No such file or directory"])
+
+
 def test_a_log_that_was_changed_is_named(club: Club) -> None:
     """It may be another receiver's of the same name: what the book has stays."""
     hill = club.lay("logs/RX1.log", "hill")
@@ -185,16 +144,6 @@ def test_a_log_that_was_changed_is_named(club: Club) -> None:
     club.lay("logs/RX1.log", *ALL)
     assert "logs/RX1.log was changed, not only added to" in club.book("net.book", "logs")
     assert club.read() == club.merged(30, *ALL)
-
-
-def without_folds(club: Club) -> None:
-    """No program that folds is there for what comes, but a stand-in for the others."""
-    if club.bin is None:
-        pytest.skip("needs the stand-in")
-    (club.bin / "aprsbook-fold").unlink()
-    rest = [it for it in PATH.split(os.pathsep)
-            if not os.path.exists(os.path.join(it, "aprsbook-fold"))]
-    club.env["PATH"] = os.pathsep.join([str(club.bin), *rest])
 
 
 def test_without_the_program_that_folds(club: Club) -> None:
@@ -301,21 +250,6 @@ def test_more_than_1024_files(club: Club) -> None:
     assert club.read() == club.merged(30, *ALL)
 
 
-def write_large(club: Club, name: str, megabytes: int) -> List[bytes]:
-    """A log of many lines of the evening, each at another moment; its lines."""
-    first = log_file.read_line(club.lay("kept", "hill").read_bytes().splitlines()[0])
-    assert first is not None
-    count = megabytes * 1_100_000 // len(first.write())
-    lines = [first._replace(moment=first.moment + 31_000 * it).write() for it in range(count)]
-    club.path(name).parent.mkdir(parents=True, exist_ok=True)
-    club.path(name).write_bytes(b"".join(lines))
-    return lines
-
-
-def runs_of(club: Club) -> int:
-    return len(club.runs.read_text().splitlines())
-
-
 @pytest.mark.parametrize("fan", ["2", "64"])
 def test_a_large_log_in_pieces(club: Club, fan: str) -> None:
     write_large(club, "logs/HILL.log", 5)
@@ -419,122 +353,35 @@ def test_parts_are_the_book(club: Club) -> None:
     assert "is there" in club.book("--parts", "3", "parts", "logs", status=3)
 
 
-# ---- books of days ----
-
-def test_a_faulty_log_leaves_its_day_and_the_book_of_all(club: Club) -> None:
-    hill = club.lay("logs/2024-06-21/HILL.log", "hill")
-    club.lay("logs/2024-06-21/COAST.log", "coast")
-    club.lay("logs/2024-06-22/NORTH.log", "north")
-    days = "--days", "days", "net.book", "logs"
-    assert club.book(*days) == ""
-    before = club.read()
-    assert before == club.merged(30, *ALL)
-    assert club.read("days/2024-06-22.book") == club.merged(30, "north")
-    text = hill.read_bytes()
-    hill.write_bytes(text[:-1])
-    club.lay("logs/2024-06-22/MORE.log", "hill")
-    for _ in range(2):
-        assert "HILL.log: line" in club.book(*days, status=1)
-        assert club.read("days/2024-06-21.book") == club.merged(30, "hill", "coast")
-        assert club.read("days/2024-06-22.book") == club.merged(30, "hill", "north")
-        assert club.read() == before
-    # mended by a log that is older than the book, as rsync may put it there
-    hill.write_bytes(text)
-    os.utime(hill, (0, 0))
-    assert club.book(*days) == ""
-    assert club.read() == club.merged(30, *ALL)
-    assert {it.name for it in club.path("days").iterdir() if not it.name.startswith(".")} == {
-        "2024-06-21.book", "2024-06-22.book"}
+def test_parts_are_files_of_their_own_and_leftovers_go(club: Club) -> None:
+    """One part of one book was the user's file under another name."""
+    club.path("given.book").write_bytes(club.merged(30, "hill"))
+    for name in ".parts.abcd0123.aprs-net-new", ".parts.abcd0124.aprs-net-work":
+        club.path(name).mkdir()
+        os.utime(club.path(name), (0, 0))
+    assert club.book("--parts", "1", "parts", "given.book") == ""
+    assert club.read("parts/0001.book") == club.merged(30, "hill")
+    assert not os.path.samefile(club.path("given.book"), club.path("parts/0001.book"))
+    assert club.names() == {"given.book", "parts", "parts/0001.book"}
 
 
-def test_a_day_whose_logs_are_gone_keeps_its_book(club: Club) -> None:
-    club.lay("logs/2024-06-21/HILL.log", "hill")
-    club.lay("logs/2024-06-22/NORTH.log", "north")
-    days = "--days", "days", "net.book", "logs"
-    club.book(*days)
-    shutil.rmtree(club.path("logs/2024-06-21"))
-    for more in "--jobs=2", "--anew":
-        assert club.book(more, *days) == ""
-        assert club.read() == club.merged(30, "hill", "north")
-    # unless it is empty: then it is named, and the book of all stays
-    club.path("days/2024-06-21.book").write_bytes(b"")
-    assert "2024-06-21.book: empty" in club.book(*days, status=1)
-    assert club.read() == club.merged(30, "hill", "north")
-
-
-def test_logs_of_no_day_are_refused_by_days(club: Club) -> None:
-    club.lay("logs/HILL.log")
-    assert "its day is unknown" in club.book("--days", "days", "net.book", "logs", status=1)
-
-
-def test_two_runs_at_once(club: Club) -> None:
-    for name in ALL:
-        club.lay(f"logs/2024-06-21/{name}.log", name)
-    runs = [started("book", "--days", "days", "net.book", "logs", cwd=club.folder, env=club.env)
-            for _ in range(4)]
-    assert [it.wait() for it in runs] == [0] * 4
-    assert club.read() == club.merged(30, *ALL)
-
-
-# ---- books that come in ----
-
-def test_what_cannot_be_merged_is_passed_over(club: Club) -> None:
-    club.path("in").mkdir()
-    files: Dict[str, bytes] = {
-        "own.book": club.merged(60, "hill"), "in/a b=c.book": club.merged(60, "coast"),
-        "in/cut.book": club.merged(60, "north")[:-3], "in/other.book": club.merged(30, "north"),
-        "in/north.book": club.merged(60, "north"), "in/empty.book": b""}
-    for name, text in files.items():
-        club.path(name).write_bytes(text)
-    club.path("in/link.book").symlink_to("nowhere")
-    os.mkfifo(club.path("in/pipe.book"))
-    for _ in range(2):
-        said = club.book("--pass-over", "own.book", "in")
-        for name, words in ("cut", "line [0-9]*: Ending"), ("other", "other gap"), \
-                ("empty", "empty, which no book is"), ("link", "no file"), ("pipe", "no file"):
-            line = [it for it in said.splitlines() if f"in/{name}.book is passed over: " in it]
-            assert len(line) == 1, (name, words, said)
-        assert said.count("\n") == 5
-        assert club.read("own.book") == club.merged(60, *ALL)
-
-
-def test_a_fault_of_this_machine_is_no_fault_of_a_book(club: Club) -> None:
-    club.path("in").mkdir()
-    club.path("own.book").write_bytes(club.merged(60, "hill"))
-    club.path("in/coast.book").write_bytes(club.merged(60, "coast"))
-    if club.bin is None:
-        pytest.skip("needs the stand-in")
-    program = club.bin / "aprsbook-fold"
-    program.write_text("#!/bin/sh\necho 'aprsbook-fold: cannot write' >&2\nexit 3\n")
-    said = club.book("--pass-over", "own.book", "in", status=3)
-    assert said == "aprsbook-fold: cannot write\n"
-
-
-@pytest.mark.parametrize("name", ["aprsbook", "aprsbook-fold"])
-def test_a_program_that_writes_nothing_makes_no_empty_book(club: Club, name: str) -> None:
-    """As `put-whole net.book true` did."""
-    if club.bin is None:
-        pytest.skip("needs the stand-in")
-    club.lay("logs/HILL.log", "hill")
-    club.book("net.book", "logs")
-    before = club.read()
-    club.lay("logs/COAST.log", "coast")
-    (club.bin / name).write_text("#!/bin/sh\nexit 0\n")
-    assert club.book("net.book", "logs", status=3).startswith(f"{name}: wrote nothing")
-    assert club.read() == before
-
-
-def test_a_killed_run_leaves_the_old_book_or_the_new_one(club: Club) -> None:
-    club.lay("logs/HILL.log", "hill")
-    club.book("net.book", "logs")
-    old = club.read()
-    club.lay("logs/COAST.log", "coast")
-    new = club.merged(30, "hill", "coast")
-    for delay in range(0, 480, 60):
-        process = started("book", "net.book", "logs", cwd=club.folder, env=club.env)
-        time.sleep(delay / 1000)
-        process.kill()
-        process.wait()
-        assert club.read() in (old, new)
-    club.book("net.book", "logs")
-    assert club.read() == new
+def test_names_that_are_no_utf_8(club: Club) -> None:
+    """The programs refuse these, where they would get them."""
+    inner = club.path(os.fsdecode(b"f\xff"))
+    try:
+        inner.mkdir()
+    except OSError:
+        pytest.skip("no such names here")
+    club.lay(f"{inner.name}/logs/hill.log", "hill")
+    (inner / "logs/coast.book").write_bytes(club.merged(30, "coast"))
+    (inner / "logs/north.book.gz").write_bytes(gzip.compress(club.merged(30, "north")))
+    (inner / "given.book").write_bytes(club.merged(30, "hill"))
+    for more in "", "--anew --fan 2 --pass-over", "--anew --work work":
+        tried("book", *more.split(), "net.book", "logs", cwd=inner, env=club.env)
+        assert (inner / "net.book").read_bytes() == club.merged(30, *ALL)
+    tried("book", "--gap", "60", "given.book", "logs/hill.log", cwd=inner, env=club.env)
+    assert (inner / "given.book").read_bytes() == club.merged(60, "hill")
+    tried("book", "--parts", "2", "parts", "logs", cwd=inner, env=club.env)
+    (inner / "logs/coast.book").write_bytes(club.merged(30, "coast")[:-3])
+    said = tried("book", "--anew", "net.book", "logs", cwd=inner, env=club.env, status=1).stderr
+    assert said.startswith(b"aprsbook-fold: logs/coast.book: line ")

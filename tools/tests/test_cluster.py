@@ -238,6 +238,19 @@ def test_one_worker_fails_at_all_it_does(hosts: Hosts) -> None:
     hosts.workers.pop().kill()
 
 
+def test_one_worker_has_a_python_that_is_sick(hosts: Hosts) -> None:
+    """Its status is 1, as of a faulty log."""
+    bad = hosts.folder / "sick"
+    bad.mkdir()
+    (bad / "aprs-net").write_text("#!/bin/sh\necho 'ImportError: libz.so.1' >&2\nexit 1\n")
+    (bad / "aprs-net").chmod(0o755)
+    hosts.workers.append(hosts.worker(PATH=f"{bad}{os.pathsep}{hosts.env['PATH']}"))
+    hosts.is_registered(hosts.workers[-1])
+    hosts.ends(hosts.merge("sick", "sick.book"), 0)
+    hosts.is_book("sick.book")
+    hosts.workers.pop().kill()
+
+
 def test_the_disk_is_full(hosts: Hosts) -> None:
     small = hosts.folder / "small"
     small.mkdir()

@@ -1,12 +1,17 @@
 """The tables of a book in SQLite and as CSV."""
+import concurrent.futures
 import pathlib
 import sqlite3
 import subprocess
-from typing import Any, List
+import time
+from typing import Any, Dict, List
 
 import pytest
 from standing import Programs, at, message, place, put, row, station
 
+from aprsbook_tools import databases
+from aprsbook_tools.errors import Fault
+from aprsbook_tools.roster import Roster
 from aprsbook_tools.spreadsheet import read_csv
 
 
@@ -98,6 +103,30 @@ def test_a_place_at_0_0_is_none(programs: Programs) -> None:
         assert asked_of == [("Q1B",), ("Q1C",)]
 
 
+def test_a_kill_at_0_0_is_where_the_thing_was(programs: Programs) -> None:
+    """Or a killed object was live for ever in the views."""
+    programs.say(
+        put("18:00", "Q1NET", "CP 1", 54.6, -3.4),
+        put("18:01", "Q1NET", "CP 1", 54.7, -3.5),
+        put("18:02", "Q1NET", "CP 1", 0, 0, state="killed"),
+        put("18:03", "Q1NET", "CP 1", 54.8, -3.6),
+        put("18:04", "Q1NET", "CP 2", 0, 0, state="killed"),
+        put("18:05", "Q1NET", "CP 3", 54.9, -3.7),
+        put("18:06", "Q1B", "CP 3", 0, 0, state="killed"),
+    )
+    programs.run("sqlite", "net.log", "net.db")
+    path = programs.folder / "net.db"
+    kills = "select name, first, latitude, source from tracks where state = 'killed' order by name"
+    assert asked(path, kills) == [
+        ("CP 1", at("18:02"), 54.7, "Q1NET"),
+        ("CP 3", at("18:06"), 54.9, "Q1B"),
+    ]
+    assert asked(path, "select name, state, latitude from places order by name") == [
+        ("CP 1", "live", 54.8),
+        ("CP 3", "killed", 54.9),
+    ]
+
+
 def test_other_tables_stay(programs: Programs) -> None:
     path = fill(programs)
     base = sqlite3.connect(path)
@@ -153,6 +182,20 @@ def test_a_database_that_is_written_is_waited_for(programs: Programs) -> None:
     with subprocess.Popen(["python3", "-c", hold, str(path)], stdout=subprocess.PIPE) as other:
         assert other.stdout and other.stdout.readline() == b"held\n"
         programs.run("sqlite", "net.log", "net.db")
+
+
+def test_a_new_database_that_a_fault_takes_away_is_made_by_who_waits(
+    tmp_path: pathlib.Path,
+) -> None:
+    path = tmp_path / "net.db"
+    none: Dict[str, List[Any]] = {name: [] for name in databases.TABLES}
+    with concurrent.futures.ThreadPoolExecutor(1) as pool:
+        with pytest.raises(Fault, match="a fault"), databases.writing(str(path), []):
+            waits = pool.submit(databases.write, str(path), none, [], Roster())
+            time.sleep(0.3)
+            raise Fault("a fault")
+        waits.result()
+    assert asked(path, "select count(*) from places") == [(0,)]
 
 
 def test_csv_of_a_table(programs: Programs) -> None:

@@ -467,3 +467,9 @@ def test_standard_output_that_takes_nothing() -> None:
         done = subprocess.run(command("import", "direwolf"), input=WOLF, stdout=full,
                               stderr=subprocess.PIPE, env=environment())
     assert done.returncode == 3 and done.stderr.count(b"\n") == 1, done.stderr
+
+
+def test_a_moment_that_no_log_has_is_refused() -> None:
+    text = b"9999999999 Q1A>APRS:>x\n1718992800 Q1A>APRS:>y\n"
+    lines, said = imported(text, "monitor", status=1)
+    assert heads(lines) == ["2024-06-21T18:00:00.000Z TEXT"] and "1970 to 2099" in said

@@ -5,11 +5,16 @@ import lzma
 import os
 import pathlib
 import subprocess
+import tempfile
+import threading
 from typing import Callable, Dict, List, Set
 
 import pytest
-from conftest import command as aprs_net, environment
+from conftest import command as aprs_net, environment, tried
 from standing import Programs, at, place
+
+from aprsbook_tools import inputs, pieces
+from aprsbook_tools.errors import OUTPUT, Fault
 
 LINE = "2024-06-21T18:00:00.000Z RX1 c0c0\n"
 
@@ -74,6 +79,27 @@ def test_a_path_that_is_no_utf_8_is_read(programs: Programs) -> None:
     assert ".log: line 1: Moment" in programs.said and ".named" not in programs.said
 
 
+def test_utf_8_is_what_the_bytes_of_a_name_are(monkeypatch: pytest.MonkeyPatch) -> None:
+    """And not its text, which a locale makes of them."""
+    assert inputs.is_utf_8("l\xe4.log") and not inputs.is_utf_8("l\udce4.log")
+    monkeypatch.setattr(os, "fsencode", lambda it: it.encode("iso-8859-1"))
+    assert inputs.is_utf_8("la.log") and not inputs.is_utf_8("l\xe4.log")
+
+
+def test_no_thread_can_be_had(programs: Programs, monkeypatch: pytest.MonkeyPatch) -> None:
+    """As where memory is short."""
+    def refuse(_: threading.Thread) -> None:
+        raise RuntimeError("can't start new thread")
+
+    monkeypatch.setattr(threading.Thread, "start", refuse)
+    files = len(os.listdir("/proc/self/fd"))
+    with tempfile.TemporaryFile() as into, pytest.raises(RuntimeError):
+        pieces.merge(30, [], into)
+    assert len(os.listdir("/proc/self/fd")) == files
+    programs.run("book", "net.book", "net.log", status=4)
+    assert programs.said == "aprs-net: no memory is left\n"
+
+
 def test_a_compressed_log_is_read(programs: Programs) -> None:
     (programs.folder / "RX1.log.gz").write_bytes(gzip.compress(LINE.encode()))
     programs.run("page", "-o", "page.html", "RX1.log.gz")
@@ -136,8 +162,27 @@ def test_a_pipe_of_the_shell_is_read(programs: Programs) -> None:
     assert programs.said == f"aprsbook-table: /dev/fd/{reads}: line 1: Moment\n"
 
 
-def test_an_empty_book_is_refused(programs: Programs) -> None:
-    (programs.folder / "net.book").write_bytes(b"")
+@pytest.mark.parametrize("name, octets", [
+    ("net.book", b""), ("net.book.gz", b""), ("net.book.gz", gzip.compress(b""))])
+def test_an_empty_book_is_refused(programs: Programs, name: str, octets: bytes) -> None:
+    (programs.folder / name).write_bytes(octets)
     for command in ["tracks", "gpx"], ["page"], ["last-heard"], ["ics-309"], ["csv", "rows"]:
-        programs.run(*command, "net.log", "net.book", status=1)
-        assert "net.book is empty, which no book is" in programs.said
+        programs.run(*command, "net.log", name, status=1)
+        assert f"{name} is empty, which no book is" in programs.said
+
+
+def test_a_pipe_in_a_folder_is_no_input(tmp_path: pathlib.Path) -> None:
+    """Whoever reads it waits for ever."""
+    (tmp_path / "logs/2024-06-21").mkdir(parents=True)
+    os.mkfifo(tmp_path / "logs/2024-06-21/RX1.log")
+    for words in ["last-heard", "logs"], ["follow", "--day", "2024-06-21", "logs", "out"]:
+        said = tried(*words, cwd=tmp_path, status=1, timeout=20).stderr
+        assert b"RX1.log" in said and b"no file" in said
+
+
+@pytest.mark.skipif(not os.path.exists("/dev/full"), reason="needs /dev/full")
+def test_a_full_disk_is_no_fault_of_what_is_unpacked(tmp_path: pathlib.Path) -> None:
+    (tmp_path / "RX1.log.gz").write_bytes(gzip.compress(LINE.encode()))
+    with pytest.raises(Fault, match="/dev/full: No space left") as fault:
+        inputs.unpack(inputs.look_at(str(tmp_path / "RX1.log.gz")), "/dev/full")
+    assert fault.value.status == OUTPUT

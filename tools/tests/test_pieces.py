@@ -2,14 +2,14 @@
 import os
 import pathlib
 import tempfile
-from typing import List
+from typing import IO, Iterator, List
 
 import pytest
 from hypothesis import example, given
 from hypothesis import strategies as st
 
-from aprsbook_tools import building, jobs, pieces
-from aprsbook_tools.errors import Fault
+from aprsbook_tools import building, jobs, pieces, programs
+from aprsbook_tools.errors import MEMORY, OUTPUT, Fault
 
 LINES = st.lists(st.sampled_from([b"", b"a", b"2024-06-21T18:00:00Z RX1 c0c0", b"APRSBOOK 3 30",
                                   b"x" * 9000, b"\xff\r"]))
@@ -93,3 +93,32 @@ def test_groups(count: int, most: int) -> None:
     assert [it for group in found for it in group] == books
     assert all(0 < len(it) <= most for it in found)
     assert len(found) == -(-count // most)
+
+
+def test_bounds_need_the_program_that_folds(monkeypatch: pytest.MonkeyPatch) -> None:
+    """Without it each part was the whole book."""
+    called: List[str] = []
+    monkeypatch.setattr(programs, "is_there", lambda _: False)
+    monkeypatch.setattr(programs, "write_book", lambda into, *words: called.append(words[0]))
+    with tempfile.TemporaryFile() as into:
+        jobs.fold(30, ["a.book"], into)
+        jobs.fold(30, ["a.book"], into, "Q1A")
+        jobs.fold(30, ["a.book"], into, "", "Q1A")
+    assert called == ["aprsbook", "aprsbook-fold", "aprsbook-fold"]
+
+
+@pytest.mark.parametrize("kind", [ZeroDivisionError, MemoryError])
+def test_whatever_ends_a_feeder_is_told(monkeypatch: pytest.MonkeyPatch, kind: type) -> None:
+    """Or the book of half a log was a whole one."""
+    def fail(it: pieces.Range) -> Iterator[bytes]:
+        yield b"a line\n"
+        raise kind
+
+    def write_book(into: IO[bytes], *words: str, given: IO[bytes]) -> None:
+        assert given.read() == b"a line\n"
+
+    monkeypatch.setattr(pieces, "blocks", fail)
+    monkeypatch.setattr(programs, "write_book", write_book)
+    with tempfile.TemporaryFile() as into, pytest.raises(Fault) as fault:
+        pieces.merge(30, [pieces.Range("a.log", 0, 9)], into)
+    assert fault.value.status == (MEMORY if kind is MemoryError else OUTPUT)

@@ -1,5 +1,6 @@
 """aprs-net shift, mend and pcap: logs whose moments are wrong, or that were cut."""
 import gzip
+import os
 import pathlib
 import struct
 import tempfile
@@ -131,6 +132,14 @@ def test_a_compressed_log_is_read(tmp_path: pathlib.Path) -> None:
     assert tried("shift", "0", tmp_path / "a.log.gz").stdout == log
 
 
+@pytest.mark.skipif(not os.path.exists("/proc/self/mem"), reason="needs /proc")
+def test_an_input_that_refuses_is_named_and_not_the_output(tmp_path: pathlib.Path) -> None:
+    for output in "-", tmp_path / "out":
+        said = tried("mend", "-o", output, "/proc/self/mem", status=1).stderr
+        assert said == b"aprs-net: /proc/self/mem: Input/output error\n"
+    assert not (tmp_path / "out").exists()
+
+
 # ---- pcap ----
 
 def test_a_capture_has_the_frames_of_a_log() -> None:
@@ -143,3 +152,14 @@ def test_a_capture_has_the_frames_of_a_log() -> None:
     back = tried("import", "pcap", "--name", "RX1", given=octets).stdout
     assert back == log.splitlines(True)[0]
     tried("pcap", given=b"no log\n", status=1)
+
+
+def test_a_packet_is_made_of_a_whole_frame_alone() -> None:
+    """As the programs read a log: a torn last line is none of it."""
+    line = b"2024-06-21T18:00:00.000Z RX1 c000a0c0"
+    assert b"line 2: no line of a log" in tried("pcap", given=line + b"\n" + line, status=1).stderr
+    head = tried("pcap", given=b"").stdout
+    assert len(tried("pcap", given=line + b"\n").stdout) > len(head)
+    for other in b"c000a0", b"c000a0c000a0c0", b"c000a0c000", b"c0c0", b"c0":
+        text = line.replace(b"c000a0c0", other) + b"\n"
+        assert tried("pcap", given=text).stdout == head, other

@@ -226,6 +226,13 @@ def test_another_file_is_no_state(net: Programs, tmp_path: pathlib.Path) -> None
     assert (tmp_path / "notes").read_text() == "mine"
 
 
+def test_a_pipe_is_no_state(net: Programs) -> None:
+    """Whoever reads it waits for ever."""
+    os.mkfifo(net.folder / "pipe")
+    said_ = tried(*WORDS, "--state", "pipe", "logs", cwd=net.folder, status=2, timeout=20).stderr
+    assert b"pipe isn't what was told before" in said_
+
+
 def test_a_folder_without_logs_is_said(net: Programs) -> None:
     os.rename(net.folder / "logs", net.folder / "other")
     net.run(*WORDS, "logs", status=1)

@@ -11,7 +11,6 @@ import os
 import re
 import shutil
 import tempfile
-import time
 from typing import Any, Callable, Dict, Iterator, List, Optional, Sequence
 
 from aprsbook_tools import (
@@ -23,7 +22,6 @@ from aprsbook_tools.inputs import Input
 from aprsbook_tools.pieces import MEGABYTE
 
 READ = 1 << 30  # bytes: no more of an input is read by programs that hold a book in memory
-WORK = ".aprs-net-work"  # with which the name of a folder ends that goes away
 Say = Callable[[str], None]
 PassOver = Callable[[str, str], None]  # is told of an input, and why it is passed over
 
@@ -57,12 +55,13 @@ def work_folder(path: str, wish: Wish, gap: int, items: Sequence[Input]) -> Iter
             os.makedirs(folder, exist_ok=True)
         except OSError as fault:
             raise Fault(f"{wish.work}: {fault.strerror}", 3) from fault
+        whole.remove_leftovers(folder)
         yield folder
         return
     real = os.path.realpath(path)
-    remove_leftovers(real)
+    whole.remove_leftovers(*os.path.split(real))
     try:
-        folder = tempfile.mkdtemp(WORK, f".{os.path.basename(real)}.", os.path.dirname(real))
+        folder = tempfile.mkdtemp(whole.WORK, f".{os.path.basename(real)}.", os.path.dirname(real))
     except OSError as fault:
         raise Fault(f"{path}: {fault.strerror}", 3) from fault
     try:
@@ -71,15 +70,12 @@ def work_folder(path: str, wish: Wish, gap: int, items: Sequence[Input]) -> Iter
         shutil.rmtree(folder, ignore_errors=True)
 
 
-def remove_leftovers(real: str) -> None:
-    """Takes away the folders that runs which were killed have left of this book, after a day."""
-    at, name = os.path.split(real)
-    form = re.compile(re.escape("." + name) + r"\.[a-z0-9_]{8}" + re.escape(WORK))
-    with contextlib.suppress(OSError):
-        for it in os.scandir(at):
-            if form.fullmatch(it.name) and it.is_dir(follow_symlinks=False) \
-                    and time.time() - it.stat().st_mtime > whole.DAY:
-                shutil.rmtree(it.path, ignore_errors=True)
+def is_of_work(path: str, work: str) -> bool:
+    """Whether a file lies in a folder of `work_folder` that stays."""
+    begin = os.path.join(os.path.realpath(work), "")
+    real = os.path.realpath(path)
+    return bool(work and real.startswith(begin)
+                and re.match(r"[0-9a-f]{16}/", real[len(begin):].replace(os.sep, "/")))
 
 
 # ---- of what a book was made ----
@@ -114,7 +110,8 @@ def remember(path: str, made: Dict[str, Any], before: Dict[str, Any]) -> None:
     sums, old = {}, before.get("inputs", {})
     for name, stamp in made["inputs"].items():
         known = before.get("sums", {}).get(name) if old.get(name) == stamp else None
-        sums[name] = known or sum_of(name, stamp[0])
+        with contextlib.suppress(OSError):  # gone since, as a log that is compressed each night
+            sums[name] = known or sum_of(name, stamp[0])
     text = json.dumps({**made, "sums": sums, "book": stamp_of(path)}, sort_keys=True) + "\n"
     whole.write(whole.beside(path, "of"), text.encode("utf-8", "surrogateescape"))
 
@@ -131,9 +128,17 @@ def say_what_is_gone(path: str, before: Dict[str, Any], items: Sequence[Input], 
         elif now[name].size < size:
             say(f"{name} has become shorter: what {path} has of it stays")
         elif (now[name].size, now[name].changed) != (size, changed) and not now[name].is_book \
-                and sum_of(name, size) != before.get("sums", {}).get(name):
+                and is_changed(name, size, before.get("sums", {}).get(name)):
             say(f"{name} was changed, not only added to: what {path} has of it stays, until it is "
                 "made --anew")
+
+
+def is_changed(path: str, size: int, known: Optional[int]) -> bool:
+    """Whether a file's first bytes have another checksum; not where it is gone since."""
+    try:
+        return sum_of(path, size) != known
+    except OSError:
+        return False
 
 
 # ---- a book ----
@@ -163,11 +168,17 @@ def usable(items: Sequence[Input], pass_over: Optional[PassOver] = None) -> List
     return result
 
 
+def again(items: Sequence[Input]) -> List[Input]:
+    """Inputs as they are now; one that is gone, as it was."""
+    return [inputs.look_at(it.path) if os.path.exists(it.path) else it for it in items]
+
+
 def make(path: str, items: Sequence[Input], wish: Wish, say: Say) -> bool:
     """A book becomes that of itself and of inputs; whether it changed."""
     whole.check(path)
-    with whole.locked(path):
-        return make_locked(path, items, wish, say)
+    with whole.locked(path) as has_waited:
+        # what another run has read meanwhile has grown
+        return make_locked(path, again(items) if has_waited else items, wish, say)
 
 
 def make_locked(path: str, items: Sequence[Input], wish: Wish, say: Say) -> bool:
@@ -176,7 +187,8 @@ def make_locked(path: str, items: Sequence[Input], wish: Wish, say: Say) -> bool
     if old is not None and gap < old:
         raise Fault(f"{path} has the gap {old}, and can't get the narrower one {gap}: "
                     "make it of the logs, with --anew")
-    items = [it for it in items if not whole.is_same(it.path, path)]
+    items = [it for it in items
+             if not whole.is_same(it.path, path) and not is_of_work(it.path, wish.work)]
     made = made_of(gap, items)
     before = remembered(path) if wish.noted else {}
     if wish.noted and not wish.anew and made == {key: before.get(key) for key in made}:
@@ -193,12 +205,12 @@ def make_locked(path: str, items: Sequence[Input], wish: Wish, say: Say) -> bool
     with work_folder(path, wish, gap, items) as folder:
         plan = Plan(gap, folder, wish.piece, wish.most)
         books = books_of(plan, items, wish, pass_over)
-        if old is not None:
-            books.append(widened(path, old, gap, folder))
-        if not books:
-            return False
-        with whole.writing(path) as new:
-            building.write_book(plan, books, new.file)
+        with widened(path, old, gap, folder) as own:
+            books += own
+            if not books:
+                return False
+            with whole.writing(path) as new:
+                building.write_book(plan, books, new.file)
     if wish.noted and not passed:
         remember(path, made, before)
     say_what_is_large(path, say)
@@ -221,14 +233,20 @@ def say_what_is_large(path: str, say: Say) -> None:
             "1 GiB at most. Make parts of it, with --parts")
 
 
-def widened(path: str, old: int, gap: int, folder: str) -> str:
-    """The book that is there, under a gap that may be wider."""
-    if gap == old:
-        return os.path.realpath(path)
+@contextlib.contextmanager
+def widened(path: str, old: Optional[int], gap: int, folder: str) -> Iterator[List[str]]:
+    """The book that is there, if one is, under a gap that may be wider."""
+    real = os.path.realpath(path)
+    if old is None or old == gap:
+        yield [] if old is None else [real]
+        return
     number, into = tempfile.mkstemp(".book", "widened-", folder)
-    with open(number, "wb") as file:
-        programs.write_book(file, "aprsbook", "widen", str(gap), os.path.realpath(path))
-    return into
+    try:
+        with open(number, "wb") as file, inputs.named([real]) as names:
+            programs.write_book(file, "aprsbook", "widen", str(gap), *names)
+        yield [into]
+    finally:
+        os.unlink(into)
 
 
 # ---- parts of a book ----
@@ -240,7 +258,7 @@ def make_parts(path: str, items: Sequence[Input], parts: int, wish: Wish, say: S
     if not programs.is_there("aprsbook-fold"):
         raise Fault("parts need aprsbook-fold")
     gap = wish.gap or book_file.GAP
-    items = usable(items)
+    items = usable([it for it in items if not is_of_work(it.path, wish.work)])
     with work_folder(path, wish, gap, items) as folder:
         plan = Plan(gap, folder, wish.piece, wish.most)
         made, given = building.books_of(wish.engine, plan, items)
@@ -248,7 +266,7 @@ def make_parts(path: str, items: Sequence[Input], parts: int, wish: Wish, say: S
         with new_folder(path) as new:
             for number, book in enumerate(books, 1):
                 into = os.path.join(new, f"{number:04}.book")
-                put_beside(book, into)
+                put_beside(book, into, book in plan.made)
                 say_what_is_large(into, say)
 
 
@@ -263,6 +281,7 @@ def new_folder(path: str) -> Iterator[str]:
         os.chmod(new, whole.mode_of_new(0o777))
         whole.sync_folder(new)
         os.rename(new, real)
+        whole.sync_folder(os.path.dirname(real))
     except OSError as fault:
         raise Fault(f"{path}: {fault.strerror}", errors.OUTPUT) from fault
     finally:
@@ -270,11 +289,13 @@ def new_folder(path: str) -> Iterator[str]:
             shutil.rmtree(new, ignore_errors=True)
 
 
-def put_beside(path: str, into: str) -> None:
-    """A file gets another name too, or a copy where that can't be; it is on the disk then."""
-    try:
-        os.link(path, into)
-    except OSError:
+def put_beside(path: str, into: str, is_own: bool) -> None:
+    """A file is copied, or gets another name too where it is one's own and that can be; it is on
+    the disk then."""
+    if is_own:
+        with contextlib.suppress(OSError):
+            os.link(path, into)
+    if not os.path.lexists(into):
         shutil.copyfile(path, into)
     with open(into, "rb+") as file:
         os.fsync(file.fileno())
@@ -296,12 +317,15 @@ def make_days(folder: str, items: Sequence[Input], wish: Wish, say: Say) -> List
         days.setdefault(it.day, []).append(it)
     faults: List[Fault] = []
     alone = dataclasses.replace(wish, engine=engines.Here(1))
-    with concurrent.futures.ThreadPoolExecutor(wish.engine.width) as pool:
+    with engines.threads(wish.engine.width) as pool:
         waiting = [pool.submit(make, os.path.join(folder, f"{day}.book"), of_day, alone, say)
                    for day, of_day in sorted(days.items())]
-        for done in progress.counted(waiting, "days", len(waiting)):
-            try:
-                done.result()
-            except Fault as fault:
-                faults.append(fault)
+        done = concurrent.futures.as_completed(waiting)
+        for _ in progress.counted(done, "days", len(waiting)):
+            pass
+    for future in waiting:
+        try:
+            future.result()
+        except Fault as fault:
+            faults.append(fault)
     return faults

@@ -8,7 +8,7 @@ from typing import IO, Callable, Dict, Iterable, List, Sequence, Set, Tuple
 from aprsbook_tools import book_file, jobs, pieces, table
 from aprsbook_tools.engines import Engine
 from aprsbook_tools.errors import Fault
-from aprsbook_tools.inputs import Input, no_option
+from aprsbook_tools.inputs import Input, named, no_option
 from aprsbook_tools.jobs import Fold, Job, Merge, Unpack
 from aprsbook_tools.pieces import MEGABYTE
 
@@ -76,10 +76,11 @@ def books_of_each(engine: Engine, plan: Plan, items: Sequence[Input],
     names: Dict[str, str] = {}
     for number, it in enumerate(items):
         of_one = dataclasses.replace(plan, stem=f"input-{number:06}-")
-        if not it.packing and is_book(it):
-            own: List[Job] = [Fold(of_one.path("as-it-is.book"), plan.gap, [it.path])]
-        else:
-            own = jobs_of([it], of_one, plan.piece)
+        try:
+            own = jobs_of_one(it, of_one)
+        except Fault as fault:  # it is gone since
+            pass_over(it.path, fault.words.replace(f"{it.path}: ", ""))
+            continue
         names.update({job.path: it.path for job in own})
         todo += own
     bad: Set[str] = set()
@@ -95,6 +96,13 @@ def books_of_each(engine: Engine, plan: Plan, items: Sequence[Input],
     for path, name in names.items():
         books.setdefault(name, []).append(path)
     return [path for name, own_ in books.items() if name not in bad for path in own_]
+
+
+def jobs_of_one(it: Input, plan: Plan) -> List[Job]:
+    """The jobs that make books of one input; that of a book is its check."""
+    if not it.packing and is_book(it):
+        return [Fold(plan.path("as-it-is.book"), plan.gap, [it.path])]
+    return jobs_of([it], plan, plan.piece)
 
 
 def jobs_of(items: Sequence[Input], plan: Plan, size: int) -> List[Job]:
@@ -163,7 +171,7 @@ def write_book(plan: Plan, books: Sequence[str], into: IO[bytes]) -> None:
         with open(books[0], "rb") as file:
             shutil.copyfileobj(file, into, MEGABYTE)
     else:
-        jobs.fold(plan.gap, [no_option(it) for it in books], into)
+        jobs.fold(plan.gap, books, into)
 
 
 # ---- parts, by sources ----
@@ -176,7 +184,8 @@ def bounds_of(plan: Plan, books: Sequence[str], parts: int) -> List[Tuple[str, s
         raise Fault("books are too large to look at: make parts of their logs")
     step = max(1, sum(map(os.path.getsize, small)) // plan.piece)
     sample = small[::step]
-    counts = [(it.source, it.transmissions or 0) for it in table.stations(sample, plan.gap)]
+    with named(sample) as names:
+        counts = [(it.source, it.transmissions or 0) for it in table.stations(names, plan.gap)]
     total, before = sum(count for _, count in counts), 0
     sources: List[str] = []
     for source, count in counts:

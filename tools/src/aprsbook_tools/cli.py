@@ -71,7 +71,9 @@ def run(arguments: Optional[Sequence[str]] = None) -> int:
     except OSError as fault:
         say(words_of(fault))
         return errors.FAULTY
-    except MemoryError:
+    except (MemoryError, RuntimeError) as fault:
+        if isinstance(fault, RuntimeError) and "start new thread" not in str(fault):
+            raise
         say("aprs-net: no memory is left")
         return errors.MEMORY
 

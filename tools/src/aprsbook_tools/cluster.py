@@ -163,14 +163,17 @@ class Turn:
             status, words = self.answer(future)
             if status == 0:
                 self.cluster.strikes.pop(it.worker, None)
-                if it.number not in self.done:
-                    self.note_time(it)
-                    self.done.add(it.number)
-                    yield it.number
-            elif status == FAULTY:
+            if it.number in self.done:
+                continue  # another worker was first
+            if status == 0:
+                self.note_time(it)
+                self.done.add(it.number)
+                yield it.number
+            # in a program's words; the status of a Python that is sick is 1 too
+            elif status == FAULTY and words.startswith(("aprsbook: ", "aprsbook-fold: ")):
                 by, _, rest = words.partition(": ")
                 self.faults[it.number] = Fault(rest, FAULTY, by)
-            elif it.number not in self.done:
+            else:
                 strikes = self.cluster.strikes
                 strikes[it.worker] = strikes.get(it.worker, 0) + (status != GONE)
                 self.failed(it, words)

@@ -32,7 +32,8 @@ TABLES: Dict[str, Type[Any]] = {
 SENT = {f"a{number}": "real" for number in range(1, 6)}
 MAGIC = b"SQLite format 3\0"
 WAIT = 10.0  # seconds for another program's writing
-# each place, but for 0, 0, which GPS without a fix says, and the last one of each thing
+# each place, but for 0, 0, which GPS without a fix says, and the last one of each thing; a kill at
+# 0, 0 is where the thing was
 VIEWS = {
     "tracks": """create view tracks as select
         case when kind in ('object', 'item') then kind else 'station' end as kind,
@@ -40,7 +41,16 @@ VIEWS = {
         case when state = '' then 'live' else state end as state,
         first, last, receivers, receiver, source, latitude, longitude, ambiguity, compressed,
         symbol, course, speed_knots, altitude_m, text
-        from transmissions where latitude <> 0 or longitude <> 0""",
+        from transmissions where latitude <> 0 or longitude <> 0
+        union all select kill.kind, kill.name, kill.state, kill.first, kill.last, kill.receivers,
+        kill.receiver, kill.source, was.latitude, was.longitude, kill.ambiguity, kill.compressed,
+        kill.symbol, kill.course, kill.speed_knots, kill.altitude_m, kill.text
+        from transmissions as kill join transmissions as was on was.rowid = (
+            select rowid from transmissions as it where it.kind = kill.kind
+            and it.name = kill.name and (it.latitude <> 0 or it.longitude <> 0)
+            and (it.first, it.rowid) < (kill.first, kill.rowid)
+            order by it.first desc, it.rowid desc limit 1)
+        where kill.state = 'killed' and kill.latitude = 0 and kill.longitude = 0""",
     # of a group a column stands for the row that has the greatest
     "places": """create view places as select kind, name, state, first, last, receivers, receiver,
         source, latitude, longitude, ambiguity, compressed, symbol, course, speed_knots, altitude_m,
@@ -97,6 +107,12 @@ def check(path: str, inputs: Sequence[str]) -> str:
 def writing(path: str, inputs: Sequence[str]) -> Iterator[sqlite3.Connection]:
     """A transaction, which is taken back where its block ends by a fault."""
     real = check(path, inputs)
+    with whole.locked(path):  # so that nobody waits for a new one that a fault takes away
+        yield from transaction(path, real)
+
+
+def transaction(path: str, real: str) -> Iterator[sqlite3.Connection]:
+    """As `writing`, of the file behind links."""
     is_new = not os.path.exists(real)
     try:
         base = sqlite3.connect(real, timeout=WAIT, isolation_level=None)

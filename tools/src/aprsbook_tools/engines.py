@@ -1,13 +1,15 @@
 """Where jobs are done. An engine does them side by side, and tells the first of their faults."""
 import concurrent.futures
+import contextlib
 import os
-from typing import Callable, Optional, Sequence
+from typing import Callable, Iterator, Optional, Sequence
 
-from aprsbook_tools import jobs, progress
+from aprsbook_tools import jobs, programs, progress
 from aprsbook_tools.errors import FAULTY, Fault
 from aprsbook_tools.jobs import Job
 
 Passed = Callable[[Job, Fault], None]  # is told of a job that is passed over
+Pool = concurrent.futures.ThreadPoolExecutor
 
 
 class Engine:
@@ -29,19 +31,35 @@ class Here(Engine):
         self.kept = kept
 
     def do(self, title: str, todo: Sequence[Job], passed: Optional[Passed] = None) -> None:
-        with concurrent.futures.ThreadPoolExecutor(self.width) as pool:
-            waiting = [pool.submit(jobs.do, job, self.kept) for job in todo]
+        with threads(self.width) as pool:
+            for _ in progress.counted(self.done(pool, todo, passed), title, len(todo)):
+                pass
+
+    def done(self, pool: Pool, todo: Sequence[Job], passed: Optional[Passed]) -> Iterator[Job]:
+        """The jobs, each once it is done."""
+        waiting = [pool.submit(jobs.do, job, self.kept) for job in todo]
+        for job, it in zip(todo, waiting):
             try:
-                for job, it in progress.counted(zip(todo, waiting), title, len(waiting)):
-                    try:
-                        it.result()
-                    except Fault as fault:
-                        if passed is None or fault.status != FAULTY:
-                            raise
-                        passed(job, fault)
-            finally:
-                for it in waiting:
-                    it.cancel()
+                it.result()
+            except Fault as fault:
+                if passed is None or fault.status != FAULTY:
+                    raise
+                passed(job, fault)
+            yield job
+
+
+@contextlib.contextmanager
+def threads(width: int) -> Iterator[Pool]:
+    """So many threads. Where the block ends by a fault, what waits for one isn't begun; and where
+    by a signal, the programs that threads run are ended."""
+    with Pool(width) as pool:
+        try:
+            yield pool
+        except BaseException as fault:
+            if not isinstance(fault, Exception):
+                programs.end_all()
+            pool.shutdown(wait=False, cancel_futures=True)
+            raise
 
 
 def processors() -> int:

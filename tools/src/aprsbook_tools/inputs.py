@@ -7,12 +7,12 @@ import io
 import lzma
 import os
 import re
-import shutil
 import stat
+import tempfile
 import zlib
-from typing import IO, Callable, Dict, Iterable, Iterator, List, Optional, Set, cast
+from typing import IO, Callable, Dict, Iterable, Iterator, List, Optional, Sequence, Set, cast
 
-from aprsbook_tools import book_file, errors, log_file
+from aprsbook_tools import book_file, errors, log_file, programs
 from aprsbook_tools.errors import Fault, said
 
 PACKED: Dict[str, Callable[[str], IO[bytes]]] = {
@@ -51,11 +51,16 @@ def is_input(path: str) -> bool:
     return KIND.fullmatch(os.path.basename(path)) is not None
 
 
+def day_said(path: str) -> str:
+    """The day that a path says, as 2024-06-21, or nothing."""
+    return str((DAY.findall(os.path.abspath(path)) or [""])[-1])
+
+
 def day_of(path: str) -> str:
     """The day of a log or a book, as 2024-06-21, or nothing."""
-    found = DAY.findall(os.path.abspath(path))
-    if found:
-        return str(found[-1])
+    said_day = day_said(path)
+    if said_day:
+        return said_day
     try:
         with opened(path) as file:
             begin = file.read(10).decode("ascii", "replace")
@@ -69,15 +74,15 @@ def look_at(path: str) -> Input:
     try:
         status = os.stat(path)
     except OSError:
-        return Input("", path, 0, 0, "no file")
+        return Input(day_said(path), path, 0, 0, "no file")
     if not os.path.isfile(path):
-        return Input("", path, 0, 0, "no file")
+        return Input(day_said(path), path, 0, 0, "no file")
     fault = ""
     if not os.access(path, os.R_OK):
         fault = "no leave to read it"
     elif not status.st_size and re.search(r"\.book(\.[a-z0-9]+)?$", path):
         fault = "empty, which no book is"
-    day = "" if fault else day_of(path)
+    day = day_said(path) if fault else day_of(path)
     return Input(day, path, status.st_size, status.st_mtime_ns, fault)
 
 
@@ -130,15 +135,24 @@ def unpacking(path: str) -> Iterator[IO[bytes]]:
         raise Fault(f"{path}: can't be unpacked to its end: {fault}") from fault
 
 
+def blocks(path: str) -> Iterator[bytes]:
+    """What a file has, unpacked; a Fault of its own where it can't be read."""
+    try:
+        with unpacking(path) as file:
+            for block in iter(lambda: file.read(1 << 16), b""):
+                programs.go_on()
+                yield block
+    except OSError as fault:
+        raise Fault(f"{path}: {fault.strerror or fault}") from fault
+
+
 def unpack(it: Input, into: str) -> None:
     """Writes an input, read to its end and not compressed, into a file."""
     try:
-        with unpacking(it.path) as packed, open(into, "wb") as file:
-            shutil.copyfileobj(packed, file)
+        with open(into, "wb") as file:
+            file.writelines(blocks(it.path))
     except OSError as fault:
-        name = fault.filename if isinstance(fault.filename, str) else it.path
-        status = errors.OUTPUT if name == into else errors.FAULTY
-        raise Fault(f"{name}: {fault.strerror or fault}", status) from fault
+        raise Fault(f"{into}: {fault.strerror or fault}", errors.OUTPUT) from fault
 
 
 def no_option(path: str) -> str:
@@ -149,8 +163,8 @@ def no_option(path: str) -> str:
 def is_utf_8(path: str) -> bool:
     """Whether the bytes of a path are UTF-8: the programs take no other."""
     try:
-        path.encode("utf-8")
-    except UnicodeEncodeError:
+        os.fsencode(path).decode("utf-8")
+    except UnicodeError:
         return False
     return True
 
@@ -177,6 +191,26 @@ def plain(items: Iterable[Input], folder: str) -> Iterator[str]:
             yield path
         else:
             yield no_option(it.path)
+
+
+@contextlib.contextmanager
+def named(paths: Sequence[str]) -> Iterator[List[str]]:
+    """The names of files as programs take them: where a path isn't UTF-8 there is a link to it, of
+    which a Fault says the path."""
+    with contextlib.ExitStack() as stack:
+        links: Dict[str, str] = {}
+        for number, path in enumerate(paths):
+            if not is_utf_8(path):
+                if not links:
+                    folder = stack.enter_context(tempfile.TemporaryDirectory(prefix="aprs-net-"))
+                links[path] = os.path.join(folder, f"{number:06}.named")
+                os.symlink(os.path.abspath(path), links[path])
+        try:
+            yield [links.get(it) or no_option(it) for it in paths]
+        except Fault as fault:
+            for path, link in links.items():
+                fault.words = fault.words.replace(link, path)
+            raise
 
 
 def whole_lines(octets: bytes) -> List[bytes]:

@@ -133,7 +133,7 @@ def read(path: str) -> Job:
 @contextlib.contextmanager
 def folder_beside(path: str) -> Iterator[str]:
     """A folder that goes away, beside a file."""
-    with tempfile.TemporaryDirectory(".aprs-net-work", f".{os.path.basename(path)}.",
+    with tempfile.TemporaryDirectory(whole.WORK, f".{os.path.basename(path)}.",
                                      os.path.dirname(path)) as folder:
         yield folder
 
@@ -205,7 +205,8 @@ def do(job: Job, kept: bool) -> None:
 def fold(gap: int, books: Sequence[str], into: IO[bytes], since: str = "", until: str = "") -> None:
     """The book of books: by aprsbook-fold, which holds a row of each, or else by aprsbook."""
     bounds = [*(["--from", since] if since else []), *(["--until", until] if until else [])]
-    if programs.is_there("aprsbook-fold"):
-        programs.write_book(into, "aprsbook-fold", "--gap", str(gap), *bounds, *books)
-    else:
-        programs.write_book(into, "aprsbook", "merge", "--gap", str(gap), "--", *books)
+    with inputs.named(books) as names:
+        if bounds or programs.is_there("aprsbook-fold"):  # which alone knows bounds
+            programs.write_book(into, "aprsbook-fold", "--gap", str(gap), *bounds, *names)
+        else:
+            programs.write_book(into, "aprsbook", "merge", "--gap", str(gap), "--", *names)

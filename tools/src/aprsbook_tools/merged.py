@@ -18,7 +18,14 @@ def plain(paths: Sequence[str]) -> Iterator[List[str]]:
         if paths and not found:
             raise Fault(f"no logs and no books are in {' '.join(paths)}")
         programs.check_inputs([it.path for it in found])
+        for it in found:
+            # what is named is read, also a pipe, as the shell's <(..)
+            if it.fault and it.path not in paths:
+                raise Fault(f"{it.path}: {it.fault}")
         files = list(inputs.plain(found, folder))
+        for it, file in zip(found, files):
+            if it.is_book and it.packing and not os.path.getsize(file):
+                raise Fault(f"{it.path} is empty, which no book is: put back a copy")
         try:
             yield files
         except Fault as fault:

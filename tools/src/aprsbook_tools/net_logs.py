@@ -66,6 +66,8 @@ def octets_of(path: str) -> Tuple[bytes, str]:
     """What a log has, unpacked, and why that isn't all of it."""
     parts: List[bytes] = []
     why = ""
+    if os.path.exists(path) and not os.path.isfile(path):
+        return b"", "can't be read to its end (no file)"
     try:
         with inputs.opened(path) as file:
             while not parts or parts[-1]:

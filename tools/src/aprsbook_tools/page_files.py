@@ -7,7 +7,7 @@ import zipfile
 from types import ModuleType
 from typing import Any, Dict, List, Optional, Union
 
-from aprsbook_tools import programs, text_file
+from aprsbook_tools import inputs, programs, text_file
 from aprsbook_tools.errors import Fault
 
 Folder = Union[pathlib.Path, zipfile.Path]  # within aprs-net.pyz files have paths of their own
@@ -118,9 +118,10 @@ def read_map(path: str) -> str:
 def texts_of(book: str, gap: Optional[int]) -> Dict[str, str]:
     """What the page has of a book: two of its tables, as they are."""
     texts = {}
-    for name in "rows", "messages":
-        command = programs.with_gap(["aprsbook-table", name], gap, [book])
-        texts[name] = programs.run(*command).decode("ascii")
+    with inputs.named([book]) as names:
+        for name in "rows", "messages":
+            command = programs.with_gap(["aprsbook-table", name], gap, names)
+            texts[name] = programs.run(*command).decode("ascii")
     return texts
 
 

@@ -1,11 +1,12 @@
 """Logs cut into pieces of whole lines, each of what several logs have of about the same time, so
 that copies of a transmission meet at once. Where clocks don't fit, that costs time alone."""
+import contextlib
 import os
 import threading
 from typing import IO, Iterator, List, NamedTuple, Optional, Sequence, Tuple
 
 from aprsbook_tools import book_file, programs
-from aprsbook_tools.errors import FAULTY, Fault, said
+from aprsbook_tools.errors import FAULTY, MEMORY, OUTPUT, Fault, said
 
 MEGABYTE = 1 << 20
 LEAST = MEGABYTE  # bytes: nothing smaller is cut off a log
@@ -26,8 +27,11 @@ class FaultyLog(Fault):
 
 def begins(path: str, octets: bytes) -> bool:
     """Whether a file begins so."""
-    with open(path, "rb") as file:
-        return file.read(len(octets)) == octets
+    try:
+        with open(path, "rb") as file:
+            return file.read(len(octets)) == octets
+    except OSError as fault:
+        raise Fault(said(fault)) from fault
 
 
 def line_start(file: IO[bytes], at: int) -> int:
@@ -91,7 +95,7 @@ class Feeder(threading.Thread):
 
     def run(self) -> None:
         try:
-            with open(self.into, "wb", buffering=0) as into:
+            with open(self.into, "wb", buffering=0, closefd=False) as into:
                 all(self.feed(it, into) for it in self.ranges)
         except BrokenPipeError:
             pass  # the program has ended, and says why
@@ -99,6 +103,13 @@ class Feeder(threading.Thread):
             self.fault = Fault(said(fault))
         except Fault as fault:
             self.fault = fault
+        except MemoryError:
+            self.fault = Fault("no memory is left", MEMORY)
+        except BaseException as fault:  # whatever it is, the pipe's end is none of the log
+            self.fault = Fault(f"{type(fault).__name__}: {fault}", OUTPUT)
+        finally:
+            with contextlib.suppress(OSError):
+                os.close(self.into)
 
     def feed(self, it: Range, into: IO[bytes]) -> bool:
         """Writes a range; whether it ends with a whole line."""
@@ -152,15 +163,20 @@ def merge(gap: int, ranges: Sequence[Range], into: IO[bytes]) -> None:
     that of the log, with its line there."""
     reads, writes = os.pipe()
     feeder = Feeder(ranges, writes)
-    feeder.start()
     fault: Optional[Fault] = None
-    try:
-        with open(reads, "rb") as given:
+    with open(reads, "rb") as given:
+        try:
+            feeder.start()
+        except RuntimeError:  # no thread can be had
+            os.close(writes)
+            raise
+        try:
             programs.write_book(into, "aprsbook", "merge", "--gap", str(gap), given=given)
-    except Fault as it:
-        fault = it
-    finally:
-        feeder.join()
+        except Fault as it:
+            fault = it
+        finally:
+            given.close()  # so that a feeder ends whose lines nobody reads
+            feeder.join()
     if feeder.fault:
         raise feeder.fault
     if fault:

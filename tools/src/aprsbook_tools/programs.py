@@ -5,12 +5,16 @@ import re
 import shutil
 import subprocess
 import tempfile
-from typing import IO, Iterator, List, Optional, Sequence, Tuple, Union
+import threading
+from typing import IO, Iterator, List, Optional, Sequence, Set, Tuple, Union
 
 from aprsbook_tools import errors
 from aprsbook_tools.errors import Fault
 
 Given = Union[bytes, IO[bytes], None]  # None: standard input as it is
+RUNNING: Set["subprocess.Popen[bytes]"] = set()  # what threads have started
+STARTING = threading.Lock()
+ENDED = threading.Event()  # whether a signal has asked for the end
 
 
 def is_there(program: str) -> bool:
@@ -22,7 +26,7 @@ def find(program: str) -> str:
     """The path of a program."""
     path = shutil.which(program)
     if path is None:
-        raise Fault(f"the program {program} isn't in the PATH: install aprsbook")
+        raise Fault(f"the program {program} isn't in the PATH: install aprsbook", errors.OUTPUT)
     return path
 
 
@@ -66,6 +70,20 @@ def fault_line(fault: Fault, place: str) -> Optional[Tuple[int, str]]:
     return (int(found[1]), found[2]) if found else None
 
 
+def go_on() -> None:
+    """A Fault where a signal has asked for the end, for a thread that wasn't told."""
+    if ENDED.is_set():
+        raise Fault("ended by a signal", errors.OUTPUT)
+
+
+def end_all() -> None:
+    """Ends the programs that threads run; no other begins."""
+    with STARTING:
+        ENDED.set()
+        for process in [*RUNNING]:
+            process.kill()
+
+
 def run(*command: str, given: Given = b"", into: Optional[IO[bytes]] = None) -> bytes:
     """What a program writes, or nothing where that goes `into` a file."""
     open_many_files()
@@ -75,14 +93,19 @@ def run(*command: str, given: Given = b"", into: Optional[IO[bytes]] = None) -> 
     if not isinstance(given, bytes):
         stdin = given
     out: Union[int, IO[bytes]] = subprocess.PIPE if into is None else into
-    process = subprocess.Popen(
-        [path, *command[1:]], stdin=stdin, stdout=out, stderr=subprocess.PIPE)
+    with STARTING:
+        go_on()
+        process = subprocess.Popen(
+            [path, *command[1:]], stdin=stdin, stdout=out, stderr=subprocess.PIPE)
+        RUNNING.add(process)
     with process:
         try:
             written, complaint = process.communicate(octets)
         except BaseException:
             process.kill()
             raise
+        finally:
+            RUNNING.discard(process)
     if process.returncode:
         raise fault_of(command, process.returncode, complaint)
     return written or b""

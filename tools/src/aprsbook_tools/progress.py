@@ -1,5 +1,6 @@
 """How far long work is, on standard error where that is a terminal, and nothing elsewhere."""
 import sys
+import threading
 import time
 from typing import Iterable, Iterator, Optional, TypeVar
 
@@ -10,8 +11,10 @@ STEP = 0.2  # seconds between two counts
 
 
 def counted(items: Iterable[T], words: str, total: Optional[int] = None) -> Iterator[T]:
-    """The items, with a line that counts them, such as `days: 3 of 20`."""
-    if sys.stderr is None or not sys.stderr.isatty():
+    """The items, with a line that counts them, such as `days: 3 of 20`. What other threads count
+    is a part of that."""
+    is_part = threading.current_thread() is not threading.main_thread()
+    if is_part or sys.stderr is None or not sys.stderr.isatty():
         yield from items
         return
     of = f" of {total}" if total is not None else ""

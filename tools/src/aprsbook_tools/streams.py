@@ -4,6 +4,7 @@ import sys
 from typing import IO, Iterator, Optional, Sequence
 
 from aprsbook_tools import inputs, whole
+from aprsbook_tools.errors import Fault
 
 BLOCK = 1 << 16  # bytes that are written at a time
 
@@ -25,10 +26,21 @@ def opened(path: Optional[str]) -> Iterator[IO[bytes]]:
             yield file
 
 
+def read_of(lines: Iterator[bytes], name: str) -> Iterator[bytes]:
+    """What is made of an input, whose faults aren't those of the output."""
+    try:
+        yield from lines
+    except OSError as fault:
+        if fault.errno is None:
+            raise  # of a compressed input
+        raise Fault(f"{name}: {fault.strerror}") from fault
+
+
 def put(output: Optional[str], lines: Iterator[bytes], given: Sequence[str],
         at_once: bool = False) -> None:
     """Writes lines into a file, whole or not at all; or to standard output, each at once where the
     input goes on."""
+    lines = read_of(lines, name_of(given[0] if given else None))
     if output is not None and output != "-":
         with whole.writing(output, given) as new:
             new.file.writelines(lines)

@@ -10,6 +10,7 @@ import filecmp
 import os
 import re
 import select
+import shutil
 import stat
 import sys
 import tempfile
@@ -26,6 +27,7 @@ except ImportError:  # not on Windows
     fcntl = None  # type: ignore[assignment]
 
 SUFFIX = ".aprs-net-new"
+WORK = ".aprs-net-work"  # with which the name of a folder ends that goes away
 DAY = 86_400  # seconds
 ASKING = threading.Lock()
 
@@ -93,15 +95,20 @@ def is_log(path: str) -> bool:
         return False
 
 
-def remove_leftovers(real: str) -> None:
-    """Takes away what runs that were killed have left of this file, after a day."""
-    folder, name = os.path.split(real)
-    form = re.compile(re.escape("." + name) + r"\.[a-z0-9_]{8}" + re.escape(SUFFIX))
+def remove_leftovers(folder: str, name: str = "") -> None:
+    """Takes away what runs that were killed have left of a file, or of all of a folder, after a
+    day: files, and folders with what is in them."""
+    of = re.escape(name) if name else ".+"
+    form = re.compile(rf"\.{of}\.[a-z0-9_]{{8}}({re.escape(SUFFIX)}|{re.escape(WORK)})", re.DOTALL)
     with contextlib.suppress(OSError):
-        for it in os.listdir(folder):
-            left = os.path.join(folder, it)
-            if form.fullmatch(it) and time.time() - os.lstat(left).st_mtime > DAY:
-                os.unlink(left)
+        for it in os.scandir(folder):
+            found = form.fullmatch(it.name)
+            if not found or time.time() - it.stat(follow_symlinks=False).st_mtime <= DAY:
+                continue
+            if it.is_dir(follow_symlinks=False):
+                shutil.rmtree(it.path, ignore_errors=True)
+            elif found[1] == SUFFIX:
+                os.unlink(it.path)
 
 
 def mode_of_new(mode: int) -> int:
@@ -142,7 +149,7 @@ def writing(path: str, given: Sequence[str] = ()) -> Iterator[Writing]:
     """A file to write into, which becomes that of the path where the block ends without a fault."""
     real = check(path, given)
     folder, name = os.path.split(real)
-    remove_leftovers(real)
+    remove_leftovers(folder, name)
     new = None
     try:
         number, new = tempfile.mkstemp(SUFFIX, f".{name}.", folder)
@@ -181,18 +188,23 @@ def beside(path: str, ending: str) -> str:
 
 
 @contextlib.contextmanager
-def locked(path: str) -> Iterator[None]:
-    """Waits until no other run writes this file, where the system has locks."""
+def locked(path: str) -> Iterator[bool]:
+    """Waits until no other run writes this file, where the system has locks; whether one did."""
     if fcntl is None:
-        yield
+        yield False
         return
     try:
         file = os.open(beside(path, "lock"), os.O_RDWR | os.O_CREAT, 0o666)
     except OSError as fault:
         raise Fault(f"{path}: {fault.strerror}", errors.OUTPUT) from fault
     try:
-        fcntl.flock(file, fcntl.LOCK_EX)
-        yield
+        has_waited = False
+        try:
+            fcntl.flock(file, fcntl.LOCK_EX | fcntl.LOCK_NB)
+        except BlockingIOError:
+            has_waited = True
+            fcntl.flock(file, fcntl.LOCK_EX)
+        yield has_waited
     finally:
         os.close(file)
 

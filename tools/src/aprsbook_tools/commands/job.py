@@ -21,10 +21,12 @@ def add_parser(subparsers: Subparsers) -> None:
 def run(args: argparse.Namespace) -> int:
     try:
         jobs.do(jobs.read(args.job), kept=True)
-    except FaultyLog:
+    except (FaultyLog, MemoryError):
         raise
     except Fault as fault:
         if fault.status == FAULTY:
             fault.status = errors.OUTPUT
         raise
+    except Exception as fault:  # of this machine, and of no log
+        raise Fault(f"{type(fault).__name__}: {fault}", errors.OUTPUT) from fault
     return 0

@@ -25,12 +25,13 @@ def capture(file: IO[bytes], name: str) -> Iterator[bytes]:
     """The capture: its head, and a record of each frame."""
     yield struct.pack("<IHHIIII", 0xA1B2C3D4, 2, 4, 0, 0, 65535, AX25_KISS)
     for number, line in enumerate(file, 1):
-        read = log_file.read_line(line.rstrip(b"\r\n"))
+        read = log_file.read_whole(line)
         if read is None:
             raise Fault(f"{name}: line {number}: no line of a log (aprs-net mend takes it out)")
-        pieces = [it for it in bytes.fromhex(read.digits.decode()).split(kiss.FEND) if it]
-        if len(pieces) == 1:
-            octets = pieces[0][:1] + kiss.unwrap(pieces[0])
+        *pieces, unended = bytes.fromhex(read.digits.decode()).split(kiss.FEND)
+        frames = [it for it in pieces if it]
+        if len(frames) == 1 and not unended:
+            octets = frames[0][:1] + kiss.unwrap(frames[0])
             seconds, rest = divmod(read.moment, 1000)
             yield struct.pack("<IIII", seconds, rest * 1000, len(octets), len(octets)) + octets
 

@@ -1,5 +1,6 @@
 """Tells of a net that runs: silent stations, unanswered messages, emergencies."""
 import argparse
+import contextlib
 import json
 import os
 import shlex
@@ -137,11 +138,10 @@ def read_state(path: Optional[str]) -> Set[str]:
     """What was told before."""
     if path is None or not os.path.exists(path):
         return set()
-    try:
-        with open(path, encoding="utf-8") as file:
+    told = None
+    if os.path.isfile(path):  # who opens a pipe waits for ever
+        with contextlib.suppress(ValueError), open(path, encoding="utf-8") as file:
             told = json.load(file)
-    except ValueError:
-        told = None
     if not isinstance(told, list) or not all(isinstance(it, str) for it in told):
         raise Fault(f"{path} isn't what was told before, and isn't replaced", ARGUMENTS)
     return set(told)

@@ -61,12 +61,13 @@ def moment_of(before: bytes, options: Options) -> int:
     epoch = EPOCH.match(before)
     if epoch:
         fraction = (epoch[2] or epoch[3] or b"").decode()[:3].ljust(3, "0")
-        return int(epoch[1]) * 1000 + int(fraction)
-    if options.now:
+        moment = int(epoch[1]) * 1000 + int(fraction)
+    elif options.now:
         moment = int(time.time() * 1000)
-        moments.text_of(moment)
-        return moment
-    raise ValueError("no time stands before it")
+    else:
+        raise ValueError("no time stands before it")
+    moments.text_of(moment)  # refuses what is no moment of a log
+    return moment
 
 
 def read(file: Iterable[bytes], options: Options, marks: Marks, escapes: str) -> Iterator[Found]:
