@@ -144,7 +144,7 @@ function drawLists() {
  * @returns {Steps<void>}
  */
 function* drawPairs({ rows }, net) {
-  const { heard, alone, repeated, sent } = yield* hearings(rows, net.rows), { lists } = page;
+  const { heard, alone, repeated, sent } = yield* hearings(rows, net.since), { lists } = page;
   lists.heard = pairList(byId("heard-box"), { id: "heard",
     caption: "how many transmissions each receiver heard", pairs: heard, sent,
     tell: (source, name, n, of) =>

@@ -108,4 +108,7 @@ test("a table is read to its end, where its lines become shorter or a last one i
 test("rows stand by their first moment, equal ones as in the table", () => {
   const rows = rowsOf([5, 3, 3, 9, 1].map((second, k) => row("status", second, `Q1A-${k}`)));
   assert.deepEqual([...rows.order], [4, 1, 2, 0, 3]);
+  const moments = [-Infinity, rows.first[1], rows.first[1] + 0.5, Infinity];
+  assert.deepEqual(moments.map(it => [...rows.since(it)]),
+    [[4, 1, 2, 0, 3], [1, 2, 0, 3], [0, 3], []]);
 });

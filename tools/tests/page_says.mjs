@@ -29,7 +29,7 @@ function saidOf({ rows, messages, roster }) {
   said.faults = faults.map(it => it.line);
   const count = n => read.heard.filter(it => it === n).length;
   const heard = read.lists.map((names, n) => ({ names, heard: count(n) }));
-  said.clocks = ended(pairsOf(read, read.since(-Infinity), heard));
+  said.clocks = ended(pairsOf(read, -Infinity, heard));
   return said;
 }
 process.stdout.write(JSON.stringify(JSON.parse(readFileSync(0, "utf8")).map(saidOf)));
