@@ -83,8 +83,8 @@ export function begin() {
   page.lists = {
     messages: messageList(byId("messages-box"), view),
     bulletins: bulletinList(byId("bulletins-box"), view),
-    things: thingList(byId("things-box"), view, pick), places: placeList(byId("one-places")),
-    frames: frameList(byId("one-frames"), view),
+    things: thingList(byId("things-box"), view, pick),
+    places: placeList(byId("one-places"), view), frames: frameList(byId("one-frames"), view),
     receivers: receiverList(byId("receivers-box"), view),
     roster: rosterList(byId("roster-box"), view),
   };

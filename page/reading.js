@@ -41,7 +41,11 @@ export function* textsOf(table) {
 /** @param {string[]} names @param {string} line @returns {Record<string, string>} */
 export function recordOf(names, line) {
   const fields = line.split("\t");
-  return Object.fromEntries(names.map((name, n) => [name, fields[n] ?? ""]));
+  /** @type {Record<string, string>} */
+  const record = {};
+  // of many rows a loop takes half of what `Object.fromEntries` does
+  for (let n = 0; n < names.length; n++) record[names[n]] = fields[n] ?? "";
+  return record;
 }
 
 const digit = (/** @type {Uint8Array} */ bytes, /** @type {number} */ at) => bytes[at] - 48;

@@ -111,12 +111,16 @@ export class Rows {
   isUnfixed(k) {
     return this.north[k] === 0 && this.east[k] === 0;
   }
+  /** @param {number} k */
+  line(k) {
+    return textIn(this.bytes, this.begin[k], this.stop[k]);
+  }
   /**
    * A row by the names of its columns.
    * @param {number} k
    */
   record(k) {
-    return recordOf(this.names, textIn(this.bytes, this.begin[k], this.stop[k]));
+    return recordOf(this.names, this.line(k));
   }
   /**
    * The kind of a row, as the table names it.

@@ -35,7 +35,7 @@ import { Alarm } from "./sound.js";
  * The lists of the page; the last three are made anew for each net.
  * @typedef {{ messages: import("./lists.js").List<Message>,
  *   bulletins: import("./lists.js").List<Message>, things: import("./lists.js").List<Thing>,
- *   places: import("./lists.js").List<import("./rows.js").Place>,
+ *   places: import("./lists.js").List<number>,
  *   frames: import("./lists.js").List<number>,
  *   receivers: import("./lists.js").List<import("./net.js").Receiver>,
  *   roster: import("./lists.js").List<import("./tables.js").Waited>,
