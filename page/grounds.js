@@ -24,7 +24,7 @@ export class Grounds {
     this.tell = tell;
     /** @type {Waiting[]} those of the last one are asked for */
     this.waiting = [];
-    /** @type {Map<string, string>} texts of world files that came before their pictures, by stems */
+    /** @type {Map<string, string>} texts of world files that came before their pictures */
     this.worlds = new Map();
   }
   /**
