@@ -81,9 +81,9 @@ function* drawing(next) {
   drawAbout();
   drawLooked();
   drawNews();
-  drawOne();
+  drawOne(true);
   turnClock();
-  sift();
+  sift(true);
   yield;
   drawLists();
   page.form.draw();
@@ -128,12 +128,12 @@ export function colour() {
 }
 function drawLists() {
   const { net, lists, all } = page;
-  lists.messages.show([...net.messages].sort(inOrder));
+  lists.messages.show([...net.messages].sort(inOrder), true);
   byId("bulletins-head").hidden = byId("bulletins-box").hidden = !net.bulletins.length;
-  lists.bulletins.show([...net.bulletins].sort((a, b) => b.last - a.last));
+  lists.bulletins.show([...net.bulletins].sort((a, b) => b.last - a.last), true);
   byId("roster").hidden = !page.roster.list.length;
-  lists.roster.show(expectedOf(page.roster.list, net.things));
-  later("receivers", once(() => lists.receivers.show(net.receivers)));
+  lists.roster.show(expectedOf(page.roster.list, net.things), true);
+  later("receivers", once(() => lists.receivers.show(net.receivers, true)));
   later("pairs", drawPairs(all, net));
   later("find", madeHays(net.things));
 }

@@ -39,8 +39,8 @@ export function pick(key, onMap = false) {
   if (thing?.now && !onMap) byId("map").scrollIntoView({ block: "nearest" });
   page.map.paintSoon();
 }
-/** What is known of the thing that is picked. */
-export function drawOne() {
+/** What is known of the thing that is picked; its lists stay where they are in another drawing. */
+export function drawOne(stays = false) {
   const thing = thingOf(page.picked);
   byId("one").hidden = !thing;
   if (!thing) return;
@@ -49,11 +49,11 @@ export function drawOne() {
   const channels = channelsOf(page.all.messages, thing.name);
   byId("one-about").replaceChildren(...factsOf(thing, channels).flatMap(([name, ...value]) =>
     [make("dt", { textContent: name }), make("dd", {}, ...value)]));
-  page.lists.places.show([...thing.placedBy].reverse());
+  page.lists.places.show([...thing.placedBy].reverse(), stays);
   const numbers = numbersOf(thing, page.net.rows);
   byId("one-graphs").replaceChildren(
     ...graphsOf(page.all.rows, numbers, channels).map(it => graphNode(it, page.net)));
-  page.lists.frames.show(numbers.reverse());
+  page.lists.frames.show(numbers.reverse(), stays);
 }
 /** @param {Thing} thing @param {import("./telemetry.js").Channel[]} channels */
 function factsOf(thing, channels) {

@@ -85,6 +85,9 @@ class Node {
   focus() {
     document.activeElement = this;
   }
+  closest(tag) {
+    return this.tagName === tag.toUpperCase() ? this : this.parentNode?.closest(tag) ?? null;
+  }
   contains(node) {
     for (let it = node; it; it = it.parentNode) if (it === this) return true;
     return false;
