@@ -165,6 +165,7 @@ export class List {
       row.setAttribute("aria-rowindex", String(this.built + k + 2));
       return row;
     });
+    rows.forEach(press);
     const old = [...this.body.children].slice(this.built, this.built + n);
     rows.forEach((row, k) => old[k] ? old[k].replaceWith(row) : this.body.append(row));
     if (!this.built) this.rove(picksIn(this.body)[0]);
@@ -187,6 +188,7 @@ export class List {
     for (const row of this.body.rows) {
       const isIt = row.dataset.key === key && key !== null;
       row.classList.toggle("picked", isIt);
+      press(row);
       if (isIt && isSought) this.box.scrollTop = row.offsetTop - this.box.clientHeight / 3;
     }
   }
@@ -235,6 +237,14 @@ const STEPS = { ArrowDown: 1, ArrowUp: -1, Home: -Infinity, End: Infinity };
  */
 const picksIn = node =>
   [.../** @type {NodeListOf<HTMLElement>} */ (node.querySelectorAll(".pick"))];
+/**
+ * Says of what can be picked in a row whether it is.
+ * @param {HTMLTableRowElement} row
+ */
+function press(row) {
+  for (const it of picksIn(row))
+    it.setAttribute("aria-pressed", String(row.classList.contains("picked")));
+}
 const collator = new Intl.Collator("en", { numeric: true });
 /**
  * The order of two values of a column: numbers, or texts with numbers in them.

@@ -97,3 +97,15 @@ test("a list that is made anew stands where that before it in its box stood", ()
     assert.deepEqual([before.built, list.built], [70, many]);
   }
 });
+test("of what can be picked it is said whether it is", () => {
+  const list = nameList(element()), { row } = list;
+  const pressed = () => list.body.rows.filter(it =>
+    it.querySelector(".pick").getAttribute("aria-pressed") === "true").map(it => it.dataset.key);
+  list.row = it => Object.assign(row(it), { className: it === "Q1A-2" ? "station picked" : "" });
+  list.show(names(9));
+  assert.deepEqual(pressed(), ["Q1A-2"]);
+  list.mark("Q1A-5");
+  assert.deepEqual(pressed(), ["Q1A-5"]);
+  list.mark(null);
+  assert.deepEqual(pressed(), []);
+});
