@@ -104,10 +104,6 @@ export class Thing {
     if (!place) this.made.set(k, place = this.rows.placeOf(k));
     return place;
   }
-  /** @returns {Place[]} */
-  get places() {
-    return this.placedBy.map(k => /** @type {Place} */ (this.placeAt(k)));
-  }
   get now() {
     return this.placeAt(this.lastPlace);
   }

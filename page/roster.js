@@ -149,6 +149,9 @@ export class Names {
   of(call) {
     return this.by.get(call) || this.by.get(`${baseOf(call)}-*`);
   }
+  get hasNames() {
+    return [...this.by.values()].some(it => it.name);
+  }
   /**
    * A call as it is shown, with the name of whom it is: `Leader (Q1RUN-7)`.
    * @param {string} call
@@ -181,6 +184,13 @@ let known = new Names([]);
 export function know(list) {
   known = new Names(list);
 }
+/** Whether somebody has a name. */
+export const hasNames = () => known.hasNames;
+/**
+ * The name of a station alone, empty where there is none.
+ * @param {string} call
+ */
+export const nameOf = call => known.of(call)?.name ?? "";
 /**
  * A station as it is shown everywhere: with its name, where the roster has one.
  * @param {string} call

@@ -41,9 +41,10 @@ test("what is no call, or stands there twice, is said with its line", () => {
 });
 test("a list of all calls is read at once, and of many faults a few are said", () => {
   const call = n => `Q${String.fromCharCode(65 + n % 26)}${Math.floor(n / 26)}`;
-  const begin = performance.now(), many = Array.from({ length: 60000 }, (_, n) => call(n));
+  // on a busy machine all takes longer, but no more of a processor
+  const begin = process.cpuUsage().user, many = Array.from({ length: 60000 }, (_, n) => call(n));
   assert.equal(readRoster(many.join("\n")).list.length, many.length);
-  assert.ok(performance.now() - begin < 3000);
+  assert.ok(process.cpuUsage().user - begin < 3e6);
   const { faults } = readRoster("a-b\n".repeat(9) + "\u202eab x\n");
   assert.deepEqual(faultWords(faults).slice(4), ["line 5: a-b is no call", "and 5 more"]);
   assert.deepEqual(faultWords(faults.slice(9)), ["line 10: \\xe2\\x80\\xaeab is no call"]);

@@ -187,6 +187,11 @@ def test_csv_of_messages(both: List[Any]) -> None:
         assert messages_csv(case.messages, Roster()) == said["messages (CSV)"], case
 
 
+def test_csv_of_messages_with_names(both: List[Any]) -> None:
+    for case, said in both:
+        assert messages_csv(case.messages, read_roster(case.roster)) == said["named"], case
+
+
 def features(text: str) -> List[Any]:
     """What a GeoJSON has, but for properties that only one of both says."""
     kept = "kind name state first last receivers source symbol comment".split()
