@@ -112,7 +112,6 @@ function turnTo(data, all, net) {
   page.map.take(net.placed);
   colour();
   page.map.picked = net.things.some(it => it.key === page.picked) ? page.picked : null;
-  page.finder.clear();
   byId("net").hidden = !all.rows.length;
   byId("controls").hidden = !all.rows.length && !page.follows;
 }

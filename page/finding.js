@@ -9,12 +9,14 @@ import { count } from "./words.js";
 /** @typedef {import("./net.js").Thing} Thing */
 
 /**
- * What `find` looks in, kept.
- * @param {Thing} it
+ * What `find` looks in, as long as its thing is there, which is made anew for each drawing.
+ * @type {WeakMap<Thing, string>}
  */
+const hays = new WeakMap();
+/** @param {Thing} it */
 function hayOf(it) {
-  const text = page.finder.get(it) ?? haystack(it);
-  page.finder.set(it, text);
+  const text = hays.get(it) ?? haystack(it);
+  hays.set(it, text);
   return text;
 }
 /**
