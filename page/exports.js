@@ -167,8 +167,8 @@ function* featuresOf({ placed }) {
   const feature = (/** @type {object} */ geometry, /** @type {object} */ properties) =>
     JSON.stringify({ type: "Feature", geometry, properties });
   const pointOf = (/** @type {Thing} */ it, /** @type {Place} */ at) =>
-    feature({ type: "Point", coordinates: spotAt(at.north, at.east) }, { kind: it.kind, name: it.label,
-      state: at.state, first: isoText(at.first), last: isoText(at.last),
+    feature({ type: "Point", coordinates: spotAt(at.north, at.east) }, { kind: it.kind,
+      name: it.label, state: at.state, first: isoText(at.first), last: isoText(at.last),
       receivers: at.receivers.join(), source: at.source, symbol: at.table + at.code,
       comment: said(at.comment) });
   for (const it of placed)

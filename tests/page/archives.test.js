@@ -188,7 +188,8 @@ for (const [form, size] of [["index", 4096], ["key", 512], ["map", 1024], ["inde
   });
 test("a database whose pages stand several times in one tree is damaged", async () => {
   // each page but the last leads to the next one, three times
-  const size = 512, many = 13, bytes = new Uint8Array(size * many), view = new DataView(bytes.buffer);
+  const size = 512, many = 13, bytes = new Uint8Array(size * many);
+  const view = new DataView(bytes.buffer);
   view.setUint16(16, size);
   for (let n = 0; n < many; n++) {
     const head = n * size + (n ? 0 : 100), isLast = n === many - 1;

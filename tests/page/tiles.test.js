@@ -32,7 +32,7 @@ function archive() {
   return { tiles, read };
 }
 
-test("squares are read once for a view, also in a large window, or there are too many", async () => {
+test("squares are read once for a view, in a large window too, or are too many", async () => {
   for (const [width, height, out, isShown] of [[1280, 700, 0, true], [1280, 700, 1.9, true],
     [1920, 1000, 1, true], [1920, 1000, 1.9, false], [2560, 1400, 1.9, false]]) {
     const { tiles, read } = archive(), [paints, some] = await settled(tiles,
