@@ -1,7 +1,8 @@
 // @ts-check
 // How receivers' clocks stand to each other, pair by pair: two wrong clocks don't hide one another.
 
-import { each } from "./steps.js";
+import { eachSince } from "./steps.js";
+import { byLetters } from "./words.js";
 
 /** @typedef {import("./rows.js").Rows} Rows */
 /**
@@ -53,13 +54,16 @@ class Differences {
     const [first, second] = ordered(a, b);
     this.of(first, second).list.push(first === a ? by : -by);
   }
-  /** @returns {Pair[]} */
+  /**
+   * The pairs by their names, in whatever order they were found.
+   * @returns {Pair[]}
+   */
   pairs() {
     const pairs = [];
     for (const [a, row] of this.by)
       for (const [b, { list, zeros }] of row)
         pairs.push({ a, b, by: middleOf(zeros, list), of: zeros + list.length });
-    return pairs;
+    return pairs.sort((p, q) => byLetters(p.a, q.a) || byLetters(p.b, q.b));
   }
 }
 /** @param {string} a @param {string} b @returns {[string, string]} */
@@ -79,17 +83,18 @@ function middleOf(zeros, list) {
 const MOST = 8;
 /**
  * Rows by the first one that says the same, those that are wanted; `ends` has where a group ends.
- * @param {ArrayLike<number>} picks @param {Uint32Array} same
+ * @param {Rows} rows @param {number} since
  * @param {(k: number) => boolean} isWanted
  * @returns {Generator<unknown, { ends: Uint32Array, members: Uint32Array }>}
  */
-function* gathered(picks, same, isWanted) {
+function* gathered(rows, since, isWanted) {
+  const { same } = rows;
   const ends = new Uint32Array(same.length);
-  yield* each(picks, k => { if (isWanted(k)) ends[same[k]]++; });
+  yield* eachSince(rows, since, k => { if (isWanted(k)) ends[same[k]]++; });
   let sum = 0;
   for (let k = 0; k < ends.length; k++) [ends[k], sum] = [sum, sum + ends[k]];
   const members = new Uint32Array(sum);
-  yield* each(picks, k => { if (isWanted(k)) members[ends[same[k]]++] = k; });
+  yield* eachSince(rows, since, k => { if (isWanted(k)) members[ends[same[k]]++] = k; });
   return { ends, members };
 }
 /**
@@ -110,20 +115,20 @@ function apartIn(lists) {
 /**
  * The pairs of receivers that heard the same transmissions. What stands in several rows with the
  * same text, no receiver in two of them, was one transmission if clocks are wrong.
- * @param {Rows} rows @param {ArrayLike<number>} picks
+ * @param {Rows} rows @param {number} since
  * @param {{ names: string[], heard: number }[]} heard the rows of each list of receivers
  * @returns {Generator<unknown, Pair[]>}
  */
-export function* pairsOf(rows, picks, heard) {
+export function* pairsOf(rows, since, heard) {
   const { same, first } = rows, all = new Differences();
   for (const { names, heard: n } of heard) if (names.length > 1) all.same(names, n);
   const times = new Uint32Array(rows.length);
-  yield* each(picks, k => { times[same[k]]++; });
+  yield* eachSince(rows, since, k => { times[same[k]]++; });
   // what is sent again and again has no partner that would be sure
   const isPaired = (/** @type {number} */ k) => times[same[k]] > 1 && times[same[k]] <= MOST;
-  const { ends, members } = yield* gathered(picks, same, isPaired);
+  const { ends, members } = yield* gathered(rows, since, isPaired);
   const isApart = apartIn(rows.lists);
-  yield* each(picks, k => {
+  yield* eachSince(rows, since, k => {
     const end = ends[same[k]], begin = end - times[same[k]];
     if (!isPaired(k) || members[begin] !== k) return;
     const group = members.subarray(begin, end), lists = group.map(it => rows.heard[it]);

@@ -51,8 +51,8 @@ function listenToTools() {
 }
 /** What is shown, and in which words. */
 function listenToChoices() {
-  on("find", "input", sift);
-  on("kind", "change", sift);
+  on("find", "input", () => sift());
+  on("kind", "change", () => sift());
   redrawOn("since", () => {
     choose("since", byId("since").value === "0" ? "" : byId("since").value);
     page.turned = true;

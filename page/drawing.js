@@ -81,9 +81,9 @@ function* drawing(next) {
   drawAbout();
   drawLooked();
   drawNews();
-  drawOne();
+  drawOne(true);
   turnClock();
-  sift();
+  sift(true);
   yield;
   drawLists();
   page.form.draw();
@@ -112,7 +112,6 @@ function turnTo(data, all, net) {
   page.map.take(net.placed);
   colour();
   page.map.picked = net.things.some(it => it.key === page.picked) ? page.picked : null;
-  page.finder.clear();
   byId("net").hidden = !all.rows.length;
   byId("controls").hidden = !all.rows.length && !page.follows;
 }
@@ -128,12 +127,12 @@ export function colour() {
 }
 function drawLists() {
   const { net, lists, all } = page;
-  lists.messages.show([...net.messages].sort(inOrder));
+  lists.messages.show([...net.messages].sort(inOrder), true);
   byId("bulletins-head").hidden = byId("bulletins-box").hidden = !net.bulletins.length;
-  lists.bulletins.show([...net.bulletins].sort((a, b) => b.last - a.last));
+  lists.bulletins.show([...net.bulletins].sort((a, b) => b.last - a.last), true);
   byId("roster").hidden = !page.roster.list.length;
-  lists.roster.show(expectedOf(page.roster.list, net.things));
-  later("receivers", once(() => lists.receivers.show(net.receivers)));
+  lists.roster.show(expectedOf(page.roster.list, net.things), true);
+  later("receivers", once(() => lists.receivers.show(net.receivers, true)));
   later("pairs", drawPairs(all, net));
   later("find", madeHays(net.things));
 }
@@ -144,7 +143,7 @@ function drawLists() {
  * @returns {Steps<void>}
  */
 function* drawPairs({ rows }, net) {
-  const { heard, alone, repeated, sent } = yield* hearings(rows, net.rows), { lists } = page;
+  const { heard, alone, repeated, sent } = yield* hearings(rows, net.since), { lists } = page;
   lists.heard = pairList(byId("heard-box"), { id: "heard",
     caption: "how many transmissions each receiver heard", pairs: heard, sent,
     tell: (source, name, n, of) =>

@@ -16,9 +16,12 @@ import { page, presentOf, tell, view } from "./state.js";
 import { receiverList, rosterList, thingList } from "./tables.js";
 import { count } from "./words.js";
 
+/** What the map covers where it fills the window; the news stand above it. */
+const BEHIND = ".files, #looked, #controls, #beside, footer";
 /** @param {boolean} full */
 function fillWindow(full) {
   document.body.classList.toggle("full", full);
+  for (const it of document.querySelectorAll(BEHIND)) it.toggleAttribute("inert", full);
   byId("fill").setAttribute("aria-pressed", String(full));
   byId("fill").textContent = full ? "leave the window" : "fill the window";
 }
@@ -83,8 +86,8 @@ export function begin() {
   page.lists = {
     messages: messageList(byId("messages-box"), view),
     bulletins: bulletinList(byId("bulletins-box"), view),
-    things: thingList(byId("things-box"), view, pick), places: placeList(byId("one-places")),
-    frames: frameList(byId("one-frames"), view),
+    things: thingList(byId("things-box"), view, pick),
+    places: placeList(byId("one-places"), view), frames: frameList(byId("one-frames"), view),
     receivers: receiverList(byId("receivers-box"), view),
     roster: rosterList(byId("roster-box"), view),
   };

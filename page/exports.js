@@ -3,6 +3,7 @@
 
 import { entriesOf } from "./ics309.js";
 import { textsOf } from "./reading.js";
+import { hasNames, nameOf } from "./roster.js";
 import { isoText, said } from "./words.js";
 
 /** @typedef {import("./net.js").Net} Net */
@@ -43,13 +44,13 @@ const placeRow = (it, at) => [it.kind, said(it.name), at.state, isoText(at.first
 /** So many places are a piece. */
 const PART = 512;
 /**
- * The places of a thing, some at a time.
+ * The places of a thing, some at a time; none is kept.
  * @param {Thing} thing
  * @returns {Generator<Place[]>}
  */
-function* partsOf(thing) {
-  for (let at = 0; at < thing.placedBy.length; at += PART)
-    yield thing.placedBy.slice(at, at + PART).map(k => /** @type {Place} */ (thing.placeAt(k)));
+function* partsOf({ rows, placedBy }) {
+  for (let at = 0; at < placedBy.length; at += PART)
+    yield placedBy.slice(at, at + PART).map(k => rows.placeOf(k));
 }
 /**
  * Each place of each thing, as rows.
@@ -61,28 +62,19 @@ function* placesCsv({ placed }) {
   for (const it of placed)
     for (const part of partsOf(it)) yield csvOf(part.map(at => placeRow(it, at)));
 }
-/** @param {Net} net @param {unknown} _ @param {Line[]} lines @returns {Pieces} */
+/**
+ * Messages; where the roster has names, these too, in columns of their own.
+ * @param {Net} net @param {unknown} _ @param {Line[]} lines @returns {Pieces}
+ */
 function* messagesCsv(net, _, lines) {
-  yield csvOf([["time", "from", "number", "to", "message", "state"]]);
+  const isNamed = hasNames();
+  yield csvOf([["time", "from", "number", "to", "message", "state",
+    ...isNamed ? ["from_name", "to_name"] : []]]);
   for (const it of entriesOf(net, lines)) {
     const [to, text] = it.own ? [it.to, it.text] : [said(it.to), said(it.text)];
-    yield csvOf([[isoText(it.at), it.from, it.id, to, text, it.state]]);
+    const names = it.own ? ["", ""] : [nameOf(it.from), nameOf(it.to)];
+    yield csvOf([[isoText(it.at), it.from, it.id, to, text, it.state, ...isNamed ? names : []]]);
   }
-}
-/**
- * The runs of a thing's places, each but the last ended by a kill.
- * @param {Thing} thing
- */
-function segmentsOf(thing) {
-  /** @type {Place[][]} */
-  const segments = [];
-  let isOpen = false;
-  for (const place of thing.places) {
-    if (isOpen) segments[segments.length - 1].push(place);
-    else segments.push([place]);
-    isOpen = place.state !== "killed";
-  }
-  return segments;
 }
 const hasMoved = (/** @type {Thing} */ { rows: { north, east }, placedBy: [first, ...others] }) =>
   others.some(k => north[k] !== north[first] || east[k] !== east[first]);
@@ -150,21 +142,39 @@ function cutAtDateLine(spots) {
   });
   return lines.filter(it => it.length > 1);
 }
+const spotAt = (/** @type {number} */ north, /** @type {number} */ east) =>
+  /** @type {Spot} */ ([Number(decimal(east)), Number(decimal(north))]);
+/**
+ * The runs of a thing's places, each but the last ended by a kill; texts without letters between
+ * are pauses.
+ * @param {Thing} thing
+ * @returns {Generator<string, Spot[][]>}
+ */
+function* segmentsOf({ rows: { north, east, killed }, placedBy }) {
+  /** @type {Spot[][]} */
+  const segments = [];
+  let isOpen = false;
+  for (const [n, k] of placedBy.entries()) {
+    if (!isOpen) segments.push([]);
+    segments[segments.length - 1].push(spotAt(north[k], east[k]));
+    isOpen = killed[k] === 0;
+    if (n % PART === PART - 1) yield "";
+  }
+  return segments;
+}
 /** @param {Net} net @returns {Pieces} */
 function* featuresOf({ placed }) {
-  /** @type {(it: Place) => Spot} */
-  const spot = it => [Number(decimal(it.east)), Number(decimal(it.north))];
   const feature = (/** @type {object} */ geometry, /** @type {object} */ properties) =>
     JSON.stringify({ type: "Feature", geometry, properties });
   const pointOf = (/** @type {Thing} */ it, /** @type {Place} */ at) =>
-    feature({ type: "Point", coordinates: spot(at) }, { kind: it.kind, name: it.label,
-      state: at.state, first: isoText(at.first), last: isoText(at.last),
+    feature({ type: "Point", coordinates: spotAt(at.north, at.east) }, { kind: it.kind,
+      name: it.label, state: at.state, first: isoText(at.first), last: isoText(at.last),
       receivers: at.receivers.join(), source: at.source, symbol: at.table + at.code,
       comment: said(at.comment) });
   for (const it of placed)
     for (const part of partsOf(it)) yield part.map(at => pointOf(it, at)).join(",");
   for (const it of placed) {
-    const lines = hasMoved(it) ? segmentsOf(it).flatMap(run => cutAtDateLine(run.map(spot))) : [];
+    const lines = hasMoved(it) ? (yield* segmentsOf(it)).flatMap(cutAtDateLine) : [];
     yield lines.length ? feature({ type: "MultiLineString", coordinates: lines },
       { kind: it.kind, name: it.label }) : "";
   }

@@ -9,12 +9,14 @@ import { count } from "./words.js";
 /** @typedef {import("./net.js").Thing} Thing */
 
 /**
- * What `find` looks in, kept.
- * @param {Thing} it
+ * What `find` looks in, as long as its thing is there, which is made anew for each drawing.
+ * @type {WeakMap<Thing, string>}
  */
+const hays = new WeakMap();
+/** @param {Thing} it */
 function hayOf(it) {
-  const text = page.finder.get(it) ?? haystack(it);
-  page.finder.set(it, text);
+  const text = hays.get(it) ?? haystack(it);
+  hays.set(it, text);
   return text;
 }
 /**
@@ -26,7 +28,7 @@ export function* madeHays(things) {
   for (const it of things) yield hayOf(it);
 }
 /** Filters the things by what is asked for; that holds for the map too. */
-export function sift() {
+export function sift(stays = false) {
   const words = byId("find").value.toLowerCase(), kind = byId("kind").value;
   const isOfKind = (/** @type {Thing} */ it) =>
     !kind || (kind === "silent" ? view.isSilent(it) : it.kind === kind);
@@ -34,7 +36,7 @@ export function sift() {
   page.found = things.filter(it => isOfKind(it) && (!words || hayOf(it).includes(words)));
   write("found", page.found.length === things.length ? ""
     : `${page.found.length} of ${things.length}`);
-  page.lists.things.show(page.found);
+  page.lists.things.show(page.found, stays);
   page.map.show(page.found);
   const placed = count(page.map.things.length, "place");
   byId("map").setAttribute("aria-label", `map of ${placed}; the table has them too`);

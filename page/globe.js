@@ -104,10 +104,28 @@ export function capOf(lines) {
   const middle = [0, 1, 2].map(i =>
     places.map(it => it[i]).sort((a, b) => a - b)[places.length >> 1]);
   const off = (/** @type {ArrayLike<number>} */ it, at = 0) =>
-    Math.hypot(it[at] - middle[0], it[at + 1] - middle[1], it[at + 2] - middle[2]);
+    (it[at] - middle[0]) ** 2 + (it[at + 1] - middle[1]) ** 2 + (it[at + 2] - middle[2]) ** 2;
   const offs = places.map(it => off(it)).sort((a, b) => a - b);
-  const most = Math.max(10 * offs[Math.floor(0.75 * (offs.length - 1))], 20000 / RADIUS);
+  // squares of them
+  const most = Math.max(100 * offs[Math.floor(0.75 * (offs.length - 1))], (20000 / RADIUS) ** 2);
   return (line, k) => off(line, 3 * k) <= most;
+}
+
+/**
+ * The places of a line that are in a cap.
+ * @param {Float64Array} line
+ * @param {(line: ArrayLike<number>, n: number) => boolean} isIn
+ */
+function within(line, isIn) {
+  const kept = new Float64Array(line.length);
+  let n = 0;
+  for (let k = 0; 3 * k < line.length; k++) {
+    if (!isIn(line, k)) continue;
+    kept[n++] = line[3 * k];
+    kept[n++] = line[3 * k + 1];
+    kept[n++] = line[3 * k + 2];
+  }
+  return n === line.length ? line : kept.subarray(0, n);
 }
 
 /** Between the earth and the pixels of a map. `scale` is pixels for a radian. */
@@ -185,11 +203,7 @@ export class Projection {
    * @param {(line: ArrayLike<number>, n: number) => boolean} [isIn]
    */
   fit(all, isIn = () => true) {
-    const lines = all.map(it => {
-      const places = Array.from({ length: it.length / 3 }, (_, k) => k).filter(k => isIn(it, k));
-      return places.length * 3 === it.length ? it
-        : Float64Array.from(places.flatMap(k => [...it.subarray(3 * k, 3 * k + 3)]));
-    });
+    const lines = all.map(it => within(it, isIn));
     const sum = [0, 0, 0];
     for (const line of lines) for (let k = 0; k < line.length; k++) sum[k % 3] += line[k];
     const [north, east] = lines.some(it => it.length) ? degreesOf(sum) : [0, 0];

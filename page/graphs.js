@@ -41,6 +41,23 @@ const telemetryOf = channels => channels
   .sort((a, b) => a.rank - b.rank);
 
 /**
+ * What these rows say in columns, a line for each of these. Of thousands of rows no record is made.
+ * @param {Rows} rows
+ * @param {number[]} numbers rows by time
+ * @param {string[]} columns
+ */
+function linesOf(rows, numbers, columns) {
+  const places = columns.map(it => rows.names.indexOf(it));
+  const lines = columns.map(() => /** @type {Point[]} */ ([]));
+  for (const k of numbers) {
+    const fields = rows.line(k).split("\t");
+    places.forEach((at, n) => {
+      if (fields[at]) lines[n].push({ at: rows.first[k], value: Number(fields[at]) });
+    });
+  }
+  return new Map(columns.map((name, n) => [name, lines[n]]));
+}
+/**
  * The graphs of these rows, of what at least two of them say.
  * @param {Rows} rows
  * @param {number[]} numbers rows by time
@@ -48,11 +65,12 @@ const telemetryOf = channels => channels
  * @returns {Graph[]}
  */
 export function graphsOf(rows, numbers, channels = channelsOf([], "")) {
-  const records = numbers.map(k => ({ at: rows.first[k], of: rows.record(k) }));
-  return [...GRAPHS, ...telemetryOf(channels)].map(({ title, columns, quantity, ...own }) => {
+  const kinds = [...GRAPHS, ...telemetryOf(channels)];
+  const told = linesOf(rows, numbers, kinds.flatMap(it => it.columns));
+  return kinds.map(({ title, columns, quantity, ...own }) => {
     const { unit = "", of = n => n } = quantity ? unitOf(quantity) : own;
-    const lines = columns.map(name => records.filter(it => it.of[name])
-      .map(it => ({ at: it.at, value: of(Number(it.of[name])) })));
+    const lines = columns.map(name => (told.get(name) || [])
+      .map(({ at, value }) => ({ at, value: of(value) })));
     return { title, unit, lines: lines.filter(it => it.length > 1) };
   }).filter(it => it.lines.length);
 }

@@ -13,16 +13,19 @@ import { count, printable } from "./words.js";
 /** Files with the corners of a picture, in degrees. */
 const WORLD = /\.(?:pgw|jgw|wld|pngw|jpgw|wpw)$/i;
 const CORNERS = /** @type {const} */ (["corner-0", "corner-1", "corner-2"]);
+/** A name without its ending, which a picture and its world file have in common. */
+const stemOf = (/** @type {string} */ name) => name.replace(/\.[^.]*$/, "").toLowerCase();
+/** @typedef {{ name: string, stem: string, picture: ImageBitmap }} Waiting a picture for corners */
 
 export class Grounds {
   /** @param {NetMap} map @param {(text: string, bad?: boolean) => void} tell */
   constructor(map, tell) {
     this.map = map;
     this.tell = tell;
-    /** @type {{ name: string, picture: ImageBitmap } | null} what waits for its corners */
-    this.waits = null;
-    /** The text of a world file that came before its picture. */
-    this.world = "";
+    /** @type {Waiting[]} those of the last one are asked for */
+    this.waiting = [];
+    /** @type {Map<string, string>} texts of world files that came before their pictures */
+    this.worlds = new Map();
   }
   /**
    * Takes a file if it is a map of this kind; says whether it is. Throws where it is, but can't be
@@ -36,61 +39,86 @@ export class Grounds {
     else if (begin.startsWith("SQLite format 3"))
       this.map.tiles.open(file.name, await openMbtiles(file));
     else if (isPicture(head)) return this.wait(file);
-    else if (WORLD.test(file.name)) this.fillCorners(await file.slice(0, 1000).text());
+    else if (WORLD.test(file.name))
+      this.takeWorld(stemOf(file.name), await file.slice(0, 1000).text());
     else return false;
     this.show();
     return true;
   }
   /**
-   * Asks for the corners of a picture; says whether it is one that can be drawn.
+   * Takes a picture, whose corners its world file has, or which are asked for; says whether it is
+   * one that can be drawn.
    * @param {File} file
    */
   async wait(file) {
     const picture = await createImageBitmap(file).catch(() => null);
     if (!picture) return false;
-    this.waits = { name: printable(file.name), picture };
-    byId("sheet").hidden = false;
-    byId("sheet-name").textContent = this.waits.name;
-    byId("adds").open = true;
-    byId(CORNERS[0]).focus();
-    if (this.world) this.fillCorners(this.world);
+    const stem = stemOf(file.name), world = this.worlds.get(stem);
+    this.worlds.delete(stem);
+    this.ask({ name: printable(file.name), stem, picture });
+    if (world !== undefined) this.fillCorners(picture, world);
     return true;
   }
   /**
-   * Fills in the corners of a world file, now or once its picture is there.
+   * Takes the text of a world file, for its picture or until that comes.
+   * @param {string} stem
    * @param {string} text
    */
-  fillCorners(text) {
-    this.world = text;
-    const corners = this.waits && cornersIn(text, this.waits.picture);
-    if (!this.waits) return;
+  takeWorld(stem, text) {
+    const of = this.waiting.find(it => it.stem === stem);
+    if (!of) return this.worlds.set(stem, text);
+    this.ask(of);
+    return this.fillCorners(of.picture, text);
+  }
+  /**
+   * Asks for the corners of a picture, before those of others that wait.
+   * @param {Waiting} of
+   */
+  ask(of) {
+    this.waiting = [...this.waiting.filter(it => it.name !== of.name), of];
+    byId("sheet").hidden = false;
+    byId("sheet-name").textContent = of.name;
+    byId("adds").open = true;
+    byId(CORNERS[0]).focus();
+  }
+  /**
+   * Lays the picture that is asked for by a world file.
+   * @param {ImageBitmap} picture
+   * @param {string} text
+   */
+  fillCorners(picture, text) {
+    const corners = cornersIn(text, picture);
     if (!corners) throw new Error("no six numbers in degrees");
     corners.forEach((it, k) => { byId(CORNERS[k]).value = it; });
     this.lay();
   }
-  /** Lays the picture below, by the corners that are written. */
+  /** Lays the picture that is asked for below, by the corners that are written. */
   lay() {
-    const { waits, map } = this;
-    if (!waits) return;
+    const last = this.waiting.at(-1), { map } = this;
+    if (!last) return;
+    const { name, picture } = last;
     try {
       const corners = cornersOf(CORNERS.map(it => byId(it).value));
-      map.sheets = [...map.sheets.filter(it => it.name !== waits.name), { ...waits, corners }];
+      map.sheets = [...map.sheets.filter(it => it.name !== name), { name, picture, corners }];
     } catch (fault) {
-      return this.tell(`${waits.name}: ${/** @type {Error} */ (fault).message}`, true);
+      return this.tell(`${name}: ${/** @type {Error} */ (fault).message}`, true);
     }
-    Object.assign(this, { waits: null, world: "" });
+    this.waiting.pop();
     byId("sheet").hidden = true;
     byId("adds").open = false;
     for (const it of CORNERS) byId(it).value = "";
     this.tell("");
     this.show();
+    const next = this.waiting.at(-1);
+    if (next) this.ask(next);
   }
   /** Takes all of them away. */
   clear() {
     const { map } = this;
     map.tiles.clear();
     map.sheets = [];
-    Object.assign(this, { waits: null, world: "" });
+    this.waiting = [];
+    this.worlds.clear();
     byId("sheet").hidden = true;
     this.show();
   }

@@ -97,6 +97,8 @@ export function listenToMap(map) {
   listenToWheel(map, pixel);
   listenToTouch(map);
   node.addEventListener("pointerdown", event => {
+    // that another button of a mouse is let go is said to a menu alone, in most systems
+    if (event.pointerType === "mouse" && event.button) return;
     if (!fingers.size) most = 0;
     fingers.set(event.pointerId, pixel(event));
     most = Math.max(most, fingers.size);

@@ -3,7 +3,7 @@
 // the tab key: arrow keys go from row to row.
 
 import { choose, chosen, make, momentOf } from "./dom.js";
-import { later, once } from "./steps.js";
+import { atOnce, later } from "./steps.js";
 import { age } from "./words.js";
 
 /**
@@ -17,6 +17,12 @@ const PART = 26, FIRST = 10;
  * @template T
  * @typedef {{ title: string | Node, number?: boolean, value?: (it: T) => string | number }} Column
  */
+/**
+ * The list that stands in each box, whose place another one takes.
+ * @type {WeakMap<HTMLElement, { built: number, scrolled: boolean }>}
+ */
+const standing = new WeakMap();
+
 /**
  * A table of items.
  * @template T
@@ -40,10 +46,14 @@ export class List {
     this.keyOf = keyOf;
     /** @type {T[]} */
     this.items = [];
-    /** @type {T[]} */
-    this.given = [];
-    this.built = 0;
-    this.scrolled = false;
+    /** @type {T[] | null} */
+    this.given = null;
+    const { built, scrolled } = standing.get(box) || { built: 0, scrolled: false };
+    this.built = built;
+    this.scrolled = scrolled;
+    standing.set(box, this);
+    /** @type {string | null} the key of the row that gets the keyboard once it is built */
+    this.sought = null;
     this.heads = columns.map((it, n) => this.headOf(it, n));
     this.body = make("tbody");
     this.table = make("table", { id, className: "sorted" },
@@ -51,10 +61,11 @@ export class List {
       make("thead", {}, make("tr", {}, ...this.heads)), this.body);
     const [, column, way] = /^(\d+)([ad])$/.exec(chosen.get(id) || "") || [];
     this.order = columns[Number(column)]?.value ? { column: +column, down: way === "d" } : null;
-    box.addEventListener("scroll", () => {
+    // in place of that of a list before
+    box.onscroll = () => {
       this.scrolled = true;
       this.fill();
-    }, { passive: true });
+    };
     this.body.addEventListener("keydown", event => this.step(event));
     this.body.addEventListener("focusin", event =>
       this.rove(/** @type {HTMLElement} */ (event.target)));
@@ -75,10 +86,17 @@ export class List {
     const down = this.order?.column === column ? !this.order.down : !!this.columns[column].number;
     this.order = { column, down };
     choose(this.id, column + (down ? "d" : "a"));
-    this.show(this.given);
+    this.show(this.given || []);
   }
-  /** @param {T[]} items */
-  show(items) {
+  /**
+   * Shows items from the first one on; or, where it `stays` as it is, such as in another drawing,
+   * what is in view stays there, and the keyboard in its row.
+   * @param {T[]} items
+   */
+  show(items, stays = this.given === null) {
+    const many = stays && this.scrolled ? Math.max(PART, this.built) : PART;
+    const isNew = this.table.parentNode !== this.box;
+    this.sought = stays ? this.keyboard : null;
     this.given = items;
     this.items = this.order ? this.sorted(items) : items;
     this.heads.forEach((head, n) => {
@@ -90,18 +108,44 @@ export class List {
     this.table.setAttribute("aria-rowcount", String(items.length + 1));
     this.rest.textContent = "";
     if (!items.length) this.box.replaceChildren(make("p", { textContent: this.none }));
-    else if (this.table.parentNode !== this.box) this.box.replaceChildren(this.table, this.rest);
-    if (this.scrolled) this.box.scrollTop = 0;
-    this.scrolled = false;
+    else if (isNew) this.box.replaceChildren(this.table, this.rest);
+    if (this.scrolled && !stays) this.box.scrollTop = 0;
+    this.scrolled &&= stays;
     const long = items.length > 10 * PART;
-    this.build(long ? FIRST : PART);
-    if (long) later(this.id, once(() => this.begun()));
-    else this.begun();
+    this.build(long && !(isNew && stays) ? FIRST : many);
+    if (long) later(this.id, this.begun(many));
+    else atOnce(this.begun(many));
   }
-  /** Builds so much that a box is full, and takes away the rows of an earlier list. */
-  begun() {
-    this.build(PART - this.built);
+  /**
+   * Builds so many rows, which fill a box or reach what is in view, and takes away those of an
+   * earlier list.
+   * @param {number} many
+   * @returns {import("./steps.js").Steps<void>}
+   */
+  *begun(many) {
+    for (const end = Math.min(many, this.items.length); this.built < end;) {
+      this.build(Math.min(PART, end - this.built));
+      yield;
+    }
+    if (this.sought !== null) this.seek(this.sought);
     while (this.body.children.length > this.built) this.body.lastElementChild?.remove();
+  }
+  /** The key of the row that has the keyboard, or null. */
+  get keyboard() {
+    const { activeElement } = document;
+    const row = this.body.contains(activeElement) ? activeElement?.closest("tr") : null;
+    return row?.dataset.key ?? null;
+  }
+  /**
+   * Gives the keyboard back to the row that had it, unless it went on.
+   * @param {HTMLTableRowElement[]} rows new ones
+   */
+  refocus(rows) {
+    const row = rows.find(it => it.dataset.key === this.sought), { activeElement } = document;
+    if (!row) return;
+    this.sought = null;
+    if (activeElement === document.body || this.body.contains(activeElement))
+      picksIn(row)[0]?.focus({ preventScroll: true });
   }
   /** @param {T[]} items */
   sorted(items) {
@@ -121,11 +165,13 @@ export class List {
       row.setAttribute("aria-rowindex", String(this.built + k + 2));
       return row;
     });
+    rows.forEach(press);
     const old = [...this.body.children].slice(this.built, this.built + n);
     rows.forEach((row, k) => old[k] ? old[k].replaceWith(row) : this.body.append(row));
     if (!this.built) this.rove(picksIn(this.body)[0]);
     else for (const it of rows) for (const pick of picksIn(it)) pick.tabIndex = -1;
     this.built += rows.length;
+    this.refocus(rows);
     if (this.built === this.items.length) this.rest.textContent = "";
   }
   /** Builds on where the end of what is built comes near. */
@@ -142,6 +188,7 @@ export class List {
     for (const row of this.body.rows) {
       const isIt = row.dataset.key === key && key !== null;
       row.classList.toggle("picked", isIt);
+      press(row);
       if (isIt && isSought) this.box.scrollTop = row.offsetTop - this.box.clientHeight / 3;
     }
   }
@@ -190,6 +237,14 @@ const STEPS = { ArrowDown: 1, ArrowUp: -1, Home: -Infinity, End: Infinity };
  */
 const picksIn = node =>
   [.../** @type {NodeListOf<HTMLElement>} */ (node.querySelectorAll(".pick"))];
+/**
+ * Says of what can be picked in a row whether it is.
+ * @param {HTMLTableRowElement} row
+ */
+function press(row) {
+  for (const it of picksIn(row))
+    it.setAttribute("aria-pressed", String(row.classList.contains("picked")));
+}
 const collator = new Intl.Collator("en", { numeric: true });
 /**
  * The order of two values of a column: numbers, or texts with numbers in them.

@@ -5,7 +5,7 @@ import { clocksOf, pairsOf } from "./clocks.js";
 import { vectorOf } from "./globe.js";
 import { URGENT } from "./reading.js";
 import { kindIn, nameIn } from "./rows.js";
-import { each } from "./steps.js";
+import { each, eachSince } from "./steps.js";
 import { colourOf } from "./symbols.js";
 import { byLetters, said } from "./words.js";
 
@@ -16,10 +16,11 @@ import { byLetters, said } from "./words.js";
 /** @typedef {ArrayLike<number>} Picks numbers of rows */
 /** @typedef {{ rows: Rows, messages: Message[], end: number }} All what was read of the tables */
 /**
- * A net in a time: the numbers of its rows, when the first and the last was heard, and what they
- * tell of; `others` are rows of a kind that the page doesn't know.
- * @typedef {{ rows: Picks, begin: number, end: number, things: Thing[], placed: Thing[],
- *   others: number, messages: Message[], bulletins: Message[], receivers: Receiver[] }} Net
+ * A net since a moment: the numbers of its rows, when the first and the last was heard, and what
+ * they tell of; `others` are rows of a kind that the page doesn't know.
+ * @typedef {{ rows: Picks, since: number, begin: number, end: number, things: Thing[],
+ *   placed: Thing[], others: number, messages: Message[], bulletins: Message[],
+ *   receivers: Receiver[] }} Net
  */
 /**
  * Who heard whom, who alone, who repeated whom, and how much each station sent.
@@ -102,10 +103,6 @@ export class Thing {
     let place = this.made.get(k);
     if (!place) this.made.set(k, place = this.rows.placeOf(k));
     return place;
-  }
-  /** @returns {Place[]} */
-  get places() {
-    return this.placedBy.map(k => /** @type {Place} */ (this.placeAt(k)));
   }
   get now() {
     return this.placeAt(this.lastPlace);
@@ -206,12 +203,12 @@ export class Pairs {
 
 /**
  * How many rows there are of each station and list of names, such as the receivers.
- * @param {Rows} rows @param {Picks} picks @param {Uint32Array} column
+ * @param {Rows} rows @param {number} since @param {Uint32Array} column
  * @returns {Generator<unknown, [string, string[], number][]>}
  */
-function* countLists(rows, picks, column) {
+function* countLists(rows, since, column) {
   const counts = new Map(), { station } = rows, many = rows.lists.length;
-  yield* each(picks, k => {
+  yield* eachSince(rows, since, k => {
     const key = station[k] * many + column[k];
     counts.set(key, (counts.get(key) || 0) + 1);
   });
@@ -219,19 +216,20 @@ function* countLists(rows, picks, column) {
     [nameIn(rows.things[Math.floor(key / many)]), rows.lists[key % many], n]);
 }
 /**
- * Who heard whom, who alone, and who repeated whom; `all` is the sum over the stations.
- * @param {Rows} rows @param {Picks} picks
+ * Who heard whom since a moment, who alone, and who repeated whom; `all` is the sum over the
+ * stations.
+ * @param {Rows} rows @param {number} since
  * @returns {Generator<unknown, Hearings>}
  */
-export function* hearings(rows, picks) {
+export function* hearings(rows, since) {
   const heard = new Pairs(), alone = new Pairs(), repeated = new Pairs(), sent = new Map();
-  for (const [name, list, n] of yield* countLists(rows, picks, rows.heard))
+  for (const [name, list, n] of yield* countLists(rows, since, rows.heard))
     for (const source of [name, "all"]) {
       sent.set(source, (sent.get(source) || 0) + n);
       for (const receiver of list) heard.add(source, receiver, n);
       if (list.length === 1) alone.add(source, list[0], n);
     }
-  for (const [name, list, n] of yield* countLists(rows, picks, rows.via))
+  for (const [name, list, n] of yield* countLists(rows, since, rows.via))
     for (const hop of list)
       if (hop.endsWith("*"))
         for (const source of [name, "all"]) repeated.add(source, hop.slice(0, -1), n);
@@ -245,22 +243,22 @@ export function* hearings(rows, picks) {
  */
 /**
  * Each receiver, and the pairs of them whose clocks can be compared.
- * @param {Rows} rows @param {Picks} picks @param {number} gap
+ * @param {Rows} rows @param {number} since @param {number} gap
  * @returns {Generator<unknown, Receiver[]>}
  */
-function* receiversOf(rows, picks, gap) {
+function* receiversOf(rows, since, gap) {
   /** @type {{ names: string[], heard: number, last: number }[]} */
   const lists = [];
   /** @type {Map<string, Receiver>} */
   const receivers = new Map();
-  yield* each(picks, k => {
-    // the rows stand by their first moment, at which one of several receivers heard it at least
-    const n = rows.heard[k], list = lists[n] ||= { names: rows.lists[n], heard: 0, last: 0 };
+  yield* eachSince(rows, since, k => {
+    // at its first moment one of several receivers heard it at least
+    const n = rows.heard[k], list = lists[n] ||= { names: rows.lists[n], heard: 0, last: k };
     list.heard++;
-    list.last = k;
+    if (rows.first[k] >= rows.first[list.last]) list.last = k;
   });
   const heard = lists.filter(Boolean);
-  const clocks = clocksOf(yield* pairsOf(rows, picks, heard), gap);
+  const clocks = clocksOf(yield* pairsOf(rows, since, heard), gap);
   for (const { names, heard: n, last } of heard) {
     const alone = names.length === 1;
     for (const name of names) {
@@ -291,8 +289,8 @@ export function* netOf(all, since, gap) {
   const placed = things.filter(it => it.lastPlace >= 0);
   for (const it of placed) yield it.track; // it is kept
   let others = 0;
-  yield* each(picks, k => { if (rows.is(k, "other")) others++; });
-  return { rows: picks, begin, end, things, placed, others,
+  yield* eachSince(rows, since, k => { if (rows.is(k, "other")) others++; });
+  return { rows: picks, since, begin, end, things, placed, others,
     messages: messages.filter(it => !isBulletin(it)), bulletins: messages.filter(isBulletin),
-    receivers: yield* receiversOf(rows, picks, gap) };
+    receivers: yield* receiversOf(rows, since, gap) };
 }

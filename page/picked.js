@@ -39,8 +39,8 @@ export function pick(key, onMap = false) {
   if (thing?.now && !onMap) byId("map").scrollIntoView({ block: "nearest" });
   page.map.paintSoon();
 }
-/** What is known of the thing that is picked. */
-export function drawOne() {
+/** What is known of the thing that is picked; its lists stay where they are in another drawing. */
+export function drawOne(stays = false) {
   const thing = thingOf(page.picked);
   byId("one").hidden = !thing;
   if (!thing) return;
@@ -49,11 +49,11 @@ export function drawOne() {
   const channels = channelsOf(page.all.messages, thing.name);
   byId("one-about").replaceChildren(...factsOf(thing, channels).flatMap(([name, ...value]) =>
     [make("dt", { textContent: name }), make("dd", {}, ...value)]));
-  page.lists.places.show(thing.places.reverse());
+  page.lists.places.show([...thing.placedBy].reverse(), stays);
   const numbers = numbersOf(thing, page.net.rows);
   byId("one-graphs").replaceChildren(
     ...graphsOf(page.all.rows, numbers, channels).map(it => graphNode(it, page.net)));
-  page.lists.frames.show(numbers.reverse());
+  page.lists.frames.show(numbers.reverse(), stays);
 }
 /** @param {Thing} thing @param {import("./telemetry.js").Channel[]} channels */
 function factsOf(thing, channels) {
@@ -84,14 +84,23 @@ function factsAt({ kind }, now) {
   if (kind !== "station") facts.push(["put by", who(now.source)]);
   return facts;
 }
-/** @param {HTMLElement} box */
-export function placeList(box) {
-  const row = (/** @type {Place} */ it) => make("tr", {}, timeCell(it.first),
-    cell("where", ...whereOf(it)), cell("about", wordsOf(it).join(", ")),
-    cell("about", air(it.comment)), cell("by", it.receivers.join(", ")));
+/**
+ * A list of places, by the numbers of their rows.
+ * @param {HTMLElement} box
+ * @param {{ rows: import("./rows.js").Rows }} view
+ */
+export function placeList(box, view) {
+  const place = (/** @type {number} */ k) => view.rows.placeOf(k);
+  const row = (/** @type {number} */ k) => {
+    const it = place(k);
+    return make("tr", {}, timeCell(it.first), cell("where", ...whereOf(it)),
+      cell("about", wordsOf(it).join(", ")), cell("about", air(it.comment)),
+      cell("by", it.receivers.join(", ")));
+  };
   return new List(box, { id: "places", caption: "places", row, none: "no place", columns: [
-    { title: "heard", number: true, value: it => it.first },
-    { title: "place", value: it => it.north }, { title: "says", value: it => wordsOf(it).join() },
-    { title: "comment", value: it => it.comment },
-    { title: "by", value: it => it.receivers.join() }] });
+    { title: "heard", number: true, value: (/** @type {number} */ k) => view.rows.first[k] },
+    { title: "place", value: (/** @type {number} */ k) => view.rows.north[k] },
+    { title: "says", value: (/** @type {number} */ k) => wordsOf(place(k)).join() },
+    { title: "comment", value: (/** @type {number} */ k) => place(k).comment },
+    { title: "by", value: (/** @type {number} */ k) => place(k).receivers.join() }] });
 }

@@ -41,7 +41,11 @@ export function* textsOf(table) {
 /** @param {string[]} names @param {string} line @returns {Record<string, string>} */
 export function recordOf(names, line) {
   const fields = line.split("\t");
-  return Object.fromEntries(names.map((name, n) => [name, fields[n] ?? ""]));
+  /** @type {Record<string, string>} */
+  const record = {};
+  // of many rows a loop takes half of what `Object.fromEntries` does
+  for (let n = 0; n < names.length; n++) record[names[n]] = fields[n] ?? "";
+  return record;
 }
 
 const digit = (/** @type {Uint8Array} */ bytes, /** @type {number} */ at) => bytes[at] - 48;
@@ -107,6 +111,23 @@ const emptyColumns = n => ({
  */
 
 /**
+ * What `orderOf` gives, of moments so far apart or so many that no number holds one and its row.
+ * @param {Float64Array} moments @param {number} n
+ */
+function orderApart(moments, n) {
+  const order = new Uint32Array(n), sorted = moments.slice(0, n).sort(), taken = new Uint32Array(n);
+  for (let k = 0; k < n; k++) {
+    let low = 0;
+    for (let high = n; low < high;) {
+      const middle = low + high >> 1;
+      if (sorted[middle] < moments[k]) low = middle + 1;
+      else high = middle;
+    }
+    order[low + taken[low]++] = k;
+  }
+  return order;
+}
+/**
  * The numbers of `n` moments, those of earlier ones first, of equal ones as they stand.
  * @param {Float64Array} moments @param {number} n
  */
@@ -120,10 +141,9 @@ export function orderOf(moments, n) {
     most = Math.max(most, moments[k]);
   }
   if (isOrdered) return order;
-  const keys = new Float64Array(n);
   // numbers alone are sorted much faster, as long as they are exact
-  if ((most - least) * 1000 * n > 2 ** 52)
-    return order.sort((a, b) => moments[a] - moments[b] || a - b);
+  if ((most - least) * 1000 * n > 2 ** 52) return orderApart(moments, n);
+  const keys = new Float64Array(n);
   for (let k = 0; k < n; k++) keys[k] = Math.round((moments[k] - least) * 1000) * n + k;
   keys.sort();
   for (let k = 0; k < n; k++) order[k] = keys[k] - Math.floor(keys[k] / n) * n;

@@ -44,22 +44,33 @@ function fieldsOf(line, sign) {
   return fields;
 }
 /**
- * A line in fields: by the sign after its first word, or else the word and the rest.
+ * The sign after the first word of a line, or before it, where its first field is empty.
  * @param {string} line
  */
-function splitLine(line) {
-  const sign = /^\s*(?:"[^"]*"|[^\s",;]+)[ ]*([,;\t])/.exec(line)?.[1];
-  if (sign) return fieldsOf(line, sign);
-  const [, call, name] = /^\s*"?([^\s"]+)"?\s*(.*)$/.exec(line) || [];
-  return [call || "", fieldsOf(name || "", "\0")[0]];
+function signOf(line) {
+  const [, after, before] =
+    /^\s*(?:"[^"]*"|[^\s",;]+)[ ]*([,;\t])|^[ ]*([,;])/.exec(line) || [];
+  return after || before || "";
 }
 /**
- * The places of the columns, where a line is a head.
+ * A line in fields: by a sign, or else the first word and the rest.
+ * @param {string} line
+ * @param {string} sign
+ */
+function splitLine(line, sign) {
+  if (sign) return fieldsOf(line, sign);
+  const [, call, name] = /^\s*"?([^\s"]+)"?\s*(.*)$/.exec(line) || [];
+  return name ? [call, fieldsOf(name, "\0")[0]] : [call || ""];
+}
+/**
+ * The places of the columns, where a line is a head. What stands beside a call alone is a name.
  * @param {string[]} fields
  */
 function headOf(fields) {
   const names = fields.map(it => it.toLowerCase());
   if (!names.some(it => HEADS.call.includes(it))) return null;
+  const isKnown = COLUMNS.some(column => HEADS[column].includes(names[1]));
+  if (names.length === 2 && HEADS.call.includes(names[0]) && !isKnown) return [0, 1, 2, 3];
   return COLUMNS.map(column => names.findIndex(it => HEADS[column].includes(it)));
 }
 /**
@@ -71,13 +82,16 @@ export function readRoster(text) {
   const list = [];
   /** @type {Fault[]} */
   const faults = [], calls = new Set();
-  let places = [0, 1, 2, 3], isFirst = true;
+  let places = [0, 1, 2, 3], own = "", isFirst = true;
   for (const [n, line] of text.replace(/^\ufeff/, "").split(/\r\n|\n|\r/).entries()) {
     if (!line.trim() || line.trim().startsWith("#")) continue;
-    const fields = splitLine(line), head = isFirst ? headOf(fields) : null;
+    const sign = own && line.includes(own) ? own : signOf(line), fields = splitLine(line, sign);
+    const head = isFirst ? headOf(fields) : null;
     isFirst = false;
     if (head) {
       places = head;
+      // a first column that isn't the call may be empty, or have blanks
+      own = head[0] > 0 ? sign : "";
       continue;
     }
     const [call, name, group, bib] = places.map(at => fields[at] ?? "");
@@ -135,6 +149,9 @@ export class Names {
   of(call) {
     return this.by.get(call) || this.by.get(`${baseOf(call)}-*`);
   }
+  get hasNames() {
+    return [...this.by.values()].some(it => it.name);
+  }
   /**
    * A call as it is shown, with the name of whom it is: `Leader (Q1RUN-7)`.
    * @param {string} call
@@ -167,6 +184,13 @@ let known = new Names([]);
 export function know(list) {
   known = new Names(list);
 }
+/** Whether somebody has a name. */
+export const hasNames = () => known.hasNames;
+/**
+ * The name of a station alone, empty where there is none.
+ * @param {string} call
+ */
+export const nameOf = call => known.of(call)?.name ?? "";
 /**
  * A station as it is shown everywhere: with its name, where the roster has one.
  * @param {string} call

@@ -76,10 +76,10 @@ export class Rows {
   }
   /** A kill at 0, 0 lies where the thing was: its sender left the place out. */
   placeKills() {
-    const { north, east, thing } = this;
-    const kills = this.order.filter(k => this.killed[k] && this.isUnfixed(k));
-    if (!kills.length) return;
-    const wanted = new Set(Array.from(kills, k => thing[k])), last = new Map();
+    const { north, east, thing } = this, wanted = new Set(), last = new Map();
+    for (let k = 0; k < this.length; k++)
+      if (this.killed[k] && this.isUnfixed(k)) wanted.add(thing[k]);
+    if (!wanted.size) return;
     for (const k of this.order) {
       if (!wanted.has(thing[k])) continue;
       const before = last.get(thing[k]);
@@ -93,7 +93,12 @@ export class Rows {
    * @param {number} moment
    */
   since(moment) {
-    return moment === -Infinity ? this.order : this.order.filter(k => this.last[k] >= moment);
+    if (moment === -Infinity) return this.order;
+    const { order, last } = this, picks = new Uint32Array(order.length);
+    let n = 0;
+    // a loop takes a third of what `filter` does
+    for (let at = 0; at < order.length; at++) if (last[order[at]] >= moment) picks[n++] = order[at];
+    return picks.slice(0, n);
   }
   /**
    * Whether a row has a place. At 0, 0 is no fix.
@@ -106,12 +111,16 @@ export class Rows {
   isUnfixed(k) {
     return this.north[k] === 0 && this.east[k] === 0;
   }
+  /** @param {number} k */
+  line(k) {
+    return textIn(this.bytes, this.begin[k], this.stop[k]);
+  }
   /**
    * A row by the names of its columns.
    * @param {number} k
    */
   record(k) {
-    return recordOf(this.names, textIn(this.bytes, this.begin[k], this.stop[k]));
+    return recordOf(this.names, this.line(k));
   }
   /**
    * The kind of a row, as the table names it.

@@ -194,21 +194,23 @@ export class Sqlite {
     return null;
   }
   /**
-   * Each row of a table.
+   * Each row of a table. A page stands once in a tree, or one of few pages could go on for ever.
    * @param {number} root
+   * @param {Set<number>} seen
    * @returns {AsyncGenerator<Value[]>}
    */
-  async *rows(root, depth = 0) {
+  async *rows(root, depth = 0, seen = new Set()) {
+    if (depth > HIGHEST || seen.has(root)) throw new Error("the database is damaged");
+    seen.add(root);
     const page = await this.page(root), { bytes, view, cells, kind } = page;
-    if (depth > HIGHEST) throw new Error("the database is damaged");
     for (const cell of cells) {
-      if (kind !== TABLE_LEAF) yield* this.rows(view.getUint32(cell), depth + 1);
+      if (kind !== TABLE_LEAF) yield* this.rows(view.getUint32(cell), depth + 1, seen);
       else {
         const [size, at] = varint(bytes, cell);
         yield valuesOf(await this.payload(page, varint(bytes, at)[1], size));
       }
     }
-    if (kind !== TABLE_LEAF) yield* this.rows(page.last, depth + 1);
+    if (kind !== TABLE_LEAF) yield* this.rows(page.last, depth + 1, seen);
   }
 }
 /**

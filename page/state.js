@@ -35,7 +35,7 @@ import { Alarm } from "./sound.js";
  * The lists of the page; the last three are made anew for each net.
  * @typedef {{ messages: import("./lists.js").List<Message>,
  *   bulletins: import("./lists.js").List<Message>, things: import("./lists.js").List<Thing>,
- *   places: import("./lists.js").List<import("./rows.js").Place>,
+ *   places: import("./lists.js").List<number>,
  *   frames: import("./lists.js").List<number>,
  *   receivers: import("./lists.js").List<import("./net.js").Receiver>,
  *   roster: import("./lists.js").List<import("./tables.js").Waited>,
@@ -47,7 +47,7 @@ import { Alarm } from "./sound.js";
  *   grounds: import("./grounds.js").Grounds, next: Next, drawn: Promise<void> | undefined,
  *   turn: object | null, roster: Roster, found: Thing[], brought: Brought[],
  *   playing: ReturnType<typeof setInterval> | undefined,
- *   typing: ReturnType<typeof setTimeout> | undefined, finder: Map<Thing, string>, alarm: Alarm,
+ *   typing: ReturnType<typeof setTimeout> | undefined, alarm: Alarm,
  *   clockOf: import("./tables.js").ClockOf | null, own: OwnLines, looked: Looked, turned: boolean,
  *   follows: boolean, picked: string | null, from: string | null }} Page
  */
@@ -66,7 +66,7 @@ const NOT_YET = /** @type {never} */ (/** @type {unknown} */ (null));
 export const page = { data: NOT_YET, all: NOT_YET, net: NOT_YET, map: NOT_YET, lists: NOT_YET,
   form: NOT_YET, grounds: NOT_YET, next: NOT_YET, drawn: undefined, turn: null,
   roster: { list: [], faults: [] }, found: [], brought: [], playing: undefined, typing: undefined,
-  finder: new Map(), alarm: new Alarm(), clockOf: null, own: new OwnLines(), looked: new Looked(),
+  alarm: new Alarm(), clockOf: null, own: new OwnLines(), looked: new Looked(),
   turned: false, follows: false, picked: null, from: null };
 
 /**

@@ -25,6 +25,22 @@ export function* each(numbers, run) {
   }
 }
 /**
+ * Calls `run` with the number of each row that was heard last at a moment or later, in the order of
+ * the table: what lies side by side is read side by side, in a third of the time.
+ * @param {{ last: Float64Array, length: number }} rows
+ * @param {number} since
+ * @param {(k: number) => void} run
+ * @returns {Steps<void>}
+ */
+export function* eachSince({ last, length }, since, run) {
+  for (let begin = 0; begin < length; begin += STEP) {
+    const end = Math.min(length, begin + STEP);
+    if (since === -Infinity) for (let k = begin; k < end; k++) run(k);
+    else for (let k = begin; k < end; k++) if (last[k] >= since) run(k);
+    yield;
+  }
+}
+/**
  * A single step.
  * @param {() => void} run
  * @returns {Steps<void>}

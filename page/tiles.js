@@ -39,7 +39,7 @@ export function squaresOf({ south, north, west, east }, z, most) {
 /** Degrees north of the upper edge of a row of squares. */
 const northOf = (/** @type {number} */ y, /** @type {number} */ z) =>
   Math.atan(Math.sinh(Math.PI * (1 - 2 * y / 2 ** z))) / RADIAN;
-/** So many squares stay unpacked. */
+/** So many squares stay unpacked, those that were drawn last. */
 const KEPT = 400;
 /**
  * Squares that are read when they are asked for: their levels, and the picture of one.
@@ -84,7 +84,10 @@ export class Tiles {
    * @param {Blob} blob
    */
   take({ z, x, y }, blob) {
-    this.blobs.set(`${z}/${x}/${y}`, blob);
+    const key = `${z}/${x}/${y}`;
+    this.blobs.set(key, blob);
+    // where it wasn't there before, that was kept too
+    this.made.delete(key);
     this.widen(z, z);
   }
   /**
@@ -151,9 +154,10 @@ export class Tiles {
    */
   pictureOf(key, again) {
     const { made } = this, got = made.get(key);
+    made.delete(key);
+    made.set(key, got ?? null);
     if (got !== undefined) return got;
-    if (made.size >= KEPT) made.delete([...made.keys()][0]);
-    made.set(key, null);
+    if (made.size > KEPT) made.delete([...made.keys()][0]);
     // a square that can't be read or drawn is as one that isn't there
     this.find(key).then(blob => blob && createImageBitmap(blob)).then(it => {
       if (!it || !made.has(key)) return;
@@ -183,11 +187,15 @@ export class Tiles {
     if (z < 0) return false;
     const { low, high, west, east } = rangeOf(view), n = 2 ** z;
     if (east - west > 40) return false;
+    const left = Math.floor((west + 180) / 360 * n), right = Math.floor((east + 180) / 360 * n);
     const top = Math.floor(rowOf(Math.min(85, high), n));
+    const bottom = Math.floor(rowOf(Math.max(-85, low), n));
+    // more than are kept would be read anew for each picture
+    if ((right - left + 1) * (bottom - top + 1) > KEPT) return false;
     let painted = false;
     pen.save();
-    for (let x = Math.floor((west + 180) / 360 * n); x <= (east + 180) / 360 * n; x++)
-      for (let y = top; y <= rowOf(Math.max(-85, low), n); y++) {
+    for (let x = left; x <= right; x++)
+      for (let y = top; y <= bottom; y++) {
         const picture = this.pictureOf(`${z}/${((x % n) + n) % n}/${y}`, again);
         if (picture) this.square(pen, view, picture, { x, y, z });
         painted ||= picture !== null;

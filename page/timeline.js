@@ -4,7 +4,7 @@
 import { make, svg } from "./dom.js";
 import { cell, List } from "./lists.js";
 import { nameIn } from "./rows.js";
-import { each } from "./steps.js";
+import { eachSince } from "./steps.js";
 import { count, dateText, hourText } from "./words.js";
 
 /** @typedef {import("./net.js").Net} Net */
@@ -23,7 +23,7 @@ export function* timelineList(box, rows, net, sent) {
   /** @type {Uint32Array[]} */
   const by = [];
   const counts = new Map([["all", all]]), sentBy = (/** @type {string} */ it) => sent.get(it) || 0;
-  yield* each(net.rows, k => {
+  yield* eachSince(rows, net.since, k => {
     const part = Math.min(Math.floor((rows.first[k] - net.begin) / width), PARTS - 1);
     all[part]++;
     (by[rows.station[k]] ||= new Uint32Array(PARTS))[part]++;

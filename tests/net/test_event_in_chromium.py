@@ -567,9 +567,36 @@ def test_keys(page, folder):
     page.key("f")
     page.wait("aprsbook.page.map.view.width > 1200 && aprsbook.page.map.view.height > 700")
     is_(page.js("fill.getAttribute('aria-pressed')"), "true")
+    # what it covers has no stop of the tab key
+    is_(page.js("['controls', 'beside'].map(it => document.getElementById(it).inert)"),
+        [True, True])
     picture(page, "full")
     page.key("Escape")
     page.wait("aprsbook.page.map.view.width < 1000")
+    is_(page.js("document.querySelectorAll('[inert]').length"), 0)
+    is_(page.problems(), [])
+
+
+# where the list of stations is scrolled, how many of its rows are built, and which is in focus
+STANDS = """(() => { const box = document.getElementById('things-box');
+    return [box.scrollTop, box.querySelectorAll('tbody tr').length,
+        document.activeElement.textContent.slice(0, 9)] })()"""
+
+
+def test_stays(page, folder):
+    """Another drawing leaves a list where it is scrolled, and the keyboard in its row; a row that
+    is picked says so."""
+    rows = "".join(place(k % 60, f"Q1A{k:03}", 54.5, -3.5) for k in range(150))
+    page.open(page_of(folder / "stays.html", rows))
+    page.js("(document.getElementById('things-box').scrollTop = 500, 1)")
+    page.wait("document.querySelectorAll('#things tbody tr').length > 30")
+    page.js("document.querySelectorAll('#things .pick')[29].focus({ preventScroll: true })")
+    before = page.js(STANDS)
+    is_([before[0], before[2]], [500, "Q1A029"])
+    page.js("aprsbook.refresh()")
+    is_(page.js(STANDS), before)
+    page.js(PICK % "Q1A029")
+    is_(page.js(texts % "#things .pick[aria-pressed=true]"), ["Q1A029"])
     is_(page.problems(), [])
 
 

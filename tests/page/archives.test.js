@@ -186,6 +186,23 @@ for (const [form, size] of [["index", 4096], ["key", 512], ["map", 1024], ["inde
     assert.equal(await it.read(1, 0, 0), null);
     assert.equal(await it.read(6, 63, 0), null);
   });
+test("a database whose pages stand several times in one tree is damaged", async () => {
+  // each page but the last leads to the next one, three times
+  const size = 512, many = 13, bytes = new Uint8Array(size * many);
+  const view = new DataView(bytes.buffer);
+  view.setUint16(16, size);
+  for (let n = 0; n < many; n++) {
+    const head = n * size + (n ? 0 : 100), isLast = n === many - 1;
+    bytes[head] = isLast ? 13 : 5;
+    view.setUint16(head + 3, isLast ? 0 : 2);
+    view.setUint32(head + 8, n + 2);
+    for (const [k, at] of isLast ? [] : [[0, 400], [1, 410]]) {
+      view.setUint16(head + 12 + 2 * k, at);
+      view.setUint32(n * size + at, n + 2);
+    }
+  }
+  await assert.rejects(openSqlite(new Blob([bytes])), /damaged/);
+});
 test("a database that can't be drawn says why", { skip: !hasPython }, async () => {
   await assert.rejects(openMbtiles(made("vector")), /no pictures/);
   await assert.rejects(openMbtiles(made("none")), /no index by zoom_level, tile_column, tile_row/);

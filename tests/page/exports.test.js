@@ -1,6 +1,7 @@
 import assert from "node:assert/strict";
 import { test } from "node:test";
-import { savedText } from "../../page/exports.js";
+import { SAVES, savedText } from "../../page/exports.js";
+import { know } from "../../page/roster.js";
 import { letterOf, printable, said } from "../../page/words.js";
 import { message, moment, netOfLines, place, row } from "./tables.js";
 
@@ -28,11 +29,40 @@ test("messages: in the table's states, bulletins too", () => {
     "time,from,number,to,message,state", `${moment(4)},Q1A,,BLN1,'' =2,unnumbered`,
     `${moment(5)},Q1A,7,Q1B,hi,acknowledged`, `${moment(6)},Q1A,,BLN2,'\uff1d1,unnumbered`, ""]);
 });
+test("messages: with names in columns of their own, where the roster has some", () => {
+  const net = netOfLines([], [message("Q1A-7", "Q1B", "hi", "unanswered", 5, { id: "7" })]);
+  const own = { at: Date.UTC(2024, 5, 21, 18) / 1000, from: "Q1A-7", to: "CP1", id: "", text: "x" };
+  const saved = list => {
+    know(list);
+    const text = savedText("messages (CSV)", net, {}, [own]);
+    know([]);
+    return text.split("\n");
+  };
+  const name = (call, said) => ({ call, name: said, group: "", bib: "" });
+  assert.deepEqual(saved([name("Q1A-*", "=Leader"), name("Q1C", "")]), [
+    "time,from,number,to,message,state,from_name,to_name", `${moment(0)},Q1A-7,,CP1,x,own,,`,
+    `${moment(5)},Q1A-7,7,Q1B,hi,unanswered,'=Leader,`, ""]);
+  assert.deepEqual(saved([name("Q1A-*", "")]), ["time,from,number,to,message,state",
+    `${moment(0)},Q1A-7,,CP1,x,own`, `${moment(5)},Q1A-7,7,Q1B,hi,unanswered`, ""]);
+});
 test("a track over the date line is cut there", () => {
   const net = netOfLines([place(0, "Q1A", 0, 179.5), place(9, "Q1A", 0, -179.5)]);
   const geojson = savedText("places and tracks (GeoJSON)", net);
   assert.deepEqual(JSON.parse(geojson).features.at(-1).geometry.coordinates,
     [[[179.5, 0], [180, 0]], [[-180, 0], [-179.5, 0]]]);
+});
+test("of what is saved nothing is kept, and a long track has pauses", () => {
+  const lines = Array.from({ length: 2000 }, (_, k) => place(k, "Q1A", 54 + k / 1e4, -3));
+  const net = netOfLines(lines), data = { title: "x", rows: new Uint8Array() };
+  for (const name of Object.keys(SAVES)) savedText(name, net, data);
+  assert.ok(net.placed[0].made.size <= 1);
+  const pieces = [...SAVES["places and tracks (GeoJSON)"][2](net, data, [])];
+  // four of points, three pauses, a track and an end
+  assert.deepEqual(pieces.map(it => it === ""), [...Array(4).fill(false), true, true, true, false,
+    false]);
+  const { features } = JSON.parse(pieces.join("")), track = features.at(-1).geometry.coordinates;
+  assert.deepEqual([features.length, track.length, track[0].length], [2001, 1, 2000]);
+  assert.deepEqual(track[0].at(-1), [-3, 54.1999]);
 });
 test("GPX has no longitude of 180, which its schema refuses", () => {
   const net = netOfLines([place(0, "Q1A", 0, 180), place(9, "Q1A", 0, -180)]);
@@ -52,6 +82,8 @@ test("a killed object ends a track's segment", () => {
     [of(0, "live", 1), of(1, "killed", 2), of(2, "live", 3), of(3, "live", 4)]);
   const gpx = savedText("places and tracks (GPX)", net, { title: "x" });
   assert.equal(gpx.split("<trkseg>").length - 1, 2);
+  const { features } = JSON.parse(savedText("places and tracks (GeoJSON)", net));
+  assert.deepEqual(features.at(-1).geometry.coordinates, [[[1, 1], [2, 1]], [[3, 1], [4, 1]]]);
 });
 test("a description in KML is text of HTML", () => {
   const net = netOfLines([place(0, "Q1A", 1, 2, { text: "<b>&" })]);

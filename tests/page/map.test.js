@@ -4,7 +4,7 @@ import { test } from "node:test";
 import zlib from "node:zlib";
 import { capOf, distance, locatorOf, Projection, vectorOf } from "../../page/globe.js";
 import { rangeOf } from "../../page/grid.js";
-import { zoomOf } from "../../page/hands.js";
+import { listenToMap, zoomOf } from "../../page/hands.js";
 import { crossings, ringsOf } from "../../page/land.js";
 import { nameOnMap, Room, Sides } from "../../page/sides.js";
 import { squareOf } from "../../page/tiles.js";
@@ -20,6 +20,31 @@ test("a wheel zooms by its size, and not sideways", () => {
   assert.ok(Math.abs(wheel({ deltaY: -3, deltaMode: 1 }) - 1.2) < 1e-9);
   assert.equal(wheel({ deltaX: 40, deltaY: 3 }), 1);
   assert.ok(wheel({ deltaY: -1e9 }) < 2);
+});
+test("a mouse moves the map by its first button alone, and picks by it", () => {
+  const runs = [], said = [];
+  const listen = (kind, run) => runs.push({ kind, run });
+  globalThis.addEventListener = listen;
+  const node = { addEventListener: listen, style: {}, querySelector: () => ({}),
+    getBoundingClientRect: () => ({ left: 0, top: 0 }) };
+  listenToMap({ node, isFull: false, point() {}, markAt: () => null, paintSoon() {}, turn() {},
+    move: (...by) => said.push(by), tap: (...at) => said.push(at) });
+  const say = (type, of) => runs.filter(it => it.kind === type).forEach(it =>
+    it.run({ type, pointerId: 1, pointerType: "mouse", button: 0, ...of }));
+  for (const button of [2, 1]) {
+    say("pointerdown", { button, clientX: 5, clientY: 5 });
+    say("pointermove", { clientX: 90, clientY: 5 });
+  }
+  assert.deepEqual(said, []);
+  say("pointerdown", { clientX: 5, clientY: 5 });
+  say("pointerup", { clientX: 6, clientY: 5 });
+  say("pointerdown", { clientX: 5, clientY: 5 });
+  say("pointermove", { clientX: 90, clientY: 7 });
+  say("pointerup", { clientX: 90, clientY: 7 });
+  say("pointermove", { clientX: 0, clientY: 0 });
+  say("pointerdown", { pointerType: "pen", button: 5, clientX: 0, clientY: 0 });
+  say("pointermove", { pointerType: "pen", clientX: 3, clientY: 0 });
+  assert.deepEqual(said, [[6, 5], [85, 2], [3, 0]]);
 });
 test("the map opens on what is near most, and not on a few places far away", () => {
   const near = line(Array.from({ length: 40 }, (_, k) => [54.5 + k / 1000, -3.5]));

@@ -1,10 +1,12 @@
 import assert from "node:assert/strict";
 import { test } from "node:test";
+import { hearings } from "../../page/net.js";
 import { needsOf, newsOf } from "../../page/news.js";
 import { know } from "../../page/roster.js";
 import { Alarm } from "../../page/sound.js";
+import { atOnce } from "../../page/steps.js";
 import { clocks } from "../../page/words.js";
-import { message, netOfLines, place, row, thing } from "./tables.js";
+import { message, netOfLines, place, row, rowsOf, thing } from "./tables.js";
 
 const OF = { gap: 30, silent: 30, isSilent: () => false, missing: [], expected: 0 };
 const micE = (second, source, says) => row("mic-e", second, source,
@@ -99,6 +101,26 @@ test("where no two clocks agree none is called right", () => {
     "the clocks of A and C are 3 h apart", "the clocks of B and C are 2 h apart"]);
 });
 
+test("a net is the same in whatever order its table stands, also since a moment", () => {
+  const lines = [];
+  for (let k = 0; k < 7; k++)
+    for (const [name, ahead] of [["C", 0], ["A", 3600], ["B", 10800]])
+      lines.push(place(200 * k + ahead, `Q1${name}`, 54, -3, { receivers: name, via: "Q1D*" }),
+        place(200 * k + ahead + 1, "Q1X", 54, -3, { receivers: name, text: `no. ${k}` }));
+  const flat = it => [...it.counts].map(([key, of]) => [key, [...of].sort()]).sort();
+  const told = all => [-Infinity, Date.UTC(2024, 5, 21, 18, 10) / 1000].map(since => {
+    const { begin, end, things, receivers } = netOfLines(all, [], { since });
+    const { heard, alone, repeated, sent } = atOnce(hearings(rowsOf(all), since));
+    return { begin, end, receivers, things: things.map(it => [it.key, it.sent, it.first, it.last]),
+      sent: [...sent].sort(), pairs: [heard, alone, repeated].map(flat) };
+  });
+  const [all, some] = told(lines);
+  assert.deepEqual(told([...lines].reverse()), [all, some]);
+  assert.deepEqual(all.receivers[2].clock.from.map(it => it.b), ["A", "B"]);
+  assert.deepEqual([all, some].map(it => it.receivers.map(one => [one.name, one.heard])),
+    [[["A", 14], ["B", 14], ["C", 14]], [["A", 14], ["B", 14], ["C", 8]]]);
+  assert.equal(new Map(some.sent).get("Q1C"), 4);
+});
 test("a name of the roster stands wherever a station is in need", () => {
   know([{ call: "Q1A-*", name: "Leader", group: "", bib: "" }]);
   const net = netOfLines([micE(0, "Q1A-7", "emergency")]);
@@ -126,5 +148,5 @@ test("a kill at 0, 0 is a kill, where the thing was", () => {
   assert.deepEqual([it.killed, it.now.state, it.now.north, it.now.east], [true, "killed", 54, -3]);
   assert.deepEqual([it.unfixed, thing(net, "Y").unfixed, thing(net, "Y").now], [0, 1, null]);
   assert.equal(it.at(lines.length ? it.first + 1 : 0).state, "live");
-  assert.deepEqual([again.killed, again.places.map(one => one.north)], [false, [5, 5, 7]]);
+  assert.deepEqual([again.killed, again.placedBy.map(k => again.rows.north[k])], [false, [5, 5, 7]]);
 });

@@ -1,5 +1,6 @@
 import assert from "node:assert/strict";
 import { test } from "node:test";
+import { orderOf } from "../../page/reading.js";
 import { detailsOf } from "../../page/rows.js";
 import { wordsOf } from "../../page/details.js";
 import {
@@ -105,7 +106,20 @@ test("a table is read to its end, where its lines become shorter or a last one i
     [300, "Q1\u00dc", 3]);
 });
 
+test("moments of years stand in order, equal ones as they come", () => {
+  const year = 365 * 86400, many = 2000;
+  for (const span of [1, 1000, year / 10, 300 * year]) {
+    const moments = Float64Array.from({ length: many + 5 }, (_, k) =>
+      1.7e9 + Math.round(k * 7919 % 499 / 499 * span * 1000) / 1000);
+    const order = orderOf(moments, many), sorted = Array.from({ length: many }, (_, k) => k)
+      .sort((a, b) => moments[a] - moments[b] || a - b);
+    assert.deepEqual([...order], sorted, `${span}`);
+  }
+});
 test("rows stand by their first moment, equal ones as in the table", () => {
   const rows = rowsOf([5, 3, 3, 9, 1].map((second, k) => row("status", second, `Q1A-${k}`)));
   assert.deepEqual([...rows.order], [4, 1, 2, 0, 3]);
+  const moments = [-Infinity, rows.first[1], rows.first[1] + 0.5, Infinity];
+  assert.deepEqual(moments.map(it => [...rows.since(it)]),
+    [[4, 1, 2, 0, 3], [1, 2, 0, 3], [0, 3], []]);
 });

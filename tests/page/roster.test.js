@@ -17,6 +17,23 @@ test("a head names columns in any order, and others are passed over", () => {
     "7,555,Leader,q1run-7\r\n"),
     [["Q1RUN-7", "Leader", "", "7"]]);
 });
+test("beside a call alone stands a name, and of two columns of names the first counts", () => {
+  for (const [text, name] of [["Callsign,Location\nQ1A,Start\n", "Start"],
+    ["call,\nQ1A,Start\n", "Start"], ["call,number\nQ1A,Start\n", ""], ["call\nQ1A x\n", ""],
+    ["call,name,who\nQ1A,one,two\n", "one"]])
+    assert.equal(calls(text)[0][1], name, text);
+});
+test("a first column that isn't the call may be empty, or have blanks", () => {
+  const both = [["Q1MED-7", "second post", "", ""], ["Q1A", "", "", "first, with us"]];
+  assert.deepEqual(calls("number,callsign,name\n,Q1MED-7,second post\n\"first, with us\",Q1A\n"),
+    both);
+  assert.deepEqual(calls("no\tcall\tname\n\tQ1MED-7\tsecond post\nfirst, with us\tQ1A\t\n"), both);
+  assert.deepEqual(calls(";call;name\n;Q1MED-7;second post\n7 x;Q1A;\n"),
+    [both[0], ["Q1A", "", "", ""]]);
+  // lines without the head's sign are as before
+  assert.deepEqual(calls("number,call\n7;Q1A\n8 Q1B\n").map(it => it[0]), ["Q1A", "Q1B"]);
+  assert.deepEqual(calls("call,name\nQ1A Leader, in red\n"), [["Q1A", "Leader, in red", "", ""]]);
+});
 test("what is no call, or stands there twice, is said with its line", () => {
   const { list, faults } = readRoster("Q1A\n\n# no\nTOOLONGCALL x\nQ1A-0 again\nQ1B-16\nQ1B-15\n");
   assert.deepEqual(list.map(it => it.call), ["Q1A", "Q1B-15"]);
@@ -24,9 +41,10 @@ test("what is no call, or stands there twice, is said with its line", () => {
 });
 test("a list of all calls is read at once, and of many faults a few are said", () => {
   const call = n => `Q${String.fromCharCode(65 + n % 26)}${Math.floor(n / 26)}`;
-  const begin = performance.now(), many = Array.from({ length: 60000 }, (_, n) => call(n));
+  // on a busy machine all takes longer, but no more of a processor
+  const begin = process.cpuUsage().user, many = Array.from({ length: 60000 }, (_, n) => call(n));
   assert.equal(readRoster(many.join("\n")).list.length, many.length);
-  assert.ok(performance.now() - begin < 3000);
+  assert.ok(process.cpuUsage().user - begin < 3e6);
   const { faults } = readRoster("a-b\n".repeat(9) + "\u202eab x\n");
   assert.deepEqual(faultWords(faults).slice(4), ["line 5: a-b is no call", "and 5 more"]);
   assert.deepEqual(faultWords(faults.slice(9)), ["line 10: \\xe2\\x80\\xaeab is no call"]);

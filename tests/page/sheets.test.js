@@ -1,7 +1,9 @@
 import assert from "node:assert/strict";
 import { test } from "node:test";
+import "./document.js";
 import { bounded } from "../../page/edge.js";
 import { degreesOf } from "../../page/globe.js";
+import { Grounds } from "../../page/grounds.js";
 import { placeText, forms, placeFacts, spotText } from "../../page/placeforms.js";
 import { cornersIn, cornersOf } from "../../page/sheets.js";
 import { vectorOf } from "../../page/globe.js";
@@ -27,6 +29,52 @@ test("a world file has the corners of its picture", () => {
     ["54, -4", "55, -4", "54, -3.5"]);
   for (const it of ["", "1 2 3 4 5", "a b c d e f", "10 0 0 -10 460000 6040000"])
     assert.equal(cornersIn(it, size), null, it);
+});
+/** What is dropped: a picture, or its world file, whose upper left corner lies there. */
+const file = (name, what) => Object.assign(new Blob([what]), { name });
+const sheet = name => file(name, Uint8Array.from([0x89, 80, 78, 71, 13, 10, 26, 10, 0, 0, 0, 0]));
+const world = (name, north, east) =>
+  file(name, `0.01\n0\n0\n-0.01\n${east + 0.005}\n${north - 0.005}\n`);
+function grounds() {
+  globalThis.createImageBitmap = async () => ({ width: 100, height: 50 });
+  const map = { sheets: [], tiles: { archives: new Map(), size: 0, clear() {} },
+    paintSoon() {} }, told = [];
+  return { all: new Grounds(map, text => told.push(text)), told, whereIs: () => map.sheets
+    .map(it => [it.name, ...degreesOf(it.corners[0]).map(Math.round)].join(" ")).sort() };
+}
+const field = id => document.getElementById(id);
+test("sheets that are dropped together lie each where its own world file says", async () => {
+  const files = [world("A.pgw", 55, -4), sheet("a.png"), world("b.pngw", 47, 10), sheet("b.png")];
+  for (const order of [[0, 1, 2, 3], [3, 1, 2, 0], [1, 3, 0, 2], [0, 2, 1, 3]]) {
+    const { all, told, whereIs } = grounds();
+    await Promise.all(order.map(k => all.take(files[k])));
+    assert.deepEqual(whereIs(), ["a.png 55 -4", "b.png 47 10"]);
+    assert.deepEqual([all.waiting, [...all.worlds], field("sheet").hidden], [[], [], true]);
+    assert.ok(told.every(it => it === ""));
+  }
+});
+test("of sheets without world files the corners are asked for, one after the other", async () => {
+  const { all, whereIs } = grounds();
+  await Promise.all(["a.png", "b.png"].map(it => all.take(sheet(it))));
+  for (const [name, ...corners] of [["b.png", "47, 10", "47, 11", "46, 10"],
+    ["a.png", "55, -4", "55, -3", "54, -4"]]) {
+    assert.deepEqual([field("sheet").hidden, field("sheet-name").textContent], [false, name]);
+    corners.forEach((it, k) => { field(`corner-${k}`).value = it; });
+    all.lay();
+  }
+  assert.deepEqual([whereIs(), field("sheet").hidden], [["a.png 55 -4", "b.png 47 10"], true]);
+});
+test("a wrong world file refuses its own picture alone", async () => {
+  const { all, whereIs } = grounds();
+  await all.take(file("a.pgw", "no numbers"));
+  await assert.rejects(all.take(sheet("a.png")), /no six numbers/);
+  await assert.rejects(all.take(file("a.pgw", "still none")), /no six numbers/);
+  await Promise.all([all.take(sheet("b.png")), all.take(world("b.pgw", 47, 10))]);
+  assert.deepEqual([whereIs(), field("sheet-name").textContent], [["b.png 47 10"], "a.png"]);
+  await all.take(world("a.pgw", 55, -4));
+  assert.deepEqual(whereIs(), ["a.png 55 -4", "b.png 47 10"]);
+  all.clear();
+  assert.deepEqual(whereIs(), []);
 });
 test("places in each form, and in degrees near a pole", () => {
   const all = ["", "minutes", "utm", "mgrs", "locator"].map(it => {

@@ -8,7 +8,7 @@ const { pairsOf } = await page("clocks");
 const { SAVES, savedText } = await page("exports");
 const { netOf } = await page("net");
 const { columnsOf, messagesOf, tableOf } = await page("reading");
-const { expectedOf, readRoster } = await page("roster");
+const { expectedOf, know, readRoster } = await page("roster");
 const { Rows } = await page("rows");
 
 function ended(steps) {
@@ -27,9 +27,12 @@ function saidOf({ rows, messages, roster }) {
   said.expected = expectedOf(list, net.things).map(it => [it.call, it.name, it.group, it.bib,
     it.last === -Infinity ? "never" : new Date(it.last * 1000).toISOString()]);
   said.faults = faults.map(it => it.line);
+  know(list);
+  said.named = savedText("messages (CSV)", net, { title: "net", rows: table });
+  know([]);
   const count = n => read.heard.filter(it => it === n).length;
   const heard = read.lists.map((names, n) => ({ names, heard: count(n) }));
-  said.clocks = ended(pairsOf(read, read.since(-Infinity), heard));
+  said.clocks = ended(pairsOf(read, -Infinity, heard));
   return said;
 }
 process.stdout.write(JSON.stringify(JSON.parse(readFileSync(0, "utf8")).map(saidOf)));

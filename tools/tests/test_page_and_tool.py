@@ -56,6 +56,22 @@ LINES = [
     'Q1K,"a',
     "q1b-15",
     "-7",
+    ",Q1MED-7,second post",
+    "second post,Q1L,x",
+    "\tQ1M\tmast",
+    ";Q1N;n",
+]
+HEADS = [
+    "call,bib,name",
+    "Callsign,Location",
+    "call,",
+    "call",
+    "call,name,name",
+    "number,callsign,name",
+    "NAME;Station;who",
+    "no\tcall\tteam",
+    ",callsign,name",
+    "number callsign",
 ]
 EASTS = [-180.0, -179.5, -3.5, 0.0, 3.25, 179.5, 180.0]
 
@@ -108,6 +124,8 @@ def row_of(some: random.Random) -> Row:
 
 def roster_of(some: random.Random) -> str:
     lines = some.sample(LINES, some.randrange(len(LINES)))
+    if some.random() < 0.5:
+        lines.insert(0, some.choice(HEADS))
     return some.choice(["\n", "\r\n"]).join(lines)
 
 
@@ -167,6 +185,11 @@ def test_csv_of_places(both: List[Any]) -> None:
 def test_csv_of_messages(both: List[Any]) -> None:
     for case, said in both:
         assert messages_csv(case.messages, Roster()) == said["messages (CSV)"], case
+
+
+def test_csv_of_messages_with_names(both: List[Any]) -> None:
+    for case, said in both:
+        assert messages_csv(case.messages, read_roster(case.roster)) == said["named"], case
 
 
 def features(text: str) -> List[Any]:

@@ -82,6 +82,23 @@ def test_a_head_line_names_the_order() -> None:
     assert roster.expected == [Expected("Q1RUN-7", "Anna", "", "118")]
 
 
+@pytest.mark.parametrize(
+    "text, wanted",
+    [
+        ("Callsign,Location\nQ1A,Start", Expected("Q1A", "Start")),
+        ("call,name,who\nQ1A,one,two", Expected("Q1A", "one")),
+        ("number,callsign,name\n,Q1A,second post", Expected("Q1A", "second post")),
+        (",callsign,name\n,Q1A,second post", Expected("Q1A", "second post")),
+        ("number,callsign\nfirst post,Q1A", Expected("Q1A", "", "", "first post")),
+        ("number,callsign\n7;Q1A", Expected("Q1A", "", "", "7")),
+        ("call,name\nQ1A Leader, in red", Expected("Q1A", "Leader, in red")),
+    ],
+)
+def test_a_line_below_a_head(text: str, wanted: Expected) -> None:
+    roster = read_roster(text)
+    assert roster.faults == [] and roster.expected == [wanted]
+
+
 def test_a_head_line_of_words() -> None:
     assert read_roster("call name\nQ1RUN-7 Leader").expected == [Expected("Q1RUN-7", "Leader")]
 

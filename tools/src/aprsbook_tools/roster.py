@@ -17,7 +17,7 @@ from aprsbook_tools.errors import Fault
 ANY = "-*"  # stands for any SSID
 LONGEST = 100_000  # letters of a line
 FEW = 20  # faults that are said
-BEGIN = re.compile(r'\s*(?:"[^"]*"|[^\s,;"]+) *([,;\t])')
+BEGIN = re.compile(r'\s*(?:"[^"]*"|[^\s,;"]+) *([,;\t])| *([,;])')
 PLAIN = re.compile(r'\s*"?([^\s"]+)"?\s*(.*)')
 LINE_END = re.compile(r"\r\n|\n|\r")
 # the names of columns in a head line
@@ -116,6 +116,7 @@ class Roster:
 def read_roster(text: str) -> Roster:
     """The roster of a text; a fault for each line that isn't understood, or has a call again."""
     order: Sequence[str] = ORDER
+    sign = ""
     expected: List[Expected] = []
     faults: List[LineFault] = []
     seen: Dict[str, int] = {}
@@ -127,14 +128,15 @@ def read_roster(text: str) -> Roster:
             faults.append(LineFault(number, f"longer than {LONGEST} letters"))
             continue
         try:
-            fields, head = fields_of(line), None
+            fields, head = fields_of(line, sign), None
         except csv.Error as fault:  # as a NUL is to an older Python
             faults.append(LineFault(number, str(fault)))
             continue
         if first:
             head, first = head_of(fields), False
         if head:
-            order = head
+            # a first column that isn't the call may be empty, or have blanks
+            order, sign = head, "" if head[0] == "call" else sign_of(line)
             continue
         entry = entry_of(fields, order)
         if isinstance(entry, str):
@@ -147,11 +149,18 @@ def read_roster(text: str) -> Roster:
     return Roster(expected, faults)
 
 
-def fields_of(line: str) -> List[str]:
-    """The fields of a line: what a comma, semicolon or tab parts, or else a call and a name."""
+def sign_of(line: str) -> str:
+    """The sign after the first word of a line, or before it, where its first field is empty."""
     begin = BEGIN.match(line)
-    if begin:
-        return parted(line.strip(" "), begin[1])
+    return (begin[1] or begin[2]) if begin else ""
+
+
+def fields_of(line: str, own: str) -> List[str]:
+    """The fields of a line: what its head's own sign parts, or a comma, semicolon or tab after the
+    first word, or else a call and a name."""
+    sign = own if own and own in line else sign_of(line)
+    if sign:
+        return parted(line.strip(" "), sign)
     plain = PLAIN.match(line)
     return [plain[1], *parted(plain[2], "\x1f")] if plain else []
 
@@ -162,11 +171,14 @@ def parted(line: str, sign: str) -> List[str]:
 
 
 def head_of(fields: Sequence[str]) -> Optional[List[str]]:
-    """The columns that a head line names, empty for one that means nothing here."""
+    """The columns that a head line names, empty for one that means nothing here, or that is named
+    before."""
     names = [HEADS.get(it.lower(), "") for it in fields]
     if len(names) == 2 and names[0] == "call" and not names[1]:
         return list(ORDER)
-    return names if "call" in names else None
+    if "call" not in names:
+        return None
+    return ["" if it in names[:at] else it for at, it in enumerate(names)]
 
 
 def entry_of(fields: Sequence[str], order: Sequence[str]) -> Union[Expected, str]:

@@ -1,0 +1,66 @@
+import assert from "node:assert/strict";
+import { setImmediate as pause } from "node:timers/promises";
+import { test } from "node:test";
+import { Projection } from "../../page/globe.js";
+import { Tiles } from "../../page/tiles.js";
+
+globalThis.devicePixelRatio = 1;
+globalThis.createImageBitmap = async () => ({ width: 256, height: 256 });
+const PEN = new Proxy({}, { get: () => () => {}, set: () => true });
+/** A view in which squares of level 12 are so many levels smaller than their pictures. */
+function viewOf(width, height, out) {
+  const view = Object.assign(new Projection(), { width, height });
+  view.look(54.5, -3.5);
+  const wide = 2 * Math.PI * Math.cos(54.5 * Math.PI / 180);
+  return Object.assign(view, { scale: 256 * 2 ** (12 - out) / wide });
+}
+/** Paints until nothing is new; gives how often, and whether there were squares. */
+async function settled(tiles, view) {
+  for (let paints = 1, isNew = true; ; paints++) {
+    isNew = false;
+    const some = tiles.paint(PEN, view, () => { isNew = true; });
+    for (let k = 0; k < 20; k++) await pause();
+    if (!isNew || paints === 30) return [paints, some];
+  }
+}
+function archive() {
+  const read = [], tiles = new Tiles();
+  tiles.open("x", { least: 12, most: 16, read: async (...square) => {
+    read.push(square.join());
+    return new Blob(["p"]);
+  } });
+  return { tiles, read };
+}
+
+test("squares are read once for a view, in a large window too, or are too many", async () => {
+  for (const [width, height, out, isShown] of [[1280, 700, 0, true], [1280, 700, 1.9, true],
+    [1920, 1000, 1, true], [1920, 1000, 1.9, false], [2560, 1400, 1.9, false]]) {
+    const { tiles, read } = archive(), [paints, some] = await settled(tiles,
+      viewOf(width, height, out));
+    assert.deepEqual([paints <= 2, some], [true, isShown], `${width} ${out}`);
+    assert.equal(read.length, new Set(read).size);
+    assert.equal(read.length > 0, isShown);
+  }
+});
+test("of squares that are kept those go first that were drawn longest ago", async () => {
+  const { tiles, read } = archive(), middle = viewOf(1280, 700, 1.6), arms = [];
+  await settled(tiles, middle);
+  for (const [right, down] of [[600, 0], [-600, 0], [0, 400], [0, -400], [600, 0]]) {
+    const view = viewOf(1280, 700, 1.6), before = read.length;
+    view.move(right, down);
+    await settled(tiles, view);
+    arms.push(read.length - before);
+    tiles.paint(PEN, middle, () => {});
+    await settled(tiles, middle);
+    assert.equal(read.length - before, arms.at(-1), "the middle was read again");
+  }
+  assert.ok(new Set(read).size > 400 && arms.at(-1) > 0, `${arms}`);
+});
+test("a square that comes later is drawn where its gap was seen", async () => {
+  const tiles = new Tiles(), view = viewOf(256, 256, 0);
+  tiles.take({ z: 12, x: 0, y: 0 }, new Blob(["far away"]));
+  assert.deepEqual(await settled(tiles, view), [1, false]);
+  const [z, x, y] = [...tiles.made.keys()][0].split("/").map(Number);
+  tiles.take({ z, x, y }, new Blob(["p"]));
+  assert.deepEqual(await settled(tiles, view), [2, true]);
+});
