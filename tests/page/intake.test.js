@@ -1,0 +1,55 @@
+import assert from "node:assert/strict";
+import { test } from "node:test";
+import { bytesOf, line, stand, textOf } from "./stand.js";
+import { fileOf, look, shifts } from "../../page/intake.js";
+import { beginEarly, textsOf } from "../../page/runs.js";
+import { beginWorkers, run } from "../../page/workers.js";
+
+await beginWorkers("", null, fault => assert.fail(fault));
+const logOf = (name, text, of) => fileOf(name, "log", bytesOf(text), of);
+/** A log that was given and looked at. */
+async function looked(name, text) {
+  const file = logOf(name, text);
+  await look(file, 30);
+  return file;
+}
+const bookOf = async files => textOf((await textsOf(files, 30, () => {})).book);
+/** Calls `run` with other answers, or slow ones, of the workers. */
+async function answering(of, run) {
+  const before = { ...stand };
+  Object.assign(stand, of);
+  await run().finally(() => Object.assign(stand, before));
+}
+
+test("a log that comes after a clock was put right is moved in the book too", async t => {
+  t.after(() => shifts.clear());
+  shifts.set("COAST", -3600);
+  const first = await looked("a.log", line("19:00:00", "COAST"));
+  const second = logOf("b.log", line("19:10:00", "COAST"));
+  beginEarly([first, second], 30);
+  await look(second, 30);
+  assert.deepEqual((await bookOf([first, second])).match(/T\d\d:\d\d/g), ["T18:00", "T18:10"]);
+});
+test("so is one whose clock is put right while it is read", async t => {
+  t.after(() => shifts.clear());
+  const file = logOf("a.log", line("19:00:00", "COAST"));
+  beginEarly([file], 30);
+  shifts.set("COAST", -3600);
+  await look(file, 30);
+  assert.match(await bookOf([file]), /T18:00/);
+});
+test("what began early is the book where files are what they were", async () => {
+  const asked = [], file = logOf("a.log", line("19:00:00", "RX1"));
+  await answering({ answer: ({ command }) => { asked.push(command); } }, async () => {
+    beginEarly([file], 30);
+    await look(file, 30);
+    assert.match(await bookOf([file]), /T19:00/);
+  });
+  assert.deepEqual(asked.sort(), ["check", "merge", "messages", "rows"]);
+});
+
+test("a worker is free again where there is no room for a copy of what it is to read", async () => {
+  const noRoom = Object.defineProperty(new Uint8Array(9), "length", { value: -1 });
+  for (let k = 0; k < 4; k++) await assert.rejects(run("check", 30, [noRoom]), RangeError);
+  assert.equal((await run("check", 30, [bytesOf(line("18:00:00", "RX1"))])).status, 0);
+});
