@@ -145,7 +145,26 @@ export async function look(file, gap) {
     file.fault = /** @type {Error} */ (fault).message;
   }
 }
-/** @param {Given} file @param {number} gap */
+/**
+ * Keeps how a log is refused, and which of its lines are damaged; says whether it has to be looked
+ * at again, as it is spelled.
+ * @param {Given} file @param {Source} source @param {import("./workers.js").Got} got
+ */
+async function keepDamage(file, source, got) {
+  file.reason = got.fault;
+  if (!REASONS[got.fault]) return false;
+  // what is damaged is at hand from now on
+  const bytes = file.bytes = got.inputs?.[0] ?? await bytesIn(source);
+  // of a large file no more than its beginning was spelled
+  const plain = source instanceof Blob ? spelled(bytes) : null;
+  if (plain?.spelling.length) {
+    Object.assign(file, plain, { reason: "" });
+    return true;
+  }
+  file.damage = await damagedLines(bytes, checkOf, MANY) || [];
+  return false;
+}
+/** @param {Given} file @param {number} gap @returns {Promise<void>} */
 async function lookInto(file, gap) {
   let { bytes } = file; // of a book and a log it may be a file
   /** @type {Uint8Array | undefined} */
@@ -172,15 +191,7 @@ async function lookInto(file, gap) {
     ready = got.inputs?.[0];
     if (!got.status) file.said = lines.pop() || "";
     file.passed = lines.filter(Boolean);
-    if (got.status) {
-      file.reason = got.fault;
-      if (REASONS[got.fault]) {
-        // what is damaged is at hand from now on
-        file.bytes = bytes = got.inputs?.[0] ?? await bytesIn(bytes);
-        file.damage = await damagedLines(bytes, checkOf, MANY) || [];
-      }
-      return refuse(got);
-    }
+    if (got.status) return await keepDamage(file, bytes, got) ? lookInto(file, gap) : refuse(got);
   }
   // a book's moments stay: it no longer has what each receiver wrote
   const isMoved = file.kind !== "book" && shifts.size > 0;

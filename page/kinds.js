@@ -45,7 +45,8 @@ export function kindOf(bytes, name) {
   if (isMap(begin)) return "map";
   const stranger = STRANGERS.find(([form]) => form.test(begin));
   if (stranger) return stranger[1];
-  if (!/^\d{4}-\d\d-\d\dT/.test(begin) && /\.(txt|csv|tsv)$/i.test(name) && ROSTER.test(begin))
+  // the first line of a log may be torn
+  if (!/^\d{4}-\d\d-\d\dT/m.test(begin) && /\.(txt|csv|tsv)$/i.test(name) && ROSTER.test(begin))
     return "roster";
   return "log";
 }
@@ -66,11 +67,27 @@ export function spelled(bytes) {
     spelling.push("a byte order mark");
     bytes = bytes.subarray(3);
   }
-  const end = bytes.indexOf(10);
-  if (end < 1 || bytes[end - 1] !== 13) return { bytes, spelling };
-  spelling.push("CR LF");
-  const plain = bytes.filter((it, k) => it !== 13 || bytes[k + 1] !== 10);
+  const plain = withoutReturns(bytes);
+  if (plain.length < bytes.length) spelling.push("CR LF");
   return { bytes: plain, spelling };
+}
+const CR = 13, LF = 10;
+/**
+ * Bytes without the CR of each CR LF.
+ * @param {Uint8Array} bytes
+ */
+function withoutReturns(bytes) {
+  let at = bytes.indexOf(CR), from = 0, to = 0;
+  if (at < 0) return bytes;
+  const plain = new Uint8Array(bytes.length);
+  for (; at >= 0; at = bytes.indexOf(CR, from)) {
+    const end = bytes[at + 1] === LF ? at : at + 1;
+    plain.set(bytes.subarray(from, end), to);
+    to += end - from;
+    from = at + 1;
+  }
+  plain.set(bytes.subarray(from), to);
+  return plain.subarray(0, to + bytes.length - from);
 }
 
 /**

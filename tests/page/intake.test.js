@@ -48,6 +48,17 @@ test("what began early is the book where files are what they were", async () => 
   assert.deepEqual(asked.sort(), ["check", "merge", "messages", "rows"]);
 });
 
+test("a large file with CR LF behind its beginning is spelled, and so are its damaged lines", async () => {
+  const begin = line("18:00:00", "RX1"), windows = line("18:01:00", "RX1").replace("\n", "\r\n");
+  const file = fileOf("a.log", "log", new Blob([begin, windows]));
+  await look(file, 30);
+  assert.deepEqual([file.fault, file.said, file.spelling, textOf(file.taken)],
+    ["", "heard 2 passed 0", ["CR LF"], begin + windows.replace("\r", "")]);
+  const torn = fileOf("b.log", "log", new Blob([begin, windows, "torn\r\n", windows]));
+  await look(torn, 30);
+  assert.deepEqual(torn.damage.map(it => [it.line, it.why]), [[3, "Moment"]]);
+});
+
 test("a worker is free again where there is no room for a copy of what it is to read", async () => {
   const noRoom = Object.defineProperty(new Uint8Array(9), "length", { value: -1 });
   for (let k = 0; k < 4; k++) await assert.rejects(run("check", 30, [noRoom]), RangeError);

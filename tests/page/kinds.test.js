@@ -21,7 +21,7 @@ test("books, captures, maps, rosters and logs are known", () => {
   const cases = [["APRSBOOK 3", "x", "book"], ["", "net.book", "book"], ["\xc0\0", "x", "KISS stream"],
     ["<?xml version='1.0'?><kml>", "x.kml", "map"], ["<gpx >", "x", "map"], ["{", "x", "map"],
     ["\xef\xbb\xbfcall,name\n", "x.csv", "roster"], ["# a\nQ1A-* x\n", "x.txt", "roster"],
-    [LINE, "x.txt", "log"], ["", "x.log", "log"], ["Q1A x", "x.log", "log"]];
+    [LINE, "x.txt", "log"], ["0Z RX1 c000\n" + LINE, "x.txt", "log"], ["", "x.log", "log"], ["Q1A x", "x.log", "log"]];
   for (const [text, name, kind] of cases) assert.equal(kindOf(bytesOf(text), name), kind, text);
 });
 test("what a file is takes no time that grows with blank lines or comments", () => {
@@ -47,6 +47,19 @@ test("Windows' spellings are read and named", () => {
   }
   // a CR that ends no line stays
   assert.equal(textOf(spelled(bytesOf("a\rb\r\n")).bytes), "a\rb\n");
+});
+test("line ends are spelled wherever they are, and in no time that grows with them", () => {
+  for (const [text, plain] of [["a\nb\r\nc\n", "a\nb\nc\n"], ["\r\n\r\n", "\n\n"],
+    ["a\r\nb\r", "a\nb\r"], ["\r\r\n", "\r\n"]]) {
+    const got = spelled(bytesOf(text));
+    assert.deepEqual([textOf(got.bytes), got.spelling], [plain, ["CR LF"]]);
+  }
+  for (const text of ["", "a\r", "a\n"]) assert.deepEqual(spelled(bytesOf(text)).spelling, []);
+  globalThis.large = bytesOf(LINE.replace("\n", "\r\n").repeat(4000));
+  globalThis.asked = () => {
+    for (let k = 0; k < 30; k++) spelled(globalThis.large);
+  };
+  runInThisContext("asked()", { timeout: 3000 });
 });
 /** Refuses each line with an x, as a check does: the first alone. */
 async function check(bytes) {

@@ -1,12 +1,14 @@
 // What the modules that read logs ask of the page and of a browser, by hand: workers run the
 // stand-in for the module. It stands before those modules in a test.
+import { bytesIn } from "../../page/sources.js";
 import * as words from "../../page/words.js";
 import { run } from "../net/stand_in.js";
 
 /** How many milliseconds a run takes, by its command, and what it gives where that is another. */
 export const stand = { wait: command => 0, answer: given => null };
 
-function answerOf({ command, options, inputs, keeps }) {
+async function answerOf({ command, options, inputs: given, keeps }) {
+  const inputs = await Promise.all(given.map(bytesIn));
   const isTable = command === "rows" || command === "messages";
   const got = run(null, isTable ? `table ${command}` : command, options, inputs);
   return keeps ? { ...got, inputs } : got;
@@ -14,7 +16,7 @@ function answerOf({ command, options, inputs, keeps }) {
 class Worker {
   async postMessage([id, what, given]) {
     await new Promise(done => setTimeout(done, what === "run" ? stand.wait(given.command) : 0));
-    const value = what === "load" ? true : stand.answer(given) || answerOf(given);
+    const value = what === "load" ? true : stand.answer(given) || await answerOf(given);
     this.onmessage({ data: [id, value, ""] });
   }
   terminate() {}
