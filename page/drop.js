@@ -11,7 +11,7 @@ import { filesOf } from "./folders.js";
 import { drawFiles, files, notesOf, numberIn, shiftText } from "./inputs.js";
 import { asText, fileOf, isSame, look, placeOf, shifts, take } from "./intake.js";
 import { beginEarly, Refused, textsOf } from "./runs.js";
-import { movedIn } from "./shift.js";
+import { receiversIn } from "./shift.js";
 import { gathered, inSlices } from "./steps.js";
 import { squareOf } from "./tiles.js";
 import { aMoment, beginWorkers, run } from "./workers.js";
@@ -191,7 +191,7 @@ async function shiftClock(name, by) {
 const clockOf = {
   shifted: name => shifts.get(name) || 0,
   can: name => files.some(it => it.taken && it.kind !== "book" &&
-    (it.taken instanceof Blob || movedIn(it.taken, new Map([[name, 0]])).length > 0)),
+    (it.taken instanceof Blob || receiversIn(it.taken).has(name))),
   put: shiftClock,
 };
 

@@ -3,9 +3,10 @@
 
 import { count } from "./drawn.js";
 import { damagedLines, kindOf, MANY, READ, REASONS, spelled, without } from "./kinds.js";
-import { shifted } from "./shift.js";
+import { shifting } from "./shift.js";
 import { linesIn } from "./ownlines.js";
 import { bytesIn, isSameSource, limits, sizeOf } from "./sources.js";
+import { inSlices } from "./steps.js";
 import { beginningOf, MOST, TOO_LARGE, unzipped } from "./unpacking.js";
 import { run } from "./workers.js";
 
@@ -164,6 +165,11 @@ async function keepDamage(file, source, got) {
   file.damage = await damagedLines(bytes, checkOf, MANY) || [];
   return false;
 }
+/**
+ * A log as the clocks are put right now.
+ * @param {Uint8Array} bytes
+ */
+const moved = async bytes => await inSlices(shifting(bytes, new Map(shifts)), () => true) || bytes;
 /** @param {Given} file @param {number} gap @returns {Promise<void>} */
 async function lookInto(file, gap) {
   let { bytes } = file; // of a book and a log it may be a file
@@ -195,7 +201,7 @@ async function lookInto(file, gap) {
   }
   // a book's moments stay: it no longer has what each receiver wrote
   const isMoved = file.kind !== "book" && shifts.size > 0;
-  file.taken = isMoved ? shifted(ready ?? await bytesIn(bytes), shifts) : bytes;
+  file.taken = isMoved ? await moved(ready ?? await bytesIn(bytes)) : bytes;
   file.ready = isMoved ? undefined : ready;
 }
 /**

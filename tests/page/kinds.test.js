@@ -2,7 +2,8 @@ import assert from "node:assert/strict";
 import { test } from "node:test";
 import { runInThisContext } from "node:vm";
 import { damagedLines, kindOf, READ, spelled, without } from "../../page/kinds.js";
-import { movedIn, shifted } from "../../page/shift.js";
+import { movedIn, receiversIn, shifting } from "../../page/shift.js";
+import { atOnce } from "../../page/steps.js";
 
 const bytesOf = text => Uint8Array.from(text, it => it.charCodeAt(0));
 const textOf = bytes => new TextDecoder("latin1").decode(bytes);
@@ -91,6 +92,7 @@ test("many damaged lines of a large log are found, and little of it is checked a
   assert.equal(textOf(without(bytes.subarray(0, 40), damage.slice(0, 1))).includes("x"), false);
 });
 
+const shifted = (bytes, shifts) => atOnce(shifting(bytes, shifts));
 test("the moments of one receiver are moved, in each spelling and over midnight", () => {
   const log = "2024-06-21T23:59:50Z RX1 c0\n2024-06-21T23:59:50.250Z RX1 c0\n" +
     "2024-06-21T23:59:50Z RX2 c0\n";
@@ -108,4 +110,16 @@ test("moments are moved in a log of many pieces, and a line stays whole", () => 
   const log = Array.from({ length: 150000 }, (_, k) => line(k)).join("");
   const moved = textOf(shifted(bytesOf(log), new Map([["RX0", 3600]])));
   assert.equal(moved, log.replace(/T18(:..:..\.000Z RX0)/g, "T19$1"));
+});
+test("moments are moved in many short steps, and a log without them stays what it is", () => {
+  const bytes = bytesOf(LINE.repeat(40000)), steps = shifting(bytes, new Map([["RX1", 1]]));
+  let many = 0;
+  for (let it = steps.next(); !it.done; it = steps.next()) many++;
+  assert.ok(many > 4, String(many));
+  assert.equal(shifted(bytes, new Map([["RX2", 1]])), bytes);
+});
+test("a log is looked through once for its receivers", () => {
+  const bytes = bytesOf(LINE);
+  assert.deepEqual([...receiversIn(bytes)], ["RX1"]);
+  assert.equal(receiversIn(bytes), receiversIn(bytes));
 });
