@@ -40,6 +40,8 @@ export class OwnLines {
   constructor(store = storeOf()) {
     this.store = store;
     this.key = "";
+    /** Whether the browser keeps what is kept here. */
+    this.isStored = true;
     /** @type {Line[]} those that stand in the page itself */
     this.given = [];
     /** @type {Kept} */
@@ -60,10 +62,12 @@ export class OwnLines {
    * @param {unknown} given
    */
   open(title, given = []) {
-    const key = `aprsbook lines: ${title}`, before = this.key && this.key !== key ? this.lines : [];
+    const key = `aprsbook lines: ${title}`, isSame = this.key === key;
+    const before = this.key && !isSame ? this.lines : [];
     this.key = key;
     this.given = linesIn(given);
-    this.kept = this.read();
+    // what the browser doesn't keep stays in this page
+    this.kept = isSame && !this.isStored ? this.withStored() : this.read();
     if (before.length) this.addAll(this.lines.length ? this.brought : before);
   }
   /**
@@ -83,6 +87,16 @@ export class OwnLines {
     } catch {
       return { lines: [], gone: [] };
     }
+  }
+  /**
+   * What is kept, as another window of this net left it.
+   * @returns {Kept}
+   */
+  withStored() {
+    const stored = this.read(), { lines, gone } = this.kept;
+    const keys = new Set([...stored.lines.map(keyOf), ...stored.gone]);
+    return { lines: [...stored.lines, ...lines.filter(it => !keys.has(keyOf(it)))],
+      gone: [...new Set([...stored.gone, ...gone])] };
   }
   /** @param {Line[]} lines */
   add(...lines) {
@@ -107,20 +121,18 @@ export class OwnLines {
       ({ lines: lines.filter(it => keyOf(it) !== key), gone: [...gone, key] }));
   }
   /**
-   * Changes what is kept, as another window of this net left it.
+   * Changes what is kept; says whether the browser keeps it.
    * @param {(kept: Kept) => Kept} change
    */
   change(change) {
-    const stored = this.read(), { lines, gone } = this.kept;
-    const keys = new Set([...stored.lines.map(keyOf), ...stored.gone]);
-    this.kept = change({ lines: [...stored.lines, ...lines.filter(it => !keys.has(keyOf(it)))],
-      gone: [...new Set([...stored.gone, ...gone])] });
+    this.kept = change(this.withStored());
+    this.isStored = false;
     try {
-      if (!this.store) return false;
-      this.store.setItem(this.key, JSON.stringify(this.kept));
-      return true;
+      this.store?.setItem(this.key, JSON.stringify(this.kept));
+      this.isStored = this.store !== null;
     } catch {
-      return false; // it is full, or forbidden
+      // it is full, or forbidden
     }
+    return this.isStored;
   }
 }

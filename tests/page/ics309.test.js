@@ -97,7 +97,25 @@ test("without a store, with a full or a damaged one, lines stay in the page", ()
     const lines = opened(store, [own(1, "a")]);
     assert.equal(lines.add(own(2, "b")), false);
     assert.deepEqual(textsOf(lines), ["a", "b"]);
+    // the page is drawn again, as for each new log
+    lines.open("Race", [own(1, "a")]);
+    assert.deepEqual(textsOf(lines), ["a", "b"]);
+    lines.remove(own(1, "a"));
+    lines.open("Race", [own(1, "a")]);
+    assert.deepEqual(textsOf(lines), ["b"]);
+    lines.open("Other");
+    lines.open("Other");
+    assert.deepEqual(textsOf(lines), ["b"]);
   }
+  const store = new Store(true), lines = opened(store);
+  lines.add(own(1, "a"));
+  store.isFull = false;
+  // another window had room
+  opened(store).add(own(2, "b"));
+  lines.open("Race");
+  assert.deepEqual(textsOf(lines), ["a", "b"]);
+  lines.add(own(3, "c"));
+  assert.deepEqual(textsOf(opened(store)), ["a", "b", "c"]);
   for (const text of ["{", "null", "7", "{\"lines\":7,\"gone\":{}}",
     "{\"lines\":[null,{\"at\":\"1\"}]}"]) {
     const store = new Store();
