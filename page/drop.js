@@ -8,7 +8,7 @@ import {
 } from "./drawn.js";
 import { eventPieces, squaresWithin } from "./eventpage.js";
 import { filesOf } from "./folders.js";
-import { drawFiles, files, notesOf, numberIn, shiftText } from "./inputs.js";
+import { drawFiles, files, notesOf, numberIn, shiftNotes } from "./inputs.js";
 import { asText, fileOf, isSame, look, placeOf, shifts, take } from "./intake.js";
 import { beginEarly, Refused, textsOf } from "./runs.js";
 import { receiversIn } from "./shift.js";
@@ -47,14 +47,22 @@ function tellProgress(share, words = "") {
 
 // ---- the book, and what is drawn of it
 
+/**
+ * By how many seconds the clocks are put right in what is drawn.
+ * @type {Map<string, number>}
+ */
+let drawnShifts = new Map();
 const optionsOf = () => ({ title: byId("name").value || "APRS net", gap: numberIn("gap"),
   live: 0, silent: numberIn("silent"), maps: [], roster: "",
-  notes: [...files.flatMap(notesOf), ...[...shifts].map(([name, by]) => shiftText(name, by))] });
+  notes: [...files.flatMap(notesOf), ...shiftNotes(drawnShifts)] });
 /**
  * Draws these texts, with the options as they stand.
  * @param {Made} texts
  */
-const draw = ({ rows, messages, read }) => show({ ...optionsOf(), rows, messages }, read);
+function draw({ rows, messages, read, shifts: by }) {
+  drawnShifts = by;
+  return show({ ...optionsOf(), rows, messages }, read);
+}
 const NONE = new Uint8Array();
 /**
  * Draws an empty page, and says why it is.
@@ -174,12 +182,13 @@ async function lookAgain(/** @type {Given[]} */ list) {
   for (const it of list) await look(it, numberIn("gap"));
 }
 /**
- * Puts the clock of a receiver right, or as it was; all logs are read anew.
+ * Puts the clock of a receiver forward by so many seconds, or back, or leaves it as it was; all logs
+ * are read anew.
  * @param {string} name
  * @param {number} by
  */
 async function shiftClock(name, by) {
-  if (by) shifts.set(name, (shifts.get(name) || 0) + by);
+  if (by) shifts.set(name, by);
   else shifts.delete(name);
   await lookAgain(files.filter(it => !it.unread && it.kind !== "book"));
   work();
@@ -189,7 +198,7 @@ async function shiftClock(name, by) {
  * @type {import("./tables.js").ClockOf}
  */
 const clockOf = {
-  shifted: name => shifts.get(name) || 0,
+  shifted: name => drawnShifts.get(name) || 0,
   can: name => files.some(it => it.taken && it.kind !== "book" &&
     (it.taken instanceof Blob || receiversIn(it.taken).has(name))),
   put: shiftClock,

@@ -5,7 +5,7 @@
 import { age, byId, count, make, printable, save } from "./drawn.js";
 import { leaveOut, lineText, look, shifts } from "./intake.js";
 import { REASONS } from "./kinds.js";
-import { movedIn } from "./shift.js";
+import { movedIn, receiversIn } from "./shift.js";
 import { sizeOf } from "./sources.js";
 
 /** @typedef {import("./intake.js").Given} Given */
@@ -95,17 +95,37 @@ function damageOf(file, work) {
 export const shiftText = (name, by) =>
   `the clock of ${name} was put ${age(Math.abs(by))} ${by < 0 ? "back" : "forward"} here`;
 /**
- * The receivers of a file whose clocks are put right, and what saves it so.
+ * A log that is at hand, as all are where clocks are put right.
  * @param {Given} file
  */
-function movedOf({ name, kind, taken }) {
-  // where clocks are put right, all logs are at hand
-  const moved = taken instanceof Uint8Array && kind !== "book" ? movedIn(taken, shifts) : [];
-  if (!taken || !moved.length) return [];
-  const words = moved.map(it => shiftText(it, shifts.get(it) || 0)).join("; ");
+const logOf = ({ kind, taken }) => taken instanceof Uint8Array && kind !== "book" ? taken : null;
+/**
+ * What the page says of the clocks that are put right, of the receivers of its logs.
+ * @param {Map<string, number>} by
+ */
+export const shiftNotes = by => [...by].filter(([name]) => files.some(it => {
+  const log = logOf(it);
+  return log && receiversIn(log).has(name);
+})).map(it => shiftText(...it));
+/**
+ * What is said of the clocks of a file that are put right.
+ * @param {Given} file
+ */
+function movedText(file) {
+  const log = logOf(file);
+  return log ? movedIn(log, shifts).map(it => shiftText(it, shifts.get(it) || 0)).join("; ") : "";
+}
+/**
+ * The receivers of a file whose clocks are put right, and what saves it so, as it is at the click.
+ * @param {Given} file
+ */
+export function movedOf(file) {
+  const words = movedText(file);
+  if (!words) return [];
   return [make("p", { textContent: words }),
     make("button", { type: "button", className: "moved", textContent: "save it so", onclick() {
-      save(name.replace(/(\.[a-z]+)?$/i, ".put-right$&"), taken, "text/plain");
+      const name = file.name.replace(/(\.[a-z]+)?$/i, ".put-right$&"), log = logOf(file);
+      if (log) save(name, log, "text/plain");
     } })];
 }
 /**
@@ -138,7 +158,7 @@ function rowOf(file, work) {
   verdict.className = `verdict ${file.fault ? "bad" : "good"}`;
   verdict.textContent = file.fault || file.said;
   const state = [file.away, file.reason, file.damage.length, file.leftOut.length,
-    file.passed.length, file.spelling, [...shifts].join()].join();
+    file.passed.length, file.spelling, movedText(file)].join();
   if (more.dataset.state === state) return row;
   more.dataset.state = state;
   more.replaceChildren(...moreOf(file, work));

@@ -11,9 +11,10 @@ import { run } from "./workers.js";
 /** @typedef {"merge" | "rows" | "messages"} Command */
 /** @typedef {Partial<Record<Command, Promise<Got | null>>>} Begun */
 /**
- * A book, its tables, and the columns of its rows.
+ * A book, its tables, and the columns of its rows; and how the clocks of its receivers were put
+ * right.
  * @typedef {{ book: Uint8Array, rows: Uint8Array, messages: Uint8Array,
- *   read: import("./reading.js").Read | null }} Made
+ *   read: import("./reading.js").Read | null, shifts: Map<string, number> }} Made
  */
 /** A run of all files that was refused: for which of them, or -1 where it is for none. */
 export class Refused extends Error {
@@ -75,7 +76,7 @@ export async function textsOf(good, gap, tellShare) {
     if (got.status) throw new Refused(got);
     return got;
   };
-  const lent = good.flatMap(it => it.ready || []);
+  const by = new Map(shifts), lent = good.flatMap(it => it.ready || []);
   const inputs = good.map(it => it.ready || it.taken || it.bytes);
   for (const it of good) it.ready = undefined;
   let book = (await answerOf("merge", inputs, { lent })).bytes;
@@ -83,7 +84,8 @@ export async function textsOf(good, gap, tellShare) {
   if (book.length <= limits.alone) {
     const [rows, messages] =
       await Promise.all([answerOf("rows", [book]), answerOf("messages", [book])]);
-    return { book, rows: rows.bytes, read: rows.read || null, messages: messages.bytes };
+    return { book, rows: rows.bytes, read: rows.read || null, messages: messages.bytes,
+      shifts: by };
   }
   // of a large book one after the other, so that there is room for each; the book goes to and fro
   const ofBook = async (/** @type {Command} */ command) => {
@@ -92,5 +94,5 @@ export async function textsOf(good, gap, tellShare) {
     return got;
   };
   const rows = await ofBook("rows"), messages = await ofBook("messages");
-  return { book, rows: rows.bytes, read: rows.read || null, messages: messages.bytes };
+  return { book, rows: rows.bytes, read: rows.read || null, messages: messages.bytes, shifts: by };
 }

@@ -153,10 +153,10 @@ export async function run(command, options, inputs, { lent = [], keeps = false }
   // a worker that had much is replaced afterwards, which frees its memory at once
   free.isLarge = sizeOfAll(inputs) > limits.alone;
   // a copy that is handed over takes less time than what a browser copies itself
-  const copies = await copiesOf(inputs, lent).catch(fault => {
-    letGo(free); // there is no room for them
+  const hand = free, copies = await copiesOf(inputs, lent).catch(fault => {
+    letGo(hand); // there is no room for them
     throw fault;
   });
   const buffers = copies.flatMap(it => it instanceof Blob ? [] : [it.buffer]);
-  return ask(free, "run", { command, options, inputs: copies, keeps }, buffers);
+  return ask(hand, "run", { command, options, inputs: copies, keeps }, buffers);
 }

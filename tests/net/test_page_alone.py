@@ -550,6 +550,32 @@ def test_clock(page, folder):
     page.js("document.querySelector('#receivers .clock').click()")
     page.wait(f"{MADE} && {ROWS} === 18")
     is_(page.js("aprsbook.page.data.notes"), [])
+    # a second click before it is done is no other one
+    page.wait("document.querySelector('#receivers .clock')?.textContent === 'put right'")
+    page.js("(it => { it.click(); it.click() })(document.querySelector('#receivers .clock'))")
+    page.wait(f"{MADE} && {ROWS} === 9")
+    is_(page.js("aprsbook.page.data.notes"), ["the clock of COAST was put 60 min back here"])
+    # what is no longer there has no note
+    page.js("[...document.querySelectorAll('#files button')].find(it => "
+            "it.ariaLabel === 'take coast.log away').click()")
+    page.wait(f"{MADE} && aprsbook.page.net.receivers.length === 2")
+    is_(page.js("aprsbook.page.data.notes"), [])
+
+
+def test_two_clocks(page, folder):
+    """Where two clocks are apart and none is known to be right, each is put right by the other."""
+    fresh(page, folder)
+    late = "".join(place(100 * k + 3600, f"Q1A-{k % 15 + 1}", 30 + k % 20, "COAST", f"no. {k}")
+                   for k in range(9))
+    give(page, folder, {"a.log": log(9, "RX1"), "coast.log": late})
+    page.wait(f"{MADE} && document.querySelectorAll('#receivers .clock').length === 2")
+    is_(sorted(page.js("[...document.querySelectorAll('#receivers .clock')]"
+                       ".map(it => it.ariaLabel)")),
+        ["put right by COAST the clock of RX1", "put right by RX1 the clock of COAST"])
+    page.js("[...document.querySelectorAll('#receivers .clock')].find(it => "
+            "it.ariaLabel.endsWith(' COAST')).click()")
+    page.wait(f"{MADE} && {ROWS} === 9")
+    is_(page.js("aprsbook.page.data.notes"), ["the clock of COAST was put 60 min back here"])
 
 
 def own_line(page, text, at="2024-06-21T18:05:00"):

@@ -1,6 +1,7 @@
 import assert from "node:assert/strict";
 import { test } from "node:test";
-import { bytesOf, line, stand, textOf } from "./stand.js";
+import { bytesOf, line, saved, stand, textOf } from "./stand.js";
+import { files, movedOf, shiftNotes } from "../../page/inputs.js";
 import { fileOf, look, shifts } from "../../page/intake.js";
 import { beginEarly, textsOf } from "../../page/runs.js";
 import { beginWorkers, run } from "../../page/workers.js";
@@ -37,6 +38,25 @@ test("so is one whose clock is put right while it is read", async t => {
   shifts.set("COAST", -3600);
   await look(file, 30);
   assert.match(await bookOf([file]), /T18:00/);
+});
+test("a log whose clock is put right is saved as it is at the click, and notes are of its logs", async t => {
+  t.after(() => {
+    shifts.clear();
+    files.length = 0;
+  });
+  shifts.set("COAST", -3600);
+  files.push(await looked("a.log", line("19:00:00", "COAST")));
+  const [file] = files, [, button] = movedOf(file);
+  file.bytes = bytesOf(line("19:00:00", "COAST") + line("19:10:00", "COAST"));
+  await look(file, 30);
+  button.onclick();
+  assert.deepEqual([saved[0][0], textOf(saved[0][1]).match(/T\d\d:\d\d/g)],
+    ["a.put-right.log", ["T18:00", "T18:10"]]);
+  const words = ["the clock of COAST was put 60 min back here"];
+  assert.deepEqual(shiftNotes(shifts), words);
+  assert.equal(movedOf(file)[0].textContent, words[0]);
+  files.length = 0;
+  assert.deepEqual(shiftNotes(shifts), []);
 });
 test("what began early is the book where files are what they were", async () => {
   const asked = [], file = logOf("a.log", line("19:00:00", "RX1"));

@@ -2,6 +2,7 @@ import assert from "node:assert/strict";
 import { test } from "node:test";
 import { needsOf, newsOf } from "../../page/news.js";
 import { know } from "../../page/roster.js";
+import { waysFor } from "../../page/tables.js";
 import { Alarm } from "../../page/sound.js";
 import { clocks } from "../../page/words.js";
 import { message, netOfLines, place, row, thing } from "./tables.js";
@@ -97,6 +98,21 @@ test("where no two clocks agree none is called right", () => {
   const texts = newsOf(netOfLines(lines), OF).map(it => it.text).filter(it => /clock/.test(it));
   assert.deepEqual(texts, ["the clocks of A and B are 60 min apart",
     "the clocks of A and C are 3 h apart", "the clocks of B and C are 2 h apart"]);
+});
+test("a clock is put right at one click and not twice, and of two by the one that is right", () => {
+  const lines = [], put = 60, can = name => name !== "C";
+  for (let k = 0; k < 5; k++)
+    for (const [name, ahead] of [["A", 0], ["B", 3600]])
+      lines.push(place(200 * k + ahead, "Q1A", 54, -3, { receivers: name, text: `no. ${k}` }));
+  const [a, b] = netOfLines(lines).receivers.map(it => ({ name: it.name, clock: it.clock }));
+  const ways = (it, was = 0) => waysFor(it, true, { shifted: () => was, can, put: () => {} });
+  assert.deepEqual([ways(a), ways(b)],
+    [[{ words: "put right by B", by: 3600 }], [{ words: "put right by A", by: -3600 }]]);
+  const clock = { by: 3600, of: 9, from: [] };
+  assert.deepEqual(ways({ name: "A", clock }, put),
+    [{ words: "put right", by: put - 3600 }, { words: "leave as it was", by: 0 }]);
+  assert.deepEqual(ways({ name: "C", clock }), []);
+  assert.deepEqual(waysFor({ name: "A", clock }, false, { shifted: () => 0, can }), []);
 });
 
 test("a name of the roster stands wherever a station is in need", () => {

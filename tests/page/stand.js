@@ -21,7 +21,11 @@ class Worker {
   }
   terminate() {}
 }
-Object.assign(globalThis, { aprsbook: { ...words }, Worker });
+/** What was saved: names, what, and of which type. */
+export const saved = [];
+const make = (tag, of, ...inside) => ({ tag, ...of, inside });
+Object.assign(globalThis, { Worker,
+  aprsbook: { ...words, make, save: (...it) => { saved.push(it); } } });
 Object.defineProperty(globalThis, "navigator", { value: { hardwareConcurrency: 2 },
   configurable: true });
 
