@@ -3,7 +3,7 @@
 // done with it.
 
 import { age, byId, count, make, printable, save } from "./drawn.js";
-import { leaveOut, lineText, look, shifts } from "./intake.js";
+import { leaveOut, lineText, look, shifts, SHOWN } from "./intake.js";
 import { REASONS } from "./kinds.js";
 import { movedIn, receiversIn } from "./shift.js";
 import { sizeOf } from "./sources.js";
@@ -61,14 +61,14 @@ function fileRow(file, work) {
     make("td", {}, make("span", { className: "verdict" }), make("span", { className: "more" }),
       file.kind === "KISS stream" ? fieldsOf(file, work) : null), make("td", {}, away));
 }
-/** So many lines are shown at most; so few stand there open. */
-const SHOWN = 50, OPEN = 10;
-/** @param {string} words @param {string[]} lines */
-function linesOf(words, lines, isOpen = false) {
+/** So few lines stand there open. */
+const OPEN = 10;
+/** @param {string} words @param {string[]} lines the first of so many, if not all */
+function linesOf(words, lines, isOpen = false, many = lines.length) {
   return make("details", { open: isOpen, aria: { "aria-label": words } },
     make("summary", { textContent: words }),
     make("ul", {}, ...lines.slice(0, SHOWN).map(it => make("li", { textContent: printable(it) }))),
-    lines.length > SHOWN ? make("p", { textContent: `and ${lines.length - SHOWN} more` }) : null);
+    many > SHOWN ? make("p", { textContent: `and ${many - SHOWN} more` }) : null);
 }
 /**
  * The damaged lines of a file, and what leaves them out.
@@ -134,7 +134,7 @@ export function movedOf(file) {
  * @param {Work} work
  */
 function moreOf(file, work) {
-  const { leftOut, passed, spelling } = file, more = [];
+  const { leftOut, passed, over, spelling } = file, more = [];
   if (file.away) more.push(make("p", { className: "warn", textContent: file.away }));
   if (spelling.length)
     more.push(make("p", { textContent: `as Windows writes it: ${spelling.join(", ")}` }));
@@ -142,7 +142,7 @@ function moreOf(file, work) {
   more.push(...damageOf(file, work));
   if (leftOut.length) more.push(linesOf(`${count(leftOut.length, "line")} left out`, leftOut));
   more.push(...movedOf(file));
-  if (passed.length) more.push(linesOf(`${count(passed.length, "line")} passed over`, passed));
+  if (over) more.push(linesOf(`${count(over, "line")} passed over`, passed, false, over));
   return more;
 }
 /**
@@ -158,7 +158,7 @@ function rowOf(file, work) {
   verdict.className = `verdict ${file.fault ? "bad" : "good"}`;
   verdict.textContent = file.fault || file.said;
   const state = [file.away, file.reason, file.damage.length, file.leftOut.length,
-    file.passed.length, file.spelling, movedText(file)].join();
+    file.over, file.spelling, movedText(file)].join();
   if (more.dataset.state === state) return row;
   more.dataset.state = state;
   more.replaceChildren(...moreOf(file, work));

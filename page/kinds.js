@@ -113,8 +113,17 @@ export const MANY = 1000;
 const PIECE = 2 ** 16;
 /** @param {Uint8Array} bytes @param {number} at */
 const lineEnd = (bytes, at) => bytes.indexOf(10, at) + 1 || bytes.length;
+/**
+ * Where the first so many lines end.
+ * @param {Uint8Array} bytes @param {number} many
+ */
+export function endOf(bytes, many) {
+  let at = 0;
+  for (let n = 0; n < many && at < bytes.length; n++) at = lineEnd(bytes, at);
+  return at;
+}
 /** @param {Uint8Array} bytes */
-function countLines(bytes) {
+export function countLines(bytes) {
   let n = 0;
   for (let at = 0; at < bytes.length; at = lineEnd(bytes, at)) n++;
   return n;
@@ -138,8 +147,7 @@ export async function damagedLines(bytes, check, most = FEW) {
       continue;
     }
     if (!REASONS[fault.why] || found.length === most) return null;
-    let begin = at;
-    for (let n = 1; n < fault.line; n++) begin = lineEnd(bytes, begin);
+    const begin = at + endOf(bytes.subarray(at), fault.line - 1);
     const end = lineEnd(bytes, begin);
     before += fault.line;
     found.push({ line: before, begin, end, why: fault.why });

@@ -79,6 +79,33 @@ test("a large file with CR LF behind its beginning is spelled, and so are its da
   assert.deepEqual(torn.damage.map(it => [it.line, it.why]), [[3, "Moment"]]);
 });
 
+test("of two looks at a file the one that was asked last stays", async () => {
+  const file = fileOf("tape.kiss", "KISS stream", new Uint8Array(9)), waits = [60, 1];
+  const answer = ({ command, options }) => command === "convert capture" && { status: 0,
+    bytes: bytesOf(line(options[1].slice(11, 19), "RX1")) };
+  await answering({ answer, wait: it => it === "convert capture" ? waits.shift() : 0 }, async () => {
+    file.moment = "2024-06-21T18:00:00Z";
+    const first = look(file, 30);
+    file.moment = "2024-06-21T19:00:00Z";
+    await Promise.all([first, look(file, 30)]);
+    assert.equal(textOf(file.taken), line("19:00:00", "RX1"));
+  });
+});
+test("of very many lines that are passed over the first are kept, and how many there are", async () => {
+  const says = Array.from({ length: 300 }, (_, k) => `line ${k}: no AX.25\n`).join("");
+  const check = async (status, bytes) => {
+    const file = logOf("a.log", line("18:00:00", "RX1"));
+    await answering({ answer: () => ({ status, fault: "", bytes: bytesOf(bytes) }) },
+      () => look(file, 30));
+    return [file.said, file.over, file.passed.length, file.passed.at(-1)];
+  };
+  assert.deepEqual(await check(0, says + "heard 1 passed 300\n"),
+    ["heard 1 passed 300", 300, 50, "line 49: no AX.25"]);
+  assert.deepEqual(await check(1, says), ["", 300, 50, "line 49: no AX.25"]);
+  assert.deepEqual(await check(0, "heard 1 passed 0\n"), ["heard 1 passed 0", 0, 0, undefined]);
+  assert.deepEqual(await check(1, ""), ["", 0, 0, undefined]);
+});
+
 test("a worker is free again where there is no room for a copy of what it is to read", async () => {
   const noRoom = Object.defineProperty(new Uint8Array(9), "length", { value: -1 });
   for (let k = 0; k < 4; k++) await assert.rejects(run("check", 30, [noRoom]), RangeError);
