@@ -2,7 +2,8 @@
 // The files that were given, as a table: what each is, what the program says of it, and what can be
 // done with it.
 
-import { age, byId, count, make, printable, save } from "./drawn.js";
+import { apartText } from "./clockwords.js";
+import { byId, count, make, printable, save } from "./drawn.js";
 import { leaveOut, lineText, look, shifts, SHOWN } from "./intake.js";
 import { REASONS } from "./kinds.js";
 import { movedIn, receiversIn } from "./shift.js";
@@ -93,7 +94,7 @@ function damageOf(file, work) {
  * @param {number} by
  */
 export const shiftText = (name, by) =>
-  `the clock of ${name} was put ${age(Math.abs(by))} ${by < 0 ? "back" : "forward"} here`;
+  `the clock of ${name} was put ${apartText(by)} ${by < 0 ? "back" : "forward"} here`;
 /**
  * A log that is at hand, as all are where clocks are put right.
  * @param {Given} file

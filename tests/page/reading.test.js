@@ -2,6 +2,8 @@ import assert from "node:assert/strict";
 import { test } from "node:test";
 import { detailsOf } from "../../page/rows.js";
 import { wordsOf } from "../../page/details.js";
+import { columnsOf, tableOf } from "../../page/reading.js";
+import { atOnce } from "../../page/steps.js";
 import {
   COLUMNS, message, moment, netOfLines, place, readMessages, row, rowsOf, table, thing,
 } from "./tables.js";
@@ -108,4 +110,11 @@ test("a table is read to its end, where its lines become shorter or a last one i
 test("rows stand by their first moment, equal ones as in the table", () => {
   const rows = rowsOf([5, 3, 3, 9, 1].map((second, k) => row("status", second, `Q1A-${k}`)));
   assert.deepEqual([...rows.order], [4, 1, 2, 0, 3]);
+});
+test("what is needed only while a table is read isn't handed over", () => {
+  const { columns } = atOnce(columnsOf(tableOf(table([place(0, "Q1A", 1, 2)]))));
+  assert.deepEqual([columns.hash.length, columns.rest.length, columns.order.length], [0, 0, 1]);
+  // a buffer can be handed over once
+  assert.equal(new Set(Object.values(columns).map(it => it.buffer)).size,
+    Object.keys(columns).length);
 });
