@@ -156,6 +156,17 @@ export async function damagedLines(bytes, check, most = FEW) {
   return found;
 }
 /**
+ * The lines of a log, each once, that another one doesn't have.
+ * @param {Uint8Array} log
+ * @param {Uint8Array} other
+ */
+export function linesLost(log, other) {
+  const linesOf = (/** @type {Uint8Array} */ bytes) =>
+    new Set(new TextDecoder("latin1").decode(bytes).split("\n"));
+  const there = linesOf(other), lost = [...linesOf(log)].filter(it => it && !there.has(it));
+  return new TextEncoder().encode(lost.map(it => it + "\n").join(""));
+}
+/**
  * The bytes without these lines.
  * @param {Uint8Array} bytes
  * @param {Damage[]} damage

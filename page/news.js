@@ -28,7 +28,8 @@ export function needsOf(things) {
     const level = weight(it) === 2 ? "emergency" : "priority";
     /** @type {Word["grade"]} */
     const grade = !it.urgent ? "warn" : level === "emergency" ? "alarm" : "bad";
-    words.push({ href: "#where", pick: it.key, id: `${first[it.lastUrgent]} ${it.key}`, grade, text: it.urgent
+    const id = `${first[it.lastUrgent]} ${it.key}`;
+    words.push({ href: "#where", pick: it.key, id, grade, text: it.urgent
       ? `${level === "emergency" ? "EMERGENCY" : "priority"}: ${who(it.name)}, ${at}`
       : `${who(it.name)} said ${level} at ${at}, and no longer does` });
   }

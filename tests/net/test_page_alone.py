@@ -811,6 +811,27 @@ def test_followed(page, folder):
     server.server_close()
 
 
+def test_begun_anew(page, folder):
+    """What was read of a log that begins anew, or is emptied, stays, and is named."""
+    server = serve(folder, set(), {})
+    (folder / "logs.txt").write_text("a.log")
+    (folder / "a.log").write_text(log(4))
+    fresh(page, folder, f"http://127.0.0.1:{server.server_port}/page.html#logs=logs.txt")
+    page.wait(f"{MADE} && {ROWS} === 4")
+    (folder / "a.log").write_text(place(900, "Q1NEW"))
+    follow_until(page, f"{MADE} && {ROWS} === 5")
+    is_(sorted(page.js(TOLD).items()), [("a.log", "heard 1 passed 0"),
+                                        ("a.log, before it began anew", "heard 4 passed 0")])
+    (folder / "a.log").write_text("")
+    follow_until(page, f"{TOLD}['a.log'] === 'heard 0 passed 0' && {MADE} && {ROWS} === 5")
+    is_(page.js(TOLD)["a.log, before it began anew"], "heard 5 passed 0")
+    # a page in its place takes nothing away
+    (folder / "a.log").write_text("<!DOCTYPE html><p>log in")
+    follow_until(page, f"{TOLD}['a.log'].startsWith('is a web page') && {MADE} && {ROWS} === 5")
+    server.shutdown()
+    server.server_close()
+
+
 def square():
     """A red picture of 256 by 256."""
     import struct

@@ -4,8 +4,8 @@ import { OutOfMemory, run } from "../../page/host.js";
 
 const PAGE = 65536, MIB = 2 ** 20;
 /**
- * Calls `run` with an instance by hand in place of a module's: its memory has so many bytes at most,
- * and its check takes a region of so many. Gives the regions that it was asked with.
+ * Calls `run` with an instance by hand in place of a module's: its memory has so many bytes at
+ * most, and its check takes a region of so many. Gives the regions that it was asked with.
  */
 function withInstance(most, wanted, run) {
   const { Instance } = WebAssembly, regions = [];

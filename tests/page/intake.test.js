@@ -39,7 +39,7 @@ test("so is one whose clock is put right while it is read", async t => {
   await look(file, 30);
   assert.match(await bookOf([file]), /T18:00/);
 });
-test("a log whose clock is put right is saved as it is at the click, and notes are of its logs", async t => {
+test("a log is saved as its clock is put right at the click, which notes say of logs", async t => {
   t.after(() => {
     shifts.clear();
     files.length = 0;
@@ -68,7 +68,7 @@ test("what began early is the book where files are what they were", async () => 
   assert.deepEqual(asked.sort(), ["check", "merge", "messages", "rows"]);
 });
 
-test("a large file with CR LF behind its beginning is spelled, and so are its damaged lines", async () => {
+test("a large file with CR LF behind its beginning is spelled, and its damage found", async () => {
   const begin = line("18:00:00", "RX1"), windows = line("18:01:00", "RX1").replace("\n", "\r\n");
   const file = fileOf("a.log", "log", new Blob([begin, windows]));
   await look(file, 30);
@@ -83,7 +83,8 @@ test("of two looks at a file the one that was asked last stays", async () => {
   const file = fileOf("tape.kiss", "KISS stream", new Uint8Array(9)), waits = [60, 1];
   const answer = ({ command, options }) => command === "convert capture" && { status: 0,
     bytes: bytesOf(line(options[1].slice(11, 19), "RX1")) };
-  await answering({ answer, wait: it => it === "convert capture" ? waits.shift() : 0 }, async () => {
+  const wait = command => command === "convert capture" ? waits.shift() : 0;
+  await answering({ answer, wait }, async () => {
     file.moment = "2024-06-21T18:00:00Z";
     const first = look(file, 30);
     file.moment = "2024-06-21T19:00:00Z";
@@ -91,7 +92,7 @@ test("of two looks at a file the one that was asked last stays", async () => {
     assert.equal(textOf(file.taken), line("19:00:00", "RX1"));
   });
 });
-test("of very many lines that are passed over the first are kept, and how many there are", async () => {
+test("of very many lines that are passed over the first are kept, and a count", async () => {
   const says = Array.from({ length: 300 }, (_, k) => `line ${k}: no AX.25\n`).join("");
   const check = async (status, bytes) => {
     const file = logOf("a.log", line("18:00:00", "RX1"));

@@ -1,7 +1,7 @@
 import assert from "node:assert/strict";
 import { test } from "node:test";
 import { runInThisContext } from "node:vm";
-import { damagedLines, kindOf, READ, spelled, without } from "../../page/kinds.js";
+import { damagedLines, kindOf, linesLost, READ, spelled, without } from "../../page/kinds.js";
 import { movedIn, receiversIn, shifting } from "../../page/shift.js";
 import { atOnce } from "../../page/steps.js";
 
@@ -92,6 +92,13 @@ test("many damaged lines of a large log are found, and little of it is checked a
   assert.equal(textOf(without(bytes.subarray(0, 40), damage.slice(0, 1))).includes("x"), false);
 });
 
+test("of a log that began anew the lines are kept that it no longer has, each once", () => {
+  const lost = (log, now) => textOf(linesLost(bytesOf(log), bytesOf(now)));
+  assert.equal(lost("a\nb\na\nc\n", "b\nd\n"), "a\nc\n");
+  assert.equal(lost("a\nb\n", ""), "a\nb\n");
+  assert.equal(lost("a\nb\n", "b\nc\na\n"), "");
+  assert.equal(lost("", "a\n"), "");
+});
 const shifted = (bytes, shifts) => atOnce(shifting(bytes, shifts));
 test("the moments of one receiver are moved, in each spelling and over midnight", () => {
   const log = "2024-06-21T23:59:50Z RX1 c0\n2024-06-21T23:59:50.250Z RX1 c0\n" +
