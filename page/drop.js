@@ -1,12 +1,13 @@
 // @ts-check
 // The page that reads logs: what is dropped on it goes through the module, and nothing leaves it.
 
+import { fromBase64 } from "./base64.js";
 import { contents } from "./contents.js";
 import {
   bring, bringGround, bringLines, byId, count, make, messageOf, page, printable, save, show,
   unpacked,
 } from "./drawn.js";
-import { eventPieces, squaresWithin } from "./eventpage.js";
+import { dataOf, eventPieces, squaresWithin } from "./eventpage.js";
 import { filesOf } from "./folders.js";
 import { drawFiles, files, notesOf, numberIn, shiftNotes } from "./inputs.js";
 import { asText, fileOf, isSame, look, placeOf, shifts, take } from "./intake.js";
@@ -72,6 +73,8 @@ function drawNothing(why) {
   show({ ...optionsOf(), notes: [], rows: NONE, messages: NONE, waits: true });
   say(why, true);
 }
+/** What was said of the book last. */
+let told = "";
 /** Makes the book of the files as they are now, and draws it. */
 export async function work() {
   drawFiles(work);
@@ -97,8 +100,9 @@ export async function work() {
     made = texts;
     enableSaves(true);
     tellProgress(1);
-    say(`${count(page.all.rows.length, "transmission")} of ${count(good.length, "file")}, ` +
-      `in ${((performance.now() - begin) / 1000).toFixed(1)} s`);
+    told = `${count(page.all.rows.length, "transmission")} of ${count(good.length, "file")}, ` +
+      `in ${((performance.now() - begin) / 1000).toFixed(1)} s`;
+    say(told);
   } catch (fault) {
     if (mine !== turn) return;
     const file = fault instanceof Refused ? good[fault.input] : null;
@@ -151,7 +155,7 @@ export async function add(dropped) {
 async function takeAll(dropped) {
   began = performance.now();
   tellProgress(0, "reading");
-  const plain = [], gap = numberIn("gap");
+  const plain = [], gap = numberIn("gap"), many = files.length;
   for (const it of dropped)
     if (it instanceof File) {
       if (!takeSquare(it)) plain.push(it);
@@ -166,6 +170,7 @@ async function takeAll(dropped) {
     else if (it && ![...files, ...read].some(one => isSame(one, it))) read.push(it);
   }
   if (pages.length) bringLines(pages);
+  if (made && !read.length && files.length === many) return tellAgain();
   const whole = [...files.filter(it => it.taken), ...read.filter(it => !it.unread)];
   if (read.length && whole.every(it => it.kind !== "KISS stream")) beginEarly(whole, gap);
   let done = 0;
@@ -176,6 +181,12 @@ async function takeAll(dropped) {
   }));
   files.sort((a, b) => a.name < b.name ? -1 : a.name > b.name ? 1 : 0);
   await work();
+}
+/** The book is what it was. */
+function tellAgain() {
+  began = 0;
+  tellProgress(1);
+  say(told);
 }
 /** Looks at all files again that these want. */
 async function lookAgain(/** @type {Given[]} */ list) {
@@ -212,6 +223,19 @@ const enableSaves = (/** @type {boolean} */ can) => OWN.forEach(id => {
   byId(id).disabled = !can;
 });
 /**
+ * Says what is made while it takes long, and what went wrong.
+ * @param {string} name
+ * @param {() => Promise<unknown>} run
+ */
+async function making(name, run) {
+  const { textContent: before, className } = byId("status"), words = `making ${name}`;
+  const slow = setTimeout(() => say(words), 300);
+  const fault = await run().then(() => "", messageOf);
+  clearTimeout(slow);
+  if (fault) say(fault, true);
+  else if (byId("status").textContent === words) say(before || "", className === "bad");
+}
+/**
  * Saves what a run of the book gives.
  * @param {string} command
  * @param {string} name
@@ -219,17 +243,20 @@ const enableSaves = (/** @type {boolean} */ can) => OWN.forEach(id => {
 async function saveRun(command, name) {
   if (!made) return;
   const got = await run(command, numberIn("gap"), [made.book]);
-  if (got.status) say(placeOf(got), true);
-  else save(name, got.bytes, "text/plain");
+  if (got.status) throw new Error(placeOf(got));
+  save(name, got.bytes, "text/plain");
 }
-/** Saves the page of the event, with as much of the reader's own map as it may have. */
+/**
+ * Saves the page of the event as it is at the click, with as much of the reader's own map as it may
+ * have.
+ */
 async function saveEvent() {
-  const most = byId("most").validity.valid ? +byId("most").value : 0, now = made;
+  const most = byId("most").validity.valid ? +byId("most").value : 0, now = made, data = dataOf();
   const { squares, leftOut } = await squaresWithin(most), many = Object.keys(squares).length;
-  const pieces = await inSlices(gathered(eventPieces(squares)), () => made === now);
-  if (!pieces) return; // other files came
-  save("event.html", pieces, "text/html");
-  if (!many && leftOut === null) return;
+  const pieces = await inSlices(gathered(eventPieces(squares, data)), () => true);
+  if (pieces) save("event.html", pieces, "text/html");
+  // where other files came the page says something else
+  if (made !== now || !many && leftOut === null) return;
   say(`event.html has ${count(many, "square")} of the map` + (leftOut === null ? ""
     : `; level ${leftOut}, and what is finer, would be more than ${most} MB`));
 }
@@ -247,9 +274,12 @@ function drawOwnSaves() {
     /** @type {() => unknown} */ onclick) => byId("saves").lastElementChild?.prepend(
     make("button", { type: "button", id, textContent: name, disabled: true, onclick }));
   byId("saves").lastElementChild?.prepend(mostField());
-  put("event", "page of the event (HTML)", saveEvent);
-  put("listing", "listing (text)", () => saveRun("show", "net.txt"));
-  put("history", "history (text)", () => saveRun("history", "history.txt"));
+  const putRun = (/** @type {"listing" | "history"} */ id, /** @type {string} */ command,
+    /** @type {string} */ name) => put(id, `${id} (text)`,
+    () => making(name, () => saveRun(command, name)));
+  put("event", "page of the event (HTML)", () => making("event.html", saveEvent));
+  putRun("listing", "show", "net.txt");
+  putRun("history", "history", "history.txt");
   put("book", "book", () => made && save("net.book", made.book, "application/octet-stream"));
 }
 
@@ -290,9 +320,8 @@ export async function beginReading() {
   page.clockOf = clockOf;
   show({ ...optionsOf(), title: "aprsbook", rows: NONE, messages: NONE, waits: true });
   try {
-    const bytes = Uint8Array.from(atob(contents.module), it => it.charCodeAt(0));
     // compiled once, for all workers
-    const module = await WebAssembly.compile(bytes);
+    const module = await WebAssembly.compile(fromBase64(contents.module));
     await beginWorkers(contents.worker, module, why => say(why, true));
   } catch (fault) {
     say(`This browser can't run the page (${messageOf(fault)}): it takes Chromium or Edge ` +

@@ -11,6 +11,14 @@
 const NAMES = /** @type {("from" | "to" | "id" | "text")[]} */ (["from", "to", "id", "text"]);
 /** The last moment that a date can have, in seconds from 1970; the first is as far before. */
 const LAST = 8.64e12;
+/** What lies so many seconds before a net, or after it, is of another one of its title. */
+const FAR = 86400;
+/**
+ * From when to when a net was heard, in seconds.
+ * @typedef {{ begin: number, end: number }} Span
+ */
+/** @type {Span} */
+const ALWAYS = { begin: -Infinity, end: Infinity };
 const keyOf = (/** @type {Line} */ it) => JSON.stringify([it.at, ...NAMES.map(name => it[name])]);
 
 /**
@@ -48,9 +56,22 @@ export class OwnLines {
     this.kept = { lines: [], gone: [] };
     /** @type {Line[]} those of pages that were dropped here */
     this.brought = [];
+    this.span = ALWAYS;
+    /** @type {Set<string>} keys of those that stand in the page, or were added in it */
+    this.here = new Set();
+  }
+  /** Those of this net, by time. */
+  get lines() {
+    const { begin, end } = this.span, { here } = this;
+    return this.all.filter(it =>
+      it.at >= begin - FAR && it.at <= end + FAR || here.has(keyOf(it)));
+  }
+  /** How many are left out, since they lie far off. */
+  get others() {
+    return this.all.length - this.lines.length;
   }
   /** All of them, by time. */
-  get lines() {
+  get all() {
     const gone = new Set(this.kept.gone);
     const all = new Map([...this.given, ...this.kept.lines].map(it => [keyOf(it), it]));
     return [...all].filter(([key]) => !gone.has(key)).map(it => it[1]).sort((a, b) => a.at - b.at);
@@ -60,12 +81,15 @@ export class OwnLines {
    * another title takes its lines along, where there are none of that title.
    * @param {string} title
    * @param {unknown} given
+   * @param {Span} span
    */
-  open(title, given = []) {
+  open(title, given = [], span = ALWAYS) {
     const key = `aprsbook lines: ${title}`, isSame = this.key === key;
     const before = this.key && !isSame ? this.lines : [];
     this.key = key;
+    this.span = span;
     this.given = linesIn(given);
+    for (const it of this.given) this.here.add(keyOf(it));
     // what the browser doesn't keep stays in this page
     this.kept = isSame && !this.isStored ? this.withStored() : this.read();
     if (before.length) this.addAll(this.lines.length ? this.brought : before);
@@ -109,6 +133,7 @@ export class OwnLines {
   addAll(lines) {
     if (!lines.length) return true;
     const keys = new Set(lines.map(keyOf));
+    for (const it of keys) this.here.add(it);
     return this.change(({ lines: before, gone }) =>
       ({ lines: [...before.filter(it => !keys.has(keyOf(it))), ...lines],
         gone: gone.filter(it => !keys.has(it)) }));

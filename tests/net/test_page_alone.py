@@ -646,6 +646,23 @@ def test_own_lines(page, folder):
     page.js("(localStorage.clear(), 1)")
 
 
+def test_other_days(page, folder):
+    """Lines that the browser keeps of another day are left out, which is said."""
+    with Server(folder) as server:
+        fresh(page, folder, f"http://127.0.0.1:{server.port}/page.html")
+        page.js("(localStorage.setItem('aprsbook lines: APRS net', JSON.stringify({ gone: [], "
+                "lines: [1718388000, 1718992800].map(at => ({ at, from: '', to: '', id: '', "
+                "text: `at ${at}` })) })), 1)")
+        give(page, folder, {"a.log": log(3)})
+        page.wait(MADE)
+        page.js("document.getElementById('ics-open').click()")
+        is_(page.js(LOGGED), ["at 1718992800"])
+        is_(page.js("document.getElementById('own-told').textContent"),
+            "Left out, more than a day off: 1 line of your own.")
+        assert "at 1718388000" not in page.js("aprsfiles.eventPage()")
+        page.js("(localStorage.clear(), 1)")
+
+
 @pytest.mark.browsers("Chromium")
 def test_denied(page, folder):
     """Where a browser keeps nothing, the page works, and says that it keeps no lines."""
