@@ -70,9 +70,8 @@ export async function again() {
       await show(dataIn(text));
     }
   } catch (fault) {
-    const isThere = fault instanceof Refused;
-    Object.assign(alive, { away: isThere ? 0 : alive.away || Date.now(),
-      refused: isThere ? fault.message : "" });
+    if (fault instanceof Refused) Object.assign(alive, { away: 0, refused: fault.message });
+    else Object.assign(alive, { away: alive.away || Date.now(), refused: "" });
   }
   clearTimeout(late);
   alive.asks = false;
