@@ -45,28 +45,33 @@ export function heard(answer, asked) {
   alive.answered = Date.now();
   alive.ahead = aheadOf(answer.headers.get("date"), asked, alive.answered);
 }
+/** The server is there, and hands out no page. */
+class Refused extends Error {}
 /** Loads the page again: its data alone where a server has it, and all of it from a disk. */
-async function again() {
+export async function again() {
   if (!location.protocol.startsWith("http")) return location.reload();
   alive.asks = true;
   const late = setTimeout(() => { alive.away ||= alive.asked; tick(); }, patience.late);
   try {
     const signal = /** @type {any} */ (AbortSignal).timeout(patience.most);
     const answer = await fetch(location.pathname + location.search, { cache: "no-store", signal });
-    if (!answer.ok) throw new Error(String(answer.status));
-    heard(answer, alive.asked);
+    if (!answer.ok) throw new Refused(`the server answers ${answer.status}`);
     const tree = new DOMParser().parseFromString(await answer.text(), "text/html");
+    // such as a page that asks for a password
+    if (!tree.getElementById("data")) throw new Refused("the server answers with another page");
+    heard(answer, alive.asked);
+    Object.assign(alive, { away: 0, refused: "" });
     const policy = (/** @type {Document} */ it) =>
       it.querySelector("meta[http-equiv]")?.getAttribute("content");
     if (policy(tree) !== policy(document)) return location.reload();
     const text = tree.getElementById("data")?.textContent || "";
-    alive.away = 0;
     if (text !== textOf("data")) {
       byId("data").textContent = text;
       await show(dataIn(text));
     }
-  } catch {
-    alive.away ||= Date.now();
+  } catch (fault) {
+    if (fault instanceof Refused) Object.assign(alive, { away: 0, refused: fault.message });
+    else Object.assign(alive, { away: alive.away || Date.now(), refused: "" });
   }
   clearTimeout(late);
   alive.asks = false;

@@ -3,8 +3,22 @@
 
 import { age } from "./words.js";
 
+/**
+ * How many seconds the units are in which `age` counts.
+ * @type {Record<string, number>}
+ */
+const SECONDS = { s: 1, min: 60, h: 3600, d: 86400 };
+/**
+ * How far two clocks are apart, in whole units, and the rest in smaller ones.
+ * @param {number} seconds
+ */
+export function apartText(seconds) {
+  const far = Math.round(Math.abs(seconds)), text = age(far), [n, unit] = text.split(" ");
+  const size = SECONDS[unit], rest = far - Number(n) * size;
+  return rest >= Math.max(1, size / 60) ? `${text} ${age(rest)}` : text;
+}
 /** @param {number} seconds */
-const aheadText = seconds => `${seconds < 0 ? "\u2212" : "+"}${age(Math.abs(seconds))}`;
+const aheadText = seconds => `${seconds < 0 ? "\u2212" : "+"}${apartText(seconds)}`;
 /** @param {{ clock: import("./clocks.js").Clock | null }} it @param {number} gap in seconds */
 export function clockWords({ clock }, gap) {
   const few = "too few transmissions that others heard too";

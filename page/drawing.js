@@ -89,6 +89,12 @@ function* drawing(next) {
   page.form.draw();
 }
 /**
+ * From when to when transmissions were heard, or will be where the page goes on; undefined for none.
+ * @param {All} all
+ */
+const spanOf = ({ rows, end }) => rows.length
+  ? { begin: rows.first[rows.order[0]], end: Math.max(end, presentOf(page)) } : undefined;
+/**
  * From now on the page has these texts, and this net of them.
  * @param {Data} data
  * @param {All} all
@@ -106,7 +112,7 @@ function turnTo(data, all, net) {
     .map(it => it.first)]);
   if (fresh) {
     readBrought();
-    page.own.open(data.title, data.lines);
+    page.own.open(data.title, data.lines, spanOf(all));
   }
   for (const it of net.things) if (it.kind === "station" && it.name) it.label = who(it.name);
   page.map.take(net.placed);

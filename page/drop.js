@@ -1,17 +1,18 @@
 // @ts-check
 // The page that reads logs: what is dropped on it goes through the module, and nothing leaves it.
 
+import { fromBase64 } from "./base64.js";
 import { contents } from "./contents.js";
 import {
   bring, bringGround, bringLines, byId, count, make, messageOf, page, printable, save, show,
   unpacked,
 } from "./drawn.js";
-import { eventPieces, squaresWithin } from "./eventpage.js";
+import { dataOf, eventPieces, squaresWithin } from "./eventpage.js";
 import { filesOf } from "./folders.js";
-import { drawFiles, files, notesOf, numberIn, shiftText } from "./inputs.js";
+import { drawFiles, files, notesOf, numberIn, shiftNotes } from "./inputs.js";
 import { asText, fileOf, isSame, look, placeOf, shifts, take } from "./intake.js";
 import { beginEarly, Refused, textsOf } from "./runs.js";
-import { movedIn } from "./shift.js";
+import { receiversIn } from "./shift.js";
 import { gathered, inSlices } from "./steps.js";
 import { squareOf } from "./tiles.js";
 import { aMoment, beginWorkers, run } from "./workers.js";
@@ -47,14 +48,22 @@ function tellProgress(share, words = "") {
 
 // ---- the book, and what is drawn of it
 
+/**
+ * By how many seconds the clocks are put right in what is drawn.
+ * @type {Map<string, number>}
+ */
+let drawnShifts = new Map();
 const optionsOf = () => ({ title: byId("name").value || "APRS net", gap: numberIn("gap"),
   live: 0, silent: numberIn("silent"), maps: [], roster: "",
-  notes: [...files.flatMap(notesOf), ...[...shifts].map(([name, by]) => shiftText(name, by))] });
+  notes: [...files.flatMap(notesOf), ...shiftNotes(drawnShifts)] });
 /**
  * Draws these texts, with the options as they stand.
  * @param {Made} texts
  */
-const draw = ({ rows, messages, read }) => show({ ...optionsOf(), rows, messages }, read);
+function draw({ rows, messages, read, shifts: by }) {
+  drawnShifts = by;
+  return show({ ...optionsOf(), rows, messages }, read);
+}
 const NONE = new Uint8Array();
 /**
  * Draws an empty page, and says why it is.
@@ -64,6 +73,8 @@ function drawNothing(why) {
   show({ ...optionsOf(), notes: [], rows: NONE, messages: NONE, waits: true });
   say(why, true);
 }
+/** What was said of the book last. */
+let told = "";
 /** Makes the book of the files as they are now, and draws it. */
 export async function work() {
   drawFiles(work);
@@ -89,8 +100,9 @@ export async function work() {
     made = texts;
     enableSaves(true);
     tellProgress(1);
-    say(`${count(page.all.rows.length, "transmission")} of ${count(good.length, "file")}, ` +
-      `in ${((performance.now() - begin) / 1000).toFixed(1)} s`);
+    told = `${count(page.all.rows.length, "transmission")} of ${count(good.length, "file")}, ` +
+      `in ${((performance.now() - begin) / 1000).toFixed(1)} s`;
+    say(told);
   } catch (fault) {
     if (mine !== turn) return;
     const file = fault instanceof Refused ? good[fault.input] : null;
@@ -143,7 +155,7 @@ export async function add(dropped) {
 async function takeAll(dropped) {
   began = performance.now();
   tellProgress(0, "reading");
-  const plain = [], gap = numberIn("gap");
+  const plain = [], gap = numberIn("gap"), many = files.length;
   for (const it of dropped)
     if (it instanceof File) {
       if (!takeSquare(it)) plain.push(it);
@@ -158,6 +170,7 @@ async function takeAll(dropped) {
     else if (it && ![...files, ...read].some(one => isSame(one, it))) read.push(it);
   }
   if (pages.length) bringLines(pages);
+  if (made && !read.length && files.length === many) return tellAgain();
   const whole = [...files.filter(it => it.taken), ...read.filter(it => !it.unread)];
   if (read.length && whole.every(it => it.kind !== "KISS stream")) beginEarly(whole, gap);
   let done = 0;
@@ -169,17 +182,24 @@ async function takeAll(dropped) {
   files.sort((a, b) => a.name < b.name ? -1 : a.name > b.name ? 1 : 0);
   await work();
 }
+/** The book is what it was. */
+function tellAgain() {
+  began = 0;
+  tellProgress(1);
+  say(told);
+}
 /** Looks at all files again that these want. */
 async function lookAgain(/** @type {Given[]} */ list) {
   for (const it of list) await look(it, numberIn("gap"));
 }
 /**
- * Puts the clock of a receiver right, or as it was; all logs are read anew.
+ * Puts the clock of a receiver forward by so many seconds, or back, or leaves it as it was; all logs
+ * are read anew.
  * @param {string} name
  * @param {number} by
  */
 async function shiftClock(name, by) {
-  if (by) shifts.set(name, (shifts.get(name) || 0) + by);
+  if (by) shifts.set(name, by);
   else shifts.delete(name);
   await lookAgain(files.filter(it => !it.unread && it.kind !== "book"));
   work();
@@ -189,9 +209,9 @@ async function shiftClock(name, by) {
  * @type {import("./tables.js").ClockOf}
  */
 const clockOf = {
-  shifted: name => shifts.get(name) || 0,
+  shifted: name => drawnShifts.get(name) || 0,
   can: name => files.some(it => it.taken && it.kind !== "book" &&
-    (it.taken instanceof Blob || movedIn(it.taken, new Map([[name, 0]])).length > 0)),
+    (it.taken instanceof Blob || receiversIn(it.taken).has(name))),
   put: shiftClock,
 };
 
@@ -203,6 +223,19 @@ const enableSaves = (/** @type {boolean} */ can) => OWN.forEach(id => {
   byId(id).disabled = !can;
 });
 /**
+ * Says what is made while it takes long, and what went wrong.
+ * @param {string} name
+ * @param {() => Promise<unknown>} run
+ */
+async function making(name, run) {
+  const { textContent: before, className } = byId("status"), words = `making ${name}`;
+  const slow = setTimeout(() => say(words), 300);
+  const fault = await run().then(() => "", messageOf);
+  clearTimeout(slow);
+  if (fault) say(fault, true);
+  else if (byId("status").textContent === words) say(before || "", className === "bad");
+}
+/**
  * Saves what a run of the book gives.
  * @param {string} command
  * @param {string} name
@@ -210,17 +243,20 @@ const enableSaves = (/** @type {boolean} */ can) => OWN.forEach(id => {
 async function saveRun(command, name) {
   if (!made) return;
   const got = await run(command, numberIn("gap"), [made.book]);
-  if (got.status) say(placeOf(got), true);
-  else save(name, got.bytes, "text/plain");
+  if (got.status) throw new Error(placeOf(got));
+  save(name, got.bytes, "text/plain");
 }
-/** Saves the page of the event, with as much of the reader's own map as it may have. */
+/**
+ * Saves the page of the event as it is at the click, with as much of the reader's own map as it may
+ * have.
+ */
 async function saveEvent() {
-  const most = byId("most").validity.valid ? +byId("most").value : 0, now = made;
+  const most = byId("most").validity.valid ? +byId("most").value : 0, now = made, data = dataOf();
   const { squares, leftOut } = await squaresWithin(most), many = Object.keys(squares).length;
-  const pieces = await inSlices(gathered(eventPieces(squares)), () => made === now);
-  if (!pieces) return; // other files came
-  save("event.html", pieces, "text/html");
-  if (!many && leftOut === null) return;
+  const pieces = await inSlices(gathered(eventPieces(squares, data)), () => true);
+  if (pieces) save("event.html", pieces, "text/html");
+  // where other files came the page says something else
+  if (made !== now || !many && leftOut === null) return;
   say(`event.html has ${count(many, "square")} of the map` + (leftOut === null ? ""
     : `; level ${leftOut}, and what is finer, would be more than ${most} MB`));
 }
@@ -238,9 +274,12 @@ function drawOwnSaves() {
     /** @type {() => unknown} */ onclick) => byId("saves").lastElementChild?.prepend(
     make("button", { type: "button", id, textContent: name, disabled: true, onclick }));
   byId("saves").lastElementChild?.prepend(mostField());
-  put("event", "page of the event (HTML)", saveEvent);
-  put("listing", "listing (text)", () => saveRun("show", "net.txt"));
-  put("history", "history (text)", () => saveRun("history", "history.txt"));
+  const putRun = (/** @type {"listing" | "history"} */ id, /** @type {string} */ command,
+    /** @type {string} */ name) => put(id, `${id} (text)`,
+    () => making(name, () => saveRun(command, name)));
+  put("event", "page of the event (HTML)", () => making("event.html", saveEvent));
+  putRun("listing", "show", "net.txt");
+  putRun("history", "history", "history.txt");
   put("book", "book", () => made && save("net.book", made.book, "application/octet-stream"));
 }
 
@@ -281,9 +320,8 @@ export async function beginReading() {
   page.clockOf = clockOf;
   show({ ...optionsOf(), title: "aprsbook", rows: NONE, messages: NONE, waits: true });
   try {
-    const bytes = Uint8Array.from(atob(contents.module), it => it.charCodeAt(0));
     // compiled once, for all workers
-    const module = await WebAssembly.compile(bytes);
+    const module = await WebAssembly.compile(fromBase64(contents.module));
     await beginWorkers(contents.worker, module, why => say(why, true));
   } catch (fault) {
     say(`This browser can't run the page (${messageOf(fault)}): it takes Chromium or Edge ` +

@@ -26,7 +26,7 @@ export async function squaresWithin(most) {
   return carriedIn(tiles, box, most * MEGABYTE);
 }
 /** The data of the page, with the maps, the roster and the lines that the reader brought. */
-function dataOf() {
+export function dataOf() {
   const { waits, ...data } = page.data, rosters = page.brought.filter(it => it.roster);
   const bases = page.brought.filter(it => it.base);
   data.maps = [...data.maps, ...bases.map(it => it.text)];
@@ -63,10 +63,11 @@ function* dataPieces(data) {
 /**
  * The page of the event, with these squares of a map.
  * @param {Record<string, string>} squares
+ * @param {ReturnType<typeof dataOf>} data
  * @returns {Pieces}
  */
-export function* eventPieces(squares) {
-  const { digests, shell } = contents, data = dataOf();
+export function* eventPieces(squares, data = dataOf()) {
+  const { digests, shell } = contents;
   if (Object.keys(squares).length) data.tiles = squares;
   /** @type {Record<string, string>} */
   const values = { TITLE: asHtml(data.title),

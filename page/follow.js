@@ -2,14 +2,20 @@
 // A page that is served beside logs: it reads a list of their names, and asks again for what has
 // grown. Each log is asked for by itself, and for so long; what was read of it stays.
 
+import { askFor, Refused } from "./asking.js";
 import { alive, byId, choose, chosen, fullText, heard, page, printable, tick } from "./drawn.js";
 import { work } from "./drop.js";
 import { files, numberIn } from "./inputs.js";
 import { fileOf, leaveOut, look } from "./intake.js";
-import { kindOf, READ, spelled } from "./kinds.js";
+import { kindOf, linesLost, READ, spelled } from "./kinds.js";
+import { bytesIn } from "./sources.js";
+import { joined } from "./unpacking.js";
 
 /** @typedef {import("./intake.js").Given} Given */
-/** How often all are asked for in seconds, and how many milliseconds a question may take. */
+/**
+ * How often all are asked for in seconds, and in how many milliseconds something of an answer has
+ * to come.
+ */
 export const pace = { each: 15, limit: 10000 };
 const OVERLAP = 64; // bytes that are asked for again, to see that it is the same file
 
@@ -58,20 +64,39 @@ async function follow() {
 }
 /** @param {URL} base */
 async function namesOf(base) {
-  const asked = Date.now(), answer = await fetchOwn(base.href), text = await answer.text();
+  const asked = Date.now(), { answer, bytes } = await askFor(base.href, pace.limit);
   heard(answer, asked);
   missed.delete(byId("follow").value);
-  return text.split(/\r?\n/).map(it => it.trim()).filter(it => it && !it.startsWith("#"));
+  return new TextDecoder().decode(bytes).split(/\r?\n/).map(it => it.trim()).filter(it => it && !it.startsWith("#"));
 }
 /** @param {Map<string, string>} logs names by addresses */
 async function followAll(logs) {
   // what comes at once is shown, also where another one hangs
-  const came = await Promise.all([...logs].map(([address, name]) => followOne(name, address)));
+  const came = await Promise.all([...logs].map(([address, name]) => comes(name, address)));
   let isNew = came.some(Boolean);
   for (const [address, file] of followed) {
     if (!logs.has(address)) isNew = mark(file, "no longer on the list; what was read of it stays") || isNew;
   }
   if (isNew) await work();
+}
+/** The addresses of logs that are on their way. */
+const coming = new Set();
+/**
+ * Asks for what is new in a log; says whether there was something, unless it comes so slowly that
+ * others don't wait for it.
+ * @param {string} name
+ * @param {string} url
+ */
+async function comes(name, url) {
+  if (coming.has(url)) return false;
+  coming.add(url);
+  let isLate = false;
+  const came = followOne(name, url).finally(() => coming.delete(url)).then(isNew => {
+    if (isLate && isNew) work();
+    return isNew;
+  });
+  const late = new Promise(done => setTimeout(done, 2 * pace.limit, false));
+  return Promise.race([came, late.then(() => { isLate = true; return false; })]);
 }
 /** What is said of what doesn't come, and since when. */
 function sinceOf(/** @type {string} */ key, /** @type {string} */ why) {
@@ -109,26 +134,8 @@ function addressOf(name, base) {
  */
 const addressesOf = (names, base) => new Map(names.map(it =>
   /** @type {[string, string]} */ ([addressOf(it, base), it])).filter(([address]) => address));
-/** The server is there, and hands out no such file. */
-class Refused extends Error {}
-const LATE = () => `no answer within ${pace.limit / 1000} s`;
 /** Why something doesn't come, where the server is there. */
-const reasonOf = (/** @type {any} */ fault) => fault instanceof Refused ? fault.message
-  : fault?.name === "TimeoutError" ? LATE() : "";
-/**
- * @param {string} url
- * @param {RequestInit} [options]
- */
-async function fetchOwn(url, options = {}) {
-  const late = /** @type {any} */ (AbortSignal).timeout(pace.limit);
-  try {
-    const answer = await fetch(url, { cache: "no-store", signal: late, ...options });
-    if (!answer.ok) throw new Refused(`the server answers ${answer.status}`);
-    return answer;
-  } catch (fault) {
-    throw late.aborted ? new Refused(LATE()) : fault;
-  }
-}
+const reasonOf = (/** @type {unknown} */ fault) => fault instanceof Refused ? fault.message : "";
 /**
  * Asks for what is new in a log; says whether there was something.
  * @param {string} name
@@ -137,7 +144,8 @@ async function fetchOwn(url, options = {}) {
 async function followOne(name, url) {
   let file = followed.get(url);
   if (!file) {
-    file = fileOf(name, "log", new Uint8Array(), { whole: new Uint8Array(), mark: "" });
+    file = fileOf(name, "log", new Uint8Array(), { whole: new Uint8Array(), mark: "",
+      fault: "is still on its way" });
     followed.set(url, file);
     files.push(file);
   }
@@ -160,27 +168,66 @@ async function followOne(name, url) {
  * @param {string} url
  */
 async function growOne(file, url) {
-  const head = await fetchOwn(url, { method: "HEAD" });
-  const marked = ["content-length", "last-modified", "etag"].map(it => head.headers.get(it)).join();
-  if (marked === file.mark && head.headers.get("content-length")) return false;
-  file.whole = await grownOf(file.whole || new Uint8Array(), url,
-    Number(head.headers.get("content-length")));
+  const { headers } = (await askFor(url, pace.limit, { method: "HEAD" })).answer;
+  const marked = ["content-length", "last-modified", "etag"].map(it => headers.get(it)).join();
+  if (marked === file.mark && headers.get("content-length")) return false;
+  const had = file.whole || new Uint8Array();
+  const whole = await grownOf(had, url, Number(headers.get("content-length")));
   file.mark = marked;
-  const { bytes, spelling } = spelled(file.whole), kind = kindOf(bytes, file.name);
-  const before = file.taken;
+  const { bytes, spelling } = spelled(whole), kind = kindOf(bytes, file.name);
+  const before = file.taken, old = file.kind === "log" && !file.fault ? await bytesIn(file.bytes)
+    : new Uint8Array();
   file.unread = READ.includes(kind) ? "" : `is ${kind}, which no log is`;
-  file.kind = kind === "book" || kind === "KISS stream" ? kind : "log";
-  Object.assign(file, { spelling, leftOut: [] });
-  // of a log only whole lines: the last one may still be on its way
-  file.bytes = file.kind === "log" ? bytes.subarray(0, bytes.lastIndexOf(10) + 1) : file.whole;
-  await look(file, numberIn("gap"));
-  if (file.damage.length) {
-    // one bad line doesn't take a receiver off the page, which nobody may be at
-    leaveOut(file);
-    await look(file, numberIn("gap"));
+  if (!file.unread) {
+    file.kind = kind === "book" || kind === "KISS stream" ? kind : "log";
+    // of a log only whole lines: the last one may still be on its way
+    const lines = file.kind === "log" ? bytes.subarray(0, bytes.lastIndexOf(10) + 1) : whole;
+    Object.assign(file, { spelling, leftOut: [], whole, bytes: lines });
   }
+  await lookWell(file);
   if (!file.taken) file.taken = before;
+  if (file.kind === "log" && !file.fault && !goesOn(had, whole)) await keepEarlier(file, old);
   return true;
+}
+/**
+ * Looks at a log: one bad line doesn't take a receiver off the page, which nobody may be at.
+ * @param {Given} file
+ */
+async function lookWell(file) {
+  await look(file, numberIn("gap"));
+  if (!file.damage.length) return;
+  leaveOut(file);
+  await look(file, numberIn("gap"));
+}
+/**
+ * Whether bytes go on with what is known of them.
+ * @param {Uint8Array} had
+ * @param {Uint8Array} whole
+ */
+function goesOn(had, whole) {
+  const from = Math.max(0, had.length - OVERLAP);
+  return had.subarray(from).every((it, k) => it === whole[from + k]);
+}
+/**
+ * What was read of logs before they began anew.
+ * @type {Map<Given, Given>}
+ */
+const earlier = new Map();
+/**
+ * Keeps the lines of a log that began anew, or was emptied, which it no longer has.
+ * @param {Given} file
+ * @param {Uint8Array} old
+ */
+async function keepEarlier(file, old) {
+  const known = earlier.get(file), before = known ? await bytesIn(known.bytes) : new Uint8Array();
+  const all = joined([before, old], before.length + old.length);
+  const lines = linesLost(all, await bytesIn(file.bytes));
+  if (!known && !lines.length) return;
+  const it = known || fileOf(`${file.name}, before it began anew`, "log", lines);
+  if (!known) files.push(it);
+  earlier.set(file, it);
+  it.bytes = lines;
+  await look(it, numberIn("gap"));
 }
 /**
  * The bytes of a file of which `had` are known: the rest alone, where the server can do so.
@@ -191,15 +238,11 @@ async function growOne(file, url) {
 async function grownOf(had, url, length) {
   const from = had.length - OVERLAP;
   if (from > 0 && length > had.length) {
-    const answer = await fetchOwn(url, { headers: { Range: `bytes=${from}-` } });
-    const bytes = new Uint8Array(await answer.arrayBuffer());
+    const { answer, bytes } =
+      await askFor(url, pace.limit, { headers: { Range: `bytes=${from}-` } });
     if (answer.status !== 206) return bytes;
-    if (had.subarray(from).every((it, k) => it === bytes[k])) {
-      const all = new Uint8Array(from + bytes.length);
-      all.set(had.subarray(0, from));
-      all.set(bytes, from);
-      return all;
-    }
+    const all = joined([had.subarray(0, from), bytes], from + bytes.length);
+    if (goesOn(had, all)) return all;
   }
-  return new Uint8Array(await (await fetchOwn(url)).arrayBuffer());
+  return (await askFor(url, pace.limit)).bytes;
 }

@@ -3,6 +3,7 @@
 
 import { byId } from "./dom.js";
 import { fieldOf, fillForm, momentIn } from "./ics309.js";
+import { count } from "./words.js";
 
 /** @typedef {import("./dom.js").Input} Input */
 /** @typedef {import("./ownlines.js").Line} Line */
@@ -32,6 +33,7 @@ export class Form {
     document.body.classList.toggle("ics", open);
     byId("ics").hidden = !open;
     byId("ics-incident").value ||= this.page.data.title;
+    if (this.page.own.others) this.tell(this.page.own.isStored);
     const now = this.now();
     byId("own-at").value = fieldOf(Number.isFinite(now) ? now : Date.now() / 1000);
     this.draw();
@@ -58,8 +60,11 @@ export class Form {
   }
   /** @param {boolean} isKept whether the browser keeps what was changed */
   tell(isKept) {
-    byId("own-told").textContent = isKept ? ""
-      : "This browser keeps no lines: save the page of the event, which has them.";
+    const { others } = this.page.own;
+    byId("own-told").textContent = [isKept ? ""
+      : "This browser keeps no lines: save the page of the event, which has them.",
+    others ? `Left out, more than a day off: ${count(others, "line")} of your own.` : ""]
+      .filter(Boolean).join(" ");
   }
   /**
    * What another window of this net has changed.
@@ -68,7 +73,7 @@ export class Form {
   hear(key) {
     const { own, data } = this.page;
     if (key !== own.key || !data) return;
-    own.open(data.title, data.lines);
+    own.open(data.title, data.lines, own.span);
     this.draw();
   }
   listen() {

@@ -37,7 +37,7 @@ const WITH_GAP = [...OF_SEVERAL, "widen"];
 const TABLE = "table ";
 const PAGE = 65536;
 const NAME_ROOM = 16;
-const MOST = 2 ** 33;
+const LEAST = 2 ** 22, MOST = 2 ** 33;
 
 class OutOfMemory extends Error {}
 
@@ -153,6 +153,22 @@ function attempt(module, command, options, inputs, outputRoom, regionRoom, letGo
 }
 
 /**
+ * A run with so much room, or where there is no memory for it, with half as large a region, and so
+ * on, down to what was too little before.
+ * @param {Parameters<typeof attempt>} of
+ * @param {number} tooLittle
+ */
+function tried([module, command, options, inputs, outputRoom, room, letGo], tooLittle) {
+  for (let regionRoom = room; ; regionRoom = 16 * Math.ceil(regionRoom / 32)) {
+    try {
+      return { regionRoom,
+        ...attempt(module, command, options, inputs, outputRoom, regionRoom, letGo) };
+    } catch (fault) {
+      if (!(fault instanceof OutOfMemory) || regionRoom / 2 <= tooLittle) throw fault;
+    }
+  }
+}
+/**
  * A run of a command over inputs, again with more room where there was too little, up to a region
  * of `MOST` bytes. Inputs that aren't needed any more may be let go of as soon as they are copied.
  * @param {WebAssembly.Module} module
@@ -164,12 +180,15 @@ function attempt(module, command, options, inputs, outputRoom, regionRoom, letGo
  */
 function run(module, command, options, inputs, letGo) {
   const total = inputs.reduce((sum, input) => sum + input.length, 0);
-  let outputRoom = 2 * total + PAGE, regionRoom = 16 * Math.ceil(total / 2) + (1 << 22);
+  let outputRoom = 2 * total + PAGE, room = 16 * Math.ceil(total / 2) + LEAST, tooLittle = LEAST;
   for (;;) {
-    const { placed, bytes, ...got } =
-      attempt(module, command, options, inputs, outputRoom, regionRoom, letGo);
-    if ((got.status === 3 || got.status === 4) && 2 * regionRoom <= MOST) regionRoom *= 2;
-    else if (!bytes) outputRoom = got.written;
+    const { placed, bytes, regionRoom, ...got } =
+      tried([module, command, options, inputs, outputRoom, room, letGo], tooLittle);
+    room = regionRoom;
+    if ((got.status === 3 || got.status === 4) && 2 * room <= MOST) {
+      tooLittle = room;
+      room *= 2;
+    } else if (!bytes) outputRoom = got.written;
     else return { ...got, bytes };
     // they may be gone where they were, and a memory can't be let go of
     [inputs, letGo] = [placed, undefined];

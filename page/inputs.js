@@ -2,10 +2,11 @@
 // The files that were given, as a table: what each is, what the program says of it, and what can be
 // done with it.
 
-import { age, byId, count, make, printable, save } from "./drawn.js";
-import { leaveOut, lineText, look, shifts } from "./intake.js";
+import { apartText } from "./clockwords.js";
+import { byId, count, make, printable, save } from "./drawn.js";
+import { leaveOut, lineText, look, shifts, SHOWN } from "./intake.js";
 import { REASONS } from "./kinds.js";
-import { movedIn } from "./shift.js";
+import { movedIn, receiversIn } from "./shift.js";
 import { sizeOf } from "./sources.js";
 
 /** @typedef {import("./intake.js").Given} Given */
@@ -61,14 +62,14 @@ function fileRow(file, work) {
     make("td", {}, make("span", { className: "verdict" }), make("span", { className: "more" }),
       file.kind === "KISS stream" ? fieldsOf(file, work) : null), make("td", {}, away));
 }
-/** So many lines are shown at most; so few stand there open. */
-const SHOWN = 50, OPEN = 10;
-/** @param {string} words @param {string[]} lines */
-function linesOf(words, lines, isOpen = false) {
+/** So few lines stand there open. */
+const OPEN = 10;
+/** @param {string} words @param {string[]} lines the first of so many, if not all */
+function linesOf(words, lines, isOpen = false, many = lines.length) {
   return make("details", { open: isOpen, aria: { "aria-label": words } },
     make("summary", { textContent: words }),
     make("ul", {}, ...lines.slice(0, SHOWN).map(it => make("li", { textContent: printable(it) }))),
-    lines.length > SHOWN ? make("p", { textContent: `and ${lines.length - SHOWN} more` }) : null);
+    many > SHOWN ? make("p", { textContent: `and ${many - SHOWN} more` }) : null);
 }
 /**
  * The damaged lines of a file, and what leaves them out.
@@ -93,19 +94,39 @@ function damageOf(file, work) {
  * @param {number} by
  */
 export const shiftText = (name, by) =>
-  `the clock of ${name} was put ${age(Math.abs(by))} ${by < 0 ? "back" : "forward"} here`;
+  `the clock of ${name} was put ${apartText(by)} ${by < 0 ? "back" : "forward"} here`;
 /**
- * The receivers of a file whose clocks are put right, and what saves it so.
+ * A log that is at hand, as all are where clocks are put right.
  * @param {Given} file
  */
-function movedOf({ name, kind, taken }) {
-  // where clocks are put right, all logs are at hand
-  const moved = taken instanceof Uint8Array && kind !== "book" ? movedIn(taken, shifts) : [];
-  if (!taken || !moved.length) return [];
-  const words = moved.map(it => shiftText(it, shifts.get(it) || 0)).join("; ");
+const logOf = ({ kind, taken }) => taken instanceof Uint8Array && kind !== "book" ? taken : null;
+/**
+ * What the page says of the clocks that are put right, of the receivers of its logs.
+ * @param {Map<string, number>} by
+ */
+export const shiftNotes = by => [...by].filter(([name]) => files.some(it => {
+  const log = logOf(it);
+  return log && receiversIn(log).has(name);
+})).map(it => shiftText(...it));
+/**
+ * What is said of the clocks of a file that are put right.
+ * @param {Given} file
+ */
+function movedText(file) {
+  const log = logOf(file);
+  return log ? movedIn(log, shifts).map(it => shiftText(it, shifts.get(it) || 0)).join("; ") : "";
+}
+/**
+ * The receivers of a file whose clocks are put right, and what saves it so, as it is at the click.
+ * @param {Given} file
+ */
+export function movedOf(file) {
+  const words = movedText(file);
+  if (!words) return [];
   return [make("p", { textContent: words }),
     make("button", { type: "button", className: "moved", textContent: "save it so", onclick() {
-      save(name.replace(/(\.[a-z]+)?$/i, ".put-right$&"), taken, "text/plain");
+      const name = file.name.replace(/(\.[a-z]+)?$/i, ".put-right$&"), log = logOf(file);
+      if (log) save(name, log, "text/plain");
     } })];
 }
 /**
@@ -114,7 +135,7 @@ function movedOf({ name, kind, taken }) {
  * @param {Work} work
  */
 function moreOf(file, work) {
-  const { leftOut, passed, spelling } = file, more = [];
+  const { leftOut, passed, over, spelling } = file, more = [];
   if (file.away) more.push(make("p", { className: "warn", textContent: file.away }));
   if (spelling.length)
     more.push(make("p", { textContent: `as Windows writes it: ${spelling.join(", ")}` }));
@@ -122,7 +143,7 @@ function moreOf(file, work) {
   more.push(...damageOf(file, work));
   if (leftOut.length) more.push(linesOf(`${count(leftOut.length, "line")} left out`, leftOut));
   more.push(...movedOf(file));
-  if (passed.length) more.push(linesOf(`${count(passed.length, "line")} passed over`, passed));
+  if (over) more.push(linesOf(`${count(over, "line")} passed over`, passed, false, over));
   return more;
 }
 /**
@@ -138,7 +159,7 @@ function rowOf(file, work) {
   verdict.className = `verdict ${file.fault ? "bad" : "good"}`;
   verdict.textContent = file.fault || file.said;
   const state = [file.away, file.reason, file.damage.length, file.leftOut.length,
-    file.passed.length, file.spelling, [...shifts].join()].join();
+    file.over, file.spelling, movedText(file)].join();
   if (more.dataset.state === state) return row;
   more.dataset.state = state;
   more.replaceChildren(...moreOf(file, work));

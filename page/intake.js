@@ -2,10 +2,13 @@
 // The files that a reader gives: what each is, what the program says of it, and what is left of it.
 
 import { count } from "./drawn.js";
-import { damagedLines, kindOf, MANY, READ, REASONS, spelled, without } from "./kinds.js";
-import { shifted } from "./shift.js";
+import {
+  countLines, damagedLines, endOf, kindOf, MANY, READ, REASONS, spelled, without,
+} from "./kinds.js";
+import { shifting } from "./shift.js";
 import { linesIn } from "./ownlines.js";
 import { bytesIn, isSameSource, limits, sizeOf } from "./sources.js";
+import { inSlices } from "./steps.js";
 import { beginningOf, MOST, TOO_LARGE, unzipped } from "./unpacking.js";
 import { run } from "./workers.js";
 
@@ -14,13 +17,13 @@ import { run } from "./workers.js";
 /**
  * A file that was given. `bytes` are its bytes as they are read, `taken` what goes into the book,
  * or null; `unread` says why it can't be read at all. `ready` are the bytes of a file that were
- * read for a check, and are the next book's.
+ * read for a check, and are the next book's. Of the lines that were passed over, so many, no more
+ * than the first are kept.
  * @typedef {{ name: string, kind: string, bytes: Source, unread: string, receiver: string,
- *   moment: string, passed: string[], said: string, fault: string, reason: string,
+ *   moment: string, passed: string[], over: number, said: string, fault: string, reason: string,
  *   spelling: string[], damage: Damage[], leftOut: string[], taken: Source | null,
  *   ready?: Uint8Array, lines?: import("./ownlines.js").Line[], row?: HTMLTableRowElement,
- *   whole?: Uint8Array,
- *   mark?: string, away?: string }} Given
+ *   whole?: Uint8Array, mark?: string, away?: string, looking?: Promise<void> }} Given
  */
 
 /**
@@ -28,6 +31,8 @@ import { run } from "./workers.js";
  * @type {Map<string, number>}
  */
 export const shifts = new Map();
+/** So many lines that were passed over or left out are shown at most. */
+export const SHOWN = 50;
 /** So many bytes at the beginning of a file say what it is. */
 const HEAD = 65536;
 export const asText = (/** @type {Uint8Array} */ bytes) => new TextDecoder("latin1").decode(bytes);
@@ -49,7 +54,7 @@ export const placeOf = got =>
  * @returns {Given}
  */
 export const fileOf = (name, kind, bytes, of = {}) => ({ name, kind, bytes, unread: "",
-  receiver: "RX1", moment: "", passed: [], said: "", fault: "", reason: "", spelling: [],
+  receiver: "RX1", moment: "", passed: [], over: 0, said: "", fault: "", reason: "", spelling: [],
   damage: [], leftOut: [], taken: null, ...of });
 
 /**
@@ -132,12 +137,26 @@ async function isNoLog(begin) {
 }
 
 /**
- * Reads a file as what it is, and keeps what the program says of it.
+ * What a check says of a log: each line that was passed over, and behind them, where all is read, a
+ * sum.
+ * @param {{ status: number, bytes: Uint8Array }} got
+ */
+function checkedIn({ status, bytes }) {
+  const end = status ? bytes.length : bytes.lastIndexOf(10, -2) + 1, lines = bytes.subarray(0, end);
+  return { said: asText(bytes.subarray(end)).trimEnd(), over: countLines(lines),
+    passed: asText(lines.subarray(0, endOf(lines, SHOWN))).split("\n").filter(Boolean) };
+}
+/**
+ * Reads a file as what it is, and keeps what the program says of it: one look after the other, so
+ * that of two what was asked last stays.
  * @param {Given} file
  * @param {number} gap in seconds
  */
-export async function look(file, gap) {
-  Object.assign(file, { fault: file.unread, said: "", reason: "", passed: [], damage: [],
+export const look = (file, gap) =>
+  file.looking = (file.looking || Promise.resolve()).then(() => lookNow(file, gap));
+/** @param {Given} file @param {number} gap */
+async function lookNow(file, gap) {
+  Object.assign(file, { fault: file.unread, said: "", reason: "", passed: [], over: 0, damage: [],
     taken: null, ready: undefined });
   try {
     if (!file.unread) await lookInto(file, gap);
@@ -145,7 +164,31 @@ export async function look(file, gap) {
     file.fault = /** @type {Error} */ (fault).message;
   }
 }
-/** @param {Given} file @param {number} gap */
+/**
+ * Keeps how a log is refused, and which of its lines are damaged; says whether it has to be looked
+ * at again, as it is spelled.
+ * @param {Given} file @param {Source} source @param {import("./workers.js").Got} got
+ */
+async function keepDamage(file, source, got) {
+  file.reason = got.fault;
+  if (!REASONS[got.fault]) return false;
+  // what is damaged is at hand from now on
+  const bytes = file.bytes = got.inputs?.[0] ?? await bytesIn(source);
+  // of a large file no more than its beginning was spelled
+  const plain = source instanceof Blob ? spelled(bytes) : null;
+  if (plain?.spelling.length) {
+    Object.assign(file, plain, { reason: "" });
+    return true;
+  }
+  file.damage = await damagedLines(bytes, checkOf, MANY) || [];
+  return false;
+}
+/**
+ * A log as the clocks are put right now.
+ * @param {Uint8Array} bytes
+ */
+const moved = async bytes => await inSlices(shifting(bytes, new Map(shifts)), () => true) || bytes;
+/** @param {Given} file @param {number} gap @returns {Promise<void>} */
 async function lookInto(file, gap) {
   let { bytes } = file; // of a book and a log it may be a file
   /** @type {Uint8Array | undefined} */
@@ -168,23 +211,13 @@ async function lookInto(file, gap) {
     file.said = count(Number(rows), "transmission");
   } else {
     const got = await run("check", 30, [bytes], { keeps: bytes instanceof Blob });
-    const lines = asText(got.bytes).trimEnd().split("\n");
     ready = got.inputs?.[0];
-    if (!got.status) file.said = lines.pop() || "";
-    file.passed = lines.filter(Boolean);
-    if (got.status) {
-      file.reason = got.fault;
-      if (REASONS[got.fault]) {
-        // what is damaged is at hand from now on
-        file.bytes = bytes = got.inputs?.[0] ?? await bytesIn(bytes);
-        file.damage = await damagedLines(bytes, checkOf, MANY) || [];
-      }
-      return refuse(got);
-    }
+    Object.assign(file, checkedIn(got));
+    if (got.status) return await keepDamage(file, bytes, got) ? lookInto(file, gap) : refuse(got);
   }
   // a book's moments stay: it no longer has what each receiver wrote
   const isMoved = file.kind !== "book" && shifts.size > 0;
-  file.taken = isMoved ? shifted(ready ?? await bytesIn(bytes), shifts) : bytes;
+  file.taken = isMoved ? await moved(ready ?? await bytesIn(bytes)) : bytes;
   file.ready = isMoved ? undefined : ready;
 }
 /**

@@ -45,7 +45,8 @@ export function kindOf(bytes, name) {
   if (isMap(begin)) return "map";
   const stranger = STRANGERS.find(([form]) => form.test(begin));
   if (stranger) return stranger[1];
-  if (!/^\d{4}-\d\d-\d\dT/.test(begin) && /\.(txt|csv|tsv)$/i.test(name) && ROSTER.test(begin))
+  // the first line of a log may be torn
+  if (!/^\d{4}-\d\d-\d\dT/m.test(begin) && /\.(txt|csv|tsv)$/i.test(name) && ROSTER.test(begin))
     return "roster";
   return "log";
 }
@@ -66,11 +67,27 @@ export function spelled(bytes) {
     spelling.push("a byte order mark");
     bytes = bytes.subarray(3);
   }
-  const end = bytes.indexOf(10);
-  if (end < 1 || bytes[end - 1] !== 13) return { bytes, spelling };
-  spelling.push("CR LF");
-  const plain = bytes.filter((it, k) => it !== 13 || bytes[k + 1] !== 10);
+  const plain = withoutReturns(bytes);
+  if (plain.length < bytes.length) spelling.push("CR LF");
   return { bytes: plain, spelling };
+}
+const CR = 13, LF = 10;
+/**
+ * Bytes without the CR of each CR LF.
+ * @param {Uint8Array} bytes
+ */
+function withoutReturns(bytes) {
+  let at = bytes.indexOf(CR), from = 0, to = 0;
+  if (at < 0) return bytes;
+  const plain = new Uint8Array(bytes.length);
+  for (; at >= 0; at = bytes.indexOf(CR, from)) {
+    const end = bytes[at + 1] === LF ? at : at + 1;
+    plain.set(bytes.subarray(from, end), to);
+    to += end - from;
+    from = at + 1;
+  }
+  plain.set(bytes.subarray(from), to);
+  return plain.subarray(0, to + bytes.length - from);
 }
 
 /**
@@ -96,8 +113,17 @@ export const MANY = 1000;
 const PIECE = 2 ** 16;
 /** @param {Uint8Array} bytes @param {number} at */
 const lineEnd = (bytes, at) => bytes.indexOf(10, at) + 1 || bytes.length;
+/**
+ * Where the first so many lines end.
+ * @param {Uint8Array} bytes @param {number} many
+ */
+export function endOf(bytes, many) {
+  let at = 0;
+  for (let n = 0; n < many && at < bytes.length; n++) at = lineEnd(bytes, at);
+  return at;
+}
 /** @param {Uint8Array} bytes */
-function countLines(bytes) {
+export function countLines(bytes) {
   let n = 0;
   for (let at = 0; at < bytes.length; at = lineEnd(bytes, at)) n++;
   return n;
@@ -121,14 +147,24 @@ export async function damagedLines(bytes, check, most = FEW) {
       continue;
     }
     if (!REASONS[fault.why] || found.length === most) return null;
-    let begin = at;
-    for (let n = 1; n < fault.line; n++) begin = lineEnd(bytes, begin);
+    const begin = at + endOf(bytes.subarray(at), fault.line - 1);
     const end = lineEnd(bytes, begin);
     before += fault.line;
     found.push({ line: before, begin, end, why: fault.why });
     at = end;
   }
   return found;
+}
+/**
+ * The lines of a log, each once, that another one doesn't have.
+ * @param {Uint8Array} log
+ * @param {Uint8Array} other
+ */
+export function linesLost(log, other) {
+  const linesOf = (/** @type {Uint8Array} */ bytes) =>
+    new Set(new TextDecoder("latin1").decode(bytes).split("\n"));
+  const there = linesOf(other), lost = [...linesOf(log)].filter(it => it && !there.has(it));
+  return new TextEncoder().encode(lost.map(it => it + "\n").join(""));
 }
 /**
  * The bytes without these lines.

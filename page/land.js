@@ -1,6 +1,7 @@
 // @ts-check
 // The coasts of the world below the map (Natural Earth, in the public domain), as rings on a ball.
 
+import { fromBase64 } from "./base64.js";
 import { RADIUS, vectorOf } from "./globe.js";
 
 /** @typedef {import("./globe.js").Projection} Projection */
@@ -61,8 +62,7 @@ export const ringsOf = bytes => new Numbers(bytes).rings().map(ringOf);
  * @param {string} text
  */
 export async function unpacked(text) {
-  const packed = Uint8Array.from(atob(text.trim()), it => it.charCodeAt(0));
-  const stream = new Blob([packed]).stream().pipeThrough(new DecompressionStream("deflate"));
+  const stream = new Blob([fromBase64(text.trim())]).stream().pipeThrough(new DecompressionStream("deflate"));
   return new Uint8Array(await new Response(stream).arrayBuffer());
 }
 /**

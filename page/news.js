@@ -2,8 +2,8 @@
 // What wants doing: how bad it is, and in words.
 
 import { who } from "./roster.js";
-import { clockWords } from "./clockwords.js";
-import { age, count, timeText } from "./words.js";
+import { apartText, clockWords } from "./clockwords.js";
+import { count, timeText } from "./words.js";
 
 /** @typedef {import("./net.js").Thing} Thing */
 /**
@@ -24,11 +24,12 @@ export function needsOf(things) {
   urgent.sort((a, b) => Number(Boolean(b.urgent)) - Number(Boolean(a.urgent)) ||
     weight(b) - weight(a) || b.last - a.last);
   for (const it of urgent) {
-    const last = it.rows.last[it.lastUrgent], at = timeText(last);
+    const { first, last } = it.rows, at = timeText(last[it.lastUrgent]);
     const level = weight(it) === 2 ? "emergency" : "priority";
     /** @type {Word["grade"]} */
     const grade = !it.urgent ? "warn" : level === "emergency" ? "alarm" : "bad";
-    words.push({ href: "#where", pick: it.key, id: `${last} ${it.key}`, grade, text: it.urgent
+    const id = `${first[it.lastUrgent]} ${it.key}`;
+    words.push({ href: "#where", pick: it.key, id, grade, text: it.urgent
       ? `${level === "emergency" ? "EMERGENCY" : "priority"}: ${who(it.name)}, ${at}`
       : `${who(it.name)} said ${level} at ${at}, and no longer does` });
   }
@@ -63,7 +64,7 @@ function clocksOff(receivers, gap) {
     if (Number.isNaN(it.clock.by))
       for (const one of it.clock.from.filter(({ b }) => it.name < b))
         words.push({ href: "#ears", grade: "bad",
-          text: `the clocks of ${it.name} and ${one.b} are ${age(Math.abs(one.by))} apart` });
+          text: `the clocks of ${it.name} and ${one.b} are ${apartText(one.by)} apart` });
     else if (clock.wrong)
       words.push({ href: "#ears", grade: "bad",
         text: `the clock of ${it.name} is ${clock.text} from the others` });

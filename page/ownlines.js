@@ -11,6 +11,14 @@
 const NAMES = /** @type {("from" | "to" | "id" | "text")[]} */ (["from", "to", "id", "text"]);
 /** The last moment that a date can have, in seconds from 1970; the first is as far before. */
 const LAST = 8.64e12;
+/** What lies so many seconds before a net, or after it, is of another one of its title. */
+const FAR = 86400;
+/**
+ * From when to when a net was heard, in seconds.
+ * @typedef {{ begin: number, end: number }} Span
+ */
+/** @type {Span} */
+const ALWAYS = { begin: -Infinity, end: Infinity };
 const keyOf = (/** @type {Line} */ it) => JSON.stringify([it.at, ...NAMES.map(name => it[name])]);
 
 /**
@@ -40,15 +48,30 @@ export class OwnLines {
   constructor(store = storeOf()) {
     this.store = store;
     this.key = "";
+    /** Whether the browser keeps what is kept here. */
+    this.isStored = true;
     /** @type {Line[]} those that stand in the page itself */
     this.given = [];
     /** @type {Kept} */
     this.kept = { lines: [], gone: [] };
     /** @type {Line[]} those of pages that were dropped here */
     this.brought = [];
+    this.span = ALWAYS;
+    /** @type {Set<string>} keys of those that stand in the page, or were added in it */
+    this.here = new Set();
+  }
+  /** Those of this net, by time. */
+  get lines() {
+    const { begin, end } = this.span, { here } = this;
+    return this.all.filter(it =>
+      it.at >= begin - FAR && it.at <= end + FAR || here.has(keyOf(it)));
+  }
+  /** How many are left out, since they lie far off. */
+  get others() {
+    return this.all.length - this.lines.length;
   }
   /** All of them, by time. */
-  get lines() {
+  get all() {
     const gone = new Set(this.kept.gone);
     const all = new Map([...this.given, ...this.kept.lines].map(it => [keyOf(it), it]));
     return [...all].filter(([key]) => !gone.has(key)).map(it => it[1]).sort((a, b) => a.at - b.at);
@@ -58,12 +81,17 @@ export class OwnLines {
    * another title takes its lines along, where there are none of that title.
    * @param {string} title
    * @param {unknown} given
+   * @param {Span} span
    */
-  open(title, given = []) {
-    const key = `aprsbook lines: ${title}`, before = this.key && this.key !== key ? this.lines : [];
+  open(title, given = [], span = ALWAYS) {
+    const key = `aprsbook lines: ${title}`, isSame = this.key === key;
+    const before = this.key && !isSame ? this.lines : [];
     this.key = key;
+    this.span = span;
     this.given = linesIn(given);
-    this.kept = this.read();
+    for (const it of this.given) this.here.add(keyOf(it));
+    // what the browser doesn't keep stays in this page
+    this.kept = isSame && !this.isStored ? this.withStored() : this.read();
     if (before.length) this.addAll(this.lines.length ? this.brought : before);
   }
   /**
@@ -84,6 +112,16 @@ export class OwnLines {
       return { lines: [], gone: [] };
     }
   }
+  /**
+   * What is kept, as another window of this net left it.
+   * @returns {Kept}
+   */
+  withStored() {
+    const stored = this.read(), { lines, gone } = this.kept;
+    const keys = new Set([...stored.lines.map(keyOf), ...stored.gone]);
+    return { lines: [...stored.lines, ...lines.filter(it => !keys.has(keyOf(it)))],
+      gone: [...new Set([...stored.gone, ...gone])] };
+  }
   /** @param {Line[]} lines */
   add(...lines) {
     return this.addAll(lines);
@@ -95,6 +133,7 @@ export class OwnLines {
   addAll(lines) {
     if (!lines.length) return true;
     const keys = new Set(lines.map(keyOf));
+    for (const it of keys) this.here.add(it);
     return this.change(({ lines: before, gone }) =>
       ({ lines: [...before.filter(it => !keys.has(keyOf(it))), ...lines],
         gone: gone.filter(it => !keys.has(it)) }));
@@ -107,20 +146,18 @@ export class OwnLines {
       ({ lines: lines.filter(it => keyOf(it) !== key), gone: [...gone, key] }));
   }
   /**
-   * Changes what is kept, as another window of this net left it.
+   * Changes what is kept; says whether the browser keeps it.
    * @param {(kept: Kept) => Kept} change
    */
   change(change) {
-    const stored = this.read(), { lines, gone } = this.kept;
-    const keys = new Set([...stored.lines.map(keyOf), ...stored.gone]);
-    this.kept = change({ lines: [...stored.lines, ...lines.filter(it => !keys.has(keyOf(it)))],
-      gone: [...new Set([...stored.gone, ...gone])] });
+    this.kept = change(this.withStored());
+    this.isStored = false;
     try {
-      if (!this.store) return false;
-      this.store.setItem(this.key, JSON.stringify(this.kept));
-      return true;
+      this.store?.setItem(this.key, JSON.stringify(this.kept));
+      this.isStored = this.store !== null;
     } catch {
-      return false; // it is full, or forbidden
+      // it is full, or forbidden
     }
+    return this.isStored;
   }
 }

@@ -381,6 +381,8 @@ export function* columnsOf(bytes) {
   yield* reader.match();
   const { columns } = reader;
   columns.order = orderOf(columns.first, reader.n);
+  // nobody asks for these any more
+  Object.assign(columns, { hash: new Uint32Array(0), rest: new Uint32Array(0) });
   return { bytes, columns, names: reader.names, things: reader.things,
     lists: reader.lists.texts, until: reader.until };
 }

@@ -1,7 +1,7 @@
 // @ts-check
 // The runs that make a book and its tables of files, which begin before the files are checked.
 
-import { placeOf } from "./intake.js";
+import { placeOf, shifts } from "./intake.js";
 import { limits, sizeOfAll } from "./sources.js";
 import { run } from "./workers.js";
 
@@ -11,9 +11,10 @@ import { run } from "./workers.js";
 /** @typedef {"merge" | "rows" | "messages"} Command */
 /** @typedef {Partial<Record<Command, Promise<Got | null>>>} Begun */
 /**
- * A book, its tables, and the columns of its rows.
+ * A book, its tables, and the columns of its rows; and how the clocks of its receivers were put
+ * right.
  * @typedef {{ book: Uint8Array, rows: Uint8Array, messages: Uint8Array,
- *   read: import("./reading.js").Read | null }} Made
+ *   read: import("./reading.js").Read | null, shifts: Map<string, number> }} Made
  */
 /** A run of all files that was refused: for which of them, or -1 where it is for none. */
 export class Refused extends Error {
@@ -25,25 +26,38 @@ export class Refused extends Error {
 }
 
 /**
- * Runs that began before their files were checked: the files, the gap, and what comes of each run.
- * @type {{ all: Given[], gap: number, got: Begun } | null}
+ * Runs that began before their files were checked: the files, what was taken of them, the gap, and
+ * what comes of each run.
+ * @type {{ all: Given[], inputs: Source[], gap: number, got: Begun } | null}
  */
 let early = null;
 /**
  * Begins with files that aren't checked yet. Files have the same table as their book, so it need
- * not wait for the book; but each run holds all files, so only where they are small.
+ * not wait for the book; but each run holds all files, so only where they are small. Where clocks
+ * are put right, logs are moved once they are checked.
  * @param {Given[]} all
  * @param {number} gap
  */
 export function beginEarly(all, gap) {
   const inputs = all.map(it => it.taken || it.bytes);
   early = null;
-  if (sizeOfAll(inputs) > limits.alone) return;
+  if (shifts.size || sizeOfAll(inputs) > limits.alone) return;
   const begin = (/** @type {Command} */ command, /** @type {Source[]} */ given) =>
     run(command, gap, given).catch(() => null);
   const rows = begin("rows", inputs), merge = begin("merge", inputs);
   const messages = merge.then(book => book?.status === 0 ? begin("messages", [book.bytes]) : null);
-  early = { all, gap, got: { merge, rows, messages } };
+  early = { all, inputs, gap, got: { merge, rows, messages } };
+}
+/**
+ * What began early over just what these files are now.
+ * @param {Given[]} good
+ * @param {number} gap
+ * @returns {Begun}
+ */
+function begunOf(good, gap) {
+  const is = early && early.gap === gap && early.all.length === good.length &&
+    early.all.every((it, k) => good.includes(it) && it.taken === early?.inputs[k]);
+  return is && early ? early.got : {};
 }
 /**
  * Book and tables of these files, also where they began early and well.
@@ -53,8 +67,7 @@ export function beginEarly(all, gap) {
  * @returns {Promise<Made>}
  */
 export async function textsOf(good, gap, tellShare) {
-  const begun = early && early.gap === gap && early.all.length === good.length &&
-    early.all.every(it => good.includes(it)) ? early.got : {};
+  const begun = begunOf(good, gap);
   early = null;
   const answerOf = async (/** @type {Command} */ command, /** @type {Source[]} */ inputs,
     /** @type {{ lent?: Source[], keeps?: boolean }} */ of = {}) => {
@@ -63,7 +76,7 @@ export async function textsOf(good, gap, tellShare) {
     if (got.status) throw new Refused(got);
     return got;
   };
-  const lent = good.flatMap(it => it.ready || []);
+  const by = new Map(shifts), lent = good.flatMap(it => it.ready || []);
   const inputs = good.map(it => it.ready || it.taken || it.bytes);
   for (const it of good) it.ready = undefined;
   let book = (await answerOf("merge", inputs, { lent })).bytes;
@@ -71,7 +84,8 @@ export async function textsOf(good, gap, tellShare) {
   if (book.length <= limits.alone) {
     const [rows, messages] =
       await Promise.all([answerOf("rows", [book]), answerOf("messages", [book])]);
-    return { book, rows: rows.bytes, read: rows.read || null, messages: messages.bytes };
+    return { book, rows: rows.bytes, read: rows.read || null, messages: messages.bytes,
+      shifts: by };
   }
   // of a large book one after the other, so that there is room for each; the book goes to and fro
   const ofBook = async (/** @type {Command} */ command) => {
@@ -80,5 +94,5 @@ export async function textsOf(good, gap, tellShare) {
     return got;
   };
   const rows = await ofBook("rows"), messages = await ofBook("messages");
-  return { book, rows: rows.bytes, read: rows.read || null, messages: messages.bytes };
+  return { book, rows: rows.bytes, read: rows.read || null, messages: messages.bytes, shifts: by };
 }

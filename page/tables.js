@@ -15,7 +15,8 @@ import { printable, said } from "./words.js";
 /** @typedef {import("./rows.js").Place} Place */
 /** @typedef {import("./roster.js").Expected & { last: number }} Waited whom one waits for */
 /**
- * How a receiver's clock is put right: by how much it was, whether it can be, and what does so.
+ * How a receiver's clock is put right: by how much it was in what is drawn, whether it can be, and
+ * what puts it forward by so much, or back, in place of that.
  * @typedef {{ shifted: (name: string) => number, can: (name: string) => boolean,
  *   put: (name: string, by: number) => void }} ClockOf
  */
@@ -131,22 +132,29 @@ export function pairList(box, { id, caption, pairs, sent, tell }) {
 /** @param {number} n @param {number} of */
 export const shareText = (n, of) => `${n} of ${of} (${Math.round(n / of * 100)} %)`;
 
+/** By so many others a clock may be put right, where none is known to be. */
+const OTHERS = 3;
 /**
- * What puts a receiver's clock right, where the page has its log.
- * @param {Receiver} it @param {boolean} isWrong @param {View} view
+ * What can be done with a receiver's clock, where the page has its log, and by how much it is put
+ * forward then. Where no two receivers agree, the reader says which of them is right.
+ * @param {Pick<Receiver, "name" | "clock">} it @param {boolean} isWrong @param {ClockOf} clockOf
  */
-function clockButtons(it, isWrong, { clockOf }) {
-  if (!clockOf) return [];
-  const button = (/** @type {string} */ textContent, /** @type {number} */ by) =>
-    make("button", { type: "button", className: "clock", textContent,
-      aria: { "aria-label": `${textContent} the clock of ${it.name}` },
-      onclick: () => clockOf.put(it.name, by) });
-  const buttons = [];
-  if (isWrong && it.clock && !Number.isNaN(it.clock.by) && clockOf.can(it.name))
-    buttons.push(button("put right", -Math.round(it.clock.by)));
-  if (clockOf.shifted(it.name)) buttons.push(button("leave as it was", 0));
-  return buttons;
+export function waysFor({ name, clock }, isWrong, clockOf) {
+  const was = clockOf.shifted(name), ways = [];
+  if (isWrong && clock && clockOf.can(name)) {
+    if (!Number.isNaN(clock.by)) ways.push({ words: "put right", by: was - Math.round(clock.by) });
+    else for (const { b, by } of clock.from.slice(0, OTHERS))
+      ways.push({ words: `put right by ${b}`, by: was - Math.round(by) });
+  }
+  if (was) ways.push({ words: "leave as it was", by: 0 });
+  return ways;
 }
+/** @param {Receiver} it @param {boolean} isWrong @param {View} view */
+const clockButtons = (it, isWrong, { clockOf }) => clockOf
+  ? waysFor(it, isWrong, clockOf).map(({ words, by }) =>
+    make("button", { type: "button", className: "clock", textContent: words,
+      aria: { "aria-label": `${words} the clock of ${it.name}` },
+      onclick: () => clockOf.put(it.name, by) })) : [];
 /** @param {HTMLElement} box @param {View} view */
 export function receiverList(box, view) {
   const row = (/** @type {Receiver} */ it) => {

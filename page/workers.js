@@ -78,6 +78,14 @@ function stopped(hand, why) {
   else made.onStop(why);
 }
 /**
+ * A worker did nothing of what it was to do.
+ * @param {Hand} hand
+ */
+function letGo(hand) {
+  hand.busy--;
+  queue.shift()?.();
+}
+/**
  * Asks a worker, which is busy already.
  * @param {Hand} hand
  * @param {string} what
@@ -87,7 +95,13 @@ function stopped(hand, why) {
 function ask(hand, what, given, buffers = []) {
   return new Promise((done, fail) => {
     asked.set(++last, { hand, done, fail });
-    hand.it.postMessage([last, what, given], buffers);
+    try {
+      hand.it.postMessage([last, what, given], buffers);
+    } catch (fault) {
+      asked.delete(last);
+      letGo(hand);
+      fail(/** @type {Error} */ (fault));
+    }
   });
 }
 /**
@@ -139,7 +153,10 @@ export async function run(command, options, inputs, { lent = [], keeps = false }
   // a worker that had much is replaced afterwards, which frees its memory at once
   free.isLarge = sizeOfAll(inputs) > limits.alone;
   // a copy that is handed over takes less time than what a browser copies itself
-  const copies = await copiesOf(inputs, lent);
+  const hand = free, copies = await copiesOf(inputs, lent).catch(fault => {
+    letGo(hand); // there is no room for them
+    throw fault;
+  });
   const buffers = copies.flatMap(it => it instanceof Blob ? [] : [it.buffer]);
-  return ask(free, "run", { command, options, inputs: copies, keeps }, buffers);
+  return ask(hand, "run", { command, options, inputs: copies, keeps }, buffers);
 }

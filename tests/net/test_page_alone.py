@@ -550,6 +550,32 @@ def test_clock(page, folder):
     page.js("document.querySelector('#receivers .clock').click()")
     page.wait(f"{MADE} && {ROWS} === 18")
     is_(page.js("aprsbook.page.data.notes"), [])
+    # a second click before it is done is no other one
+    page.wait("document.querySelector('#receivers .clock')?.textContent === 'put right'")
+    page.js("(it => { it.click(); it.click() })(document.querySelector('#receivers .clock'))")
+    page.wait(f"{MADE} && {ROWS} === 9")
+    is_(page.js("aprsbook.page.data.notes"), ["the clock of COAST was put 60 min back here"])
+    # what is no longer there has no note
+    page.js("[...document.querySelectorAll('#files button')].find(it => "
+            "it.ariaLabel === 'take coast.log away').click()")
+    page.wait(f"{MADE} && aprsbook.page.net.receivers.length === 2")
+    is_(page.js("aprsbook.page.data.notes"), [])
+
+
+def test_two_clocks(page, folder):
+    """Where two clocks are apart and none is known to be right, each is put right by the other."""
+    fresh(page, folder)
+    late = "".join(place(100 * k + 3600, f"Q1A-{k % 15 + 1}", 30 + k % 20, "COAST", f"no. {k}")
+                   for k in range(9))
+    give(page, folder, {"a.log": log(9, "RX1"), "coast.log": late})
+    page.wait(f"{MADE} && document.querySelectorAll('#receivers .clock').length === 2")
+    is_(sorted(page.js("[...document.querySelectorAll('#receivers .clock')]"
+                       ".map(it => it.ariaLabel)")),
+        ["put right by COAST the clock of RX1", "put right by RX1 the clock of COAST"])
+    page.js("[...document.querySelectorAll('#receivers .clock')].find(it => "
+            "it.ariaLabel.endsWith(' COAST')).click()")
+    page.wait(f"{MADE} && {ROWS} === 9")
+    is_(page.js("aprsbook.page.data.notes"), ["the clock of COAST was put 60 min back here"])
 
 
 def own_line(page, text, at="2024-06-21T18:05:00"):
@@ -618,6 +644,23 @@ def test_own_lines(page, folder):
     page.js("document.getElementById('ics-open').click()")
     is_(page.js(LOGGED), ["by <b>voice</b>", "=1+1"])
     page.js("(localStorage.clear(), 1)")
+
+
+def test_other_days(page, folder):
+    """Lines that the browser keeps of another day are left out, which is said."""
+    with Server(folder) as server:
+        fresh(page, folder, f"http://127.0.0.1:{server.port}/page.html")
+        page.js("(localStorage.setItem('aprsbook lines: APRS net', JSON.stringify({ gone: [], "
+                "lines: [1718388000, 1718992800].map(at => ({ at, from: '', to: '', id: '', "
+                "text: `at ${at}` })) })), 1)")
+        give(page, folder, {"a.log": log(3)})
+        page.wait(MADE)
+        page.js("document.getElementById('ics-open').click()")
+        is_(page.js(LOGGED), ["at 1718992800"])
+        is_(page.js("document.getElementById('own-told').textContent"),
+            "Left out, more than a day off: 1 line of your own.")
+        assert "at 1718388000" not in page.js("aprsfiles.eventPage()")
+        page.js("(localStorage.clear(), 1)")
 
 
 @pytest.mark.browsers("Chromium")
@@ -781,6 +824,27 @@ def test_followed(page, folder):
     hang.clear()
     fail.clear()
     follow_until(page, f"{MORE}['a.log'] === '' && stale.textContent.indexOf('503') < 0")
+    server.shutdown()
+    server.server_close()
+
+
+def test_begun_anew(page, folder):
+    """What was read of a log that begins anew, or is emptied, stays, and is named."""
+    server = serve(folder, set(), {})
+    (folder / "logs.txt").write_text("a.log")
+    (folder / "a.log").write_text(log(4))
+    fresh(page, folder, f"http://127.0.0.1:{server.server_port}/page.html#logs=logs.txt")
+    page.wait(f"{MADE} && {ROWS} === 4")
+    (folder / "a.log").write_text(place(900, "Q1NEW"))
+    follow_until(page, f"{MADE} && {ROWS} === 5")
+    is_(sorted(page.js(TOLD).items()), [("a.log", "heard 1 passed 0"),
+                                        ("a.log, before it began anew", "heard 4 passed 0")])
+    (folder / "a.log").write_text("")
+    follow_until(page, f"{TOLD}['a.log'] === 'heard 0 passed 0' && {MADE} && {ROWS} === 5")
+    is_(page.js(TOLD)["a.log, before it began anew"], "heard 5 passed 0")
+    # a page in its place takes nothing away
+    (folder / "a.log").write_text("<!DOCTYPE html><p>log in")
+    follow_until(page, f"{TOLD}['a.log'].startsWith('is a web page') && {MADE} && {ROWS} === 5")
     server.shutdown()
     server.server_close()
 

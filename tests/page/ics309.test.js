@@ -97,7 +97,25 @@ test("without a store, with a full or a damaged one, lines stay in the page", ()
     const lines = opened(store, [own(1, "a")]);
     assert.equal(lines.add(own(2, "b")), false);
     assert.deepEqual(textsOf(lines), ["a", "b"]);
+    // the page is drawn again, as for each new log
+    lines.open("Race", [own(1, "a")]);
+    assert.deepEqual(textsOf(lines), ["a", "b"]);
+    lines.remove(own(1, "a"));
+    lines.open("Race", [own(1, "a")]);
+    assert.deepEqual(textsOf(lines), ["b"]);
+    lines.open("Other");
+    lines.open("Other");
+    assert.deepEqual(textsOf(lines), ["b"]);
   }
+  const store = new Store(true), lines = opened(store);
+  lines.add(own(1, "a"));
+  store.isFull = false;
+  // another window had room
+  opened(store).add(own(2, "b"));
+  lines.open("Race");
+  assert.deepEqual(textsOf(lines), ["a", "b"]);
+  lines.add(own(3, "c"));
+  assert.deepEqual(textsOf(opened(store)), ["a", "b", "c"]);
   for (const text of ["{", "null", "7", "{\"lines\":7,\"gone\":{}}",
     "{\"lines\":[null,{\"at\":\"1\"}]}"]) {
     const store = new Store();
@@ -111,6 +129,21 @@ test("without a store, with a full or a damaged one, lines stay in the page", ()
   // a moment that no date has would stop the whole form
   for (const at of [1e300, -8.7e12, NaN, "1", null])
     assert.deepEqual(linesIn([own(0, "a", { at }), own(2, "b")]), [own(2, "b")]);
+});
+test("lines of last week's net of the same title are left out, and counted", () => {
+  const store = new Store(), week = 7 * 86400, span = { begin: AT + week, end: AT + week + 3600 };
+  opened(store).add(own(0, "then"), own(week - 86400, "before"), own(week + 3600 + 86401, "after"));
+  const lines = new OwnLines(store);
+  lines.open("Race", [], span);
+  assert.deepEqual([textsOf(lines), lines.others], [["before"], 2]);
+  // what is added in this page, or stands in it, is of this net
+  lines.add(own(1, "today"));
+  lines.open("Race", [own(2, "given")], span);
+  assert.deepEqual([textsOf(lines), lines.others], [["today", "given", "before"], 2]);
+  // nothing is lost: it is there in the net of then
+  lines.open("Race", [], { begin: AT, end: AT + 3600 });
+  assert.ok(textsOf(lines).includes("then"));
+  assert.deepEqual(JSON.parse(store.getItem("aprsbook lines: Race")).lines.length, 4);
 });
 test("a field for date and time gives back its moment", () => {
   assert.equal(fieldOf(AT), "2024-06-21T18:00:00");

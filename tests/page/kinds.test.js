@@ -1,8 +1,9 @@
 import assert from "node:assert/strict";
 import { test } from "node:test";
 import { runInThisContext } from "node:vm";
-import { damagedLines, kindOf, READ, spelled, without } from "../../page/kinds.js";
-import { movedIn, shifted } from "../../page/shift.js";
+import { damagedLines, kindOf, linesLost, READ, spelled, without } from "../../page/kinds.js";
+import { movedIn, receiversIn, shifting } from "../../page/shift.js";
+import { atOnce } from "../../page/steps.js";
 
 const bytesOf = text => Uint8Array.from(text, it => it.charCodeAt(0));
 const textOf = bytes => new TextDecoder("latin1").decode(bytes);
@@ -21,7 +22,7 @@ test("books, captures, maps, rosters and logs are known", () => {
   const cases = [["APRSBOOK 3", "x", "book"], ["", "net.book", "book"], ["\xc0\0", "x", "KISS stream"],
     ["<?xml version='1.0'?><kml>", "x.kml", "map"], ["<gpx >", "x", "map"], ["{", "x", "map"],
     ["\xef\xbb\xbfcall,name\n", "x.csv", "roster"], ["# a\nQ1A-* x\n", "x.txt", "roster"],
-    [LINE, "x.txt", "log"], ["", "x.log", "log"], ["Q1A x", "x.log", "log"]];
+    [LINE, "x.txt", "log"], ["0Z RX1 c000\n" + LINE, "x.txt", "log"], ["", "x.log", "log"], ["Q1A x", "x.log", "log"]];
   for (const [text, name, kind] of cases) assert.equal(kindOf(bytesOf(text), name), kind, text);
 });
 test("what a file is takes no time that grows with blank lines or comments", () => {
@@ -47,6 +48,14 @@ test("Windows' spellings are read and named", () => {
   }
   // a CR that ends no line stays
   assert.equal(textOf(spelled(bytesOf("a\rb\r\n")).bytes), "a\rb\n");
+});
+test("line ends are spelled wherever they are", () => {
+  for (const [text, plain] of [["a\nb\r\nc\n", "a\nb\nc\n"], ["\r\n\r\n", "\n\n"],
+    ["a\r\nb\r", "a\nb\r"], ["\r\r\n", "\r\n"]]) {
+    const got = spelled(bytesOf(text));
+    assert.deepEqual([textOf(got.bytes), got.spelling], [plain, ["CR LF"]]);
+  }
+  for (const text of ["", "a\r", "a\n"]) assert.deepEqual(spelled(bytesOf(text)).spelling, []);
 });
 /** Refuses each line with an x, as a check does: the first alone. */
 async function check(bytes) {
@@ -78,6 +87,14 @@ test("many damaged lines of a large log are found, and little of it is checked a
   assert.equal(textOf(without(bytes.subarray(0, 40), damage.slice(0, 1))).includes("x"), false);
 });
 
+test("of a log that began anew the lines are kept that it no longer has, each once", () => {
+  const lost = (log, now) => textOf(linesLost(bytesOf(log), bytesOf(now)));
+  assert.equal(lost("a\nb\na\nc\n", "b\nd\n"), "a\nc\n");
+  assert.equal(lost("a\nb\n", ""), "a\nb\n");
+  assert.equal(lost("a\nb\n", "b\nc\na\n"), "");
+  assert.equal(lost("", "a\n"), "");
+});
+const shifted = (bytes, shifts) => atOnce(shifting(bytes, shifts));
 test("the moments of one receiver are moved, in each spelling and over midnight", () => {
   const log = "2024-06-21T23:59:50Z RX1 c0\n2024-06-21T23:59:50.250Z RX1 c0\n" +
     "2024-06-21T23:59:50Z RX2 c0\n";
@@ -95,4 +112,16 @@ test("moments are moved in a log of many pieces, and a line stays whole", () => 
   const log = Array.from({ length: 150000 }, (_, k) => line(k)).join("");
   const moved = textOf(shifted(bytesOf(log), new Map([["RX0", 3600]])));
   assert.equal(moved, log.replace(/T18(:..:..\.000Z RX0)/g, "T19$1"));
+});
+test("moments are moved in many short steps, and a log without them stays what it is", () => {
+  const bytes = bytesOf(LINE.repeat(40000)), steps = shifting(bytes, new Map([["RX1", 1]]));
+  let many = 0;
+  for (let it = steps.next(); !it.done; it = steps.next()) many++;
+  assert.ok(many > 4, String(many));
+  assert.equal(shifted(bytes, new Map([["RX2", 1]])), bytes);
+});
+test("a log is looked through once for its receivers", () => {
+  const bytes = bytesOf(LINE);
+  assert.deepEqual([...receiversIn(bytes)], ["RX1"]);
+  assert.equal(receiversIn(bytes), receiversIn(bytes));
 });

@@ -1,12 +1,14 @@
 import assert from "node:assert/strict";
 import { test } from "node:test";
+import { apartText, clockWords } from "../../page/clockwords.js";
 import { hearings } from "../../page/net.js";
 import { needsOf, newsOf } from "../../page/news.js";
 import { know } from "../../page/roster.js";
+import { waysFor } from "../../page/tables.js";
 import { Alarm } from "../../page/sound.js";
 import { atOnce } from "../../page/steps.js";
 import { clocks } from "../../page/words.js";
-import { message, netOfLines, place, row, rowsOf, thing } from "./tables.js";
+import { message, moment, netOfLines, place, row, rowsOf, thing } from "./tables.js";
 
 const OF = { gap: 30, silent: 30, isSilent: () => false, missing: [], expected: 0 };
 const micE = (second, source, says) => row("mic-e", second, source,
@@ -75,6 +77,12 @@ test("the alarm rings once for a need, also where it is worded in another way", 
   lines.push(micE(60, "Q1A-7", "emergency"));
   assert.deepEqual(hear(), ["EMERGENCY: Q1A-7, 18:01:00"]);
   assert.equal(rung, 2);
+  // another receiver heard it a little later
+  const later = micE(60, "Q1A-7", "emergency").split("\t");
+  later[2] = moment(75);
+  lines[1] = later.join("\t");
+  assert.deepEqual(hear(), []);
+  assert.equal(needsOf(netOfLines(lines).things)[0].text, "EMERGENCY: Q1A-7, 18:01:15");
 });
 
 test("two wrong clocks don't hide one another", () => {
@@ -99,6 +107,27 @@ test("where no two clocks agree none is called right", () => {
   const texts = newsOf(netOfLines(lines), OF).map(it => it.text).filter(it => /clock/.test(it));
   assert.deepEqual(texts, ["the clocks of A and B are 60 min apart",
     "the clocks of A and C are 3 h apart", "the clocks of B and C are 2 h apart"]);
+});
+test("how far clocks are apart is said to the second, the minute or nearly so", () => {
+  assert.deepEqual([0, 59, -60, 125, 3600, 3601, 7140, 7200, 7230, 19800, -172800, 191000.4]
+    .map(apartText), ["0 s", "59 s", "1 min", "2 min 5 s", "60 min", "60 min 1 s", "1 h 59 min",
+    "2 h", "2 h", "5 h 30 min", "2 d", "2 d 5 h"]);
+  assert.equal(clockWords({ clock: { by: -5430, of: 9, from: [] } }, 30).text, "\u22121 h 30 min");
+});
+test("a clock is put right at one click and not twice, and of two by the one that is right", () => {
+  const lines = [], put = 60, can = name => name !== "C";
+  for (let k = 0; k < 5; k++)
+    for (const [name, ahead] of [["A", 0], ["B", 3600]])
+      lines.push(place(200 * k + ahead, "Q1A", 54, -3, { receivers: name, text: `no. ${k}` }));
+  const [a, b] = netOfLines(lines).receivers.map(it => ({ name: it.name, clock: it.clock }));
+  const ways = (it, was = 0) => waysFor(it, true, { shifted: () => was, can, put: () => {} });
+  assert.deepEqual([ways(a), ways(b)],
+    [[{ words: "put right by B", by: 3600 }], [{ words: "put right by A", by: -3600 }]]);
+  const clock = { by: 3600, of: 9, from: [] };
+  assert.deepEqual(ways({ name: "A", clock }, put),
+    [{ words: "put right", by: put - 3600 }, { words: "leave as it was", by: 0 }]);
+  assert.deepEqual(ways({ name: "C", clock }), []);
+  assert.deepEqual(waysFor({ name: "A", clock }, false, { shifted: () => 0, can }), []);
 });
 
 test("a net is the same in whatever order its table stands, also since a moment", () => {

@@ -3,6 +3,8 @@ import { test } from "node:test";
 import { orderOf } from "../../page/reading.js";
 import { detailsOf } from "../../page/rows.js";
 import { wordsOf } from "../../page/details.js";
+import { columnsOf, tableOf } from "../../page/reading.js";
+import { atOnce } from "../../page/steps.js";
 import {
   COLUMNS, message, moment, netOfLines, place, readMessages, row, rowsOf, table, thing,
 } from "./tables.js";
@@ -122,4 +124,11 @@ test("rows stand by their first moment, equal ones as in the table", () => {
   const moments = [-Infinity, rows.first[1], rows.first[1] + 0.5, Infinity];
   assert.deepEqual(moments.map(it => [...rows.since(it)]),
     [[4, 1, 2, 0, 3], [1, 2, 0, 3], [0, 3], []]);
+});
+test("what is needed only while a table is read isn't handed over", () => {
+  const { columns } = atOnce(columnsOf(tableOf(table([place(0, "Q1A", 1, 2)]))));
+  assert.deepEqual([columns.hash.length, columns.rest.length, columns.order.length], [0, 0, 1]);
+  // a buffer can be handed over once
+  assert.equal(new Set(Object.values(columns).map(it => it.buffer)).size,
+    Object.keys(columns).length);
 });

@@ -1,5 +1,6 @@
 import assert from "node:assert/strict";
 import { test } from "node:test";
+import { again, alive } from "../../page/alive.js";
 import { aheadOf, staleWords } from "../../page/stale.js";
 import { age, clocks, datedBy, timeText, zonesText } from "../../page/words.js";
 
@@ -59,4 +60,32 @@ test("both zones of a night are said in which clocks change, and each day's date
   // such as of a receiver that began without a clock
   assert.deepEqual(["", "day", "year"].map(it => timeText(0, it)),
     ["00:00:00", "1 Jan 00:00:00", "1970-01-01 00:00:00"]);
+});
+test("a page stays where its server answers with a fault, or with another page", async t => {
+  let loaded = 0, answer = { ok: false, status: 500 };
+  const meta = of => ({ getAttribute: () => of }), headers = new Headers();
+  const tree = (policy, data) => ({ querySelector: () => policy && meta(policy),
+    getElementById: () => data && { textContent: data } });
+  const own = { location: { protocol: "http:", pathname: "/", search: "", reload: () => loaded++ },
+    document: tree("own", "{}"), fetch: async () => {
+      if (!answer) throw new TypeError("away");
+      return { ok: true, headers, text: async () => "", ...answer };
+    }, DOMParser: class { parseFromString = () => answer.tree } };
+  const before = Object.keys(own).map(it => [it, Object.getOwnPropertyDescriptor(globalThis, it)]);
+  for (const [name, value] of Object.entries(own))
+    Object.defineProperty(globalThis, name, { value, configurable: true, writable: true });
+  t.after(() => before.forEach(([name, it]) =>
+    it ? Object.defineProperty(globalThis, name, it) : delete globalThis[name]));
+  const said = async it => {
+    answer = it;
+    await again();
+    return [alive.refused, alive.away > 0, loaded];
+  };
+  assert.deepEqual(await said(answer), ["the server answers 500", false, 0]);
+  assert.deepEqual(await said({ tree: tree("login", null) }),
+    ["the server answers with another page", false, 0]);
+  assert.deepEqual(await said(null), ["", true, 0]);
+  assert.deepEqual(await said({ tree: tree("own", "{}") }), ["", false, 0]);
+  // another version of the page
+  assert.deepEqual(await said({ tree: tree("newer", "{}") }), ["", false, 1]);
 });

@@ -1,0 +1,45 @@
+import assert from "node:assert/strict";
+import http from "node:http";
+import { test } from "node:test";
+import { askFor, Refused } from "../../page/asking.js";
+
+const after = ms => new Promise(done => setTimeout(done, ms));
+/** Calls `run` with the address of a server that answers so. */
+async function served(answer, run) {
+  const server = http.createServer(answer);
+  await new Promise(done => server.listen(0, "127.0.0.1", done));
+  try {
+    await run(`http://127.0.0.1:${server.address().port}/a.log`);
+  } finally {
+    server.closeAllConnections();
+    server.close();
+  }
+}
+const textOf = ({ bytes }) => Buffer.from(bytes).toString();
+
+test("what comes slowly is read to its end, and what stops is given up", async () => {
+  const parts = async (_, response) => {
+    for (const part of "abcdefgh") {
+      response.write(part);
+      await after(250);
+    }
+    response.end();
+  };
+  await served(parts, async url => assert.equal(textOf(await askFor(url, 1500)), "abcdefgh"));
+  const stops = (_, response) => response.write("a");
+  await served(stops, url => assert.rejects(askFor(url, 300), /^Error: no answer within 0.3 s$/));
+});
+test("a server that refuses, or hangs, is told from one that is away", async () => {
+  const refuses = (_, response) => response.writeHead(500).end();
+  await served(refuses, url =>
+    assert.rejects(askFor(url, 9000), /^Error: the server answers 500$/));
+  await served(() => {}, url => assert.rejects(askFor(url, 300), Refused));
+  let away = "";
+  await served((_, response) => response.end("x"), async url => {
+    away = url;
+    assert.equal(textOf(await askFor(url, 9000)), "x");
+    const { answer, bytes } = await askFor(url, 9000, { method: "HEAD" });
+    assert.deepEqual([answer.status, bytes.length], [200, 0]);
+  });
+  await assert.rejects(askFor(away, 9000), fault => !(fault instanceof Refused));
+});

@@ -1,0 +1,36 @@
+// What the modules that read logs ask of the page and of a browser, by hand: workers run the
+// stand-in for the module. It stands before those modules in a test.
+import { bytesIn } from "../../page/sources.js";
+import * as words from "../../page/words.js";
+import { run } from "../net/stand_in.js";
+
+/** How many milliseconds a run takes, by its command, and what it gives where that is another. */
+export const stand = { wait: command => 0, answer: given => null };
+
+async function answerOf({ command, options, inputs: given, keeps }) {
+  const inputs = await Promise.all(given.map(bytesIn));
+  const isTable = command === "rows" || command === "messages";
+  const got = run(null, isTable ? `table ${command}` : command, options, inputs);
+  return keeps ? { ...got, inputs } : got;
+}
+class Worker {
+  async postMessage([id, what, given]) {
+    await new Promise(done => setTimeout(done, what === "run" ? stand.wait(given.command) : 0));
+    const value = what === "load" ? true : stand.answer(given) || await answerOf(given);
+    this.onmessage({ data: [id, value, ""] });
+  }
+  terminate() {}
+}
+/** What was saved: names, what, and of which type. */
+export const saved = [];
+const make = (tag, of, ...inside) => ({ tag, ...of, inside });
+Object.assign(globalThis, { Worker,
+  aprsbook: { ...words, make, save: (...it) => { saved.push(it); } } });
+Object.defineProperty(globalThis, "navigator", { value: { hardwareConcurrency: 2 },
+  configurable: true });
+
+export const bytesOf = text => Uint8Array.from(text, it => it.charCodeAt(0));
+export const textOf = bytes => Buffer.from(bytes).toString("latin1");
+/** A line of a log, by its clock and its receiver. */
+export const line = (clock, receiver) =>
+  `2024-06-21T${clock}Z ${receiver} c00082a0a4a64040e0a262824040406103f03e6869c0\n`;
