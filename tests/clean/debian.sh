@@ -35,6 +35,9 @@ a_debian() {
     mount -t overlay overlay "$debian" -o "lowerdir=$CLEAN/$1,upperdir=$layer/files,workdir=$layer/work"
     mount -t proc proc "$debian/proc"
     mount -t tmpfs tmpfs "$debian/dev/shm"
+    mkdir -p "$debian/dev/pts"
+    mount -t devpts -o newinstance,ptmxmode=0666 devpts "$debian/dev/pts"
+    ln -sf pts/ptmx "$debian/dev/ptmx"
     cp /etc/resolv.conf "$debian/etc/resolv.conf"
     # as Debian's installer writes it
     echo '127.0.0.1 localhost' > "$debian/etc/hosts"

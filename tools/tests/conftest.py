@@ -25,8 +25,9 @@ settings.load_profile("net")
 
 
 def environment(**more: str) -> Dict[str, str]:
-    """The environment in which the command runs from its sources."""
-    return {**os.environ, "PYTHONPATH": str(SOURCES), "PYTHONDONTWRITEBYTECODE": "1", **more}
+    """The environment in which the command runs from its sources, buffered as a user's is."""
+    own = {name: it for name, it in os.environ.items() if name != "PYTHONUNBUFFERED"}
+    return {**own, "PYTHONPATH": str(SOURCES), "PYTHONDONTWRITEBYTECODE": "1", **more}
 
 
 def command(*arguments: object) -> List[str]:

@@ -98,12 +98,13 @@ def main(arguments: Optional[Sequence[str]] = None) -> int:
         status = kill_self(signal.SIGINT)
     except Ended as it:
         status = kill_self(it.number)
-    # nothing is left to be said by Python where standard output is refused
-    try:
-        if sys.stdout is not None:
-            sys.stdout.flush()
-    except (OSError, ValueError):
-        os.dup2(os.open(os.devnull, os.O_WRONLY), 1)
+    # nothing is left to be said by Python where standard output or error is refused
+    for number, file in (1, sys.stdout), (2, sys.stderr):
+        try:
+            if file is not None:
+                file.flush()
+        except (OSError, ValueError):
+            os.dup2(os.open(os.devnull, os.O_WRONLY), number)
     return status
 
 
