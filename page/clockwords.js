@@ -1,21 +1,15 @@
 // @ts-check
 // A receiver's clock beside the others', in words.
 
-import { age } from "./words.js";
+import { age, unitsOf } from "./words.js";
 
-/**
- * How many seconds the units are in which `age` counts.
- * @type {Record<string, number>}
- */
-const SECONDS = { s: 1, min: 60, h: 3600, d: 86400 };
 /**
  * How far two clocks are apart, in whole units, and the rest in smaller ones.
  * @param {number} seconds
  */
 export function apartText(seconds) {
-  const far = Math.round(Math.abs(seconds)), text = age(far), [n, unit] = text.split(" ");
-  const size = SECONDS[unit], rest = far - Number(n) * size;
-  return rest >= Math.max(1, size / 60) ? `${text} ${age(rest)}` : text;
+  const far = Math.round(Math.abs(seconds)), { n, size } = unitsOf(far), rest = far - n * size;
+  return rest >= Math.max(1, size / 60) ? `${age(far)} ${age(rest)}` : age(far);
 }
 /** @param {number} seconds */
 const aheadText = seconds => `${seconds < 0 ? "\u2212" : "+"}${apartText(seconds)}`;

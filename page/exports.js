@@ -33,8 +33,8 @@ const decimal = (/** @type {number} */ value) => value.toFixed(7);
 /** Degrees east for GPX, whose longitudes end below 180. */
 const belowDateLine = (/** @type {number} */ east) => decimal(east).replace(/^180\./, "-180.");
 
-const COLUMNS = ("kind name state first last receivers source lat lon ambiguity symbol course " +
-  "speed_knots altitude_m comment").split(" ");
+const COLUMNS = ["kind", "name", "state", "first", "last", "receivers", "source", "lat", "lon",
+  "ambiguity", "symbol", "course", "speed_knots", "altitude_m", "comment"];
 const valueOf = (/** @type {number | undefined} */ it) => it === undefined ? "" : it;
 /** @param {Thing} it @param {Place} at */
 const placeRow = (it, at) => [it.kind, said(it.name), at.state, isoText(at.first), isoText(at.last),

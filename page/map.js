@@ -17,8 +17,9 @@ import { TRACKS } from "./symbols.js";
 import { Tiles } from "./tiles.js";
 
 /** The colours of the style that the map takes. */
-const COLOURS = [..."paper sheet ink soft line warn bad land shore station object item".split(" "),
-  ...Array.from({ length: TRACKS }, (_, k) => `t${k}`), "a0", "a1", "a2", "a3", "a4"];
+const COLOURS = ["paper", "sheet", "ink", "soft", "line", "warn", "bad", "land", "shore", "station",
+  "object", "item", ...Array.from({ length: TRACKS }, (_, k) => `t${k}`),
+  "a0", "a1", "a2", "a3", "a4"];
 
 /** @typedef {import("./net.js").Thing} Thing */
 /** @typedef {import("./overlays.js").Base} Base */

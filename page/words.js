@@ -92,7 +92,8 @@ export const messageOf = (/** @type {unknown} */ fault) =>
  * @type {{ local: boolean, dated: Dated }}
  */
 export const clocks = { local: false, dated: "" };
-const MONTHS = "Jan Feb Mar Apr May Jun Jul Aug Sep Oct Nov Dec".split(" ");
+const MONTHS =
+  ["Jan", "Feb", "Mar", "Apr", "May", "Jun", "Jul", "Aug", "Sep", "Oct", "Nov", "Dec"];
 const two = (/** @type {number} */ n) => String(n).padStart(2, "0");
 
 /**
@@ -167,15 +168,22 @@ export const fullText = seconds =>
 export const isoText = seconds => new Date(seconds * 1000).toISOString();
 
 /**
+ * A time in whole units of some seconds.
+ * @param {number} far in seconds, not below 0
+ * @returns {{ n: number, size: number, unit: string }}
+ */
+export function unitsOf(far) {
+  /** @type {[number, number, string][]} */
+  const units = [[60, 1, "s"], [5400, 60, "min"], [172800, 3600, "h"]];
+  const [, size, unit] = units.find(([below]) => far < below) || [0, 86400, "d"];
+  return { n: Math.floor(far / size), size, unit };
+}
+/**
  * How long ago something was; less than nothing, of what is still to come.
  * @param {number} passed in seconds
  */
 export function age(passed) {
-  /** @type {[number, number, string][]} */
-  const units = [[60, 1, "s"], [5400, 60, "min"], [172800, 3600, "h"]];
-  const far = Math.abs(passed);
-  const [, size, unit] = units.find(([below]) => far < below) || [0, 86400, "d"];
-  const n = Math.floor(far / size);
+  const { n, unit } = unitsOf(Math.abs(passed));
   return `${passed < 0 && n ? "\u2212" : ""}${n} ${unit}`;
 }
 /**
