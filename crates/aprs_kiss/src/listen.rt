@@ -10,7 +10,7 @@ use crate::reader::{Fed, KissReader};
 
 /// Takes what a reader returns, one answer after another.
 pub trait Listener {
-    /// What an answer makes of it: the listener before, the answer, and the listener after.
+    /// What an answer makes of a listener: the listener before, the answer, the listener after.
     ghost hears: { Self → Judgement → Self → Type 0 };
 
     /// Takes the next answer. `Fed::Nothing` leaves the listener as it is.
