@@ -44,7 +44,7 @@ abbrev pub stop_of : {R : Type 0} → LogReader R → Option (Option LogFault)
 stop_of r = stop_in r.state r.line
 
 -- These answers may follow, where the device has `known` left now and `end` at the end of reading:
--- some text got of `known` yields them. Where `known` is `None`, any may follow while it reads.
+-- some text got of `known` yields them. Where `known` is `None`, a reader that reads may give any.
 abbrev pub Awaits : {R : Type 0} → Option (List ℕ) → Option (List ℕ) → LogReader R → Answers
     → Type 0
 Awaits known end r answers =
