@@ -38,8 +38,8 @@ pub record IsData (piece : List ℕ) (frame : DataFrame) : Type 0 where
   pub command : head % 16 ≡ 0
   pub port : frame.port ≡ head / 16
 
--- A nonempty piece is judged by the one of these that is so: no bytes are sent as this piece, it is
--- too long, its command is another than data, or it is a data frame.
+-- A nonempty piece is judged by the one of these that is so. No bytes are sent as this piece; or it
+-- is too long; or its command is another than data; or it is a data frame.
 abbrev pub Judged : List ℕ → Judgement → Type 0
 Judged piece (Err BadEscape) = (bytes : List ℕ) → ¬ Spells bytes piece
 Judged piece (Err TooLong) = IsLong piece

@@ -19,8 +19,9 @@ pub record AreToCome (gap : ℕ) (rows : List Row) (names : GatheredNames) : Typ
   pub none : names.names ≡ []
   pub fits : room_of rows ≤ names.left
 
--- The row of a first moment, a greatest reception and the names that were gathered comes after none
--- of the rows, and is with them this book. Each of these rows is sound by itself.
+-- A row is open: it has this first moment, this greatest reception and the names that were
+-- gathered. It comes after none of the rows, and is with them this book. Each of these rows is
+-- sound by itself.
 pub record IsOpen (gap first : ℕ) (greatest : Row) (names : List (List ℕ)) (rows book : List Row)
     : Type 0 where
   pub each : AreSoundRows (with_names first greatest (union bytes_cmp names []) ∷ rows)

@@ -13,7 +13,7 @@ const DATA: u8 = 0;
 /// The most bytes of a frame, and the frame end after it.
 const MAX_ENDED: usize = 1024;
 
-/// The bytes of the one data frame, of any port, that a line's bytes hold as a KISS stream; whether
+/// The bytes of the one data frame, of any port, that a line's bytes hold as a KISS stream. Whether
 /// they are a UI frame is judged by the caller. Otherwise the first reason why there is none: bytes
 /// follow the last frame end, there are two pieces or more, there is no piece, or KISS passes the
 /// one piece over. Where a quick look isn't enough, `reader` is reset and reads the bytes, and the
