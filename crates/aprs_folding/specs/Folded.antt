@@ -15,7 +15,7 @@ row_after gap l (x ∷ xs) =
     choose (compare_near gap l x) (row_after gap x xs) (row_after gap (combine l x) xs)
     (row_after gap x xs)
 
--- And the rows before that one.
+-- The book's rows before `row_after`, which no later row joins.
 abbrev pub rows_before : ℕ → Row → List Row → List Row
 rows_before gap l [] = []
 rows_before gap l (x ∷ xs) =
@@ -52,7 +52,7 @@ abbrev pub FoldedIsBook : ℕ → Type 0
 FoldedIsBook gap = (taken written last : List Row) → AreInOrder taken → AreSoundRows taken
     → IsFolded gap taken written last → written ++ last ≡ book_together gap taken
 
--- What is written stays: whatever rows come after in order, it begins the book of all.
+-- What is written stays: whatever rows come after in order, it begins the book of all rows.
 abbrev pub WrittenStays : ℕ → Type 0
 WrittenStays gap = (taken written last more : List Row) → AreInOrder (taken ++ more)
     → AreSoundRows (taken ++ more) → IsFolded gap taken written last

@@ -17,8 +17,8 @@ abbrev pub rows_put : Bool → List Row → List Row
 rows_put true last = last
 rows_put false last = []
 
--- The next row is taken after the last one: the last is written and the next is in its place; or
--- the next joins the last; or there is no last.
+-- The next row is taken. At `true` it is far from the last one, which is written, and takes its
+-- place. At `false` nothing is written: the next joins the last one, or there was no last one.
 abbrev pub TakesNext : Bool → ℕ → List Row → Row → List Row → Type 0
 TakesNext true gap last next new =
     (own : Row) × (last ≡ own ∷ []) × (is_eq (compare_near gap own next) ≡ false)
@@ -34,8 +34,8 @@ TakesNext false gap last next new =
 abbrev pub NoneIsBefore : Row → List Row → Type 0
 NoneIsBefore x rows = (y : Row) → y ∈ rows → IsUpTo row_cmp x y
 
--- The rows `read` were taken in order, and none in front comes before any of them. Of their book
--- `written` is final, and `last` may still be joined.
+-- The rows `read` were taken in the order of `taken`, each sound by itself, and none in front comes
+-- before any of them. Of their book `written` is final, and `last` may still be joined.
 pub record IsFolding (gap : ℕ) (read front written last : List Row) : Type 0 where
   pub taken : List Row
   pub members : SameMembers read taken
@@ -50,21 +50,20 @@ pub record IsFolding (gap : ℕ) (read front written last : List Row) : Type 0 w
 abbrev pub Begins : ℕ → Type 0
 Begins gap = (front : List Row) → IsFolding gap [] front [] []
 
--- The first of the rows in front is taken. In its place another may be in front that doesn't come
--- before it.
+-- A row in front is taken. None of the rows that are in front after this step comes before it.
 abbrev pub TakesOn : ℕ → Type 0
 TakesOn gap = (read front written last : List Row) (x : Row) (wrote : Bool)
     (all ahead new : List Row) → IsFolding gap read front written last → x ∈ front → IsSoundRow x
     → SameMembers all (x ∷ read) → NoneIsBefore x ahead → TakesNext wrote gap last x new
     → IsFolding gap all ahead (written ++ rows_put wrote last) new
 
--- After the last row, what is written and the last one are the book of all.
+-- What is written and the last one are the book of the rows that were taken.
 abbrev pub EndsAsBook : ℕ → Type 0
 EndsAsBook gap = (read front written last : List Row) → IsFolding gap read front written last
     → written ++ last ≡ book_together gap read
 
--- Whatever rows still come, in order and none before those in front, what is written begins the
--- book of all.
+-- More rows still come in order, each after some row in front or level with it. Whatever they are,
+-- what is written begins the book of all rows.
 abbrev pub BeginsBook : ℕ → Type 0
 BeginsBook gap = (read front written last more : List Row) → IsFolding gap read front written last
     → AreInOrder more → AreSoundRows more

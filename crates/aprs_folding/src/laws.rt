@@ -3,10 +3,10 @@ ghost use Rattle.std.specs.Prelude.{◌<◌, ℕ};
 ghost use Rattle.aprs_folding.specs.Folded as Spec;
 ghost use Rattle.aprs_folding.specs.Folding.{Begins, BeginsBook, EndsAsBook, TakesOn};
 
-/// Rows of any books that come in the order of key and first moment are joined one by one: the next
-/// row joins the last one where it is near, and otherwise the last one is written. What is written
-/// and the last one are then the book of all rows that came, and what is written begins the book of
-/// these and of any rows that come after them in order.
+/// Rows of any books come in the order of key and first moment. The next row joins the last one
+/// where it is near; otherwise the last one is written, and the next takes its place. What is
+/// written and the last one are then the book of all rows that came. What is written begins the
+/// book of these and of any rows that come after them in order.
 pub fn rows_in_order_are_folded()
     ensures first { (gap : ℕ) → Spec.FirstIsLast gap }
     ensures near { (gap : ℕ) → Spec.NearJoins gap }
@@ -15,9 +15,10 @@ pub fn rows_in_order_are_folded()
     ensures stays { (gap : ℕ) → 0 < gap → Spec.WrittenStays gap }
 {}
 
-/// Of several books in order, of which one row each is in front, the first in front is taken again
-/// and again. Then what is written is at each step the beginning of the book of all their rows,
-/// whichever rows still come, and with the last one it is the book of those that came.
+/// Several books are folded into one. The next row of each is in front. Each step takes the first
+/// of the rows in front, as `rows_in_order_are_folded` takes the next row. After each step what is
+/// written and the last one are the book of all rows that were taken. What is written begins the
+/// book of these and of all rows that still come.
 pub fn books_are_folded()
     ensures begins { (gap : ℕ) → Begins gap }
     ensures takes { (gap : ℕ) → TakesOn gap }

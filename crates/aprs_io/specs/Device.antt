@@ -78,8 +78,8 @@ most_failures Fault calls = 999 * calls + 1
 most_failures other calls = 999 * calls
 
 -- At Ok the text went out. At an error a prefix of it did, and the last call of the device answered
--- a fault, which no call before it did. There is at most one call for each byte: of a text without
--- bytes the device isn't asked, and that is Ok.
+-- a fault, which no call before it did. At most 999 tries fail for each byte, and one more at an
+-- error. For a text without bytes the device isn't asked, and that is Ok.
 pub record Sends {W E : Type 0} (contents : W → Option (List ℕ)) (r : Result (Unit {0}) E)
     (old new : Counted W) (text : List ℕ) : Type 0 where
   pub sent : OnOk r (Appends (contents old.device) (contents new.device) text)

@@ -30,7 +30,8 @@ pub record Gets (limit : ℕ) (input : List ℕ) (after : Option (List ℕ)) (te
   pub whole : input ≡ text ++ rest
   pub ends : EndsSo ending limit text rest after
 
--- Nothing is read of the input, since it ends in this way here.
+-- Nothing more is read of the input, since it ends in this way here. Where it isn't known what the
+-- device has left, this says nothing.
 abbrev pub EndsHere : InputEnd → ℕ → Option (List ℕ) → Option (List ℕ) → Type 0
 EndsHere ending left known after = IfSome known (λ input. Gets left input after [] ending)
 

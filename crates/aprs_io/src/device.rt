@@ -102,7 +102,7 @@ impl<T> Counted<T> {
 
 impl<R: Read> Counted<R> {
     /// Reads the device's next bytes to the start of `buf`, and returns how many came: 0 at the
-    /// device's end, or where `buf` is empty, and then the device isn't asked. Each failed try is
+    /// device's end. Where `buf` is empty, it is 0 and the device isn't asked. Each failed try is
     /// counted. An interrupted try is made again, up to 999 in a row; the 1,000th, and any other
     /// error at once, is a fault. At a fault no byte is lost. An answer that is a fault or the
     /// end is counted too. Takes no memory.

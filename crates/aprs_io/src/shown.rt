@@ -41,7 +41,8 @@ pub fn shown_byte(b: u8) -> ArrayVec<u8, 4>
     text
 }
 
-/// Puts each of the bytes as `shown_byte` shows it. Fails where the output is refused. Takes no
+/// Puts each of the bytes into the outlet as `shown_byte` shows it. At a fault a prefix of what the
+/// outlet held and of this text went out, the rest is lost, and the outlet holds nothing. Takes no
 /// memory.
 pub fn put_shown<W: Write>(out: &mut Outlet<'_, W>, bytes: &[u8]) -> Result<(), WriteFault>
     ensures { Puts W.contents result out.old out.new (shown_text bytes.now) }

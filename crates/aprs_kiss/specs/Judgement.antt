@@ -38,8 +38,8 @@ pub record IsData (piece : List ℕ) (frame : DataFrame) : Type 0 where
   pub command : head % 16 ≡ 0
   pub port : frame.port ≡ head / 16
 
--- A nonempty piece is judged by the one of these that is so: it spells no bytes, it is too long,
--- its command is another than data, or it is a data frame.
+-- A nonempty piece is judged by the one of these that is so. No bytes are sent as this piece; or it
+-- is too long; or its command is another than data; or it is a data frame.
 abbrev pub Judged : List ℕ → Judgement → Type 0
 Judged piece (Err BadEscape) = (bytes : List ℕ) → ¬ Spells bytes piece
 Judged piece (Err TooLong) = IsLong piece
@@ -53,7 +53,7 @@ data_frame_of [] = Err NotData
 data_frame_of (head ∷ bytes) =
     if head % 16 == 0 then Ok (record { port = head / 16; bytes = bytes }) else Err NotData
 
--- The judgement of a piece, by the bytes that it spells: `None` is a piece that spells no bytes.
+-- The judgement of a piece, by the bytes that it spells: `None` where no bytes are sent as it.
 abbrev pub judgement_by : Option (List ℕ) → Judgement
 judgement_by None = Err BadEscape
 judgement_by (Some bytes) =

@@ -22,7 +22,7 @@ pub fn hello_goes_to_port_5()
         ≡ Err NotData ∷ [] }
 {}
 
-/// The bytes C0 and DB go out as DB DC and DB DD. DB before any other byte is no escape.
+/// The bytes C0 and DB go out as DB DC and DB DD. DB before any other byte is a bad escape.
 pub fn special_bytes_are_escaped()
     ensures sent { kiss_text (0xC0 ∷ 0xDB ∷ [])
         ≡ 0xC0 ∷ 0x00 ∷ 0xDB ∷ 0xDC ∷ 0xDB ∷ 0xDD ∷ 0xC0 ∷ [] }

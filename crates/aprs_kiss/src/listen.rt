@@ -10,7 +10,7 @@ use crate::reader::{Fed, KissReader};
 
 /// Takes what a reader returns, one answer after another.
 pub trait Listener {
-    /// What an answer makes of it: the listener before, the answer, and the listener after.
+    /// What an answer makes of a listener: the listener before, the answer, the listener after.
     ghost hears: { Self → Judgement → Self → Type 0 };
 
     /// Takes the next answer. `Fed::Nothing` leaves the listener as it is.
@@ -19,7 +19,7 @@ pub trait Listener {
 }
 
 /// Feeds all of a chunk of a stream to the reader, and hands each answer to the listener. Takes no
-/// memory.
+/// memory but what the listener takes.
 pub fn feed_all<L: Listener>(reader: &mut KissReader, chunk: &[u8], listener: &mut L)
     // `before` is what came since the last frame end before the call. The listener hears the
     // judgements of the pieces that ended since, in order.
@@ -39,7 +39,7 @@ pub fn feed_all<L: Listener>(reader: &mut KissReader, chunk: &[u8], listener: &m
 
 /// Feeds a stream to the reader, cut into parts of these lengths and then what is left of it, and
 /// hands each answer to the listener. The answers are those of the stream, whatever the lengths.
-/// Takes no memory.
+/// Takes no memory but what the listener takes.
 pub fn feed_in_parts<L: Listener>(
     reader: &mut KissReader,
     stream: &[u8],

@@ -1,4 +1,4 @@
-//! A reader of a KISS stream that comes in any pieces.
+//! A reader of a KISS stream that comes in chunks of any size.
 ghost use Rattle.std.specs.Prelude.{◌≡◌, ◌≢◌, ◌≤◌, ◌<◌, ◌+◌, ◌∷◌, ◌++◌, ◌↔◌, ℕ, List, [], false, IsTrue, IfNone, IfSome, OnSome, IfOk, length, take};
 ghost use Rattle.std.specs.Bool.{OnTrue, OnFalse};
 ghost use Rattle.std.specs.Borrow.{sem};
@@ -46,7 +46,7 @@ enum State {
     Broken,
 }
 
-/// Reads the frames of a KISS stream (the KISS paper) that comes in pieces of any size, into a
+/// Reads the frames of a KISS stream (the KISS paper) that comes in chunks of any size, into a
 /// buffer of its own. It takes no memory.
 #[derive(Drop)]
 pub struct KissReader {

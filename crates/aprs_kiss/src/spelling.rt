@@ -13,8 +13,8 @@ pub const TFEND: u8 = 0xDC;
 /// Stands for FESC after FESC.
 pub const TFESC: u8 = 0xDD;
 
-/// The bytes before the first FEND or FESC, which aren't sent as themselves, and then that byte
-/// and the bytes after it; or all bytes and `None` where neither occurs. Takes no memory.
+/// The bytes before the first FEND or FESC, and then that byte and the bytes after it; or all
+/// bytes and `None` where neither occurs. Takes no memory.
 #[inline(always)]
 pub fn cut_plain(bytes: &[u8]) -> (&[u8], Option<(u8, &[u8])>)
     ensures plain { IsPlain result.0.now }

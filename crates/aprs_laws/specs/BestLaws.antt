@@ -1,4 +1,4 @@
--- What holds of what is last known. A property of keys is a test.
+-- What holds of what is last known. Here the property of a key is that it passes a test.
 use Rattle.std.specs.Prelude.{◌≡◌, ℕ, Bool, IsTrue, List, map, Option, None, ◌↔◌}
 use Rattle.aprs_log.specs.Reception.{Received}
 use Rattle.aprs_laws.specs.Lists.{SameMembers}
@@ -21,7 +21,7 @@ abbrev pub PlainIsLastKnown : Type 0
 PlainIsLastKnown =
     (test : Key → Bool) (S : List Received) → LastKnown S (Passes test) (known_of test None S)
 
--- Sets with the same members have one last known reception.
+-- Sets with the same members have the same last known reception, or both have none.
 abbrev pub MembersDecideLastKnown : Type 0
 MembersDecideLastKnown =
     (test : Key → Bool) (S T : List Received) (x y : Option Received) → SameMembers S T

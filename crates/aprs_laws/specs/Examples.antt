@@ -125,7 +125,7 @@ row_at moment = example_row moment (rx1 ∷ []) (by_rx1 moment)
 abbrev pub row_to : ℕ → ℕ → Row
 row_to first last = example_row first (rx1 ∷ []) (by_rx1 last)
 
--- A key with this source and information.
+-- A key from N0CALL with this SSID to N0CALL, with this information.
 abbrev pub key_by : ℕ → List ℕ → Key
 key_by ssid info = record { source = n0call ssid; destination = n0call 0; info = info }
 

@@ -1,4 +1,4 @@
--- The rows after one more reception, as code makes them: at most two rows are looked at.
+-- The rows after one more reception, as code makes them: at most two rows change.
 use Rattle.std.specs.Prelude.{◌≡◌, ℕ, min, List, [], ◌∷◌, Bool, true, false, ◌&&◌, not}
 use Rattle.std.specs.declared.cmp.Ordering.{Ordering}
 use Rattle.aprs_log.specs.Reception.{Received, bytes_cmp}
@@ -30,7 +30,7 @@ insert_heard gap s (r ∷ rows) =
     choose (compare_near_to gap r s) (r ∷ insert_heard gap s rows) (bridge_row gap s (grow_row r s) rows)
     (single s ∷ r ∷ rows)
 
--- Exactly one row is near to s, and lists its receiver: what s changes fits where it is.
+-- Exactly one row is near to s, and it lists the receiver of s: what s changes fits in that row.
 pub record FitsInPlace (gap : ℕ) (rows : List Row) (s : Received) : Type 0 where
   pub row : Row
   pub member : row ∈ rows

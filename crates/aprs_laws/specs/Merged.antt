@@ -13,7 +13,7 @@ ascending_union_from cmp x xs rest [] = x ∷ xs
 ascending_union_from cmp x xs rest (y ∷ ys) =
     choose (cmp x y) (x ∷ rest (y ∷ ys)) (x ∷ rest ys) (y ∷ ascending_union_from cmp x xs rest ys)
 
--- The members of both, each once.
+-- The members of two ascending lists, each once, ascending.
 abbrev pub ascending_union : {X : Type 0} → (X → X → Ordering) → List X → List X → List X
 ascending_union cmp [] ys = ys
 ascending_union cmp (x ∷ xs) ys = ascending_union_from cmp x xs (ascending_union cmp xs) ys

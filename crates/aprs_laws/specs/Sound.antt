@@ -32,7 +32,8 @@ pub record Sound (gap : ℕ) (rows : List Row) : Type 0 where
 abbrev pub FollowsFar : ℕ → Row → Row → Type 0
 FollowsFar gap x last = IsBelow row_cmp last x × IsFar gap last x
 
--- x may follow the rows: it is sound by itself, and comes after the last of them, far from it.
+-- x may follow the rows: it is sound by itself, and, if there are rows, comes after the last of
+-- them, far from it.
 pub record IsNext (gap : ℕ) (rows : List Row) (x : Row) : Type 0 where
   pub own : IsSoundRow x
   pub after : IfLast rows (FollowsFar gap x)

@@ -14,13 +14,13 @@ use Rattle.aprs_laws.specs.JoinRow.{single, IsNear, join_row, merge, plain_book}
 abbrev pub PlainBookIsBook : ℕ → Type 0
 PlainBookIsBook gap = (S : List Received) → BookOf gap S (plain_book gap S)
 
--- One more reception joins the rows as a row of its own does.
+-- A book that one more reception joins, as a row of its own, is the book of the set with it.
 abbrev pub TakesReception : ℕ → Type 0
 TakesReception gap =
     (S : List Received) (s : Received) (p : List Row) → BookOf gap S p
     → BookOf gap (S ++ s ∷ []) (join_row gap p (single s))
 
--- One more reception is inserted as code does it.
+-- A book into which code inserts one more reception is the book of the set with it.
 abbrev pub InsertsReception : ℕ → Type 0
 InsertsReception gap =
     (S : List Received) (s : Received) (p : List Row) → BookOf gap S p

@@ -12,11 +12,11 @@ use Rattle.aprs_laws.specs.JoinRow.{combine, compare_near, merge}
 abbrev pub book_together : ℕ → List Row → List Row
 book_together gap rows = merge gap [] rows
 
--- It is sound.
+-- The book of rows that are each sound by itself is sound.
 abbrev pub BookIsSound : ℕ → Type 0
 BookIsSound gap = (rows : List Row) → AreSoundRows rows → Sound gap (book_together gap rows)
 
--- In another order, or with repeats, rows have the same book.
+-- In another order, or with repeats, such rows have the same book.
 abbrev pub OrderIsFree : ℕ → Type 0
 OrderIsFree gap =
     (p q : List Row) → AreSoundRows p → SameMembers p q
@@ -28,19 +28,19 @@ MoreJoin gap =
     (rows more : List Row)
     → book_together gap (rows ++ more) ≡ merge gap (book_together gap rows) more
 
--- The first two of some rows are one where they are near,
+-- Where the first two of some rows are near, they can be joined first: the book is the same.
 abbrev pub FirstsJoin : ℕ → Type 0
 FirstsJoin gap =
     (first next : Row) (rest : List Row) → compare_near gap first next ≡ Equal
     → book_together gap (first ∷ next ∷ rest) ≡ book_together gap (combine first next ∷ rest)
 
--- which then is sound.
+-- Two near rows that are sound by themselves are one sound row.
 abbrev pub NearIsSound : ℕ → Type 0
 NearIsSound gap =
     (x y : Row) → IsSoundRow x → IsSoundRow y → compare_near gap x y ≡ Equal → IsSoundRow (combine x y)
 
--- Where they are not, and the second comes after the first and no other before the second, the
--- first is the first row of the book, whose others are the book of the rows after it.
+-- The first two rows are not near, the second is sound, and neither comes after a row behind it.
+-- Then the first is the book's first row, and the others are the book of the rows behind it.
 abbrev pub FirstStands : ℕ → Type 0
 FirstStands gap =
     (first next : Row) (rest : List Row) → IsSoundRow next → IsUpTo row_cmp first next

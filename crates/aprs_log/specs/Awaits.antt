@@ -1,6 +1,6 @@
 -- What a reader of a log may still answer, by what it has read so far, and what its device answered
--- last. What that will give isn't known yet: an answer may follow if some rest of the input gives
--- it.
+-- last. What the device will give isn't known yet: answers may follow if some way to read on gives
+-- them.
 use Rattle.std.specs.Prelude.{◌≡◌, ℕ, ◌+◌, List, ◌++◌, Option, None, Some, IfSome}
 use Rattle.aprs_log.specs.LogAnswers.{Answers, answers_from, end_with, Gets}
 use Rattle.aprs_log.specs.declared.fault.LogCause.{LogCause}
@@ -13,8 +13,8 @@ use Rattle.aprs_log.specs.declared.reader.ending.State.{State}
 use Rattle.aprs_log.specs.declared.reader.ending.State.TheVariants.{Reading, Ended, Failed}
 
 -- Answers that may still follow: some text that can be got of the input, and some way in which it
--- ends, yield them. `line` lines were given before, `held` was read of the next ones, `left` bytes
--- may be read yet, and at the last the device has `after`.
+-- ends, yield them. `line` lines were given before, `held` was read of the next ones, and `left`
+-- bytes may be read yet. `after` is what the device has left when the input has ended so.
 pub record Awaited (left line : ℕ) (held input : List ℕ) (after : Option (List ℕ))
     (answers : Answers)
     : Type 0 where
@@ -27,9 +27,9 @@ pub record Awaited (left line : ℕ) (held input : List ℕ) (after : Option (Li
 abbrev pub fault_after : ℕ → LogCause → LogFault
 fault_after line why = record { line = line + 1; cause = why }
 
--- These answers may follow, where the input's bytes are known and the device has `after` at the
--- last. A reader that is reading may answer what some rest of the input yields; one that has
--- stopped reads no more, and its end or its fault is all that follows.
+-- These answers may follow. `known` is what the device has left now, and `after` what it has left
+-- at the end. A reader that is reading may answer what some text got of `known` yields, or anything
+-- where `known` is `None`. One that has stopped reads no more: its end or its fault is all.
 abbrev pub AwaitsIn : State → Option (List ℕ) → Option (List ℕ) → ℕ → ℕ → List ℕ → Answers → Type 0
 AwaitsIn Reading known after left line held answers =
     IfSome known (λ input. Awaited left line held input after answers)

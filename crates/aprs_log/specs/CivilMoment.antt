@@ -17,9 +17,9 @@ pub record IsCivil (civil : Civil) : Type 0 where
   pub minute : civil.minute < 60
   pub second : civil.second < 60
 
--- In this form `text` is the text of the moment m, which is 1,000 times the seconds and the
--- milliseconds of the second; the seconds are 86,400 times the day number of the civil date (0 for
--- 1970-01-01) and the seconds of the day.
+-- In this form `text` is the text of the moment m. m is 1,000 times the seconds, plus the
+-- milliseconds of the second. The seconds are 86,400 times the day number of the civil date (0 for
+-- 1970-01-01), plus the seconds of the day.
 pub record IsMomentTextIn (form : MomentForm) (m : ℕ) (text : List ℕ) : Type 0 where
   pub civil : Civil
   pub millis : ℕ

@@ -40,6 +40,7 @@ pub record IsFractionText (form : MomentForm) (n : ℕ) (text : List ℕ) : Type
   pub below : n < room_of form
   pub spelled : text ≡ fraction_text form n ++ octet "Z" ∷ []
 
--- The form of a text whose seconds these bytes follow: Z alone, or a fraction and Z.
+-- The form of a text whose seconds these bytes follow, by their number alone. One byte is the Z,
+-- and any other number a fraction and the Z.
 abbrev pub form_of_end : List ℕ → MomentForm
 form_of_end end = if length end == 1 then Seconds else Millis

@@ -43,8 +43,8 @@ HasLf bytes = IsTrue (has_byte 10 bytes)
 abbrev pub stop_of : {R : Type 0} → LogReader R → Option (Option LogFault)
 stop_of r = stop_in r.state r.line
 
--- These answers may follow, where the bytes that are left of the input are known, and the device at
--- the last has `end`: some rest of the input yields them.
+-- These answers may follow, where the device has `known` left now and `end` at the end of reading:
+-- some text got of `known` yields them. Where `known` is `None`, a reader that reads may give any.
 abbrev pub Awaits : {R : Type 0} → Option (List ℕ) → Option (List ℕ) → LogReader R → Answers
     → Type 0
 Awaits known end r answers =
@@ -71,7 +71,7 @@ pub record AreAnswersOf (limit : ℕ) (input : List ℕ) (after : Option (List �
   pub gets : Gets limit input after text ending
   pub is : answers ≡ log_answers text ending
 
--- What it answers where it has come to a fault or to the end.
+-- What a reader answers that has come to a fault or to the end.
 abbrev pub answer_of_stop : Option LogFault → Result (Option Line) LogFault
 answer_of_stop None = Ok None
 answer_of_stop (Some fault) = Err fault
@@ -81,7 +81,7 @@ abbrev pub line_kept : Line → Result (Option Line) LogFault → Line
 line_kept before (Ok (Some x)) = x
 line_kept before other = before
 
--- What is answered by whether there is a line, where that line lies in the reader.
+-- The answer of `next`, from that of `advance` and the line that then lies in the reader.
 abbrev pub answer_with : Result Bool LogFault → Line → Result (Option Line) LogFault
 answer_with (Ok true) x = Ok (Some x)
 answer_with (Ok false) x = Ok None

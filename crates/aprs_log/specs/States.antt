@@ -7,7 +7,7 @@ use Rattle.aprs_log.specs.declared.reader.ending.State.TheVariants.{Reading, End
 use Rattle.aprs_log.specs.declared.fault.LogCause.{LogCause}
 use Rattle.aprs_log.specs.declared.fault.LogCause.TheVariants as cause
 
--- No failed allocation stopped it.
+-- In this state no failed allocation stopped the reader.
 abbrev pub KeepsMemory : State → Type 0
 KeepsMemory state = state ≢ Failed cause.Memory
 

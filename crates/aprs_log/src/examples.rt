@@ -19,7 +19,7 @@ pub fn moments_have_texts()
 {}
 
 /// Moments are from 1970 to 2099, on days of the civil calendar, and at times from 00:00:00 to
-/// 23:59:59.999 in UTC. Their texts have two digits for each part, and capitals.
+/// 23:59:59.999 in UTC. Their texts have digits in fixed places, a capital `T`, and `Z` at the end.
 pub fn moments_have_limits()
     ensures first { IsTextOf 0 (codes "1970-01-01T00:00:00Z") }
     ensures last { IsTextOf 4102444799999 (codes "2099-12-31T23:59:59.999Z") }

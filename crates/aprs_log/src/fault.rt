@@ -11,18 +11,18 @@ use aprs_kiss::PassFault;
 pub enum LineFault {
     /// The line has more than 8,192 bytes.
     LongLine,
-    /// The input ends inside a line.
+    /// The input ends inside a line. No call of this crate returns it: a log has a `LogCause`.
     NoNewline,
-    /// No moment stands before the first space.
+    /// The line doesn't begin with a moment and a space.
     Moment,
-    /// No receiver's name stands between the first two spaces.
+    /// No receiver's name and a space follow the first space.
     Receiver,
     /// What stands after the second space isn't an even number of hexadecimal digits.
     Hex,
 }
 
 impl LineFault {
-    /// Its number, from 1.
+    /// Its number, 1 to 5. Takes no memory.
     pub fn number(&self) -> u8
         ensures { result ≡ Spec.line_fault_number self.now }
     {
@@ -35,7 +35,7 @@ impl LineFault {
         }
     }
 
-    /// Its name.
+    /// Its name, as in `NoNewline`. Takes no memory.
     pub fn name(&self) -> &'static str
         ensures { result.now ≡ Spec.line_fault_name self.now }
     {
@@ -56,9 +56,9 @@ pub enum LogCause {
     LongLine,
     /// The input ends inside a line.
     NoNewline,
-    /// No moment stands before a line's first space.
+    /// A line doesn't begin with a moment and a space.
     Moment,
-    /// No receiver's name stands between a line's first two spaces.
+    /// No receiver's name and a space follow a line's first space.
     Receiver,
     /// What stands after a line's second space isn't an even number of hexadecimal digits.
     Hex,
@@ -71,7 +71,7 @@ pub enum LogCause {
 }
 
 impl LogCause {
-    /// Its number, from 1.
+    /// Its number, 1 to 8. Takes no memory.
     pub fn number(&self) -> u8
         ensures { result ≡ Spec.log_cause_number self.now }
     {
@@ -87,7 +87,7 @@ impl LogCause {
         }
     }
 
-    /// Its name.
+    /// Its name, as in `NoNewline`. Takes no memory.
     pub fn name(&self) -> &'static str
         ensures { result.now ≡ Spec.log_cause_name self.now }
     {
@@ -160,7 +160,7 @@ pub enum Reason {
 }
 
 impl Reason {
-    /// Its number, from 1.
+    /// Its number, 1 to 12. Takes no memory.
     pub fn number(&self) -> u8
         ensures { result ≡ Spec.reason_number self.now }
     {
@@ -180,7 +180,7 @@ impl Reason {
         }
     }
 
-    /// Its name.
+    /// Its name, as in `NoFrame`. Takes no memory.
     pub fn name(&self) -> &'static str
         ensures { result.now ≡ Spec.reason_name self.now }
     {

@@ -194,8 +194,9 @@ impl<'a, R: Read> LogReader<'a, R> {
         }
     }
 
-    /// Reads once, where no whole line is held. Stops by setting `state`, where too many bytes for
-    /// a line are held, a read failed, or the input ended or is over the limit.
+    /// Reads once, where no whole line is held. Stops by setting `state`, where the read failed, or
+    /// the input ended or is over the limit. Stops without a read where too many bytes for a line
+    /// are held.
     fn read_on(&mut self)
         requires going { self.old.state ≡ State.Reading }
         requires none { cut_at 10 (items self.old.window) ≡ None }

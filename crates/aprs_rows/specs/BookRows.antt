@@ -12,15 +12,16 @@ use Rattle.aprs_rows.specs.Fronts.{with_names}
 use Rattle.aprs_rows.specs.NameRoom.{GatheredNames}
 use Rattle.aprs_rows.specs.Packed.{room_of}
 
--- Rows that are sound each by itself, and whose names fit in the room.
+-- Rows that are sound each by itself, and whose names fit in the room, where no name is yet.
 pub record AreToCome (gap : ℕ) (rows : List Row) (names : GatheredNames) : Type 0 where
   pub range : IsGap gap
   pub each : AreSoundRows rows
   pub none : names.names ≡ []
   pub fits : room_of rows ≤ names.left
 
--- The row of a first moment, a greatest reception and the names that were gathered comes before
--- none of the rows, and is with them this book.
+-- A row is open: it has this first moment, this greatest reception and the names that were
+-- gathered. It comes after none of the rows, and is with them this book. Each of these rows is
+-- sound by itself.
 pub record IsOpen (gap first : ℕ) (greatest : Row) (names : List (List ℕ)) (rows book : List Row)
     : Type 0 where
   pub each : AreSoundRows (with_names first greatest (union bytes_cmp names []) ∷ rows)

@@ -18,7 +18,7 @@ abbrev pub book_stored : ℕ → List (List Row) → List Row → BookValue
 book_stored gap lists chunk =
     record { gap = gap; rows = book_together (millis_of gap) (all_rows lists chunk) }
 
--- The lists are in order, and each row is sound by itself.
+-- The gap is one that a book can have, the lists are in order, and each row is sound by itself.
 pub record IsStored (gap : ℕ) (lists : List (List Row)) (chunk : List Row) : Type 0 where
   pub range : IsGap gap
   pub ordered : AllByRecursion AreInOrder lists

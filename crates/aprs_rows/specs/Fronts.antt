@@ -20,7 +20,7 @@ pub record Ahead : Type 0 where
   pub first : Row
   pub rest : List Row
 
--- Both together.
+-- All of these rows: the first one, and then the rows after it.
 abbrev pub rows_ahead : Ahead → List Row
 rows_ahead a = a.first ∷ a.rest
 
@@ -32,13 +32,13 @@ all_ahead = flat_map rows_ahead
 abbrev pub ahead_cmp : Ahead → Ahead → Ordering
 ahead_cmp = flip_args (on (λ a. a.first) row_cmp)
 
--- The rows are in order, and each is sound by itself and told.
+-- The rows are in order, and each is sound by itself, with names of receivers and a UI frame.
 pub record IsRun (rows : List Row) : Type 0 where
   pub ordered : AreInOrder rows
   pub each : AreSoundRows rows
   pub told : AllByRecursion IsTold rows
 
--- So are those of each.
+-- The rows of each are a run.
 abbrev pub AreRuns : List Ahead → Type 0
 AreRuns = AllByRecursion (λ a. IsRun (rows_ahead a))
 
@@ -54,12 +54,12 @@ PutsBack rows old new =
     ((rows ≡ []) × IsPermutation old new)
     ⊎ ((a : Ahead) × (rows ≡ rows_ahead a) × IsPermutation (a ∷ old) new)
 
--- The one that stands beside the others, if there is one, and those.
+-- The one that stands beside the others, if there is one, and then the others.
 abbrev pub fronts : Option Ahead → List Ahead → List Ahead
 fronts None others = others
 fronts (Some a) others = a ∷ others
 
--- It comes first of all; where there is none, there are no others.
+-- The one beside the others comes first of all; where there is none, there are no others.
 abbrev pub IsFirst : Option Ahead → List Ahead → Type 0
 IsFirst None others = others ≡ []
 IsFirst (Some a) others = IsUpperBound ahead_cmp a others
@@ -73,7 +73,7 @@ abbrev pub IsAfterTop : Ahead → List Ahead → Type 0
 IsAfterTop a others =
     (top : Ahead) → top ≡ slice_index_or others 0 top → lt_by_cmp ahead_cmp top a ≡ false
 
--- x is the first row of the one beside the others, and those after it are put back.
+-- x is the first row of the one beside the others, and the rows after x are put back.
 abbrev pub TakesFirst : Option Ahead → List Ahead → Row → List Ahead → Type 0
 TakesFirst front others x new =
     (a : Ahead) × (front ≡ Some a) × (x ≡ a.first) × PutsBack a.rest others new
@@ -82,12 +82,12 @@ TakesFirst front others x new =
 abbrev pub with_names : ℕ → Row → List (List ℕ) → Row
 with_names first x names = record { first = first; receivers = names; greatest = x.greatest }
 
--- Whether x is near to that row, whatever its names.
+-- `near` says whether x is near to the row of `with_names`, whatever names that has.
 abbrev pub IsByTest : Bool → ℕ → ℕ → Row → Row → Type 0
 IsByTest near gap first latest x =
     (names : List (List ℕ)) → near ≡ is_eq (compare_near gap (with_names first latest names) x)
 
--- None of the rows is near to it: there is none, or the first of them in order isn't.
+-- There are no rows, or the first of them in order isn't near to the row of `with_names`.
 abbrev pub NoneIsNear : ℕ → ℕ → Row → List Row → Type 0
 NoneIsNear gap first latest rows =
     (rows ≡ []) ⊎ ((x : Row) × (rest : List Row) × IsTakenOut rows x rest

@@ -12,8 +12,8 @@ pub record GatheredNames : Type 0 where
 abbrev pub names_size : List (List ℕ) → ℕ
 names_size = sum_by (λ name. length name + 1)
 
--- They are names, and fit in the room. There is memory for as many names as have half as many bytes
--- as the room, and for as long a text.
+-- They are names, and fit in a room of `room` bytes. There is memory for `count` names, at least
+-- half of `room`, and for a text of `size` bytes, at least `room`.
 pub record HasRoom (names : List (List ℕ)) (count size room : ℕ) : Type 0 where
   pub each : All IsName names
   pub within : names_size names ≤ room

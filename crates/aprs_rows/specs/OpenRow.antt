@@ -4,7 +4,8 @@ use Rattle.std.specs.Ordering.{is_eq}
 use Rattle.aprs_laws.specs.JoinRow.{combine, compare_near}
 use Rattle.aprs_laws.specs.Row.{Row}
 
--- The next row is near to the open one, and joins it; or it isn't near, and nothing changes.
+-- At `true` the next row is near to the open one, and joins it. At `false` it isn't near, or no row
+-- is open, and nothing changes.
 abbrev pub JoinsOrNot : Bool → ℕ → List Row → Row → List Row → Type 0
 JoinsOrNot true gap old next new =
     (own : Row) × (old ≡ own ∷ []) × (is_eq (compare_near gap own next) ≡ true)

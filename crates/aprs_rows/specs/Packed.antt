@@ -49,11 +49,11 @@ AreMarks [] bytes = bytes ≡ []
 AreMarks (m ∷ ms) bytes =
     IsMarked m (take (mark_size m) bytes) × AreMarks ms (drop (mark_size m) bytes)
 
--- The names of the row's receivers, with commas between, have fewer bytes than a mark can say.
+-- The names of the row's receivers, with commas between, have no more bytes than a mark can say.
 abbrev pub IsShort : Row → Type 0
 IsShort x = length (join_with_byte 44 x.receivers) < 4294967296
 
--- So have those of each row.
+-- Each of the rows is short, as `IsShort` says.
 abbrev pub AreShort : List Row → Type 0
 AreShort rows = (x : Row) → x ∈ rows → IsShort x
 
@@ -61,6 +61,6 @@ AreShort rows = (x : Row) → x ∈ rows → IsShort x
 abbrev pub row_room : Row → ℕ
 row_room x = length (join_with_byte 44 x.receivers) + 1
 
--- And those of all rows.
+-- How many bytes the names of all rows' receivers have, with a comma after each.
 abbrev pub room_of : List Row → ℕ
 room_of = sum_by row_room

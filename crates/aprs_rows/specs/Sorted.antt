@@ -13,7 +13,7 @@ abbrev pub further : List ℕ → List (List ℕ) → List ℕ
 further before [] = []
 further before (n ∷ names) = next_text before n ++ further n names
 
--- What comes after the first of the names.
+-- The text that follows the first of the names.
 abbrev pub after_first : List (List ℕ) → List ℕ
 after_first [] = []
 after_first (n ∷ names) = further n names

@@ -23,8 +23,8 @@ pub fn joins_take_both()
     ensures misses_start { FoldsTo IsGreaterOf (by_rx1 30001) (early ∷ []) early → ⊥ }
 {}
 
-/// Two books whose rows are near are joined to one row: neither the rows of one book alone, nor
-/// those of both side by side.
+/// Two books whose rows are near are joined to one row, and not to both rows side by side. Where
+/// the rows are far, those of one book alone aren't the joined book.
 #[tactic(auto, unfolding(crate::specs::Key::key_of, crate::specs::Key::key_cmp))]
 pub fn joined_books_are_books()
     ensures joined { Joined half_minute (early_row ∷ []) (close_row ∷ []) (near_row ∷ []) }

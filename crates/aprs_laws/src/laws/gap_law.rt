@@ -15,7 +15,7 @@ pub fn gaps_can_be_widened()
     ensures joined { Spec.WidensJoined }
 {}
 
-/// A book under a gap that is not less holds the set that it held before, and widening the join of
+/// A book that is widened to a gap that is not less still holds the same set. Widening the join of
 /// two books is joining the widened books.
 pub fn books_can_be_widened()
     ensures holds { WidenedHolds }

@@ -12,7 +12,7 @@ pub fn one_more_joins()
     ensures plain { (gap : ℕ) → Spec.PlainBookIsBook gap }
 {}
 
-/// Code looks at two rows at most: what it makes of a book and one more reception is the book of
+/// Code changes two rows at most: what it makes of a book and one more reception is the book of
 /// the union. A reception that fits in place passes the code's test for that.
 pub fn reception_is_inserted()
     ensures book { (gap : ℕ) → Spec.InsertsReception gap }
@@ -38,16 +38,17 @@ pub fn steps_give_books()
     ensures equal { (gap : ℕ) → Spec.SameTakenSameRows gap }
 {}
 
-/// Rows that are sound each by itself are together one book, whatever their order, which more rows
-/// join.
+/// Rows that are each sound by itself are together one sound book, in any order and with any
+/// repeats. Rows that come after them join that book.
 pub fn rows_are_one_book()
     ensures sound { (gap : ℕ) → 0 < gap → Together.BookIsSound gap }
     ensures order { (gap : ℕ) → 0 < gap → Together.OrderIsFree gap }
     ensures more { (gap : ℕ) → Together.MoreJoin gap }
 {}
 
-/// The rows of that book come one by one: of rows that are taken in order, the first two are one
-/// where they are near, and otherwise the first is the first row of the book.
+/// The rows of the book that rows are together, as in `rows_are_one_book`, come one by one. Where
+/// the first two rows are near, they are one, which is sound if both are. Where they aren't, and
+/// the rows are in order, the first is the first row of the book.
 pub fn book_comes_row_by_row()
     ensures joined { (gap : ℕ) → Together.FirstsJoin gap }
     ensures sound { (gap : ℕ) → 0 < gap → Together.NearIsSound gap }

@@ -11,9 +11,9 @@ const MAX_BYTES: usize = 4096;
 pub struct LineBuffers {
     /// The bytes that the receiver gave.
     pub bytes: [u8; MAX_BYTES],
-    /// The frame in them.
+    /// The reader of the frame in these bytes, which then lies in it.
     pub kiss: KissReader,
-    /// The day of the line before.
+    /// The reader of moments, which keeps the date of the line before.
     pub clock: Clock,
 }
 

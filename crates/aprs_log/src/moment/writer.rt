@@ -16,9 +16,9 @@ const MILLIS_TIME_LEN: usize = MILLIS_LEN - DATE_LEN;
 #[derive(Drop)]
 pub struct MomentWriter {
     text: [u8; MILLIS_LEN],
-    /// In milliseconds since 1970-01-01T00:00:00Z.
+    /// The first moment of the day, in milliseconds since 1970-01-01T00:00:00Z.
     midnight: u64,
-    /// The milliseconds since then.
+    /// The milliseconds from `midnight` to the moment whose text is kept.
     time: u64,
     ghost writes: { text ≡ moment_text (midnight + time) },
     ghost starts: { midnight % 86400000 ≡ 0 },

@@ -71,8 +71,8 @@ impl<A: Allocator + Copy> Receivers<A> {
         }
     }
 
-    /// The names of both lists, ascending and each once; the two lists stay as they are. For the
-    /// crates of this repository.
+    /// The names of both lists, ascending and each once, or `Memory` where that is refused. The two
+    /// lists stay as they are. For the crates of this repository.
     pub fn unite(&self, other: &Receivers<A>) -> Result<Receivers<A>, Memory>
         ensures union { IfOk result (λ both. both ≡ union bytes_cmp self.now other.now) }
         ensures joined { IfOk result (IsUnited bytes_cmp self.now other.now) }
@@ -89,7 +89,8 @@ impl<A: Allocator + Copy> Receivers<A> {
         })
     }
 
-    /// These names, which have to ascend strictly. For the crates of this repository.
+    /// These names, which have to ascend strictly, or `Memory` where that is refused. For the
+    /// crates of this repository.
     pub fn of_ascending(alloc: A, ascending: &[Receiver]) -> Result<Receivers<A>, Memory>
         requires { Ordered (IsBelow bytes_cmp) ascending.now }
         ensures { IfOk result (λ names. names ≡ ascending.now) }
@@ -107,8 +108,8 @@ impl<A: Allocator + Copy> Receivers<A> {
         })
     }
 
-    /// The receivers of a row, which have to ascend strictly, in memory of their own. For the
-    /// crates of this repository.
+    /// The receivers of a row, which have to ascend strictly, in memory of their own, or `Memory`
+    /// where that is refused. For the crates of this repository.
     pub fn of_row(alloc: A, row: &RowView<'_>) -> Result<Receivers<A>, Memory>
         requires { Ordered (IsBelow bytes_cmp) row.now.receivers }
         ensures { IfOk result (λ names. names ≡ row.now.receivers) }
@@ -124,7 +125,8 @@ impl<A: Allocator + Copy> Receivers<A> {
         })
     }
 
-    /// A copy of the names, in memory from the same allocator. For the crates of this repository.
+    /// A copy of the names, in memory from the same allocator, or `Memory` where that is refused.
+    /// For the crates of this repository.
     pub fn duplicate(&self) -> Result<Receivers<A>, Memory>
         ensures { IfOk result (λ copy. copy ≡ self.now) }
     {
@@ -146,7 +148,7 @@ impl<A: Allocator + Copy> Join for Receivers<A> {
         true
     }
 
-    /// The names of both, ascending, each once.
+    /// The names of both, ascending, each once, or `Memory` where that is refused.
     fn join(&self, other: &Receivers<A>) -> Result<Receivers<A>, Memory> {
         self.unite(other)
     }

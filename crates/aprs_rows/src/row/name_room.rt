@@ -49,7 +49,8 @@ impl<'a, A: Allocator + Copy> NameRoom<'a, A> {
         Ok(NameRoom { names, text, room })
     }
 
-    /// How many bytes of the room are left, where there are no names.
+    /// How many bytes of the room are left, and those of the names that were gathered: at least
+    /// what is left.
     pub(crate) fn left(&self) -> usize
         ensures { self.now.left ≤ result }
     {
@@ -73,7 +74,7 @@ impl<'a, A: Allocator + Copy> NameRoom<'a, A> {
     }
 
     /// A text of the names, each once and ascending, with commas between. It stays in the room.
-    /// Afterwards there are no names.
+    /// Afterwards there are no names. Requires that there is a name.
     pub(crate) fn unite(&mut self) -> &'a [u8]
         requires { self.old.names ≢ [] }
         ensures text { names_in result.now ≡ union bytes_cmp self.old.names [] }

@@ -42,7 +42,8 @@ impl<'a, A: Allocator> Model for BookRows<'a, A> {
 
 impl<'a, A: Allocator + Copy> BookRows<'a, A> {
     /// The rows of the book, under this gap, of the merger's rows. Takes all memory that the walk
-    /// needs beside the room, in which the names of all receivers have to fit.
+    /// needs beside the room. The names of all receivers, with a comma after each, have to fit in
+    /// the room.
     pub(crate) fn new(
         alloc: A,
         gap: Gap,
@@ -69,7 +70,7 @@ impl<'a, A: Allocator + Copy> BookRows<'a, A> {
         self.gap
     }
 
-    /// A number of rows of which no more come. Takes no memory.
+    /// At least as many as rows still come. Takes no memory.
     pub fn most_rows(&self) -> usize
         ensures { length self.now.rows ≤ result }
     {

@@ -132,7 +132,8 @@ impl<A: Allocator + Copy> BookStore<A> {
     }
 }
 
-/// Sorts the chunk and puts it to the lists that are sorted. Then it has no rows.
+/// Sorts the rows of the chunk and puts them to the lists that are sorted; then the chunk has no
+/// rows. After `Memory` all rows are there still.
 fn close<A: Allocator + Copy>(
     sorted: &mut Vec<PackedRows<A>, A>,
     chunk: &mut PackedRows<A>,

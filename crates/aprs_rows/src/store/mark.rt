@@ -4,8 +4,9 @@ ghost use Rattle.aprs_rows.specs.Packed.{mark_size};
 
 use aprs_log::Moment;
 
-/// The first and the last moment of a row, how many bytes the text of its receivers, the greatest
-/// reception's frame and its receiver's name have, and those of that frame before its information.
+/// The first and the last moment of a row, and four numbers of bytes. These are of the text of its
+/// receivers, of the greatest reception's frame and receiver's name, and of that frame before its
+/// information.
 #[derive(Clone, Copy)]
 pub(crate) struct Mark {
     pub first: Moment,

@@ -54,8 +54,8 @@ impl<'a, A: Allocator + Copy> Merger<'a, A> {
         }
     }
 
-    /// Adds rows, which have to be in order and sound each by itself. After `Memory` the rows are
-    /// as before.
+    /// Adds rows, which have to be in order and sound each by itself, with names of receivers and
+    /// UI frames. After `Memory` the rows are as before.
     pub(crate) fn add(&mut self, rows: Unpacked<'a>) -> Result<(), Memory>
         requires { IsRun rows }
         ensures members { OnOk result (SameMembers (rows.entry ++ self.old) self.new) }
@@ -71,7 +71,7 @@ impl<'a, A: Allocator + Copy> Merger<'a, A> {
         Ok(())
     }
 
-    /// Each row that is still to come is told. Does nothing.
+    /// Each row that is still to come has names of receivers and a UI frame. Does nothing.
     pub(crate) fn told(&self)
         ensures { All IsTold self.now }
     {

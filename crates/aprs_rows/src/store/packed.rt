@@ -17,8 +17,8 @@ use aprs_log::{Reception, ReceptionRef};
 use std::alloc::{Allocator, Global};
 use std::marker::Model;
 
-/// Rows in the order in which they came, in few bytes: 24 for each, the names of its receivers and
-/// its frame.
+/// Rows in the order in which they came, in few bytes. Each has 24, the names of its receivers, and
+/// the receiver's name and the frame of its greatest reception.
 pub struct PackedRows<A: Allocator = Global> {
     alloc: A,
     marks: Vec<Mark, A>,

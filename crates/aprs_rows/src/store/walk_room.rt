@@ -3,7 +3,7 @@
 use crate::store::packed::PackedRows;
 use std::alloc::{Allocator, Global};
 
-/// Memory for a walk over the rows of a store. It is taken anew by each walk.
+/// Memory for a walk over the rows of a store. Each walk writes over what is in it.
 #[derive(Drop)]
 pub struct WalkRoom<A: Allocator = Global> {
     /// The rows of the store that weren't sorted, in order.
