@@ -136,7 +136,8 @@ altitude_in field unit = if bytes_eq unit (codes "M") then metres_of field else 
 
 -- ---- sentences
 
--- GGA: time, place, quality, satellites, dilution, altitude and its unit.
+-- The fix that GGA tells: time, place, quality, satellites, dilution, altitude and its unit. There
+-- is one where the quality is a digit above 0.
 unfoldable pub gga_of : List ℕ → Option Fix
 gga_of text = do
   time ← cut_at (octet ",") text
@@ -153,7 +154,7 @@ gga_of text = do
     altitude = altitude_in altitude.before (next_field altitude.after);
   })
 
--- GLL: place, time and whether it is valid.
+-- The fix that GLL tells: place, time and whether it is valid. There is one where it is.
 unfoldable pub gll_of : List ℕ → Option Fix
 gll_of text = do
   place ← place_at text
@@ -166,7 +167,8 @@ gll_of text = do
     altitude = None;
   })
 
--- RMC: time, whether it is valid, place, speed and course.
+-- The fix that RMC tells: time, whether it is valid, place, speed and course. There is one where it
+-- is valid.
 unfoldable pub rmc_of : List ℕ → Option Fix
 rmc_of text = do
   time ← cut_at (octet ",") text

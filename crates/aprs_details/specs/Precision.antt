@@ -37,8 +37,8 @@ scaled_digit NinetyFirsts b = ninety_first_of b
 abbrev pub are_marks : List ℕ → Bool
 are_marks field = slice_index field 0 == octet "!" && slice_index field 4 == octet "!"
 
--- The digits that five bytes say: an exclamation mark, the letter of a datum, a digit of the
--- latitude, a digit of the longitude, and an exclamation mark.
+-- The digits that five bytes say. The bytes are an exclamation mark, the letter of a datum, a digit
+-- of the latitude, a digit of the longitude, and an exclamation mark.
 unfoldable pub precision_in : List ℕ → Option Precision
 precision_in field = do
   scale ← scale_of (slice_index field 1)

@@ -35,7 +35,8 @@ pub data IsNextTone (tone rest text : List ℕ) : Type 0 where
   untoned : ((word later : List ℕ) → BeginsWithWord word later text → is_tone word ≡ true → ⊥) →
       tone ≡ [] → rest ≡ text → IsNextTone tone rest text
 
--- The text begins with a word that says this offset, or none; or with no word.
+-- The text begins with a space and a word, and `offset` is what the word says, if it says one. Or
+-- it begins with no word, and then there is no offset.
 pub data IsNextOffset (offset : Option ℤ) (text : List ℕ) : Type 0 where
   worded : (word rest : List ℕ) → BeginsWithWord word rest text → offset_of word ≡ offset →
       IsNextOffset offset text

@@ -255,7 +255,8 @@ fn altitude(field: &[u8], unit: &[u8]) -> Option<i64>
     }
 }
 
-/// What GGA tells after its name.
+/// The fix that GGA tells, from the fields after its name. `None` where its quality isn't a digit
+/// above 0, or where its place isn't of its form or a field before the unit is missing.
 #[tactic(auto, unfolding(crate::specs::Nmea::gga_of))]
 fn gga(text: &[u8]) -> Option<Fix>
     ensures { result ≡ Spec.gga_of text.now }
@@ -279,7 +280,8 @@ fn gga(text: &[u8]) -> Option<Fix>
     }
 }
 
-/// What GLL tells after its name.
+/// The fix that GLL tells, from the fields after its name. `None` where it isn't valid, or where
+/// its place isn't of its form.
 #[tactic(auto, unfolding(crate::specs::Nmea::gll_of))]
 fn gll(text: &[u8]) -> Option<Fix>
     ensures { result ≡ Spec.gll_of text.now }
@@ -299,7 +301,8 @@ fn gll(text: &[u8]) -> Option<Fix>
     }
 }
 
-/// What RMC tells after its name.
+/// The fix that RMC tells, from the fields after its name. `None` where it isn't valid, or where
+/// its place isn't of its form or no comma follows the speed.
 #[tactic(auto, unfolding(crate::specs::Nmea::rmc_of))]
 fn rmc(text: &[u8]) -> Option<Fix>
     ensures { result ≡ Spec.rmc_of text.now }
@@ -321,7 +324,8 @@ fn rmc(text: &[u8]) -> Option<Fix>
     }
 }
 
-/// What the sentence of this name tells in these fields.
+/// The fix that the sentence of this name tells in these fields. `None` for any name but `GPGGA`,
+/// `GPGLL` and `GPRMC`.
 fn fix_named(name: &[u8], fields: &[u8]) -> Option<Fix>
     ensures { result ≡ Spec.fix_named name.now fields.now }
 {

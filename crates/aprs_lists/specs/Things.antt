@@ -25,8 +25,8 @@ thing_columns = codes "kind" ∷ codes "name" ∷ codes "state" ∷ codes "last"
     ∷ codes "source" ∷ codes "stamp" ∷ codes "latitude" ∷ codes "longitude" ∷ codes "ambiguity"
     ∷ codes "compressed" ∷ codes "symbol" ∷ codes "text" ∷ []
 
--- Where a report places something, and its text: time stamp, degrees north and east, how many
--- digits are left out, whether it is compressed, symbol and comment.
+-- Where a report places something, and its text. The fields are time stamp, degrees north and east,
+-- how many digits are left out, whether the place is compressed, symbol and comment.
 abbrev pub placed_fields : Option Stamp → Place → Symbol → List ℕ → List (List ℕ)
 placed_fields stamp place symbol text = stamp_field stamp ∷ latitude_field (Some place)
     ∷ longitude_field (Some place) ∷ ambiguity_field (Some place) ∷ compressed_field (Some place)
