@@ -122,7 +122,7 @@ impl Frame {
     }
 
     /// The frame whose bytes these are. Requires that they are those of a frame, as `bytes` gives
-    /// them; of any others `read` tells. Takes no memory.
+    /// them. Where they may be none, call `read`. Takes no memory.
     pub fn from_bytes(bytes: &[u8]) -> Frame
         requires { FrameOf (parts_of bytes.now) bytes.now }
         ensures { result ≡ bytes.now }

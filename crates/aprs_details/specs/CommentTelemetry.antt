@@ -14,7 +14,8 @@ digit_pair text = do
   n ← numeral_of 91 33 digits.0
   Some (n, digits.1)
 
--- The next number, if any bytes are left, and the rest.
+-- The next number, if any bytes are left, and the rest. None where the bytes that are left don't
+-- begin with a number.
 abbrev pub next_number : List ℕ → Option (Option ℕ × List ℕ)
 next_number [] = Some (None, [])
 next_number (b ∷ bs) = digit_pair (b ∷ bs) >>= λ x. Some (Some x.0, x.1)
@@ -25,10 +26,12 @@ eight_bits n =
     (48 + n % 2) ∷ (48 + n / 2 % 2) ∷ (48 + n / 4 % 2) ∷ (48 + n / 8 % 2) ∷ (48 + n / 16 % 2)
     ∷ (48 + n / 32 % 2) ∷ (48 + n / 64 % 2) ∷ (48 + n / 128 % 2) ∷ []
 
+-- The eight bits of a number, if there is one.
 abbrev pub bits_of : Option ℕ → Option (List ℕ)
 bits_of bits = bits >>= λ n. Some (eight_bits n)
 
--- What stands between the bars.
+-- The telemetry whose numbers the text is, as they stand between two bars. None where the text is
+-- anything else.
 unfoldable pub numbers_in : List ℕ → Option CommentTelemetry
 numbers_in text = do
   sequence ← digit_pair text
@@ -52,13 +55,13 @@ numbers_in text = do
 abbrev pub is_bar : ℕ → Bool
 is_bar b = b == octet "|"
 
--- What stands at the start of the text, between a bar and the next.
+-- The telemetry with which the text begins, between a bar and the next.
 unfoldable pub telemetry_at : List ℕ → Option CommentTelemetry
 telemetry_at text = do
   bar ← byte_where is_bar text
   parts ← cut_at (octet "|") bar.1
   numbers_in parts.before
 
--- What stands first in the comment.
+-- The first telemetry in the comment, which may stand anywhere in it.
 abbrev pub comment_telemetry_of : List ℕ → Option CommentTelemetry
 comment_telemetry_of comment = first_in telemetry_at comment

@@ -30,7 +30,7 @@ is_megahertz unit =
     slice_index unit 0 == octet "M" && slice_index unit 1 == octet "H"
     && slice_index unit 2 == octet "z"
 
--- Two digits and a space, which are tens.
+-- The kilohertz of two digits and a space, in which the digits are tens.
 abbrev pub tens_of : List ℕ → Option ℕ
 tens_of places =
     if is_space (slice_index places 2)
@@ -71,15 +71,17 @@ is_tone_letter b = b == octet "T" || b == octet "C" || b == octet "D"
 abbrev pub is_tone : List ℕ → Bool
 is_tone word = is_tone_letter (slice_index word 0) && list_all is_digit (drop 1 word)
 
--- The tone in a word, and what follows it; or nothing, and the text, where no tone stands there.
+-- The tone that a word is, and what follows it; or nothing, and the text, where there is no word or
+-- it is no tone.
 abbrev pub tone_in : List ℕ → Option (List ℕ × List ℕ) → List ℕ × List ℕ
 tone_in text None = ([], text)
 tone_in text (Some x) = if is_tone x.0 then (x.0, x.1) else ([], text)
 
+-- The tone after a space with which the text begins, and what follows it; or nothing, and the text.
 abbrev pub tone_at : List ℕ → List ℕ × List ℕ
 tone_at text = tone_in text (word_at text)
 
--- How far a repeater's input is from the frequency in kilohertz: a sign and three digits of tens.
+-- How far above the frequency a repeater listens, in kilohertz: a sign and three digits of tens.
 abbrev pub offset_of : List ℕ → Option ℤ
 offset_of word =
     if slice_index word 0 == octet "+"
@@ -88,10 +90,11 @@ offset_of word =
     then (numeral_of 10 48 (drop 1 word) >>= λ n. Some (neg_ℤ (pos (n * 10))))
     else None
 
+-- The offset after a space with which the text begins.
 abbrev pub offset_at : List ℕ → Option ℤ
 offset_at text = word_at text >>= λ x. offset_of x.0
 
--- The frequency with which the text begins, and after it perhaps a tone and an offset.
+-- A frequency in kilohertz, with the tone and the offset that may follow it in these bytes.
 abbrev pub tuned_after : ℕ × List ℕ → Tuned
 tuned_after x = record {
   khz = x.0;
@@ -99,6 +102,7 @@ tuned_after x = record {
   offset = offset_at (tone_at x.1).1;
 }
 
+-- The frequency with which the text begins, and after it perhaps a tone and an offset.
 unfoldable pub tuned_at : List ℕ → Option Tuned
 tuned_at text = khz_at text >>= λ x. Some (tuned_after x)
 
@@ -128,11 +132,12 @@ extended comment = after_extension comment >>= tuned_at
 unfoldable pub frequency_of : List ℕ → Option Tuned
 frequency_of comment = or_tuned (tuned_at comment) (extended comment)
 
--- What follows an altitude xxx} with which the text begins; or the text, where it doesn't.
+-- What follows the first four bytes, if they are an altitude xxx}; otherwise the text.
 abbrev pub after_altitude_in : List ℕ → Option (List ℕ × List ℕ) → List ℕ
 after_altitude_in text None = text
 after_altitude_in text (Some x) = if is_some (base91_at x.0) then x.1 else text
 
+-- What follows an altitude xxx} with which the text begins; or the text, where it doesn't.
 abbrev pub after_altitude : List ℕ → List ℕ
 after_altitude text = after_altitude_in text (chunk_of 4 text)
 

@@ -1,5 +1,5 @@
--- The fix that a sentence of a GPS receiver tells (APRS Protocol Reference 1.0.1, chapter 6; NMEA 0183
--- version 2.0): GGA, GLL and RMC.
+-- The fix that a sentence of a GPS receiver tells (APRS Protocol Reference 1.0.1, chapter 6; NMEA
+-- 0183 version 2.0): GGA, GLL and RMC.
 use Rattle.std.specs.Prelude.{ℕ, ℤ, ◌+◌, ◌*◌, ◌-◌, ◌^◌, Bool, false, true, ◌==◌, ◌&&◌, nat_le, nat_lt, if◌then◌else◌, List, [], ◌∷◌, length, slice_index, Option, None, Some, codes}
 use Rattle.std.specs.Int.Bits.{bit_xor}
 use Rattle.std.specs.List.{fold}
@@ -22,16 +22,17 @@ abbrev pub digits_of : List ℕ → Option ℕ
 digits_of text =
     if nat_le 1 (length text) && nat_le (length text) 6 then numeral_of 10 48 text else None
 
--- The digits after a point in millionths.
+-- The digits after a point, one to six, in millionths.
 abbrev pub millionths_of : List ℕ → Option ℕ
 millionths_of digits = digits_of digits >>= λ n. Some (n * 10 ^ (6 - length digits))
 
--- A number in millionths: digits, and perhaps a point and digits.
+-- A number in millionths: one to six digits, and perhaps a point and one to six digits.
 abbrev pub number_in : List ℕ → Option Cut → Option ℕ
 number_in text None = digits_of text >>= λ n. Some (n * 1000000)
 number_in text (Some x) =
     digits_of x.before >>= λ n. (millionths_of x.after >>= λ more. Some (n * 1000000 + more))
 
+-- The number that the text is, in millionths.
 abbrev pub number_in_millionths : List ℕ → Option ℕ
 number_in_millionths text = number_in text (cut_at (octet ".") text)
 
@@ -50,7 +51,8 @@ sent_minutes text = do
   more ← after_point digits.1
   value_when (nat_lt whole 60) (whole * 1000000 + more)
 
--- Whether a letter names the negative half of the globe, or None where it names neither.
+-- Whether the letter that a field is names the negative half of the globe. None where it names
+-- neither half.
 abbrev pub sent_half : (positive negative : ℕ) → List ℕ → Option Bool
 sent_half positive negative [] = None
 sent_half positive negative (b ∷ []) = if b == positive then Some false else value_when (b == negative) true
@@ -60,7 +62,8 @@ sent_half positive negative (b ∷ c ∷ more) = None
 abbrev pub whole_angle : (degrees minutes : ℕ) → ℕ
 whole_angle degrees minutes = degrees * 60000000 + minutes
 
--- The angle in ten-millionths of a degree, nearest: six millionths of a minute each.
+-- The angle in ten-millionths of a degree, nearest: each is six millionths of a minute. None where
+-- it is over `limit` degrees.
 unfoldable pub sent_angle : (limit positive negative : ℕ) → (degree_text minute_text half : List ℕ) → Option ℤ
 sent_angle limit positive negative degree_text minute_text half = do
   degrees ← numeral_of 10 48 degree_text
@@ -83,7 +86,7 @@ sent_longitude field half = do
 
 -- ---- fields, with a comma between two
 
--- The field at the start of the text.
+-- The field at the start of the text, up to a comma, or all of it without one.
 abbrev pub next_field : List ℕ → List ℕ
 next_field text = (cut_or_all text (cut_at (octet ",") text)).before
 
@@ -133,7 +136,8 @@ altitude_in field unit = if bytes_eq unit (codes "M") then metres_of field else 
 
 -- ---- sentences
 
--- GGA: time, place, quality, satellites, dilution, altitude and its unit.
+-- The fix that GGA tells: time, place, quality, satellites, dilution, altitude and its unit. There
+-- is one where the quality is a digit above 0.
 unfoldable pub gga_of : List ℕ → Option Fix
 gga_of text = do
   time ← cut_at (octet ",") text
@@ -150,7 +154,7 @@ gga_of text = do
     altitude = altitude_in altitude.before (next_field altitude.after);
   })
 
--- GLL: place, time and whether it is valid.
+-- The fix that GLL tells: place, time and whether it is valid. There is one where it is.
 unfoldable pub gll_of : List ℕ → Option Fix
 gll_of text = do
   place ← place_at text
@@ -163,7 +167,8 @@ gll_of text = do
     altitude = None;
   })
 
--- RMC: time, whether it is valid, place, speed and course.
+-- The fix that RMC tells: time, whether it is valid, place, speed and course. There is one where it
+-- is valid.
 unfoldable pub rmc_of : List ℕ → Option Fix
 rmc_of text = do
   time ← cut_at (octet ",") text
@@ -190,7 +195,7 @@ fix_named name fields = if bytes_eq name (codes "GPGGA") then gga_of fields
 abbrev pub checksum_of : List ℕ → ℕ
 checksum_of bytes = fold bit_xor 0 bytes
 
--- The checksum that two hexadecimal digits are.
+-- The checksum with which the text begins, two hexadecimal digits.
 unfoldable pub checksum_at : List ℕ → Option ℕ
 checksum_at text = do
   digits ← chunk_of 2 text
@@ -198,12 +203,14 @@ checksum_at text = do
   low ← hex_digit_value (slice_index digits.0 1)
   Some (high * 16 + low)
 
--- What stands before a star, after which its checksum follows; or all, without a star.
+-- What stands before the first star, if its checksum follows this; all of the text without a star.
+-- None where a checksum is wrong or missing after a star.
 abbrev pub checked_in : List ℕ → Option Cut → Option (List ℕ)
 checked_in text None = Some text
 checked_in text (Some x) =
     checksum_at x.after >>= λ sum. value_when (sum == checksum_of x.before) x.before
 
+-- The sentence in the text, if its checksum is right or it has no star.
 abbrev pub checked : List ℕ → Option (List ℕ)
 checked text = checked_in text (cut_at (octet "*") text)
 
@@ -211,7 +218,7 @@ checked text = checked_in text (cut_at (octet "*") text)
 abbrev pub is_dollar : ℕ → Bool
 is_dollar b = b == octet "$"
 
--- The fix that a field tells: a dollar, and a sentence, its name and a comma first.
+-- The fix that a field tells: a dollar, and a sentence that begins with its name and a comma.
 unfoldable pub fix_of : List ℕ → Option Fix
 fix_of info = do
   dollar ← byte_where is_dollar info

@@ -14,7 +14,8 @@ use Rattle.aprs_details.specs.declared.precision.Precision.{Precision}
 
 -- ---- the bytes
 
--- The letter of the datum WGS 84: the digits are decimal after W, and of base 91 after w.
+-- The letter of the datum WGS 84: the digits are decimal after W, and of base 91 after w. None for
+-- any other datum.
 abbrev pub scale_of : ℕ → Option Scale
 scale_of datum =
     if datum == octet "W" then Some Tenths else value_when (datum == octet "w") NinetyFirsts
@@ -27,6 +28,7 @@ tenth_of b = if is_space b then Some 0 else value_when (is_digit b) (b - 48)
 abbrev pub ninety_first_of : ℕ → Option ℕ
 ninety_first_of b = if is_space b then Some 0 else value_when (is_base91 b) (b - 33)
 
+-- The number of a digit of this scale; a space is 0.
 abbrev pub scaled_digit : Scale → ℕ → Option ℕ
 scaled_digit Tenths b = tenth_of b
 scaled_digit NinetyFirsts b = ninety_first_of b
@@ -35,8 +37,8 @@ scaled_digit NinetyFirsts b = ninety_first_of b
 abbrev pub are_marks : List ℕ → Bool
 are_marks field = slice_index field 0 == octet "!" && slice_index field 4 == octet "!"
 
--- An exclamation mark, the letter of a datum, a digit of the latitude, a digit of the longitude, and
--- an exclamation mark.
+-- The digits that five bytes say. The bytes are an exclamation mark, the letter of a datum, a digit
+-- of the latitude, a digit of the longitude, and an exclamation mark.
 unfoldable pub precision_in : List ℕ → Option Precision
 precision_in field = do
   scale ← scale_of (slice_index field 1)
@@ -48,18 +50,18 @@ precision_in field = do
     longitude = longitude;
   })
 
--- What stands at the start of the text.
+-- The digits that the first five bytes of the text say.
 unfoldable pub precision_at : List ℕ → Option Precision
 precision_at text = chunk_of 5 text >>= λ field. precision_in field.0
 
--- What stands first in the comment.
+-- The first further digits in the comment, which may stand anywhere in it.
 abbrev pub precision_of : List ℕ → Option Precision
 precision_of comment = first_in precision_at comment
 
 -- ---- the finer position
 
--- An angle of hundredths of a minute with so many parts of one more, away from 0: as many parts make
--- a degree.
+-- An angle of hundredths of a minute, counted in smaller parts: a hundredth has `parts` of them.
+-- `more` of them are added, away from 0.
 abbrev pub finer : (parts more : ℕ) → ℤ → ℤ
 finer parts more angle =
     if int_lt angle (pos 0)
@@ -71,8 +73,8 @@ abbrev pub finer_angle : Scale → (more : ℕ) → ℤ → Fraction
 finer_angle Tenths more angle = record { numerator = finer 10 more angle; denominator = pos 60000 }
 finer_angle NinetyFirsts more angle = record { numerator = finer 91 more angle; denominator = pos 546000 }
 
--- The latitude and the longitude in degrees with the digits more, of a plain place of which no digits
--- are left out.
+-- The latitude and the longitude in degrees with one digit more. There is none where the place is
+-- compressed, or where digits of it are left out.
 abbrev pub finer_place : Precision → Place → Option (Fraction × Fraction)
 finer_place x (Plain lat lon ambiguity) =
     value_when (ambiguity == 0) (finer_angle x.scale x.latitude lat, finer_angle x.scale x.longitude lon)

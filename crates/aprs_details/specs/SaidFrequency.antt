@@ -11,7 +11,7 @@ pub data IsThousandths (n : ℕ) (places : List ℕ) : Type 0 where
       places ≡ tens ++ codes " " → IsThousandths n places
 
 -- The text begins with so many kilohertz: three digits of megahertz, a point, the places after it,
--- and MHz; and this follows.
+-- and MHz; and `rest` follows.
 pub record BeginsWithKilohertz (khz : ℕ) (rest text : List ℕ) : Type 0 where
   pub megahertz : List ℕ
   pub places : List ℕ
@@ -23,25 +23,27 @@ pub record BeginsWithKilohertz (khz : ℕ) (rest text : List ℕ) : Type 0 where
   pub at_places : IsThousandths thousandths places
   pub value : khz ≡ whole * 1000 + thousandths
 
--- The text begins with a space and this word of four bytes, and this follows.
+-- The text begins with a space and this word of four bytes, and `rest` follows.
 pub record BeginsWithWord (word rest text : List ℕ) : Type 0 where
   pub four : length word ≡ 4
   pub whole : text ≡ codes " " ++ (word ++ rest)
 
--- The text begins with this tone, and this follows; or with none.
+-- The text begins with a space and this tone, and `rest` follows. Or it begins with no tone: then
+-- `tone` is empty, and `rest` is the text.
 pub data IsNextTone (tone rest text : List ℕ) : Type 0 where
   toned : BeginsWithWord tone rest text → is_tone tone ≡ true → IsNextTone tone rest text
   untoned : ((word later : List ℕ) → BeginsWithWord word later text → is_tone word ≡ true → ⊥) →
       tone ≡ [] → rest ≡ text → IsNextTone tone rest text
 
--- The text begins with a word that says this offset, or none; or with no word.
+-- The text begins with a space and a word, and `offset` is what the word says, if it says one. Or
+-- it begins with no word, and then there is no offset.
 pub data IsNextOffset (offset : Option ℤ) (text : List ℕ) : Type 0 where
   worded : (word rest : List ℕ) → BeginsWithWord word rest text → offset_of word ≡ offset →
       IsNextOffset offset text
   wordless : ((word rest : List ℕ) → BeginsWithWord word rest text → ⊥) → offset ≡ None →
       IsNextOffset offset text
 
--- The text begins with this frequency, and then its tone and its offset.
+-- The text begins with this frequency, and then its tone and its offset, if it has them.
 pub record BeginsWithFrequency (x : Tuned) (text : List ℕ) : Type 0 where
   pub after : List ℕ
   pub after_tone : List ℕ
@@ -53,7 +55,7 @@ pub record BeginsWithFrequency (x : Tuned) (text : List ℕ) : Type 0 where
 abbrev pub HasNoFrequency : List ℕ → Type 0
 HasNoFrequency text = (x : Tuned) → BeginsWithFrequency x text → ⊥
 
--- The comment is a data extension of seven bytes and this.
+-- The comment is a data extension of seven bytes, and `rest` follows.
 pub record HasExtension (rest comment : List ℕ) : Type 0 where
   pub field : List ℕ
   pub seven : length field ≡ 7

@@ -12,7 +12,7 @@ use Rattle.aprs_details.specs.Compressed.{course_of_cst}
 use Rattle.aprs_details.specs.Extension.{IsPair}
 use Rattle.aprs_details.specs.Weather.{width_of, fits_letter, fahrenheit, percent, direction_in}
 
--- The letter has so many places, and these may stand in them.
+-- A field of this letter has as many places as these, and these may stand there.
 pub record IsWeatherField (letter : ℕ) (places : List ℕ) : Type 0 where
   pub width : width_of letter ≡ Some (length places)
   pub fits : fits_letter letter places ≡ true
@@ -24,8 +24,8 @@ pub data HasField (letter : ℕ) (places : List ℕ) : List ℕ → Type 0 where
   later : (other : ℕ) (others rest : List ℕ) → IsWeatherField other others → (other ≡ letter → ⊥) →
       HasField letter places rest → HasField letter places (other ∷ (others ++ rest))
 
--- The text says this value by a letter: that of the places in its first field; or none, if it has no
--- such field.
+-- The text says this value by a letter: that of the places in its first field; or none, if it has
+-- no such field.
 pub data Says {A : Type 0} (value_in : List ℕ → Option A) (letter : ℕ) (text : List ℕ) (value : Option A) : Type 0 where
   field : (places : List ℕ) → HasField letter places text → value_in places ≡ value →
       Says value_in letter text value

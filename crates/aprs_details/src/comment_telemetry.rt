@@ -38,7 +38,8 @@ fn digit_pair(text: &[u8]) -> Option<(u32, &[u8])>
     Some((n, rest))
 }
 
-/// The next number, if any bytes are left, and the rest.
+/// The next number, if any bytes are left, and the rest. `None` where the bytes that are left don't
+/// begin with a number.
 fn next_number(text: &[u8]) -> Option<(Option<u32>, &[u8])>
     ensures { option_map (λ x. (x.0, x.1.now)) result ≡ Spec.next_number text.now }
 {
@@ -73,7 +74,8 @@ fn bits(n: Option<u32>) -> Option<[u8; 8]>
     Some(eight_bits(n))
 }
 
-/// What stands between the bars.
+/// The telemetry whose numbers the text is, as they stand between two bars. `None` where the text
+/// is anything else.
 #[tactic(auto, unfolding(crate::specs::CommentTelemetry::numbers_in))]
 fn numbers_in(text: &[u8]) -> Option<CommentTelemetry>
     ensures { result ≡ Spec.numbers_in text.now }
@@ -110,7 +112,7 @@ fn bar(bytes: &[u8]) -> Option<(u8, &[u8])>
     }
 }
 
-/// What stands at the start of the text, between a bar and the next.
+/// The telemetry with which the text begins, between a bar and the next.
 #[tactic(auto, unfolding(crate::specs::CommentTelemetry::telemetry_at))]
 fn telemetry_at(text: &[u8]) -> Option<CommentTelemetry>
     ensures { result ≡ Spec.telemetry_at text.now }
@@ -124,8 +126,8 @@ impl CommentTelemetry {
     ghost use Rattle.std.specs.Prelude.{◌≡◌};
     ghost use Rattle.aprs_details.specs.CommentTelemetry as Spec;
 
-    /// The first telemetry in a comment: `|`, two digits of base 91 for each number, and `|`.
-    /// `None` where the comment has none. Takes no memory.
+    /// The first telemetry in a comment, which may stand anywhere in it: `|`, two digits of base 91
+    /// for each number, and `|`. `None` where the comment has none. Takes no memory.
     pub fn read(comment: &[u8]) -> Option<CommentTelemetry>
         ensures { result ≡ Spec.comment_telemetry_of comment.now }
     {

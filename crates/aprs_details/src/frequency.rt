@@ -43,7 +43,7 @@ fn space(bytes: &[u8]) -> Option<(u8, &[u8])>
     }
 }
 
-/// Two digits and a space, which are tens.
+/// The kilohertz of two digits and a space, in which the digits are tens.
 fn tens(places: &[u8; 3]) -> Option<u32>
     ensures exact { result ≡ Spec.tens_of places.now }
     ensures small { IfSome result (λ n. n < 10000000) }
@@ -56,7 +56,7 @@ fn tens(places: &[u8; 3]) -> Option<u32>
     }
 }
 
-/// The kilohertz of the places after the point.
+/// The kilohertz of the places after the point: three digits, or two and a space.
 fn thousandths(places: &[u8; 3]) -> Option<u32>
     ensures exact { result ≡ Spec.thousandths_of places.now }
     ensures small { IfSome result (λ n. n < 10000000) }
@@ -104,7 +104,8 @@ fn is_tone(word: &[u8; 4]) -> bool
     matches!(word[0], b'T' | b'C' | b'D' | b't' | b'c' | b'd') && all_digits(&word[1..])
 }
 
-/// The tone in a word, and what follows it; or nothing, and the text.
+/// The tone after a space with which the text begins, and what follows it. Where none stands there,
+/// nothing and the text.
 fn tone_at(text: &[u8]) -> (&[u8], &[u8])
     ensures tone { result.0.now ≡ (Spec.tone_at text.now).0 }
     ensures rest { result.1.now ≡ (Spec.tone_at text.now).1 }
@@ -121,7 +122,8 @@ fn tone_at(text: &[u8]) -> (&[u8], &[u8])
     }
 }
 
-/// How far above a frequency a repeater listens, in kilohertz.
+/// How far above a frequency a repeater listens, in kilohertz: a sign and three digits of tens.
+/// `None` where the word is no such offset.
 fn offset(word: &[u8; 4]) -> Option<i32>
     ensures { result ≡ Spec.offset_of word.now }
 {
@@ -136,7 +138,7 @@ fn offset(word: &[u8; 4]) -> Option<i32>
     }
 }
 
-/// The offset that follows a space.
+/// The offset after a space with which the text begins, in kilohertz.
 fn offset_at(text: &[u8]) -> Option<i32>
     ensures { result ≡ Spec.offset_at text.now }
 {

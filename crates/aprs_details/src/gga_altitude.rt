@@ -5,7 +5,8 @@ ghost use Rattle.aprs_details.specs.GgaAltitude as Spec;
 
 use crate::compressed::{is_base91, is_gga};
 
-/// 1.002 to the powers 0, 91, 182 and so on up to 8,190, in parts of 2^24, cut off.
+/// 1.002 to the powers 0, 91, 182 and so on up to 8,190, in parts of which 2^24 make 1, rounded
+/// down.
 const HIGH: [u64; 91] = [
     16_777_216,
     20_122_528,
@@ -100,7 +101,7 @@ const HIGH: [u64; 91] = [
     214_466_387_574_008,
 ];
 
-/// 1.002 to the powers 0 to 90, in parts of 2^40, cut off.
+/// 1.002 to the powers 0 to 90, in parts of which 2^40 make 1, rounded down.
 const LOW: [u64; 91] = [
     1_099_511_627_776,
     1_101_710_651_031,
@@ -209,7 +210,7 @@ fn feet_of_digits(high: &[u64; 91], low: &[u64; 91], c: u8, s: u8) -> u32
     ((parts + 9_223_372_036_854_775_808) / 18_446_744_073_709_551_616) as u32
 }
 
-/// The altitude in feet, 1 to 15,301,510.
+/// The altitude in feet, 1 to 15,301,510. `None` where c and s aren't an altitude.
 pub fn feet(cst: &[u8; 3]) -> Option<u32>
     ensures { result ≡ Spec.feet_of_cst cst.now }
 {

@@ -43,7 +43,7 @@ fn power_of_ten(exponent: usize) -> u64
     }
 }
 
-/// The number of one to six digits.
+/// The number of one to six digits. `None` where the text is anything else.
 fn digits(text: &[u8]) -> Option<u32>
     ensures exact { result ≡ Spec.digits_of text.now }
     ensures small { IfSome result (λ n. n < 1000000) }
@@ -94,7 +94,7 @@ fn after_point(text: &[u8]) -> Option<u64>
     }
 }
 
-/// The minutes in millionths, below 60.
+/// The minutes in millionths, two digits below 60 and perhaps a point and up to six digits.
 #[tactic(auto, unfolding(crate::specs::Nmea::sent_minutes))]
 fn minutes(text: &[u8]) -> Option<u64>
     ensures exact { result ≡ Spec.sent_minutes text.now }
@@ -110,7 +110,8 @@ fn minutes(text: &[u8]) -> Option<u64>
     }
 }
 
-/// Whether a letter names the negative half of the globe. `None` where it names neither.
+/// Whether the letter that a field is names the negative half of the globe. `None` where it names
+/// neither half.
 fn half(positive: u8, negative: u8, field: &[u8]) -> Option<bool>
     ensures { result ≡ Spec.sent_half positive negative field.now }
 {
@@ -128,8 +129,8 @@ fn half(positive: u8, negative: u8, field: &[u8]) -> Option<bool>
     }
 }
 
-/// The angle in ten-millionths of a degree, nearest, of at most so many degrees. `None` where a
-/// field isn't of its form.
+/// The angle in ten-millionths of a degree, nearest. `None` where it is over `limit` degrees, or
+/// where a field isn't of its form.
 #[tactic(auto, unfolding(crate::specs::Nmea::sent_angle))]
 fn angle(
     limit: u64,
@@ -175,7 +176,7 @@ fn longitude(field: &[u8], letter: &[u8]) -> Option<i32>
     angle(180, b'E', b'W', degrees, minutes, letter)
 }
 
-/// The field at the start of the text, up to a comma.
+/// The field at the start of the text, up to a comma, or all of it without one.
 fn field_at(text: &[u8]) -> &[u8]
     ensures { result.now ≡ Spec.next_field text.now }
 {
@@ -222,7 +223,7 @@ fn whole(field: &[u8]) -> Option<u32>
     Some(nearest(n, 1_000_000) as u32)
 }
 
-/// The course in degrees, nearest, 1 to 360.
+/// The course in degrees, nearest, 1 to 360; 0 is read as 360. `None` where it is more.
 fn course_in(field: &[u8]) -> Option<u32>
     ensures { result ≡ Spec.sent_course field.now }
 {
@@ -254,7 +255,8 @@ fn altitude(field: &[u8], unit: &[u8]) -> Option<i64>
     }
 }
 
-/// What GGA tells after its name.
+/// The fix that GGA tells, from the fields after its name. `None` where its quality isn't a digit
+/// above 0, or where its place isn't of its form or a field before the unit is missing.
 #[tactic(auto, unfolding(crate::specs::Nmea::gga_of))]
 fn gga(text: &[u8]) -> Option<Fix>
     ensures { result ≡ Spec.gga_of text.now }
@@ -278,7 +280,8 @@ fn gga(text: &[u8]) -> Option<Fix>
     }
 }
 
-/// What GLL tells after its name.
+/// The fix that GLL tells, from the fields after its name. `None` where it isn't valid, or where
+/// its place isn't of its form.
 #[tactic(auto, unfolding(crate::specs::Nmea::gll_of))]
 fn gll(text: &[u8]) -> Option<Fix>
     ensures { result ≡ Spec.gll_of text.now }
@@ -298,7 +301,8 @@ fn gll(text: &[u8]) -> Option<Fix>
     }
 }
 
-/// What RMC tells after its name.
+/// The fix that RMC tells, from the fields after its name. `None` where it isn't valid, or where
+/// its place isn't of its form or no comma follows the speed.
 #[tactic(auto, unfolding(crate::specs::Nmea::rmc_of))]
 fn rmc(text: &[u8]) -> Option<Fix>
     ensures { result ≡ Spec.rmc_of text.now }
@@ -320,7 +324,8 @@ fn rmc(text: &[u8]) -> Option<Fix>
     }
 }
 
-/// What the sentence of this name tells in these fields.
+/// The fix that the sentence of this name tells in these fields. `None` for any name but `GPGGA`,
+/// `GPGLL` and `GPRMC`.
 fn fix_named(name: &[u8], fields: &[u8]) -> Option<Fix>
     ensures { result ≡ Spec.fix_named name.now fields.now }
 {
@@ -359,7 +364,7 @@ fn hex_digit(byte: u8) -> Option<u8>
     }
 }
 
-/// The checksum that two hexadecimal digits are.
+/// The checksum with which the text begins, two hexadecimal digits.
 #[tactic(auto, unfolding(crate::specs::Nmea::checksum_at))]
 fn checksum_at(text: &[u8]) -> Option<u8>
     ensures { result ≡ Spec.checksum_at text.now }
@@ -371,7 +376,8 @@ fn checksum_at(text: &[u8]) -> Option<u8>
     Some(high * 16 + low)
 }
 
-/// What stands before a star, after which its checksum follows; or all, without a star.
+/// What stands before the first star, if its checksum follows this; all of the text without a star.
+/// `None` where a checksum is wrong or missing after a star.
 fn checked(text: &[u8]) -> Option<&[u8]>
     ensures { option_map (λ x. x.now) result ≡ Spec.checked text.now }
 {

@@ -5,7 +5,7 @@ ghost use Rattle.aprs_details.specs.Precision as Spec;
 use crate::compressed::is_base91;
 use aprs_report::{Fraction, Place};
 
-/// How many parts of a hundredth of a minute a digit counts.
+/// What a further digit of an angle counts: parts of a hundredth of a minute.
 #[derive(Clone, Copy, Debug, PartialEq, Eq)]
 pub enum Scale {
     /// Tenths, as decimal digits.
@@ -36,7 +36,7 @@ fn scale_of(datum: u8) -> Option<Scale>
     }
 }
 
-/// The number of a decimal digit; a space is 0.
+/// The number of a decimal digit; a space is 0. `None` for any other byte.
 fn tenth(byte: u8) -> Option<u8>
     ensures { result ≡ Spec.tenth_of byte }
 {
@@ -47,7 +47,7 @@ fn tenth(byte: u8) -> Option<u8>
     }
 }
 
-/// The number of a digit of base 91; a space is 0.
+/// The number of a digit of base 91; a space is 0. `None` for any other byte.
 fn ninety_first(byte: u8) -> Option<u8>
     ensures { result ≡ Spec.ninety_first_of byte }
 {
@@ -60,7 +60,7 @@ fn ninety_first(byte: u8) -> Option<u8>
     }
 }
 
-/// The number of a digit.
+/// The number of a digit of this scale; a space is 0. `None` for any other byte.
 fn part(scale: Scale, byte: u8) -> Option<u8>
     ensures { result ≡ Spec.scaled_digit scale byte }
 {
@@ -70,7 +70,7 @@ fn part(scale: Scale, byte: u8) -> Option<u8>
     }
 }
 
-/// What five bytes say.
+/// The digits that five bytes say, `!Wxy!` or `!wxy!`. `None` where they have another form.
 #[tactic(auto, unfolding(crate::specs::Precision::precision_in))]
 fn precision_in(field: &[u8; 5]) -> Option<Precision>
     ensures { result ≡ Spec.precision_in field.now }
@@ -90,7 +90,7 @@ fn precision_in(field: &[u8; 5]) -> Option<Precision>
     }
 }
 
-/// What stands at the start of the text.
+/// The digits that the first five bytes of the text say. `None` where they say none.
 #[tactic(auto, unfolding(crate::specs::Precision::precision_at))]
 fn precision_at(text: &[u8]) -> Option<Precision>
     ensures { result ≡ Spec.precision_at text.now }
@@ -99,7 +99,8 @@ fn precision_at(text: &[u8]) -> Option<Precision>
     precision_in(field)
 }
 
-/// An angle of hundredths of a minute with so many parts of one more, away from 0.
+/// An angle of hundredths of a minute, counted in smaller parts: a hundredth has `parts` of them.
+/// `more` of them are added, away from 0.
 fn finer(parts: u8, more: u8, angle: i32) -> i64
     requires few { parts < 92 }
     ensures exact { result ≡ Spec.finer parts more angle }
@@ -112,7 +113,7 @@ fn finer(parts: u8, more: u8, angle: i32) -> i64
     }
 }
 
-/// An angle with more digits, in degrees.
+/// An angle of hundredths of a minute with one digit more, in degrees.
 fn finer_angle(scale: Scale, more: u8, angle: i32) -> Fraction
     ensures exact { result ≡ Spec.finer_angle scale more angle }
     ensures small { unsigned_abs result.numerator < 2 ^ 38 }
@@ -135,9 +136,9 @@ impl Precision {
     ghost use Rattle.std.specs.Prelude.{◌≡◌, ◌<◌, ◌^◌, IfSome, unsigned_abs};
     ghost use Rattle.aprs_details.specs.Precision as Spec;
 
-    /// What a comment says first of its position's digits: `!Wxy!` with decimal digits, and `!wxy!`
-    /// with digits of base 91, both of the datum WGS 84. `None` where it says nothing of them.
-    /// Takes no memory.
+    /// The first further digits in a comment, which may stand anywhere in it. They are `!Wxy!` with
+    /// decimal digits, or `!wxy!` with digits of base 91, both of the datum WGS 84. `None` where it
+    /// has none. Takes no memory.
     pub fn of_comment(comment: &[u8]) -> Option<Precision>
         ensures { result ≡ Spec.precision_of comment.now }
     {

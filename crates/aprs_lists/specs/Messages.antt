@@ -51,8 +51,8 @@ message_table_line x = tabbed_line (message_table_fields x)
 abbrev pub messages_table : List MessageRow → List ℕ
 messages_table messages = tabbed_line message_columns ++ flat_map message_table_line messages
 
--- The text is the table of the messages that the book's rows report, whatever set they are the book
--- of.
+-- The text is the table of the messages that the book's rows report, whichever receptions these
+-- come from.
 pub record IsMessagesTable (book : BookValue) (text : List ℕ) : Type 0 where
   pub messages : List MessageRow
   pub are_messages : ReportsMessages (millis_of book.gap) book.rows messages

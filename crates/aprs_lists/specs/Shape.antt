@@ -27,17 +27,17 @@ abbrev pub HasName : Option Received → Type 0
 HasName None = Unit {0}
 HasName (Some x) = IsName x.receiver
 
--- So has the line of each message from a callsign.
+-- The line of each message from a callsign has all fields.
 abbrev pub MessageLinesHaveAllFields : Type 0
 MessageLinesHaveAllFields =
     (x : MessageRow) → IsCall x.source → HasAllFieldsOf message_columns (message_table_line x)
 
--- So has the line of each station with a callsign that named receivers heard.
+-- The line of each station with a callsign that named receivers heard has all fields.
 abbrev pub StationLinesHaveAllFields : Type 0
 StationLinesHaveAllFields = (x : Station) → IsCall x.call → HasName x.position → HasName x.status
     → HasAllFieldsOf station_columns (station_table_line x)
 
--- So has the line of each object and item that a callsign reported to a named receiver.
+-- The line of each object and item that a callsign reported to a named receiver has all fields.
 abbrev pub ThingLinesHaveAllFields : Type 0
 ThingLinesHaveAllFields = (x : Named) → ReportsOf (shown_thing x) (key_of x.heard.frame)
     → IsCall (key_of x.heard.frame).source → IsName x.heard.receiver

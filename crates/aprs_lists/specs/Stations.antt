@@ -24,37 +24,41 @@ station_columns = codes "source" ∷ codes "transmissions" ∷ codes "last" ∷ 
     ∷ codes "compressed" ∷ codes "symbol" ∷ codes "text" ∷ codes "status_last"
     ∷ codes "status_receiver" ∷ codes "status_stamp" ∷ codes "status_text" ∷ []
 
--- Nine empty fields, where no position is known, and four, where no status is.
+-- Nine empty fields, where no position is known.
 abbrev pub no_position : List (List ℕ)
 no_position = [] ∷ [] ∷ [] ∷ [] ∷ [] ∷ [] ∷ [] ∷ [] ∷ [] ∷ []
 
+-- Four empty fields, where no status is known.
 abbrev pub no_status : List (List ℕ)
 no_status = [] ∷ [] ∷ [] ∷ [] ∷ []
 
--- When and by whom a position was heard, and where it is.
+-- When and by whom a position was heard, and where it is; empty fields for any other report.
 abbrev pub position_in : Received → Value → List (List ℕ)
 position_in x (position messaging stamp place symbol comment) =
     moment_text x.moment ∷ x.receiver ∷ placed_fields stamp place symbol comment
 position_in x v = no_position
 
--- When and by whom a status was heard, its time stamp and its text.
+-- When and by whom a status was heard, its time stamp and its text; empty fields for any other
+-- report.
 abbrev pub status_in : Received → Value → List (List ℕ)
 status_in x (status stamp text) =
     moment_text x.moment ∷ x.receiver ∷ stamp_field stamp ∷ shown_text text ∷ []
 status_in x v = no_status
 
--- The position, or the status, that a reception reports.
+-- The fields of the position that a reception reports.
 abbrev pub heard_position : Received → List (List ℕ)
 heard_position x = position_in x (report_of (key_of x.frame))
 
+-- The fields of the status that a reception reports.
 abbrev pub heard_status : Received → List (List ℕ)
 heard_status x = status_in x (report_of (key_of x.frame))
 
--- The position, or the status, that is last known, if one is.
+-- The fields of the position that is last known, if one is.
 abbrev pub position_fields : Option Received → List (List ℕ)
 position_fields None = no_position
 position_fields (Some x) = heard_position x
 
+-- The fields of the status that is last known, if one is.
 abbrev pub status_fields : Option Received → List (List ℕ)
 status_fields None = no_status
 status_fields (Some x) = heard_status x
@@ -73,7 +77,7 @@ station_table_line x = tabbed_line (station_table_fields x)
 abbrev pub stations_table : List Station → List ℕ
 stations_table stations = tabbed_line station_columns ++ flat_map station_table_line stations
 
--- The text is the table of the stations of the book's rows, whatever set they are the book of.
+-- The text is the table of the stations of the book's rows, whichever receptions these come from.
 pub record IsStationsTable (book : BookValue) (text : List ℕ) : Type 0 where
   pub stations : List Station
   pub are_stations : ReportsStations (millis_of book.gap) book.rows stations

@@ -25,8 +25,8 @@ thing_columns = codes "kind" ∷ codes "name" ∷ codes "state" ∷ codes "last"
     ∷ codes "source" ∷ codes "stamp" ∷ codes "latitude" ∷ codes "longitude" ∷ codes "ambiguity"
     ∷ codes "compressed" ∷ codes "symbol" ∷ codes "text" ∷ []
 
--- Where a report places something, and its text: time stamp, degrees north and east, how many digits
--- are left out, whether it is compressed, symbol and comment.
+-- Where a report places something, and its text. The fields are time stamp, degrees north and east,
+-- how many digits are left out, whether the place is compressed, symbol and comment.
 abbrev pub placed_fields : Option Stamp → Place → Symbol → List ℕ → List (List ℕ)
 placed_fields stamp place symbol text = stamp_field stamp ∷ latitude_field (Some place)
     ∷ longitude_field (Some place) ∷ ambiguity_field (Some place) ∷ compressed_field (Some place)
@@ -45,14 +45,15 @@ thing_line_in x (item name live place symbol comment) = tabbed_line (codes "item
     ∷ named_fields name live x ++ placed_fields None place symbol comment)
 thing_line_in x v = []
 
--- The line of what was heard of an object or an item.
+-- The line of what was heard of an object or an item; nothing for any other report.
 abbrev pub heard_thing_line : Received → List ℕ
 heard_thing_line x = thing_line_in x (report_of (key_of x.frame))
 
--- The line of an object or an item by its last report, and as it is listed.
+-- The line of an object or an item, given with its last reception.
 abbrev pub report_table_line : Thing × Received → List ℕ
 report_table_line x = heard_thing_line x.1
 
+-- The line of an object or an item that is listed.
 abbrev pub thing_table_line : Named → List ℕ
 thing_table_line x = heard_thing_line x.heard
 
@@ -60,8 +61,8 @@ thing_table_line x = heard_thing_line x.heard
 abbrev pub things_table : List Named → List ℕ
 things_table things = tabbed_line thing_columns ++ flat_map thing_table_line things
 
--- The text is the table of the objects and items of the book's rows, whatever set they are the book
--- of.
+-- The text is the table of the objects and items of the book's rows, whichever receptions these
+-- come from.
 pub record IsThingsTable (book : BookValue) (text : List ℕ) : Type 0 where
   pub things : List Named
   pub are_things : ReportsNamed (millis_of book.gap) book.rows things

@@ -35,7 +35,8 @@ abbrev pub IsPlace : Place → Symbol → List ℕ → Type 0
 IsPlace (Plain lat lon ambiguity) s text = IsPlainPlace lat lon ambiguity s text
 IsPlace (Base91 y x cst) s text = IsCompressedPlace y x cst s text
 
--- The degrees north: hundredths of minutes of a plain position, and 90 - y / 380926.
+-- The degrees north: those of a plain position's hundredths of minutes, or 90 - y / 380926 of a
+-- compressed position.
 abbrev pub latitude_of : Place → Fraction
 latitude_of (Plain lat lon ambiguity) = record { numerator = lat; denominator = pos per_degree }
 latitude_of (Base91 y x cst) = record {
@@ -43,7 +44,8 @@ latitude_of (Base91 y x cst) = record {
   denominator = latitude_parts;
 }
 
--- The degrees east: hundredths of minutes of a plain position, and -180 + x / 190463.
+-- The degrees east: those of a plain position's hundredths of minutes, or -180 + x / 190463 of a
+-- compressed position.
 abbrev pub longitude_of : Place → Fraction
 longitude_of (Plain lat lon ambiguity) = record { numerator = lon; denominator = pos per_degree }
 longitude_of (Base91 y x cst) = record {

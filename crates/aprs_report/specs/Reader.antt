@@ -74,7 +74,8 @@ places_of text =
 abbrev pub ambiguity_of : List ℕ → ℕ
 ambiguity_of text = 4 - length (cut_end is_space (places_of text))
 
--- The minutes of the four places, in hundredths.
+-- The minutes of the four places, in hundredths, of which the last `ambiguity` are read as 0. None
+-- where a byte can't stand at its place, or where the minutes make a degree or more.
 unfoldable pub minutes_of : Axis → ℕ → List ℕ → Option ℕ
 minutes_of axis ambiguity places =
     if list_all (is_blank axis) (drop (4 - ambiguity) places)
@@ -88,7 +89,8 @@ abbrev pub half_of : Axis → ℕ → Option Bool
 half_of axis b =
     if b == letter axis true then Some true else value_when (b == letter axis false) false
 
--- The angle, from the text of its degrees, and from MM.hh with the letter of its half.
+-- The angle, from the text of its degrees, and from MM.hh with the letter of its half. None where a
+-- byte can't stand at its place, or where the angle is over the axis's limit.
 unfoldable pub angle_of : Axis → ℕ → List ℕ → List ℕ → Option ℤ
 angle_of axis ambiguity degree_text text = do
   degrees ← numeral_of 10 48 degree_text
@@ -129,7 +131,8 @@ table_at (b ∷ rest) = do
   table ← table_of_byte b
   Some (table, rest)
 
--- The number of a compressed position, from its four digits of base 91.
+-- The number of a compressed position, from its four digits of base 91. None where a byte is no
+-- digit, or the number is over the greatest.
 unfoldable pub base91_of : List ℕ → Option ℕ
 base91_of text = do
   n ← numeral_of 91 33 text
@@ -168,7 +171,8 @@ stamped_position_of messaging bytes = do
 
 -- ---- objects and items
 
--- The name that a field has.
+-- The name that a field has: its bytes without the spaces at their end. None where a byte isn't
+-- printable, or nothing is left.
 abbrev pub name_of : List ℕ → Option (List ℕ)
 name_of field =
     value_when (list_all is_printable field && nat_lt 0 (length (cut_end is_space field)))
@@ -191,7 +195,7 @@ object_of bytes = do
   place ← place_of stamp.1
   Some (object name state.0 stamp.0 place.0 place.1 place.2)
 
--- The bytes before an item's mark, and the rest.
+-- The bytes before the first mark of an item, three to nine, and the rest from the mark on.
 unfoldable pub item_field_of : List ℕ → Option (List ℕ × List ℕ)
 item_field_of bytes = do
   end ← first_place is_item_mark bytes

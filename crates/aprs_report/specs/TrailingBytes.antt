@@ -4,7 +4,7 @@ use Rattle.aprs_report.specs.declared.bytes.Trailing.{Trailing}
 use Rattle.aprs_report.specs.declared.bytes.Trailing.TheVariants.{Spaces, LineEnds}
 use Rattle.aprs_report.specs.Bytes.{is_space, is_line_end}
 
--- The byte is one of these.
+-- The byte is of this kind: a space, or CR or LF.
 abbrev pub is_trailing : Trailing → ℕ → Bool
 is_trailing Spaces b = is_space b
 is_trailing LineEnds b = is_line_end b

@@ -1,5 +1,5 @@
-//! Laws of reports: an information field says one thing, and which reports are equal. What does
-//! nothing ensures a law.
+//! Laws of reports: an information field says one thing, and which reports are equal. Each
+//! function ensures a law.
 
 ghost use Rattle.std.specs.Prelude.{◌≡◌, ◌↔◌, ℕ, List, IsTrue};
 ghost use Rattle.aprs_report.specs.Reading.{Value, Reads, OneReading, view};

@@ -55,7 +55,7 @@ pub enum Report<'a> {
     Message {
         /// Who the message is for, without the spaces at its end.
         addressee: &'a [u8],
-        /// What it says, without the id, and without CR and LF at its end.
+        /// What it says, without the brace and the id, and without CR and LF at its end.
         text: &'a [u8],
         /// The id by which it is acknowledged, if it has one: one to five letters or digits.
         id: Option<&'a [u8]>,
