@@ -30,7 +30,7 @@ pub const FIRST_LINE: &[u8] =
 pub const LAST_LINE: &[u8] =
     b"2099-12-31T23:59:59Z RX2 c00082a0a4a64040e09c60868298986f03f03e4869c0";
 
-/// N0CALL-7>APRS,WIDE1-1*:>Hi, half a minute after the first.
+/// N0CALL-7>APRS,WIDE1-1*:>Hi, half a minute after `FIRST_LINE`.
 pub const REPEATED_LINE: &[u8] =
     b"1970-01-01T00:00:30Z RX2 c00082a0a4a64040e09c60868298986eae92888a6240e303f03e4869c0";
 

@@ -20,7 +20,7 @@ const STREAM: [u8; 49] = [
     0x82,
 ];
 
-/// An answer, with the port of the frame above and the length of any other.
+/// An answer of the reader: `FRAME` with its port, any other frame with its length, or a fault.
 #[derive(Clone, Copy, Debug, Default, PartialEq, Eq)]
 enum Heard {
     #[default]
@@ -30,7 +30,7 @@ enum Heard {
     Passed(PassFault),
 }
 
-/// Keeps all answers: a stream of fewer than 64 bytes has no more of them.
+/// Keeps the first 64 answers, but for `Nothing`.
 #[derive(Drop)]
 struct Log {
     answers: ArrayVec<Heard, 64>,

@@ -99,7 +99,7 @@ fn merge_two(alloc: Global, one: &[u8], other: &[u8]) -> Result<Vec<u8>, RunFaul
     Ok(file.into_inner())
 }
 
-/// That frame as a TNC sends it on port 0.
+/// The frame `DIRECT` as a TNC sends it on port 0.
 const SENT: &[u8] =
     b"\xc0\x00\x82\xa0\xa4\xa6\x40\x40\xe0\x9c\x60\x86\x82\x98\x98\x6f\x03\xf0>Hi\xc0";
 
