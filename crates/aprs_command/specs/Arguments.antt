@@ -240,7 +240,7 @@ pub record IsJobOf (found : Option (Text × List Row)) (j : Job) : Type 0 where
   pub inputs : inputs_of j ≡ inputs_in found
 
 -- Clap refuses arguments only where the command doesn't take them. They are refused for `Options`
--- only where these break the rule on capture, or a gap can't be read. Of `Memory` nothing is said.
+-- only where they break the rule on capture, or a gap can't be read. Of `Memory` nothing is said.
 abbrev pub FailsSo : App → List Text → JobFault → Type 0
 FailsSo a arguments fault.Memory = Unit {0}
 FailsSo a arguments fault.Options = task_of (subcommand_of a arguments) ≡ None

@@ -10,7 +10,7 @@ use std::alloc::AllocError;
 /// is read.
 #[derive(Drop)]
 pub enum Job {
-    /// Report each line that holds no frame, and how many lines hold one and how many don't.
+    /// Report each line that holds no frame, and how many lines do and don't hold one.
     Check(Vec<String>),
     /// Convert a log or a stream.
     Convert(Form, Vec<String>),

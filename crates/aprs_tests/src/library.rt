@@ -13,7 +13,8 @@ use aprs_tool::{RunFault, merge_run};
 use std::alloc::Global;
 use std::test::Fail;
 
-/// Takes what a TNC has just sent into a book, and merges it with that of another receiver.
+/// Takes the frame that a TNC has just sent into a book, unless it has no report, and merges the
+/// book with that of another receiver. `None` where no whole frame was sent, or a call failed.
 fn hear(mut book: Book, other: &Book, sent: &[u8], moment: Moment, by: Receiver) -> Option<Book> {
     let mut tnc = KissReader::new();
     let (_, Fed::Frame { frame, .. }) = tnc.feed(sent) else {
