@@ -97,7 +97,7 @@ const STREAM: &[&[u8]] = &[
     b"\x00\x82",
 ];
 
-/// That stream.
+/// The bytes of `STREAM`, one piece after the other.
 fn stream(alloc: Global) -> Result<Vec<u8>, Fail> {
     let mut stream = Vec::new(alloc);
     for &piece in STREAM {
