@@ -76,7 +76,7 @@ seconds_rule =
       parser = Some gap_parser;
     }
 
--- The argument INPUT, of which any number may be given.
+-- The argument INPUT, with any number of values.
 abbrev pub inputs_rule : Rule
 inputs_rule = record input_rule {
   range = Some (record { start_inclusive = 1; end_inclusive = usize_max });

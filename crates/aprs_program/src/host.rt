@@ -241,8 +241,8 @@ fn has_bounds(range: &SourceRange) -> bool {
     range.from.is_some() || range.until.is_some()
 }
 
-/// The inputs, of each of which the rows of the range alone are read where they can be found. Fails
-/// where an allocation failed.
+/// The inputs, each with the rows of the range alone where they can be found. Fails where an
+/// allocation failed.
 fn parts_of(
     alloc: Global,
     inputs: Vec<Counted<HostInput>>,
