@@ -6,14 +6,15 @@ use crate::region::{Region, UNIT};
 use std::alloc::{AllocError, Allocator};
 use std::cell::Cell;
 
-/// How many powers of two a number of units may have.
+/// How many classes of blocks there are: one for each power of two of units.
 const CLASSES: usize = 64;
 
-/// An allocator of a region of memory. Each block begins at a multiple of 16. A block that a
-/// collection gives back is used again: of those from one power of two of units up to the next, the
-/// arena keeps the largest. Where none of these is long enough, a block is taken from the front of
-/// what was never used. If that is too short, the allocation fails, and a shorter one may still
-/// succeed. Collections hold a `&` to the arena.
+/// An allocator of a region of memory. Each block begins at a multiple of 16. Blocks that
+/// collections give back fall into classes, from one power of two of units up to the next. The
+/// arena keeps the largest of each class for later use, and the others are lost. Where none that it
+/// keeps is long enough, a block is taken from the front of what was never used. If that is too
+/// short, the allocation fails, and a shorter one may still succeed. Collections hold a `&` to the
+/// arena.
 #[derive(Drop)]
 pub struct Arena {
     left: Cell<Option<Region>>,
@@ -89,7 +90,8 @@ impl Arena {
         }
     }
 
-    /// Keeps a block of so many units, or another of its class that has more.
+    /// Keeps a block of so many units, or the one of its class that is there if that isn't shorter.
+    /// The other is lost.
     fn keep(&self, block: Region, units: usize) {
         let cell = &self.freed[class_of(units)];
         let kept = match cell.replace(None) {
@@ -107,7 +109,7 @@ fn units_of(size: usize) -> usize
     size.div_ceil(UNIT)
 }
 
-/// The logarithm of so many units, 0 of none.
+/// The class of a block of so many units: their logarithm to base 2, rounded down, and 0 for none.
 fn class_of(units: usize) -> usize
     ensures { result < 64 }
 {

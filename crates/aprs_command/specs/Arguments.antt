@@ -76,7 +76,7 @@ seconds_rule =
       parser = Some gap_parser;
     }
 
--- Any number of inputs.
+-- The argument INPUT, with any number of values.
 abbrev pub inputs_rule : Rule
 inputs_rule = record input_rule {
   range = Some (record { start_inclusive = 1; end_inclusive = usize_max });
@@ -152,7 +152,7 @@ abbrev pub capture_of : Option (List ℕ) → Option ℕ → Option Form
 capture_of (Some r) (Some m) = Some (form.Capture r m)
 capture_of _ _ = None
 
--- A capture of the receiver and the moment that these texts name.
+-- A capture of the receiver and the moment that these texts name, if both are given and do.
 abbrev pub capture_form_of : Option Text → Option Text → Option Form
 capture_form_of r m = capture_of (option_and_then receiver_of r) (option_and_then moment_of m)
 
@@ -197,7 +197,8 @@ task_by_name name rows =
     else (if bytes_eq name (codes "widen") then option_map (λ g. task.Widen g) (widened_gap rows)
     else Some task.Check)))
 
--- The task, or none where the options break the rule on capture; `convert text` without a command.
+-- The task: `convert text` without a command. None where the options break the rule on capture, or
+-- a gap can't be read.
 abbrev pub task_of : Option (Text × List Row) → Option Task
 task_of None = Some (task.Convert form.Text)
 task_of (Some p) = task_by_name p.0 p.1
@@ -238,20 +239,20 @@ pub record IsJobOf (found : Option (Text × List Row)) (j : Job) : Type 0 where
   pub task : task_of found ≡ Some (job_task j)
   pub inputs : inputs_of j ≡ inputs_in found
 
--- The arguments are refused only where the command doesn't take them, and the options of capture
--- only where they break the rule on them.
+-- Clap refuses arguments only where the command doesn't take them. They are refused for `Options`
+-- only where they break the rule on capture, or a gap can't be read. Of `Memory` nothing is said.
 abbrev pub FailsSo : App → List Text → JobFault → Type 0
 FailsSo a arguments fault.Memory = Unit {0}
 FailsSo a arguments fault.Options = task_of (subcommand_of a arguments) ≡ None
 FailsSo a arguments (fault.Clap error) = takes a arguments ≡ true → ⊥
 
--- The answer is the job that the matches ask for, or the arguments are refused so.
+-- The answer is the job that the matches ask for, or a refusal as `FailsSo` says.
 abbrev pub AnswersArguments : App → List Text → Result Job JobFault → Type 0
 AnswersArguments a arguments answer =
     MatchResult answer (IsJobOf (subcommand_of a arguments)) (FailsSo a arguments)
 
--- Where arguments are refused for `Options`, the command's definition finds no fault in them; a
--- refusal of clap has one of the kinds that it finds.
+-- Where arguments are refused for `Options`, the command's definition finds no fault in them. A
+-- refusal of clap has one of the kinds that it finds. Of `Memory` nothing is said.
 abbrev pub RefusesSo : App → List Text → JobFault → Type 0
 RefusesSo a arguments fault.Memory = Unit {0}
 RefusesSo a arguments fault.Options = fault_of a arguments ≡ []
@@ -259,13 +260,14 @@ RefusesSo a arguments (fault.Clap error) =
     IsAmong (kind_of error) (fault_of a arguments)
 
 -- A job is returned only where the command's definition finds no fault in the arguments, and a
--- refusal is as above.
+-- refusal is as `RefusesSo` says.
 abbrev pub JudgesArguments : {J : Type 0} → App → List Text → Result J JobFault → Type 0
 JudgesArguments a arguments answer =
     MatchResult answer (λ j. fault_of a arguments ≡ []) (RefusesSo a arguments)
 
--- Where a program gathers inputs, its arguments are refused only where the command doesn't take
--- them, and for `Options` only where the gap can't be read.
+-- Where a program gathers inputs, clap refuses its arguments only where the command doesn't take
+-- them. They are refused for `Options` only where the gap can't be read. Of `Memory` nothing is
+-- said.
 abbrev pub FailsGathering : App → List Text → JobFault → Type 0
 FailsGathering a arguments fault.Memory = Unit {0}
 FailsGathering a arguments fault.Options = chosen_gap (matches_of a arguments) ≡ None
@@ -278,7 +280,7 @@ pub record IsHistoryJobOf (rows : List Row) (j : HistoryJob) : Type 0 where
   pub gap : chosen_gap rows ≡ Some j.gap
   pub inputs : paths_of j.inputs.items ≡ given_inputs rows
 
--- The answer is the job that the matches ask for, or the arguments are refused so.
+-- The answer is the job that the matches ask for, or a refusal as `FailsGathering` says.
 abbrev pub AnswersHistory : List Text → Result HistoryJob JobFault → Type 0
 AnswersHistory arguments answer = MatchResult answer
     (IsHistoryJobOf (matches_of history_app arguments)) (FailsGathering history_app arguments)
@@ -308,7 +310,7 @@ pub record IsTableJobOf (rows : List Row) (j : TableJob) : Type 0 where
   pub gap : chosen_gap rows ≡ Some j.gap
   pub table_and_inputs : (j.table, paths_of j.inputs.items) ≡ table_and_paths (given_inputs rows)
 
--- The answer is the job that the matches ask for, or the arguments are refused so.
+-- The answer is the job that the matches ask for, or a refusal as `FailsGathering` says.
 abbrev pub AnswersTable : List Text → Result TableJob JobFault → Type 0
 AnswersTable arguments answer = MatchResult answer
     (IsTableJobOf (matches_of table_app arguments)) (FailsGathering table_app arguments)

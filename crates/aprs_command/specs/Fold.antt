@@ -37,7 +37,7 @@ is_true (Some t) = bytes_eq t (codes "true")
 abbrev pub is_check_asked : List Row → Bool
 is_check_asked rows = is_true (first_of (codes "check") rows)
 
--- The source is the callsign that the text spells, and there is none without a text.
+-- The source is the callsign that the text spells, or there is neither a source nor a text.
 abbrev pub IsSourceIn : Option Text → Option Call → Type 0
 IsSourceIn None None = Unit {0}
 IsSourceIn (Some text) (Some source) = SpellsCall source text
@@ -62,22 +62,22 @@ pub record IsFoldJobOf (rows : List Row) (j : FoldJob) : Type 0 where
   pub inputs : paths_of j.inputs.items ≡ given_inputs rows
   pub checks : j.is_check ≡ is_check_asked rows
 
--- The arguments are refused only where the command doesn't take them or a source is no callsign,
--- and for `Options` only where the gap can't be read.
+-- Clap refuses the arguments only where the command doesn't take them or a source is no callsign.
+-- They are refused for `Options` only where the gap can't be read. Of `Memory` nothing is said.
 abbrev pub FailsFold : List Text → JobFault → Type 0
 FailsFold arguments fault.Memory = Unit {0}
 FailsFold arguments fault.Options = chosen_gap (matches_of fold_app arguments) ≡ None
 FailsFold arguments (fault.Clap error) =
     (takes fold_app arguments ≡ true → ⊥) ⊎ HasBadSource (matches_of fold_app arguments)
 
--- The answer is the job that the matches ask for, or the arguments are refused so.
+-- The answer is the job that the matches ask for, or a refusal as `FailsFold` says.
 abbrev pub AnswersFold : List Text → Result FoldJob JobFault → Type 0
 AnswersFold arguments answer = MatchResult answer
     (IsFoldJobOf (matches_of fold_app arguments)) (FailsFold arguments)
 
--- Where arguments are refused for `Options`, the command's definition finds no fault in them; a
--- refusal of clap has one of the kinds that it finds, or that of a value where a source is no
--- callsign.
+-- Where arguments are refused for `Options`, the command's definition finds no fault in them. A
+-- refusal of clap has one of the kinds that it finds, or `ValueValidation` where a source is no
+-- callsign. Of `Memory` nothing is said.
 abbrev pub RefusesFold : List Text → JobFault → Type 0
 RefusesFold arguments fault.Memory = Unit {0}
 RefusesFold arguments fault.Options = fault_of fold_app arguments ≡ []
@@ -85,7 +85,7 @@ RefusesFold arguments (fault.Clap error) = IsAmong (kind_of error) (fault_of fol
     ⊎ ((kind_of error ≡ ValueValidation) × HasBadSource (matches_of fold_app arguments))
 
 -- A job is returned only where the command's definition finds no fault in the arguments, and a
--- refusal is as above.
+-- refusal is as `RefusesFold` says.
 abbrev pub JudgesFold : List Text → Result FoldJob JobFault → Type 0
 JudgesFold arguments answer =
     MatchResult answer (λ j. fault_of fold_app arguments ≡ []) (RefusesFold arguments)

@@ -383,7 +383,8 @@ fn read_form(matches: &ArgMatches<'_>) -> Option<Form>
 }
 
 /// The form of this name with these options, or `None` where they don't fit: `text`, `kind`, `kiss`
-/// and `log` have neither, `capture` needs both. The command takes no other name.
+/// and `log` have neither. Any other name is taken as `capture`, which needs both: the command
+/// takes no other.
 fn named_form(name: &str, receiver: Option<&str>, moment: Option<&str>) -> Option<Form>
     ensures { result ≡ Spec.named_form_of name.now (option_map (λ s. s.now) receiver.entry)
         (option_map (λ s. s.now) moment.entry) }

@@ -21,9 +21,11 @@ use std::alloc::{AllocError, Global};
 pub struct FoldJob {
     /// The gap of the book that is written, and of each book file.
     pub gap: Gap,
-    /// The first source whose rows are written, if not the first of all.
+    /// The source to begin with: only its rows and those of sources after it are written. `None`
+    /// where the rows are written from the first on.
     pub from: Option<Callsign>,
-    /// The first source after those whose rows are written, if not all others are.
+    /// The source to end before: neither its rows nor those of sources after it are written. `None`
+    /// where the rows are written up to the last.
     pub until: Option<Callsign>,
     /// The paths, in the order of the arguments.
     pub inputs: Vec<String>,
@@ -94,8 +96,8 @@ fn is_check_asked(matches: &ArgMatches<'_>) -> bool
     }
 }
 
-/// The source that the option of this name gives, or none where it isn't given. `None` where its
-/// text is no callsign.
+/// The source that the option of this name gives: `Some(None)` where it isn't given, and `None`
+/// where its text is no callsign.
 fn read_source(matches: &ArgMatches<'_>, name: &str) -> Option<Option<Callsign>>
     ensures read { IfSome result
         (Spec.IsSourceIn (first_of name.now (rows_of (found_of matches.now)))) }

@@ -1,6 +1,6 @@
 //! What a program's help says, beside the arguments that it takes.
 
-/// The version of both programs.
+/// The version of the programs.
 pub const VERSION: &str = "0.2.0";
 
 /// What the program is for.

@@ -10,7 +10,7 @@ use std::alloc::AllocError;
 /// is read.
 #[derive(Drop)]
 pub enum Job {
-    /// Report each line that holds no frame, and how many do.
+    /// Report each line that holds no frame, and how many lines do and don't hold one.
     Check(Vec<String>),
     /// Convert a log or a stream.
     Convert(Form, Vec<String>),
@@ -83,8 +83,8 @@ pub enum JobFault {
     /// The arguments are not those of the command, or ask for help or the version: its text says
     /// which.
     Clap(clap::Error),
-    /// The options of `capture` are missing, unreadable or given to another form; or the gap of a
-    /// history or a table can't be read.
+    /// The options of `capture` are missing, unreadable or given to another form; or a gap can't be
+    /// read, which clap refuses before.
     Options,
     /// An allocation failed.
     Memory,

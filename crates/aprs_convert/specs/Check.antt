@@ -18,8 +18,8 @@ passed_line_of pass = codes "line " ++ decimal pass.0 ++ codes " passed " ++ rea
 abbrev pub totals_line_of : ℕ → ℕ → List ℕ
 totals_line_of heard passed = codes "heard " ++ decimal heard ++ codes " passed " ++ decimal passed
 
--- The line is in order, and passed over for this reason: it is the first why the line's bytes carry
--- no frame.
+-- The line is in order, and passed over for this reason. It is the first reason why the line's
+-- bytes carry no frame.
 abbrev pub IsPassedFor : List ℕ → Reason → Type 0
 IsPassedFor line reason = (m : ℕ) × (name : List ℕ) × (bytes : List ℕ)
     × IsLine line m name bytes × (frame_in bytes ≡ Err reason)

@@ -34,8 +34,8 @@ last_of_output (Err Write) = Fault
 last_of_output answer = Going
 
 -- The run wrote what is to be written of what it got of its input. It asked the input no more after
--- its end or a fault, and the output no more after a fault: it answers that, and the counts show
--- it.
+-- its end or a fault, and the output no more after a fault. Its answer tells which of these came,
+-- and the counts of the devices show it.
 pub record Runs {R W : Type 0} (Told : Option LogFault → List ℕ → InputEnd → List ℕ → Type 0)
     (limit : ℕ) (remaining : R → Option (List ℕ)) (contents : W → Option (List ℕ))
     (answer : Result (Unit {0}) ConvertFault) (read_from now_read : Counted R)

@@ -81,7 +81,7 @@ convert_plan (form.Capture receiver moment) text ending = stream_plan receiver m
 
 -- ---- a check
 
--- The reports of lines that are passed over, of which the first line has number n.
+-- The reports of those of these lines that are passed over. The first of all has number n.
 abbrev pub check_lines : ℕ → List Line → List ℕ
 check_lines n [] = []
 check_lines n (line.Heard x ∷ lines) = check_lines (n + 1) lines

@@ -40,12 +40,12 @@ pub fn shown<A: Allocator + Copy>(alloc: Global, book: &Book<A>) -> Option<Strin
     Some(text)
 }
 
-/// Whether these are a book's rows. Takes memory for them.
+/// Whether these are a book's rows. Takes memory for them: `false` also where it is refused.
 pub fn is_shown<A: Allocator + Copy>(alloc: Global, book: &Book<A>, rows: &str) -> bool {
     matches!(&shown(alloc, book), Some(text) if text.as_str() == rows)
 }
 
-/// Whether a book is written as this text. Takes memory for it.
+/// Whether a book is written as this text. Takes memory for it: `false` also where it is refused.
 pub fn is_written_as<A: Allocator + Copy>(alloc: Global, book: &Book<A>, text: &[u8]) -> bool {
     let mut out = Counted::new(Vec::new(alloc));
     write_book(&mut out, book).is_ok() && out.into_inner().as_slice() == text

@@ -41,7 +41,7 @@ impl Read for Rough<'_> {
     }
 }
 
-/// A writer that has room for so many bytes, takes at most `most` a call, is interrupted
+/// A writer that has room for so many bytes, and takes at most `most` a call. It is interrupted
 /// `interrupts` times before each call that takes any. A flush sets `used` to 0, so that it shows.
 /// No clause says what it has written.
 #[derive(Drop)]

@@ -134,7 +134,7 @@ fn fractions_of_a_degree(rt: HostRuntime) {
     assert!(rt; (lon.numerator, lon.denominator) == (-432175, 6000));
 }
 
-/// 49.5 degrees north, and 72.75 west to one part in 190463.
+/// 49.5 degrees north, and 72.75 west to less than 1/190463 of a degree.
 const COMPRESSED: Place = Place::Base91 {
     y: 15427503,
     x: 20427156,

@@ -12,7 +12,7 @@ const FRAME: [u8; 19] = [
     0x3e, 0x48, 0x69,
 ];
 
-/// That frame on port 0 and on port 5, a frame of command 1, and one that doesn't end.
+/// `FRAME` on port 0 and on port 5, a frame of command 1, and one that doesn't end.
 const STREAM: [u8; 49] = [
     0xc0, 0x00, 0x82, 0xa0, 0xa4, 0xa6, 0x40, 0x40, 0xe0, 0x9c, 0x60, 0x86, 0x82, 0x98, 0x98, 0x6f,
     0x03, 0xf0, 0x3e, 0x48, 0x69, 0xc0, 0xc0, 0x50, 0x82, 0xa0, 0xa4, 0xa6, 0x40, 0x40, 0xe0, 0x9c,
@@ -20,7 +20,7 @@ const STREAM: [u8; 49] = [
     0x82,
 ];
 
-/// An answer, with the port of the frame above and the length of any other.
+/// An answer of the reader: `FRAME` with its port, any other frame with its length, or a fault.
 #[derive(Clone, Copy, Debug, Default, PartialEq, Eq)]
 enum Heard {
     #[default]
@@ -30,7 +30,7 @@ enum Heard {
     Passed(PassFault),
 }
 
-/// Keeps all answers: a stream of fewer than 64 bytes has no more of them.
+/// Keeps the first 64 answers, but for `Nothing`.
 #[derive(Drop)]
 struct Log {
     answers: ArrayVec<Heard, 64>,

@@ -114,7 +114,7 @@ report_line x (ack addressee id) = []
 report_line x (rej addressee id) = []
 report_line x raw = []
 
--- The line of a reception.
+-- The line of a reception, by what its frame reports; nothing where `report_line` has none.
 abbrev pub heard_line : Received → List ℕ
 heard_line x = report_line x (report_of (key_of x.frame))
 

@@ -10,6 +10,7 @@ abbrev pub HasOneLineEach : List Row → Type 0
 HasOneLineEach rows = (lines : List (List ℕ)) × (length lines ≡ length rows) × All HasNoLf lines
     × (history_text rows ≡ text_of_lines lines)
 
--- The history of such rows as a store has, has one line for each.
+-- The history of rows whose receivers have names and whose frames are UI frames has one line for
+-- each.
 abbrev pub HistoriesHaveOneLineEach : Type 0
 HistoriesHaveOneLineEach = (rows : List Row) → All IsTold rows → HasOneLineEach rows

@@ -1,4 +1,4 @@
-//! The fields of the listing's lines.
+//! The fields of the lines of listings and histories.
 ghost use Rattle.std.specs.Prelude.{◌≡◌, map};
 ghost use Rattle.aprs_io.specs.Outlet.{Puts};
 ghost use Rattle.aprs_listing.specs.Lines.{field_text};

@@ -1,5 +1,5 @@
 //! The listing of a book: a line for each station, its last known position and status, each object,
-//! item and message.
+//! item and message. Also its history: a line for each row, with what its frame reports.
 #![tactic(auto)]
 
 mod examples;

@@ -1,4 +1,4 @@
-//! The listing's lines on their way out.
+//! The lines of listings and histories on their way out.
 ghost use Rattle.std.specs.Prelude.{◌++◌, codes, map};
 ghost use Rattle.std.specs.List.{flat_map};
 ghost use Rattle.aprs_io.specs.Outlet.{Puts};

@@ -14,7 +14,7 @@ use Rattle.aprs_tool.specs.declared.fault.RunFault.TheVariants as run
 use Rattle.aprs_program.specs.declared.complaint.Complaint.{Complaint}
 use Rattle.aprs_program.specs.declared.complaint.Complaint.TheVariants as why
 
--- The line of a complaint, between who speaks and its LF.
+-- The words of a complaint: what its line says after who speaks, a colon and a space.
 abbrev pub words_of : Complaint → List ℕ
 words_of why.NotUtf8 = codes "invalid UTF-8 was detected in one or more arguments"
 words_of why.BadCaptureOptions = codes "bad capture options"

@@ -20,7 +20,7 @@ EndsWith place (Ok u) true complaint = complaint ≡ None
 abbrev pub input_name : List (List ℕ) → ℕ → List ℕ
 input_name paths index = unwrap_or (slice_get paths index) (codes "standard input")
 
--- The name of the input at fault after a run, where one is: a fault that is no input's names none.
+-- The name of the input at fault after a run, and `standard input` where no input is at fault.
 abbrev pub place_at_fault : List (List ℕ) → Result (Unit {0}) RunFault → List ℕ
 place_at_fault paths (Err (Input index fault)) = input_name paths index
 place_at_fault paths other = codes "standard input"

@@ -34,7 +34,7 @@ AreAt path_of (input ∷ inputs) (path ∷ paths) =
     IsKnownAs (path_of (device_of input)) (string_bytes path) × AreAt path_of inputs paths
 AreAt path_of inputs paths = ⊥
 
--- These paths, where each of their inputs is open.
+-- What an opener was asked for and answered, where it opened the input of each of these paths.
 abbrev pub opened : {Z : Type 0} → List (String Z) → List Asked
 opened paths = map (λ path. (string_bytes path, None)) paths
 
@@ -50,8 +50,8 @@ ComplainsOf path None complaint = complaint ≡ why.OutOfMemory
 ComplainsOf path (Some refused) complaint =
     (it : Bor (List ℕ)) × (it.now ≡ string_bytes path) × (complaint ≡ complaint_at it refused)
 
--- The path of this number is the last that the opener was asked for, and the inputs of all before
--- it are open. Its answer decides what is complained of.
+-- The path of number `at`, from 0, is the last that the opener was asked for, and the inputs of all
+-- before it are open. The opener's answer for it decides what is complained of.
 pub record StopsAtPath {Z : Type 0} (old new : Option (List Asked)) (paths : List (String Z))
     (complaint : Complaint) : Type 0 where
   pub at : ℕ

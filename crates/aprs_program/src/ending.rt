@@ -26,8 +26,8 @@ pub fn complaint_after<'t>(
     }
 }
 
-/// The name of the input at fault: its path, or `standard input` where there is none. Takes no
-/// memory.
+/// The name of the input at fault: its path, or `standard input` where it has none or no input is
+/// at fault. Takes no memory.
 fn place_at_fault<'t>(paths: &'t [String], fault: &RunFault) -> &'t str
     ensures { result.now ≡ Spec.place_at_fault (map (λ path. string_bytes path) paths.entry.now)
         (Err fault.now) }

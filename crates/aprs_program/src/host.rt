@@ -118,8 +118,8 @@ impl<'a> Program<'a> {
     }
 
     /// Folds the book files of a job, or standard input where it has none, and reports a fault to
-    /// standard error. Where a file can't be opened, none is read and nothing is written. Of a file
-    /// that can be sought the rows of the job's range alone are read, where it has one. The output
+    /// standard error. Where a file can't be opened, none is read and nothing is written. Where the
+    /// job has a range, its rows alone are read of a file in which bisection finds them. The output
     /// has no buffer of its own, so that its header is there as soon as the fold sends it. Where
     /// the books are only checked, they are read whole, and nothing is written. Returns the exit
     /// status.
@@ -150,8 +150,8 @@ impl<'a> Program<'a> {
         self.fold_into(gap, &range, paths, inputs, output)
     }
 
-    /// Folds the inputs, which have these paths, into this output, of which the range's rows are
-    /// written.
+    /// Folds the inputs, which have these paths, writes the rows of the range of their book to this
+    /// output, and reports a fault. Returns the exit status.
     fn fold_into<W: Write + Drop>(
         &self,
         gap: Gap,
@@ -175,8 +175,8 @@ impl<'a> Program<'a> {
 
     /// Reports the fault of an input, and returns the exit status. Where the rows of a range alone
     /// were read of it, its file is read from its beginning, and the file's first fault is reported
-    /// in its place. Where the file has none, as it may if it changed, the fault is in the rows of
-    /// the range, and the line is counted among them.
+    /// in its place. The file may have changed: where no fault is found in it, the given one is
+    /// reported. Its line is then counted among the rows of the range.
     fn report_input(
         &self,
         gap: Gap,
@@ -236,12 +236,13 @@ impl<'a> Program<'a> {
     }
 }
 
-/// Whether a range begins or ends with a source.
+/// Whether a range has a source to begin with, or one to end before.
 fn has_bounds(range: &SourceRange) -> bool {
     range.from.is_some() || range.until.is_some()
 }
 
-/// The inputs of which the rows of the range alone are read, where they can be found.
+/// The inputs, each with the rows of the range alone where they can be found. Fails where an
+/// allocation failed.
 fn parts_of(
     alloc: Global,
     inputs: Vec<Counted<HostInput>>,
@@ -257,8 +258,8 @@ fn parts_of(
     Ok(parts)
 }
 
-/// The first fault of a whole book file of this gap, which is read from its beginning, or `None`
-/// where it has none.
+/// The first fault of this file, read from its beginning, as a whole book file of this gap. `None`
+/// where it has none, or can't be read from its beginning. `Memory` where an allocation failed.
 fn fault_of_file(alloc: Global, gap: Gap, file: File) -> Option<RunFault> {
     let mut file = file;
     file.rewind().ok()?;

@@ -46,9 +46,9 @@ pub fn open_all<'t, O: Opener, A: Allocator>(
     alloc: A,
     paths: &'t [String],
 ) -> Result<Vec<Counted<O::Input>, A>, Complaint<'t>>
-    // All are opened, in order, and each stands where its path does; or one can't be, or there is
-    // no memory for it, and none after it is asked for. What is complained of is what the opener
-    // answered last.
+    // All are opened, in order, and each stands where its path does. Or one can't be, or there is
+    // no memory for it, and none after it is asked for. What is complained of then is why it
+    // couldn't be opened, or, where it is open, that memory was refused.
     ensures at_paths { IfOk result (λ inputs. AreAt O.path_of inputs.items paths.entry.now) }
     ensures in_order { OnOk result (AsksFor (O.asked opener.old) (O.asked opener.new)
         (opened paths.entry.now)) }
@@ -70,8 +70,8 @@ pub fn open_all<'t, O: Opener, A: Allocator>(
 }
 
 /// Opens all inputs, in the order of their paths, or takes standard input alone where there is no
-/// path: so there is at least one input. What is complained of is as `open_all` says, and want of
-/// memory where there is no path.
+/// path. So there is at least one input. What is complained of is as `open_all` says, and without a
+/// path that memory was refused.
 pub fn open_inputs<'t, O: Opener, A: Allocator>(
     opener: &mut O,
     alloc: A,

@@ -20,7 +20,7 @@ use std::io::{Read, Write};
 /// A run over one input.
 #[derive(Drop)]
 pub enum Single {
-    /// Reports the input's lines that hold no frame.
+    /// Reports the input's lines that hold no frame, and how many lines do and don't hold one.
     Check,
     /// Writes the input in another form.
     Convert(Form),

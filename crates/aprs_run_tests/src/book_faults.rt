@@ -23,7 +23,7 @@ fn fault_within(alloc: Global, limit: u64, text: &[u8]) -> Option<(u64, &'static
     }
 }
 
-/// A text between a header and the last line of so many rows.
+/// A text of a header, these lines, and this last line.
 fn text_of(alloc: Global, lines: &[&[u8]], last: &[u8]) -> Result<Vec<u8>, Fail> {
     let mut text = Vec::new(alloc);
     text.extend_from_slice(b"APRSBOOK 3 30\n")?;
@@ -35,7 +35,7 @@ fn text_of(alloc: Global, lines: &[&[u8]], last: &[u8]) -> Result<Vec<u8>, Fail>
     Ok(text)
 }
 
-/// Whether the text of these lines has this fault.
+/// Whether the text of these lines has this fault, or none.
 fn has_fault(
     alloc: Global,
     lines: &[&[u8]],
@@ -171,14 +171,15 @@ fn fields_have_one_spelling(rt: HostRuntime) -> Result<(), Fail> {
     Ok(())
 }
 
-/// The direct frame's rows at noon, 30 seconds later and 31.
+/// The direct frame's rows 30 and 31 seconds after `ROW`.
 const NEAR: &[u8] = b"T 2024-05-01T12:00:30.000Z 2024-05-01T12:00:30.000Z RX1 RX1 \
     82a0a4a64040e09c60868298986f03f03e4869";
 
 const FAR: &[u8] = b"T 2024-05-01T12:00:31.000Z 2024-05-01T12:00:31.000Z RX1 RX1 \
     82a0a4a64040e09c60868298986f03f03e4869";
 
-/// Rows of two keys before that one's, by the SSID of the source, each two 30 seconds apart.
+/// Rows of two keys that come before the key of `ROW`, by the SSID of the source: two of each, 30
+/// seconds apart.
 const LOW: &[u8] = b"T 2024-05-01T12:00:00.000Z 2024-05-01T12:00:00.000Z RX1 RX1 \
     82a0a4a64040e09c60868298986103f03e4869";
 

@@ -147,7 +147,7 @@ fn read_text(alloc: Global, text: &[u8]) -> Result<Book, Fail> {
     Ok(read.ok().ok_or("a book")?)
 }
 
-/// Receptions that the row may stand for, in each order.
+/// Receptions that the row of `SPAN_TEXT` may stand for, in each order.
 const ORDERS: &[[&[u8]; 3]] = &[
     [EARLY_LINE, DIRECT_LINE, EARLY_OTHER_LINE],
     [EARLY_LINE, EARLY_OTHER_LINE, DIRECT_LINE],
@@ -157,7 +157,7 @@ const ORDERS: &[[&[u8]; 3]] = &[
     [EARLY_OTHER_LINE, DIRECT_LINE, EARLY_LINE],
 ];
 
-// They make the same book.
+// In each order the receptions make the book of the row.
 #[test]
 fn a_read_row_stands_for_receptions(rt: HostRuntime) -> Result<(), Fail> {
     let alloc = rt.alloc();

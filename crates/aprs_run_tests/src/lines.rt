@@ -189,7 +189,7 @@ fn each_reason_of_a_frame(rt: HostRuntime) -> Result<(), Fail> {
     Ok(())
 }
 
-/// What is read of a frame of the direct one's header and so many more bytes, to any port.
+/// What is read of a frame of the direct one's header and so many more bytes, after this type byte.
 fn line_of_size(rt: &HostRuntime, kind: u8, more: usize) -> Result<Line, Fail> {
     let mut frame = Vec::new(rt.alloc());
     frame.extend_from_slice(&DIRECT[..16])?;

@@ -239,7 +239,8 @@ message N0CALL-7 WU2Z 1 unanswered 2024-05-01T12:00:00.000Z 2024-05-01T12:00:00.
     Ok(())
 }
 
-// Without an id, what looks like one is text. By text, then none before any id.
+// What looks like an id but is none is text. Messages go by their texts, and of one text the one
+// without an id comes first.
 #[test]
 fn messages_without_an_id_are_listed(rt: HostRuntime) -> Result<(), Fail> {
     const CASES: &[(&[Sent], &str)] = &[
@@ -265,8 +266,8 @@ message N0CALL-7 WU2Z 003 unanswered 2024-05-01T12:00:00.000Z 2024-05-01T12:00:0
     Ok(())
 }
 
-// A stamp, a compressed place, a place of four digits less, south and east, a symbol whose code is
-// a colon, and one of the alternate table.
+// A stamp, a compressed place, and a place with four digits left out. South and east, with a symbol
+// whose code is a colon; and a symbol of the alternate table.
 #[test]
 fn places_are_listed(rt: HostRuntime) -> Result<(), Fail> {
     const CASES: &[(&[Sent], &str)] = &[
@@ -305,8 +306,8 @@ position 2024-05-01T12:00:00.000Z RX1 - 294350/6000 -432175/6000 0 \\x5c\\x5c:
     Ok(())
 }
 
-// Each field that shows bytes, with a backslash, and with a byte over 7e where it may have one; a
-// space in a name, but none in a text.
+// Each field that shows bytes, with a backslash, and where it may have one with a byte below 20 or
+// over 7e. A space is escaped in a name, and not in a text.
 #[test]
 fn bytes_are_shown(rt: HostRuntime) -> Result<(), Fail> {
     const CASES: &[(&[Sent], &str)] = &[

@@ -11,8 +11,8 @@ use std::alloc::Global;
 use std::io::{self, Read};
 use std::test::Fail;
 
-/// A log of one line: a frame at the first moment, the same at the last, and half a minute after
-/// the first one that came over a digipeater.
+/// Logs of one line each: a frame at the first moment, and the same frame in the last second. The
+/// third has one that came over a digipeater half a minute after the first moment.
 const FIRST: &[u8] = b"1970-01-01T00:00:00Z RX1 c00082a0a4a64040e09c60868298986f03f03e4869c0\n";
 
 const LAST: &[u8] = b"2099-12-31T23:59:59Z RX2 c00082a0a4a64040e09c60868298986f03f03e4869c0\n";

@@ -14,7 +14,7 @@ use aprs_tool::{Form, Job, JobFault, job};
 use std::alloc::Global;
 use std::test::Fail;
 
-/// An hour's first millisecond.
+/// 2024-05-01T12:00:00Z, in milliseconds since 1970 began.
 const NOON: u64 = 1_714_564_800_000;
 
 #[test]
@@ -38,7 +38,7 @@ fn moments_at_their_limits(rt: HostRuntime) -> Result<(), Fail> {
     Ok(())
 }
 
-/// Texts that are near to a moment's, and none.
+/// Texts that are almost a moment's, but no moment's.
 const NO_MOMENTS: &[&[u8]] = &[
     b"2024-05-01T12:00:00.5Z",
     b"2024-05-01T12:00:00.50Z",
@@ -126,7 +126,7 @@ fn lines_are_read_in_both_spellings(rt: HostRuntime) -> Result<(), Fail> {
     Ok(())
 }
 
-/// A log of that line half a second later.
+/// A log of the line of `ONE_LINE` half a second later.
 const HALF: &[u8] = b"2024-05-01T12:00:00.500Z RX1 c00082a0a4a64040e09c60868298986f03f03e4869c0\n";
 
 #[test]
@@ -206,7 +206,7 @@ fn heard_after(millis: u64) -> Result<Reception, Fail> {
     ))
 }
 
-/// The number of rows of that, after so many milliseconds and after so many.
+/// The number of rows of a book that takes the frame twice, each so many milliseconds after noon.
 fn rows_of(alloc: Global, first: u64, second: u64) -> Result<usize, Fail> {
     let mut book = Book::new(alloc);
     book.take(&heard_after(first)?).ok().ok_or("memory")?;
@@ -322,7 +322,8 @@ fn any_other_header_is_refused(rt: HostRuntime) {
     }
 }
 
-/// The same two rows in version 1, half a minute apart and a second more.
+/// Two rows in version 1, half a minute apart, and a second more. In version 2 two rows half a
+/// minute apart, and one that ends before it begins.
 const OLD_NEAR_TEXT: &[u8] = b"APRSBOOK 1
 T 2024-05-01T12:00:00Z 2024-05-01T12:00:00Z RX1 RX1 82a0a4a64040e09c60868298986f03f03e4869
 T 2024-05-01T12:00:30Z 2024-05-01T12:00:30Z RX1 RX1 82a0a4a64040e09c60868298986f03f03e4869

@@ -6,7 +6,7 @@ use aprs_fixtures::{DIRECT, EMPTY_TEXT, MERGED_TEXT, heard, text_of};
 use std::alloc::Global;
 use std::test::Fail;
 
-/// The three lines of `THREE_LINES`, as a log of each, or a book.
+/// The three lines of `THREE_LINES`: one as a log, one as a book, one as a book in version 1.
 const FIRST: &[u8] = b"1970-01-01T00:00:00Z RX1 c00082a0a4a64040e09c60868298986f03f03e4869c0\n";
 
 const LAST: &[u8] = b"APRSBOOK 3 30
@@ -20,7 +20,7 @@ T 1970-01-01T00:00:30Z 1970-01-01T00:00:30Z RX2 RX2 \
 END 1
 ";
 
-/// A row that covers many of another file, which is in two parts, and what they are together.
+/// A row that joins three of the four rows of another file, and what the files are together.
 const LONG: &[u8] = b"APRSBOOK 3 30
 T 2024-05-01T12:00:00.000Z 2024-05-01T12:10:00.000Z RX1,RX3 RX1 \
     82a0a4a64040e09c60868298986f03f03e4869

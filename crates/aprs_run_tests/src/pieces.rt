@@ -101,7 +101,7 @@ fn readers_give_few_bytes(rt: HostRuntime) {
     }
 }
 
-// 999 tries before each byte are repeated.
+// Each byte comes after 999 interrupted tries.
 #[test]
 fn interrupted_reads_are_tried_again(rt: HostRuntime) {
     for &(run, input, text) in RUNS {
@@ -115,7 +115,7 @@ fn interrupted_reads_are_tried_again(rt: HostRuntime) {
     }
 }
 
-// The 1,000th before the second line's first byte ends the run.
+// The 1,000th interrupted try before the second line's first byte ends the run.
 #[test]
 fn a_thousand_interrupted_reads_fail(rt: HostRuntime) {
     let mut r = Counted::new(Stuttering {

@@ -9,12 +9,12 @@ use aprs_tool::{Form, InputFault, RunFault, check_run, convert_run, status_of};
 use std::alloc::Global;
 use std::test::Fail;
 
-/// The frame of that log as a KISS frame.
+/// The frame of `ONE_LINE` as a KISS stream.
 pub const FRAME: &[u8] =
     b"\xc0\x00\x82\xa0\xa4\xa6\x40\x40\xe0\x9c\x60\x86\x82\x98\x98\x6f\x03\xf0>Hi\xc0";
 
-/// A first part that is whole, FESC with TFEND and FESC with TFESC in it, and two that hold FESC
-/// alone.
+/// A line whose frame has both escapes, FESC TFEND and FESC TFESC, and two lines in which neither
+/// TFEND nor TFESC comes after FESC.
 const ESCAPED: &[u8] = b"2024-05-01T12:00:00Z RX1 c00082a0a4a64040e09c60868298986f03f03edbdcdbddc0
 2024-05-01T12:00:00Z RX1 c00082a0a4a64040e09c60868298986f03f03edb41c0
 2024-05-01T12:00:00Z RX1 c00082a0a4a64040e09c60868298986f03f03edbc0
@@ -87,8 +87,8 @@ fn lines_that_hold_no_frame(rt: HostRuntime) {
     );
 }
 
-/// A stream of the frame to port 0, the same to port 5, a frame of another command, and the begin
-/// of a third.
+/// A stream of the frame on port 0, the same on port 5, a frame of another command, and the
+/// beginning of a fourth frame.
 const STREAM: &[&[u8]] = &[
     FRAME,
     b"\xc0\x50",
@@ -97,7 +97,7 @@ const STREAM: &[&[u8]] = &[
     b"\x00\x82",
 ];
 
-/// That stream.
+/// The bytes of `STREAM`, one piece after the other.
 fn stream(alloc: Global) -> Result<Vec<u8>, Fail> {
     let mut stream = Vec::new(alloc);
     for &piece in STREAM {

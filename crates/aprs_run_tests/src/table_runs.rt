@@ -19,7 +19,7 @@ const SAME: &[&[&[u8]]] = &[
     &[ONE_LINE, ONE_LINE, DIRECT_TEXT],
 ];
 
-/// How many rows the large log has.
+/// How many receptions the large log has, each of which is a row.
 const MANY: u64 = 5_000;
 
 /// A table of these inputs, with ample memory.
@@ -116,7 +116,7 @@ fn count(bytes: &[u8], wanted: u8) -> usize {
     found
 }
 
-// With ample memory no table is refused: it has a line for each row beside the columns.
+// With ample memory no table is refused: it has a line of its columns' names, and one for each row.
 #[test]
 fn a_table_of_many_rows(rt: HostRuntime) -> Result<(), Fail> {
     let alloc = rt.alloc();

@@ -1,4 +1,4 @@
-//! With memory there no call refuses it: books of a hundred rows, and nine inputs.
+//! With ample memory no call fails: books of a hundred rows, and nine inputs.
 
 use crate::pushed_rows::parts;
 use aprs_book::{Book, Gap, Join, all_fit, join_all};
@@ -42,8 +42,8 @@ fn rows_together<A: Allocator + Copy>(alloc: A, first: u64) -> Result<usize, Fai
     Ok(book.merge(&other).ok().ok_or("memory")?.len())
 }
 
-// Receivers that hear in turn each half minute make one transmission of two hundred receptions; a
-// second later than that, each stays a row of its own.
+// Receivers that hear in turn each half minute make one row of two hundred receptions. Where one
+// begins more than the gap after the other's end, each reception stays a row of its own.
 #[test]
 fn a_hundred_rows_are_taken_and_merged(rt: HostRuntime) -> Result<(), Fail> {
     let alloc = rt.alloc();
@@ -207,7 +207,8 @@ fn is_gathered<A: Allocator + Copy>(
     }
 }
 
-// Two of the nine are heard between the others' receptions, and five were merged before.
+// Two of the nine are logs of what was heard between the others' receptions, and five are book
+// files.
 #[test]
 fn nine_inputs_are_merged_and_listed(rt: HostRuntime) -> Result<(), Fail> {
     let alloc = rt.alloc();

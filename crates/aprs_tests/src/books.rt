@@ -164,7 +164,8 @@ fn replays_end_in_equal_books(rt: HostRuntime) -> Result<(), Fail> {
     Ok(())
 }
 
-/// A book of a log in which RX1 heard the frame at once, and RX2 30 seconds and an hour later.
+/// The book of what was heard at these seconds of the hour. At 0 RX1 hears the frame, at 30 RX2
+/// hears it over a digipeater, and at any other second RX2 hears it directly.
 fn logged(alloc: Global, seconds: &[u64]) -> Result<Book, Fail> {
     let mut book = Book::new(alloc);
     for second in seconds {
@@ -178,7 +179,7 @@ fn logged(alloc: Global, seconds: &[u64]) -> Result<Book, Fail> {
     Ok(book)
 }
 
-/// The book of two such logs.
+/// The merge of two such books.
 fn merged(alloc: Global, ours: &[u64], theirs: &[u64]) -> Result<Book, Fail> {
     let ours = logged(alloc, ours)?;
     let theirs = logged(alloc, theirs)?;

@@ -10,10 +10,10 @@ use aprs_rows::{BookStore, WalkRoom};
 use std::alloc::{Allocator, Global};
 use std::test::Fail;
 
-/// An hour's first millisecond.
+/// 2024-05-01T12:00:00Z, in milliseconds since 1970 began.
 const NOON: u64 = 1_714_564_800_000;
 
-/// The keys of the table's frames, by their place among keys.
+/// The key of each frame of the table, as its number, from 0, among the keys in their order.
 const KEYS: [u8; 7] = [2, 0, 1, 2, 3, 4, 5];
 
 /// The keys from N0CALL-7: a position, an object and a status.
@@ -22,8 +22,9 @@ const SEVEN: &[u8] = &[0, 1, 2];
 /// The keys from N0CALL-8: an item, and an object without and with a comment.
 const EIGHT: &[u8] = &[3, 4, 5];
 
-/// Seven frames, ascending: of a status the repeated one and the direct one, a position, one of an
-/// object, one of an item, and two of an object whose keys differ only at their ends.
+/// Seven frames, ascending. From N0CALL-7: a status that was repeated, a position, an object, and
+/// that status direct. From N0CALL-8: an item, and two of an object, whose keys differ only at the
+/// ends.
 fn table(alloc: Global) -> Result<Vec<Frame>, Fail> {
     let mut frames = Vec::new(alloc);
     frames.push(Frame::read(&REPEATED).ok().ok_or("frame")?)?;
@@ -292,8 +293,8 @@ impl Numbers {
         (self.state >> 33).checked_rem(end).unwrap_or(0)
     }
 
-    /// A reception of the table within some minutes. Two of one key are as far apart as the gap, or
-    /// a millisecond or two nearer or farther, or more.
+    /// A reception of the table within seven minutes. Two of them are some number of gaps apart, or
+    /// none, and at most two milliseconds more or less.
     fn reception(&mut self) -> Plain {
         Plain {
             milli: self

@@ -13,7 +13,8 @@ use aprs_tool::{RunFault, merge_run};
 use std::alloc::Global;
 use std::test::Fail;
 
-/// Takes what a TNC has just sent into a book, and merges it with that of another receiver.
+/// Takes the frame that a TNC has just sent into a book, unless it has no report, and merges the
+/// book with that of another receiver. `None` where no whole frame was sent, or a call failed.
 fn hear(mut book: Book, other: &Book, sent: &[u8], moment: Moment, by: Receiver) -> Option<Book> {
     let mut tnc = KissReader::new();
     let (_, Fed::Frame { frame, .. }) = tnc.feed(sent) else {
@@ -99,7 +100,7 @@ fn merge_two(alloc: Global, one: &[u8], other: &[u8]) -> Result<Vec<u8>, RunFaul
     Ok(file.into_inner())
 }
 
-/// That frame as a TNC sends it on port 0.
+/// The frame `DIRECT` as a TNC sends it on port 0.
 const SENT: &[u8] =
     b"\xc0\x00\x82\xa0\xa4\xa6\x40\x40\xe0\x9c\x60\x86\x82\x98\x98\x6f\x03\xf0>Hi\xc0";
 

@@ -92,7 +92,8 @@ fn is_refused<A: Allocator + Copy>(call: Call, book: &Book<A>, wide: &Book<A>) -
     }
 }
 
-/// Whether something is last known of the sender, of the object or of the item.
+/// Whether the call answers as it has to: a position, an object, an item and a last frame are
+/// known, and no status.
 fn is_known<A: Allocator + Copy>(call: Call, book: &Book<A>) -> Result<bool, Fail> {
     let sender = callsign(b"N0CALL-7")?;
     Ok(match call {

@@ -154,7 +154,8 @@ fn is_refused(
     is_as_before(alloc, books.as_slice(), answer, again == Some(want))
 }
 
-/// That it is so, where the call gave nothing at first, and with room what it has to.
+/// `true` where the call gave nothing at first, gave with room what it has to, and the first book
+/// is as before. Otherwise an error.
 fn is_as_before(
     alloc: Global,
     books: &[Book<&Bump>],
@@ -217,7 +218,7 @@ fn refused_calls_change_nothing(rt: HostRuntime) -> Result<(), Fail> {
     Ok(())
 }
 
-/// Adds the name, where memory is refused once there is room again, and returns whether it was.
+/// Adds the name, once more with room where memory was refused, and returns whether it was.
 fn is_refused_at_first<'a>(
     bump: &'a Bump,
     names: &mut Receivers<&'a Bump>,

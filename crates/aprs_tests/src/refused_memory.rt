@@ -181,14 +181,15 @@ fn place_of<A: Allocator + Copy>(made: Result<Book<A>, RowsFault>) -> Result<Opt
     }
 }
 
-/// That of three rows which are made a book with so much room.
+/// The place of the row, of three that are made a book with so much room, for which memory was
+/// refused, if it was.
 fn refused_place(alloc: Global, room: usize) -> Result<Option<usize>, Fail> {
     let heap = LocalHeap::new(alloc, 65_536)?;
     let rows = three_rows(alloc, &heap)?;
     place_with(&heap, rows.as_slice(), room)
 }
 
-/// The same of these rows in this heap.
+/// The same of these rows, which stand in this heap.
 fn place_with<'a>(
     heap: &'a LocalHeap,
     rows: &[RowParts<&'a LocalHeap>],

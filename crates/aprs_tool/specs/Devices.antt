@@ -27,7 +27,7 @@ abbrev pub AsksRows : {A R : Type 0} → Result A InputFault → Counted R → C
 AsksRows (Ok value) old new = Calls End old new
 AsksRows (Err fault) old new = AsksToFault fault old new
 
--- So was the input, or it was read to its end before an allocation failed for its book.
+-- As `AsksRows` says; or the input was read to its end before an allocation failed for its book.
 abbrev pub AsksInput : {A R : Type 0} → Result A InputFault → Counted R → Counted R → Type 0
 AsksInput result old new =
     AsksRows result old new ⊎ ((result ≡ Err Memory) × Calls End old new)
@@ -42,8 +42,8 @@ AsksEach (Err (Input (suc index) fault)) (r ∷ old) (s ∷ new) =
 AsksEach (Err (Input index fault)) old new = ⊥
 AsksEach answer old new = AllZip (Calls End) old new
 
--- So it was; or all were read to their ends before an allocation failed for their book, which is
--- `Memory` of the last input.
+-- As `AsksEach` says; or all inputs were read to their ends before an allocation failed for their
+-- book, which is `Memory` of the last input.
 abbrev pub AsksMerge : {R : Type 0} → Result (Unit {0}) RunFault → List (Counted R)
     → List (Counted R) → Type 0
 AsksMerge answer old new = AsksEach answer old new

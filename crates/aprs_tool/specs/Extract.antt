@@ -1,4 +1,4 @@
--- What is written of a book beside its text. No public clause cites this module.
+-- What is written of a book other than its text. No public clause cites this module.
 use Rattle.std.specs.Prelude.{ℕ, List}
 use Rattle.aprs_log.specs.Reception.{Received}
 use Rattle.aprs_laws.specs.BookValue.{BookValue}
@@ -21,7 +21,7 @@ IsExtract extract.Listing = IsShown
 IsExtract extract.History = IsHistory
 IsExtract (extract.Table t) = IsTable t
 
--- The text is what is summarized of the book.
+-- The text is this, written from the book's summary.
 abbrev pub IsSummarized : Summarized → BookValue → List ℕ → Type 0
 IsSummarized summarized.Listing = IsShown
 IsSummarized summarized.Messages = IsMessagesTable

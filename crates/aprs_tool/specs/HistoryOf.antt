@@ -25,8 +25,7 @@ pub record IsHistoryOf (gap : ℕ) (S : List Received) (text : List ℕ) : Type 
   pub text_is : text ≡ history_text rows
   pub lines : HasOneLineEach rows
 
--- Sets with the same members have one history, and so have inputs that stand for them: in whatever
--- order, however often, and through book files or not.
+-- Sets with the same members have one history under this gap.
 abbrev pub HaveOneHistory : ℕ → Type 0
 HaveOneHistory gap = (S T : List Received) (text other : List ℕ) → SameMembers S T
     → IsHistoryOf gap S text → IsHistoryOf gap T other → text ≡ other
@@ -57,8 +56,8 @@ HistoriesTellPlaces gap = (S : List Received) (text : List ℕ) (call : Call) (x
     → IsHistoryOf gap S text → LastKnown S (Passes (reports_position call)) (Some x)
     → TellsPlace text x
 
--- The text has a line of a row whose greatest reception is x, and this line says of an object or an
--- item, as its kind is, what the listing's line of x says of it.
+-- The text has a line of a row whose greatest reception is x. This line says of an object or an
+-- item, whichever `kind` names, what the listing's line of x says of it.
 pub record TellsNamed (kind text : List ℕ) (x : Received) : Type 0 where
   pub before : List Row
   pub row : Row
@@ -83,7 +82,8 @@ HistoriesTellObjects gap = (S : List Received) (text name : List ℕ) (x : Recei
     → IsHistoryOf gap S text → LastKnown S (Passes (reports_object name)) (Some x)
     → TellsNamed (codes "object") text x
 
--- And so of each item.
+-- The history of any set tells of each item the set's greatest report, which is the one that the
+-- listing of the set shows.
 abbrev pub HistoriesTellItems : ℕ → Type 0
 HistoriesTellItems gap = (S : List Received) (text name : List ℕ) (x : Received)
     → IsHistoryOf gap S text → LastKnown S (Passes (reports_item name)) (Some x)

@@ -10,7 +10,7 @@ use Rattle.aprs_tool.specs.Inputs.{GivesSet, has_book_mark}
 use Rattle.aprs_tool.specs.Refused.{IsFaulty, IsNotTaken}
 use Rattle.aprs_tool.specs.declared.fault.InputFault.{InputFault}
 
--- The book of a log has the gap that was asked for; that of a book file has its own.
+-- The book of a log has the gap that was asked for. Of a book file's gap nothing is said here.
 abbrev pub IsGapOf : ℕ → List ℕ → ℕ → Type 0
 IsGapOf asked text gap = has_book_mark text ≡ false → gap ≡ asked
 

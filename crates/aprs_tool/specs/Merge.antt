@@ -27,8 +27,8 @@ abbrev pub AreBooksOfUnions : ℕ → Type 0
 AreBooksOfUnions gap = (limit : ℕ) (gots : List (GotOf limit)) (S : List Received) (rows : List Row)
     → GiveUnion gap gots S → IsBookOfAll gap rows gots → BookOf (millis_of gap) S rows
 
--- Inputs and others that stand for sets with the same members, in whatever order and however often,
--- have one book and one text that is written of it.
+-- Two lists of inputs that stand for sets with the same members have one book, and one text that is
+-- written of it.
 abbrev pub HaveOneMerge : ℕ → Type 0
 HaveOneMerge gap = (limit most : ℕ) (gots : List (GotOf limit)) (others : List (GotOf most))
     (S T : List Received) (rows more : List Row) (text other : List ℕ)

@@ -37,7 +37,8 @@ abbrev pub fault_of_merge : MergeFault → InputFault
 fault_of_merge merge.OtherGap = OtherGap
 fault_of_merge merge.Memory = Memory
 
--- An input that stands for a set is refused only where an allocation failed.
+-- An input of at most 1,073,741,824 bytes that stands for a set is refused only where an allocation
+-- failed.
 abbrev pub HaveNoFault : Type 0
 HaveNoFault = (gap : ℕ) (text : List ℕ) (ending : InputEnd) (S : List Received) (fault : InputFault)
     → length text ≤ most_input → GivesSet gap text ending S → IsFaulty fault text ending

@@ -20,7 +20,7 @@ abbrev pub status_of_book_cause : BookCause → ℕ
 status_of_book_cause book.Memory = 4
 status_of_book_cause other = 1
 
--- The status for an input's fault.
+-- The status for an input's fault: 4 where an allocation failed, 1 for any other fault.
 abbrev pub status_of_input : InputFault → ℕ
 status_of_input (Log fault) = status_of_cause fault.cause
 status_of_input (Book fault) = status_of_book_cause fault.cause
@@ -28,7 +28,8 @@ status_of_input Memory = 4
 status_of_input OtherGap = 1
 status_of_input Narrower = 1
 
--- The status for a run's fault: 3 where the output was refused.
+-- The status for a run's fault: that of an input's fault, 3 where the output was refused, and 4
+-- where an allocation failed.
 abbrev pub status_of_fault : RunFault → ℕ
 status_of_fault (Input index fault) = status_of_input fault
 status_of_fault Write = 3

@@ -51,8 +51,7 @@ IsTableOf table.Messages gap = IsMessagesTableOf
 IsTableOf table.Stations gap = IsStationsTableOf gap
 IsTableOf table.Things gap = IsThingsTableOf
 
--- Sets with the same members have one text of this table, and so have inputs that stand for them:
--- in whatever order, however often, and through book files or not.
+-- Sets with the same members have one text of this table under this gap.
 abbrev pub HaveOneTable : Table → ℕ → Type 0
 HaveOneTable t gap = (S T : List Received) (text other : List ℕ) → SameMembers S T
     → IsTableOf t gap S text → IsTableOf t gap T other → text ≡ other

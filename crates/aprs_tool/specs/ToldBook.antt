@@ -1,4 +1,5 @@
--- What is written of a book: its listing, its history, or its table. No public clause cites this module.
+-- What is written of a book: its listing, its history, or a table of it. No public clause cites
+-- this module.
 use Rattle.std.specs.Prelude.{◌≡◌, ℕ, List, Option, Result, Ok, Err}
 use Rattle.aprs_io.specs.Device.{Sends}
 use Rattle.aprs_io.specs.declared.device.Counted.{Counted}

@@ -12,8 +12,8 @@ use Rattle.aprs_tool.specs.declared.fault.InputFault.TheVariants.{Narrower}
 abbrev pub GivesSetWithin : ℕ → List ℕ → InputEnd → List Received → Type 0
 GivesSetWithin gap text ending S = (own : ℕ) × (own ≤ gap) × GivesSet own text ending S
 
--- The only input, number 0, is refused: it is a book file of a greater gap than this one, or it
--- itself is refused.
+-- The only input, number 0, is refused for this fault. At `Narrower` it is a whole book file of a
+-- greater gap than this one, and else `IsFaulty` says that it has the fault.
 abbrev pub IsNotWidened : ℕ → List ℕ → InputEnd → ℕ → InputFault → Type 0
 IsNotWidened gap text ending zero Narrower =
     (own : ℕ) × (S : List Received) × (gap < own) × IsBookFileOf own S text ending

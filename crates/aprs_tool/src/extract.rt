@@ -18,7 +18,7 @@ use aprs_lists::{write_messages, write_stations, write_things};
 use std::alloc::Allocator;
 use std::io::{Read, Write};
 
-/// What is written of a book beside its text.
+/// What is written of a book other than its text.
 #[derive(Clone, Copy)]
 pub(crate) enum Extract {
     Listing,
@@ -53,9 +53,9 @@ pub(crate) fn write_summarized<W: Write, A: Allocator + Copy>(
 }
 
 /// Writes this extract of the book of this gap of all inputs' receptions. All inputs are read, in
-/// order, before the first byte is written: where one is refused, its number and fault are
+/// order, before the first byte is written. Where one is refused, its number and fault are
 /// reported, no further one is read, and nothing is written. At `Memory` an allocation failed for
-/// the book, and nothing was written. At `Write` a prefix of the extract was written.
+/// the book or its lists, and nothing was written. At `Write` a prefix of the extract was written.
 pub(crate) fn extract_run<R: Read, W: Write, A: Allocator + Copy>(
     alloc: A,
     limit: u64,

@@ -81,8 +81,7 @@ pub enum RunFault {
     /// The output was refused.
     #[error("cannot write")]
     Write,
-    /// An allocation failed for what the run shows, or for the book that it widens or tells the
-    /// history of.
+    /// An allocation failed that isn't for one input alone, such as for a list or a widened book.
     #[error("out of memory")]
     Memory,
 }

@@ -17,11 +17,12 @@ use std::io::{Read, Write};
 
 /// Writes the text of the book of this gap of all inputs' receptions, as `merge_run` does, where
 /// each input is a book file of this gap. The inputs are read side by side, and the text is written
-/// as they are read: memory is taken for each input (16 KiB, its longest line and its longest row)
+/// as they are read. Memory is taken for each input (16 KiB, its longest line and its longest row)
 /// and for one row more, whatever the number of rows. Requires that `limit` is at most
-/// 9,223,372,036,854,775,807. The header is sent before an input is read. Where an input is refused
-/// or an allocation fails, the header and a part of the rows' lines were written, which is no
-/// book's text. At `Write` a prefix of a book's text was written.
+/// 9,223,372,036,854,775,807. The header is sent before an input is read. Where an input is
+/// refused, its number, from 0, and its fault are returned. At that fault, and at `Memory`, the
+/// header and a part of the rows' lines were written, which is no book's text. At `Write` a prefix
+/// of a book's text was written.
 pub fn fold_run<R: Read, W: Write, A: Allocator + Copy>(
     alloc: A,
     limit: u64,
@@ -38,7 +39,8 @@ pub fn fold_run<R: Read, W: Write, A: Allocator + Copy>(
         × WritesFor (IsToldOf (GiveUnion gap gots) (IsTextOfBook gap)) W.contents result
         w.old w.new)) }
 
-    // At a fault that input is refused for it, and what was written is a part of a book's text.
+    // At `Input` that input is refused for its fault. At any fault what was written is a part of a
+    // book's text.
     ensures refuses { IfErr result (λ fault. Spec.EndsEarly R.remaining W.contents limit gap
         all_sources fault inputs.old inputs.new w.old w.new) }
 
@@ -49,8 +51,8 @@ pub fn fold_run<R: Read, W: Write, A: Allocator + Copy>(
 }
 
 /// Writes of the book that `fold_run` writes the rows whose sources are within the range: a whole
-/// book's text, with their number at its end. The inputs are read to their ends, and so refused, as
-/// there. Requires that `limit` is at most 9,223,372,036,854,775,807.
+/// book's text, with their number at its end. The inputs are read to their ends and refused as
+/// `fold_run` does it. Requires that `limit` is at most 9,223,372,036,854,775,807.
 pub fn fold_range_run<R: Read, W: Write, A: Allocator + Copy>(
     alloc: A,
     limit: u64,
@@ -68,7 +70,8 @@ pub fn fold_range_run<R: Read, W: Write, A: Allocator + Copy>(
         × WritesFor (IsToldOf (GiveUnion gap gots) (Spec.IsTextOfSources range.now gap))
         W.contents result w.old w.new)) }
 
-    // At a fault that input is refused for it, and what was written is a part of a book's text.
+    // At `Input` that input is refused for its fault. At any fault what was written is a part of a
+    // book's text.
     ensures refuses { IfErr result (λ fault. Spec.EndsEarly R.remaining W.contents limit gap
         range.now fault inputs.old inputs.new w.old w.new) }
 

@@ -20,8 +20,8 @@ use std::alloc::{Allocator, Global};
 use std::io::Write;
 use std::marker::Model;
 
-/// The book of logs and book files. The rows of a book file join the store before the next input is
-/// read, so that no allocation fails for them when it was read to its end.
+/// The book of logs and book files. The rows of the last book file stand in `file`. They join the
+/// store just before the next input is read: an allocation that fails then is that input's fault.
 pub(crate) struct Gathered<A: Allocator = Global> {
     pub(crate) alloc: A,
     pub(crate) store: BookStore<A>,
@@ -52,7 +52,7 @@ impl<A: Allocator> Model for Gathered<A> {
     ghost invariant = { λ g. AreInOrder g.file };
 }
 
-/// Why the book of the gathered rows, its listing or its history isn't written.
+/// Why the book of the gathered rows, or its listing, history or table, isn't written.
 #[derive(Debug, Drop)]
 pub(crate) enum OutputFault {
     /// An allocation failed, before the first byte.

@@ -1,6 +1,6 @@
-//! What a merge writes depends on the set of receptions alone, and so do a history and the
-//! positions in a listing. What stands for a set has no fault. The functions do nothing: what they
-//! ensure are the laws.
+//! Under one gap, what a merge writes depends on the set of receptions alone. So do a history, each
+//! table and the positions in a listing. An input that stands for a set has no fault. The functions
+//! do nothing: what they ensure are the laws.
 ghost use Rattle.std.specs.Prelude.{ℕ};
 ghost use Rattle.aprs_command.specs.declared.jobs.Table.{Table};
 ghost use Rattle.aprs_tool.specs.HistoryOf.{HaveOneHistory, HistoriesTellItems, HistoriesTellObjects, HistoriesTellPlaces};

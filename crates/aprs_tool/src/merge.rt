@@ -17,7 +17,7 @@ use std::io::{Read, Write};
 
 /// Writes the text of the book of this gap of all inputs' receptions. An input that begins with
 /// `APRSBOOK` is a book file, any other a log. Requires that `limit` is at most `MAX_INPUT`
-/// (1,073,741,824). All inputs are read, in order, before the first byte is written: where one is
+/// (1,073,741,824). All inputs are read, in order, before the first byte is written. Where one is
 /// refused, its number and fault are reported, no further one is read, and nothing is written. At
 /// `Write` a prefix of the text was written. Never returns `RunFault::Memory`: an allocation that
 /// failed is a fault of an input.

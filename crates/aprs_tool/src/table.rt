@@ -16,12 +16,12 @@ use std::io::{Read, Write};
 
 /// Writes this table of the book of this gap of all inputs' receptions: the names of its columns,
 /// and its lines. The table of the rows has a line for each row of the book, in the book's order,
-/// which says what its frame tells; the others have one for each message, station, object or item,
+/// which says what its frame tells. The others have one for each message, station, object or item,
 /// in the order of the listing. An input that begins with `APRSBOOK` is a book file, any other
 /// a log. Requires that `limit` is at most `MAX_INPUT` (1,073,741,824). All inputs are read, in
-/// order, before the first byte is written: where one is refused, its number and fault are
+/// order, before the first byte is written. Where one is refused, its number and fault are
 /// reported, no further one is read, and nothing is written. At `Memory` an allocation failed for
-/// the book, and nothing was written. At `Write` a prefix of the table was written.
+/// the book or its lists, and nothing was written. At `Write` a prefix of the table was written.
 pub fn table_run<R: Read, W: Write, A: Allocator + Copy>(
     alloc: A,
     limit: u64,

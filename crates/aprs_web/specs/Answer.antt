@@ -47,8 +47,8 @@ abbrev pub name_at_fault : Outcome → List ℕ
 name_at_fault (Err (Input index fault)) = name_of_input fault
 name_at_fault other = []
 
--- So many are the bytes. Where the room has as many or more, they stand first in it, and what comes
--- after them is as before; where it has fewer, all of it is as before.
+-- `count` is how many bytes there are. Where the room has as many or more, they stand first in it,
+-- and what comes after them is as before. Where it has fewer, all of it is as before.
 pub record StandsIn (bytes : List ℕ) (count : ℕ) (old new : List ℕ) : Type 0 where
   pub counted : count ≡ length bytes
   pub fits : count ≤ length old → new ≡ bytes ++ drop count old

@@ -16,9 +16,10 @@ pub struct Answer {
     pub input: u64,
     /// The line of this input at fault, from 1; 0 for a stream, and where the fault has no line.
     pub line: u64,
-    /// How many bytes the run wrote. Where the room for them has fewer, nothing stands there.
+    /// How many bytes the run wrote. Where the room for them has fewer, none is put there.
     pub written: u64,
-    /// How many bytes the name of the fault of an input has; 0 where no input is at fault.
+    /// How many bytes the name of the fault of an input has; 0 where no input is at fault. Where
+    /// the room for them has fewer, none is put there.
     pub named: u64,
 }
 

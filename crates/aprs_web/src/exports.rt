@@ -1,4 +1,5 @@
-//! What a host calls. Each function is given a region of memory for good.
+//! What a host calls. Each function is given a region of memory for good. What a run writes goes
+//! into `output`, and the name of an input's fault into `name`, each if it fits.
 ghost use Rattle.std.specs.Prelude.{◌≡◌, ℕ, None, Some, IfNone, IfSome};
 ghost use Rattle.aprs_command.specs.Arguments.{named_table};
 ghost use Rattle.aprs_command.specs.declared.jobs.Table.{Table};
@@ -20,7 +21,7 @@ use aprs_log::{Moment, Receiver};
 use aprs_tool::{Form, Table};
 
 /// Checks the log `input`: writes a line for each line in which no frame was heard, and the totals.
-/// At a fault of the log its lines before that are written, and no totals.
+/// At a fault of the log what is reported of the lines before it is written, and no totals.
 #[unsafe(no_mangle)]
 pub extern "C" fn aprs_check(
     region: Region,
@@ -97,7 +98,8 @@ pub extern "C" fn aprs_log(
 }
 
 /// Writes a log of the KISS stream `input`, as if the receiver of the name `receiver` had heard
-/// each frame at `moment`, which is text. No run where these are no name or no moment.
+/// each frame at `moment`, which is text. No run where these are no name or no moment. At a fault
+/// of the stream all before it is written.
 #[unsafe(no_mangle)]
 pub extern "C" fn aprs_capture(
     region: Region,
@@ -141,8 +143,9 @@ fn converted(region: Region, form: Form, input: &[u8], output: &mut [u8], name: 
 }
 
 /// Writes the book of several inputs, logs or books, under a gap of so many seconds. They lie one
-/// after the other in `inputs` and have these lengths. No run where the seconds are no gap, or the
-/// lengths don't add up to that of `inputs`. Where an input is refused, nothing is written.
+/// after the other in `inputs` and have these lengths. No run where the seconds are no gap (1 to
+/// 3,600), or the lengths don't add up to that of `inputs`. Where an input is refused, nothing is
+/// written.
 #[unsafe(no_mangle)]
 pub extern "C" fn aprs_merge(
     region: Region,
@@ -167,8 +170,9 @@ pub extern "C" fn aprs_merge(
 }
 
 /// Writes the listing of several inputs, logs or books, under a gap of so many seconds. They lie
-/// one after the other in `inputs` and have these lengths. No run where the seconds are no gap, or
-/// the lengths don't add up to that of `inputs`. Where an input is refused, nothing is written.
+/// one after the other in `inputs` and have these lengths. No run where the seconds are no gap (1
+/// to 3,600), or the lengths don't add up to that of `inputs`. Where an input is refused, nothing
+/// is written.
 #[unsafe(no_mangle)]
 pub extern "C" fn aprs_show(
     region: Region,
@@ -194,8 +198,8 @@ pub extern "C" fn aprs_show(
 
 /// Writes the history of the book of several inputs, logs or books, under a gap of so many seconds.
 /// They lie one after the other in `inputs` and have these lengths. No run where the seconds are no
-/// gap, or the lengths don't add up to that of `inputs`. Where an input is refused, nothing is
-/// written.
+/// gap (1 to 3,600), or the lengths don't add up to that of `inputs`. Where an input is refused,
+/// nothing is written.
 #[unsafe(no_mangle)]
 pub extern "C" fn aprs_history(
     region: Region,
@@ -221,8 +225,9 @@ pub extern "C" fn aprs_history(
 
 /// Writes a table of the book of several inputs, logs or books, under a gap of so many seconds.
 /// `table` is the text that names it, such as `rows`. The inputs lie one after the other in
-/// `inputs` and have these lengths. No run where the text names no table, the seconds are no gap,
-/// or the lengths don't add up to that of `inputs`. Where an input is refused, nothing is written.
+/// `inputs` and have these lengths. No run where the text names no table, the seconds are no gap (1
+/// to 3,600), or the lengths don't add up to that of `inputs`. Where an input is refused, nothing
+/// is written.
 #[unsafe(no_mangle)]
 pub extern "C" fn aprs_table(
     region: Region,
@@ -267,9 +272,9 @@ fn gap_of(seconds: u64, inputs: &[u8], lengths: &[usize]) -> Option<Gap>
     }
 }
 
-/// Writes the book of `input`, a log or a book, under a gap of so many seconds, which may be wider
-/// than its own. No run where the seconds are no gap. Where the input is refused, nothing is
-/// written.
+/// Writes the book of `input`, a log or a book, under a gap of so many seconds. A book of a greater
+/// gap is refused. No run where the seconds are no gap (1 to 3,600). Where the input is refused,
+/// nothing is written.
 #[unsafe(no_mangle)]
 pub extern "C" fn aprs_widen(
     region: Region,

@@ -21,7 +21,8 @@ pub(crate) fn add_up(lengths: &[usize], total: usize) -> bool
 }
 
 /// A reader for each input: of the first `lengths[0]` bytes, of the next `lengths[1]`, and so on.
-/// One whose bytes aren't all there ends where the others do.
+/// One whose bytes aren't all there ends where `inputs` ends. `AllocError` where an allocation
+/// failed.
 pub(crate) fn readers<'a, A: Allocator + Copy>(
     alloc: A,
     inputs: &'a [u8],
