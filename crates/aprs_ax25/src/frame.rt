@@ -1,10 +1,9 @@
 //! UI frames.
-ghost use Rattle.std.specs.Prelude.{◌≡◌, if◌then◌else◌, ◌<◌, ◌≤◌, [], ◌∷◌, ◌++◌, length, map, None, IsOk, IfOk, IfErr, OnOk, OnErr, Ok, Err, slice_get, ◌+◌, MatchOption};
+ghost use Rattle.std.specs.Prelude.{◌≡◌, if◌then◌else◌, ◌<◌, ◌≤◌, [], ◌∷◌, ◌++◌, length, map, None, IsOk, IfOk, IfErr, OnOk, OnErr, Ok, Err, slice_get, ◌+◌};
 ghost use Rattle.std.specs.List.{AllByRecursion};
 ghost use Rattle.std.specs.Result.{result_err};
 ghost use Rattle.arrayvec.specs.ArrayVec.{array_vec_len};
-ghost use Rattle.aprs_ax25.specs.Address.{IsAddress, is_repeated};
-ghost use Rattle.aprs_ax25.specs.Callsign.{call_text};
+ghost use Rattle.aprs_ax25.specs.Address.{IsAddress};
 ghost use Rattle.std.specs.Option.{option_map};
 ghost use Rattle.aprs_ax25.specs.Frame.{Parts, FrameOf, address_field};
 ghost use Rattle.aprs_ax25.specs.FrameFault.{frame_or_fault, frame_fault, parts_of};

@@ -1,5 +1,5 @@
 //! The rows of a book's text, read one after another.
-ghost use Rattle.std.specs.Prelude.{◌≡◌, ◌≢◌, ◌≤◌, ◌<◌, ◌+◌, ◌++◌, ◌*◌, ℕ, [], ◌∷◌, None, Some, List, false, true, length, IfErr, IfOk, IfSome, IfNone, OnOk};
+ghost use Rattle.std.specs.Prelude.{◌≡◌, ◌≢◌, ◌≤◌, ◌<◌, ◌+◌, ◌++◌, ℕ, [], None, Some, List, false, true, length, IfErr, IfOk, IfSome, IfNone, OnOk};
 ghost use Rattle.std.specs.List.{last_or};
 ghost use Rattle.aprs_io.specs.declared.device.Counted.{Counted as CountedValue};
 ghost use Rattle.aprs_laws.specs.Row.{Row};

@@ -1,5 +1,5 @@
 //! Telemetry in comments.
-ghost use Rattle.std.specs.Prelude.{◌≡◌, ◌<◌, IfSome};
+ghost use Rattle.std.specs.Prelude.{◌≡◌, ◌<◌};
 ghost use Rattle.std.specs.Option.{option_map};
 ghost use Rattle.aprs_report.specs.Reader.{byte_where};
 ghost use Rattle.aprs_details.specs.CommentTelemetry as Spec;

@@ -1,5 +1,5 @@
 //! Frequencies in comments.
-ghost use Rattle.std.specs.Prelude.{◌≡◌, ◌<◌, ◌≤◌, length, IfSome};
+ghost use Rattle.std.specs.Prelude.{◌≡◌, ◌<◌, length, IfSome};
 ghost use Rattle.std.specs.Option.{option_map};
 ghost use Rattle.aprs_report.specs.Bytes.{is_space};
 ghost use Rattle.aprs_report.specs.Reader.{byte_where};

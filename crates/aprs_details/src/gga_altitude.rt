@@ -1,6 +1,6 @@
 //! The altitude of a compressed position that is of a GGA sentence (APRS Protocol Reference 1.0.1,
 //! chapter 9).
-ghost use Rattle.std.specs.Prelude.{◌≡◌, ◌<◌, ◌+◌, ◌*◌, ◌^◌, length, IsTrue};
+ghost use Rattle.std.specs.Prelude.{◌≡◌, ◌<◌, ◌+◌, ◌*◌, ◌^◌, IsTrue};
 ghost use Rattle.aprs_details.specs.GgaAltitude as Spec;
 
 use crate::compressed::{is_base91, is_gga};

@@ -1,5 +1,5 @@
 //! A device whose interrupted calls are tried again, a bounded number of times.
-ghost use Rattle.std.specs.Prelude.{◌≡◌, ◌≢◌, ◌↔◌, IfErr, IsOk};
+ghost use Rattle.std.specs.Prelude.{◌≢◌, ◌↔◌, IfErr, IsOk};
 ghost use Rattle.std.specs.Io.{WritesAtMost};
 ghost use Rattle.std.specs.Io.KnownBytes.{WriteAppends};
 ghost use Rattle.std.specs.IoError.{error_kind};

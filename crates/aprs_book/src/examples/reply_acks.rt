@@ -1,5 +1,5 @@
 //! Worked examples of reply-acks (APRS 1.1), and near misses.
-ghost use Rattle.std.specs.Prelude.{◌≡◌, [], ◌∷◌, Some, None, codes};
+ghost use Rattle.std.specs.Prelude.{[], ◌∷◌, codes};
 ghost use Rattle.aprs_laws.specs.Examples.{key_by};
 ghost use Rattle.aprs_book.specs.declared.lists.reply_ack.ReplyAck.TheVariants.{NotAwaited, Awaited, Heard};
 ghost use Rattle.aprs_book.specs.Messages as Spec;

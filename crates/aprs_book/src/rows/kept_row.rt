@@ -1,5 +1,5 @@
 //! A row as a book keeps it.
-ghost use Rattle.std.specs.Prelude.{true, min, ◌≡◌, ◌↔◌, IsTrue, ◌+◌, if◌then◌else◌, nat_lt, IsOk, IfOk, OnOk, OnErr};
+ghost use Rattle.std.specs.Prelude.{min, ◌≡◌, ◌↔◌, IsTrue, ◌+◌, if◌then◌else◌, nat_lt, IsOk, IfOk, OnOk, OnErr};
 ghost use Rattle.std.specs.Ordering.{is_lt};
 ghost use Rattle.std.specs.declared.cmp.Ordering.TheVariants.{Less, Equal, Greater};
 ghost use Rattle.aprs_log.specs.Reception.{bytes_cmp};

@@ -1,5 +1,5 @@
 //! Names of receivers in texts.
-ghost use Rattle.std.specs.Prelude.{◌≡◌, ◌<◌, ◌++◌, ◌∷◌, [], All, length, map, IfNone, IfSome, OnOk};
+ghost use Rattle.std.specs.Prelude.{◌≡◌, ◌<◌, ◌++◌, ◌∷◌, [], All, length, IfNone, IfSome, OnOk};
 ghost use Rattle.std.specs.List.{join_with_byte, flat_map};
 ghost use Rattle.aprs_log.specs.Receiver.{IsName};
 ghost use Rattle.aprs_rows.specs.Names.{names_in};

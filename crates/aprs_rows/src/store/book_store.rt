@@ -1,12 +1,11 @@
 //! The book of what is put into a store.
-ghost use Rattle.std.specs.Prelude.{◌≡◌, ◌≢◌, ◌-◌, ◌^◌, List, [], min, IfOk, OnOk, OnErr};
-ghost use Rattle.std.specs.List.{flat_map, AllByRecursion};
+ghost use Rattle.std.specs.Prelude.{◌≡◌, ◌≢◌, ◌-◌, ◌^◌, [], min, IfOk, OnOk, OnErr};
+ghost use Rattle.std.specs.List.{AllByRecursion};
 ghost use Rattle.aprs_laws.specs.BookValue.{IsSoundBook};
 ghost use Rattle.aprs_laws.specs.Coalescing.{AreInOrder};
 ghost use Rattle.aprs_laws.specs.Gap.{millis_of};
 ghost use Rattle.aprs_laws.specs.JoinRow.{join_row, merge, single};
 ghost use Rattle.aprs_laws.specs.Lists.{SameMembers};
-ghost use Rattle.aprs_laws.specs.Sound.{AreSoundRows};
 ghost use Rattle.aprs_rows.specs.BookStore.{all_rows};
 ghost use Rattle.aprs_rows.specs.Packed.{room_of};
 
