@@ -187,6 +187,7 @@ abbrev pub reply_ack_to : List (AnswerKey × Received) → Message → ℕ → O
 reply_ack_to entries m first None = NotAwaited
 reply_ack_to entries m first (Some number) = reply_ack_by first (answer_to entries m number true)
 
+-- The same of the number that the message has by its text and its id.
 abbrev pub reply_ack_in : List (AnswerKey × Received) → Message → ℕ → ReplyAck
 reply_ack_in entries m first =
     reply_ack_to entries m first (number_without m.id (number_of m.text))

@@ -67,7 +67,7 @@ pub record AnswersIt (m : Message) (id : List ℕ) (k : Key) : Type 0 where
   pub to : SpellsCall m.source addressee
   pub answer : (report_of k ≡ ack addressee id) ⊎ (report_of k ≡ rej addressee id)
 
--- A rejection rejects, and an acknowledgement acknowledges.
+-- The state by an answer that reads so: rejected by a rejection, otherwise acknowledged.
 abbrev pub reported_state : Value → MessageState
 reported_state (rej addressee id) = Rejected
 reported_state v = Acknowledged

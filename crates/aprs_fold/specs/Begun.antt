@@ -50,7 +50,7 @@ pub record AreFolded {R : Type 0} (remaining : R → Option (List ℕ)) (limit g
   pub inputs : AreTaken remaining limit gap old new taken front
   pub folding : IsFolding (millis_of gap) (all_of taken) (all_of front) rows last
 
--- Or no row was taken.
+-- The rows that were taken are folded so; or no row is final, and no last one is there.
 abbrev pub IsBegun : {R : Type 0} → (R → Option (List ℕ)) → ℕ → ℕ → List (Counted R)
     → List (Counted R) → List Row → List Row → Type 0
 IsBegun remaining limit gap old new rows last =

@@ -10,12 +10,12 @@ use Rattle.aprs_laws.specs.Row.{Row, row_cmp, row_key}
 use Rattle.aprs_fold.specs.Inputs.{book_of_all}
 use Rattle.aprs_fold.specs.declared.range.SourceRange.{SourceRange}
 
--- The source is the first one of a range, if it has one, or comes after it.
+-- The source is the first one of a range or comes after it. True where the range has no first one.
 abbrev pub is_from : Option Call → Call → Bool
 is_from None source = true
 is_from (Some first) source = is_le (call_cmp first source)
 
--- The source comes before the end of a range, if it has one.
+-- The source comes before the end of a range. True where the range has no end.
 abbrev pub is_until : Option Call → Call → Bool
 is_until None source = true
 is_until (Some end) source = is_lt (call_cmp source end)

@@ -86,7 +86,7 @@ OthersStay index old new =
 abbrev pub ahead_of : {A : Type 0} → RowStream A → ℕ
 ahead_of stream = if is_ended stream then 0 else stream_ahead stream + 1
 
--- And that of all streams.
+-- The sum of this over all streams.
 abbrev pub ahead_of_all : {A : Type 0} → List (RowStream A) → ℕ
 ahead_of_all [] = 0
 ahead_of_all (s ∷ streams) = ahead_of s + ahead_of_all streams

@@ -27,9 +27,10 @@ use std::io::{Read, Write};
 /// The greatest limit that a caller may set for a book file that is folded: 2^63 - 1 bytes.
 pub const MAX_BOOK: u64 = 9_223_372_036_854_775_807;
 
-/// Writes the text of the book of all inputs, which have to be book files of this gap, of at most
-/// `limit` bytes each, in version 3. Of its rows the text has those whose sources are within the
-/// range. The inputs are read side by side to their ends, and the rows are written as they come:
+/// Writes, in version 3, the text of the book of all inputs. These have to be book files of this
+/// gap, in any version, of at most `limit` bytes each. Of the book's rows the text has those whose
+/// sources are within the range. The inputs are read side by side to their ends, and the rows are
+/// written as they come:
 /// memory is taken for each input (a piece of 16 KiB, its longest line twice and its longest row)
 /// and for one row more with its line, whatever the number of rows. Requires a limit of at most
 /// `MAX_BOOK` (9,223,372,036,854,775,807). The header is sent before an input is read.
@@ -53,15 +54,15 @@ pub fn fold_books<R: Read, W: Write, A: Allocator + Copy>(
         × Sends W.contents result w.old w.new (written_text (book_of_sources range.now gap rows))
         × Spec.IsWhole gap (book_of_sources range.now gap rows).rows) }
 
-    // At a fault of an input it is faulty so. What was written is a part of a book's text: of the
-    // book of the rows that were taken of the inputs, those that are final. The output answered a
-    // fault at `Write` alone, in its last call.
+    // At a fault of an input, that input has it. What was written is a part of a book's text, of
+    // the rows that no later row could join. The output answered a fault at `Write` alone, in its
+    // last call.
     ensures refuses { IfErr result (λ fault.
         IsRefused R.remaining limit gap fault inputs.old inputs.new) }
     ensures left { IfErr result (λ fault. Spec.IsLeft R.remaining W.contents limit gap range.now
         fault inputs.old inputs.new w.old w.new) }
 
-    // Of each input some bytes were got, and none is asked after its end or a fault.
+    // Of each input at most `limit` bytes were got, and none is asked after its end or a fault.
     ensures asks { AreAsked R.remaining limit inputs.old inputs.new }
 {
     let mut out = Outlet::new(w);

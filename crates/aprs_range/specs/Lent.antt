@@ -15,7 +15,8 @@ abbrev pub EndsWithLast : List ℕ → Type 0
 EndsWithLast bytes =
     (before : List ℕ) × (n : ℕ) × (bytes ≡ before ++ 10 ∷ ended_by_lf (end_line n))
 
--- These lines, and after them a last line, which counts them and as many rows more.
+-- These lines, and after them a last line. The number in it is `rows` and the number of these lines
+-- together.
 abbrev pub with_last : ℕ → List ℕ → List ℕ
 with_last rows lines = lines ++ ended_by_lf (end_line (rows + count_by (is_byte 10) lines))
 

@@ -16,13 +16,13 @@ use std::alloc::Allocator;
 /// What came of a message.
 #[derive(Clone, Copy, Debug, PartialEq, Eq)]
 pub enum MessageState {
-    /// It has no id, so nothing can answer it.
+    /// It has no id, so no ack or rej can answer it.
     Unnumbered,
-    /// Nothing answered it since its first reception.
+    /// No ack or rej answered it since its first reception.
     Unanswered,
-    /// It was acknowledged last.
+    /// The last answer to it is an ack.
     Acknowledged,
-    /// It was rejected last.
+    /// The last answer to it is a rej.
     Rejected,
 }
 
@@ -57,7 +57,7 @@ pub struct MessageRow<'a> {
     pub last: Moment,
     /// What came of it.
     pub state: MessageState,
-    /// When the answer was heard that says so, if there is one.
+    /// When its last ack or rej was heard, where the state is by one.
     pub answered: Option<Moment>,
     /// What reply-acks say of it.
     pub reply_ack: ReplyAck,
