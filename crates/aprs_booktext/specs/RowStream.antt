@@ -85,7 +85,7 @@ IsFaultyAfter {R = R} remaining fault old new stream =
     → HasGot remaining limit head first old stream rows
     → IsAnswered remaining limit head (Err fault) first new
 
--- Where the text of some rows was got before and each row is kept: if an allocation failed, the
+-- The text of some rows was got before, and each row is kept. Then, if an allocation failed, the
 -- fault names the line after those of the rows that are kept now.
 abbrev pub StopsFrom : {R A : Type 0} → (R → Option (List ℕ)) → BookFault → Counted R
     → RowStream A → RowStream A → Type 0

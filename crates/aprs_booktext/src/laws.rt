@@ -12,8 +12,8 @@ pub fn each_book_has_one_text()
     ensures cut { Spec.AreCutShort }
 {}
 
-/// The header of a book and a part of the lines of its rows, the whole of them too, have the fault
-/// `Ending` where the input ends there, and so are the text of no book.
+/// The header of a book and a part of its rows' lines, or all of them, have the fault `Ending`
+/// where the input ends there. So they are the text of no book.
 pub fn cut_rows_lack_an_end()
     ensures { Spec.LackAnEnd }
 {}
@@ -24,16 +24,16 @@ pub fn written_books_are_read()
     ensures { Spec.AreReadBack }
 {}
 
-/// Apart from `Memory`, a text has exactly one fault for each way in which the input may end,
-/// unless it is the whole text of a book and the end came after it: then it has none.
+/// Apart from `Memory`, a text has exactly one fault for each way in which the input may end. Only
+/// the whole text of a book, where the end came after it, has none.
 pub fn each_text_has_one_fault_or_none()
     ensures some { Spec.HaveFaultOrBook }
     ensures one { Spec.HaveOneBookFault }
     ensures none { Spec.BooksAreFaultless }
 {}
 
-/// A text is the whole text of a book exactly if it is, in some version, that of the book of some
-/// set of receptions under the version's gap, each row of which can be spelled in a line of it.
+/// The whole texts of books are exactly those of sets of receptions: the text, in some version, of
+/// the set's book under the version's gap, where each row can be spelled in a line.
 pub fn book_texts_are_of_sets()
     ensures { Spec.AreOfSets }
 {}

@@ -94,7 +94,7 @@ pub fn read_rows<R: Read, A: Allocator + Copy>(
 
     // The rows are those of a book with this gap.
     ensures sound { IfOk result (λ gap. IsSoundBook (record { gap = gap; rows = rows.new })) }
-    // Where an allocation failed, there are as many rows as the lines before the named one have.
+    // Where an allocation failed, there are as many rows as rows' lines before the line it names.
     ensures stops { IfErr result (λ fault. StopsAfter fault rows.new) }
 
     // The reader is asked neither after its end nor after a fault.

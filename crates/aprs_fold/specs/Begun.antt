@@ -41,8 +41,8 @@ AreTaken remaining limit gap (o ∷ old) (n ∷ new) (t ∷ taken) (f ∷ front)
     IsTaken remaining limit gap o n t f × AreTaken remaining limit gap old new taken front
 AreTaken remaining limit gap old new taken front = ⊥
 
--- The rows that were taken of the inputs, none of them after one in front, are folded: these are
--- final, and the last one may still be joined.
+-- The rows that were taken of the inputs are folded, and none of them comes after a row in front.
+-- `rows` are final, and the one in `last` may still be joined.
 pub record AreFolded {R : Type 0} (remaining : R → Option (List ℕ)) (limit gap : ℕ)
     (old new : List (Counted R)) (rows last : List Row) : Type 0 where
   pub taken : List (List Row)

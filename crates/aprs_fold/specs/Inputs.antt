@@ -41,8 +41,8 @@ BeginsOther gap (Some text) = (version : Version) × (rest : List ℕ) × IsVers
 BeginsOther gap known = Unit {0}
 
 -- Why a fold ends before its end, by its inputs. The input of that number has this fault as a book
--- file, as far as it was read, or it begins as one of another gap. `Memory` and `Write` say nothing
--- of the inputs.
+-- file, as far as it was read, or begins as one of another gap. `Memory` and `Write` say nothing of
+-- the inputs.
 abbrev pub IsRefused : {R : Type 0} → (R → Option (List ℕ)) → ℕ → ℕ → FoldFault
     → List (Counted R) → List (Counted R) → Type 0
 IsRefused {R = R} remaining limit gap (Input index fault) old new =

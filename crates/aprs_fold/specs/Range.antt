@@ -45,8 +45,8 @@ book_of_sources range gap rows = record {
 abbrev pub AllAreWithin : Type 0
 AllAreWithin = (rows : List Row) → rows_of_sources all_sources rows ≡ rows
 
--- Where a range is cut at a source within it, and rows ascend, the rows of the part before this
--- source and those of the part from it on are, one after another, the rows of the range.
+-- A range is cut at a source within it, and rows ascend. Then the rows of the part before this
+-- source, followed by those of the part from it on, are the rows of the range.
 abbrev pub PartsAreWhole : Type 0
 PartsAreWhole = (range : SourceRange) (cut : Call) (rows : List Row) → is_within range cut ≡ true
     → Ordered (IsBelow row_cmp) rows

@@ -47,7 +47,7 @@ IsOneRefused remaining limit gap number (OtherGap index) old new =
 IsOneRefused remaining limit gap number Memory old new = IsAsked remaining limit old new
 IsOneRefused remaining limit gap number Write old new = ⊥
 
--- The stream of this number has a row in front, and may be read on.
+-- The stream of this number may be read on: it hasn't ended, and isn't too large.
 abbrev pub IsReadyAt : {A : Type 0} → List (RowStream A) → ℕ → Type 0
 IsReadyAt [] index = ⊥
 IsReadyAt (s ∷ streams) zero = (stream_size s ≤ most_stream) × (is_ended s ≡ false)

@@ -78,8 +78,8 @@ fn open_one<R: Read, A: Allocator + Copy>(
     Ok(stream)
 }
 
-/// Reads the next row of the input of this number, or reads to its end. Requires that this stream
-/// has a row in front. Fails with the input's fault.
+/// Reads the next row of the input of this number, or reads to its end. Requires that its stream
+/// hasn't ended. Fails with the input's fault.
 pub(crate) fn advance<R: Read, A: Allocator + Copy>(
     index: usize,
     streams: &mut [RowStream<A>],

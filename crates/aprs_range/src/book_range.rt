@@ -37,10 +37,10 @@ pub struct BookRange<R> {
 
 impl<R: ReadAt> BookRange<R> {
     /// The rows of this range in a book file, which are found by bisection: some lines alone are
-    /// read. `Err` has the source, where it isn't found to be a book file, a read failed, memory
-    /// was refused, or a line that is read has 16 MiB or more. Faults of rows out of the range, and
-    /// most faults of rows within it, aren't looked for. Takes memory for the longest line that is
-    /// read.
+    /// read. Returns the source as `Err` where it isn't found to be a book file, a read failed or
+    /// memory was refused. So it does where a line that is read has 16 MiB or more. Faults of rows
+    /// out of the range, and most faults of rows within it, aren't looked for. Takes memory for the
+    /// longest line that is read.
     pub fn find<A: Allocator>(alloc: A, source: R, range: &SourceRange) -> Result<BookRange<R>, R>
         ensures lends { IfOk result (λ found. Spec.LendsRange range.now (R.bytes source)
             (Spec.lent R.bytes found)) }
@@ -105,7 +105,7 @@ impl<R: ReadAt> BookRange<R> {
     }
 
     /// Reads bytes of the rows' lines from the file to the start of `buf`, and returns how many, at
-    /// least one. The header has to be given, and some of these lines has to be left. Fails where
+    /// least one. The header has to be given, and some of these bytes have to be left. Fails where
     /// the read fails or no byte comes, or where the rows would be 2^64.
     fn read_lines(&mut self, buf: &mut [u8]) -> io::Result<usize>
         requires given { length self.old.line.items ≤ self.old.given }

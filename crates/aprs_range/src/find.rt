@@ -29,16 +29,15 @@ pub struct Stretch {
 /// one.
 #[derive(Clone, Copy)]
 struct Bounds {
-    /// A line begins at this place. All lines before it are of rows whose sources come before the
-    /// given one.
+    /// A line begins at this place. All rows before it have sources that come before the given one.
     low: u64,
     /// The first line that begins at this place or later is no such row's.
     high: u64,
 }
 
-/// Where the lines of the range's rows stand in the book file, or `None` where it seems to be no
-/// book file, a read failed or memory was refused. Some of its lines alone are looked at. Takes
-/// memory for the longest of them.
+/// Where the lines of the range's rows stand in the book file. `None` where it seems to be no book
+/// file, a read failed or memory was refused, or a line that is read has 16 MiB or more. Some of
+/// its lines alone are read. Takes memory for the longest of them.
 pub fn find_stretch<R: ReadAt, A: Allocator>(
     alloc: A,
     source: &mut R,
@@ -122,9 +121,9 @@ fn find_cut<R: ReadAt, A: Allocator>(
     Some(low)
 }
 
-/// The place of a line that is at `start` or follows one that is a row's whose source comes before
-/// `before` (any row's, where there is no `before`). In a book file it is the first line from
-/// `start` on that is no such row's.
+/// The place of a line that is at `start` or follows a line of a row whose source comes before
+/// `before`. Where there is no `before`, any row's line will do. In a book file it is the first
+/// line from `start` on that isn't of such a row.
 fn bisect<R: ReadAt, A: Allocator>(
     source: &mut R,
     line: &mut Vec<u8, A>,
