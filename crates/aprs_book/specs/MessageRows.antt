@@ -122,8 +122,8 @@ answer_cmp = then_cmp (on (λ a. a.source) call_cmp)
 
 -- ---- entries, one for each message or answer of the rows
 
--- Entries for what the rows report: T holds of the rows, of the thing that an entry's key shows
--- and of the entry's value; and each thing that a row's key reports (P) has an entry.
+-- Entries for what the rows report. Each thing that a row's key reports, as P says, has an entry.
+-- Of each entry T holds: of the rows, of the thing that its key shows, and of its value.
 pub record IsCollected {K V M : Type 0} (shown : K → M) (P : M → Key → Type 0)
     (T : List Row → M → V → Type 0) (rows : List Row) (entries : List (K × V)) : Type 0 where
   pub each : (e : K × V) → e ∈ entries → T rows (shown e.0) e.1
@@ -187,6 +187,7 @@ abbrev pub reply_ack_to : List (AnswerKey × Received) → Message → ℕ → O
 reply_ack_to entries m first None = NotAwaited
 reply_ack_to entries m first (Some number) = reply_ack_by first (answer_to entries m number true)
 
+-- What reply-acks say of a message of this first moment, by its number.
 abbrev pub reply_ack_in : List (AnswerKey × Received) → Message → ℕ → ReplyAck
 reply_ack_in entries m first =
     reply_ack_to entries m first (number_without m.id (number_of m.text))

@@ -67,7 +67,7 @@ pub record AnswersIt (m : Message) (id : List ℕ) (k : Key) : Type 0 where
   pub to : SpellsCall m.source addressee
   pub answer : (report_of k ≡ ack addressee id) ⊎ (report_of k ≡ rej addressee id)
 
--- A rejection rejects, and an acknowledgement acknowledges.
+-- The state by an answer that reads so: rejected by a rejection, otherwise acknowledged.
 abbrev pub reported_state : Value → MessageState
 reported_state (rej addressee id) = Rejected
 reported_state v = Acknowledged
@@ -150,8 +150,8 @@ IsSent S m = (s : Received) × (s ∈ S) × ReportsIt m (key_of s.frame)
 abbrev pub IsListedBefore : MessageRow → MessageRow → Type 0
 IsListedBefore x y = IsBelow message_cmp (shown_message x) (shown_message y)
 
--- A row of the list has the message's first and last moment in S, what came of it in S, and when,
--- and what reply-acks in S say of it.
+-- A row of the list has the message's first and last moment in S, and what came of it in S. It has
+-- the moment at which it was answered in S, and what reply-acks in S say of it.
 pub record IsMessageRow (S : List Received) (x : MessageRow) : Type 0 where
   pub first : IsFirstMoment S (ReportsIt (shown_message x)) x.first
   pub last : IsLastMoment S (ReportsIt (shown_message x)) x.last

@@ -20,7 +20,7 @@ pub record IsNumberedText (number acknowledged text : List ℕ) : Type 0 where
   pub a_number_or_nothing : is_number_or_nothing acknowledged ≡ true
   pub whole : text ≡ body ++ octet "{" ∷ (number ++ octet "}" ∷ acknowledged)
 
--- The text is "ack", the number, a brace, and what the acknowledged text acknowledges, or nothing.
+-- The text is "ack", the number, a closing brace, and another number or nothing.
 pub record IsAckText (number text : List ℕ) : Type 0 where
   pub acknowledged : List ℕ
   pub a_number : is_message_number number ≡ true

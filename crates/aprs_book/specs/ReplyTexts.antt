@@ -7,7 +7,7 @@ use Rattle.aprs_report.specs.Bytes.{is_alphanumeric}
 use Rattle.aprs_report.specs.Reader.{value_when}
 use Rattle.aprs_book.specs.ReplyAcks.{is_message_number, is_number_or_nothing}
 
--- What P says of anything is that it is what the option holds.
+-- P holds of what the option has, and of nothing else: where that is None, P holds of nothing.
 abbrev pub HoldsOnly : {X : Type 0} → (X → Type 0) → Option X → Type 0
 HoldsOnly {X} P o = (x : X) → (o ≡ Some x) ↔ P x
 

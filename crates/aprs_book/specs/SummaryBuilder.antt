@@ -9,7 +9,7 @@ use Rattle.aprs_book.specs.Exchange.{IsExchangeOf}
 use Rattle.aprs_book.specs.Notes.{AreNotesOf}
 use Rattle.aprs_book.specs.StationRows.{AreTallies}
 
--- What the rows report, how many each station has, and what they say of messages.
+-- What the rows report, how many each station has, by callsign, and what they say of messages.
 pub record IsBuilderOf {A : Type 0} (rows : List Row) (s : SummaryBuilder A) : Type 0 where
   pub notes : AreNotesOf rows s.notes
   pub tallies : AreTallies rows s.tallies

@@ -23,8 +23,8 @@ use std::alloc::{Allocator, Global};
 use std::marker::Model;
 
 /// The book of a set of receptions: one row for each transmission, ascending by key (source,
-/// destination, information), then first moment. Receptions of one key whose neighbours are at most
-/// the book's gap apart are one transmission.
+/// destination, information), then first moment. Receptions of one key are one transmission as long
+/// as each comes at most the book's gap after the one before it.
 pub struct Book<A: Allocator = Global> {
     gap: Gap,
     rows: KeyedRows<A>,
@@ -78,7 +78,8 @@ impl<A: Allocator + Copy> Book<A> {
         }
     }
 
-    /// The book of this gap and of these rows, whose indexes those have to be.
+    /// The book of this gap and these rows. They have to be sound, and the indexes have to be those
+    /// of these rows.
     pub(crate) fn of_kept(gap: Gap, rows: KeyedRows<A>, indexes: Indexes<Reception, A>) -> Book<A>
         requires sound { IsSoundBook (record { gap = gap; rows = rows }) }
         requires indexes { AreIndexesOf rows indexes }
@@ -154,8 +155,8 @@ impl<A: Allocator + Copy> Book<A> {
         Ok(())
     }
 
-    /// Adds a row after all others, and notes what it reports. Nothing may refuse the row. After
-    /// `Memory` the book is as before.
+    /// Adds a row after all others, and notes what it reports. Requires that no cause refuses the
+    /// row. After `Memory` the book is as before.
     fn add(&mut self, parts: &RowParts<A>) -> Result<(), Memory>
         requires { refusal (millis_of self.old.gap) self.old.rows parts.now ≡ None }
         ensures added { OnOk result (self.new.rows ≡ self.old.rows ++ parts.now ∷ []) }

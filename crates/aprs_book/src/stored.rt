@@ -24,7 +24,7 @@ pub(crate) fn book_of<A: Allocator + Copy>(alloc: A, store: BookStore<A>) -> Res
 }
 
 /// Adds the rows of a walk to the book in a store. They have to be in order, and each sound by
-/// itself. After `Memory` the book in the store is as before.
+/// itself.
 pub(crate) fn add_rows<A: Allocator + Copy>(
     alloc: A,
     store: &mut BookStore<A>,
@@ -47,7 +47,7 @@ pub(crate) fn add_rows<A: Allocator + Copy>(
 
 /// Puts a row after the others. It has to be sound by itself. `text` is written over; it is
 /// kept from row to row. `Memory` is also returned where the names of the row's receivers, with
-/// commas between, have 4,294,967,296 bytes or more. After it the rows are as before.
+/// commas between, have 4,294,967,296 bytes or more.
 fn put_row<A: Allocator + Copy>(
     packed: &mut PackedRows<A>,
     text: &mut Vec<u8, A>,

@@ -33,7 +33,8 @@ abbrev pub IsBookOrMemory : Result BookValue BookFault → BookValue → Type 0
 IsBookOrMemory (Ok found) book = found ≡ book
 IsBookOrMemory (Err fault) book = fault.cause ≡ why.Memory
 
--- The text of a book in any version is read, where it is short enough and no read failed.
+-- The text of a book in any version is read, where it is short enough, unless a read or an
+-- allocation failed.
 abbrev pub AcceptsBook : ℕ → List ℕ → Result BookValue BookFault → Type 0 → Type 0
 AcceptsBook limit text answer Failed = (version : Version) (rows : List Row)
     → IsBookRows version rows → text ≡ book_text version rows → length text ≤ limit

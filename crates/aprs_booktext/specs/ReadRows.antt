@@ -15,7 +15,7 @@ book_read (Err fault) rows = Err fault
 abbrev pub IsNextLine : ℕ → List Row → Type 0
 IsNextLine line rows = ((line ≡ 1) × (rows ≡ [])) ⊎ (line ≡ length rows + 2)
 
--- Where an allocation failed, the rows are just those of the lines before the one that the fault
--- names.
+-- Where an allocation failed, there are as many rows as rows' lines stand before the line that the
+-- fault names.
 abbrev pub StopsAfter : BookFault → List Row → Type 0
 StopsAfter fault rows = fault.cause ≡ why.Memory → IsNextLine fault.line rows

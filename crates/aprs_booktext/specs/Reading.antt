@@ -7,7 +7,8 @@ use Rattle.aprs_booktext.specs.Asking.{Asks, Takes}
 use Rattle.aprs_booktext.specs.BookAnswers.{ReadsBook}
 use Rattle.aprs_booktext.specs.declared.fault.BookFault.{BookFault}
 
--- What was got after the head is gone from the input, and P holds of both; so much less may be got.
+-- What was got after the head is gone from the input. P holds of the head and this together, and
+-- `left` is how many bytes they leave of the limit.
 pub record Got (P : List ℕ → Type 0) (head : List ℕ) (old now : Option (List ℕ))
     (limit left : ℕ) : Type 0 where
   pub got : List ℕ

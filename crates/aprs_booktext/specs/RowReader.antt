@@ -108,6 +108,7 @@ ReadsOne true reader rows text =
     × HasReadTo reader (rows ++ x ∷ []) text
 ReadsOne false reader rows text = HasReadTo reader rows text
 
--- Where each row is kept and an allocation failed, the rows are those of the lines before it.
+-- Where each row is kept and an allocation failed, as many rows are kept as rows' lines stand
+-- before the line that the fault names.
 abbrev pub StopsHere : {A : Type 0} → BookFault → RowReader A → Type 0
 StopsHere fault reader = reader.keeping ≡ Each → StopsAfter fault reader.rows

@@ -76,7 +76,8 @@ StepsTo remaining true limit head first now stream rows =
 StepsTo remaining false limit head first now stream rows =
     HasGot remaining limit head first now stream rows
 
--- The input is faulty so, since it was `first`, where the text of these rows was got before.
+-- Where the text of some rows was got since the input was `first`, this fault is the answer of
+-- reading it since then.
 abbrev pub IsFaultyAfter : {R A : Type 0} → (R → Option (List ℕ)) → BookFault → Counted R
     → Counted R → RowStream A → Type 0
 IsFaultyAfter {R = R} remaining fault old new stream =
@@ -84,8 +85,8 @@ IsFaultyAfter {R = R} remaining fault old new stream =
     → HasGot remaining limit head first old stream rows
     → IsAnswered remaining limit head (Err fault) first new
 
--- Where the text of some rows was got before and each is kept, an allocation failed in the line
--- after those that are kept now.
+-- The text of some rows was got before, and each row is kept. Then, if an allocation failed, the
+-- fault names the line after those of the rows that are kept now.
 abbrev pub StopsFrom : {R A : Type 0} → (R → Option (List ℕ)) → BookFault → Counted R
     → RowStream A → RowStream A → Type 0
 StopsFrom {R = R} remaining fault now old new =

@@ -31,7 +31,8 @@ pub enum BookCause {
     Read,
     /// The input has more bytes than the limit allows.
     TooLong,
-    /// An allocation failed.
+    /// An allocation failed, or the names of a row's receivers, with commas between, have
+    /// 4,294,967,296 bytes or more.
     Memory,
 }
 

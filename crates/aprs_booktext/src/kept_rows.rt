@@ -86,7 +86,8 @@ impl<A: Allocator + Copy> KeptRows<A> {
     }
 
     /// Puts a row, whose line in this form is `line`, in the place of all rows. The line is kept
-    /// where it is as it is written. Requires what `PackedRows::push` does.
+    /// where the form is `Millis`, in which rows are written. Requires what `PackedRows::push`
+    /// does.
     pub(crate) fn set(
         &mut self,
         row: &RowView<'_>,

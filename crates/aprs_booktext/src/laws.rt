@@ -2,18 +2,18 @@
 ghost use Rattle.aprs_booktext.specs.Law as Spec;
 ghost use Rattle.aprs_booktext.specs.Seconds.{AreWrittenToTheSecond};
 
-/// The text of a book's rows in a version, with its gap, is that of no other version, gap or rows,
-/// so different books are written as different texts. What begins such a text, whole or not, has no
-/// fault but that a byte is missing after it or that an allocation failed, and the whole text has
-/// none but the latter.
+/// The text of a book's rows in a version, with its gap, is that of no other version, gap or rows.
+/// So different books are written as different texts. A beginning of such a text has no fault but
+/// that a byte is missing after it or that an allocation failed. Where the input ended after the
+/// whole text, that has no fault but the latter.
 pub fn each_book_has_one_text()
     ensures one { Spec.HaveOneText }
     ensures written { Spec.TellBooksApart }
     ensures cut { Spec.AreCutShort }
 {}
 
-/// The header of a book and a part of the lines of its rows, the whole of them too, have the fault
-/// `Ending` where the input ends there, and so are the text of no book.
+/// The header of a book and a part of its rows' lines, or all of them, have the fault `Ending`
+/// where the input ends there. So they are the text of no book.
 pub fn cut_rows_lack_an_end()
     ensures { Spec.LackAnEnd }
 {}
@@ -24,16 +24,16 @@ pub fn written_books_are_read()
     ensures { Spec.AreReadBack }
 {}
 
-/// Apart from `Memory`, a text has exactly one fault for each way in which the input may end,
-/// unless it is the whole text of a book and the end came after it: then it has none.
+/// Apart from `Memory`, a text has exactly one fault for each way in which the input may end. Only
+/// the whole text of a book, where the end came after it, has none.
 pub fn each_text_has_one_fault_or_none()
     ensures some { Spec.HaveFaultOrBook }
     ensures one { Spec.HaveOneBookFault }
     ensures none { Spec.BooksAreFaultless }
 {}
 
-/// A text is the whole text of a book exactly if it is, in some version, that of the book of some
-/// set of receptions under the version's gap, each row of which can be spelled in a line of it.
+/// The whole texts of books are exactly those of sets of receptions: the text, in some version, of
+/// the set's book under the version's gap, where each row can be spelled in a line.
 pub fn book_texts_are_of_sets()
     ensures { Spec.AreOfSets }
 {}

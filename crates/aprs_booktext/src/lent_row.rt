@@ -37,7 +37,7 @@ impl<'a> Model for LentRow<'a> {
 }
 
 impl<'a> LentRow<'a> {
-    /// The row, whose line is `line`, or which has an empty one where it isn't known.
+    /// The row with its line, without the LF. `line` is empty where the line isn't known.
     pub(crate) fn new(row: RowView<'a>, line: &'a [u8]) -> LentRow<'a>
         requires { IsKeptLine line.now (Some row) }
         ensures { result ≡ row.entry }
@@ -52,7 +52,7 @@ impl<'a> LentRow<'a> {
         &self.row
     }
 
-    /// The row's line, or an empty text.
+    /// The row's line, without its LF, or an empty text where it isn't known.
     pub(crate) fn line(&self) -> &'a [u8]
         ensures { IsKeptLine result.now (Some self.now) }
     {

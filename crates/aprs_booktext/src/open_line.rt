@@ -71,7 +71,8 @@ impl<A: Allocator + Copy> OpenLine<A> {
     /// Whether the next row in order is near to the row here: then it joins that, and otherwise
     /// nothing changes. Without a row none is near. Requires that the next row is sound by itself,
     /// and that its receivers' names with commas between have fewer than 4,294,967,296 bytes.
-    /// `Memory` also where the joined row's names would have more. After it there may be any row.
+    /// `Memory` also where the joined row's names would have as many or more. After it there may be
+    /// any row.
     pub fn join(&mut self, gap: Gap, next: &LentRow<'_>) -> Result<bool, Memory>
         requires sound { IsSoundRow next.now }
         requires short { IsShort next.now }

@@ -94,7 +94,7 @@ pub fn read_rows<R: Read, A: Allocator + Copy>(
 
     // The rows are those of a book with this gap.
     ensures sound { IfOk result (λ gap. IsSoundBook (record { gap = gap; rows = rows.new })) }
-    // Where an allocation failed, the rows are those of the lines before the one that is named.
+    // Where an allocation failed, there are as many rows as rows' lines before the line it names.
     ensures stops { IfErr result (λ fault. StopsAfter fault rows.new) }
 
     // The reader is asked neither after its end nor after a fault.
@@ -107,8 +107,8 @@ pub fn read_rows<R: Read, A: Allocator + Copy>(
     rows_of_text(alloc, limit, head, source, rows)
 }
 
-/// The book of a text, which is made before the end is asked for: after that nothing may be short
-/// of memory.
+/// The book of a text. It is made before the input is asked for its end, so that no allocation can
+/// fail after that.
 fn book_of_text<R: Read, A: Allocator + Copy>(
     alloc: A,
     limit: u64,
@@ -152,8 +152,8 @@ fn rows_of_text<R: Read, A: Allocator + Copy>(
     answer
 }
 
-/// The rows of a text that begins with `head`, each of which is to be kept. Where memory is
-/// refused, that is in the first line.
+/// A stream of the rows of a text that begins with `head`, which keeps each row. Fails with
+/// `Memory` in the first line where an allocation failed.
 fn stream_of<A: Allocator + Copy>(
     alloc: A,
     limit: u64,

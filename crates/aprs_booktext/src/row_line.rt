@@ -80,8 +80,8 @@ fn cut_moment<'l>(clock: &mut Clock, form: MomentForm, text: &'l [u8]) -> Option
 }
 
 /// The last moment of a row, with which `text` begins, and what follows the space after it, or
-/// `None` where the text doesn't begin so. Before `text` stands the first moment in `before`: where
-/// the last is that, its text need not be read again.
+/// `None` where the text doesn't begin so. `before` is the first moment's text, a space and `text`.
+/// Where the last moment has the same text as the first, it isn't read again.
 fn cut_last<'l>(
     clock: &mut Clock,
     form: MomentForm,

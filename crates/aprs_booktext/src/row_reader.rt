@@ -88,7 +88,7 @@ impl<A: Allocator + Copy> RowReader<A> {
         }
     }
 
-    /// The last row, or `None` before the first and after the last line.
+    /// The row that was read last, or `None` before the first row, or once the last line was read.
     pub fn row(&self) -> Option<RowView<'_>>
         ensures some { IfSome result (λ x. last_or None (row_lent self.now) ≡ Some x) }
         ensures none { IfNone result (row_lent self.now ≡ []) }
@@ -102,7 +102,8 @@ impl<A: Allocator + Copy> RowReader<A> {
         }
     }
 
-    /// The last row with its line, or `None` before the first and after the last line.
+    /// The row that was read last, with its line where that is kept. `None` before the first row,
+    /// or once the last line was read.
     pub fn front(&self) -> Option<LentRow<'_>>
         ensures some { IfSome result (λ x. last_or None (row_lent self.now) ≡ Some x) }
         ensures none { IfNone result (row_lent self.now ≡ []) }

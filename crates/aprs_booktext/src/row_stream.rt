@@ -23,8 +23,8 @@ use aprs_rows::{Memory, PackedRows, RowView};
 use std::alloc::Allocator;
 use std::io::Read;
 
-/// The rows of a book's text that is read of a source: it keeps the last one, or in this crate each
-/// of them.
+/// A stream of the rows of a book's text that is read of a source. It keeps the row that was read
+/// last; inside this crate it may keep each row.
 #[derive(Drop)]
 pub struct RowStream<A: Allocator> {
     reader: RowReader<A>,
@@ -34,7 +34,8 @@ pub struct RowStream<A: Allocator> {
 }
 
 impl<A: Allocator + Copy> RowStream<A> {
-    /// The rows of a text of at most `limit` bytes, of which nothing was read.
+    /// The rows of a text of at most `limit` bytes, of which nothing was read. Takes memory for a
+    /// piece of 16,384 bytes. `advance` requires a limit of at most 9,223,372,036,854,775,807.
     pub fn new(alloc: A, limit: u64) -> Result<RowStream<A>, Memory>
         ensures holds { IfOk result (λ stream. Spec.HoldsTo stream [] []) }
         ensures left { IfOk result (λ stream. stream.left ≡ limit) }
@@ -44,8 +45,8 @@ impl<A: Allocator + Copy> RowStream<A> {
         RowStream::with_head(alloc, limit, &[], Keeping::Last)
     }
 
-    /// The rows of a text of at most `limit` bytes, which begins with `head`, and of which these
-    /// are to be kept.
+    /// The rows of a text of at most `limit` bytes, which begins with `head`. `keeping` says which
+    /// rows are kept. Requires a head of at most 8 bytes and at most `limit`.
     pub(crate) fn with_head(
         alloc: A,
         limit: u64,
@@ -75,7 +76,7 @@ impl<A: Allocator + Copy> RowStream<A> {
         self.reader.gap()
     }
 
-    /// The row that was read last, or `None` before the first and after the last.
+    /// The row that was read last, or `None` before the first row, or once the last line was read.
     pub fn row(&self) -> Option<RowView<'_>>
         ensures some { IfSome result (λ x. last_or None (Spec.front_of self.now) ≡ Some x) }
         ensures none { IfNone result (Spec.front_of self.now ≡ []) }
@@ -85,8 +86,8 @@ impl<A: Allocator + Copy> RowStream<A> {
         self.reader.row()
     }
 
-    /// The row that was read last, with its line where that is as it is written, or `None` before
-    /// the first and after the last. Takes no memory.
+    /// The row that was read last, with its line where that is as it is written. `None` before the
+    /// first row, or once the last line was read. Takes no memory.
     pub fn front(&self) -> Option<LentRow<'_>>
         ensures some { IfSome result (λ x. last_or None (Spec.front_of self.now) ≡ Some x) }
         ensures none { IfNone result (Spec.front_of self.now ≡ []) }
@@ -98,7 +99,8 @@ impl<A: Allocator + Copy> RowStream<A> {
 
     /// Reads on to the next row, or to the end of the book and of the source, and then there is no
     /// row. Fails with the text's first fault, or with `Memory` where an allocation failed.
-    /// Requires that the end wasn't reached before, and that no fault came.
+    /// Requires that the end wasn't reached before, that no fault came, and a limit of at most
+    /// 9,223,372,036,854,775,807.
     pub fn advance<R: Read>(&mut self, source: &mut Counted<R>) -> Result<(), BookFault>
         requires few { Spec.stream_size self.old ≤ most_stream }
         requires going { Spec.is_ended self.old ≡ false }
@@ -123,7 +125,8 @@ impl<A: Allocator + Copy> RowStream<A> {
     }
 
     /// Reads on to the end of the last line, and keeps each row. Fails with the text's first fault,
-    /// or with `Memory` where an allocation failed. Then the rows are those of the lines before.
+    /// or with `Memory` where an allocation failed. After `Memory` the rows are those of the lines
+    /// before the one that the fault names.
     pub(crate) fn read_lines<R: Read>(&mut self, source: &mut Counted<R>) -> Result<(), BookFault>
         requires few { Spec.stream_size self.old ≤ most_stream }
         requires each { self.old.reader.keeping ≡ Keeping.Each }

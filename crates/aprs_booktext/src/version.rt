@@ -103,8 +103,8 @@ fn gap_in(line: &[u8]) -> Option<Gap>
     }
 }
 
-/// The number below 2^64 that digits spell, or `None` where they spell none. Zeros before it are
-/// passed over.
+/// The number below 2^64 that digits spell, or `None` where they spell none. A plus sign and zeros
+/// before it are passed over.
 fn number_in(digits: &[u8]) -> Option<u64>
     ensures { (n : ℕ) → n < 2 ^ 64 → digits.now ≡ decimal n → result ≡ Some n }
 {

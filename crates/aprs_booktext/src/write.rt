@@ -36,8 +36,9 @@ pub(crate) const ROW_TAIL: usize = 675;
 
 /// Writes a book as its text of version 3: a header with the book's gap in seconds, a line for each
 /// row, with its moments to the millisecond, and a last line with their number.
-/// A text that it wrote to its end is one that `read_book` reads. At a fault a prefix of the text
-/// went out, and the count of the device's failures rose. Takes no memory.
+/// A text that it wrote to its end is one that `read_book` reads, if it has at most 1,073,741,824
+/// bytes. At a fault a prefix of the text went out, and the count of the device's failures rose.
+/// Takes no memory.
 pub fn write_book<W: Write, A: Allocator + Copy>(
     w: &mut Counted<W>,
     book: &Book<A>,

@@ -2,7 +2,7 @@
 use crate::write::ROW_TAIL;
 use aprs_log::MomentWriter;
 
-/// What writing a row's line goes over. It is kept from row to row, since to make it anew costs
+/// What writing a row's line writes to. It is kept from row to row, since to make it anew costs
 /// more than to write a short line.
 #[derive(Drop)]
 pub struct WrittenRow {

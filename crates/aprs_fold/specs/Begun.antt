@@ -41,8 +41,8 @@ AreTaken remaining limit gap (o ∷ old) (n ∷ new) (t ∷ taken) (f ∷ front)
     IsTaken remaining limit gap o n t f × AreTaken remaining limit gap old new taken front
 AreTaken remaining limit gap old new taken front = ⊥
 
--- The rows that were taken of the inputs, none of them after one in front, are folded: these are
--- final, and the last one may still be joined.
+-- The rows that were taken of the inputs are folded, and none of them comes after a row in front.
+-- `rows` are final, and the one in `last` may still be joined.
 pub record AreFolded {R : Type 0} (remaining : R → Option (List ℕ)) (limit gap : ℕ)
     (old new : List (Counted R)) (rows last : List Row) : Type 0 where
   pub taken : List (List Row)
@@ -50,7 +50,7 @@ pub record AreFolded {R : Type 0} (remaining : R → Option (List ℕ)) (limit g
   pub inputs : AreTaken remaining limit gap old new taken front
   pub folding : IsFolding (millis_of gap) (all_of taken) (all_of front) rows last
 
--- Or no row was taken.
+-- The rows that were taken are folded so; or no row is final, and no last one is there.
 abbrev pub IsBegun : {R : Type 0} → (R → Option (List ℕ)) → ℕ → ℕ → List (Counted R)
     → List (Counted R) → List Row → List Row → Type 0
 IsBegun remaining limit gap old new rows last =

@@ -47,10 +47,10 @@ IsPart contents gap fault rows last old new = (part : List ℕ) × (rest : List 
     × Calls Going old new
     × LacksEnd (header_text gap ++ part)
 
--- What was written before the fold ended early: a part of such a text, of those of these rows whose
--- sources are within the range. Of the rows that were taken of the inputs these are final
--- (`BeginsBook`): whatever the inputs go on to be, they begin the book of all; with the last they
--- are the book of those that were taken (`EndsAsBook`).
+-- What was written before the fold ended early: a part of a book's text (`IsPart`), with those of
+-- these rows whose sources are within the range. `rows` are final: whatever the inputs go on to be,
+-- the book of all begins with them (`BeginsBook` of aprs_folding). With `last` they are the book of
+-- the rows that were taken of the inputs (`EndsAsBook`).
 pub record IsLeft {R W : Type 0} (remaining : R → Option (List ℕ))
     (contents : W → Option (List ℕ)) (limit gap : ℕ) (range : SourceRange) (fault : FoldFault)
     (first now : List (Counted R)) (old new : Counted W) : Type 0 where
@@ -63,7 +63,8 @@ pub record IsLeft {R W : Type 0} (remaining : R → Option (List ℕ))
 
 -- ---- the same of what was put
 
--- The rows are those of a book, which were taken and, within the range, written one after another.
+-- The rows are those of a book: of the rows that were folded, the last among them, those whose
+-- sources are within the range. Without the last they are those of a book too.
 pub record IsFoldedBook {R : Type 0} (remaining : R → Option (List ℕ)) (limit gap : ℕ)
     (range : SourceRange) (first now : List (Counted R)) (rows : List Row) : Type 0 where
   pub written : List Row

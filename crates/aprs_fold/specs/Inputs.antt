@@ -40,8 +40,9 @@ BeginsOther gap (Some text) = (version : Version) × (rest : List ℕ) × IsVers
     × (gap_of version ≢ gap) × (text ≡ ended_by_lf (header_of version) ++ rest)
 BeginsOther gap known = Unit {0}
 
--- Why a fold ends before its end, by its inputs: the input of that number has this fault as a book
--- file, where what was got of it was read, or it begins as one of another gap.
+-- Why a fold ends before its end, by its inputs. The input of that number has this fault as a book
+-- file, as far as it was read, or begins as one of another gap. `Memory` and `Write` say nothing of
+-- the inputs.
 abbrev pub IsRefused : {R : Type 0} → (R → Option (List ℕ)) → ℕ → ℕ → FoldFault
     → List (Counted R) → List (Counted R) → Type 0
 IsRefused {R = R} remaining limit gap (Input index fault) old new =

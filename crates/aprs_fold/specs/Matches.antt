@@ -3,7 +3,8 @@ use Rattle.std.specs.Prelude.{◌≡◌, ℕ, ◌+◌, ◌*◌, ◌/◌, ◌<◌
 use Rattle.aprs_booktext.specs.declared.row_stream.RowStream.{RowStream}
 use Rattle.aprs_fold.specs.Fronts.{row_at, NotAfter}
 
--- The stream that won the match of this number. The numbers after all matches are the streams.
+-- The stream that won the match of this number. The numbers after those of all matches stand for
+-- the streams, from stream 0 on.
 abbrev pub winner_of : List ℕ → ℕ → ℕ
 winner_of [] number = number
 winner_of (w ∷ winners) zero = w

@@ -10,12 +10,12 @@ use Rattle.aprs_laws.specs.Row.{Row, row_cmp, row_key}
 use Rattle.aprs_fold.specs.Inputs.{book_of_all}
 use Rattle.aprs_fold.specs.declared.range.SourceRange.{SourceRange}
 
--- The source is the first one of a range, if it has one, or comes after it.
+-- The source is the first one of a range or comes after it. True where the range has no first one.
 abbrev pub is_from : Option Call → Call → Bool
 is_from None source = true
 is_from (Some first) source = is_le (call_cmp first source)
 
--- The source comes before the end of a range, if it has one.
+-- The source comes before the end of a range. True where the range has no end.
 abbrev pub is_until : Option Call → Call → Bool
 is_until None source = true
 is_until (Some end) source = is_lt (call_cmp source end)
@@ -45,8 +45,8 @@ book_of_sources range gap rows = record {
 abbrev pub AllAreWithin : Type 0
 AllAreWithin = (rows : List Row) → rows_of_sources all_sources rows ≡ rows
 
--- Where a range is cut at a source within it, and rows ascend, the rows of the part before this
--- source and those of the part from it on are, one after another, the rows of the range.
+-- A range is cut at a source within it, and rows ascend. Then the rows of the part before this
+-- source, followed by those of the part from it on, are the rows of the range.
 abbrev pub PartsAreWhole : Type 0
 PartsAreWhole = (range : SourceRange) (cut : Call) (rows : List Row) → is_within range cut ≡ true
     → Ordered (IsBelow row_cmp) rows

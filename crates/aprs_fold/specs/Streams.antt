@@ -47,7 +47,7 @@ IsOneRefused remaining limit gap number (OtherGap index) old new =
 IsOneRefused remaining limit gap number Memory old new = IsAsked remaining limit old new
 IsOneRefused remaining limit gap number Write old new = ⊥
 
--- The stream of this number has a row in front, and may be read on.
+-- The stream of this number may be read on: it hasn't ended, and isn't too large.
 abbrev pub IsReadyAt : {A : Type 0} → List (RowStream A) → ℕ → Type 0
 IsReadyAt [] index = ⊥
 IsReadyAt (s ∷ streams) zero = (stream_size s ≤ most_stream) × (is_ended s ≡ false)
@@ -86,7 +86,7 @@ OthersStay index old new =
 abbrev pub ahead_of : {A : Type 0} → RowStream A → ℕ
 ahead_of stream = if is_ended stream then 0 else stream_ahead stream + 1
 
--- And that of all streams.
+-- The sum of this over all streams.
 abbrev pub ahead_of_all : {A : Type 0} → List (RowStream A) → ℕ
 ahead_of_all [] = 0
 ahead_of_all (s ∷ streams) = ahead_of s + ahead_of_all streams

@@ -12,7 +12,9 @@ pub enum FoldFault {
     Input { index: usize, fault: BookFault },
     /// An input that begins as a book file of another gap.
     OtherGap { index: usize },
-    /// An allocation failed that isn't for one input alone.
+    /// An allocation failed, other than in reading an input's text: that is the input's fault. It
+    /// is this also where a joined row's names of receivers, with commas between, have
+    /// 4,294,967,296 bytes or more, or the rows are 2^64.
     Memory,
     /// The output was refused.
     Write,

@@ -27,14 +27,15 @@ use std::io::{Read, Write};
 /// The greatest limit that a caller may set for a book file that is folded: 2^63 - 1 bytes.
 pub const MAX_BOOK: u64 = 9_223_372_036_854_775_807;
 
-/// Writes the text of the book of all inputs, which have to be book files of this gap, of at most
-/// `limit` bytes each, in version 3. Of its rows the text has those whose sources are within the
-/// range. The inputs are read side by side to their ends, and the rows are written as they come:
-/// memory is taken for each input (a piece of 16 KiB, its longest line twice and its longest row)
-/// and for one row more with its line, whatever the number of rows. Requires a limit of at most
-/// `MAX_BOOK` (9,223,372,036,854,775,807). The header is sent before an input is read.
+/// Writes, in version 3, the text of the book of all inputs. These have to be book files of this
+/// gap, in any version, of at most `limit` bytes each. Of the book's rows the text has those whose
+/// sources are within the range. The inputs are read side by side to their ends, and the rows are
+/// written as they come. Memory is taken for each input (a piece of 16 KiB, its longest line twice
+/// and its longest row) and for one row more with its line, whatever the number of rows. Requires a
+/// limit of at most `MAX_BOOK` (9,223,372,036,854,775,807). The header is sent before an input is
+/// read.
 /// Where an input is at fault or an allocation fails, the header and a part of the rows' lines were
-/// written, which are no book's text, since its last line isn't there. At `Write` a prefix of the
+/// written. They are no book's text, since the last line isn't there. At `Write` a prefix of the
 /// text was written.
 pub fn fold_books<R: Read, W: Write, A: Allocator + Copy>(
     alloc: A,
@@ -46,22 +47,23 @@ pub fn fold_books<R: Read, W: Write, A: Allocator + Copy>(
 ) -> Result<(), FoldFault>
     requires { limit ≤ most_stream }
 
-    // At `Ok` each input is the whole text of a book of this gap, and what was written is the text
-    // of the range's rows of the book of all their rows, which can be read back.
+    // At `Ok` each input is the whole text of a book of this gap. What was written is the text of
+    // the range's rows of the book of all their rows, and can be read back.
     ensures folds { OnOk result ((rows : List (List Row))
         × AreBooks R.remaining limit gap inputs.old inputs.new rows
         × Sends W.contents result w.old w.new (written_text (book_of_sources range.now gap rows))
         × Spec.IsWhole gap (book_of_sources range.now gap rows).rows) }
 
-    // At a fault of an input it is faulty so. What was written is a part of a book's text: of the
-    // book of the rows that were taken of the inputs, those that are final. The output answered a
-    // fault at `Write` alone, in its last call.
+    // At a fault of an input, that input has it. What was written is a part of a book's text, of
+    // the rows that no later row could join. The output answered a fault at `Write` alone, in its
+    // last call.
     ensures refuses { IfErr result (λ fault.
         IsRefused R.remaining limit gap fault inputs.old inputs.new) }
     ensures left { IfErr result (λ fault. Spec.IsLeft R.remaining W.contents limit gap range.now
         fault inputs.old inputs.new w.old w.new) }
 
-    // Of each input some bytes were got, and none is asked after its end or a fault.
+    // Of each input at most `limit` bytes were got, and one more was taken at `TooLong`. None is
+    // asked after its end or a fault.
     ensures asks { AreAsked R.remaining limit inputs.old inputs.new }
 {
     let mut out = Outlet::new(w);

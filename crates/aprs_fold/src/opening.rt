@@ -14,8 +14,8 @@ use std::alloc::Allocator;
 use std::io::Read;
 
 /// A stream for each input, which was read to its first row, or to its end where it has none. Fails
-/// with the first input's fault, or where an input's gap is another. Requires a limit of at most
-/// 9,223,372,036,854,775,807.
+/// at the first input that has a fault or another gap, or with `Memory`. Requires a limit of at
+/// most 9,223,372,036,854,775,807.
 pub(crate) fn open_all<R: Read, A: Allocator + Copy>(
     alloc: A,
     limit: u64,
@@ -54,7 +54,7 @@ fn keep<A: Allocator + Copy>(
 }
 
 /// A stream of this input, which was read to its first row, or to its end where it has none.
-/// Fails with its fault, as that of this number, or where its gap is another.
+/// Fails with the input's fault or with `OtherGap`, each with the number `index`, or with `Memory`.
 fn open_one<R: Read, A: Allocator + Copy>(
     alloc: A,
     limit: u64,
@@ -78,8 +78,8 @@ fn open_one<R: Read, A: Allocator + Copy>(
     Ok(stream)
 }
 
-/// Reads the next row of the input of this number, or reads to its end. Requires that this stream
-/// has a row in front.
+/// Reads the next row of the input of this number, or reads to its end. Requires that its stream
+/// hasn't ended. Fails with the input's fault.
 pub(crate) fn advance<R: Read, A: Allocator + Copy>(
     index: usize,
     streams: &mut [RowStream<A>],

@@ -47,7 +47,7 @@ impl SourceRange {
     }
 }
 
-/// Whether the source isn't before the first one of a range, if it has one.
+/// Whether the source isn't before the first one of a range. `true` where that has none.
 fn is_from(first: &Option<Callsign>, source: &Callsign) -> bool
     ensures { result ≡ Spec.is_from first.now source.now }
 {
@@ -57,7 +57,7 @@ fn is_from(first: &Option<Callsign>, source: &Callsign) -> bool
     }
 }
 
-/// Whether the source is before the end of a range, if it has one.
+/// Whether the source is before the end of a range. `true` where that has none.
 fn is_until(end: &Option<Callsign>, source: &Callsign) -> bool
     ensures { result ≡ Spec.is_until end.now source.now }
 {

@@ -16,7 +16,8 @@ use aprs_laws::Gap;
 use std::alloc::Allocator;
 use std::io::Write;
 
-/// Takes the row in front of the stream of this number, as `take` does. Requires that there is one.
+/// Takes the row in front of the stream of this number, as `take` does. Requires that there is one,
+/// and that no other stream's comes before it.
 pub(crate) fn take_front<W: Write, A: Allocator + Copy>(
     gap: Gap,
     range: &SourceRange,
@@ -67,7 +68,7 @@ fn take<W: Write, A: Allocator + Copy>(
 }
 
 /// Puts the line of the last row into `out`, if there is one and it is within the range. Returns
-/// whether it is.
+/// whether a line was put.
 pub(crate) fn put_last<W: Write, A: Allocator + Copy>(
     range: &SourceRange,
     last: &OpenLine<A>,
@@ -101,7 +102,7 @@ pub(crate) fn has_line<A: Allocator + Copy>(range: &SourceRange, last: &OpenLine
     }
 }
 
-/// One more, where a line was put. `Memory` where that is 2^64.
+/// The count, with one more where a line was put. `Memory` where that would be 2^64.
 pub(crate) fn count_after(count: usize, wrote: bool) -> Result<usize, FoldFault>
     ensures counts { IfOk result (λ n. n ≡ (if wrote then count + 1 else count)) }
     ensures fails { IfErr result (λ fault. fault ≡ FoldFault.Memory) }

@@ -7,9 +7,9 @@ use aprs_booktext::RowStream;
 use aprs_rows::Memory;
 use std::alloc::Allocator;
 
-/// Matches between the rows in front of streams, the earlier of two of which wins. Match 1 is the
-/// last one; match `n` is between the winners of the matches `2 * n` and `2 * n + 1`. The numbers
-/// from that of all streams on are the streams themselves.
+/// Matches between streams, of two of which the one wins whose row in front comes first. Match 1 is
+/// the last one; match `n` is between the winners of the matches `2 * n` and `2 * n + 1`. Where
+/// there are `c` streams, the number `c + k` is no match's, but stands for stream `k`.
 #[derive(Drop)]
 pub(crate) struct Tournament<A: Allocator> {
     /// The stream that won each match; there is no match 0.
@@ -99,7 +99,7 @@ fn play<A: Allocator + Copy>(winners: &mut [usize], streams: &[RowStream<A>], nu
     winners[number] = earlier(streams, one, other);
 }
 
-/// The stream that won this match, or that this number is.
+/// The stream that won the match of this number, or for which this number stands.
 fn winner_of(winners: &[usize], number: usize) -> usize
     ensures { result ≡ Spec.winner_of winners.now number }
 {

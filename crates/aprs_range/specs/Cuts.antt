@@ -19,7 +19,8 @@ abbrev pub BeginsLine : List ℕ → ℕ → ℕ → Type 0
 BeginsLine bytes low at = (at ≡ low)
     ⊎ ((from : ℕ) × (part : List ℕ) × (low ≤ from) × ReadsLine bytes from part at)
 
--- The line that ends at this place is a row's whose source comes before `end`.
+-- A line, at `start` or later, ends at the place `low`. If it is a row's, the row's source comes
+-- before `end`, if there is one; and it is no last line.
 pub record EndsBefore (end : Option Call) (bytes : List ℕ) (start low : ℕ) : Type 0 where
   pub at : ℕ
   pub line : List ℕ
@@ -27,11 +28,12 @@ pub record EndsBefore (end : Option Call) (bytes : List ℕ) (start low : ℕ) :
   pub reads : ReadsLine bytes at line low
   pub judged : IsJudged end line true
 
--- No line stands before this place, or the one before it is a row's whose source comes before `end`.
+-- The place `low` is `start`, or a line as `EndsBefore` says ends there.
 abbrev pub IsLow : Option Call → List ℕ → ℕ → ℕ → Type 0
 IsLow end bytes start low = (low ≡ start) ⊎ EndsBefore end bytes start low
 
--- Rows in order stand at this place, each as its line, and after them a last line.
+-- Rows in order stand at this place, each as its line, then a last line that says `n`, and nothing
+-- more.
 pub record RowsStand (form : MomentForm) (rows : List Row) (n : ℕ) (bytes : List ℕ) (at : ℕ)
     : Type 0 where
   pub stand : drop at bytes ≡ text_of_lines (map (row_line form) rows ++ end_line n ∷ [])
@@ -39,8 +41,8 @@ pub record RowsStand (form : MomentForm) (rows : List Row) (n : ℕ) (bytes : Li
   pub ascending : Ordered (IsBelow row_cmp) rows
   pub small : n < 2 ^ 64
 
--- These rows stand at `start`. Up to the place `at` stand those whose sources pass the test, and
--- after it those whose sources don't.
+-- Of these rows, which stand at `start`, those up to the place `at` have sources that pass the
+-- test. Those after it have sources that don't.
 pub record IsCutAt (test : Call → Bool) (form : MomentForm) (rows : List Row) (n : ℕ)
     (bytes : List ℕ) (start at : ℕ) : Type 0 where
   pub first : List Row
@@ -51,7 +53,7 @@ pub record IsCutAt (test : Call → Bool) (form : MomentForm) (rows : List Row) 
   pub after : (x : Row) → x ∈ rest → test (row_key x).source ≡ false
   pub stand : RowsStand form rest n bytes at
 
--- So it is of any rows that stand there.
+-- Whatever rows stand at `start`, the test cuts them at the place `at`.
 abbrev pub CutsRows : (Call → Bool) → List ℕ → ℕ → ℕ → Type 0
 CutsRows test bytes start at = (form : MomentForm) (rows : List Row) (n : ℕ)
     → RowsStand form rows n bytes start → IsCutAt test form rows n bytes start at

@@ -15,12 +15,13 @@ abbrev pub EndsWithLast : List ℕ → Type 0
 EndsWithLast bytes =
     (before : List ℕ) × (n : ℕ) × (bytes ≡ before ++ 10 ∷ ended_by_lf (end_line n))
 
--- These lines, and after them a last line, which counts them and as many rows more.
+-- These lines, and after them a last line. The number in it is `rows` and the number of these lines
+-- together.
 abbrev pub with_last : ℕ → List ℕ → List ℕ
 with_last rows lines = lines ++ ended_by_lf (end_line (rows + count_by (is_byte 10) lines))
 
--- What follows the line in hand: nothing, if it is the last, or the lines from one place of the
--- bytes up to another, and a last line.
+-- What follows the line in hand: nothing, if it is the last line. Otherwise these follow: the lines
+-- from one place of the bytes up to another, and a last line.
 abbrev pub after_line : Bool → ℕ → ℕ → ℕ → List ℕ → List ℕ
 after_line true rows at end bytes = []
 after_line false rows at end bytes = with_last rows (take (end - at) (drop at bytes))
@@ -38,8 +39,8 @@ source_of range = range.source
 abbrev pub lent : {R : Type 0} → (R → Option (List ℕ)) → BookRange R → Option (List ℕ)
 lent bytes range = option_map (left_of range) (bytes range.source)
 
--- Where the source's bytes are the text of a book, the text is lent that has, of the book's rows,
--- those whose sources are within the range.
+-- Where the source's bytes are the text of a book, what is lent is the text of those of its rows
+-- whose sources are within the range.
 abbrev pub LendsRange : SourceRange → Option (List ℕ) → Option (List ℕ) → Type 0
 LendsRange range known lent = (v : Version) (rows : List Row) → IsBookRows v rows
     → known ≡ Some (book_text v rows) → lent ≡ Some (book_text v (rows_of_sources range rows))

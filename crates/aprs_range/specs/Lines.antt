@@ -13,12 +13,12 @@ pub record IsLineAt (bytes : List ℕ) (at : ℕ) (line : List ℕ) : Type 0 whe
   pub is : drop at bytes ≡ line ++ 10 ∷ after
   pub lacks : Lacks 10 line
 
--- The line stands at this place, and the next one after its LF.
+-- The line stands at this place, and `next` is the place after its LF.
 abbrev pub ReadsLine : List ℕ → ℕ → List ℕ → ℕ → Type 0
 ReadsLine bytes at line next = IsLineAt bytes at line × (next ≡ at + length line + 1)
 
--- Of a line that is a row's: whether its source comes before the end of a range, if there is one. A
--- last line doesn't come before it.
+-- What `is_before` says of a line. For a row's line: whether the row's source comes before `end`,
+-- or true where there is no `end`. For a last line: false.
 pub record IsJudged (end : Option Call) (line : List ℕ) (is_before : Bool) : Type 0 where
   pub row : (form : MomentForm) (x : Row) → IsBookRow form x → line ≡ row_line form x
       → is_before ≡ is_until end (row_key x).source

@@ -18,8 +18,8 @@ use std::io::{self, Error, ErrorKind, Read};
 /// The room for a header or a last line, in bytes.
 const LINE: usize = 64;
 
-/// A book file of which the text is lent that has the rows of a range of sources alone: its header,
-/// their lines, and a last line with their number. Reads take no memory.
+/// A book file that is read as if it had the rows of a range of sources alone. What is read is its
+/// header, the lines of these rows, and a last line with their number. Reads take no memory.
 #[derive(Drop)]
 pub struct BookRange<R> {
     source: R,
@@ -37,9 +37,10 @@ pub struct BookRange<R> {
 
 impl<R: ReadAt> BookRange<R> {
     /// The rows of this range in a book file, which are found by bisection: some lines alone are
-    /// read. The source is returned where it isn't found to be a book file, where a read failed or
-    /// memory was refused. Faults of rows out of the range, and most faults of rows within it,
-    /// aren't looked for. Takes memory for the longest line that is read.
+    /// read. Returns the source as `Err` where it isn't found to be a book file, a read failed or
+    /// memory was refused. So it does where a line that is read has 16 MiB or more. Faults of rows
+    /// out of the range, and most faults of rows within it, aren't looked for. Takes memory for the
+    /// longest line that is read.
     pub fn find<A: Allocator>(alloc: A, source: R, range: &SourceRange) -> Result<BookRange<R>, R>
         ensures lends { IfOk result (λ found. Spec.LendsRange range.now (R.bytes source)
             (Spec.lent R.bytes found)) }
@@ -62,7 +63,7 @@ impl<R: ReadAt> BookRange<R> {
         self.source
     }
 
-    /// The rows' lines of this stretch.
+    /// A reader of the rows' lines of this stretch, of which nothing was lent yet.
     fn of_stretch(source: R, stretch: Stretch) -> BookRange<R>
         ensures line { result.line.items ≡ ended_by_lf (header_of stretch.version) }
         ensures rest { result ≡ record {
@@ -86,7 +87,7 @@ impl<R: ReadAt> BookRange<R> {
         }
     }
 
-    /// Gives bytes of the line in hand.
+    /// Copies the next bytes of the line in hand to the start of `buf`, and returns how many.
     fn give_line(&mut self, buf: &mut [u8]) -> usize
         requires { self.old.given ≤ length self.old.line.items }
         ensures bound { result ≤ length buf.new }
@@ -103,7 +104,9 @@ impl<R: ReadAt> BookRange<R> {
         count
     }
 
-    /// Reads rows' lines of the file, where the line in hand was given.
+    /// Reads bytes of the rows' lines from the file to the start of `buf`, and returns how many, at
+    /// least one. The header has to be given, and some of these bytes have to be left. Fails where
+    /// the read fails or no byte comes, or where the rows would be 2^64.
     fn read_lines(&mut self, buf: &mut [u8]) -> io::Result<usize>
         requires given { length self.old.line.items ≤ self.old.given }
         requires more { self.old.is_last ≡ false }
@@ -130,7 +133,7 @@ impl<R: ReadAt> BookRange<R> {
         Ok(count)
     }
 
-    /// Takes the last line in hand.
+    /// Takes the last line in hand, where all rows' lines were lent.
     fn end_lines(&mut self)
         requires given { length self.old.line.items ≤ self.old.given }
         requires more { self.old.is_last ≡ false }

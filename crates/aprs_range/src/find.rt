@@ -25,18 +25,19 @@ pub struct Stretch {
     pub until: u64,
 }
 
-/// Where a bisection looks for the first line that isn't before another.
+/// Where a bisection looks for the first line that is no row's whose source comes before a given
+/// one.
 #[derive(Clone, Copy)]
 struct Bounds {
-    /// The place of a line; all before it are before the other.
+    /// A line begins at this place. All rows before it have sources that come before the given one.
     low: u64,
-    /// The first line that begins here or later isn't.
+    /// The first line that begins at this place or later is no such row's.
     high: u64,
 }
 
-/// Where the lines of the range's rows stand in the book file, or `None` where it seems to be no
-/// book file, a read failed or memory was refused. Some of its lines alone are looked at. Takes
-/// memory for the longest of them.
+/// Where the lines of the range's rows stand in the book file. `None` where it seems to be no book
+/// file, a read failed or memory was refused, or a line that is read has 16 MiB or more. Some of
+/// its lines alone are read. Takes memory for the longest of them.
 pub fn find_stretch<R: ReadAt, A: Allocator>(
     alloc: A,
     source: &mut R,
@@ -52,7 +53,7 @@ pub fn find_stretch<R: ReadAt, A: Allocator>(
     find_in(alloc, source, size, range)
 }
 
-/// Where the lines of the range's rows stand in the book file, which has so many bytes.
+/// Does what `find_stretch` does, in a book file that has `size` bytes.
 fn find_in<R: ReadAt, A: Allocator>(
     alloc: A,
     source: &mut R,
@@ -78,7 +79,8 @@ fn find_in<R: ReadAt, A: Allocator>(
     })
 }
 
-/// The place of the first row's line whose source isn't before `first`, if there is a `first`.
+/// The place of the first line, from that at `start` on, that is no row's whose source comes before
+/// `first`. Where there is no `first`, it is `start`. `None` as from `find_cut`.
 fn find_first<R: ReadAt, A: Allocator>(
     source: &mut R,
     line: &mut Vec<u8, A>,
@@ -97,7 +99,9 @@ fn find_first<R: ReadAt, A: Allocator>(
 }
 
 /// The place of the first line, from that at `start` on, that is no row's whose source comes before
-/// `before`. The bisection begins with the lines up to the place `end`.
+/// `before`. Where there is no `before`, it is the first that is no row's. The bisection begins
+/// with the lines up to the place `end`. `None` where a line isn't that of a book file, a read
+/// failed or memory was refused.
 fn find_cut<R: ReadAt, A: Allocator>(
     source: &mut R,
     line: &mut Vec<u8, A>,
@@ -117,8 +121,9 @@ fn find_cut<R: ReadAt, A: Allocator>(
     Some(low)
 }
 
-/// The place of a line that is at `start` or follows one that is a row's whose source comes before
-/// `before`. In a book file it is the first that isn't before it.
+/// The place of a line that is at `start` or follows a line of a row whose source comes before
+/// `before`. Where there is no `before`, any row's line will do. In a book file it is the first
+/// line from `start` on that isn't of such a row.
 fn bisect<R: ReadAt, A: Allocator>(
     source: &mut R,
     line: &mut Vec<u8, A>,
@@ -170,8 +175,8 @@ fn halve<R: ReadAt, A: Allocator>(
     })
 }
 
-/// Reads the first line that begins at `middle` or later, where a line begins at `low`. Returns the
-/// place of the line after it.
+/// Reads the first line that begins at `middle` or later into `line`; or that at `low`, where a
+/// line begins, if `middle` isn't after it. Returns the place after the line's LF.
 fn read_first_line<R: ReadAt, A: Allocator>(
     source: &mut R,
     line: &mut Vec<u8, A>,
@@ -186,7 +191,8 @@ fn read_first_line<R: ReadAt, A: Allocator>(
     read_line(source, at, line)
 }
 
-/// The place of the first line that begins at `middle` or later, where a line begins at `low`.
+/// The place of the first line that begins at `middle` or later; or `low`, where a line begins, if
+/// `middle` isn't after it.
 fn line_start<R: ReadAt, A: Allocator>(
     source: &mut R,
     line: &mut Vec<u8, A>,

@@ -13,8 +13,8 @@ use aprs_ax25::{Callsign, Frame, MAX_UI_FRAME};
 use aprs_io::decode_lower_into;
 
 /// Whether the line is a row's whose source comes before `end`, or any row's where there is no
-/// `end`. A last line is no row's. `None` where the line is no line of a book file; not all that
-/// would be wrong with it is looked at.
+/// `end`. A line that begins with `END` is taken for the last line, which is no row's. `None` where
+/// another line's last field is no frame; nothing else of it is looked at.
 pub fn is_before(line: &[u8], end: &Option<Callsign>) -> Option<bool>
     ensures { IfSome result (IsJudged end.now line.now) }
 {
@@ -25,7 +25,7 @@ pub fn is_before(line: &[u8], end: &Option<Callsign>) -> Option<bool>
     Some(comes_before(&frame, end))
 }
 
-/// Whether the frame's source comes before `end`, if there is one.
+/// Whether the frame's source comes before `end`. `true` where there is no `end`.
 #[tactic(auto, unfolding(aprs_laws::specs::Key::key_of))]
 fn comes_before(frame: &Frame, end: &Option<Callsign>) -> bool
     ensures { result ≡ is_until end.now (key_of frame.now).source }

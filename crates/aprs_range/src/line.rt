@@ -9,12 +9,13 @@ use std::alloc::Allocator;
 /// The bytes that are read at once.
 const PIECE: usize = 1024;
 
-/// The least bytes of a line that isn't read: 16 MiB. Twenty times the line of a row that 60,000
-/// receivers heard.
+/// From how many bytes on a line may be refused: 16 MiB. It is twenty times the line of a row that
+/// 60,000 receivers heard.
 const MAX_LINE: usize = 16_777_216;
 
-/// Reads the line that begins at place `at` into `line`, without its LF, and returns the place
-/// after the LF; or `None` where it has none within 16 MiB, a read failed or memory was refused.
+/// Reads the line that begins at place `at` into `line`, without its LF. What `line` held is lost.
+/// Returns the place after the LF. `None` where no LF comes within 16 MiB or before the end, a read
+/// failed or memory was refused.
 pub fn read_line<R: ReadAt, A: Allocator>(
     source: &mut R,
     at: u64,

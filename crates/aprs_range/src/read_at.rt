@@ -17,14 +17,14 @@ pub trait ReadAt {
         ensures stays { bytes self.new ≡ bytes self.old };
 
     /// Reads bytes from place `at` on, counted from 0, to the start of `buf`, and returns how many
-    /// came: none only at the end, or where `buf` has no room.
+    /// came: none only at the end or past it, or where `buf` has no room.
     fn read_at(&mut self, at: u64, buf: &mut [u8]) -> io::Result<usize>
         ensures bound { ReadsAtMost result buf.new }
         ensures gives { GivesAt (bytes self.old) at result buf.new }
         ensures stays { bytes self.new ≡ bytes self.old };
 }
 
-/// A file of the host, where its system can seek.
+/// A file of the host, if the host's system can seek in it. Its position is moved.
 impl ReadAt for File {
     fn size(&mut self) -> io::Result<u64> {
         self.seek(SeekFrom::End(0))

@@ -13,9 +13,9 @@ use memchr::memrchr;
 /// How many bytes are read at the end of a file: more than a last line has, with the LF before it.
 const TAIL: usize = 72;
 
-/// The place of the last line of a file of this size, or `None` where the file doesn't end with the
-/// last line of a book file, or the read failed. A file without bytes isn't read, since a device
-/// may seem to be one.
+/// The place of the last line of a file of this size. `None` where the file doesn't end with the
+/// last line of a book file, or where the read fails or doesn't reach the end. Where the size is 0
+/// nothing is read, since a device may say that size.
 pub fn last_line<R: ReadAt>(source: &mut R, size: u64) -> Option<u64>
     ensures ends { IfSome result (λ at. (bytes : List ℕ) → R.bytes source.old ≡ Some bytes
         → size ≡ length bytes → EndsWithLast bytes) }
@@ -45,8 +45,8 @@ fn last_line_len(tail: &[u8]) -> Option<usize>
     Some(tail.len() - lf - 1)
 }
 
-/// How many rows the last line of a book file says, or `None` where these bytes aren't an LF and
-/// such a line with its LF.
+/// How many rows a last line says, where these bytes are an LF, then that line, then its LF.
+/// Otherwise `None`.
 fn rows_of_end(rest: &[u8]) -> Option<usize>
     ensures { IfSome result (λ rows. rest.now ≡ 10 ∷ ended_by_lf (end_line rows)) }
 {
@@ -61,7 +61,8 @@ fn rows_of_end(rest: &[u8]) -> Option<usize>
     }
 }
 
-/// The number that stands after five bytes, an LF and `END `, and before the last one.
+/// The number between the first five bytes and the last one, or `None` where no number below 2^64
+/// is there. Neither the five bytes, which should be an LF and `END `, nor the last are looked at.
 fn rows_in(rest: &[u8]) -> Option<usize> {
     if rest.len() < 6 {
         return None;

@@ -6,7 +6,7 @@ ghost use Rattle.aprs_book.specs.declared.lists.message.MessageState.TheVariants
 ghost use Rattle.aprs_book.specs.Messages as Spec;
 ghost use Rattle.aprs_book.specs.Examples.{message_by, hi_message, one, asked_at, acknowledged_at, rejected_at, hi_listed, asked_again};
 
-/// A message is from whom it comes, to whom, a text, and an id or none. Its answer is no message.
+/// A message has a source, an addressee, a text, and an id or none. Its answer is no message.
 pub fn messages_have_four_parts()
     ensures numbered { Spec.message_in (key_by 7 (codes ":N0CALL-8 :Hi{1"))
         ≡ Some (hi_message one) }

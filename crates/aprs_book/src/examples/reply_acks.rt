@@ -6,8 +6,8 @@ ghost use Rattle.aprs_book.specs.Messages as Spec;
 ghost use Rattle.aprs_book.specs.ReplyAcks.{IsAckText, IsNumberedText, IsReplyAckText};
 ghost use Rattle.aprs_book.specs.Examples.{message_by, hi_message, one, asked_at, numbered_message, numbered_at, replied_at, other_ack_at};
 
-/// A text ends with a number of one or two letters or digits between braces, and with what it
-/// acknowledges, which is another such number or nothing.
+/// A text that has a number, one or two letters or digits, ends with it between braces. After them
+/// stands what the text acknowledges: another such number, or nothing.
 pub fn numbers_stand_between_braces()
     ensures alone { IsNumberedText (codes "19") [] (codes "Hi{19}") }
     ensures with_another { IsNumberedText (codes "19") (codes "AB") (codes "Hi{19}AB") }
@@ -21,7 +21,8 @@ pub fn numbers_stand_between_braces()
     ensures misses_close { IsNumberedText (codes "19") [] (codes "{19)") → ⊥ }
 {}
 
-/// An ack of a text with a number is "ack", the number, a brace, and what that text acknowledges.
+/// An ack of a text with a number is "ack", the number, a closing brace, and another such number or
+/// nothing.
 pub fn acks_have_a_brace()
     ensures alone { IsAckText (codes "AB") (codes "ackAB}") }
     ensures with_another { IsAckText (codes "19") (codes "ack19}AB") }

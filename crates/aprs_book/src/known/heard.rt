@@ -7,8 +7,8 @@ use aprs_log::{Moment, Receiver, Reception, ReceptionRef};
 use aprs_report::Report;
 use std::marker::Model;
 
-/// What was heard last of something: the greatest reception, by moment, then receiver, then frame,
-/// that reports on it. Its report is what its frame's information says.
+/// What was heard last of something: of the receptions that were asked for, the greatest by moment,
+/// then receiver, then frame. Its report is what its frame's information says.
 #[derive(Drop)]
 pub struct Heard<'a> {
     /// When the frame was heard.

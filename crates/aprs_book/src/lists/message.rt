@@ -16,13 +16,13 @@ use std::alloc::Allocator;
 /// What came of a message.
 #[derive(Clone, Copy, Debug, PartialEq, Eq)]
 pub enum MessageState {
-    /// It has no id, so nothing can answer it.
+    /// It has no id, so no ack or rej can answer it.
     Unnumbered,
-    /// Nothing answered it since its first reception.
+    /// No ack or rej answered it since its first reception.
     Unanswered,
-    /// It was acknowledged last.
+    /// The last answer to it is an ack.
     Acknowledged,
-    /// It was rejected last.
+    /// The last answer to it is a rej.
     Rejected,
 }
 
@@ -57,7 +57,7 @@ pub struct MessageRow<'a> {
     pub last: Moment,
     /// What came of it.
     pub state: MessageState,
-    /// When the answer was heard that says so, if there is one.
+    /// When its last ack or rej was heard, where the state is by one.
     pub answered: Option<Moment>,
     /// What reply-acks say of it.
     pub reply_ack: ReplyAck,
@@ -65,7 +65,8 @@ pub struct MessageRow<'a> {
 
 impl<A: Allocator + Copy> Book<A> {
     /// The messages that were heard, ascending by source, addressee, text and id; one without an
-    /// id comes before those with one.
+    /// id comes before those with one. Takes memory for the list and, while it is made, for each
+    /// message and answer.
     pub fn messages(&self) -> Result<Vec<MessageRow<'_>, A>, Memory>
         ensures { IfOk result (λ messages.
             ReportsMessages (millis_of self.now.gap) self.now.rows messages.items) }

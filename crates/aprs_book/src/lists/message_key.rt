@@ -104,8 +104,8 @@ pub(crate) fn answer_in<'a>(sender: &Callsign, heard: &ReceptionRef<'a>) -> Opti
     }
 }
 
-/// What a message answers by a reply-ack, or `None` where its text is none, where it has an id, or
-/// where it isn't to a callsign.
+/// What a message answers by a reply-ack. `None` where its text acknowledges no number, where it
+/// has an id, or where it isn't to a callsign.
 pub(crate) fn reply_in<'a>(message: &MessageKey<'a>) -> Option<AnswerKey<'a>>
     ensures { (a : Spec.Answer) → Spec.GivesReply a (Spec.message_of message.now)
         ↔ (option_map Spec.answer_of result ≡ Some a) }

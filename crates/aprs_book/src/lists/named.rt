@@ -26,7 +26,7 @@ pub struct Named<'a> {
 
 impl<A: Allocator + Copy> Book<A> {
     /// The last report of each object, ascending by name, and then of each item, ascending by
-    /// name. Killed ones are among them.
+    /// name. Killed ones are among them. Takes memory for the list.
     pub fn objects(&self) -> Result<Vec<Named<'_>, A>, Memory>
         ensures { IfOk result (λ named.
             ReportsNamed (millis_of self.now.gap) self.now.rows named.items) }

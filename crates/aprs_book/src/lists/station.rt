@@ -29,7 +29,8 @@ pub struct Station<'a> {
 }
 
 impl<A: Allocator + Copy> Book<A> {
-    /// The stations that were heard, ascending by callsign.
+    /// The stations that were heard, ascending by callsign. Takes memory for the list and, while it
+    /// is made, for each station.
     pub fn stations(&self) -> Result<Vec<Station<'_>, A>, Memory>
         ensures { IfOk result (λ stations.
             ReportsStations (millis_of self.now.gap) self.now.rows stations.items) }
