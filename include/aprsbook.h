@@ -61,8 +61,8 @@ struct aprs_answer aprs_kiss(struct aprs_region region, const uint8_t *input, si
 struct aprs_answer aprs_log(struct aprs_region region, const uint8_t *input, size_t input_length,
     uint8_t *output, size_t output_length, uint8_t *name, size_t name_length);
 
-/* Writes a log of a KISS stream, as if this receiver had heard each frame at this moment, both
- * texts; status 2 where they are no receiver's name or no moment. */
+/* Writes a log of a KISS stream, as if this receiver had heard each UI frame at this moment, both
+ * texts; status 2 where they are no receiver's name or no moment. Other frames give nothing. */
 struct aprs_answer aprs_capture(struct aprs_region region, const uint8_t *receiver,
     size_t receiver_length, const uint8_t *moment, size_t moment_length, const uint8_t *input,
     size_t input_length, uint8_t *output, size_t output_length, uint8_t *name, size_t name_length);

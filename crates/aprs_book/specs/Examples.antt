@@ -88,7 +88,7 @@ other_ack_at moment = heard_by 8 moment (codes ":N0CALL-7 :ack19")
 
 -- ---- stations
 
--- A status of N0CALL with this SSID.
+-- A status of N0CALL with this SSID, heard at this moment.
 abbrev pub status_at : ℕ → ℕ → Received
 status_at ssid moment = heard_by ssid moment (codes ">Hi")
 

@@ -165,7 +165,8 @@ abbrev pub answer_to : List (AnswerKey × Received) → Message → List ℕ →
 answer_to entries m id is_reply = option_and_then
     (λ (call : Call). answer_at entries (answer_from m id is_reply call)) (spelled_call m.addressee)
 
--- The state of a message of this first moment and id, by the greatest answer among the entries.
+-- The state of a message of this first moment and id, by the greatest answer to it among the
+-- entries; without an id it is unnumbered.
 abbrev pub state_in : List (AnswerKey × Received) → Message → ℕ → Option (List ℕ) → MessageState
 state_in entries m first None = Unnumbered
 state_in entries m first (Some id) = state_by first (answer_to entries m id false)

@@ -8,7 +8,8 @@ use Rattle.aprs_book.specs.declared.known.notes.Notes.{Notes}
 use Rattle.aprs_book.specs.declared.known.notes.Streak.{Streak}
 use Rattle.aprs_book.specs.Known.{FourIndexes, Topic, index_of, has_bytes, known_at, subject_bytes, topic_bytes, is_report_on, greatest_of}
 
--- What the indexes know of what has these bytes, with what the last rows report.
+-- What is known at these bytes by a topic: what its index knows there, or, where the last rows
+-- report on just that, the greater of this and their greatest reception.
 abbrev pub known_with : Option Streak → Topic → List ℕ → FourIndexes → Option Received
 known_with None topic bytes indexes = known_at bytes (index_of topic indexes)
 known_with (Some run) topic bytes indexes =

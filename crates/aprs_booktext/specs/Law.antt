@@ -26,8 +26,8 @@ abbrev pub TellBooksApart : Type 0
 TellBooksApart = (a b : BookValue) → IsBookRows (written_version a) a.rows
     → IsBookRows (written_version b) b.rows → written_text a ≡ written_text b → a ≡ b
 
--- A fault in a prefix of a book's text, but Memory, is that a byte had to come after it; and where
--- the input ended there, the prefix isn't the whole text.
+-- A fault in a prefix of a book's text, but Memory, only says how the input ended: Ending, Read or
+-- TooLong. The last two may follow the whole text; at Ending the prefix isn't the whole text.
 abbrev pub AreCutShort : Type 0
 AreCutShort = (v : Version) (rows : List Row) → IsBookRows v rows → length rows < 2 ^ 64
     → (text more : List ℕ) (ending : InputEnd) (fault : BookFault) → text ++ more ≡ book_text v rows

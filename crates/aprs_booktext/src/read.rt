@@ -65,7 +65,7 @@ pub fn read_book<R: Read, A: Allocator + Copy>(
 /// The text is of version 1, 2 or 3. Reading takes at most `limit` bytes, the head among them, and
 /// one more at `TooLong`. Requires a limit of at most `MAX_INPUT` (1,073,741,824) and a head of at
 /// most 8 bytes and at most `limit`. A fault is the text's first, with the number of its line;
-/// `Memory` comes instead where an allocation failed before that fault, with the number of the line
+/// `Memory` comes instead where an allocation failed before any fault, with the number of the line
 /// that was being read, and then there are as many rows as lines of rows before it. After another
 /// fault they may be any. Holds the rows, one line and 16,384 bytes of the source.
 pub fn read_rows<R: Read, A: Allocator + Copy>(

@@ -18,7 +18,7 @@ pub struct RowBuffers {
 }
 
 impl RowBuffers {
-    /// Room for the first line. Its frame is `SHORTEST`, since none was read yet.
+    /// Buffers for the first line. Their frame is `SHORTEST`, since none was read yet.
     pub fn new() -> RowBuffers {
         let Ok(frame) = Frame::read(SHORTEST) else {
             unreachable!()

@@ -150,9 +150,9 @@ impl<A: Allocator + Copy> RowReader<A> {
         }
     }
 
-    /// Judges the line that is the kept bytes and then `part`, and then keeps no bytes. Returns
-    /// whether it is a row's, which then is the last row. Fails where the line is wrong, or
-    /// where an allocation failed.
+    /// Judges the line that is the kept bytes and then `part`. Returns whether it is a row's, which
+    /// then is the last row; and then no bytes are kept. Fails where the line is wrong, or with
+    /// `Memory` where an allocation failed. After a fault bytes may still be kept.
     pub fn end_line(&mut self, part: &[u8]) -> Result<bool, BookFault>
         requires few { size_read self.old + length part.now ≤ most_stream }
         requires going { Spec.is_done self.old.stage ≡ false }
@@ -210,7 +210,7 @@ impl<A: Allocator + Copy> RowReader<A> {
         }
     }
 
-    /// Judges the kept bytes as a whole line, and then keeps none.
+    /// Judges the kept bytes as a whole line, and then keeps none. After a fault they stay.
     fn take_kept_line(&mut self) -> Result<bool, BookFault>
         requires few { size_read self.old ≤ most_stream }
         requires going { Spec.is_done self.old.stage ≡ false }

@@ -86,8 +86,8 @@ impl<A: Allocator + Copy> RowStream<A> {
         self.reader.row()
     }
 
-    /// The row that was read last, with its line where that is as it is written. `None` before the
-    /// first row, or once the last line was read. Takes no memory.
+    /// The row that was read last, with its line where that is kept. `None` before the first row,
+    /// or once the last line was read. Takes no memory.
     pub fn front(&self) -> Option<LentRow<'_>>
         ensures some { IfSome result (λ x. last_or None (Spec.front_of self.now) ≡ Some x) }
         ensures none { IfNone result (Spec.front_of self.now ≡ []) }

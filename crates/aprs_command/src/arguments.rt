@@ -402,7 +402,7 @@ fn named_form(name: &str, receiver: Option<&str>, moment: Option<&str>) -> Optio
     }
 }
 
-/// The form, one that refuses both options: `None` where either is given.
+/// The form, which takes neither option: `None` where either is given.
 fn plain_form(form: Form, receiver: Option<&str>, moment: Option<&str>) -> Option<Form>
     ensures { result ≡ Spec.plain_form_of form (option_map (λ s. s.now) receiver.entry)
         (option_map (λ s. s.now) moment.entry) }

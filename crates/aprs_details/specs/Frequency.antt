@@ -90,7 +90,7 @@ offset_of word =
     then (numeral_of 10 48 (drop 1 word) >>= λ n. Some (neg_ℤ (pos (n * 10))))
     else None
 
--- The offset after a space with which the text begins.
+-- The offset after the space that the text begins with, in kilohertz.
 abbrev pub offset_at : List ℕ → Option ℤ
 offset_at text = word_at text >>= λ x. offset_of x.0
 

@@ -38,12 +38,12 @@ number_in_millionths text = number_in text (cut_at (octet ".") text)
 
 -- ---- angles
 
--- Nothing, or a point and digits, in millionths.
+-- Nothing, or a point and one to six digits, in millionths.
 abbrev pub after_point : List ℕ → Option ℕ
 after_point [] = Some 0
 after_point (b ∷ digits) = if b == octet "." then millionths_of digits else None
 
--- The minutes in millionths, below 60: two digits, and perhaps a point and digits.
+-- The minutes in millionths, below 60: two digits, and perhaps a point and one to six digits.
 unfoldable pub sent_minutes : List ℕ → Option ℕ
 sent_minutes text = do
   digits ← chunk_of 2 text
@@ -63,7 +63,7 @@ abbrev pub whole_angle : (degrees minutes : ℕ) → ℕ
 whole_angle degrees minutes = degrees * 60000000 + minutes
 
 -- The angle in ten-millionths of a degree, nearest: each is six millionths of a minute. None where
--- it is over `limit` degrees.
+-- it is over `limit` degrees, or where a field isn't of its form.
 unfoldable pub sent_angle : (limit positive negative : ℕ) → (degree_text minute_text half : List ℕ) → Option ℤ
 sent_angle limit positive negative degree_text minute_text half = do
   degrees ← numeral_of 10 48 degree_text
@@ -72,13 +72,13 @@ sent_angle limit positive negative degree_text minute_text half = do
   value_when (nat_le (whole_angle degrees minutes) (whole_angle limit 0))
       (with_sign is_negative (nearest (whole_angle degrees minutes) 6))
 
--- The latitude: DDMM and perhaps a point and digits, at most 90 degrees, and N or S.
+-- The latitude: DDMM and perhaps a point and one to six digits, at most 90 degrees, and N or S.
 unfoldable pub sent_latitude : (field half : List ℕ) → Option ℤ
 sent_latitude field half = do
   degrees ← chunk_of 2 field
   sent_angle 90 (octet "N") (octet "S") degrees.0 degrees.1 half
 
--- The longitude: DDDMM and perhaps a point and digits, at most 180 degrees, and E or W.
+-- The longitude: DDDMM and perhaps a point and one to six digits, at most 180 degrees, and E or W.
 unfoldable pub sent_longitude : (field half : List ℕ) → Option ℤ
 sent_longitude field half = do
   degrees ← chunk_of 3 field

@@ -55,7 +55,7 @@ fn digits(text: &[u8]) -> Option<u32>
     }
 }
 
-/// The digits after a point, one to six, in millionths.
+/// The digits after a point, one to six, in millionths. `None` for any other text.
 fn millionths(text: &[u8]) -> Option<u64>
     ensures exact { result ≡ Spec.millionths_of text.now }
     ensures small { IfSome result (λ n. n < 100000000000) }
@@ -64,7 +64,8 @@ fn millionths(text: &[u8]) -> Option<u64>
     Some(n as u64 * power_of_ten(6 - text.len()))
 }
 
-/// A number in millionths: up to six digits, and perhaps a point and up to six digits.
+/// A number in millionths: one to six digits, and perhaps a point and one to six digits. `None` for
+/// any other text.
 fn number(text: &[u8]) -> Option<u64>
     ensures exact { result ≡ Spec.number_in_millionths text.now }
     ensures small { IfSome result (λ n. n < 2000000000000) }
@@ -82,7 +83,7 @@ fn number(text: &[u8]) -> Option<u64>
     }
 }
 
-/// Nothing, or a point and digits, in millionths.
+/// Nothing, or a point and one to six digits, in millionths. `None` for any other text.
 fn after_point(text: &[u8]) -> Option<u64>
     ensures exact { result ≡ Spec.after_point text.now }
     ensures small { IfSome result (λ n. n < 100000000000) }
@@ -94,7 +95,8 @@ fn after_point(text: &[u8]) -> Option<u64>
     }
 }
 
-/// The minutes in millionths, two digits below 60 and perhaps a point and up to six digits.
+/// The minutes in millionths: two digits below 60, and perhaps a point and one to six digits. `None`
+/// for any other text.
 #[tactic(auto, unfolding(crate::specs::Nmea::sent_minutes))]
 fn minutes(text: &[u8]) -> Option<u64>
     ensures exact { result ≡ Spec.sent_minutes text.now }
@@ -156,7 +158,7 @@ fn angle(
     Some(if is_negative { -angle } else { angle })
 }
 
-/// The latitude in ten-millionths of a degree: `DDMM` and perhaps a point and digits, and `N` or
+/// The latitude in ten-millionths of a degree: `DDMM` and perhaps a point and up to six digits, and `N` or
 /// `S`.
 #[tactic(auto, unfolding(crate::specs::Nmea::sent_latitude))]
 fn latitude(field: &[u8], letter: &[u8]) -> Option<i32>
@@ -166,7 +168,7 @@ fn latitude(field: &[u8], letter: &[u8]) -> Option<i32>
     angle(90, b'N', b'S', degrees, minutes, letter)
 }
 
-/// The longitude in ten-millionths of a degree: `DDDMM` and perhaps a point and digits, and `E` or
+/// The longitude in ten-millionths of a degree: `DDDMM` and perhaps a point and up to six digits, and `E` or
 /// `W`.
 #[tactic(auto, unfolding(crate::specs::Nmea::sent_longitude))]
 fn longitude(field: &[u8], letter: &[u8]) -> Option<i32>
@@ -280,8 +282,8 @@ fn gga(text: &[u8]) -> Option<Fix>
     }
 }
 
-/// The fix that GLL tells, from the fields after its name. `None` where it isn't valid, or where
-/// its place isn't of its form.
+/// The fix that GLL tells, from the fields after its name. `None` where no field says that it is
+/// valid, or where its place isn't of its form.
 #[tactic(auto, unfolding(crate::specs::Nmea::gll_of))]
 fn gll(text: &[u8]) -> Option<Fix>
     ensures { result ≡ Spec.gll_of text.now }
@@ -410,7 +412,8 @@ impl Fix {
 
     /// The fix that an information field tells: `$GPGGA`, `$GPGLL` or `$GPRMC` whose fix is valid,
     /// and whose checksum is right where it has one. `None` where it is no such sentence, or a
-    /// field of its place isn't of its form. Takes no memory.
+    /// field of its place isn't of its form. `None` also where no comma follows the altitude of
+    /// GGA or the speed of RMC. Takes no memory.
     #[tactic(auto, unfolding(crate::specs::Nmea::fix_of))]
     pub fn read(info: &[u8]) -> Option<Fix>
         ensures { result ≡ Spec.fix_of info.now }

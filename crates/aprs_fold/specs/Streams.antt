@@ -29,7 +29,8 @@ AreReading remaining limit gap (f ∷ first) (n ∷ now) (s ∷ streams) (t ∷ 
     IsReading remaining limit gap f n s t × AreReading remaining limit gap first now streams taken
 AreReading remaining limit gap first now streams taken = ⊥
 
--- The first inputs have streams, of which no row was taken, and the others weren't asked.
+-- The first inputs have streams of this gap, of which no row was taken, and the others weren't
+-- asked.
 abbrev pub AreOpened : {R A : Type 0} → (R → Option (List ℕ)) → ℕ → ℕ → List (Counted R)
     → List (Counted R) → List (RowStream A) → Type 0
 AreOpened remaining limit gap first now [] = now ≡ first

@@ -24,7 +24,7 @@ JudgedInParts = (prefix more : List ℕ)
     → judgements_of (prefix ++ more)
     ≡ judgements_of prefix ++ judgements_of (rest_of prefix ++ more)
 
--- The rest of a stream that goes on is that of its rest and the bytes after it.
+-- The rest of a stream that goes on is what its earlier rest and the bytes after it leave.
 abbrev pub LeftInParts : Type 0
 LeftInParts = (prefix more : List ℕ) → rest_of (prefix ++ more) ≡ rest_of (rest_of prefix ++ more)
 

@@ -4,7 +4,8 @@ use Rattle.std.specs.List.{slice_split}
 use Rattle.std.specs.Option.{option_map, option_and_then}
 use Rattle.aprs_kiss.specs.Spelling.{is_escape}
 
--- The bytes that the part after an escape, up to the next, stands for: its first is TFEND or TFESC.
+-- The bytes that the part after an escape, up to the next, stands for. None where its first isn't
+-- TFEND or TFESC.
 abbrev pub bytes_after_escape : List ℕ → Option (List ℕ)
 bytes_after_escape [] = None
 bytes_after_escape (code ∷ more) =

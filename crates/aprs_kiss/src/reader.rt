@@ -184,8 +184,8 @@ impl KissReader {
     }
 
     /// Takes bytes of a piece that stand for themselves, where no escape has begun. The first of
-    /// a piece replace the frame before in the buffer. Where the piece is too long or broken, it
-    /// stays so, and these bytes aren't kept.
+    /// a piece replace the frame before in the buffer. Without room for them the piece is too long.
+    /// Where it is too long or broken, it stays so, and these bytes aren't kept.
     fn take_unescaped(&mut self, run: &[u8])
         requires plain { IsPlain run.now }
         requires closed { IsClosed self.old.state }

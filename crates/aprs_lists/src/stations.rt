@@ -126,7 +126,7 @@ fn status_cells<'a>(known: &Option<Heard<'a>>) -> [Cell<'a>; 4]
     }
 }
 
-/// Nothing of a status.
+/// Four empty fields, where no status is known.
 fn no_status<'a>() -> [Cell<'a>; 4]
     ensures { map cell_text result ≡ Spec.no_status }
 {

@@ -19,7 +19,8 @@ use Rattle.aprs_log.specs.declared.reader.LogReader.{LogReader}
 abbrev pub lent_device : {R : Type 0} → LogReader R → Counted R
 lent_device r = r.source.now
 
--- The name of the loan by which the reader has its device.
+-- The ghost name of the reference by which the reader borrows its device. By it clauses say that
+-- the reader has the reference that it was given.
 abbrev pub loan_of : {R : Type 0} → LogReader R → GName
 loan_of r = r.source.ghost_name
 
@@ -76,7 +77,8 @@ abbrev pub answer_of_stop : Option LogFault → Result (Option Line) LogFault
 answer_of_stop None = Ok None
 answer_of_stop (Some fault) = Err fault
 
--- The line that the reader keeps at this answer: the one that is answered, or else the one before.
+-- The line that the reader keeps at this answer: the one that is answered, or the one before at the
+-- end or a fault.
 abbrev pub line_kept : Line → Result (Option Line) LogFault → Line
 line_kept before (Ok (Some x)) = x
 line_kept before other = before

@@ -61,7 +61,7 @@ pub record StopsAtPath {Z : Type 0} (old new : Option (List Asked)) (paths : Lis
   pub asked : AsksFor old new (opened (take at paths) ++ (string_bytes path, answer) ∷ [])
   pub says : ComplainsOf path answer complaint
 
--- Without a path memory was refused, and nothing was asked for. Otherwise a path is the last that
+-- Where there is no path, memory was refused, and nothing was asked for. Otherwise a path is the last that
 -- the opener was asked for.
 abbrev pub StopsAtInput : {Z : Type 0} → Option (List Asked) → Option (List Asked)
     → List (String Z) → Complaint → Type 0

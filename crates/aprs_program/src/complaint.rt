@@ -67,9 +67,9 @@ pub fn complaint_status(complaint: &Complaint<'_>) -> u8
     }
 }
 
-/// Writes the complaint as one line, after the program's name and a colon. Where an argument isn't
-/// UTF-8, `error` stands in place of the name, as `clap` prints it. At a fault a prefix of the line
-/// was written. Takes no memory.
+/// Writes the program's name, a colon, a space, the complaint and LF. A path stands in it as it is,
+/// so one with an LF makes it two lines. Where an argument isn't UTF-8, `error` stands in place of
+/// the name, as `clap` prints it. At a fault a prefix of this was written. Takes no memory.
 pub fn complain<W: Write>(
     w: &mut Counted<W>,
     program: &[u8],

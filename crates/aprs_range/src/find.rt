@@ -36,8 +36,8 @@ struct Bounds {
 }
 
 /// Where the lines of the range's rows stand in the book file. `None` where it seems to be no book
-/// file, a read failed or memory was refused, or a line that is read has 16 MiB or more. Some of
-/// its lines alone are read. Takes memory for the longest of them.
+/// file, a read failed or memory was refused. It may also be `None` where a line that is read has
+/// 16 MiB or more. Only some of the file's lines are read. Takes memory for the longest of them.
 pub fn find_stretch<R: ReadAt, A: Allocator>(
     alloc: A,
     source: &mut R,

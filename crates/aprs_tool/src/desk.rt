@@ -126,11 +126,11 @@ impl<A: Allocator + Copy> Desk<A> {
 /// Reads the book of an input. An input whose first eight bytes are `APRSBOOK` is a book file, and
 /// gives its book with its own gap. Every other is a log, and gives the book of its receptions with
 /// the gap that is asked for; lines without a frame are passed over. Requires that `limit` is at
-/// most `MAX_INPUT` (1,073,741,824). At most `limit` bytes are read: an input that has more is
-/// faulty. A faulty input gives its first fault. Where an allocation failed before that fault, a
-/// log gives `Memory`, and a book file gives `Book` with the cause `Memory` and the line that was
-/// being read. An input of which fewer than eight bytes are got is a log, and so is one with an LF
-/// among the first eight.
+/// most `MAX_INPUT` (1,073,741,824). At most `limit` bytes are read, and one more where the input
+/// has more, which is a fault. A faulty input gives its first fault. Where an allocation failed
+/// before any fault, a log gives `Memory`, and a book file gives `Book` with the cause `Memory`
+/// and the line that was being read. An input of which fewer than eight bytes are got is a log, and
+/// so is one with an LF among the first eight.
 /// Keeps in memory the book, one line and a log's receptions, packed in bytes.
 pub fn read_input<R: Read, A: Allocator + Copy>(
     alloc: A,

@@ -32,7 +32,8 @@ pub(crate) const BOOK_MARK: &[u8] = b"APRSBOOK";
 /// Adds the receptions of an input to the book that is gathered: if this was the book of a set of
 /// receptions, it is now that of this set and of the input's receptions. Fails with the input's
 /// first fault, with `OtherGap` for a faultless book file of another gap, or where an allocation
-/// failed. After a fault any rows may be in the book; its gap stays. Reads at most `limit` bytes.
+/// failed. After a fault any rows may be in the book; its gap stays. Reads at most `limit` bytes,
+/// and one more at `TooLong`.
 pub(crate) fn read_into<R: Read, A: Allocator + Copy>(
     alloc: A,
     limit: u64,
@@ -55,8 +56,9 @@ pub(crate) fn read_into<R: Read, A: Allocator + Copy>(
 
 /// Adds the rows of an input to the book that is gathered, and returns the input's gap: a book
 /// file's own, or for a log that of the book. Each reception of a log is a row. Reads at most
-/// `limit` bytes. Fails with the input's first fault, or where an allocation failed; after that any
-/// rows may be in the book. Holds the book, the rows of a book file and one line.
+/// `limit` bytes, and one more at `TooLong`. Fails with the input's first fault, or where an
+/// allocation failed; after that any rows may be in the book. Holds the book, the rows of a book
+/// file and one line.
 pub(crate) fn read_input_rows<R: Read, A: Allocator + Copy>(
     alloc: A,
     limit: u64,
@@ -91,9 +93,9 @@ pub(crate) fn read_input_rows<R: Read, A: Allocator + Copy>(
 }
 
 /// Adds the receptions of a log to the book of a store. The log's first bytes, `head`, were read
-/// before; `r` gives the others. At most `limit` bytes are read, `head` among them. Fails with the
-/// log's first fault, or with `Memory` where an allocation failed; after that any receptions may
-/// have joined the book.
+/// before; `r` gives the others. At most `limit` bytes are read, `head` among them, and one more at
+/// `TooLong`. Fails with the log's first fault, or with `Memory` where an allocation failed; after
+/// that any receptions may have joined the book.
 pub(crate) fn read_log<R: Read, A: Allocator + Copy>(
     alloc: A,
     limit: u64,

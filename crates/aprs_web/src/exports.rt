@@ -97,9 +97,10 @@ pub extern "C" fn aprs_log(
     converted(region, Form::Log, input, output, name)
 }
 
-/// Writes a log of the KISS stream `input`, as if the receiver of the name `receiver` had heard
-/// each frame at `moment`, which is text. No run where these are no name or no moment. At a fault
-/// of the stream all before it is written.
+/// Writes a log of the UI frames in the KISS stream `input`; any other frame gives nothing. It is
+/// as if the receiver of the name `receiver` had heard each at `moment`, which is text. No run
+/// where `receiver` is no name or `moment` is no moment. At a fault of the stream all before it is
+/// written.
 #[unsafe(no_mangle)]
 pub extern "C" fn aprs_capture(
     region: Region,
