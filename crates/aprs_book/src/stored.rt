@@ -1,5 +1,5 @@
 //! Rows of books by way of a store.
-ghost use Rattle.std.specs.Prelude.{◌≡◌, ◌++◌, ◌∷◌, [], All, IfOk, OnOk};
+ghost use Rattle.std.specs.Prelude.{◌≡◌, ◌++◌, ◌∷◌, [], All, IfOk, OnErr, OnOk};
 ghost use Rattle.std.specs.List.{join_with_byte};
 ghost use Rattle.aprs_log.specs.Receiver.{IsName};
 ghost use Rattle.aprs_laws.specs.Coalescing.{AreInOrder};
@@ -24,7 +24,7 @@ pub(crate) fn book_of<A: Allocator + Copy>(alloc: A, store: BookStore<A>) -> Res
 }
 
 /// Adds the rows of a walk to the book in a store. They have to be in order, and each sound by
-/// itself.
+/// itself. After `Memory` the book is as before.
 pub(crate) fn add_rows<A: Allocator + Copy>(
     alloc: A,
     store: &mut BookStore<A>,
@@ -32,10 +32,11 @@ pub(crate) fn add_rows<A: Allocator + Copy>(
 ) -> Result<(), Memory>
     requires order { AreInOrder rows }
     requires sound { AreSoundRows rows }
-    ensures { OnOk result (store.new ≡ record {
+    ensures added { OnOk result (store.new ≡ record {
       gap = store.old.gap;
       rows = merge (millis_of store.old.gap) store.old.rows rows.entry;
     }) }
+    ensures unchanged { OnErr result (store.new ≡ store.old) }
 {
     let mut packed = PackedRows::new(alloc);
     let mut text = Vec::new(alloc);
@@ -47,14 +48,15 @@ pub(crate) fn add_rows<A: Allocator + Copy>(
 
 /// Puts a row after the others. It has to be sound by itself. `text` is written over; it is
 /// kept from row to row. `Memory` is also returned where the names of the row's receivers, with
-/// commas between, have 4,294,967,296 bytes or more.
+/// commas between, have 4,294,967,296 bytes or more. After `Memory` the rows are as before.
 fn put_row<A: Allocator + Copy>(
     packed: &mut PackedRows<A>,
     text: &mut Vec<u8, A>,
     row: &KeptRow<A>,
 ) -> Result<(), Memory>
     requires { IsSoundRow row.now }
-    ensures { OnOk result (packed.new ≡ packed.old ++ row.now ∷ []) }
+    ensures put { OnOk result (packed.new ≡ packed.old ++ row.now ∷ []) }
+    ensures unchanged { OnErr result (packed.new ≡ packed.old) }
 {
     put_names(text, row.names())?;
     if text.len() > u32::MAX as usize {

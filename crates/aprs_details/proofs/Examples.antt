@@ -77,6 +77,7 @@ pub comments_begin_with_course_and_speed : Gives of_car (
     (codes "088/036", moves (Some 88) (Some 36) None) ∷  -- shown
     (codes "088/036Hi", moves (Some 88) (Some 36) None) ∷  -- more
     (codes "360/036", moves (Some 360) (Some 36) None) ∷  -- north
+    (codes "001/036", moves (Some 1) (Some 36) None) ∷  -- least
     (codes "000/000", moves None (Some 0) None) ∷  -- unknown
     (codes "361/036", moves None (Some 36) None) ∷  -- past north
     (codes ".../...", moves None None None) ∷  -- dots
@@ -105,6 +106,8 @@ compressed_positions_have_course_and_speed = refl
 -- Near misses.
 pub compressed_positions_have_course_and_speed-misses : Gives of_compressed_car (
     ((codes " sT", []), says None None None None None) ∷  -- none
+    ((codes "7 !", []), says (Some 88) None None None (Some false)) ∷  -- s before base 91
+    ((codes "7|!", []), says (Some 88) None None None (Some false)) ∷  -- s past base 91
     ((codes "{?!", []), says None None None (Some 2013) (Some false)) ∷  -- range
     ((codes "S]Q", []), says None None (Some (pos 30495240)) None (Some true)) ∷  -- altitude
     ((codes "S]Q", codes "/A=001234"), says None None (Some (pos 3761232)) None (Some true)) ∷  -- of the comment
@@ -167,8 +170,10 @@ comments_begin_with_a_transmitter = refl
 -- Near misses.
 pub comments_begin_with_a_transmitter-misses : Misses phg_in (
     codes "PHG5139" ∷  -- direction 9
+    codes "PHG513/" ∷  -- a direction before the digits
     codes "PHG/132" ∷  -- before the digits
     codes "PHG51:2" ∷  -- after the digits
+    codes "PHG5/32" ∷  -- a height before the digits
     codes "PHG5:32" ∷  -- a height past the digits
     codes "PHG513" ∷  -- three digits
     codes "phg5132" ∷  -- lower case
@@ -205,6 +210,7 @@ pub fixes_are_in_bit_5 : Gives is_current_of_cst (
     (codes "7PA", Some true) ∷  -- 32
     (codes "7P`", Some true) ∷  -- 63
     (codes "7Pa", Some false) ∷  -- 64
+    (codes "7P{", Some false) ∷  -- greatest
     (codes "{?!", Some false) ∷ [])  -- with a range
 fixes_are_in_bit_5 = refl
 
@@ -239,6 +245,7 @@ feet_of_bytes cst = feet_of_cst cst
 pub compressed_positions_have_an_altitude : Gives feet_of_bytes (
     (codes "S]Q", Some 10005) ∷  -- shown
     (codes "!!1", Some 1) ∷  -- least, old
+    (codes "!!8", Some 1) ∷  -- likewise, T - 33 is 23
     (codes "{!Q", Some (feet_of_cs 8190)) ∷  -- c greatest
     (codes "!{Q", Some 1) ∷ [])  -- s greatest
 unfolding feet_of_bytes
@@ -247,6 +254,8 @@ compressed_positions_have_an_altitude = refl
 -- Near misses.
 pub compressed_positions_have_an_altitude-misses : Misses feet_of_bytes (
     codes "S]I" ∷  -- of another sentence
+    codes "!!0" ∷  -- T - 33 is 15
+    codes "!!9" ∷  -- T - 33 is 24
     codes " ]Q" ∷  -- c before base 91
     codes "|]Q" ∷  -- c past base 91
     codes "S Q" ∷  -- s before base 91
@@ -289,7 +298,11 @@ mic_e_altitude comment = mic_e_altitude_of comment
 pub mic_e_comments_have_altitudes : Gives mic_e_altitude (
     (codes "\"4T}", Some (pos 610000)) ∷  -- shown
     (codes "]\"4T}Hi", Some (pos 610000)) ∷  -- marked
+    (codes ">\"4T}", Some (pos 610000)) ∷  -- likewise
+    (codes "`\"4T}", Some (pos 610000)) ∷  -- likewise
+    (codes "'\"4T}", Some (pos 610000)) ∷  -- likewise
     (codes "!!!}", Some (neg_ℤ (pos 100000000))) ∷  -- lowest
+    (codes "{{{}", Some (pos 7435700000)) ∷  -- greatest
     (codes "/A=001234", Some (pos 3761232)) ∷ [])  -- feet
 unfolding mic_e_altitude
 mic_e_comments_have_altitudes = refl
@@ -297,6 +310,8 @@ mic_e_comments_have_altitudes = refl
 -- Near misses.
 pub mic_e_comments_have_altitudes-misses : Misses mic_e_altitude (
     codes "a\"4T}" ∷  -- late
+    codes "\"4 }" ∷  -- before base 91
+    codes "\"4|}" ∷  -- past base 91
     codes "\"4T{" ∷ [])  -- no brace
 unfolding mic_e_altitude
 mic_e_comments_have_altitudes-misses = refl
@@ -351,6 +366,26 @@ pub weather_is_as_the_standard_shows_it : Gives of_station (
     ) ∷ [])
 unfolding of_station
 weather_is_as_the_standard_shows_it = refl
+
+-- The wind's direction is at most 360 degrees.
+pub winds_have_a_direction : Gives of_station (
+    -- least
+    (
+      (plain_place, codes "000/004g005t077r000p000P000h50b09900"),
+      weather_alone None (shown_weather (Some 0) (Some 4)),
+    ) ∷
+    -- greatest
+    (
+      (plain_place, codes "360/004g005t077r000p000P000h50b09900"),
+      weather_alone None (shown_weather (Some 360) (Some 4)),
+    ) ∷
+    -- more
+    (
+      (plain_place, codes "361/004g005t077r000p000P000h50b09900"),
+      weather_alone None (shown_weather None (Some 4)),
+    ) ∷ [])
+unfolding of_station
+winds_have_a_direction = refl
 
 -- Weather without a position, as the standard shows it.
 pub weather_has_no_position : Gives without_position ((

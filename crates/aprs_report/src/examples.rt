@@ -3,7 +3,7 @@
 ghost use Rattle.std.specs.Prelude.{◌≡◌, [], Some, None, true, false, pos, codes};
 ghost use Rattle.aprs_report.specs.declared.place.Place.TheVariants.{Base91};
 ghost use Rattle.aprs_report.specs.Place.{latitude_of, longitude_of};
-ghost use Rattle.aprs_report.specs.Reading.{item, message, ack, rej, status, raw};
+ghost use Rattle.aprs_report.specs.Reading.{object, item, message, ack, rej, status, raw};
 ghost use Rattle.aprs_report.specs.Examples.{Example, minus, fraction, plain, compressed_position, stamp_with, leader, leader_by, leader_item, here, example_symbol, object_field, object_ending, item_field, item_ending, message_field, symbol_field, with_symbol, compressed_field, stamped, unnumbered};
 
 /// Examples of plain positions. `plain` is a house (symbol `/-`) at these hundredths of minutes
@@ -89,7 +89,8 @@ pub fn stamped_examples()
 {}
 
 /// Examples of names: those of objects, items and addressees have spaces to `~`, and spaces at
-/// their end are no part of them. `..ending` has this byte at the end of the name.
+/// their end are no part of them. A name has one byte or more. `..ending` has this byte at the end
+/// of the name.
 pub fn name_examples()
     ensures object { Example (object_field 126) (object_ending 126) }
     ensures object_least { Example (object_field 33) (object_ending 33) }
@@ -109,6 +110,14 @@ pub fn name_examples()
     ensures addressee_high { Example (message_field 128) raw }
     ensures addressee_control { Example (message_field 31) raw }
     ensures no_addressee { Example (codes ":         :Hi") raw }
+
+    ensures object_of_one_byte { Example (codes ";A        *092345z4903.50N/07201.75W>")
+        (object (codes "A") true (stamp_with 122) here (example_symbol 47 62) []) }
+    ensures item_of_one_byte { Example (codes ")A  !4903.50N/07201.75W>")
+        (item (codes "A") true here (example_symbol 47 62) []) }
+    ensures item_without_a_name { Example (codes ")   !4903.50N/07201.75W>") raw }
+    ensures addressee_of_one_byte { Example (codes ":A        :Hi")
+        (message (codes "A") (codes "Hi") None) }
 {}
 
 /// Examples of objects and items. `leader` is the object LEADER, live where `true` and killed

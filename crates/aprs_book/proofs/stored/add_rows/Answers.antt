@@ -18,7 +18,7 @@ put_row-requires g c =
 pub loop-row-preserved : goal.loop-row-preserved
 loop-row-preserved g c = record {
   put = one_put c.loop-row.packed c.put_row.new.packed c.next.new.self c.loop-row.row-iterator
-      _ c.in-Some.row.now c.in-Some.ensures.steps c.in_ok-put_row.ensures c.loop-row.invariant.put;
+      _ c.in-Some.row.now c.in-Some.ensures.steps c.in_ok-put_row.ensures.put c.loop-row.invariant.put;
   sound = rest_sound c.loop-row.row-iterator c.next.new.self c.in-Some.row.now
       c.in-Some.ensures.steps c.loop-row.invariant.sound;
 }
@@ -30,8 +30,8 @@ add-requires g c =
     c.loop-row.invariant.put))
     c.requires.order
 
-pub returns : goal.returns
-returns g c =
+pub returns-clause-added : goal.returns-clause-added
+returns-clause-added g c =
     on_ok c.add.result
     (λ h. h ∙ ap (joined_by c.args.store.now) (all_put c.loop-row.packed c.loop-row.row-iterator _
     c.in-None.ensures.steps.0 c.loop-row.invariant.put)) c.add.ensures.added

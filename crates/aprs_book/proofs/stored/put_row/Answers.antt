@@ -23,8 +23,8 @@ push-requires-clause-short g c =
     ∙ ap (join_with_byte 44) c.names.ensures) c.view_of.ensures
     (omega (arith, c.as_slice.ensures.len, c.len.ensures, c.if-len.false))
 
-pub returns : goal.returns
-returns g c =
+pub returns-clause-put : goal.returns-clause-put
+returns-clause-put g c =
     on_ok c.push.result
     (λ h. h ∙ ap (λ (x : Row). c.args.packed.now ++ x ∷ []) c.view_of.ensures)
     c.push.ensures.pushed

@@ -22,4 +22,8 @@ returns c = record {
   addressee_high = computed refl;
   addressee_control = computed refl;
   no_addressee = computed refl;
+  object_of_one_byte = computed refl;
+  item_of_one_byte = computed refl;
+  item_without_a_name = computed refl;
+  addressee_of_one_byte = computed refl;
 }

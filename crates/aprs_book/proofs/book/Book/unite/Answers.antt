@@ -33,7 +33,8 @@ returns g c =
     let b = c.args.other.now in
     let made = both_added a b c.new-store.result c.add_rows.new.store c.add_rows-2.new.store
     c.gap.result c.walk-ours.result c.walk-theirs.result c.gap.ensures c.new-store.ensures
-    c.in_ok-add_rows.ensures c.in_ok-add_rows-2.ensures c.walk-ours.ensures.rows c.walk-theirs.ensures.rows in
+    c.in_ok-add_rows.ensures.added c.in_ok-add_rows-2.ensures.added c.walk-ours.ensures.rows
+    c.walk-theirs.ensures.rows in
     let w = c.walk-ours.ensures.sound in
     let v = c.walk-theirs.ensures.sound in
     let joined = are_joined a b c.requires w v in

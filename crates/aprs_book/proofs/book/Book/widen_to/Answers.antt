@@ -14,5 +14,5 @@ pub returns-clause-wide : goal.returns-clause-wide
 returns-clause-wide g c =
     made_has (λ made. made ≡ widened_to c.args.gap c.args.self.now) c.book_of.result
     c.book_of.ensures
-    (c.in_ok-add_rows.ensures ∙ (λ t. joined_by (c.new-store.ensures t) (c.walk.ensures.rows t)))
+    (c.in_ok-add_rows.ensures.added ∙ (λ t. joined_by (c.new-store.ensures t) (c.walk.ensures.rows t)))
     (widened c.args.self.now c.walk.ensures.sound c.args.gap c.requires)
