@@ -9,11 +9,12 @@ usage: build/pairs.py CRATE [WORD..]          changes the definitions, with one 
        build/pairs.py --edits CRATE FILE..    tries changes by hand: lines `file:`, `old:`, `new:`,
                                               as in an edit that must fail, also of several files
 
-A change is one more in a number, `||` for `&&`, `<` for `<=` and the reverse, `false` for `true`
-and the reverse, or the answers of two cases exchanged. For each is told what refuses it: an example
-or a law by its name, or a lemma between (then the examples show nothing), or that it STANDS.
-Changes by hand that stand there are tried on the whole crate. One check a change, with one job.
-Needs rt, and the crate proved.
+A change is one more or one less in a number, `||` for `&&`, `<` for `<=` and the reverse, `false`
+for `true` and the reverse, or the answers of two cases exchanged. For each is told what refuses it:
+the examples and laws by their files and names, then what else fails. `lemma alone` stands before
+the rest where no example and no law is among them: then the examples show nothing. Or it STANDS.
+The last line counts the three. Changes by hand that stand there are tried on the whole crate, where
+any goal refuses them. One check a change, with one job. Needs rt, and the crate proved.
 """
 import os
 import random
@@ -34,6 +35,8 @@ WORDS = {
 WORD = re.compile(
     r"(?<![\w.#'◌{])(&&|nat_le|nat_lt|≤|<|true|false|Less|Greater|0x[0-9A-Fa-f]+|\d+)(?![\w'◌])"
 )
+# files and names of examples and laws, among all that is not proved
+EXAMPLE = re.compile(r"[Ee]xample|Laws?(?![a-z])|(?<![a-z])laws?(?![a-z])")
 CASE = re.compile(r"^(\w[\w']*)( .*?)? = (.*)$")
 
 
@@ -44,9 +47,12 @@ class Change(NamedTuple):
     edits: List[Tuple[str, str, str]]
 
 
-def otherwise(word: str) -> str:
-    """What stands in place of the word."""
-    return WORDS.get(word) or str(int(word, 0) + 1)
+def otherwise(word: str) -> List[str]:
+    """What stands in place of the word, in a change each."""
+    if word in WORDS:
+        return [WORDS[word]]
+    number = int(word, 0)
+    return [str(number + 1)] + [str(number - 1)] * (number > 0)
 
 
 def can_be_exchanged(this: "re.Match[str]", following: "re.Match[str]") -> bool:
@@ -79,8 +85,9 @@ def changes_of(path: str) -> Iterator[Change]:
         code = line.split("  --")[0]
         for found in WORD.finditer(code):
             word = found.group(1)
-            new = code[: found.start(1)] + otherwise(word) + code[found.end(1):]
-            yield with_lines(lines[:at] + [new] + lines[at + 1:], f"{new.strip()}  ({word})")
+            for other in otherwise(word):
+                new = code[: found.start(1)] + other + code[found.end(1):]
+                yield with_lines(lines[:at] + [new] + lines[at + 1:], f"{new.strip()}  ({word})")
         this, following = CASE.match(line), CASE.match(lines[at + 1] if at + 1 < len(lines) else "")
         if this and following and can_be_exchanged(this, following):
             swapped = [
@@ -120,7 +127,18 @@ def lower_crates(crate: str) -> List[str]:
     return found
 
 
-def verdict(folder: str, whole: bool) -> str:
+def refusals(said: str) -> List[str]:
+    """The files and names that a failed check names, those of examples and laws first, or else
+    its last line."""
+    names = re.findall(r"^\S*?((?:proofs|specs|src)/\S+?):\d+:\d+: error.*", said, re.M)
+    names += re.findall(r"^fn \S*?::(\S+): not proved", said, re.M)
+    unproved = r"^fn \S*?::(\S+): no proof: .* did not prove `(?:returns-clause-)?([^`]+)`"
+    names += [".".join(found) for found in re.findall(unproved, said, re.M)]
+    ordered = sorted(set(names), key=lambda name: (not EXAMPLE.search(name), name))
+    return ordered or [said.strip().split("\n")[-1]]
+
+
+def verdict(folder: str, whole: bool) -> List[str]:
     """What refuses the crate in this folder as it stands; empty where nothing does."""
     only: List[str] = []
     for module in () if whole else ("example", "examples", "laws"):
@@ -128,19 +146,20 @@ def verdict(folder: str, whole: bool) -> str:
             only += ["--only", module]
     command = ["nice", "rt", "check", "--jobs", "1"] + only
     run = subprocess.run(command, cwd=folder, capture_output=True, text=True, check=False)
-    said = run.stdout + run.stderr
-    if run.returncode == 0:
-        return ""
-    names = re.findall(r"^\S*?(proofs/\S+?|src/\S+?):\d+:\d+: error.*", said, re.M)
-    names += re.findall(r"^fn \S*?::(\S+): not proved", said, re.M)
-    unproved = r"^fn \S*?::(\S+): no proof: .* did not prove `(?:returns-clause-)?([^`]+)`"
-    names += [".".join(found) for found in re.findall(unproved, said, re.M)]
-    return ", ".join(sorted(set(names))[:6]) or said.strip().split("\n")[-1]
+    return refusals(run.stdout + run.stderr) if run.returncode else []
 
 
-def tried(crate: str, changes: List[Change], whole: bool) -> int:
-    """Tries the changes on a copy of the crate; how many stand."""
-    stand = 0
+class Told(NamedTuple):
+    """How many changes examples and laws refused, how many a lemma alone, and how many stand."""
+
+    refused: int
+    alone: int
+    stand: int
+
+
+def tried(crate: str, changes: List[Change], whole: bool) -> Told:
+    """Tries the changes on a copy of the crate, and tells of each."""
+    told = Told(0, 0, 0)
     with tempfile.TemporaryDirectory() as place:
         shutil.copy("HANDLES", place)
         copied = lower_crates(crate)
@@ -162,11 +181,19 @@ def tried(crate: str, changes: List[Change], whole: bool) -> int:
             refused = verdict(f"{place}/crates/{crate}", False)
             if not refused and whole:
                 refused = verdict(f"{place}/crates/{crate}", True)
-            stand += not refused
-            print(f"{change.said}: {refused or 'STANDS'}", flush=True)
+            shown = ", ".join(refused[:6])
+            if not refused:
+                told, shown = told._replace(stand=told.stand + 1), "STANDS"
+            # a name has no blanks, as a last line has
+            elif EXAMPLE.search(refused[0]) and " " not in refused[0]:
+                told = told._replace(refused=told.refused + 1)
+            else:
+                told, shown = told._replace(alone=told.alone + 1), f"lemma alone: {shown}"
+            print(f"{change.said}: {shown}", flush=True)
             for path in kept:
                 shutil.copy(path, f"{place}/{path}")
-    return stand
+    print(f"{told.refused} refused, {told.alone} by a lemma alone, {told.stand} stand")
+    return told
 
 
 def main(words: List[str]) -> int:
@@ -178,7 +205,7 @@ def main(words: List[str]) -> int:
     drawn = int(words.pop(0)) if way == "--draw" else 0
     crate, rest = words[0], words[1:]
     if way == "--edits":
-        return 1 if tried(crate, [edits_in(path, crate) for path in rest], True) else 0
+        return 1 if tried(crate, [edits_in(path, crate) for path in rest], True).stand else 0
     changes = [
         change
         for name in sorted(os.listdir(f"crates/{crate}/specs"))
@@ -193,7 +220,8 @@ def main(words: List[str]) -> int:
         changes = random.Random(crate).sample(changes, min(drawn, len(changes)))
     # lemmas that are examples are checked with the whole crate alone
     whole = os.path.exists(f"crates/{crate}/proofs/Examples.antt")
-    return 1 if tried(crate, changes, whole) else 0
+    told = tried(crate, changes, whole)
+    return 1 if told.alone or told.stand else 0
 
 
 if __name__ == "__main__":

@@ -11,6 +11,9 @@ for gap in 5 30 60; do
 done
 head -c 2000 north.30 > cut.30
 : > empty
+# of versions that this program doesn't have, the first as long as one that it has
+sed '1s/.*/APRSBOOK 4 60/' north.30 > later.30
+sed '1s/.*/APRSBOOK 10/' north.30 > much_later.30
 
 # ---- merge-driver ----
 
@@ -35,6 +38,12 @@ if has merge-driver git; then
         git -C repo checkout -q - && commit "$2"
         git -C repo merge -q -m both other >&2
     }
+    # drive BASE OURS THEIRS: the driver, with copies of these books
+    drive() {
+        rm -rf driven && mkdir driven
+        cp "$1" driven/base && cp "$2" driven/ours && cp "$3" driven/theirs
+        merge-driver driven/base driven/ours driven/theirs
+    }
     for gap in 5 30 60; do
         aprsbook merge --gap $gap hill.log coast.log > ours.$gap
         aprsbook merge --gap $gap hill.log north.log > theirs.$gap
@@ -46,6 +55,18 @@ if has merge-driver git; then
     makes all.5 'repo/a net.book' both '' ours.5 theirs.5
     # an empty book and one that was cut short are conflicts, and nothing is left behind
     for book in empty cut.30; do refused CONFLICT both hill.30 ours.30 $book; done
+    # so is one of a version that isn't known, which is said before anything is changed
+    for book in later.30 much_later.30; do
+        version=$(sed -n 1p $book)
+        refused "base begins with '$version'" drive $book ours.30 theirs.30
+        same ours.30 driven/ours
+        refused "ours begins with '$version'" drive hill.30 $book theirs.30
+        same $book driven/ours
+        refused "theirs begins with '$version'" drive hill.30 ours.30 $book
+        same ours.30 driven/ours
+        refused CONFLICT both hill.30 ours.30 $book
+    done
+    makes all.30 driven/ours drive hill.30 ours.30 theirs.30
     # a system whose lines of text end otherwise has the same book
     git config --global core.autocrlf true
     makes all.30 'repo/a net.book' both hill.30 ours.30 theirs.30

@@ -101,7 +101,7 @@ fn each_fault_of_a_line(rt: HostRuntime) -> Result<(), Fail> {
 }
 
 #[test]
-fn lines_have_at_most_8192_digits(rt: HostRuntime) -> Result<(), Fail> {
+fn lines_have_at_most_8192_bytes(rt: HostRuntime) -> Result<(), Fail> {
     let mut longest = Vec::new(rt.alloc());
     longest.extend_from_slice(b"2024-05-01T12:00:00Z RX ")?;
     longest.resize(8192, b'0')?;
