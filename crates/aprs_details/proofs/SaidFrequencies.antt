@@ -4,12 +4,12 @@ use Rattle.aprs_report.specs.Bytes.{is_space}
 use Rattle.aprs_report.specs.Numeral.{is_digit_of}
 use Rattle.aprs_report.specs.Reader.{◌>>=◌, value_when, byte_where, chunk_of, numeral_of}
 use Rattle.aprs_report.proofs.Steps.{if_some}
-use Rattle.aprs_details.specs.Altitude.{or_else}
 use Rattle.aprs_details.specs.Details.{without_mark}
 use Rattle.aprs_details.specs.Value.{is_dot}
-use Rattle.aprs_details.specs.Frequency.{Tuned, is_megahertz, tens_of, thousandths_of, khz_at, word_at, is_tone, tone_in, tone_at, offset_of, offset_at, tuned_after, tuned_at, or_tuned, is_extension, after_extension, extended, frequency_of, after_altitude, mic_e_frequency_of}
+use Rattle.aprs_details.specs.Frequency.{Tuned, is_megahertz, tens_of, thousandths_of, khz_at, word_at, is_tone, tone_in, tone_at, offset_of, offset_at, tuned_after, tuned_at, is_extension, after_extension, extended, frequency_of, after_altitude, mic_e_frequency_of}
 use Rattle.aprs_details.specs.SaidFrequency.{IsThousandths, three, two, BeginsWithKilohertz, BeginsWithWord, IsNextTone, toned, untoned, IsNextOffset, worded, wordless, BeginsWithFrequency, HasNoFrequency, HasExtension, HasFrequency, beginning, following, HasMicEFrequency, unmarked, marked}
 use Rattle.aprs_details.proofs.Lacking.{then_some}
+use Rattle.aprs_details.specs.First.{or_other}
 
 none_some : {A : Type 0} (x : A) → ◌≡◌ {A = Option A} None (Some x) → ⊥
 none_some x e = absurd cc
@@ -35,7 +35,7 @@ tens_found (a ∷ b ∷ c ∷ []) n len e =
     (λ m e1 r1. two (a ∷ b ∷ []) m refl e1 (sym (some_is (m * 10) n r1)) (space_last a b c f.0))
 
 thousandths_in : (places : List ℕ) (n : ℕ) (o : Option ℕ) → length places ≡ 3 →
-    numeral_of 10 48 places ≡ o → or_else o (tens_of places) ≡ Some n → IsThousandths n places
+    numeral_of 10 48 places ≡ o → or_other o (tens_of places) ≡ Some n → IsThousandths n places
 thousandths_in places n (Some m) len e h = three len (e ∙ h)
 thousandths_in places n None len e h = tens_found places n len h
 
@@ -58,11 +58,11 @@ tens_take [] m len e = absurd cc
 tens_take (a ∷ []) m len e = absurd cc
 tens_take (a ∷ b ∷ c ∷ more) m len e = absurd (omega (arith, len))
 tens_take (a ∷ b ∷ []) m len e =
-    ap (λ (o : Option ℕ). or_else o (tens_of (a ∷ b ∷ 32 ∷ []))) (no_number a b)
+    ap (λ (o : Option ℕ). or_other o (tens_of (a ∷ b ∷ 32 ∷ []))) (no_number a b)
     ∙ ap (λ (o : Option ℕ). o >>= λ n. Some (n * 10)) e
 
 thousandths_take : (places : List ℕ) (n : ℕ) → IsThousandths n places → thousandths_of places ≡ Some n
-thousandths_take places n (three len e) = ap (λ (o : Option ℕ). or_else o (tens_of places)) e
+thousandths_take places n (three len e) = ap (λ (o : Option ℕ). or_other o (tens_of places)) e
 thousandths_take places n (two tens m len e value parts) =
     ap thousandths_of parts ∙ tens_take tens m len e ∙ ap (λ (k : ℕ). Some k) (sym value)
 
@@ -282,7 +282,7 @@ extension_takes rest comment h =
     ap after_extension h.whole ∙ rw (chunk_takes 7 h.field rest h.seven, h.extension) refl
 
 frequency_in : (comment : List ℕ) (x : Tuned) (o : Option Tuned) → tuned_at comment ≡ o →
-    or_tuned o (extended comment) ≡ Some x → HasFrequency x comment
+    or_other o (extended comment) ≡ Some x → HasFrequency x comment
 frequency_in comment x (Some y) e h = beginning (tuned_found comment x (e ∙ h))
 frequency_in comment x None e h =
     after_some (after_extension comment) tuned_at x (HasFrequency x comment) h
@@ -298,15 +298,15 @@ pub frequency_takes : (comment : List ℕ) (x : Tuned) → HasFrequency x commen
     frequency_of comment ≡ Some x
 unfolding frequency_of
 frequency_takes comment x (beginning h) =
-    ap (λ (o : Option Tuned). or_tuned o (extended comment)) (tuned_takes comment x h)
+    ap (λ (o : Option Tuned). or_other o (extended comment)) (tuned_takes comment x h)
 frequency_takes comment x (following rest never extension h) =
-    ap (λ (o : Option Tuned). or_tuned o (extended comment))
+    ap (λ (o : Option Tuned). or_other o (extended comment))
     (none_read comment (tuned_at comment) refl never)
     ∙ then_some (after_extension comment) rest tuned_at (Some x) (extension_takes rest comment extension)
     (tuned_takes rest x h)
 
 mic_e_in : (comment : List ℕ) (x : Tuned) (o : Option Tuned) → tuned_at (after_altitude comment) ≡ o →
-    or_tuned o (tuned_at (after_altitude (without_mark comment))) ≡ Some x → HasMicEFrequency x comment
+    or_other o (tuned_at (after_altitude (without_mark comment))) ≡ Some x → HasMicEFrequency x comment
 mic_e_in comment x (Some y) e h = unmarked (tuned_found (after_altitude comment) x (e ∙ h))
 mic_e_in comment x None e h =
     marked (none_there (after_altitude comment) e)
@@ -321,9 +321,9 @@ pub mic_e_takes : (comment : List ℕ) (x : Tuned) → HasMicEFrequency x commen
     mic_e_frequency_of comment ≡ Some x
 unfolding mic_e_frequency_of
 mic_e_takes comment x (unmarked h) =
-    ap (λ (o : Option Tuned). or_tuned o (tuned_at (after_altitude (without_mark comment))))
+    ap (λ (o : Option Tuned). or_other o (tuned_at (after_altitude (without_mark comment))))
     (tuned_takes (after_altitude comment) x h)
 mic_e_takes comment x (marked never h) =
-    ap (λ (o : Option Tuned). or_tuned o (tuned_at (after_altitude (without_mark comment))))
+    ap (λ (o : Option Tuned). or_other o (tuned_at (after_altitude (without_mark comment))))
     (none_read (after_altitude comment) (tuned_at (after_altitude comment)) refl never)
     ∙ tuned_takes (after_altitude (without_mark comment)) x h

@@ -6,7 +6,6 @@ use Rattle.aprs_report.specs.Bytes.{is_digit}
 use Rattle.aprs_report.specs.Reader.{◌>>=◌}
 use Rattle.aprs_details.specs.declared.weather.Weather.{Weather}
 use Rattle.aprs_details.specs.Value.{known}
-use Rattle.aprs_details.specs.Altitude.{or_else}
 use Rattle.aprs_details.specs.Compressed.{course_of_cst}
 use Rattle.aprs_details.specs.Extension.{IsPair, pair_of}
 use Rattle.aprs_details.specs.Weather.{field_at, places_in, number_of, temperature_of, humidity_of, luminosity_of, bright_of, fahrenheit, percent, direction_in, weather_with, weather_of_fields, weather_after, weather_of_comment, weather_of_cst, is_underscore, fields_of_info, weather_of_info}
@@ -14,6 +13,7 @@ use Rattle.aprs_details.specs.WeatherReport.{IsWeatherField, HasField, here, lat
 use Rattle.aprs_details.proofs.Pairs.{pair_found, pair_takes}
 use Rattle.aprs_details.proofs.Lacking.{then_some}
 use Rattle.aprs_details.proofs.Fields.{field_found, field_takes, walk_stops, walk_goes_on, walk_ends}
+use Rattle.aprs_details.specs.First.{or_other}
 
 -- ---- the first field of a letter
 
@@ -149,7 +149,7 @@ weather_takes w wind_from wind text h =
     let bright : bright_of text ≡ h.bright =
     sym (of_known (places_in 108 text) (λ n. Some (n + 1000))) ∙ says_it bright_in 108 text h.bright h.thousand_more in
     let luminosity : luminosity_of text ≡ w.luminosity =
-    ap (λ (o : Option ℕ). or_else o (bright_of text)) dark ∙ ap (or_else h.dark) bright ∙ h.luminosity in
+    ap (λ (o : Option ℕ). or_other o (bright_of text)) dark ∙ ap (or_other h.dark) bright ∙ h.luminosity in
     made w (direction_in wind_from) wind (number_of 103 text) (number_of 114 text) (number_of 112 text) (number_of 80 text)
     (humidity_of text) (number_of 98 text) (luminosity_of text) (temperature_of text)
     h.from h.speed gust rain_hour rain_day rain_midnight humidity pressure luminosity temperature

@@ -8,9 +8,9 @@ use Rattle.aprs_report.specs.Bytes.{is_digit, is_space}
 use Rattle.aprs_report.specs.Reader.{◌>>=◌, value_when, chunk_of, byte_where, numeral_of}
 use Rattle.aprs_details.specs.declared.frequency.Frequency.{Frequency}
 use Rattle.aprs_details.specs.Value.{is_dot}
-use Rattle.aprs_details.specs.Altitude.{or_else}
 use Rattle.aprs_details.specs.Extension.{pair_of, range_at, phg_at}
 use Rattle.aprs_details.specs.Details.{without_mark, base91_at}
+use Rattle.aprs_details.specs.First.{or_other}
 
 -- What a comment says of a frequency, without where its bytes lie in memory.
 pub record Tuned : Type 0 where
@@ -39,7 +39,7 @@ tens_of places =
 
 -- The kilohertz of the places after the point: three digits, or two and a space.
 abbrev pub thousandths_of : List ℕ → Option ℕ
-thousandths_of places = or_else (numeral_of 10 48 places) (tens_of places)
+thousandths_of places = or_other (numeral_of 10 48 places) (tens_of places)
 
 -- The frequency in kilohertz with which the text begins, and the rest: three digits, a point, three
 -- digits or two and a space, and MHz.
@@ -108,11 +108,6 @@ tuned_at text = khz_at text >>= λ x. Some (tuned_after x)
 
 -- ---- where it stands
 
--- The first value, or else the second.
-abbrev pub or_tuned : Option Tuned → Option Tuned → Option Tuned
-or_tuned (Some x) other = Some x
-or_tuned None other = other
-
 -- The seven bytes are a data extension: course and speed, a range, or a transmitter.
 abbrev pub is_extension : List ℕ → Bool
 is_extension field =
@@ -130,7 +125,7 @@ extended comment = after_extension comment >>= tuned_at
 
 -- The frequency with which a comment begins, or that follows its data extension.
 unfoldable pub frequency_of : List ℕ → Option Tuned
-frequency_of comment = or_tuned (tuned_at comment) (extended comment)
+frequency_of comment = or_other (tuned_at comment) (extended comment)
 
 -- What follows the first four bytes, if they are an altitude xxx}; otherwise the text.
 abbrev pub after_altitude_in : List ℕ → Option (List ℕ × List ℕ) → List ℕ
@@ -144,4 +139,4 @@ after_altitude text = after_altitude_in text (chunk_of 4 text)
 -- The frequency of a Mic-E comment: at its start, or after a radio's mark, an altitude, or both.
 unfoldable pub mic_e_frequency_of : List ℕ → Option Tuned
 mic_e_frequency_of comment =
-    or_tuned (tuned_at (after_altitude comment)) (tuned_at (after_altitude (without_mark comment)))
+    or_other (tuned_at (after_altitude comment)) (tuned_at (after_altitude (without_mark comment)))

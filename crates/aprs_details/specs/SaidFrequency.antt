@@ -1,5 +1,5 @@
 -- A frequency as a comment says it (APRS 1.2, frequency specification).
-use Rattle.std.specs.Prelude.{◌≡◌, ℕ, ℤ, ◌+◌, ◌*◌, true, List, [], ◌∷◌, ◌++◌, length, Option, None, Some, codes}
+use Rattle.std.specs.Prelude.{◌≡◌, ℕ, ℤ, ◌+◌, ◌*◌, true, List, [], ◌++◌, length, Option, None, Some, codes}
 use Rattle.aprs_report.specs.Reader.{numeral_of}
 use Rattle.aprs_details.specs.Details.{without_mark}
 use Rattle.aprs_details.specs.Frequency.{Tuned, is_tone, offset_of, is_extension, after_altitude}

@@ -1,5 +1,5 @@
 -- Telemetry as a comment says it (APRS 1.2, base-91 comment telemetry).
-use Rattle.std.specs.Prelude.{◌≡◌, ℕ, List, [], ◌∷◌, ◌++◌, length, Option, None, Some, codes}
+use Rattle.std.specs.Prelude.{◌≡◌, ℕ, List, [], ◌++◌, length, Option, None, Some, codes}
 use Rattle.aprs_io.specs.Cut.{Lacks}
 use Rattle.aprs_io.specs.Octet.{octet}
 use Rattle.aprs_report.specs.Reader.{numeral_of}

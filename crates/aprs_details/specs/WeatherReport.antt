@@ -7,10 +7,10 @@ use Rattle.aprs_report.specs.Bytes.{is_digit}
 use Rattle.aprs_report.specs.Reader.{◌>>=◌}
 use Rattle.aprs_details.specs.declared.weather.Weather.{Weather}
 use Rattle.aprs_details.specs.Value.{known}
-use Rattle.aprs_details.specs.Altitude.{or_else}
 use Rattle.aprs_details.specs.Compressed.{course_of_cst}
 use Rattle.aprs_details.specs.Extension.{IsPair}
 use Rattle.aprs_details.specs.Weather.{width_of, fits_letter, fahrenheit, percent, direction_in}
+use Rattle.aprs_details.specs.First.{or_other}
 
 -- A field of this letter has as many places as these, and these may stand there.
 pub record IsWeatherField (letter : ℕ) (places : List ℕ) : Type 0 where
@@ -57,7 +57,7 @@ pub record SaysWeather (w : Weather) (wind_from wind : Option ℕ) (text : List 
   pub bright : Option ℕ
   pub below_thousand : Says known (octet "L") text dark
   pub thousand_more : Says bright_in (octet "l") text bright
-  pub luminosity : or_else dark bright ≡ w.luminosity
+  pub luminosity : or_other dark bright ≡ w.luminosity
 
 -- The fields of the text say this weather, and the wind too: its direction c and its speed s.
 pub record SaysWind (w : Weather) (text : List ℕ) : Type 0 where
