@@ -3,7 +3,8 @@
 ghost use Rattle.std.specs.Prelude.{◌≡◌, ◌<◌, ◌+◌, ◌*◌, ◌^◌, IsTrue};
 ghost use Rattle.aprs_details.specs.GgaAltitude as Spec;
 
-use crate::compressed::{is_base91, is_gga};
+use crate::compressed::is_gga;
+use crate::value::is_base91;
 
 /// 1.002 to the powers 0, 91, 182 and so on up to 8,190, in parts of which 2^24 make 1, rounded
 /// down.

@@ -2,7 +2,7 @@
 ghost use Rattle.std.specs.Prelude.{◌≡◌, ◌<◌, ◌^◌, IfSome, unsigned_abs};
 ghost use Rattle.aprs_details.specs.Precision as Spec;
 
-use crate::compressed::is_base91;
+use crate::value::is_base91;
 use aprs_report::{Fraction, Place};
 
 /// What a further digit of an angle counts: parts of a hundredth of a minute.
