@@ -102,7 +102,7 @@ unfolding key_cmp
 key_sources k l h = first_not_gt (call_cmp k.source l.source)
     (ordering_then (call_cmp k.destination l.destination) (bytes_cmp k.info l.info)) h
 
-row_sources : (x y : Row) → IsBelow row_cmp x y
+pub row_sources : (x y : Row) → IsBelow row_cmp x y
     → is_gt (call_cmp (row_key x).source (row_key y).source) ≡ false
 row_sources x y h = key_sources (row_key x) (row_key y)
     (first_order (key_cmp (row_key x) (row_key y)) (nat_cmp x.first y.first) h)

@@ -19,6 +19,7 @@ use Rattle.aprs_laws.specs.Order.{IsBelow}
 use Rattle.aprs_laws.specs.Row.{Row, row_cmp, row_key}
 use Rattle.aprs_booktext.proofs.OneText.{All-middle, end_lacks, row_lacks}
 use Rattle.aprs_booktext.specs.Text.{IsBookRow, end_line, row_line}
+use Rattle.aprs_fold.proofs.Parts.{row_sources}
 use Rattle.aprs_fold.specs.Range.{is_until}
 use Rattle.aprs_range.specs.Cuts.{BeginsLine, CutsRows, EndsBefore, IsCutAt, IsLow, RowsStand}
 use Rattle.aprs_range.specs.Lines.{IsJudged, IsLineAt, ReadsLine}
@@ -36,27 +37,6 @@ reversed_lt Greater = refl
 pub before_other : (source end : Call) → is_lt (call_cmp source end) ≡ is_gt (call_cmp end source)
 before_other source end = ap is_lt (call_total.antisymm source end)
     ∙ reversed_lt (call_cmp end source)
-
-first_order : (a b : Ordering) → ordering_then a b ≡ Less → is_gt a ≡ false
-first_order Less b h = refl
-first_order Equal b h = refl
-first_order Greater b h = absurd (cc)
-
-first_not_gt : (a b : Ordering) → is_gt (ordering_then a b) ≡ false → is_gt a ≡ false
-first_not_gt Less b h = refl
-first_not_gt Equal b h = refl
-first_not_gt Greater b h = h
-
-key_sources : (k l : Key) → is_gt (key_cmp k l) ≡ false
-    → is_gt (call_cmp k.source l.source) ≡ false
-unfolding key_cmp
-key_sources k l h = first_not_gt (call_cmp k.source l.source)
-    (ordering_then (call_cmp k.destination l.destination) (bytes_cmp k.info l.info)) h
-
-row_sources : (x y : Row) → IsBelow row_cmp x y
-    → is_gt (call_cmp (row_key x).source (row_key y).source) ≡ false
-row_sources x y h = key_sources (row_key x) (row_key y)
-    (first_order (key_cmp (row_key x) (row_key y)) (nat_cmp x.first y.first) h)
 
 -- what is before a row whose source comes before the end does so too
 until_below : (end : Option Call) (x y : Row) → IsBelow row_cmp x y
