@@ -2,6 +2,7 @@
 #![tactic(auto)]
 
 mod arguments;
+mod examples;
 mod fold;
 mod help;
 mod history;

@@ -1,8 +1,9 @@
 //! Complaints of a program.
-ghost use Rattle.std.specs.Prelude.{◌≡◌, ℕ, ◌++◌, codes};
+ghost use Rattle.std.specs.Prelude.{◌≡◌, ◌≢◌, ℕ, ◌++◌, codes};
 ghost use Rattle.aprs_tool.specs.Status.{status_of_book_cause, status_of_cause, status_of_fault, status_of_input};
 ghost use Rattle.aprs_tool.specs.declared.fault.RunFault.TheVariants.{Input};
 ghost use Rattle.std.specs.Fmt.{decimal};
+ghost use Rattle.std.specs.IoError.{error_kind};
 ghost use Rattle.aprs_io.specs.Device.{Sends};
 ghost use Rattle.aprs_io.specs.Outlet.{Puts};
 ghost use Rattle.aprs_program.specs.Complaint as Spec;
@@ -12,7 +13,7 @@ use aprs_io::{Counted, Outlet, WriteFault};
 use aprs_log::LogCause;
 use aprs_tool::{InputFault, RunFault};
 use itoa::Buffer;
-use std::io::Write;
+use std::io::{self, ErrorKind, Write};
 
 /// What is said of an argument that isn't UTF-8.
 const NOT_UTF8: &[u8] = b"invalid UTF-8 was detected in one or more arguments";
@@ -146,6 +147,20 @@ fn put_line<W: Write>(
     out.put(b": line ")?;
     out.put(Buffer::new().format(line).as_bytes())?;
     put_two(out, b": ", cause)
+}
+
+/// What is complained of where the system answers this error for the program's arguments: an
+/// allocation failed, or one of them isn't UTF-8. Takes no memory.
+pub(crate) fn complaint_of_arguments(error: &io::Error) -> Complaint<'static>
+    ensures memory { error_kind error.now ≡ ErrorKind.OutOfMemory
+        → result ≡ Complaint.OutOfMemory }
+    ensures otherwise { error_kind error.now ≢ ErrorKind.OutOfMemory
+        → result ≡ Complaint.NotUtf8 }
+{
+    match error.kind() {
+        ErrorKind::OutOfMemory => Complaint::OutOfMemory,
+        _ => Complaint::NotUtf8,
+    }
 }
 
 /// The complaint of a run's fault, where `place` is the name of the input at fault. Takes no

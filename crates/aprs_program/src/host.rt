@@ -1,5 +1,7 @@
 //! A program between its host and its runs: arguments, files, standard streams and the exit status.
-use crate::complaint::{Complaint, EXIT_USAGE, complain, complaint_of, complaint_status};
+use crate::complaint::{
+    Complaint, EXIT_USAGE, complain, complaint_of, complaint_of_arguments, complaint_status,
+};
 use crate::ending::{complaint_after, input_name};
 use crate::opening::{OpenFault, Opener, open_inputs};
 use crate::retried::Retried;
@@ -11,7 +13,7 @@ use aprs_tool::{FoldJob, InputFault, JobFault, MAX_BOOK, RunFault, SourceRange, 
 use std::alloc::{Allocator, Global};
 use std::env;
 use std::fs::File;
-use std::io::{self, BufWriter, ErrorKind, Read, Seek, Stdin, Write};
+use std::io::{self, BufWriter, Read, Seek, Stdin, Write};
 use std::process::ExitCode;
 
 /// An input of a program: a file of the host, or its standard input.
@@ -66,8 +68,7 @@ impl Opener for Program<'_> {
     fn open(&mut self, path: &str) -> Result<HostInput, OpenFault> {
         match File::open(self.rt, path) {
             Ok(file) => Ok(HostInput::File(file)),
-            Err(error) if error.kind() == ErrorKind::OutOfMemory => Err(OpenFault::Memory),
-            Err(_) => Err(OpenFault::Refused),
+            Err(error) => Err(OpenFault::of(&error)),
         }
     }
 
@@ -90,8 +91,7 @@ impl<'a> Program<'a> {
                 Ok(arguments) => Ok(arguments),
                 Err(_) => Err(Complaint::OutOfMemory),
             },
-            Err(error) if error.kind() == ErrorKind::OutOfMemory => Err(Complaint::OutOfMemory),
-            Err(_) => Err(Complaint::NotUtf8),
+            Err(error) => Err(complaint_of_arguments(&error)),
         }
     }
 

@@ -1,12 +1,13 @@
 //! Opening the inputs of a run.
-ghost use Rattle.std.specs.Prelude.{◌≡◌, ◌∷◌, ◌≤◌, [], ℕ, IfErr, IfOk, OnOk, List, Option, None, length};
+ghost use Rattle.std.specs.Prelude.{◌≡◌, ◌≢◌, ◌∷◌, ◌≤◌, [], ℕ, IfErr, IfOk, OnOk, List, Option, None, length};
+ghost use Rattle.std.specs.IoError.{error_kind};
 ghost use Rattle.std.specs.Result.{result_err};
 ghost use Rattle.aprs_program.specs.Opening.{AreAt, Asked, AsksFor, IsKnownAs, StopsAtInput, StopsAtPath, complaint_at, opened};
 
 use crate::complaint::Complaint;
 use aprs_io::Counted;
 use std::alloc::Allocator;
-use std::io::Read;
+use std::io::{self, ErrorKind, Read};
 
 /// Why an input can't be opened.
 #[derive(Clone, Copy, Debug, PartialEq, Eq)]
@@ -15,6 +16,22 @@ pub enum OpenFault {
     Refused,
     /// An allocation failed.
     Memory,
+}
+
+impl OpenFault {
+    /// Why an input can't be opened where the system answers this error: an allocation failed, or
+    /// the system refuses the input. Takes no memory.
+    pub fn of(error: &io::Error) -> OpenFault
+        ensures memory { error_kind error.now ≡ ErrorKind.OutOfMemory
+            → result ≡ OpenFault.Memory }
+        ensures refused { error_kind error.now ≢ ErrorKind.OutOfMemory
+            → result ≡ OpenFault.Refused }
+    {
+        match error.kind() {
+            ErrorKind::OutOfMemory => OpenFault::Memory,
+            _ => OpenFault::Refused,
+        }
+    }
 }
 
 /// What opens the inputs of a run by their paths.
