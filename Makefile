@@ -58,10 +58,10 @@ run: build
 try:
 	cd crates/aprsbook && rt try < ../../examples/sample.log
 
-# the whole gate: every proof, edit that must fail, test and stored run; each check with one job, since
-# four jobs read four times what they begin with
-test: words recipes
-	RT_JOBS=$(LANES) rt ci
+# the whole gate: every proof, edit that must fail, test and stored run, and then what is tried with the
+# programs that this built; each check with one job, since four jobs read four times what they begin with
+test: words
+	RT_JOBS=$(LANES) build/gate.sh $(BUILT)
 
 # the manual page and the completions name what the program has, the documents what the crates have and
 # by the same numbers, no source makes up a want of memory, the reading list is that of the sources, the
@@ -80,6 +80,7 @@ words:
 	tests/library.sh
 	tests/completions.sh
 	tests/scripts.sh
+	tests/gate.sh
 	tests/tools.sh
 	tests/system_c.sh
 	@$(MAKE) --no-print-directory page-tests
@@ -123,23 +124,34 @@ reading:
 # the packages, and the same on other machines
 TRIED = readme old_book gaps full_output books fold units awks
 TRIED_ALL = complaints history table version packages everywhere
-tried = tests/arguments.py $(PROGRAM) && tests/ample.py $(PROGRAM) && \
-    tests/table.py $(TABLE) 100 && $(foreach it,$(TRIED),tests/$(it).sh $(PROGRAM) &&) \
-    $(foreach it,$(TRIED_ALL),tests/$(it).sh $(PROGRAM) $(HISTORY) $(TABLE) &&)
+passes = { $(1) || { echo 'failed: $(1)' >&2; exit 1; }; } &&
+tries = $(call passes,tests/arguments.py $(PROGRAM)) $(call passes,tests/ample.py $(PROGRAM)) \
+    $(call passes,tests/table.py $(TABLE) 100) \
+    $(foreach it,$(TRIED),$(call passes,tests/$(it).sh $(PROGRAM))) \
+    $(foreach it,$(TRIED_ALL),$(call passes,tests/$(it).sh $(PROGRAM) $(HISTORY) $(TABLE)))
 
-# these, and the recipes that need only a POSIX system, where a program is there that is newer than
-# its sources; each says what it leaves out because a tool isn't there
+# what isn't there of the programs, and the sources that are newer than one of them
+stale = for it in $(BUILT); do if [ ! -x $$it ]; then echo $$it; else \
+    find crates -name out -prune -o -name '*.rt' -newer $$it -print; fi; done | sort -u | sed 4q
+
+# these, and the recipes that need only a POSIX system; each says what it leaves out because a tool
+# isn't there
+.PHONY: tried
+tried:
+	@stale=$$($(stale)); if [ -n "$$stale" ]; then \
+	    echo "no program is built of these sources (make build):" $$stale >&2; exit 1; fi
+	@$(tries) $(call passes,examples/cookbook.sh --posix $(PROGRAM)) true
+
+# the same, with the programs for other machines, where all programs are newer than their sources
 recipes:
-	@if [ -x $(PROGRAM) ] && [ -x $(HISTORY) ] && [ -x $(TABLE) ] && \
-	    [ -z "$$(find crates -name out -prune -o -name '*.rt' -newer $(PROGRAM) -print)" ]; then \
-	    $(MAKE) --no-print-directory elsewhere && \
-	    $(tried) examples/cookbook.sh --posix $(PROGRAM); \
+	@if [ -z "$$($(stale))" ]; then \
+	    $(MAKE) --no-print-directory elsewhere && $(MAKE) --no-print-directory tried; \
 	else echo 'left out: the recipes of the cookbook, since no program is built (make build)'; fi
 
 # these, the module and the library for C, and every recipe of the cookbook whose tools are there
 cookbook: build
 	@$(MAKE) --no-print-directory elsewhere
-	$(tried) examples/cookbook.sh $(PROGRAM)
+	@$(tries) $(call passes,examples/cookbook.sh $(PROGRAM)) true
 	tests/tools.sh --all $(PROGRAM)
 	$(MAKE) --no-print-directory clib page
 	tests/clib.sh $(PROGRAM)

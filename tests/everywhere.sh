@@ -26,6 +26,11 @@ here() {
             echo "left out: $1 (no program $it is built: make $3)"
             return
         fi
+        # one that was made of an older program says nothing of this one
+        if [ -n "$(find -L "$program" -newer "$2/$it")" ]; then
+            echo "left out: $1 (the program $it is older than aprsbook: make $3)"
+            return
+        fi
     done
     mkdir "programs/$1"
     for it in $names; do ln -s "$2/$it" "programs/$1"; done
