@@ -177,7 +177,7 @@ abbrev pub answered_in : List (AnswerKey × Received) → Message → ℕ → Op
 answered_in entries m first None = None
 answered_in entries m first (Some id) = answered_by first (answer_to entries m id false)
 
--- The number of a message that has this id and this number in its text: with an id it has none.
+-- The number of a message, where its text has this number: none where the message has an id.
 abbrev pub number_without : Option (List ℕ) → Option (List ℕ) → Option (List ℕ)
 number_without None number = number
 number_without (Some id) number = None

@@ -11,7 +11,7 @@ use Rattle.aprs_book.specs.ReplyAcks.{is_message_number, is_number_or_nothing}
 abbrev pub HoldsOnly : {X : Type 0} → (X → Type 0) → Option X → Type 0
 HoldsOnly {X} P o = (x : X) → (o ≡ Some x) ↔ P x
 
--- The bytes are some, a mark, and so many letters or digits.
+-- The bytes are x.0, a mark, and x.1, which is so many letters or digits.
 pub record EndsSo (mark len : ℕ) (bytes : List ℕ) (x : List ℕ × List ℕ) : Type 0 where
   pub whole : bytes ≡ x.0 ++ mark ∷ x.1
   pub long : length x.1 ≡ len

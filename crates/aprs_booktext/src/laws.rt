@@ -4,8 +4,8 @@ ghost use Rattle.aprs_booktext.specs.Seconds.{AreWrittenToTheSecond};
 
 /// The text of a book's rows in a version, with its gap, is that of no other version, gap or rows.
 /// So different books are written as different texts. A beginning of such a text has no fault but
-/// that a byte is missing after it or that an allocation failed. Where the input ended after the
-/// whole text, that has no fault but the latter.
+/// how the input ended (`Ending`, `Read` or `TooLong`), or that an allocation failed. Where the
+/// input ended after the whole text, that has no fault but the latter.
 pub fn each_book_has_one_text()
     ensures one { Spec.HaveOneText }
     ensures written { Spec.TellBooksApart }

@@ -210,7 +210,7 @@ impl<A: Allocator + Copy> RowStream<A> {
         }
     }
 
-    /// `Ok` where no bytes are here after the last line, and else the fault `After`.
+    /// `Ok` where no bytes are held after the last line, and else the fault `After`.
     fn refuse_rest(&self) -> Result<(), BookFault>
         requires few { Spec.stream_size self.now ≤ most_stream }
         requires done { Spec.is_ended self.now ≡ true }

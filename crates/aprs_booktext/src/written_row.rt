@@ -13,7 +13,7 @@ pub struct WrittenRow {
 }
 
 impl WrittenRow {
-    /// Room for the first row.
+    /// Room for the lines of rows, of which none was written yet.
     pub fn new() -> WrittenRow {
         WrittenRow {
             tail: [0; ROW_TAIL],

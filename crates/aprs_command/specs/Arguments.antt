@@ -142,7 +142,8 @@ table_app = with_gathered (versioned_app (codes "aprsbook-table"))
 abbrev pub receiver_of : Text → Option (List ℕ)
 receiver_of t = if is_receiver t then Some t else None
 
--- A form but capture, which has neither option.
+-- This form, which isn't a capture. None where a receiver or a moment is given, which only a capture
+-- has.
 abbrev pub plain_form_of : Form → Option Text → Option Text → Option Form
 plain_form_of f None None = Some f
 plain_form_of f _ _ = None

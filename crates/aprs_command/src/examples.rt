@@ -3,7 +3,8 @@ ghost use Rattle.std.specs.Prelude.{◌≡◌, ◌∷◌, [], codes, true, false
 ghost use Rattle.clap.specs.Words.{takes};
 ghost use Rattle.aprs_command.specs.Arguments as Spec;
 
-/// `check` takes one input or none, and `merge` any number. The first word is the program's name.
+/// `check` takes one input or none, and `merge` any number. The first word is the
+/// command's own name.
 pub fn commands_take_inputs()
     ensures none { takes Spec.check_app (codes "check" ∷ []) ≡ true }
     ensures one { takes Spec.check_app (codes "check" ∷ codes "a" ∷ []) ≡ true }

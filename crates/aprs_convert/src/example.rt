@@ -13,8 +13,8 @@ pub fn checks_count_lines()
     ensures misses_failed_read { (written : List ℕ) → Checks None [] Read written → ⊥ }
 {}
 
-/// A check names each line that is passed over, counted from 1, and says why. Last it says how many
-/// lines are heard, and then how many are passed over.
+/// A check gives the number of each line that is passed over, of all lines from 1, and says why.
+/// Last it says how many lines are heard, and then how many are passed over.
 pub fn checks_name_lines()
     ensures second { Checks None
         (hi_line ++ codes "\n" ++ unended_line ++ codes "\n" ++ hi_line ++ codes "\n") End

@@ -36,7 +36,7 @@ pub data Says {A : Type 0} (value_in : List ℕ → Option A) (letter : ℕ) (te
 abbrev pub percent_in : List ℕ → Option ℕ
 percent_in places = known places >>= λ n. Some (percent n)
 
--- The luminosity of 1000 watts on a square metre and more, in the places of l.
+-- The luminosity from 1000 watts on a square metre on, in the places of l: they say what is over.
 abbrev pub bright_in : List ℕ → Option ℕ
 bright_in places = known places >>= λ n. Some (n + 1000)
 

@@ -43,7 +43,7 @@ fn space(bytes: &[u8]) -> Option<(u8, &[u8])>
     }
 }
 
-/// The kilohertz of two digits and a space, in which the digits are tens.
+/// The kilohertz of two digits and a space: the digits count tens. `None` for other bytes.
 fn tens(places: &[u8; 3]) -> Option<u32>
     ensures exact { result ≡ Spec.tens_of places.now }
     ensures small { IfSome result (λ n. n < 10000000) }
@@ -138,7 +138,8 @@ fn offset(word: &[u8; 4]) -> Option<i32>
     }
 }
 
-/// The offset after a space with which the text begins, in kilohertz.
+/// The offset after a space with which the text begins, in kilohertz. `None` where none stands
+/// there.
 fn offset_at(text: &[u8]) -> Option<i32>
     ensures { result ≡ Spec.offset_at text.now }
 {

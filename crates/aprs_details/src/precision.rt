@@ -137,8 +137,8 @@ impl Precision {
     ghost use Rattle.aprs_details.specs.Precision as Spec;
 
     /// The first further digits in a comment, which may stand anywhere in it. They are `!Wxy!` with
-    /// decimal digits, or `!wxy!` with digits of base 91, both of the datum WGS 84. `None` where it
-    /// has none. Takes no memory.
+    /// decimal digits, or `!wxy!` with digits of base 91, both of the datum WGS 84. A space is 0.
+    /// `None` where it has none. Takes no memory.
     pub fn of_comment(comment: &[u8]) -> Option<Precision>
         ensures { result ≡ Spec.precision_of comment.now }
     {

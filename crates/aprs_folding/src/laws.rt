@@ -17,7 +17,7 @@ pub fn rows_in_order_are_folded()
 
 /// Several books are folded into one. The next row of each is in front. Each step takes the first
 /// of the rows in front, as `rows_in_order_are_folded` takes the next row. After each step what is
-/// written and the last one are the book of all rows that were taken. What is written begins the
+/// written and the last row are the book of all rows that were taken. What is written begins the
 /// book of these and of all rows that still come.
 pub fn books_are_folded()
     ensures begins { (gap : ℕ) → Begins gap }

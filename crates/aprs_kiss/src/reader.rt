@@ -285,8 +285,8 @@ fn port_of(bytes: &[u8]) -> Result<u8, PassFault>
     }
 }
 
-/// The byte that an escape stands for which ends in `code`: FEND after TFEND, FESC after TFESC,
-/// and `None` after any other byte.
+/// The byte that an escape stands for which ends in `code`: FEND for TFEND, FESC for TFESC,
+/// and `None` for any other byte.
 fn unescape(code: u8) -> Option<u8>
     // An escape before `more` spells that byte, and then what `more` spells.
     ensures { (more : List ℕ) → spelled_bytes (0xDB ∷ code ∷ more)

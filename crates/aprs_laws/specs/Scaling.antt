@@ -9,7 +9,7 @@ abbrev pub scaled_heard : ℕ → Received → Received
 scaled_heard factor s =
     record { moment = s.moment * factor; receiver = s.receiver; frame = s.frame }
 
--- The same row, all its moments counted in units of which one of the old has `factor`.
+-- The same row, its moments counted in a finer unit, of which one of the old has `factor`.
 abbrev pub scaled_row : ℕ → Row → Row
 scaled_row factor x = record {
   first = x.first * factor;

@@ -131,7 +131,7 @@ station_line x = line_with (codes "station") (call_text x.call ∷ decimal x.tra
 abbrev pub station_lines : Station → List ℕ
 station_lines x = station_line x ++ (known_line x.position ++ known_line x.status)
 
--- The line of an object or an item, whose last report this is.
+-- The line of an object or an item, with its last report.
 abbrev pub thing_line : Thing × Received → List ℕ
 thing_line x = heard_line x.1
 

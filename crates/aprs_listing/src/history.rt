@@ -190,8 +190,8 @@ fn put_answer_line<W: Write>(
     put_line(out, kind, told, &[Field::Word(addressee), Field::Plain(id)])
 }
 
-/// Puts the line of a frame that has no report: its kind, the fields that are told, and those of
-/// its Mic-E position, or else its destination and its information. Fails where the output is
+/// Puts the line of a frame that has no report: its kind, the fields that are told, and what
+/// its Mic-E position says, or else its destination and its information. Fails where the output is
 /// refused.
 fn put_other<W: Write>(
     out: &mut Outlet<'_, W>,

@@ -23,7 +23,8 @@ abbrev pub id_or_nothing : Option (List ℕ) → List ℕ
 id_or_nothing None = []
 id_or_nothing (Some id) = id
 
--- When a message was answered, and by whom: only its addressee answers it. Nothing where it wasn't.
+-- When a message was last answered, and by whom: only its addressee answers it. Nothing where it
+-- wasn't.
 abbrev pub answer_fields : Option ℕ → List ℕ → List (List ℕ)
 answer_fields None addressee = [] ∷ [] ∷ []
 answer_fields (Some answered) addressee = moment_text answered ∷ shown_text addressee ∷ []

@@ -76,7 +76,7 @@ fn answer_cells<'a>(message: &MessageRow<'a>) -> [Cell<'a>; 4]
     [answered, by, reply_ack, replied]
 }
 
-/// When a message was answered, and by whom: by its addressee. Nothing where it wasn't.
+/// When a message was last answered, and by whom: by its addressee. Nothing where it wasn't.
 fn answer_of<'a>(message: &MessageRow<'a>) -> (Cell<'a>, Cell<'a>)
     ensures { cell_text result.0 ∷ cell_text result.1 ∷ []
         ≡ Spec.answer_fields message.now.answered message.now.addressee.now }

@@ -138,7 +138,7 @@ fn no_status<'a>() -> [Cell<'a>; 4]
     ]
 }
 
-/// The status that was heard; nothing of it where that is another report.
+/// The status that was heard; four empty fields where another report was heard.
 fn heard_status<'a>(heard: &Heard<'a>) -> [Cell<'a>; 4]
     ensures { map cell_text result ≡ Spec.heard_status heard.now }
 {

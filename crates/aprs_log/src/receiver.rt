@@ -47,7 +47,7 @@ impl Receiver {
         }
     }
 
-    /// The receiver of this name. Requires that the bytes are a name; of any others `parse` tells.
+    /// The receiver of this name. Requires that the bytes are a name; `parse` takes any.
     /// Takes no memory.
     pub fn with_name(bytes: &[u8]) -> Receiver
         requires { IsName bytes.now }

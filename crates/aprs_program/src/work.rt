@@ -82,9 +82,10 @@ pub fn run_work<R: Read, W: Write, A: Allocator + Copy>(
     }
 }
 
-/// Does the work over one input, of which at most `MAX_INPUT` bytes (1,073,741,824) are read. What
-/// it writes, when it ends with which fault and what memory it takes is as `check_run`,
-/// `convert_run` and `widen_run` of `aprs_tool` say.
+/// Does the work over one input with the limit `MAX_INPUT` (1,073,741,824 bytes). One byte more may
+/// be read to see whether the input is longer, which is a fault. What it writes, when it ends with
+/// which fault and what memory it takes is as `check_run`, `convert_run` and `widen_run` of
+/// `aprs_tool` say.
 pub fn run_single<R: Read, W: Write, A: Allocator + Copy>(
     alloc: A,
     single: Single,
@@ -100,8 +101,9 @@ pub fn run_single<R: Read, W: Write, A: Allocator + Copy>(
     }
 }
 
-/// Does the work over several inputs, of each of which at most `MAX_INPUT` bytes (1,073,741,824)
-/// are read. What it writes, when it ends with which fault and what memory it takes is as
+/// Does the work over several inputs, each with the limit `MAX_INPUT` (1,073,741,824 bytes). One
+/// byte more of an input may be read to see whether it is longer, which is a fault. What it
+/// writes, when it ends with which fault and what memory it takes is as
 /// `merge_run`, `show_run`, `history_run` and `table_run` of `aprs_tool` say.
 pub fn run_gathering<R: Read, W: Write, A: Allocator + Copy>(
     alloc: A,

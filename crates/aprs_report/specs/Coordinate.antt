@@ -22,7 +22,7 @@ abbrev pub limit : Axis → ℕ
 limit Latitude = 90 * per_degree
 limit Longitude = 180 * per_degree
 
--- The letter of the negative or the positive half: S or N, W or E.
+-- The letter of the negative half (true) or the positive one: S or N, W or E.
 abbrev pub letter : Axis → Bool → ℕ
 letter Latitude true = 83
 letter Latitude false = 78

@@ -80,7 +80,7 @@ message_field last = codes ":WU2" ++ last ∷ codes "     :Hi"
 abbrev pub symbol_field : ℕ → ℕ → List ℕ
 symbol_field table code = codes "!4903.50N" ++ table ∷ codes "07201.75W" ++ code ∷ []
 
--- The position there with this symbol.
+-- What it reads as: a position here with this symbol.
 abbrev pub with_symbol : ℕ → ℕ → Value
 with_symbol table code = position false None here (example_symbol table code) []
 

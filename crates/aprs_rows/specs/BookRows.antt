@@ -12,7 +12,8 @@ use Rattle.aprs_rows.specs.Fronts.{with_names}
 use Rattle.aprs_rows.specs.NameRoom.{GatheredNames}
 use Rattle.aprs_rows.specs.Packed.{room_of}
 
--- Rows that are sound each by itself, and whose names fit in the room, where no name is yet.
+-- A gap in its range, and rows that are sound each by itself. Their names fit in the room, where
+-- no name is yet.
 pub record AreToCome (gap : ℕ) (rows : List Row) (names : GatheredNames) : Type 0 where
   pub range : IsGap gap
   pub each : AreSoundRows rows

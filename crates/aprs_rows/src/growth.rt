@@ -23,7 +23,8 @@ pub(crate) fn reserve_one<T, A: Allocator>(items: &mut Vec<T, A>) -> Result<(), 
 
 /// Makes room for `more` items after those that are there, which stay as they are, also after
 /// `Memory`. Where there is none, takes room for as many again as there are, or for `more` if that
-/// is more. So items that come one by one are moved a few times each, however many come.
+/// is more. So items that come one by one are moved less than twice each on average, however many
+/// come.
 pub(crate) fn reserve<T, A: Allocator>(items: &mut Vec<T, A>, more: usize) -> Result<(), Memory>
     ensures items { items.new.items ≡ items.old.items }
     ensures room { OnOk result (vec_len items.new + more ≤ vec_capacity items.new) }

@@ -161,7 +161,8 @@ pub fn read_input<R: Read, A: Allocator + Copy>(
 }
 
 /// The book of the receptions of both books: the second itself where the first has no rows. Fails
-/// with `OtherGap` where their gaps differ, and with `Memory` where an allocation failed.
+/// with `OtherGap` where their gaps differ. Fails with `Memory` where an allocation failed, or
+/// where a row's names of receivers have 4 GiB or more, commas among them.
 fn merge_books<A: Allocator + Copy>(book: &Book<A>, input: Book<A>) -> Result<Book<A>, MergeFault>
     ensures merges { IfOk result (λ both.
         MergesInto (millis_of book.now.gap) book.now.rows input.rows both.rows) }

@@ -92,8 +92,8 @@ impl<'t, X: KeptFrom<'t>, A: Allocator + Copy> Notes<'t, X, A> {
     }
 }
 
-/// Puts into the indexes what the last rows report; `None` changes nothing. After `Memory` the
-/// same is known as before.
+/// Puts into the indexes what the last streak of rows reports; `None` changes nothing. After
+/// `Memory` the same is known as before.
 fn put<'t, X: KeptFrom<'t>, A: Allocator + Copy>(
     indexes: &mut Indexes<X, A>,
     last: Option<Streak<'t>>,

@@ -104,8 +104,8 @@ fn put<A: Allocator + Copy>(
     Ok(())
 }
 
-/// How many rows of a book each station has. `len` has to be the number of all rows, which the
-/// contract alone reads: so no station's number of rows overflows.
+/// How many rows of a book each station has. `len` has to be the number of all rows, which
+/// only the contract uses: so no station's number of rows overflows.
 pub(crate) fn tallies<A: Allocator + Copy>(
     alloc: A,
     rows: Walk<'_, A>,

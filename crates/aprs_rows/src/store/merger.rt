@@ -110,7 +110,8 @@ impl<'a, A: Allocator + Copy> Merger<'a, A> {
     }
 }
 
-/// Takes the first row out of the front. Then the front that comes first stands there.
+/// Takes the first row out of the front, or `None` where there is no front. Then the front that
+/// comes first stands there.
 fn take_first<'a, A: Allocator>(
     front: &mut Option<Front<'a>>,
     others: &mut BinaryHeap<Front<'a>, A>,
