@@ -165,3 +165,22 @@ impl Write for Full {
         Ok(())
     }
 }
+
+/// A writer that takes nothing, and whose flush fails by this fault, where there is one.
+#[derive(Clone, Copy)]
+pub struct Flushing {
+    pub fault: Option<ErrorKind>,
+}
+
+impl Write for Flushing {
+    fn write(&mut self, _: &[u8]) -> io::Result<usize> {
+        Err(io::Error::from(ErrorKind::Other))
+    }
+
+    fn flush(&mut self) -> io::Result<()> {
+        match self.fault {
+            Some(kind) => Err(io::Error::from(kind)),
+            None => Ok(()),
+        }
+    }
+}

@@ -1,7 +1,8 @@
 //! Writes below a buffer that are interrupted.
 
-use crate::devices::Halting;
-use aprs_program::write_some;
+use crate::devices::{Flushing, Halting};
+use aprs_program::{Retried, write_some};
+use std::io::{ErrorKind, Write};
 
 #[test]
 fn interrupted_writes_below_a_buffer_are_tried_again(rt: HostRuntime) {
@@ -17,5 +18,20 @@ fn interrupted_writes_below_a_buffer_are_tried_again(rt: HostRuntime) {
             "after {tries}"
         );
         assert!(rt; device.bytes.is_empty() != is_taken, "after {tries}");
+    }
+}
+
+#[test]
+fn flushes_below_a_buffer_fail_where_the_device_does(rt: HostRuntime) {
+    const FAULTS: &[Option<ErrorKind>] = &[
+        None,
+        Some(ErrorKind::Other),
+        Some(ErrorKind::Interrupted),
+    ];
+    for &fault in FAULTS {
+        let flushed = Retried::new(Flushing { fault }).flush();
+        assert!(rt; flushed.is_err() == fault.is_some());
+        let kind = flushed.err().map(|error| error.kind());
+        assert!(rt; kind != Some(ErrorKind::Interrupted));
     }
 }

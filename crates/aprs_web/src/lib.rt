@@ -2,6 +2,7 @@
 #![tactic(auto)]
 
 mod answer;
+mod examples;
 mod exports;
 mod inputs;
 mod written;
