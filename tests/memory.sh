@@ -42,9 +42,9 @@ MAKERS = {
     # the same for clap's want of memory, and for that of an opening
     "aprs_command/src/arguments.rt": 1,
     "aprs_command/src/jobs.rt": 1,
-    "aprs_program/src/complaint.rt": 4,
-    "aprs_program/src/host.rt": 7,
-    "aprs_program/src/opening.rt": 3,
+    "aprs_program/src/complaint.rt": 5,
+    "aprs_program/src/host.rt": 5,
+    "aprs_program/src/opening.rt": 4,
     "aprs_program/src/texts.rt": 1,
 }
 # how often each source names what an allocation answers

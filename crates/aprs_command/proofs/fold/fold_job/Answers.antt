@@ -1,4 +1,4 @@
-use Rattle.aprs_command.proofs.Common.{◌≡◌, ◌∙◌, ℕ, List, map, ap, rules, sym, subst, inl, inr, Bor, App, Row, err_from_is_err_and, fault_of, kind_of, matches_of}
+use Rattle.aprs_command.proofs.Common.{◌≡◌, ◌∙◌, ℕ, List, map, ap, sym, subst, inl, inr, Bor, App, Row, err_from_is_err_and, fault_of, kind_of, matches_of}
 use Rattle.std.specs.Prelude.{◌⊎◌, [], Err, IfErr, IfOk, Ok, Result, Some}
 use Rattle.clap.specs.declared.error.Error.{Error}
 use Rattle.clap.specs.declared.error.kind.ErrorKind.TheVariants.{ValueValidation}
