@@ -1,5 +1,5 @@
 -- Lines that are kept beside rows.
-use Rattle.aprs_booktext.proofs.Common.{◌≡◌, ◌<◌, List, ℕ, [], length, Some, inl, inr, ap, arith, sym, ◌∙◌, Row, Millis}
+use Rattle.aprs_booktext.proofs.Common.{◌≡◌, ◌<◌, List, ℕ, length, Some, inl, inr, ap, arith, sym, ◌∙◌, Row, Millis}
 use Rattle.aprs_booktext.specs.KeptLine.{IsKeptLine}
 use Rattle.aprs_booktext.specs.Text.{row_line}
 

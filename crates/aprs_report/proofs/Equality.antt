@@ -1,5 +1,5 @@
 -- Which reports are equal.
-use Rattle.std.proofs.Common.{◌≡◌, ◌↔◌, IsTrue, rules, Option, Some, None}
+use Rattle.std.proofs.Common.{◌≡◌, ◌↔◌, IsTrue, rules, Some, None}
 use Rattle.std.specs.Cmp.Rules.{comparing}
 use Rattle.aprs_report.specs.declared.stamp.Stamp.{Stamp}
 use Rattle.aprs_report.specs.declared.symbol.Symbol.{Symbol}
