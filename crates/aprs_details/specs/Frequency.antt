@@ -102,7 +102,8 @@ tuned_after x = record {
   offset = offset_at (tone_at x.1).1;
 }
 
--- The frequency with which the text begins, and after it perhaps a tone and an offset.
+-- The frequency with which the text begins, and after it perhaps a tone and an offset. Neither is
+-- read after another word, and no tone after an offset.
 unfoldable pub tuned_at : List ℕ → Option Tuned
 tuned_at text = khz_at text >>= λ x. Some (tuned_after x)
 

@@ -120,7 +120,7 @@ whole_of field = number_in_millionths field >>= λ n. Some (nearest n 1000000)
 abbrev pub course_from_north : ℕ → Option ℕ
 course_from_north n = course_of (if n == 0 then 360 else n)
 
--- The course in degrees, nearest.
+-- The course in degrees, nearest. None above 360, or where the field is empty or no number.
 abbrev pub sent_course : List ℕ → Option ℕ
 sent_course field = whole_of field >>= course_from_north
 
@@ -136,8 +136,9 @@ altitude_in field unit = if bytes_eq unit (codes "M") then metres_of field else 
 
 -- ---- sentences
 
--- The fix that GGA tells: time, place, quality, satellites, dilution, altitude and its unit. There
--- is one where the quality is a digit above 0.
+-- The fix that GGA tells: time, place, quality, satellites, dilution, altitude and its unit. None
+-- where the quality is no digit above 0, the place isn't of its form, or no comma follows the
+-- altitude.
 unfoldable pub gga_of : List ℕ → Option Fix
 gga_of text = do
   time ← cut_at (octet ",") text
@@ -154,7 +155,8 @@ gga_of text = do
     altitude = altitude_in altitude.before (next_field altitude.after);
   })
 
--- The fix that GLL tells: place, time and whether it is valid. There is one where it is.
+-- The fix that GLL tells: place, time and whether it is valid. None where it isn't, or where the
+-- place isn't of its form.
 unfoldable pub gll_of : List ℕ → Option Fix
 gll_of text = do
   place ← place_at text
@@ -167,8 +169,8 @@ gll_of text = do
     altitude = None;
   })
 
--- The fix that RMC tells: time, whether it is valid, place, speed and course. There is one where it
--- is valid.
+-- The fix that RMC tells: time, whether it is valid, place, speed and course. None where it isn't
+-- valid, the place isn't of its form, or no comma follows the speed.
 unfoldable pub rmc_of : List ℕ → Option Fix
 rmc_of text = do
   time ← cut_at (octet ",") text
@@ -218,7 +220,8 @@ checked text = checked_in text (cut_at (octet "*") text)
 abbrev pub is_dollar : ℕ → Bool
 is_dollar b = b == octet "$"
 
--- The fix that a field tells: a dollar, and a sentence that begins with its name and a comma.
+-- The fix that a field tells: a dollar, and a sentence that begins with its name and a comma. After
+-- a star its checksum has to be right.
 unfoldable pub fix_of : List ℕ → Option Fix
 fix_of info = do
   dollar ← byte_where is_dollar info

@@ -74,7 +74,7 @@ finer_angle Tenths more angle = record { numerator = finer 10 more angle; denomi
 finer_angle NinetyFirsts more angle = record { numerator = finer 91 more angle; denominator = pos 546000 }
 
 -- The latitude and the longitude in degrees with one digit more. There is none where the place is
--- compressed, or where digits of it are left out.
+-- compressed, or where digits of it are left out. At 90 or 180 degrees the digits lead past these.
 abbrev pub finer_place : Precision → Place → Option (Fraction × Fraction)
 finer_place x (Plain lat lon ambiguity) =
     value_when (ambiguity == 0) (finer_angle x.scale x.latitude lat, finer_angle x.scale x.longitude lon)

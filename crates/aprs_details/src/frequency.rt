@@ -16,10 +16,10 @@ pub struct Frequency<'a> {
     /// In kilohertz, 0 to 999,999.
     pub khz: u32,
     /// The tone as it was sent, `T`, `C` or `D` and three digits, and in lower case where the
-    /// channel is narrow; empty where none follows the frequency.
+    /// channel is narrow; empty where none follows the frequency at once.
     pub tone: &'a [u8],
-    /// How far above the frequency a repeater listens, in kilohertz, -9,990 to 9,990, if it is
-    /// said.
+    /// How far above the frequency a repeater listens, in kilohertz, -9,990 to 9,990. `None` where
+    /// it doesn't follow the frequency, or its tone, at once.
     pub offset: Option<i32>,
 }
 
@@ -147,7 +147,8 @@ fn offset_at(text: &[u8]) -> Option<i32>
     offset(word)
 }
 
-/// The frequency with which the text begins, and after it perhaps a tone and an offset.
+/// The frequency with which the text begins, and after it perhaps a tone and an offset. Neither is
+/// read after another word, and no tone after an offset.
 #[tactic(auto, unfolding(crate::specs::Frequency::tuned_at))]
 fn tuned_at(text: &[u8]) -> Option<Frequency<'_>>
     ensures { option_map Spec.frequency_view result ≡ Spec.tuned_at text.now }
@@ -161,7 +162,8 @@ fn tuned_at(text: &[u8]) -> Option<Frequency<'_>>
     })
 }
 
-/// Whether the bytes are a data extension.
+/// Whether some bytes begin with a data extension: course and speed, a range, or a transmitter. DFS
+/// isn't one of them.
 fn is_extension(field: &[u8]) -> bool
     ensures { result ≡ Spec.is_extension field.now }
 {

@@ -95,8 +95,8 @@ fn after_point(text: &[u8]) -> Option<u64>
     }
 }
 
-/// The minutes in millionths: two digits below 60, and perhaps a point and one to six digits. `None`
-/// for any other text.
+/// The minutes in millionths: two digits below 60, and perhaps a point and one to six digits.
+/// `None` for any other text.
 #[tactic(auto, unfolding(crate::specs::Nmea::sent_minutes))]
 fn minutes(text: &[u8]) -> Option<u64>
     ensures exact { result ≡ Spec.sent_minutes text.now }
@@ -158,8 +158,8 @@ fn angle(
     Some(if is_negative { -angle } else { angle })
 }
 
-/// The latitude in ten-millionths of a degree: `DDMM` and perhaps a point and up to six digits, and `N` or
-/// `S`.
+/// The latitude in ten-millionths of a degree: `DDMM` and perhaps a point and one to six digits,
+/// and `N` or `S`. `None` for anything else, and above 90 degrees.
 #[tactic(auto, unfolding(crate::specs::Nmea::sent_latitude))]
 fn latitude(field: &[u8], letter: &[u8]) -> Option<i32>
     ensures { result ≡ Spec.sent_latitude field.now letter.now }
@@ -168,8 +168,8 @@ fn latitude(field: &[u8], letter: &[u8]) -> Option<i32>
     angle(90, b'N', b'S', degrees, minutes, letter)
 }
 
-/// The longitude in ten-millionths of a degree: `DDDMM` and perhaps a point and up to six digits, and `E` or
-/// `W`.
+/// The longitude in ten-millionths of a degree: `DDDMM` and perhaps a point and one to six digits,
+/// and `E` or `W`. `None` for anything else, and above 180 degrees.
 #[tactic(auto, unfolding(crate::specs::Nmea::sent_longitude))]
 fn longitude(field: &[u8], letter: &[u8]) -> Option<i32>
     ensures { result ≡ Spec.sent_longitude field.now letter.now }
@@ -225,7 +225,8 @@ fn whole(field: &[u8]) -> Option<u32>
     Some(nearest(n, 1_000_000) as u32)
 }
 
-/// The course in degrees, nearest, 1 to 360; 0 is read as 360. `None` where it is more.
+/// The course in degrees, nearest, 1 to 360; 0 is read as 360. `None` where it is more, or where
+/// the field is empty or no number.
 fn course_in(field: &[u8]) -> Option<u32>
     ensures { result ≡ Spec.sent_course field.now }
 {
@@ -282,8 +283,8 @@ fn gga(text: &[u8]) -> Option<Fix>
     }
 }
 
-/// The fix that GLL tells, from the fields after its name. `None` where no field says that it is
-/// valid, or where its place isn't of its form.
+/// The fix that GLL tells, from the fields after its name. `None` where the field after the time
+/// doesn't say that it is valid, or is missing, or where its place isn't of its form.
 #[tactic(auto, unfolding(crate::specs::Nmea::gll_of))]
 fn gll(text: &[u8]) -> Option<Fix>
     ensures { result ≡ Spec.gll_of text.now }
@@ -411,7 +412,7 @@ impl Fix {
     ghost use Rattle.aprs_details.specs.Nmea as Spec;
 
     /// The fix that an information field tells: `$GPGGA`, `$GPGLL` or `$GPRMC` whose fix is valid,
-    /// and whose checksum is right where it has one. `None` where it is no such sentence, or a
+    /// and whose checksum is right where it has a star. `None` where it is no such sentence, or a
     /// field of its place isn't of its form. `None` also where no comma follows the altitude of
     /// GGA or the speed of RMC. Takes no memory.
     #[tactic(auto, unfolding(crate::specs::Nmea::fix_of))]

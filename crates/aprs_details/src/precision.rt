@@ -154,7 +154,7 @@ impl Precision {
     /// The latitude and the longitude of the place in degrees, with the digits more, as
     /// `decimal_degrees_text` takes them. `None` where the place is compressed, or digits of it
     /// are left out. A place on the equator or the meridian of Greenwich is read as north or east
-    /// of it. Takes no memory.
+    /// of it. At 90 or 180 degrees the digits lead past these. Takes no memory.
     pub fn refine(&self, place: &Place) -> Option<(Fraction, Fraction)>
         ensures exact { result ≡ Spec.finer_place self.now place.now }
         ensures small { IfSome result (λ x. unsigned_abs x.0.numerator < 2 ^ 38) }
