@@ -29,15 +29,15 @@ abbrev pub answer_fields : Option ℕ → List ℕ → List (List ℕ)
 answer_fields None addressee = [] ∷ [] ∷ []
 answer_fields (Some answered) addressee = moment_text answered ∷ shown_text addressee ∷ []
 
--- What came of the number that a message has for reply-acks, and when it was acknowledged. Nothing
--- where it has none.
+-- What came of the number that a message has for reply-acks, and when it was last acknowledged.
+-- Nothing where it has none, as a message with an id has none.
 abbrev pub reply_ack_fields : ReplyAck → List (List ℕ)
 reply_ack_fields NotAwaited = [] ∷ [] ∷ []
 reply_ack_fields Awaited = codes "unanswered" ∷ [] ∷ []
 reply_ack_fields (Heard moment) = codes "acknowledged" ∷ moment_text moment ∷ []
 
 -- From whom and to whom a message is, its id and its text, what came of it, its first and its last
--- moment, when and by whom it was answered, and what reply-acks say of it.
+-- moment, when it was last answered and by whom, and what reply-acks say of it.
 abbrev pub message_table_fields : MessageRow → List (List ℕ)
 message_table_fields x = call_text x.source ∷ shown_text (shown_message x).addressee
     ∷ shown_text (id_or_nothing (shown_message x).id) ∷ shown_text (shown_message x).text

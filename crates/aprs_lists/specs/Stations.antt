@@ -32,7 +32,8 @@ no_position = [] ∷ [] ∷ [] ∷ [] ∷ [] ∷ [] ∷ [] ∷ [] ∷ [] ∷ []
 abbrev pub no_status : List (List ℕ)
 no_status = [] ∷ [] ∷ [] ∷ [] ∷ []
 
--- When and by whom a position was heard, and where it is; empty fields for any other report.
+-- When and by whom a position was heard, and where it is; empty fields for any other report, as for
+-- a Mic-E position.
 abbrev pub position_in : Received → Value → List (List ℕ)
 position_in x (position messaging stamp place symbol comment) =
     moment_text x.moment ∷ x.receiver ∷ placed_fields stamp place symbol comment

@@ -21,8 +21,8 @@ const COLUMNS: &[u8] = b"\
     reply_ack\treply_answer\n";
 
 /// Writes the table of the messages of a book, from its summary: the names of the columns, and
-/// exactly one line for each message, ascending by source, addressee, text and id. At a fault a
-/// prefix of this went out. Takes no memory.
+/// exactly one line for each message, ascending by source, addressee, text and id; one without an
+/// id comes before those with one. At a fault a prefix of this went out. Takes no memory.
 pub fn write_messages<W: Write, A: Allocator + Copy>(
     w: &mut Counted<W>,
     summary: &Summary<'_, A>,
@@ -65,7 +65,7 @@ fn put_message<W: Write>(
     put_line(out, &source, &said, &answers)
 }
 
-/// When and by whom a message was answered, and what reply-acks say of it.
+/// When a message was last answered and by whom, and what reply-acks say of it.
 fn answer_cells<'a>(message: &MessageRow<'a>) -> [Cell<'a>; 4]
     ensures { map cell_text result
         ≡ Spec.answer_fields message.now.answered message.now.addressee.now
@@ -87,8 +87,8 @@ fn answer_of<'a>(message: &MessageRow<'a>) -> (Cell<'a>, Cell<'a>)
     }
 }
 
-/// What came of the number that a message has for reply-acks, and when it was acknowledged. Nothing
-/// where it has none.
+/// What came of the number that a message has for reply-acks, and when it was last acknowledged.
+/// Nothing where it has none, as a message with an id has none.
 fn reply_ack_of(reply_ack: ReplyAck) -> (Cell<'static>, Cell<'static>)
     ensures { cell_text result.0 ∷ cell_text result.1 ∷ [] ≡ Spec.reply_ack_fields reply_ack }
 {

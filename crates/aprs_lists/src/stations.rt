@@ -23,7 +23,8 @@ const COLUMNS: &[u8] = b"\
 
 /// Writes the table of the stations of a book, from its summary: the names of the columns, and
 /// exactly one line for each station, ascending by callsign, with its last known position and
-/// status. At a fault a prefix of this went out. Takes no memory.
+/// status. Mic-E positions and frames that are passed on give none. At a fault a prefix of this
+/// went out. Takes no memory.
 pub fn write_stations<W: Write, A: Allocator + Copy>(
     w: &mut Counted<W>,
     summary: &Summary<'_, A>,

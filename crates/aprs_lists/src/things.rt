@@ -23,7 +23,8 @@ const COLUMNS: &[u8] = b"\
 
 /// Writes the table of the objects and items of a book, from its summary: the names of the columns,
 /// and exactly one line for each object, ascending by name, and then for each item, ascending by
-/// name, with its last report. At a fault a prefix of this went out. Takes no memory.
+/// name, with its last report. Killed ones are among them. At a fault a prefix of this went out.
+/// Takes no memory.
 pub fn write_things<W: Write, A: Allocator + Copy>(
     w: &mut Counted<W>,
     summary: &Summary<'_, A>,
