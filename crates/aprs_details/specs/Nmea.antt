@@ -62,8 +62,8 @@ sent_half positive negative (b ∷ c ∷ more) = None
 abbrev pub whole_angle : (degrees minutes : ℕ) → ℕ
 whole_angle degrees minutes = degrees * 60000000 + minutes
 
--- The angle in ten-millionths of a degree, nearest: each is six millionths of a minute. None where
--- it is over `limit` degrees, or where a field isn't of its form.
+-- The angle in ten-millionths of a degree, nearest: each is six millionths of a minute. A half is
+-- rounded away from 0. None where it is over `limit` degrees, or where a field isn't of its form.
 unfoldable pub sent_angle : (limit positive negative : ℕ) → (degree_text minute_text half : List ℕ) → Option ℤ
 sent_angle limit positive negative degree_text minute_text half = do
   degrees ← numeral_of 10 48 degree_text
@@ -124,7 +124,8 @@ course_from_north n = course_of (if n == 0 then 360 else n)
 abbrev pub sent_course : List ℕ → Option ℕ
 sent_course field = whole_of field >>= course_from_north
 
--- The altitude in ten-thousandths of a metre, nearest: a number that may have a minus.
+-- The altitude in ten-thousandths of a metre, nearest: a number that may have a minus. A half is
+-- rounded away from 0.
 abbrev pub metres_of : List ℕ → Option ℤ
 metres_of field =
     number_in_millionths (without_minus field)

@@ -42,7 +42,7 @@ bright_in places = known places >>= λ n. Some (n + 1000)
 
 -- The fields of the text say this weather, with this wind: the gust g, the temperature t, rain r of
 -- the last hour, p of the last day and P since midnight, the humidity h, the pressure b, and the
--- luminosity L, or else l.
+-- luminosity L, or else l. A direction above 360 is left out.
 pub record SaysWeather (w : Weather) (wind_from wind : Option ℕ) (text : List ℕ) : Type 0 where
   pub from : direction_in wind_from ≡ w.wind_from
   pub speed : wind ≡ w.wind

@@ -126,8 +126,9 @@ impl CommentTelemetry {
     ghost use Rattle.std.specs.Prelude.{◌≡◌};
     ghost use Rattle.aprs_details.specs.CommentTelemetry as Spec;
 
-    /// The first telemetry in a comment, which may stand anywhere in it: `|`, two to seven numbers
-    /// of two digits of base 91 each, and `|`. `None` where the comment has none. Takes no memory.
+    /// The first telemetry in a comment, which may stand anywhere in it. It is `|`, two to seven
+    /// numbers of two digits of base 91 each, and `|`. `None` where the comment has none. Takes no
+    /// memory.
     pub fn read(comment: &[u8]) -> Option<CommentTelemetry>
         ensures { result ≡ Spec.comment_telemetry_of comment.now }
     {

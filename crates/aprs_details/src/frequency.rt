@@ -16,10 +16,10 @@ pub struct Frequency<'a> {
     /// In kilohertz, 0 to 999,999.
     pub khz: u32,
     /// The tone as it was sent, `T`, `C` or `D` and three digits, and in lower case where the
-    /// channel is narrow; empty where none follows the frequency at once.
+    /// channel is narrow. Empty where none follows the frequency directly.
     pub tone: &'a [u8],
     /// How far above the frequency a repeater listens, in kilohertz, -9,990 to 9,990. `None` where
-    /// it doesn't follow the frequency, or its tone, at once.
+    /// that doesn't follow the frequency, or its tone, directly.
     pub offset: Option<i32>,
 }
 
@@ -67,7 +67,8 @@ fn thousandths(places: &[u8; 3]) -> Option<u32>
     }
 }
 
-/// The frequency in kilohertz with which the text begins, and the rest.
+/// The frequency in kilohertz with which the text begins, and the rest. The megahertz are three
+/// digits: the letter of a microwave band isn't read.
 #[tactic(auto, unfolding(crate::specs::Frequency::khz_at))]
 fn khz_at(text: &[u8]) -> Option<(u32, &[u8])>
     ensures { option_map (λ x. (x.0, x.1.now)) result ≡ Spec.khz_at text.now }

@@ -131,8 +131,8 @@ fn half(positive: u8, negative: u8, field: &[u8]) -> Option<bool>
     }
 }
 
-/// The angle in ten-millionths of a degree, nearest. `None` where it is over `limit` degrees, or
-/// where a field isn't of its form.
+/// The angle in ten-millionths of a degree, nearest; a half is rounded away from 0. `None` where it
+/// is over `limit` degrees, or where a field isn't of its form.
 #[tactic(auto, unfolding(crate::specs::Nmea::sent_angle))]
 fn angle(
     limit: u64,
@@ -234,7 +234,8 @@ fn course_in(field: &[u8]) -> Option<u32>
     course(if degrees == 0 { 360 } else { degrees })
 }
 
-/// The altitude in ten-thousandths of a metre, nearest.
+/// The altitude in ten-thousandths of a metre, nearest: a number that may have a minus. A half is
+/// rounded away from 0. `None` for any other text.
 fn metres(field: &[u8]) -> Option<i64>
     ensures { result ≡ Spec.metres_of field.now }
 {
