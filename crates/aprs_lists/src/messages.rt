@@ -21,7 +21,7 @@ const COLUMNS: &[u8] = b"\
     reply_ack\treply_answer\n";
 
 /// Writes the table of the messages of a book, from its summary: the names of the columns, and
-/// exactly one line for each message, ascending by source, addressee, text and id; one without an
+/// exactly one line for each message, ascending by source, addressee, text and id. One without an
 /// id comes before those with one. At a fault a prefix of this went out. Takes no memory.
 pub fn write_messages<W: Write, A: Allocator + Copy>(
     w: &mut Counted<W>,
