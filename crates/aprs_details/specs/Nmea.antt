@@ -186,7 +186,8 @@ rmc_of text = do
     altitude = None;
   })
 
--- What the sentence of this name tells in these fields.
+-- What the sentence of this name tells in these fields. None for any name but GPGGA, GPGLL and
+-- GPRMC.
 abbrev pub fix_named : (name fields : List ℕ) → Option Fix
 fix_named name fields = if bytes_eq name (codes "GPGGA") then gga_of fields
     else (if bytes_eq name (codes "GPGLL") then gll_of fields

@@ -24,7 +24,7 @@ pub struct CommentTelemetry {
     /// The fifth analog value.
     pub a5: Option<u32>,
     /// The eight digital values, each `0` or `1`, the first one first; `None` where the report ends
-    /// before them.
+    /// before them. Of their number only the lowest eight bits count.
     pub bits: Option<[u8; 8]>,
 }
 

@@ -211,7 +211,8 @@ fn feet_of_digits(high: &[u64; 91], low: &[u64; 91], c: u8, s: u8) -> u32
     ((parts + 9_223_372_036_854_775_808) / 18_446_744_073_709_551_616) as u32
 }
 
-/// The altitude in feet, 1 to 15,301,510. `None` where c and s aren't an altitude.
+/// The altitude in feet, 1 to 15,301,510. `None` where T is of no GGA sentence, or c or s is no
+/// digit of base 91.
 pub fn feet(cst: &[u8; 3]) -> Option<u32>
     ensures { result ≡ Spec.feet_of_cst cst.now }
 {

@@ -200,7 +200,7 @@ fn place_at(text: &[u8]) -> Option<(i32, i32, &[u8])>
     Some((latitude, longitude, rest))
 }
 
-/// Whether a field says that the fix is valid.
+/// Whether a field says that the fix is valid: it is `A` alone.
 fn is_valid(field: &[u8]) -> bool
     ensures { result ≡ Spec.is_valid field.now }
 {
