@@ -47,9 +47,9 @@ pub struct MessageRow<'a> {
     pub source: Callsign,
     /// To whom, without the spaces at its end.
     pub addressee: &'a [u8],
-    /// Without the id.
+    /// What it says, without the brace and the id, and without CR and LF at its end.
     pub text: &'a [u8],
-    /// One to five letters or digits.
+    /// One to five letters or digits, or `None` where it has no id.
     pub id: Option<&'a [u8]>,
     /// The first moment at which it was heard.
     pub first: Moment,
