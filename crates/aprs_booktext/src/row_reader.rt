@@ -154,7 +154,7 @@ impl<A: Allocator + Copy> RowReader<A> {
 
     /// Judges the line that is the kept bytes and then `part`. Returns whether it is a row's, which
     /// then is the last row; and then no bytes are kept. Fails where the line is wrong, or with
-    /// `Memory` where an allocation failed. After a fault bytes may still be kept.
+    /// `Memory` as `BookCause` says it. After a fault bytes may still be kept.
     pub fn end_line(&mut self, part: &[u8]) -> Result<bool, BookFault>
         requires few { size_read self.old + length part.now ≤ most_stream }
         requires going { Spec.is_done self.old.stage ≡ false }
