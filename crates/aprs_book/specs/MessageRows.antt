@@ -56,7 +56,7 @@ abbrev pub span_with : Option Span → Span → Span
 span_with None t = t
 span_with (Some s) t = record { first = min s.first t.first; last = max s.last t.last }
 
--- From the least first to the greatest last moment of the rows.
+-- From the least first to the greatest last moment of the rows that report this message.
 pub record IsSpan (rows : List Row) (m : Message) (s : Span) : Type 0 where
   pub first : IsLeastFirst rows (ReportsIt m) s.first
   pub last : IsGreatestLast rows (ReportsIt m) s.last
@@ -123,7 +123,8 @@ answer_cmp = then_cmp (on (λ a. a.source) call_cmp)
 -- ---- entries, one for each message or answer of the rows
 
 -- Entries for what the rows report. Each thing that a row's key reports, as P says, has an entry.
--- Of each entry T holds: of the rows, of the thing that its key shows, and of its value.
+-- Of each entry T holds: of the rows, of the thing that its key shows, and of its value. Two
+-- entries for one thing aren't excluded.
 pub record IsCollected {K V M : Type 0} (shown : K → M) (P : M → Key → Type 0)
     (T : List Row → M → V → Type 0) (rows : List Row) (entries : List (K × V)) : Type 0 where
   pub each : (e : K × V) → e ∈ entries → T rows (shown e.0) e.1

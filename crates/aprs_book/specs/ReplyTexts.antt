@@ -22,7 +22,8 @@ pub record EndsAfter (mark : ℕ) (bytes : List ℕ) (x : List ℕ × List ℕ) 
   pub whole : bytes ≡ x.0 ++ mark ∷ x.1
   pub a_number_or_nothing : is_number_or_nothing x.1 ≡ true
 
--- The number after "ack", or None where the bytes don't begin so or no number follows.
+-- The number after "ack", which is all of the rest. None where the bytes don't begin so, or where
+-- the rest is no number.
 unfoldable pub number_at : List ℕ → Option (List ℕ)
 number_at [] = None
 number_at (x ∷ []) = None
@@ -30,13 +31,15 @@ number_at (x ∷ y ∷ []) = None
 number_at (x ∷ y ∷ z ∷ number) =
     value_when (x == octet "a" && y == octet "c" && z == octet "k" && is_message_number number) number
 
--- The number that these bytes begin with, where a closing brace and at most two letters or digits
--- are all that follow it.
+-- The number of both bytes x and y, where they are letters or digits. A closing brace and at most
+-- two letters or digits have to be all that follow them.
 abbrev pub number_of_two : ℕ → ℕ → List ℕ → Option (List ℕ)
 number_of_two x y [] = None
 number_of_two x y (brace ∷ rest) = value_when
     (brace == octet "}" && is_message_number (x ∷ y ∷ []) && is_number_or_nothing rest) (x ∷ y ∷ [])
 
+-- The number, of one byte or two, that these bytes begin with. A closing brace and at most two
+-- letters or digits have to be all that follow it.
 abbrev pub closed_number : List ℕ → Option (List ℕ)
 closed_number [] = None
 closed_number (x ∷ []) = None
@@ -44,7 +47,8 @@ closed_number (x ∷ y ∷ rest) = option_or
     (value_when (y == octet "}" && is_message_number (x ∷ []) && is_number_or_nothing rest) (x ∷ []))
     (number_of_two x y rest)
 
--- The number that a text has between braces at its end, or none.
+-- The number that a text has between braces, or none. At most two letters or digits, and nothing
+-- else, may follow them.
 abbrev pub number_of : List ℕ → Option (List ℕ)
 number_of [] = None
 number_of (b ∷ text) = option_or (if b == octet "{" then closed_number text else None) (number_of text)

@@ -298,7 +298,8 @@ impl<A: Allocator + Copy> Join for Book<A> {
         other.gap == self.gap
     }
 
-    /// The book of the receptions of both books, whose gaps have to be equal.
+    /// The book of the receptions of both books, whose gaps have to be equal. `Memory` comes as
+    /// from `merge`.
     fn join(&self, other: &Book<A>) -> Result<Book<A>, Memory> {
         self.unite(other)
     }

@@ -24,7 +24,7 @@ pub(crate) fn book_of<A: Allocator + Copy>(alloc: A, store: BookStore<A>) -> Res
 }
 
 /// Adds the rows of a walk to the book in a store. They have to be in order, and each sound by
-/// itself. After `Memory` the book is as before.
+/// itself. `Memory` comes also where `put_row` returns it; after it the book is as before.
 pub(crate) fn add_rows<A: Allocator + Copy>(
     alloc: A,
     store: &mut BookStore<A>,

@@ -43,7 +43,7 @@ LackAnEnd = (v : Version) (rows : List Row) → IsBookRows v rows → (part rest
     (record { line = line; cause = why.Ending })
 
 -- An input that is the text of a book gives that book, unless it is longer than the limit, a read
--- failed or an allocation failed.
+-- failed or an allocation failed. The limit is `most_input` at most.
 abbrev pub AreReadBack : Type 0
 AreReadBack = (v : Version) (rows : List Row) → IsBookRows v rows
     → (limit : ℕ) → limit ≤ most_input

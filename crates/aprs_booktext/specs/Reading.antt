@@ -16,8 +16,8 @@ pub record Got (P : List ℕ → Type 0) (head : List ℕ) (old now : Option (Li
   pub took : Consumes old now got
   pub size : length (head ++ got) + left ≡ limit
 
--- The answer is that of what was read of the input, the reader was asked no further, and no more
--- was taken than may be.
+-- The answer is that of what was read of the input, and the reader was asked no further. No more
+-- was taken than the limit allows, but for one byte at `TooLong`.
 pub record IsAnswered {R : Type 0} (remaining : R → Option (List ℕ)) (limit : ℕ) (head : List ℕ)
     (answer : Result BookValue BookFault) (old new : Counted R) : Type 0 where
   pub reads : IfSome (remaining old.device)

@@ -23,11 +23,11 @@ stream_ahead stream = stream.left * 2 + length (bytes_left stream.piece)
 abbrev pub front_of : {A : Type 0} → RowStream A → List Row
 front_of stream = row_lent stream.reader
 
--- Whether the text was read to its end.
+-- Whether the last line was read; bytes may follow it.
 abbrev pub is_ended : {A : Type 0} → RowStream A → Bool
 is_ended stream = is_done stream.reader.stage
 
--- The gap that the header says.
+-- The gap that the header says; before that is read, the standard gap.
 abbrev pub gap_of_stream : {A : Type 0} → RowStream A → ℕ
 gap_of_stream stream = gap_in stream.reader.stage
 

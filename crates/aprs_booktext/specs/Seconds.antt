@@ -21,13 +21,14 @@ pub record IsTextInSeconds (S : List Received) (text : List ℕ) : Type 0 where
   pub each : All (IsBookRow Seconds) (scaled_rows 1000 rows)
   pub text_is : text ≡ book_text One (scaled_rows 1000 rows)
 
--- The text of version 1 of the book of a set in seconds gives the book of that set in milliseconds,
--- with the standard gap.
+-- If the text is that of version 1 of the book of a set in seconds, a book that is the answer holds
+-- that set. The set's moments are then in milliseconds, and the gap is the standard gap.
 abbrev pub ReadsSeconds : List ℕ → Result BookValue BookFault → Type 0
 ReadsSeconds text answer = (S : List Received) → IsTextInSeconds S text
     → IfOk answer (λ book. (book.gap ≡ standard_gap) × Holds (map (scaled_heard 1000) S) book)
 
--- A moment of so many seconds is written as its date and its time of the day, without milliseconds.
+-- A moment of so many seconds, until the end of 2099, is written as its date and its time of the
+-- day, without milliseconds.
 abbrev pub AreWrittenToTheSecond : Type 0
 AreWrittenToTheSecond = (s : ℕ) → s ≤ 4102444799
     → moment_text_in Seconds (s * 1000)

@@ -19,11 +19,12 @@ pub enum BookCause {
     Span,
     /// A row is of the same transmission as the row before it.
     Near,
-    /// A row's receivers don't ascend, or lack that of the greatest reception.
+    /// A row's receivers don't strictly ascend, or lack that of the greatest reception.
     Receivers,
     /// A row of one moment, whose greatest reception isn't by the last receiver.
     NotGreatest,
-    /// The last line is missing or unfinished, or has another number of rows.
+    /// The input ended before the last line did. Or a line after the header begins with `END`, and
+    /// isn't the last line for the rows before it.
     Ending,
     /// Something follows the last line.
     After,

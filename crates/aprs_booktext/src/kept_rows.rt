@@ -87,7 +87,7 @@ impl<A: Allocator + Copy> KeptRows<A> {
 
     /// Puts a row, whose line in this form is `line`, in the place of all rows. The line is kept
     /// where the form is `Millis`, in which rows are written. Requires what `PackedRows::push`
-    /// does.
+    /// does. After `Memory` there may be any rows.
     pub(crate) fn set(
         &mut self,
         row: &RowView<'_>,

@@ -19,7 +19,7 @@ pub fn cut_rows_lack_an_end()
 {}
 
 /// The rows and the gap of a whole text of any version are read back, where the text is within the
-/// limit, no read fails and no allocation fails.
+/// limit, no read fails and no allocation fails. The limit is 1,073,741,824 bytes at most.
 pub fn written_books_are_read()
     ensures { Spec.AreReadBack }
 {}
@@ -44,7 +44,8 @@ pub fn read_books_are_written_back()
     ensures { Spec.AreWrittenBack }
 {}
 
-/// In a text of version 1 the moment of a whole second is written as its date and time of day.
+/// In a text of version 1 the moment of a whole second, until the end of 2099, is written as its
+/// date and time of day.
 pub fn old_moments_are_told_to_the_second()
     ensures { AreWrittenToTheSecond }
 {}

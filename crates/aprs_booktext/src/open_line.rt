@@ -56,7 +56,8 @@ impl<A: Allocator + Copy> OpenLine<A> {
     }
 
     /// Puts a row in the place of the one that is there. Requires that it is sound by itself, and
-    /// that its receivers' names with commas between have fewer than 4,294,967,296 bytes.
+    /// that its receivers' names with commas between have fewer than 4,294,967,296 bytes. After
+    /// `Memory` there may be any row, or none.
     pub fn put(&mut self, row: &LentRow<'_>) -> Result<(), Memory>
         requires sound { IsSoundRow row.now }
         requires short { IsShort row.now }
@@ -72,7 +73,7 @@ impl<A: Allocator + Copy> OpenLine<A> {
     /// nothing changes. Without a row none is near. Requires that the next row is sound by itself,
     /// and that its receivers' names with commas between have fewer than 4,294,967,296 bytes.
     /// `Memory` also where the joined row's names would have as many or more. After it there may be
-    /// any row.
+    /// any row, or none.
     pub fn join(&mut self, gap: Gap, next: &LentRow<'_>) -> Result<bool, Memory>
         requires sound { IsSoundRow next.now }
         requires short { IsShort next.now }

@@ -61,6 +61,7 @@ impl<A: Allocator + Copy> Piece<A> {
 
     /// Reads once, at most `left` bytes, in the place of those that are here, and returns how many
     /// came, at least one. Otherwise returns how the input ends here, and then there are none.
+    /// Where `left` is 0, one byte is asked for and not kept: if it comes, that is `TooLong`.
     pub fn refill<R: Read>(&mut self, source: &mut Counted<R>, left: u64) -> Result<u64, InputEnd>
         ensures some { IfOk result (λ n. (0 < n) × (n ≤ left)
             × (length (bytes_left self.new) ≡ n)) }

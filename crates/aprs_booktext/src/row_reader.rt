@@ -88,7 +88,8 @@ impl<A: Allocator + Copy> RowReader<A> {
         }
     }
 
-    /// The row that was read last, or `None` before the first row, or once the last line was read.
+    /// The row that was read last. `None` before the first row, once the last line was read, and
+    /// after `take_rows`. After a fault it may be any row, or `None`.
     pub fn row(&self) -> Option<RowView<'_>>
         ensures some { IfSome result (λ x. last_or None (row_lent self.now) ≡ Some x) }
         ensures none { IfNone result (row_lent self.now ≡ []) }
@@ -103,7 +104,8 @@ impl<A: Allocator + Copy> RowReader<A> {
     }
 
     /// The row that was read last, with its line where that is kept. `None` before the first row,
-    /// or once the last line was read.
+    /// once the last line was read, and after `take_rows`. After a fault it may be any row, or
+    /// `None`.
     pub fn front(&self) -> Option<LentRow<'_>>
         ensures some { IfSome result (λ x. last_or None (row_lent self.now) ≡ Some x) }
         ensures none { IfNone result (row_lent self.now ≡ []) }
@@ -152,7 +154,7 @@ impl<A: Allocator + Copy> RowReader<A> {
 
     /// Judges the line that is the kept bytes and then `part`. Returns whether it is a row's, which
     /// then is the last row; and then no bytes are kept. Fails where the line is wrong, or with
-    /// `Memory` where an allocation failed. After a fault bytes may still be kept.
+    /// `Memory` as `BookCause` says it. After a fault bytes may still be kept.
     pub fn end_line(&mut self, part: &[u8]) -> Result<bool, BookFault>
         requires few { size_read self.old + length part.now ≤ most_stream }
         requires going { Spec.is_done self.old.stage ≡ false }
@@ -178,7 +180,7 @@ impl<A: Allocator + Copy> RowReader<A> {
         self.take_kept_line()
     }
 
-    /// Judges a whole line, where no bytes are kept.
+    /// Judges a whole line, where no bytes are kept, and returns whether it is a row's.
     fn take_line(&mut self, line: &[u8]) -> Result<bool, BookFault>
         requires few { size_read self.old + length line.now ≤ most_stream }
         requires none { self.old.line.items ≡ [] }
@@ -210,7 +212,8 @@ impl<A: Allocator + Copy> RowReader<A> {
         }
     }
 
-    /// Judges the kept bytes as a whole line, and then keeps none. After a fault they stay.
+    /// Judges the kept bytes as a whole line, and returns whether it is a row's. Then none are
+    /// kept; after a fault they stay.
     fn take_kept_line(&mut self) -> Result<bool, BookFault>
         requires few { size_read self.old ≤ most_stream }
         requires going { Spec.is_done self.old.stage ≡ false }
@@ -326,7 +329,7 @@ fn is_row_between(before: &Stage, after: &Stage) -> bool
 
 /// Judges a whole line at this stage, after so many rows, of which `rows` has those that are kept,
 /// and returns the stage after it. A row of the line is kept too. Fails with the cause for which
-/// the line is wrong, or with `Memory` where an allocation failed.
+/// the line is wrong, or with `Memory` as `BookCause` says it.
 fn judge<A: Allocator + Copy>(
     stage: Stage,
     keeping: Keeping,
@@ -389,7 +392,7 @@ fn names_of<'r>(row: &Option<RowView<'r>>) -> &'r [u8]
 }
 
 /// Keeps a row, whose line in this form is `line`: after the others where each is kept, and else
-/// in their place.
+/// in their place. After `Memory` the rows are as before where each is kept, and else any.
 fn keep<A: Allocator + Copy>(
     keeping: Keeping,
     rows: &mut KeptRows<A>,

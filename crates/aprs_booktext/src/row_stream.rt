@@ -98,9 +98,9 @@ impl<A: Allocator + Copy> RowStream<A> {
     }
 
     /// Reads on to the next row, or to the end of the book and of the source, and then there is no
-    /// row. Fails with the text's first fault, or with `Memory` where an allocation failed.
-    /// Requires that the end wasn't reached before, that no fault came, and a limit of at most
-    /// 9,223,372,036,854,775,807.
+    /// row. Fails with the text's first fault, or with `Memory` as `BookCause` says it. After a
+    /// fault `row` may be any row, or `None`. Requires that the end wasn't reached before, that no
+    /// fault came, and a limit of at most 9,223,372,036,854,775,807.
     pub fn advance<R: Read>(&mut self, source: &mut Counted<R>) -> Result<(), BookFault>
         requires few { Spec.stream_size self.old ≤ most_stream }
         requires going { Spec.is_ended self.old ≡ false }
@@ -171,7 +171,7 @@ impl<A: Allocator + Copy> RowStream<A> {
     }
 
     /// Judges the next line where its end is among the bytes that are here, and returns whether it
-    /// is a row's. Otherwise keeps these bytes and reads some more.
+    /// is a row's. Otherwise keeps these bytes, reads some more and returns `false`.
     fn step<R: Read>(&mut self, source: &mut Counted<R>) -> Result<bool, BookFault>
         requires few { Spec.stream_size self.old ≤ most_stream }
         requires going { Spec.is_ended self.old ≡ false }
@@ -225,8 +225,8 @@ impl<A: Allocator + Copy> RowStream<A> {
         Err(self.reader.fault(BookCause::After))
     }
 
-    /// Asks for one byte more after the last line. Fails where one is there, or where the read
-    /// fails.
+    /// Reads once more after the last line. Fails with `After` where bytes are there, with
+    /// `TooLong` where the first of them is past the limit, and with `Read` where the read fails.
     pub(crate) fn end<R: Read>(&mut self, source: &mut Counted<R>) -> Result<(), BookFault>
         requires few { Spec.stream_size self.old ≤ most_stream }
         requires done { Spec.is_ended self.old ≡ true }

@@ -29,8 +29,8 @@ abbrev pub via_text : List Hop → List ℕ
 via_text [] = codes "-"
 via_text (hop ∷ more) = drop 1 (flat_map hop_text (hop ∷ more))
 
--- The fields of a row: its first and its last moment, its receivers with a comma between, and who
--- sent its greatest reception's frame, by which digipeaters.
+-- The fields of a row: its first and its last moment, and its receivers with a comma between. Then
+-- who sent its greatest reception's frame, and that frame's digipeaters, used or not.
 abbrev pub row_fields : Row → List (List ℕ)
 row_fields x = moment_text x.first ∷ moment_text (last_moment x) ∷ join_with_byte comma x.receivers
     ∷ call_text (parts_of x.greatest.frame).source.call

@@ -4,8 +4,8 @@ ghost use Rattle.aprs_laws.specs.Examples.{early_row, near_row};
 ghost use Rattle.aprs_listing.specs.Examples.{ended, heard_once, jeep_info, line_once, reported_once};
 ghost use Rattle.aprs_listing.specs.History.{history_line};
 
-/// A line says when its row began and ended, by whom it was heard, who sent the frame of its
-/// greatest reception, and which digipeaters repeated that.
+/// A line says when its row began and ended, by whom it was heard, and who sent the frame of its
+/// greatest reception. It has that frame's digipeaters, a star after each that repeated it.
 pub fn histories_tell_rows()
     ensures receivers { history_line near_row ≡ ended (codes
         "status 1970-01-01T00:00:00.000Z 1970-01-01T00:00:30.000Z RX1,RX2 N0CALL-7 - -:Hi") }

@@ -58,8 +58,8 @@ fn put_history<W: Write, A: Allocator + Copy>(
     Ok(())
 }
 
-/// Puts the line of a row: when and by whom it was heard, from whom and by which digipeaters, and
-/// what it reports. Fails where the output is refused.
+/// Puts the line of a row: when and by whom it was heard, from whom, the frame's digipeaters, used
+/// or not, and what it reports. Fails where the output is refused.
 fn put_row_history<W: Write>(out: &mut Outlet<'_, W>, row: &RowView<'_>) -> Result<(), WriteFault>
     ensures { Puts W.contents result out.old out.new (history_line row.now) }
 {
@@ -75,7 +75,7 @@ fn put_row_history<W: Write>(out: &mut Outlet<'_, W>, row: &RowView<'_>) -> Resu
     put_told(out, &told, &frame, Report::read(frame.info()))
 }
 
-/// The fields of a row: its moments, its receivers, and who sent it by which digipeaters.
+/// The fields of a row: its moments, its receivers, who sent it, and its frame's digipeaters.
 fn told_fields<'t>(
     first: Moment,
     last: Moment,
@@ -217,7 +217,8 @@ fn put_other<W: Write>(
     }
 }
 
-/// The fields of a Mic-E position: course, speed, what the station says of itself, and where it is.
+/// The fields of a Mic-E position: its course in degrees, its speed in knots, what the station says
+/// of itself, and where it is.
 fn mic_e_fields(says: &MicE<'_>) -> [Field<'static>; 8]
     ensures { map field_text result ≡ decimal says.now.course ∷ decimal says.now.speed
         ∷ message_name says.now.message ∷ Spec.place_fields None says.now.place says.now.symbol }

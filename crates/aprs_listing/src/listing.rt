@@ -17,8 +17,8 @@ use std::alloc::Allocator;
 use std::io::Write;
 
 /// Writes the listing of a book, from its summary: for each station its line and those of its last
-/// known position and status; then a line for each object, item and message. At a fault a prefix
-/// of this went out. Takes no memory.
+/// known position and status; then a line for each object, item and message. Mic-E positions don't
+/// count. At a fault a prefix of this went out. Takes no memory.
 pub fn write_listing<W: Write, A: Allocator + Copy>(
     w: &mut Counted<W>,
     summary: &Summary<'_, A>,

@@ -16,7 +16,7 @@ use std::alloc::Allocator;
 
 impl<A: Allocator + Copy> Book<A> {
     /// The greatest reception of a position report from this station, or `None` where there is
-    /// none. Takes no memory.
+    /// none. A Mic-E position is no position report. Takes no memory.
     pub fn position(&self, station: &Callsign) -> Option<Heard<'_>>
         ensures { IsLastKnown (millis_of self.now.gap) self.now.rows
             (Spec.reports_position station.now) result }

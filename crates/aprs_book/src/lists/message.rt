@@ -47,9 +47,9 @@ pub struct MessageRow<'a> {
     pub source: Callsign,
     /// To whom, without the spaces at its end.
     pub addressee: &'a [u8],
-    /// Without the id.
+    /// What it says, without the brace and the id, and without CR and LF at its end.
     pub text: &'a [u8],
-    /// One to five letters or digits.
+    /// One to five letters or digits, or `None` where it has no id.
     pub id: Option<&'a [u8]>,
     /// The first moment at which it was heard.
     pub first: Moment,
@@ -65,8 +65,8 @@ pub struct MessageRow<'a> {
 
 impl<A: Allocator + Copy> Book<A> {
     /// The messages that were heard, ascending by source, addressee, text and id; one without an
-    /// id comes before those with one. Takes memory for the list and, while it is made, for each
-    /// message and answer.
+    /// id comes before those with one. Those inside third-party frames are left out. Takes memory
+    /// for the list and, while it is made, for each message and answer.
     pub fn messages(&self) -> Result<Vec<MessageRow<'_>, A>, Memory>
         ensures { IfOk result (λ messages.
             ReportsMessages (millis_of self.now.gap) self.now.rows messages.items) }

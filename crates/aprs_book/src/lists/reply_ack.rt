@@ -9,7 +9,8 @@ use aprs_log::{Moment, ReceptionRef};
 /// nothing of it.
 #[derive(Clone, Copy, Debug, PartialEq, Eq)]
 pub enum ReplyAck {
-    /// The message has no such number: its text doesn't end with one, or it has an id.
+    /// The message has no such number: it has an id, or its text doesn't end as `{MM}` or `{MM}AA`
+    /// does. Each of both is one or two letters or digits.
     NotAwaited,
     /// No reply-ack acknowledged it since its first reception.
     Awaited,

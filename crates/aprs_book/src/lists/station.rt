@@ -22,7 +22,7 @@ pub struct Station<'a> {
     pub call: Callsign,
     /// The number of its rows in the book, 1 at least.
     pub transmissions: u64,
-    /// Its last known position.
+    /// Its last known position, by its position reports. A Mic-E position is none of these.
     pub position: Option<Heard<'a>>,
     /// Its last known status.
     pub status: Option<Heard<'a>>,

@@ -102,7 +102,8 @@ impl<'t, A: Allocator + Copy> Summary<'t, A> {
     }
 
     /// The messages that were heard, ascending by source, addressee, text and id; one without an id
-    /// comes before those with one. Takes no memory, nor does the walk.
+    /// comes before those with one. Those inside third-party frames are left out. Takes no memory,
+    /// nor does the walk.
     pub fn messages(&self) -> MessageWalk<'_, 't, A>
         ensures { ReportsMessages (millis_of self.now.gap) self.now.rows result }
     {
