@@ -105,8 +105,8 @@ impl KissReader {
         }
     }
 
-    /// Whether no byte came since the last frame end, or since the beginning of the stream where
-    /// none came yet, so that a stream may end here. Takes no memory.
+    /// Whether no byte came since the last frame end or the beginning of the stream. Then the
+    /// stream may end here. Takes no memory.
     pub fn finish(&self) -> bool
         ensures { (before : List ℕ) → StandsAfter self.now before → IsTrue result ↔ (before ≡ []) }
     {
