@@ -78,7 +78,7 @@ line_of l =
 -- ---- the line that is written
 
 -- The line of a reception, without its LF: the moment to the millisecond, and the frame as KISS
--- sends it on port 0, in lower case.
+-- sends it on port 0, in lower case hexadecimal.
 abbrev pub written_line : Received → List ℕ
 written_line x =
     moment_text x.moment ++ octet " " ∷ x.receiver ++ octet " " ∷ encode_lower (kiss_text x.frame)
