@@ -23,7 +23,7 @@ field_len bytes = position_or_len ends_field bytes + 1
 abbrev pub is_field_len : ℕ → Bool
 is_field_len n = n % 7 == 0 && nat_le 14 n && nat_le n 70
 
--- The first n pieces of seven octets each.
+-- The first n pieces of seven octets each. Where the octets run out, a piece has fewer or none.
 abbrev pub sevens : ℕ → List ℕ → List (List ℕ)
 sevens zero bytes = []
 sevens (suc n) bytes = take 7 bytes ∷ sevens n (drop 7 bytes)
@@ -47,11 +47,12 @@ abbrev pub has_callsign : List ℕ → Bool
 has_callsign octets = nat_lt 0 (letters_len octets) && list_all is_space_octet
     (drop (letters_len octets) (take 6 octets))
 
--- The octets of the address field: all to the one that ends it, and that one.
+-- The octets of the address field: all to the one that ends it, and that one. Where none ends it,
+-- all octets.
 abbrev pub field_of : List ℕ → List ℕ
 field_of bytes = take (field_len bytes) bytes
 
--- The octets after the address field.
+-- The octets after the address field. Where no octet ends it, there are none.
 abbrev pub after_field : List ℕ → List ℕ
 after_field bytes = drop (field_len bytes) bytes
 

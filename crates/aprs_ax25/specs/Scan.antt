@@ -26,7 +26,8 @@ abbrev pub fault_of_info : ℕ → Option FrameFault
 fault_of_info len = if len == 0 then Some NoInfo
     else (if nat_lt 256 len then Some LongInfo else None)
 
--- The first fault of what stands after the address field.
+-- The first fault of what stands after the address field. `slice_index` is 0 past the end, so that
+-- a missing control or PID octet is a wrong one.
 abbrev pub fault_after_field : List ℕ → Option FrameFault
 fault_after_field rest =
     if not (slice_index rest 0 == control_ui) then Some Control
@@ -34,7 +35,8 @@ fault_after_field rest =
     else (if nat_le (length rest) 2 then Some NoInfo
     else (if nat_lt 258 (length rest) then Some LongInfo else None)))
 
--- The SSID that the end of a callsign's text names, by its digits: an empty end names 0.
+-- The SSID that the end of a callsign's text names, by its digits: an empty end names 0. The first
+-- byte isn't looked at: it is taken for the dash.
 abbrev pub ssid_of : List ℕ → Option ℕ
 ssid_of [] = Some 0
 ssid_of (dash ∷ []) = None

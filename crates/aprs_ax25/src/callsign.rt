@@ -166,7 +166,7 @@ impl PartialOrd for Callsign {
     }
 }
 
-/// Writes the callsign's text, padded as a text is, as `{:<9}` asks.
+/// Writes the callsign's text, padded or cut as a text is, as `{:<9}` or `{:.3}` asks.
 impl fmt::Display for Callsign {
     ghost output = { λ c. Some (Spec.call_text c) };
 
@@ -266,7 +266,8 @@ fn dash_place(text: &[u8]) -> usize
 }
 
 /// The SSID that the end of a callsign's text names: 0 where it is empty, or the number after the
-/// dash, 1 to 15 without a leading zero. `None` for any other end.
+/// dash, 1 to 15 without a leading zero. `None` for any other end. The first byte isn't looked at:
+/// it is taken for the dash.
 fn ssid_of(dash: &[u8]) -> Option<u8>
     ensures { result ≡ ssid_of dash.now }
 {

@@ -11,9 +11,10 @@ pub enum FrameFault {
     Address,
     /// An address's callsign isn't 1 to 6 capitals or digits, padded with spaces.
     Callsign,
-    /// The control octet isn't 03, that of a UI frame without poll (AX.25 2.2, section 4.3.3.6).
+    /// The control octet is missing, or isn't 03, that of a UI frame without poll (AX.25 2.2,
+    /// section 4.3.3.6).
     Control,
-    /// The PID octet isn't F0, no layer 3 protocol.
+    /// The PID octet is missing, or isn't F0, no layer 3 protocol.
     Pid,
     /// There is no information.
     NoInfo,
@@ -55,7 +56,8 @@ impl FrameFault {
 /// numbers.
 #[derive(Clone, Copy, Debug, PartialEq, Eq)]
 pub enum CallFault {
-    /// The part before the first dash isn't 1 to 6 bytes long.
+    /// The part before the first dash, or all of the text where there is none, isn't 1 to 6 bytes
+    /// long.
     Length,
     /// A byte before the first dash is neither a capital nor a digit.
     Character,

@@ -71,8 +71,8 @@ impl<'a> FrameRef<'a> {
         Callsign::from_octets(self.source_octets())
     }
 
-    /// The seven octets of the source's address. Where they are equal, so are the sources. Takes
-    /// no memory.
+    /// The seven octets of the source's address. Where they are equal, so are the sources. Where
+    /// they differ, the sources may still be equal: the last octet has flags too. Takes no memory.
     pub fn source_octets(&self) -> &'a [u8]
         ensures value { result.now ≡ take 7 (drop 7 (frame_bytes self.now)) }
         ensures seven { length result.now ≡ 7 }

@@ -128,7 +128,7 @@ fn is_field_len(len: usize) -> bool
 }
 
 /// The first fault of the bytes after the address field, or `None` where they are control 03, PID
-/// F0 and 1 to 256 bytes of information.
+/// F0 and 1 to 256 bytes of information. A missing octet is a wrong one.
 fn fault_after(rest: &[u8]) -> Option<FrameFault>
     ensures { result ≡ fault_after_field rest.now }
 {

@@ -20,7 +20,7 @@ pub record Cut : Type 0 where
 abbrev pub has_byte : ℕ → List ℕ → Bool
 has_byte stop text = nat_lt (position_or_len (is_byte stop) text) (length text)
 
--- The parts before and after the first such byte.
+-- The parts before and after the first such byte. Without one, all of the text and nothing.
 abbrev pub first_cut : ℕ → List ℕ → Cut
 first_cut stop text = record {
   before = before_first (is_byte stop) text;

@@ -10,7 +10,8 @@ use std::io::Write;
 /// there again.
 pub const MAX_HELD: usize = 16_384;
 
-/// Has a writer on loan, and holds bytes back that it sends a buffer full at a time.
+/// Has a writer on loan, and holds bytes back that it sends a buffer full at a time. What it still
+/// holds where it is dropped is lost: call `flush` before.
 #[derive(Drop)]
 pub struct Outlet<'a, W> {
     w: &'a mut Counted<W>,

@@ -47,7 +47,7 @@ Judged piece (Err NotData) = IsOtherCommand piece
 Judged piece (Ok frame) = IsData piece frame
 
 -- Bytes are a data frame if the low four bits of the first, the type byte, are 0, the command of
--- data; its high four bits are the port.
+-- data; its high four bits are the port. Others, and no bytes at all, are `NotData`.
 abbrev pub data_frame_of : List ℕ → Judgement
 data_frame_of [] = Err NotData
 data_frame_of (head ∷ bytes) =

@@ -23,7 +23,8 @@ pub const MAX_FRAME: usize = 1024;
 pub enum Fed<'a> {
     /// No nonempty piece ended: all bytes were used.
     Nothing,
-    /// A data frame without its type byte, and the port from 0 to 15 that the type byte names.
+    /// A data frame without its type byte, 0 to 1,023 bytes, and the port from 0 to 15 that the
+    /// type byte names.
     Frame { port: u8, frame: &'a [u8] },
     /// A piece that is no data frame.
     Passed(PassFault),
@@ -72,7 +73,7 @@ impl KissReader {
 
     /// Takes bytes from the start of `chunk`, the next part of a stream: up to and with the first
     /// frame end of a nonempty piece of the stream, or all of them where there is none. Returns
-    /// how many it took, and what ended there: a data frame of at most 1,023 bytes, which lies in
+    /// how many it took, and what ended there: a data frame of 0 to 1,023 bytes, which lies in
     /// the reader until the next call, the fault for which a piece is passed over, or nothing.
     /// The next call goes on with the bytes after these. Takes no memory.
     pub fn feed(&mut self, chunk: &[u8]) -> (usize, Fed<'_>)
@@ -104,8 +105,8 @@ impl KissReader {
         }
     }
 
-    /// Whether no byte came since the last frame end, so that a stream may end here. Takes no
-    /// memory.
+    /// Whether no byte came since the last frame end or the beginning of the stream. Then the
+    /// stream may end here. Takes no memory.
     pub fn finish(&self) -> bool
         ensures { (before : List ℕ) → StandsAfter self.now before → IsTrue result ↔ (before ≡ []) }
     {

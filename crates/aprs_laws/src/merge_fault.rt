@@ -8,7 +8,7 @@ ghost use Rattle.aprs_laws.specs.BookFaults.{merge_fault_number, merge_fault_nam
 pub enum MergeFault {
     /// Their gaps differ.
     OtherGap,
-    /// Memory was refused.
+    /// Memory was refused, or a row's names of receivers have 4 GiB or more, commas among them.
     Memory,
 }
 

@@ -8,7 +8,7 @@ ghost use Rattle.aprs_laws.specs.BookFaults.{widen_fault_number, widen_fault_nam
 pub enum WidenFault {
     /// The new gap is less than the book's.
     Narrower,
-    /// Memory was refused.
+    /// Memory was refused, or a row's names of receivers have 4 GiB or more, commas among them.
     Memory,
 }
 

@@ -42,8 +42,9 @@ only_frame [] = Err reason.NoFrame
 only_frame (piece ∷ []) = frame_in_piece piece
 only_frame (piece ∷ next ∷ more) = Err reason.TwoFrames
 
--- The one frame in a line's bytes, or the first reason why there is none: if bytes follow the last
--- frame end, it is Unended, and otherwise the pieces between frame ends decide.
+-- The one frame in a line's bytes, or the first reason why there is none. If bytes follow the last
+-- frame end, or there are bytes and no frame end, it is Unended. Otherwise the pieces before the
+-- frame ends decide.
 unfoldable pub frame_in : List ℕ → Result (List ℕ) Reason
 frame_in bytes =
     if is_nonempty (rest_of bytes) then Err reason.Unended else only_frame (judgements_of bytes)
@@ -76,7 +77,8 @@ line_of l =
 
 -- ---- the line that is written
 
--- The line of a reception, without its LF.
+-- The line of a reception, without its LF: the moment to the millisecond, and the frame as KISS
+-- sends it on port 0, in lower case hexadecimal.
 abbrev pub written_line : Received → List ℕ
 written_line x =
     moment_text x.moment ++ octet " " ∷ x.receiver ++ octet " " ∷ encode_lower (kiss_text x.frame)

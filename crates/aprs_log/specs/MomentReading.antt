@@ -9,7 +9,8 @@ use Rattle.aprs_log.specs.Sizes.{seconds_size}
 use Rattle.aprs_log.specs.declared.moment_form.MomentForm.{MomentForm}
 use Rattle.aprs_log.specs.declared.moment_form.MomentForm.TheVariants.{Seconds, Millis}
 
--- A date of the civil calendar and a time of its day, in UTC.
+-- The numbers of a date and of a time of its day, in UTC. The calendar may lack the date, and a day
+-- the time.
 pub record Civil : Type 0 where
   pub year : ℕ
   pub month : ℕ

@@ -12,7 +12,7 @@ abbrev pub line_in : Result (Unit {0}) LineFault → Line → Result Line LineFa
 line_in (Ok u) found = Ok found
 line_in (Err fault) found = Err fault
 
--- How many steps a reader may take yet.
+-- How many steps without a line a reader may take yet.
 abbrev pub steps_left : {R : Type 0} → LogReader R → ℕ
 steps_left r = work_in r.state r.left
 

@@ -22,7 +22,8 @@ last_in Reading = Going
 last_in Ended = End
 last_in (Failed cause) = last_of_cause cause
 
--- How many steps a reader may take yet: one for each byte that it may read, and one to stop.
+-- How many steps without a line a reader may take yet: one for each byte that it may read, and one
+-- to stop.
 abbrev pub work_in : State → ℕ → ℕ
 work_in Reading left = left + 1
 work_in Ended left = 0

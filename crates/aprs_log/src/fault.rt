@@ -9,7 +9,7 @@ use aprs_kiss::PassFault;
 /// returned.
 #[derive(Clone, Copy, Debug, PartialEq, Eq)]
 pub enum LineFault {
-    /// The line has more than 8,192 bytes.
+    /// The line has more than 8,192 bytes, without its LF.
     LongLine,
     /// The input ends inside a line. No call of this crate returns it: a log has a `LogCause`.
     NoNewline,
@@ -52,7 +52,7 @@ impl LineFault {
 /// Why a log is read no further.
 #[derive(Clone, Copy, Debug, PartialEq, Eq)]
 pub enum LogCause {
-    /// A line has more than 8,192 bytes.
+    /// A line has more than 8,192 bytes, without its LF, also where no LF came yet.
     LongLine,
     /// The input ends inside a line.
     NoNewline,
@@ -133,15 +133,15 @@ pub struct LogFault {
 /// by section 3 of AX.25 2.2.
 #[derive(Clone, Copy, Debug, PartialEq, Eq)]
 pub enum Reason {
-    /// Bytes follow the last frame end (FEND, C0).
+    /// Bytes follow the last frame end (FEND, C0), or there are bytes and no frame end.
     Unended,
-    /// No byte stands between frame ends.
+    /// There are frame ends alone, or no bytes.
     NoFrame,
-    /// Two pieces or more, frames or not.
+    /// Two nonempty pieces or more, frames or not.
     TwoFrames,
-    /// An escape (FESC, DB) that neither DC nor DD follows.
+    /// An escape (FESC, DB) that neither DC nor DD follows in the piece.
     BadEscape,
-    /// A frame of more than 1,024 bytes.
+    /// More than 1,024 bytes once the escapes are undone, the type byte among them.
     TooLong,
     /// A KISS command other than data.
     NotData,
@@ -149,9 +149,9 @@ pub enum Reason {
     Address,
     /// An address holds no callsign.
     Callsign,
-    /// The control octet isn't that of a UI frame.
+    /// The control octet is missing, or isn't 03, that of a UI frame without poll.
     Control,
-    /// The protocol identifier isn't F0, no layer 3.
+    /// The protocol identifier is missing, or isn't F0, no layer 3.
     Pid,
     /// No information follows.
     NoInfo,

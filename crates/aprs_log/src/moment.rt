@@ -134,7 +134,8 @@ impl Moment {
     }
 }
 
-/// Writes the moment's text to the millisecond, padded as a text is, as `{:>26}` asks.
+/// Writes the moment's text to the millisecond, padded or cut as a text is, as `{:>26}` or `{:.10}`
+/// asks.
 impl fmt::Display for Moment {
     ghost output = { λ m. Some (moment_text m) };
 

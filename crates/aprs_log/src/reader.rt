@@ -92,7 +92,8 @@ impl<'a, R: Read> LogReader<'a, R> {
         self.line
     }
 
-    /// How many calls of the device that the reader reads from failed. Takes no memory.
+    /// How many calls of the device that the reader reads from failed, those before the reader was
+    /// made among them. Takes no memory.
     pub fn failures(&self) -> u64
         ensures { result ≡ failures_of (Spec.lent_device self.now) }
     {

@@ -77,7 +77,7 @@ impl Receiver {
     }
 }
 
-/// Writes the name, padded as a text is, as `{:<16}` asks.
+/// Writes the name, padded or cut as a text is, as `{:<16}` or `{:.3}` asks.
 impl fmt::Display for Receiver {
     ghost output = { λ name. Some name };
 

@@ -23,9 +23,10 @@ const MAX_SPELLED: usize = 2 * MAX_UI_FRAME + 3;
 /// The most bytes of a line that is written: a moment, a name, two spaces, the digits and the LF.
 const MAX_WRITTEN: usize = 24 + 16 + 2 + 2 * MAX_SPELLED + 1;
 
-/// Writes a reception as a line of a log: its moment, its receiver and its frame between two frame
-/// ends, as lower case hexadecimal. At a fault a prefix of the line went out, and the count of the
-/// device's failures rose. Takes no memory.
+/// Writes a reception as a line of a log, with its LF: its moment, its receiver and its frame. The
+/// moment is written to the millisecond, and the frame as KISS sends it on port 0, in lower case
+/// hexadecimal. At a fault a prefix of the line went out, and the count of the device's failures
+/// rose. Takes no memory.
 pub fn write_line<W: Write>(w: &mut Counted<W>, reception: &Reception) -> Result<(), WriteFault>
     ensures sends { Sends W.contents result w.old w.new (written_line reception.now ++ 10 ∷ []) }
     // The line reads back as the reception.

@@ -35,8 +35,8 @@ pub record IsObject (name : List ℕ) (live : Bool) (stamp : Stamp) (place : Pla
 abbrev pub is_item_mark : ℕ → Bool
 is_item_mark b = b == 33 || b == 95
 
--- The field is ")", a name of three to nine bytes none of which is a mark, ! or _, a position and a
--- comment.
+-- The field is ")", a name of three to nine bytes none of which is a mark, ! or _, then a mark, a
+-- position and a comment. Spaces at the name's end count among its bytes, and are cut off.
 pub record IsItem (name : List ℕ) (live : Bool) (place : Place) (symbol : Symbol)
     (comment : List ℕ) (info : List ℕ) : Type 0 where
   pub field : List ℕ

@@ -118,7 +118,8 @@ plain_of bytes = do
 
 -- ---- compressed positions
 
--- The table that a byte of a compressed position stands for.
+-- The table that a byte of a compressed position stands for: a to j for the digits, and /, \ and
+-- capitals for themselves. None for any other byte, also for a digit.
 abbrev pub table_of_byte : ℕ → Option ℕ
 table_of_byte b =
     if nat_le 97 b && nat_le b 106 then Some (b - 49)

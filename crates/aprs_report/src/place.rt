@@ -22,7 +22,8 @@ const LATITUDE_PARTS: i64 = 380_926;
 const LONGITUDE_PARTS: i64 = 190_463;
 
 /// An exact angle in degrees, as a fraction that isn't reduced: 6,000 parts a degree in a plain
-/// position, 380,926 (latitude) or 190,463 (longitude) in a compressed one.
+/// position, 380,926 (latitude) or 190,463 (longitude) in a compressed one. Fractions are equal
+/// only if both numbers are: one angle in other parts is another fraction.
 #[derive(Clone, Copy, Debug, PartialEq, Eq)]
 pub struct Fraction {
     /// How many parts of a degree, negative to the south and the west.
@@ -40,7 +41,8 @@ pub enum Place {
         lat: i32,
         /// Hundredths of minutes east, -1080000 to 1080000.
         lon: i32,
-        /// How many digits of the minutes are left out, from the right: 0 to 4. They are read as 0.
+        /// How many digits of the latitude's minutes are left out, from the right: 0 to 4. In both
+        /// angles these places are read as 0, also where the longitude has digits there.
         ambiguity: u8,
     },
     /// Compressed in base 91 (APRS Protocol Reference 1.0.1, chapter 9).

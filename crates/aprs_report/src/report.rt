@@ -55,7 +55,8 @@ pub enum Report<'a> {
     Message {
         /// Who the message is for, without the spaces at its end.
         addressee: &'a [u8],
-        /// What it says, without the brace and the id, and without CR and LF at its end.
+        /// What it says, without the brace and the id. CR and LF are cut off at the end of the
+        /// field, and not before the brace.
         text: &'a [u8],
         /// The id by which it is acknowledged, if it has one: one to five letters or digits.
         id: Option<&'a [u8]>,
@@ -78,7 +79,7 @@ pub enum Report<'a> {
     Status {
         /// Day, hour and minute in UTC, if the text begins with them: its mark is `z`.
         stamp: Option<Stamp>,
-        /// All that follows the stamp.
+        /// All that follows the stamp, or the first byte `>` where there is no stamp.
         text: &'a [u8],
     },
     /// Any other field.

@@ -14,10 +14,10 @@ const DATA: u8 = 0;
 const MAX_ENDED: usize = 1024;
 
 /// The bytes of the one data frame, of any port, that a line's bytes hold as a KISS stream. Whether
-/// they are a UI frame is judged by the caller. Otherwise the first reason why there is none: bytes
-/// follow the last frame end, there are two pieces or more, there is no piece, or KISS passes the
-/// one piece over. Where a quick look isn't enough, `reader` is reset and reads the bytes, and the
-/// frame lies in the reader.
+/// they are a UI frame is judged by the caller. Otherwise the first reason why there is none. Bytes
+/// follow the last frame end, or there are bytes and no frame end; there are two nonempty pieces or
+/// more, or none; or KISS passes the one over. Where a quick look isn't enough, `reader` is reset
+/// and reads the bytes, and the frame lies in the reader.
 pub fn data_in<'r>(reader: &'r mut KissReader, bytes: &'r [u8]) -> Result<&'r [u8], Reason>
     ensures { MatchResult result
         (λ frame. frame_in bytes.now ≡ frame_or_reason (frame_or_fault frame.now))

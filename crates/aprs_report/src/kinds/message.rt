@@ -91,8 +91,8 @@ fn part_to<'a>(addressee: &'a [u8], part: &'a [u8]) -> Report<'a>
 }
 
 /// The addressee, from a name in the first nine bytes, and the part, which follows the colon
-/// after them, without CR and LF at its end. `None` where the nine bytes hold no name, or where
-/// no colon follows.
+/// after them, without CR and LF at its end. `None` where there are fewer bytes, where the nine
+/// hold no name, or where no colon follows.
 #[tactic(auto, unfolding(crate::specs::Reader::addressee_and_part_of))]
 fn addressee_and_part(bytes: &[u8]) -> Option<(&[u8], &[u8])>
     ensures { option_map (λ x. (x.0.now, x.1.now)) result ≡ Spec.addressee_and_part_of bytes.now }

@@ -34,8 +34,8 @@ fn state_at_start(live: u8, bytes: &[u8]) -> Option<(bool, &[u8])>
 
 /// An object, from the bytes of an information field after its first, `;`: a name of nine bytes,
 /// `*` where it is live or `_` where it is killed, a stamp, a position with its symbol, and a
-/// comment (APRS Protocol Reference 1.0.1, chapter 11). `None` where one of these but the comment
-/// can't be read.
+/// comment (APRS Protocol Reference 1.0.1, chapter 11). Spaces at the name's end count among the
+/// nine bytes, and are cut off. `None` where one of these but the comment can't be read.
 #[tactic(auto, unfolding(crate::specs::Reader::object_of))]
 pub fn object(bytes: &[u8]) -> Option<Report<'_>>
     ensures { option_map view result ≡ object_of bytes.now }
@@ -64,8 +64,8 @@ fn place_of_mark(bytes: &[u8]) -> Option<usize>
     bytes.iter().position(|byte| *byte == b'!' || *byte == b'_')
 }
 
-/// The bytes before an item's mark, which are its name, and the rest, from the mark on. `None`
-/// where there is no mark, or where the name isn't three to nine bytes.
+/// The bytes before an item's mark, which are its name with the spaces at its end, and the rest,
+/// from the mark on. `None` where there is no mark, or where these bytes aren't three to nine.
 #[tactic(auto, unfolding(crate::specs::Reader::item_field_of))]
 fn item_field(bytes: &[u8]) -> Option<(&[u8], &[u8])>
     ensures { option_map (λ x. (x.0.now, x.1.now)) result ≡ item_field_of bytes.now }
@@ -80,8 +80,8 @@ fn item_field(bytes: &[u8]) -> Option<(&[u8], &[u8])>
 
 /// An item, from the bytes of an information field after its first, `)`: a name of three to nine
 /// bytes, `!` where it is live or `_` where it is killed, a position with its symbol, and a
-/// comment (APRS Protocol Reference 1.0.1, chapter 11). `None` where one of these but the comment
-/// can't be read.
+/// comment (APRS Protocol Reference 1.0.1, chapter 11). Spaces at the name's end count among the
+/// three to nine bytes, and are cut off. `None` where one of these but the comment can't be read.
 #[tactic(auto, unfolding(crate::specs::Reader::item_of))]
 pub fn item(bytes: &[u8]) -> Option<Report<'_>>
     ensures { option_map view result ≡ item_of bytes.now }
