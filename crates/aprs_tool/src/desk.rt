@@ -87,8 +87,8 @@ impl<A: Allocator + Copy> Desk<A> {
     /// book of a set of receptions, it is then that of this set and of the input's receptions.
     /// Fails with the input's first fault; with `OtherGap` for a faultless book file whose gap
     /// isn't that of the desk's book; and where an allocation failed. It fails with `Memory` also
-    /// where a row's names of receivers would have 4 GiB or more, commas among them. After a fault
-    /// the desk is as before.
+    /// where a row's names of receivers have 4 GiB or more, commas among them. After a fault the
+    /// desk is as before.
     pub fn take_input<R: Read>(&mut self, r: &mut Counted<R>) -> Result<(), InputFault>
         ensures takes { OfGot (desk_limit self.old) (R.remaining (device_of r.old))
             (R.remaining (device_of r.new))

@@ -19,7 +19,7 @@ pub enum InputFault {
     #[error("line {}: {}", .0.line, .0.cause.name())]
     Book(BookFault),
     /// An allocation failed for what the input gives, or for the book that it is taken into. A desk
-    /// answers so also where a row's names of receivers would have 4 GiB or more.
+    /// answers so also where a row's names of receivers have 4 GiB or more.
     #[error("out of memory")]
     Memory,
     /// A book file whose gap isn't that of the book it is taken into.
