@@ -37,7 +37,7 @@ impl Arena {
         }
     }
 
-    /// Takes a block for `size` bytes, if there is room.
+    /// Takes a block for `size` bytes, if there is room. For 2^63 bytes or more there is none.
     fn take(&self, size: usize) -> Option<Region>
         ensures { IfSome result (λ block. (block.units ≡ units_for size) × (size < 2 ^ 63)) }
     {
@@ -52,7 +52,7 @@ impl Arena {
     }
 
     /// Takes so many units from the front of a block that came back, the first that is found from
-    /// the class of as many units on.
+    /// the class of as many units on. `None` where none of these is long enough.
     fn take_freed(&self, units: usize) -> Option<Region>
         requires { units < 2 ^ 60 }
         ensures { IfSome result (λ block. block.units ≡ units) }
@@ -73,7 +73,7 @@ impl Arena {
         None
     }
 
-    /// Takes so many units from the front of what was never used.
+    /// Takes so many units from the front of what was never used, or none where it has fewer.
     fn take_left(&self, units: usize) -> Option<Region>
         requires { units < 2 ^ 60 }
         ensures { IfSome result (λ block. block.units ≡ units) }

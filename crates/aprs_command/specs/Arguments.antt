@@ -142,8 +142,8 @@ table_app = with_gathered (versioned_app (codes "aprsbook-table"))
 abbrev pub receiver_of : Text → Option (List ℕ)
 receiver_of t = if is_receiver t then Some t else None
 
--- This form, which isn't a capture. None where a receiver or a moment is given, which only a capture
--- has.
+-- This form, which isn't a capture. None where a receiver or a moment is given, which only a
+-- capture has.
 abbrev pub plain_form_of : Form → Option Text → Option Text → Option Form
 plain_form_of f None None = Some f
 plain_form_of f _ _ = None
@@ -171,7 +171,7 @@ abbrev pub asked_form : List Row → Option Form
 asked_form rows = option_and_then (λ name. named_form_of name (first_of (codes "receiver") rows)
     (first_of (codes "moment") rows)) (first_of (codes "form") rows)
 
--- The number of seconds in a text, if the command takes it as a gap.
+-- The number of seconds in a text, if the command takes it as a gap. It may begin with a plus sign.
 abbrev pub read_gap : Text → Option ℕ
 read_gap t = if is_unsigned_in 1 greatest_gap t
     then Some (digits_value 10 (without_leading_plus t)) else None
@@ -189,7 +189,8 @@ chosen_gap rows = given_gap (first_of (codes "gap") rows)
 abbrev pub widened_gap : List Row → Option ℕ
 widened_gap rows = option_and_then read_gap (first_of (codes "seconds") rows)
 
--- The task of the command of this name, if its options are right.
+-- The task of the command of this name, if its options are right. Any name that isn't another
+-- command's is taken as `check`.
 abbrev pub task_by_name : Text → List Row → Option Task
 task_by_name name rows =
     if bytes_eq name (codes "convert") then option_map (λ f. task.Convert f) (asked_form rows)
@@ -301,7 +302,8 @@ abbrev pub table_or_path : Option Table → Text → List Text → Table × List
 table_or_path (Some t) first others = (t, others)
 table_or_path None first others = (table.Rows, first ∷ others)
 
--- The table and the paths of the inputs that these values of INPUT ask for.
+-- The table and the paths of the inputs that these values of INPUT ask for. Without values it is
+-- the table of the rows.
 abbrev pub table_and_paths : List Text → Table × List Text
 table_and_paths [] = (table.Rows, [])
 table_and_paths (first ∷ others) = table_or_path (named_table first) first others

@@ -125,7 +125,8 @@ pub(crate) fn option_arg<'a>(
         .help(help)
 }
 
-/// What the text of a gap may be: a number of seconds, 1 to 3,600.
+/// What the text of a gap may be: a number of seconds, 1 to 3,600, with a plus sign before it or
+/// none.
 fn gap_parser<'a>() -> ValueParser<'a>
     ensures { result ≡ Spec.gap_parser }
 {
@@ -301,7 +302,8 @@ pub(crate) fn read_matches_and_gap<'a>(
     }
 }
 
-/// The first value of the argument of this name, or `None` where it was not given.
+/// The first value of the argument of this name, or `None` where it was not given. A flag has the
+/// value `false` then.
 pub(crate) fn text_at<'a>(matches: &ArgMatches<'a>, id: &str) -> Option<&'a str>
     ensures { option_map (λ s. s.now) result ≡ first_of id.now (rows_of (found_of matches.now)) }
 {
@@ -358,8 +360,8 @@ fn read_widened_gap(matches: &ArgMatches<'_>) -> Option<Gap>
     read_gap(text_at(matches, "seconds")?)
 }
 
-/// The gap of as many seconds as the text says, or `None` where it says no number of 1 to 3,600.
-/// The command has refused such a text before.
+/// The gap of as many seconds as the text says, which may begin with a plus sign. `None` where it
+/// says no number of 1 to 3,600; the command has refused such a text before.
 fn read_gap(text: &str) -> Option<Gap>
     ensures { result ≡ Spec.read_gap text.now }
 {

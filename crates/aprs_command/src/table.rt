@@ -52,7 +52,8 @@ fn table_command<'a>(alloc: Global) -> Result<Command<'a>, AllocError>
 }
 
 /// The table that INPUT names first among these matches, and the paths that it gives else, in the
-/// order of the arguments and in memory of their own. `AllocError` where an allocation failed.
+/// order of the arguments and in memory of their own. Where it names none, the table is that of the
+/// rows. `AllocError` where an allocation failed.
 fn read_table_and_inputs(
     alloc: Global,
     matches: &ArgMatches<'_>,
@@ -66,8 +67,8 @@ fn read_table_and_inputs(
     }
 }
 
-/// The table that these values of INPUT name first, and copies of the paths among them.
-/// `AllocError` where an allocation failed.
+/// The table that these values of INPUT name first, or that of the rows where they name none, and
+/// copies of the paths among them. `AllocError` where an allocation failed.
 fn copy_asked(alloc: Global, values: &[&str]) -> Result<(Table, Vec<String>), AllocError>
     ensures { IfOk result (λ asked. (asked.0, Spec.paths_of asked.1.items)
         ≡ Spec.table_and_paths (map (λ value. value.now) values.now)) }

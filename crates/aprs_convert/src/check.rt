@@ -16,9 +16,9 @@ use std::alloc::Allocator;
 use std::io::{Read, Write};
 
 /// Writes a line for each line of a log that holds no frame, with the reason, and last how many
-/// lines are heard and how many passed over. Requires that `limit` is at most `MAX_INPUT`
-/// (1,073,741,824). At a fault all lines before it have been reported, and there are no totals; at
-/// `Write` a prefix of the text was written. Takes no memory.
+/// lines are heard and how many passed over. More than `limit` bytes are a fault. Requires that
+/// `limit` is at most `MAX_INPUT` (1,073,741,824). At a fault all lines before it have been
+/// reported, and there are no totals; at `Write` a prefix of the text was written. Takes no memory.
 pub fn check_log<R: Read, W: Write, A: Allocator + Copy>(
     alloc: A,
     limit: u64,

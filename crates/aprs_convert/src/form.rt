@@ -10,7 +10,7 @@ pub enum Form {
     Kind,
     /// A KISS stream of the frames.
     Kiss,
-    /// The log again, in its one encoding.
+    /// The log again, in its one encoding, without the lines that are passed over.
     Log,
     /// The log of a KISS stream, as if each frame were heard by one receiver at one moment.
     Capture { receiver: Receiver, moment: Moment },

@@ -13,9 +13,9 @@ use std::alloc::Allocator;
 use std::io::{Read, Write};
 
 /// Writes what a form gives for each line of a log, or for each frame of a KISS stream where the
-/// form is a capture. Requires that `limit` is at most `MAX_INPUT` (1,073,741,824). At a fault the
-/// text of all before it has been written; at `Write` a prefix of the text. A stream's faults have
-/// line 0. Takes no memory.
+/// form is a capture. More than `limit` bytes are a fault. Requires that `limit` is at most
+/// `MAX_INPUT` (1,073,741,824). At a fault the text of all before it has been written; at `Write` a
+/// prefix of the text. A stream's faults have line 0. Takes no memory.
 pub fn convert_input<R: Read, W: Write, A: Allocator + Copy>(
     alloc: A,
     limit: u64,

@@ -14,7 +14,7 @@ pub const MAX_TEXT: usize = 1200;
 pub type Text = ArrayVec<u8, MAX_TEXT>;
 
 /// Puts what the bytes are shown as at the end of `out`: 1 or 4 bytes for each, as `shown_byte`
-/// returns them.
+/// returns them. Requires room for 4 bytes for each.
 pub fn push_shown(out: &mut Text, bytes: &[u8])
     requires { array_vec_len out.old + 4 * length bytes.now ≤ MAX_TEXT }
     ensures shown { out.new.items ≡ out.old.items ++ shown_text bytes.now }
@@ -38,7 +38,7 @@ fn push_escaped(out: &mut Text, bytes: &[u8])
     }
 }
 
-/// Puts the number at the end, in decimal: at most 20 digits.
+/// Puts the number at the end, in decimal: at most 20 digits. Requires room for 20.
 pub fn push_decimal(out: &mut Text, n: u64)
     requires { array_vec_len out.old + 20 ≤ MAX_TEXT }
     ensures decimal { out.new.items ≡ out.old.items ++ decimal n }

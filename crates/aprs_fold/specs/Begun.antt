@@ -11,7 +11,8 @@ use Rattle.aprs_booktext.specs.declared.version.Version.{Version}
 use Rattle.aprs_folding.specs.Folding.{IsFolding}
 use Rattle.aprs_fold.specs.Inputs.{all_of}
 
--- The input begins as a book file of this gap, with the lines of these rows.
+-- The input begins as a book file of this gap, with the lines of these rows. Where its bytes aren't
+-- known, nothing is said.
 abbrev pub BeginsWith : ℕ → List Row → Option (List ℕ) → Type 0
 BeginsWith gap rows (Some text) = (version : Version) × (rest : List ℕ) × (gap_of version ≡ gap)
     × IsBookRows version rows

@@ -35,8 +35,8 @@ LacksEnd text =
     (line : ℕ) × HasBookFault text how.End (record { line = line; cause = why.Ending })
 
 -- A part of a book's text went out: the whole header and a part of the lines of these rows, which
--- lacks its end, and no call of the output answered a fault. At `Write` it is a prefix of the text of
--- these rows and the last, and the last call of the output answered a fault.
+-- lacks its end, and no call of the output answered a fault. At `Write` it is a prefix of the text
+-- of these rows and the last, and the last call of the output answered a fault.
 abbrev pub IsPart : {W : Type 0} → (W → Option (List ℕ)) → ℕ → FoldFault → List Row → List Row
     → Counted W → Counted W → Type 0
 IsPart contents gap Write rows last old new = Sends {E = FoldFault} contents (Err Write) old new

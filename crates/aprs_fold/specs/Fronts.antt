@@ -1,5 +1,5 @@
--- The rows that several streams have in front, and which of them comes first. No public clause cites
--- this module.
+-- The rows that several streams have in front, and which of them comes first. No public clause
+-- cites this module.
 use Rattle.std.specs.Prelude.{◌≡◌, ℕ, ◌<◌, zero, suc, List, [], ◌∷◌, length, Option, None, Some}
 use Rattle.std.specs.List.{last_or}
 use Rattle.aprs_laws.specs.Order.{IsUpTo}

@@ -34,7 +34,8 @@ all_of = flat_map (λ rows. rows)
 abbrev pub book_of_all : ℕ → List (List Row) → BookValue
 book_of_all gap rows = record { gap = gap; rows = book_together (millis_of gap) (all_of rows) }
 
--- The input begins as a book file of a gap that isn't this.
+-- The input begins as a book file of a gap that isn't this. Where its bytes aren't known, nothing
+-- is said.
 abbrev pub BeginsOther : ℕ → Option (List ℕ) → Type 0
 BeginsOther gap (Some text) = (version : Version) × (rest : List ℕ) × IsVersion version
     × (gap_of version ≢ gap) × (text ≡ ended_by_lf (header_of version) ++ rest)
@@ -52,8 +53,9 @@ IsRefused {R = R} remaining limit gap (OtherGap index) old new =
     (f : Counted R) × (slice_get old index ≡ Some f) × BeginsOther gap (remaining f.device)
 IsRefused remaining limit gap fault old new = Unit {0}
 
--- Of the input some bytes were got, at most `limit`, and it wasn't asked after its end, nor after a
--- fault. `Read` as its ending fits also where reading stopped early or never began.
+-- Of the input some bytes were got, at most `limit`, and one more was taken at `TooLong`. It wasn't
+-- asked after its end, nor after a fault. `Read` as its ending fits also where reading stopped
+-- early or never began.
 pub record IsAsked {R : Type 0} (remaining : R → Option (List ℕ)) (limit : ℕ) (old new : Counted R)
     : Type 0 where
   pub gets : IfSome (remaining old.device) (λ input. (text : List ℕ) × (ending : InputEnd)

@@ -14,7 +14,7 @@ pub enum FoldFault {
     OtherGap { index: usize },
     /// An allocation failed, other than in reading an input's text: that is the input's fault. It
     /// is this also where a joined row's names of receivers, with commas between, have
-    /// 4,294,967,296 bytes or more, or the rows are 2^64.
+    /// 4,294,967,296 bytes or more, or the rows to be written are 2^64.
     Memory,
     /// The output was refused.
     Write,

@@ -7,7 +7,7 @@ use aprs_ax25::Callsign;
 use aprs_rows::RowView;
 
 /// The sources from one to another, in the order of a book: by letters and digits, and then by SSID
-/// as a number.
+/// as a number. There are none where `until` isn't after `from`.
 #[derive(Drop)]
 pub struct SourceRange {
     /// The first of them; where there is none, the range begins with the first source of all.

@@ -51,17 +51,18 @@ abbrev pub line_words : List ℕ → ℕ → List ℕ → List ℕ
 line_words place line cause =
     place ++ (codes ": line " ++ (decimal line ++ (codes ": " ++ cause)))
 
--- The words for a log's fault.
+-- The words for a log's fault. At `Memory` they name neither the place nor the line.
 abbrev pub log_words : List ℕ → ℕ → LogCause → List ℕ
 log_words place line cause.Memory = codes "out of memory"
 log_words place line other = line_words place line (log_cause_name other)
 
--- The words for a book file's fault.
+-- The words for a book file's fault. At `Memory` they name neither the place nor the line.
 abbrev pub book_words : List ℕ → ℕ → BookCause → List ℕ
 book_words place line book.Memory = codes "out of memory"
 book_words place line other = line_words place line (book_cause_name other)
 
--- The words for a run's fault, where `place` is the name of the input at fault.
+-- The words for a run's fault, where `place` is the name of the input at fault. They don't name it
+-- where memory or the output was refused.
 abbrev pub run_words : List ℕ → RunFault → List ℕ
 run_words place (Input index (Log fault)) = log_words place fault.line fault.cause
 run_words place (Input index (Book fault)) = book_words place fault.line fault.cause

@@ -26,7 +26,8 @@ abbrev pub IsKnownAs : Option (List ℕ) → List ℕ → Type 0
 IsKnownAs None path = ⊤
 IsKnownAs (Some known) path = known ≡ path
 
--- There are as many inputs as paths, and each input is open at the path in its place.
+-- There are as many inputs as paths. The path at which an input is open is the one in its place,
+-- where it is known.
 abbrev pub AreAt : {I Z : Type 0} → (I → Option (List ℕ)) → List (Counted I) → List (String Z)
     → Type 0
 AreAt path_of [] [] = ⊤
@@ -61,8 +62,8 @@ pub record StopsAtPath {Z : Type 0} (old new : Option (List Asked)) (paths : Lis
   pub asked : AsksFor old new (opened (take at paths) ++ (string_bytes path, answer) ∷ [])
   pub says : ComplainsOf path answer complaint
 
--- Where there is no path, memory was refused, and nothing was asked for. Otherwise a path is the last that
--- the opener was asked for.
+-- Where there is no path, memory was refused, and nothing was asked for. Otherwise a path is the
+-- last that the opener was asked for.
 abbrev pub StopsAtInput : {Z : Type 0} → Option (List Asked) → Option (List Asked)
     → List (String Z) → Complaint → Type 0
 StopsAtInput old new [] complaint = AsksFor old new [] × (complaint ≡ why.OutOfMemory)

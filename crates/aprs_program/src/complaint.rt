@@ -150,7 +150,7 @@ fn put_line<W: Write>(
 }
 
 /// What is complained of where the system answers this error for the program's arguments: an
-/// allocation failed, or one of them isn't UTF-8. Takes no memory.
+/// allocation failed; and at any other error that one of them isn't UTF-8. Takes no memory.
 pub(crate) fn complaint_of_arguments(error: &io::Error) -> Complaint<'static>
     ensures memory { error_kind error.now ≡ ErrorKind.OutOfMemory
         → result ≡ Complaint.OutOfMemory }
@@ -191,7 +191,7 @@ fn complaint_of_input<'t>(place: &'t [u8], fault: &InputFault) -> Complaint<'t>
     }
 }
 
-/// The complaint of a log's fault.
+/// The complaint of a log's fault. At `Memory` it names neither the place nor the line.
 fn complaint_of_log<'t>(place: &'t [u8], line: u64, cause: LogCause) -> Complaint<'t>
     ensures words { Spec.words_of result ≡ Spec.log_words place.entry.now line cause }
     ensures status { Spec.status result ≡ status_of_cause cause }
@@ -207,7 +207,7 @@ fn complaint_of_log<'t>(place: &'t [u8], line: u64, cause: LogCause) -> Complain
     }
 }
 
-/// The complaint of a book file's fault.
+/// The complaint of a book file's fault. At `Memory` it names neither the place nor the line.
 fn complaint_of_book<'t>(place: &'t [u8], line: u64, cause: BookCause) -> Complaint<'t>
     ensures words { Spec.words_of result ≡ Spec.book_words place.entry.now line cause }
     ensures status { Spec.status result ≡ status_of_book_cause cause }

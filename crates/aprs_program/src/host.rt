@@ -96,8 +96,9 @@ impl<'a> Program<'a> {
     }
 
     /// Does the work over inputs of these paths, or over standard input where there are none, and
-    /// reports a fault to standard error. Where an input can't be opened, none is read. The output
-    /// is flushed, also after a fault. Returns the exit status.
+    /// reports a fault to standard error. A run over one input reads the first alone. Where an
+    /// input can't be opened, none is read. The output is flushed, also after a run's fault.
+    /// Returns the exit status.
     pub fn do_work(&mut self, work: Work, paths: &[String]) -> ExitCode {
         let alloc = self.rt.alloc();
         let mut inputs = match open_inputs(self, alloc, paths) {

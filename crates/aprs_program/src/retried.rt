@@ -10,7 +10,8 @@ use std::io::{self, Error, ErrorKind, Write};
 const MAX_TRIES: u32 = 1000;
 
 /// A device below a buffer. An interrupted write is tried again, up to 999 times in a row; the
-/// 1,000th is an error that isn't an interruption, so that no caller tries again without end.
+/// 1,000th is an error that isn't an interruption, so that no caller tries again without end. An
+/// interrupted flush is such an error at once.
 #[derive(Drop)]
 pub struct Retried<W> {
     device: W,
@@ -35,8 +36,8 @@ impl<W: Write> Write for Retried<W> {
     }
 }
 
-/// Writes some of the bytes, and returns how many. An interrupted write is tried again, up to 999
-/// times in a row; the 1,000th, and any other error at once, is an error, which isn't an
+/// Writes some of the bytes, or none, and returns how many. An interrupted write is tried again, up
+/// to 999 times in a row; the 1,000th, and any other error at once, is an error, which isn't an
 /// interruption, and then nothing was written.
 pub fn write_some<W: Write>(device: &mut W, bytes: &[u8]) -> io::Result<usize>
     ensures bound { WritesAtMost result bytes.now }

@@ -65,7 +65,7 @@ pub fn work_of(job: Job) -> (Work, Vec<String>)
 }
 
 /// Does the work over inputs, the first alone where it is a run over one, as `run_single` and
-/// `run_gathering` say.
+/// `run_gathering` say. Requires at least one input.
 pub fn run_work<R: Read, W: Write, A: Allocator + Copy>(
     alloc: A,
     work: Work,

@@ -38,9 +38,9 @@ pub struct BookRange<R> {
 impl<R: ReadAt> BookRange<R> {
     /// The rows of this range in a book file, which are found by bisection: some lines alone are
     /// read. Returns the source as `Err` where it isn't found to be a book file, a read failed or
-    /// memory was refused. So it does where a line that is read has 16 MiB or more. Faults of rows
-    /// out of the range, and most faults of rows within it, aren't looked for. Takes memory for the
-    /// longest line that is read.
+    /// memory was refused. It may do so too where a line that is read has 16 MiB or more. Faults of
+    /// rows out of the range, and most faults of rows within it, aren't looked for. Takes memory
+    /// for the longest line that is read.
     pub fn find<A: Allocator>(alloc: A, source: R, range: &SourceRange) -> Result<BookRange<R>, R>
         ensures lends { IfOk result (λ found. Spec.LendsRange range.now (R.bytes source)
             (Spec.lent R.bytes found)) }

@@ -100,8 +100,8 @@ fn find_first<R: ReadAt, A: Allocator>(
 
 /// The place of the first line, from that at `start` on, that is no row's whose source comes before
 /// `before`. Where there is no `before`, it is the first that is no row's. The bisection begins
-/// with the lines up to the place `end`. `None` where a line isn't that of a book file, a read
-/// failed or memory was refused.
+/// with the lines up to the place `end`. `None` as from `bisect`, and where the line that it finds
+/// can't be read or judged, or is still such a row's.
 fn find_cut<R: ReadAt, A: Allocator>(
     source: &mut R,
     line: &mut Vec<u8, A>,
@@ -123,7 +123,8 @@ fn find_cut<R: ReadAt, A: Allocator>(
 
 /// The place of a line that is at `start` or follows a line of a row whose source comes before
 /// `before`. Where there is no `before`, any row's line will do. In a book file it is the first
-/// line from `start` on that isn't of such a row.
+/// line from `start` on that isn't of such a row. `None` where `read_line` or `is_before` gives
+/// that for a line on the way.
 fn bisect<R: ReadAt, A: Allocator>(
     source: &mut R,
     line: &mut Vec<u8, A>,
@@ -148,7 +149,7 @@ fn bisect<R: ReadAt, A: Allocator>(
     Some(bounds.low)
 }
 
-/// The bounds after the line in the middle was judged.
+/// The bounds after the line in the middle was judged. `None` where it can't be read or judged.
 fn halve<R: ReadAt, A: Allocator>(
     source: &mut R,
     line: &mut Vec<u8, A>,
@@ -176,7 +177,8 @@ fn halve<R: ReadAt, A: Allocator>(
 }
 
 /// Reads the first line that begins at `middle` or later into `line`; or that at `low`, where a
-/// line begins, if `middle` isn't after it. Returns the place after the line's LF.
+/// line begins, if `middle` isn't after it. Returns the place after the line's LF. `None` as from
+/// `read_line`.
 fn read_first_line<R: ReadAt, A: Allocator>(
     source: &mut R,
     line: &mut Vec<u8, A>,
@@ -192,7 +194,7 @@ fn read_first_line<R: ReadAt, A: Allocator>(
 }
 
 /// The place of the first line that begins at `middle` or later; or `low`, where a line begins, if
-/// `middle` isn't after it.
+/// `middle` isn't after it. `None` as from `read_line`.
 fn line_start<R: ReadAt, A: Allocator>(
     source: &mut R,
     line: &mut Vec<u8, A>,

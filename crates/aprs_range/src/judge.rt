@@ -14,7 +14,7 @@ use aprs_io::decode_lower_into;
 
 /// Whether the line is a row's whose source comes before `end`, or any row's where there is no
 /// `end`. A line that begins with `END` is taken for the last line, which is no row's. `None` where
-/// another line's last field is no frame; nothing else of it is looked at.
+/// another line has no space, or no frame after its last one; nothing else of it is looked at.
 pub fn is_before(line: &[u8], end: &Option<Callsign>) -> Option<bool>
     ensures { IfSome result (IsJudged end.now line.now) }
 {
@@ -36,7 +36,8 @@ fn comes_before(frame: &Frame, end: &Option<Callsign>) -> bool
     }
 }
 
-/// The frame of a row's line, whose digits are its last field, or `None` where that is no frame.
+/// The frame of a row's line, whose digits are its last field. `None` where that is no frame, or no
+/// space stands before it.
 fn frame_in(line: &[u8]) -> Option<Frame>
     ensures { IfSome result (λ frame. (form : MomentForm) (x : Row) → IsBookRow form x
         → line.now ≡ row_line form x → frame ≡ x.greatest.frame) }

@@ -14,8 +14,8 @@ const PIECE: usize = 1024;
 const MAX_LINE: usize = 16_777_216;
 
 /// Reads the line that begins at place `at` into `line`, without its LF. What `line` held is lost.
-/// Returns the place after the LF. `None` where no LF comes within 16 MiB or before the end, a read
-/// failed or memory was refused.
+/// Returns the place after the LF. `None` where no LF comes before the end, a read failed or memory
+/// was refused. It may be `None` too where the line has 16 MiB or more.
 pub fn read_line<R: ReadAt, A: Allocator>(
     source: &mut R,
     at: u64,

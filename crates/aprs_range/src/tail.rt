@@ -13,9 +13,9 @@ use memchr::memrchr;
 /// How many bytes are read at the end of a file: more than a last line has, with the LF before it.
 const TAIL: usize = 72;
 
-/// The place of the last line of a file of this size. `None` where the file doesn't end with the
-/// last line of a book file, or where the read fails or doesn't reach the end. Where the size is 0
-/// nothing is read, since a device may say that size.
+/// The place of the last line of a file of this size. `None` where the file doesn't end with an LF
+/// and the last line of a book file, or where the read fails or doesn't reach the end. Where the
+/// size is 0 it is `None` and nothing is read, since a device may say that size.
 pub fn last_line<R: ReadAt>(source: &mut R, size: u64) -> Option<u64>
     ensures ends { IfSome result (λ at. (bytes : List ℕ) → R.bytes source.old ≡ Some bytes
         → size ≡ length bytes → EndsWithLast bytes) }

@@ -12,7 +12,8 @@ octets_number octets =
     from_be_bytes w64
     (0 ∷ map (λ o. o / 2) (take 6 octets) ++ slice_index octets 6 / 2 % 16 ∷ [])
 
--- Prefixes are ordered by the number of the source, then of the destination, then of the information.
+-- Prefixes are ordered by the number of the source, then of the destination, then of the
+-- information.
 abbrev pub head_cmp : KeyPrefix → KeyPrefix → Ordering
 head_cmp = then_cmp (on (λ h. h.source) nat_cmp)
     (then_cmp (on (λ h. h.destination) nat_cmp) (on (λ h. h.info) nat_cmp))

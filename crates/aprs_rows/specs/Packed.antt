@@ -24,7 +24,8 @@ mark_row m bytes =
     row_of_text m.first m.last (take m.receivers bytes) (take m.receiver (drop m.receivers bytes))
     (drop m.receiver (drop m.receivers bytes))
 
--- The bytes are those of a row that is sound by itself, as the mark says.
+-- The bytes are those of a row that is sound by itself, as the mark says. Its receivers have names,
+-- and its frame is a UI frame.
 pub record IsMarked (m : Mark) (bytes : List ℕ) : Type 0 where
   pub size : length bytes ≡ mark_size m
   pub short : m.receivers < 4294967296
@@ -57,7 +58,8 @@ IsShort x = length (join_with_byte 44 x.receivers) < 4294967296
 abbrev pub AreShort : List Row → Type 0
 AreShort rows = (x : Row) → x ∈ rows → IsShort x
 
--- How many bytes the names of a row's receivers have, with a comma after each.
+-- How many bytes the names of a row's receivers have, with a comma after each. Without receivers it
+-- is 1.
 abbrev pub row_room : Row → ℕ
 row_room x = length (join_with_byte 44 x.receivers) + 1
 

@@ -16,6 +16,6 @@ desk_gap desk = desk.book.gap
 abbrev pub desk_rows : {A : Type 0} → Desk A → List Row
 desk_rows desk = desk.book.rows
 
--- The most bytes that the desk reads of an input.
+-- The most bytes that an input of the desk may have.
 abbrev pub desk_limit : {A : Type 0} → Desk A → ℕ
 desk_limit desk = desk.limit

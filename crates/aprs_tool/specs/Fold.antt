@@ -40,8 +40,9 @@ run_fault_of (fold.OtherGap index) = run.Input index input.OtherGap
 run_fault_of fold.Memory = run.Memory
 run_fault_of fold.Write = run.Write
 
--- The run's fault is that of a fold: the input is refused for it, and a part of a book's text was
--- written, of the range's rows of the book of rows that were taken of the inputs.
+-- The run's fault is that of a fold: an input is refused for it, or it is `Memory` or `Write`. A
+-- part of a book's text was written, of the range's rows of the book of rows that were taken of the
+-- inputs.
 pub record EndsEarly {R W : Type 0} (remaining : R → Option (List ℕ))
     (contents : W → Option (List ℕ)) (limit gap : ℕ) (range : SourceRange) (answer : RunFault)
     (old new : List (Counted R)) (first last : Counted W) : Type 0 where

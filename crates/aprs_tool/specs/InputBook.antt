@@ -22,8 +22,8 @@ ReadsInput asked (Ok book) text ending = IsGapOf asked text book.gap
     × ((S : List Received) → GivesSet book.gap text ending S → Holds S book)
 ReadsInput asked (Err fault) text ending = IsFaulty fault text ending
 
--- The input stands for a set, and rows that were the book of S are now that of S and T, for each set
--- T that it stands for; or this fault may be answered for it, and of the rows nothing is said.
+-- The input stands for a set, and rows that were the book of S are now that of S and T, for each
+-- set T that it stands for; or this fault may be answered for it, and of the rows nothing is said.
 abbrev pub TakesInput : ℕ → Result (Unit {0}) InputFault → List Row → List Row → List ℕ → InputEnd
     → Type 0
 TakesInput gap (Ok u) old new text ending = ((T : List Received) × GivesSet gap text ending T)

@@ -30,7 +30,8 @@ IsLogRefused (Log fault) text ending = (log_answers text ending).fault ≡ Some 
 IsLogRefused Memory text ending = Unit {0}
 IsLogRefused fault text ending = ⊥
 
--- The receptions of a faultless log join the book, each as a row, and any other log is refused.
+-- At `Ok` the log is faultless, and its receptions join the book, each as a row. Otherwise it is
+-- refused, as a faultless one may be too where an allocation failed.
 abbrev pub ReadsLog : Result (Unit {0}) InputFault → BookValue → BookValue → List ℕ → InputEnd
     → Type 0
 ReadsLog (Ok u) old new text ending = ((log_answers text ending).fault ≡ None)
@@ -48,7 +49,8 @@ pub record GivesRows (asked own : ℕ) (old new : BookValue) (text : List ℕ) (
   pub gives : GivesSet own text ending set
   pub stand : StandFor rows set
 
--- The rows of a faultless input are read, and any other input is refused.
+-- At `Ok` the input is faultless, and its rows are read. Otherwise it is refused, as a faultless
+-- one may be too where an allocation failed.
 abbrev pub ReadsRows : ℕ → Result ℕ InputFault → BookValue → BookValue → List ℕ → InputEnd → Type 0
 ReadsRows asked (Ok own) old new text ending = GivesRows asked own old new text ending
 ReadsRows asked (Err fault) old new text ending = IsFaulty fault text ending

@@ -48,7 +48,7 @@ pub record TellsPosition (text : List ℕ) (call : Call) (known : Option Receive
       ++ (known_line known ++ after))
 
 -- The listing of any set has, for each source in the set, the position that is the set's greatest
--- reception of a position report from it.
+-- reception of a position report from it, if there is one.
 abbrev pub ListingsTellPositions : ℕ → Type 0
 ListingsTellPositions gap = (S : List Received) (text : List ℕ) (call : Call) (known : Option Received)
     → IsListingOf gap S text → IsSource S call → LastKnown S (Passes (reports_position call)) known

@@ -52,8 +52,9 @@ impl<A: Allocator + Copy> Desk<A> {
     ghost use Rattle.aprs_tool.specs.Devices.{AsksInput};
     ghost use Rattle.aprs_tool.specs.InputBook.{TakesInput};
 
-    /// An empty book with a gap of 30 seconds, into which inputs are read up to `limit` bytes each.
-    /// Requires that `limit` is at most `MAX_INPUT` (1,073,741,824). Takes no memory.
+    /// An empty book with a gap of 30 seconds, for inputs of at most `limit` bytes each. A longer
+    /// one is refused. Requires that `limit` is at most `MAX_INPUT` (1,073,741,824). Takes no
+    /// memory.
     pub fn new(alloc: A, limit: u64) -> Desk<A>
         requires { limit ≤ most_input }
 
@@ -65,8 +66,8 @@ impl<A: Allocator + Copy> Desk<A> {
         Desk::with_gap(alloc, limit, Gap::STANDARD)
     }
 
-    /// An empty book with this gap, into which inputs are read up to `limit` bytes each. Requires
-    /// that `limit` is at most `MAX_INPUT` (1,073,741,824). Takes no memory.
+    /// An empty book with this gap, for inputs of at most `limit` bytes each. A longer one is
+    /// refused. Requires that `limit` is at most `MAX_INPUT` (1,073,741,824). Takes no memory.
     pub fn with_gap(alloc: A, limit: u64, gap: Gap) -> Desk<A>
         requires { limit ≤ most_input }
 
@@ -85,8 +86,9 @@ impl<A: Allocator + Copy> Desk<A> {
     /// Reads an input, a log or a book file, and merges its book into the desk's: if that was the
     /// book of a set of receptions, it is then that of this set and of the input's receptions.
     /// Fails with the input's first fault; with `OtherGap` for a faultless book file whose gap
-    /// isn't that of the desk's book; and where an allocation failed. After a fault the desk is as
-    /// before.
+    /// isn't that of the desk's book; and where an allocation failed. It fails with `Memory` also
+    /// where a row's names of receivers have 4 GiB or more, commas among them. After a fault the
+    /// desk is as before.
     pub fn take_input<R: Read>(&mut self, r: &mut Counted<R>) -> Result<(), InputFault>
         ensures takes { OfGot (desk_limit self.old) (R.remaining (device_of r.old))
             (R.remaining (device_of r.new))

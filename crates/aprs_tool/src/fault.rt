@@ -18,7 +18,8 @@ pub enum InputFault {
     /// The fault of a book file.
     #[error("line {}: {}", .0.line, .0.cause.name())]
     Book(BookFault),
-    /// An allocation failed for what the input gives.
+    /// An allocation failed for what the input gives, or for the book that it is taken into. A desk
+    /// answers so also where a row's names of receivers have 4 GiB or more.
     #[error("out of memory")]
     Memory,
     /// A book file whose gap isn't that of the book it is taken into.
@@ -82,6 +83,7 @@ pub enum RunFault {
     #[error("cannot write")]
     Write,
     /// An allocation failed that isn't for one input alone, such as for a list or a widened book.
+    /// In a fold it stands for each `FoldFault::Memory`.
     #[error("out of memory")]
     Memory,
 }

@@ -16,13 +16,14 @@ use std::alloc::Allocator;
 use std::io::{Read, Write};
 
 /// Writes the text of the book of this gap of all inputs' receptions, as `merge_run` does, where
-/// each input is a book file of this gap. The inputs are read side by side, and the text is written
-/// as they are read. Memory is taken for each input (16 KiB, its longest line and its longest row)
-/// and for one row more, whatever the number of rows. Requires that `limit` is at most
-/// 9,223,372,036,854,775,807. The header is sent before an input is read. Where an input is
-/// refused, its number, from 0, and its fault are returned. At that fault, and at `Memory`, the
-/// header and a part of the rows' lines were written, which is no book's text. At `Write` a prefix
-/// of a book's text was written.
+/// each input is a book file of this gap, of at most `limit` bytes. The inputs are read side by
+/// side, and the text is written as they are read. Memory is taken for each input (16 KiB, its
+/// longest line twice and its longest row) and for one row more with its line, whatever the number
+/// of rows. Requires that `limit` is at most 9,223,372,036,854,775,807. The header is sent before
+/// an input is read. Where an input is refused, its number, from 0, and its fault are returned. At
+/// that fault, and at `Memory`, the header and a part of the rows' lines were written, which is no
+/// book's text. `Memory` comes as `FoldFault::Memory` says. At `Write` a prefix of a book's text
+/// was written.
 pub fn fold_run<R: Read, W: Write, A: Allocator + Copy>(
     alloc: A,
     limit: u64,

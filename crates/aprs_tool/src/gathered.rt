@@ -22,6 +22,7 @@ use std::marker::Model;
 
 /// The book of logs and book files. The rows of the last book file stand in `file`. They join the
 /// store just before the next input is read: an allocation that fails then is that input's fault.
+/// Without a next one they join it before the book is written.
 pub(crate) struct Gathered<A: Allocator = Global> {
     pub(crate) alloc: A,
     pub(crate) store: BookStore<A>,

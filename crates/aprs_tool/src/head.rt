@@ -25,7 +25,7 @@ pub struct ShortInput {
     pub ending: InputEnd,
 }
 
-/// Reads the first eight bytes of an input, or those up to its first LF, where that comes sooner.
+/// Reads the first eight bytes of an input, or its first line with the LF, where that ends sooner.
 /// Fails where neither comes, since the input ended, a read failed, or the input has more than
 /// `limit` bytes: the error holds the bytes that came, and says which of these it was.
 pub fn read_head<R: Read>(

@@ -15,11 +15,11 @@ use std::io::{Read, Write};
 
 /// Writes the history of the book of this gap of all inputs' receptions: a line for each row of the
 /// book, in the book's order, which says what its frame reports. An input that begins with
-/// `APRSBOOK` is a book file, any other a log. Requires that `limit` is at most `MAX_INPUT`
-/// (1,073,741,824). All inputs are read, in order, before the first byte is written. Where one is
-/// refused, its number and fault are reported, no further one is read, and nothing is written. At
-/// `Memory` an allocation failed for the book, and nothing was written. At `Write` a prefix of the
-/// history was written.
+/// `APRSBOOK` is a book file, any other a log. One of more than `limit` bytes is refused. Requires
+/// that `limit` is at most `MAX_INPUT` (1,073,741,824). All inputs are read, in order, before the
+/// first byte is written. Where one is refused, its number and fault are reported, no further one
+/// is read, and nothing is written. At `Memory` an allocation failed for the book, and nothing was
+/// written. At `Write` a prefix of the history was written.
 pub fn history_run<R: Read, W: Write, A: Allocator + Copy>(
     alloc: A,
     limit: u64,

@@ -16,11 +16,12 @@ use std::alloc::Allocator;
 use std::io::{Read, Write};
 
 /// Writes the text of the book of this gap of all inputs' receptions. An input that begins with
-/// `APRSBOOK` is a book file, any other a log. Requires that `limit` is at most `MAX_INPUT`
-/// (1,073,741,824). All inputs are read, in order, before the first byte is written. Where one is
-/// refused, its number and fault are reported, no further one is read, and nothing is written. At
-/// `Write` a prefix of the text was written. Never returns `RunFault::Memory`: an allocation that
-/// failed is a fault of an input.
+/// `APRSBOOK` is a book file, any other a log. One of more than `limit` bytes is refused. Requires
+/// that `limit` is at most `MAX_INPUT` (1,073,741,824). All inputs are read, in order, before the
+/// first byte is written. Where one is refused, its number and fault are reported, no further one
+/// is read, and nothing is written. At `Write` a prefix of the text was written. Never returns
+/// `RunFault::Memory`: an allocation that failed is a fault of an input, of the last one where it
+/// was for the book of all.
 pub fn merge_run<R: Read, W: Write, A: Allocator + Copy>(
     alloc: A,
     limit: u64,
@@ -60,6 +61,7 @@ pub fn merge_run<R: Read, W: Write, A: Allocator + Copy>(
 
 /// The run's fault where an allocation failed for the book of this many inputs, after all of them
 /// were read: `Memory` of the last input, whose number is one less, since they count from 0.
+/// Without inputs the number is 0.
 pub(crate) fn fault_of_last(inputs: usize) -> RunFault
     ensures { result ≡ RunFault.Input (inputs - 1) InputFault.Memory }
 {
@@ -71,7 +73,7 @@ pub(crate) fn fault_of_last(inputs: usize) -> RunFault
 
 /// Gathers all inputs' receptions for a book of this gap, or returns the number, from 0, and the
 /// fault of the first input that is refused. The inputs after that one aren't read. At most `limit`
-/// bytes are read of each.
+/// bytes are read of each, and one more at `TooLong`.
 pub(crate) fn read_all<R: Read, A: Allocator + Copy>(
     alloc: A,
     limit: u64,

@@ -13,10 +13,11 @@ use std::alloc::Allocator;
 use std::io::{Read, Write};
 
 /// Writes what a form gives for each line of a log, or for each frame of a KISS stream where the
-/// form is a capture. Requires that `limit` is at most `MAX_INPUT` (1,073,741,824). At a fault of
-/// the log or stream the text of all before it has been written; at `Write` a prefix of the text
-/// was written. A fault of the log or stream is returned as that of input 0, a stream's with line
-/// 0, and no other error comes. Takes no memory: it asks nothing of `alloc`.
+/// form is a capture. More than `limit` bytes are a fault. Requires that `limit` is at most
+/// `MAX_INPUT` (1,073,741,824). At a fault of the log or stream the text of all before it has been
+/// written; at `Write` a prefix of the text was written. A fault of the log or stream is returned
+/// as that of input 0, a stream's with line 0, and no other error comes. Takes no memory: it asks
+/// nothing of `alloc`.
 pub fn convert_run<R: Read, W: Write, A: Allocator + Copy>(
     alloc: A,
     limit: u64,
@@ -32,11 +33,11 @@ pub fn convert_run<R: Read, W: Write, A: Allocator + Copy>(
 }
 
 /// For each line of a log in which no frame was heard, writes a line with its number and the
-/// reason; at the end, how many lines were heard and how many passed over. Requires that `limit` is
-/// at most `MAX_INPUT` (1,073,741,824). At a fault of the log all lines before it have been
-/// reported, and there are no totals; at `Write` a prefix of the text was written. A fault of the
-/// log is returned as that of input 0, and no other error comes. Takes no memory: it asks nothing
-/// of `alloc`.
+/// reason; at the end, how many lines were heard and how many passed over. More than `limit` bytes
+/// are a fault. Requires that `limit` is at most `MAX_INPUT` (1,073,741,824). At a fault of the log
+/// all lines before it have been reported, and there are no totals; at `Write` a prefix of the text
+/// was written. A fault of the log is returned as that of input 0, and no other error comes. Takes
+/// no memory: it asks nothing of `alloc`.
 pub fn check_run<R: Read, W: Write, A: Allocator + Copy>(
     alloc: A,
     limit: u64,

@@ -15,11 +15,12 @@ use std::io::{Read, Write};
 
 /// Writes the listing of all inputs' receptions: the stations, objects, items and messages that
 /// were heard, and what is last known of them, in the book of this gap. An input that begins with
-/// `APRSBOOK` is a book file, any other a log. Requires that `limit` is at most `MAX_INPUT`
-/// (1,073,741,824). All inputs are read, in order, and the lists are made, before the first byte is
-/// written. Where an input is refused, its number and fault are reported, no further one is read,
-/// and nothing is written. At `Memory` an allocation failed for the book or its lists, and nothing
-/// was written. At `Write` a prefix of the listing was written.
+/// `APRSBOOK` is a book file, any other a log. One of more than `limit` bytes is refused. Requires
+/// that `limit` is at most `MAX_INPUT` (1,073,741,824). All inputs are read, in order, and the
+/// lists are made, before the first byte is written. Where an input is refused, its number and
+/// fault are reported, no further one is read, and nothing is written. At `Memory` an allocation
+/// failed for the book or its lists, and nothing was written. At `Write` a prefix of the listing
+/// was written.
 pub fn show_run<R: Read, W: Write, A: Allocator + Copy>(
     alloc: A,
     limit: u64,

@@ -18,10 +18,11 @@ use std::io::{Read, Write};
 /// and its lines. The table of the rows has a line for each row of the book, in the book's order,
 /// which says what its frame tells. The others have one for each message, station, object or item,
 /// in the order of the listing. An input that begins with `APRSBOOK` is a book file, any other
-/// a log. Requires that `limit` is at most `MAX_INPUT` (1,073,741,824). All inputs are read, in
-/// order, before the first byte is written. Where one is refused, its number and fault are
-/// reported, no further one is read, and nothing is written. At `Memory` an allocation failed for
-/// the book or its lists, and nothing was written. At `Write` a prefix of the table was written.
+/// a log. One of more than `limit` bytes is refused. Requires that `limit` is at most `MAX_INPUT`
+/// (1,073,741,824). All inputs are read, in order, before the first byte is written. Where one is
+/// refused, its number and fault are reported, no further one is read, and nothing is written. At
+/// `Memory` an allocation failed for the book or its lists, and nothing was written. At `Write` a
+/// prefix of the table was written.
 pub fn table_run<R: Read, W: Write, A: Allocator + Copy>(
     alloc: A,
     limit: u64,

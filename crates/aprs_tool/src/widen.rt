@@ -17,11 +17,12 @@ use std::alloc::Allocator;
 use std::io::{Read, Write};
 
 /// Writes the text of an input's book, widened to this gap. An input that begins with `APRSBOOK` is
-/// a book file, any other a log. A faultless book file of a greater gap is refused as `Narrower`.
-/// Requires that `limit` is at most `MAX_INPUT` (1,073,741,824). All of the input is read, and its
-/// rows are joined, before the first byte is written. Where the input is refused, its fault is
-/// returned as that of input 0, and nothing is written. At `Memory` an allocation failed for the
-/// widened book, and nothing was written. At `Write` a prefix of the text was written.
+/// a book file, any other a log. One of more than `limit` bytes is refused, and a faultless book
+/// file of a greater gap as `Narrower`. Requires that `limit` is at most `MAX_INPUT`
+/// (1,073,741,824). All of the input is read, and its rows are joined, before the first byte is
+/// written. Where the input is refused, its fault is returned as that of input 0, and nothing is
+/// written. At `Memory` an allocation failed for the widened book, and nothing was written. At
+/// `Write` a prefix of the text was written.
 pub fn widen_run<R: Read, W: Write, A: Allocator + Copy>(
     alloc: A,
     limit: u64,

@@ -26,7 +26,8 @@ use Rattle.aprs_web.specs.Answer.{Outcome}
 abbrev pub AskForSeveral : ℕ → List ℕ → List ℕ → Type 0
 AskForSeveral seconds lengths inputs = IsGap seconds × (sum lengths ≡ length inputs)
 
--- The inputs, which lie one after the other and have these lengths.
+-- The inputs, which lie one after the other and have these lengths. One whose bytes aren't all
+-- there has those that are.
 abbrev pub input_texts : List ℕ → List ℕ → List (List ℕ)
 input_texts [] inputs = []
 input_texts (n ∷ ns) inputs = take n inputs ∷ input_texts ns (drop n inputs)

@@ -1,5 +1,7 @@
 //! What a host calls. Each function is given a region of memory for good. What a run writes goes
-//! into `output`, and the name of an input's fault into `name`, each if it fits.
+//! into `output`, and the name of an input's fault into `name`, each if it fits. An input of more
+//! than 1,073,741,824 bytes is at fault. Where memory for the output is refused (status 3), a
+//! prefix of the text is put there.
 ghost use Rattle.std.specs.Prelude.{◌≡◌, ℕ, None, Some, IfNone, IfSome};
 ghost use Rattle.aprs_command.specs.Arguments.{named_table};
 ghost use Rattle.aprs_command.specs.declared.jobs.Table.{Table};
@@ -82,8 +84,8 @@ pub extern "C" fn aprs_kiss(
     converted(region, Form::Kiss, input, output, name)
 }
 
-/// Writes the log `input` as a log again, in its one spelling. At a fault of the log all before it
-/// is written.
+/// Writes the log `input` as a log again, in its one spelling. Lines that are passed over give
+/// nothing. At a fault of the log all before it is written.
 #[unsafe(no_mangle)]
 pub extern "C" fn aprs_log(
     region: Region,

@@ -124,7 +124,7 @@ pub(crate) fn widen<A: Allocator + Copy>(
 }
 
 /// A text that is to come of these inputs. It has room for twice as many bytes as they have, where
-/// there is memory for that, so that it doesn't move when it grows.
+/// there is memory for that, so that it doesn't move up to there.
 fn text_for<A: Allocator + Copy>(alloc: A, inputs: &[u8]) -> Vec<u8, A>
     ensures { result.items ≡ [] }
 {
