@@ -6,8 +6,10 @@ usage: tests/arguments.py PROGRAM
 No input is dropped, opened under another's name, or taken out of order; `-` is a path; a path that
 is given twice is opened twice; options may stand between inputs; help and the version end with 0;
 what was written before a fault goes out; and memory that is refused is never `cannot open`. What is
-expected is worked out here from the formats. aprsbook-history and aprsbook-table are tried too,
-where they lie beside the program or in the crates beside its own. Needs Python 3.9.
+expected is worked out here from the formats. aprsbook-history, aprsbook-table and aprsbook-fold are
+tried too, where they lie beside the program or in the crates beside its own. The fold gets a book
+of each input, also where it has a range or only checks, and writes what `merge` does. Needs Python
+3.9.
 """
 import datetime
 import itertools
@@ -22,6 +24,10 @@ from typing import Callable, Dict, List, NoReturn, Optional, Sequence, Tuple
 MOST = 100
 # numbers of inputs at which something was once, or could be, cut off
 EDGES = (1, 2, 3, 4, 7, 8, 9, 10, 12, 13, 14, 16, 17, 32, 33, 63, 64, 65, 66, 99, 100)
+# the first and the last input whose transmissions a fold writes, in each of its ranges
+RANGES = ((1, MOST), (2, MOST), (1, MOST - 1), (34, 67))
+# all inputs of the fold have a transmission of this station; it is within each range
+SHARED = 50
 
 
 def fail(said: str) -> NoReturn:
@@ -37,10 +43,10 @@ def address(call: str, bits: int) -> bytes:
     return bytes(ord(letter) << 1 for letter in call.ljust(6)) + bytes([bits])
 
 
-def frame(n: int) -> str:
+def frame(n: int, text: str = "") -> str:
     """The frame of input n, in hexadecimal: a status of a station that no other input has."""
     head = address("APRS", 0xE0) + address(f"Q{n:03}", 0x61)
-    return (head + b"\x03\xf0" + f">Hi {n}".encode()).hex()
+    return (head + b"\x03\xf0" + f">{text or f'Hi {n}'}".encode()).hex()
 
 
 def moment(n: int) -> str:
@@ -58,6 +64,12 @@ def book(inputs: Sequence[int], gap: int = 30) -> str:
     """The book of these inputs."""
     rows = [f"T {moment(n)} {moment(n)} RX{n} RX{n} {frame(n)}\n" for n in sorted(inputs)]
     return f"APRSBOOK 3 {gap}\n" + "".join(rows) + f"END {len(rows)}\n"
+
+
+def faulty_book(n: int) -> str:
+    """A book within each range, whose last row is none. It has more rows with greater numbers."""
+    lines = book(range(40, 41 + n % 16)).splitlines(keepends=True)
+    return "".join(lines[:-2]) + "U" + lines[-2][1:] + lines[-1]
 
 
 def listing(inputs: Sequence[int]) -> str:
@@ -87,18 +99,54 @@ def columns(written: str) -> str:
 
 
 class Program:
-    """A program, the word that it has before its inputs, and what it writes of them."""
+    """A program, the words that it has before its inputs, what it writes of them, and what they
+    are: logs or books."""
 
     def __init__(
         self,
         path: pathlib.Path,
-        word: Sequence[str],
+        words: Sequence[str],
         name: str,
         writes: Callable[[Sequence[int]], str],
         seen: Callable[[str], str] = str,
+        kind: str = "log",
     ) -> None:
-        self.command: List[str] = [str(path), *word]
-        self.name, self.writes, self.seen = name, writes, seen
+        self.command: List[str] = [str(path), *words]
+        self.name, self.writes, self.seen, self.kind = name, writes, seen, kind
+
+    def path(self, n: int) -> str:
+        """The path of input n."""
+        return f"{n}.{self.kind}"
+
+    def text(self, n: int) -> str:
+        """The text of input n."""
+        return log(n) if self.kind == "log" else book([n])
+
+    def may_leave(self, written: str, inputs: Sequence[int]) -> bool:
+        """Whether a run over these inputs that failed may have written this: a fold writes its
+        first line and some rows, the others nothing."""
+        whole = self.writes(inputs)
+        return not written or self.kind == "book" and whole != written and whole.startswith(written)
+
+
+def folds(path: pathlib.Path) -> List[Program]:
+    """The fold of books, of each range of them, and the check."""
+
+    def within(first: int, last: int) -> Callable[[Sequence[int]], str]:
+        return lambda inputs: book([n for n in inputs if first <= n <= last])
+
+    name = "aprsbook-fold"
+    made = [
+        Program(path, bounds(first, last), name, within(first, last), kind="book")
+        for first, last in RANGES
+    ]
+    return made + [Program(path, ["--check"], name, lambda _: "", kind="book")]
+
+
+def bounds(first: int, last: int) -> List[str]:
+    """The options of a fold for the sources of these inputs and those between."""
+    words = ["--from", f"Q{first:03}"] if first > 1 else []
+    return words + (["--until", f"Q{last + 1:03}"] if last < MOST else [])
 
 
 # ---- runs
@@ -130,11 +178,11 @@ def expects(command: List[str], wanted: Tuple[int, str, str], given: bytes = b""
 
 def takes_all(it: Program) -> None:
     """Each number of inputs, in rising and in falling order, and none of the others."""
-    expects_seen(it, [], [], log(7).encode(), [7])
+    expects_seen(it, [], [], it.text(7).encode(), [7])
     for count in range(1, MOST + 1):
         some = [1 + (count + 37 * i) % MOST for i in range(count)]
-        expects_seen(it, [f"{n}.log" for n in some], some)
-        expects_seen(it, [f"{n}.log" for n in reversed(some)], some)
+        expects_seen(it, [it.path(n) for n in some], some)
+        expects_seen(it, [it.path(n) for n in reversed(some)], some)
 
 
 def expects_seen(
@@ -148,13 +196,23 @@ def expects_seen(
 
 
 def names_the_right_one(it: Program) -> None:
-    """At each place an input that isn't there, or is faulty, is named, and the first one of two."""
+    """At each place an input that isn't there, or is faulty, is named, and the first one of two. A
+    fold finds the first one of two where neither has a first row."""
     for count in EDGES:
-        paths = [f"{n}.log" for n in range(1, count + 1)]
+        paths = [it.path(n) for n in range(1, count + 1)]
         for place in [n for n in range(count) if n + 1 in EDGES or n + 1 == count]:
             words = paths[:place] + [f"no{place}.log"] + paths[place + 1 :]
             wanted = (1, "", f"{it.name}: no{place}.log: cannot open\n")
             expects(it.command + words, wanted)
+            if it.kind == "book":
+                refuses(it, paths, place, f"wide{place + 1}.book", "other gap")
+                said = f"line {2 + (place + 1) % 16}: RowSyntax"
+                refuses(it, paths, place, f"bad{place + 1}.book", said)
+                if place + 1 < count:
+                    paths[-1] = "bad16.book"
+                    refuses(it, paths, place, "bad32.book", "line 2: RowSyntax")
+                    paths[-1] = it.path(count)
+                continue
             words = paths[:place] + [f"bad{place + 1}.log"] + paths[place + 1 :]
             wanted = (1, "", f"{it.name}: bad{place + 1}.log: line {place + 2}: Hex\n")
             expects(it.command + words, wanted)
@@ -163,10 +221,22 @@ def names_the_right_one(it: Program) -> None:
                 expects(it.command + words, wanted)
 
 
+def refuses(it: Program, paths: Sequence[str], place: int, faulty: str, why: str) -> None:
+    """With a faulty book at this place a fold says why, and what it leaves is no book: some rows of
+    the other books, and of those before the row at fault."""
+    status, written, said = run(it.command + [*paths[:place], faulty, *paths[place + 1 :]])
+    before = range(40, 40 + (place + 1) % 16 if faulty.startswith("bad") else 40)
+    rows = {n for n in range(1, len(paths) + 1) if n != place + 1}.union(before)
+    wanted = (1, f"{it.name}: {faulty}: {why}\n")
+    if (status, said) != wanted or not it.may_leave(written, sorted(rows)):
+        shown = " ".join([it.name, *it.command[1:], faulty])
+        fail(f"{shown} at {place} of {len(paths)}: {status}, {said!r}, {written!r:.300}")
+
+
 def options_anywhere(it: Program) -> None:
     """`--gap` may stand before, between and behind the inputs, and is for all of them."""
     for place, count in itertools.product((0, 1, 5, 13), (13, 65)):
-        words = [f"{n}.log" for n in range(1, count + 1)]
+        words = [it.path(n) for n in range(1, count + 1)]
         expects_seen(it, words[:place] + ["--gap", "30"] + words[place:], range(1, count + 1))
         words[place:place] = ["--gap", "3601"]
         status, written, said = run(it.command + words)
@@ -179,24 +249,26 @@ def opens_twice(it: Program) -> None:
     for files in (8, 16, 40):
         limits = {resource.RLIMIT_NOFILE: files}
         most = 0
-        while run(it.command + [f"{n}.log" for n in range(1, most + 2)], limits=limits)[0] == 0:
+        one = it.path(1)
+        while run(it.command + [it.path(n) for n in range(1, most + 2)], limits=limits)[0] == 0:
             most += 1
-        wanted = (1, "", f"{it.name}: 1.log: cannot open\n")
-        again = run(it.command + ["1.log"] * (most + 1), limits=limits)
+        wanted = (1, "", f"{it.name}: {one}: cannot open\n")
+        again = run(it.command + [one] * (most + 1), limits=limits)
         if not 0 < most < files or again != wanted:
             fail(f"{it.name} with {files} files opens {most} inputs, and one path more often")
-        once = run(it.command + ["1.log"])
-        if run(it.command + ["1.log"] * most, limits=limits) != once or once[0] != 0:
+        once = run(it.command + [one])
+        if run(it.command + [one] * most, limits=limits) != once or once[0] != 0:
             fail(f"{it.name} doesn't open one path {most} times")
 
 
 def minus_is_a_path(it: Program) -> None:
     """`-` is read where such a file is, and else can't be opened, whatever standard input has."""
-    expects(it.command + ["-"], (1, "", f"{it.name}: -: cannot open\n"), log(2).encode())
-    expects(it.command + ["1.log", "-"], (1, "", f"{it.name}: -: cannot open\n"), log(2).encode())
-    pathlib.Path("-").write_text(log(3), encoding="utf8")
-    expects_seen(it, ["-"], [3], log(2).encode())
-    expects_seen(it, ["1.log", "-", "5.log"], [1, 3, 5], log(2).encode())
+    given, wanted = it.text(2).encode(), (1, "", f"{it.name}: -: cannot open\n")
+    expects(it.command + ["-"], wanted, given)
+    expects(it.command + [it.path(1), "-"], wanted, given)
+    pathlib.Path("-").write_text(it.text(63), encoding="utf8")
+    expects_seen(it, ["-"], [63], given)
+    expects_seen(it, [it.path(1), "-", it.path(65)], [1, 63, 65], given)
     pathlib.Path("-").unlink()
 
 
@@ -212,12 +284,13 @@ def tables_are_words(it: Program) -> None:
 
 def memory_is_named(it: Program) -> None:
     """With whatever memory a run ends well, or says that memory was refused, or doesn't begin."""
-    words = [f"{n}.log" for n in range(1, MOST + 1)] + ["large.log"]
+    words = [it.path(n) for n in range(1, MOST + 1)] + ["large.log"] * (it.kind == "log")
     statuses = set()
     for pages in range(64, 4096, 127):
         limits = {resource.RLIMIT_AS: pages * 4096}
         status, written, said = run(it.command + words, limits=limits)
-        if status == 4 and (written, said) != ("", f"{it.name}: out of memory\n"):
+        is_left = it.may_leave(written, range(1, MOST + 1))
+        if status == 4 and (not is_left or said != f"{it.name}: out of memory\n"):
             fail(f"{it.name} with {pages} pages: {written!r:.200} {said!r}")
         if status == 0 and it.seen(written) != it.writes(range(1, MOST + 1)):
             fail(f"{it.name} with {pages} pages writes something else")
@@ -226,6 +299,26 @@ def memory_is_named(it: Program) -> None:
         statuses.add(status)
     if not {0, 4} <= statuses:
         fail(f"{it.name} with little and more memory ends with {sorted(statuses)} alone")
+
+
+def folds_as_merges(path: str, fold: str) -> None:
+    """The fold of books that share a transmission is the merge of them; and that of a range the
+    merge of what its sources sent."""
+    shared = frame(SHARED, "Together")
+    heard: Dict[int, List[Tuple[int, str]]] = {}
+    for n in range(1, MOST + 1):
+        heard[n] = [(n, log(n)), (SHARED, f"{moment(n)} RX{n} c000{shared}c0\n")]
+        made = run([path, "merge"], "".join(line for _, line in heard[n]).encode())
+        pathlib.Path(f"both{n}.book").write_text(made[1], encoding="utf8")
+    for count, (first, last) in itertools.product(EDGES, RANGES):
+        inputs = range(1, count + 1)
+        books = [f"both{n}.book" for n in inputs]
+        sent = [line for n in inputs for by, line in heard[n] if first <= by <= last]
+        wanted = run([path, "merge"], "".join(sent).encode())
+        if (first, last) == (1, MOST):
+            expects([path, "merge", *books], wanted)
+        for words in (books, books[::-1], books + books[:9]):
+            expects([fold, *bounds(first, last), *words], wanted)
 
 
 # ---- the program's other commands
@@ -266,6 +359,11 @@ def help_ends_well(programs: Sequence[Program], path: str) -> None:
         status, written, said = run(command)
         if status != 0 or not written or said:
             fail(f"{' '.join(command)} ends with {status} and says '{said}'")
+    version = run([path, "--version"])[1].split()[-1]
+    for it, word in itertools.product(programs, ("--version", "-V")):
+        written = run([it.command[0], word])[1]
+        if written != f"{it.name} {version}\n":
+            fail(f"{it.name} {word} writes '{written}', and not the version {version}")
 
 
 def faults_flush(path: str) -> None:
@@ -305,9 +403,12 @@ def beside(path: pathlib.Path, name: str) -> Optional[pathlib.Path]:
 
 
 def write_inputs() -> None:
-    """The logs, those with a line at fault, each at another line, and a KISS stream."""
+    """The logs and books, those with a line at fault, each at another line, and a KISS stream."""
     for n in range(1, MOST + 1):
         pathlib.Path(f"{n}.log").write_text(log(n), encoding="utf8")
+        pathlib.Path(f"{n}.book").write_text(book([n]), encoding="utf8")
+        pathlib.Path(f"bad{n}.book").write_text(faulty_book(n), encoding="utf8")
+        pathlib.Path(f"wide{n}.book").write_text(book([n], 31), encoding="utf8")
     for n in [*range(1, MOST + 1), 200]:
         lines = log(n) * n + f"{moment(n)} RX{n} 0g\n"
         pathlib.Path(f"bad{n}.log").write_text(lines, encoding="utf8")
@@ -335,6 +436,11 @@ def main() -> None:
             print(f"left out: the arguments of {name} (it isn't there)")
         else:
             programs.append(Program(other, [], name, writes, seen))
+    fold = beside(path, "aprsbook-fold")
+    if fold is None:
+        print("left out: the arguments of aprsbook-fold (it isn't there)")
+    else:
+        programs += folds(fold)
     with tempfile.TemporaryDirectory() as scratch:
         os.chdir(scratch)
         write_inputs()
@@ -347,6 +453,8 @@ def main() -> None:
             memory_is_named(it)
             if it.name == "aprsbook-table":
                 tables_are_words(it)
+        if fold is not None:
+            folds_as_merges(str(path), str(fold))
         one_input(str(path))
         help_ends_well(programs, str(path))
         faults_flush(str(path))
