@@ -55,7 +55,8 @@ abbrev pub count_after : Bool → ℕ → ℕ
 count_after true count = count + 1
 count_after false count = count
 
--- The answer for a whole text as that of reading its book: this gap and these rows.
+-- The answer of reading a book, by that of reading its whole text. At `Ok` it is the book of this
+-- gap and these rows, and a fault stays.
 abbrev pub answer_read : Result (Unit {0}) BookFault → ℕ → List Row → Result BookValue BookFault
 answer_read (Ok u) gap rows = Ok (record { gap = gap; rows = rows })
 answer_read (Err fault) gap rows = Err fault

@@ -10,7 +10,8 @@ use Rattle.aprs_booktext.specs.RowReader.{row_lent, size_read, HasReadText, HasR
 use Rattle.aprs_booktext.specs.declared.fault.BookFault.{BookFault}
 use Rattle.aprs_booktext.specs.declared.row_stream.RowStream.{RowStream}
 
--- How many rows there were, and how many bytes were read and not judged or may still be read.
+-- How many rows there were, and how many bytes were read and not judged or may still be read,
+-- together.
 abbrev pub stream_size : {A : Type 0} → RowStream A → ℕ
 stream_size stream = size_read stream.reader + length (bytes_left stream.piece) + stream.left
 

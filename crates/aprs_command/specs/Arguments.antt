@@ -153,7 +153,7 @@ abbrev pub capture_of : Option (List ℕ) → Option ℕ → Option Form
 capture_of (Some r) (Some m) = Some (form.Capture r m)
 capture_of _ _ = None
 
--- A capture of the receiver and the moment that these texts name, if both are given and do.
+-- A capture of the receiver and the moment that these texts name, if both are given and name one.
 abbrev pub capture_form_of : Option Text → Option Text → Option Form
 capture_form_of r m = capture_of (option_and_then receiver_of r) (option_and_then moment_of m)
 

@@ -193,7 +193,7 @@ fn convert_command<'a>(
 }
 
 /// The command `check [INPUT]`. `AllocError` where an allocation failed. By the clause `globals`
-/// no argument of it is taken over by other commands.
+/// none of its arguments is global, so no other command takes it too.
 fn check_command<'a>(alloc: Global) -> Result<Command<'a>, AllocError>
     ensures app { IfOk result (λ c. app_of c ≡ Spec.check_app) }
     ensures globals { IfOk result (λ c. (out-Command c).has_globals ≡ false) }

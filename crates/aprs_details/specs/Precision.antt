@@ -61,7 +61,7 @@ precision_of comment = first_in precision_at comment
 -- ---- the finer position
 
 -- An angle of hundredths of a minute, counted in smaller parts: a hundredth has `parts` of them.
--- `more` of them are added, away from 0, and from 0 upwards.
+-- `more` of them are added away from 0, or upwards where the angle is 0.
 abbrev pub finer : (parts more : ℕ) → ℤ → ℤ
 finer parts more angle =
     if int_lt angle (pos 0)

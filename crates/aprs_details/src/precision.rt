@@ -100,7 +100,7 @@ fn precision_at(text: &[u8]) -> Option<Precision>
 }
 
 /// An angle of hundredths of a minute, counted in smaller parts: a hundredth has `parts` of them.
-/// `more` of them are added, away from 0, and from 0 upwards.
+/// `more` of them are added away from 0, or upwards where the angle is 0.
 fn finer(parts: u8, more: u8, angle: i32) -> i64
     requires few { parts < 92 }
     ensures exact { result ≡ Spec.finer parts more angle }

@@ -17,8 +17,8 @@ pub(crate) struct Tournament<A: Allocator> {
 }
 
 impl<A: Allocator + Copy> Tournament<A> {
-    /// The tournament of these streams, each match of which was played. Takes memory for their
-    /// number alone.
+    /// The tournament of these streams, with each match played. Takes memory for their number
+    /// alone.
     pub(crate) fn new(alloc: A, streams: &[RowStream<A>]) -> Result<Tournament<A>, Memory>
         ensures { IfOk result (λ own. Spec.IsPlayed streams.now own.winners.items) }
     {

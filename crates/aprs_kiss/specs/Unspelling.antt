@@ -11,7 +11,7 @@ bytes_after_escape [] = None
 bytes_after_escape (code ∷ more) =
     if code == 0xDC then Some (0xC0 ∷ more) else (if code == 0xDD then Some (0xDB ∷ more) else None)
 
--- The parts, one after another, if each stands for bytes.
+-- The bytes of the parts, one part after another. None where a part stands for no bytes.
 abbrev pub concat_all : List (Option (List ℕ)) → Option (List ℕ)
 concat_all [] = Some []
 concat_all (part ∷ parts) =

@@ -18,7 +18,8 @@ grow_row r s = record {
   greatest = greater r.greatest s;
 }
 
--- A row grown by s, and the rows after it, of which the first may be near to s too.
+-- A row r that was grown by s, and the rows after it. If the first of these is near to s too, it is
+-- combined with r.
 abbrev pub bridge_row : ℕ → Received → Row → List Row → List Row
 bridge_row gap s r [] = r ∷ []
 bridge_row gap s r (x ∷ xs) = choose (compare_near_to gap x s) (r ∷ x ∷ xs) (combine r x ∷ xs) (r ∷ x ∷ xs)

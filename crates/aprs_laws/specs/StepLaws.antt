@@ -14,7 +14,7 @@ use Rattle.aprs_laws.specs.JoinRow.{single, IsNear, join_row, merge, plain_book}
 abbrev pub PlainBookIsBook : ℕ → Type 0
 PlainBookIsBook gap = (S : List Received) → BookOf gap S (plain_book gap S)
 
--- A book that one more reception joins, as a row of its own, is the book of the set with it.
+-- A book of a set, after one more reception joined it, is the book of the set with that reception.
 abbrev pub TakesReception : ℕ → Type 0
 TakesReception gap =
     (S : List Received) (s : Received) (p : List Row) → BookOf gap S p

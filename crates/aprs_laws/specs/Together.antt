@@ -16,7 +16,7 @@ book_together gap rows = merge gap [] rows
 abbrev pub BookIsSound : ℕ → Type 0
 BookIsSound gap = (rows : List Row) → AreSoundRows rows → Sound gap (book_together gap rows)
 
--- In another order, or with repeats, such rows have the same book.
+-- In another order, or with repeats, rows that are each sound by itself have the same book.
 abbrev pub OrderIsFree : ℕ → Type 0
 OrderIsFree gap =
     (p q : List Row) → AreSoundRows p → SameMembers p q

@@ -17,7 +17,7 @@ heard_once destination info = example_row 0 (rx1 ∷ []) (reception_at 0 rx1 (fr
 abbrev pub reported_once : List ℕ → Row
 reported_once info = heard_once (codes "APRS  ") info
 
--- The line of such a row, of this kind, with this after the row's fields.
+-- The line of a row of `heard_once`, of this kind, with this after the row's fields.
 abbrev pub line_once : List ℕ → List ℕ → List ℕ
 line_once kind told = kind
     ++ codes " 1970-01-01T00:00:00.000Z 1970-01-01T00:00:00.000Z RX1 N0CALL-7 - " ++ told

@@ -89,8 +89,8 @@ fn no_position<'a>(transmissions: &'a [u8]) -> [Cell<'a>; 10]
     ]
 }
 
-/// How many transmissions a station has, and the position that was heard; nothing of it where that
-/// is another report.
+/// How many transmissions a station has, and the position that was heard. Where another report was
+/// heard, the fields of a position are empty.
 fn heard_position<'a>(transmissions: &'a [u8], heard: &Heard<'a>) -> [Cell<'a>; 10]
     ensures { map cell_text result ≡ transmissions.now ∷ Spec.heard_position heard.now }
 {

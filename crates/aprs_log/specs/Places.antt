@@ -23,7 +23,8 @@ near_civil text = record {
   second = nearest_pair text 17;
 }
 
--- The milliseconds whose digits are nearest to the bytes at their places.
+-- The milliseconds whose digits are nearest to the bytes at their places; 0 where the form has
+-- none.
 abbrev pub near_millis : MomentForm → List ℕ → ℕ
 near_millis Seconds text = 0
 near_millis Millis text = 100 * near_digit (slice_index text 20) + nearest_pair text 21

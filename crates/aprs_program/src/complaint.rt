@@ -149,8 +149,8 @@ fn put_line<W: Write>(
     put_two(out, b": ", cause)
 }
 
-/// What is complained of where the system answers this error for the program's arguments: an
-/// allocation failed; and at any other error that one of them isn't UTF-8. Takes no memory.
+/// What is complained of where the system answers this error for the program's arguments. That is
+/// `OutOfMemory` where an allocation failed, and `NotUtf8` at any other error. Takes no memory.
 pub(crate) fn complaint_of_arguments(error: &io::Error) -> Complaint<'static>
     ensures memory { error_kind error.now ≡ ErrorKind.OutOfMemory
         → result ≡ Complaint.OutOfMemory }

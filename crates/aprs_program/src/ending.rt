@@ -8,9 +8,9 @@ use aprs_tool::RunFault;
 /// What a complaint names where an input has no path.
 const STANDARD_INPUT: &str = "standard input";
 
-/// What is complained of after a run over inputs of these paths, none for standard input, where
-/// `flushed` says that the output took all: the run's own fault, with the name of the input at
-/// fault, or else the output's, or nothing. Takes no memory.
+/// What is complained of after a run over inputs of these paths, none for standard input. It is the
+/// run's own fault, with the name of the input at fault, or else the output's, or nothing. The
+/// output has a fault where `flushed` is `false`. Takes no memory.
 pub fn complaint_after<'t>(
     paths: &'t [String],
     outcome: &Result<(), RunFault>,

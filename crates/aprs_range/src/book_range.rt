@@ -36,7 +36,7 @@ pub struct BookRange<R> {
 }
 
 impl<R: ReadAt> BookRange<R> {
-    /// The rows of this range in a book file, which are found by bisection: some lines alone are
+    /// The rows of this range in a book file, which are found by bisection: only some lines are
     /// read. Returns the source as `Err` where it isn't found to be a book file, a read failed or
     /// memory was refused. It may do so too where a line that is read has 16 MiB or more. Faults of
     /// rows out of the range, and most faults of rows within it, aren't looked for. Takes memory

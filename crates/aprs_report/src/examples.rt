@@ -88,9 +88,9 @@ pub fn stamped_examples()
     ensures after_digits { Example (codes "@:92345z4903.50N/07201.75W>") raw }
 {}
 
-/// Examples of names: those of objects, items and addressees have spaces to `~`, and spaces at
-/// their end are no part of them. A name has one byte or more. `..ending` has this byte at the end
-/// of the name.
+/// Examples of names. Those of objects and addressees have spaces to `~`, and those of items have
+/// no `!` or `_` among these. Spaces at a name's end are no part of it. A name has one byte or
+/// more. `..ending` has this byte at the end of the name.
 pub fn name_examples()
     ensures object { Example (object_field 126) (object_ending 126) }
     ensures object_least { Example (object_field 33) (object_ending 33) }

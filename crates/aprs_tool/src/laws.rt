@@ -42,9 +42,9 @@ pub fn same_receptions_same_table()
     ensures { (t : Table) (gap : ℕ) → HaveOneTable t gap }
 {}
 
-/// The history of any set of receptions under any gap has, for each station with a position report
-/// in the set, a line of the greatest reception of these, and it says the place that the listing
-/// says of it. So it has of each object and each item, as reported by any station.
+/// The history of any set under any gap has a line of each station's greatest position report in
+/// the set. That line says the place that the listing says of the station. So it has of each object
+/// and each item, as reported by any station.
 pub fn histories_tell_places()
     ensures places { (gap : ℕ) → HistoriesTellPlaces gap }
     ensures objects { (gap : ℕ) → HistoriesTellObjects gap }

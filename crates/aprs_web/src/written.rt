@@ -74,7 +74,7 @@ pub(crate) fn show<A: Allocator + Copy>(
     (outcome, w.into_inner())
 }
 
-/// The history of the inputs, and what it wrote.
+/// How the run of the inputs' history ended, and what it wrote.
 pub(crate) fn history<A: Allocator + Copy>(
     alloc: A,
     gap: Gap,

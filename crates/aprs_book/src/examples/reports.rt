@@ -20,8 +20,8 @@ pub fn stations_report()
         ≡ false }
 {}
 
-/// An object is found by its name, whoever reports it, live or killed, with spaces at the name's
-/// end or without. An item of its name is something else.
+/// A killed object is found by its name, and an item by its own, also with spaces at the name's
+/// end. An object is no item of its name, and an item no object.
 pub fn things_are_reported_by_name()
     ensures object { Spec.reports_object (codes "LEADER  ") (key_of (killed_at 0).frame) ≡ true }
     ensures item { Spec.reports_item (codes "LEADER  ") (key_of (item_at 0).frame) ≡ true }

@@ -78,10 +78,11 @@ fn item_field(bytes: &[u8]) -> Option<(&[u8], &[u8])>
     }
 }
 
-/// An item, from the bytes of an information field after its first, `)`: a name of three to nine
-/// bytes, `!` where it is live or `_` where it is killed, a position with its symbol, and a
-/// comment (APRS Protocol Reference 1.0.1, chapter 11). Spaces at the name's end count among the
-/// three to nine bytes, and are cut off. `None` where one of these but the comment can't be read.
+/// An item, from the bytes of an information field after its first, `)` (APRS Protocol Reference
+/// 1.0.1, chapter 11). It has a name of three to nine bytes, none of them `!` or `_`. After it come
+/// `!` where it is live or `_` where it is killed, a position with its symbol, and a comment.
+/// Spaces at the name's end count among the three to nine bytes, and are cut off. `None` where one
+/// of these but the comment can't be read.
 #[tactic(auto, unfolding(crate::specs::Reader::item_of))]
 pub fn item(bytes: &[u8]) -> Option<Report<'_>>
     ensures { option_map view result ≡ item_of bytes.now }

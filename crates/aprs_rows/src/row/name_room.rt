@@ -49,8 +49,7 @@ impl<'a, A: Allocator + Copy> NameRoom<'a, A> {
         Ok(NameRoom { names, text, room })
     }
 
-    /// How many bytes of the room are left, and those of the names that were gathered: at least
-    /// what is left.
+    /// How many bytes the whole room has, with those that names took: at least what is left.
     pub(crate) fn left(&self) -> usize
         ensures { self.now.left ≤ result }
     {
