@@ -59,6 +59,41 @@ function begunOf(good, gap) {
     early.all.every((it, k) => good.includes(it) && it.taken === early?.inputs[k]);
   return is && early ? early.got : {};
 }
+/** @param {Got} got */
+function orRefused(got) {
+  if (got.status) throw new Refused(got);
+  return got;
+}
+/**
+ * What a run gives that began early and well, or else one that is begun now.
+ * @param {Begun} begun @param {Command} command @param {Source[]} inputs @param {number} gap
+ * @param {Source[]} [lent]
+ */
+async function answerOf(begun, command, inputs, gap, lent) {
+  const before = await begun[command];
+  return before?.status === 0 ? before : orRefused(await run(command, gap, inputs, { lent }));
+}
+/**
+ * A book and its tables.
+ * @typedef {{ book: Uint8Array, rows: Got, messages: Got }} Tables
+ */
+/**
+ * The tables of a large book, one after the other, so that there is room for each; the book goes to
+ * and fro.
+ * @param {Uint8Array} book @param {number} gap @returns {Promise<Tables>}
+ */
+async function tablesApart(book, gap) {
+  const ofBook = async (/** @type {Command} */ command) => {
+    const got = orRefused(await run(command, gap, [book], { lent: [book], keeps: true }));
+    [book] = got.inputs || [book];
+    return got;
+  };
+  const rows = await ofBook("rows"), { said } = rows;
+  // most rows tell of no message, and needn't be read again
+  const some = said && await run("messages", gap, [said], { lent: [said] }).catch(() => null);
+  const messages = some?.status === 0 ? some : await ofBook("messages");
+  return { book, rows, messages };
+}
 /**
  * Book and tables of these files, also where they began early and well.
  * @param {Given[]} good
@@ -69,30 +104,15 @@ function begunOf(good, gap) {
 export async function textsOf(good, gap, tellShare) {
   const begun = begunOf(good, gap);
   early = null;
-  const answerOf = async (/** @type {Command} */ command, /** @type {Source[]} */ inputs,
-    /** @type {{ lent?: Source[], keeps?: boolean }} */ of = {}) => {
-    const before = await begun[command];
-    const got = before?.status === 0 ? before : await run(command, gap, inputs, of);
-    if (got.status) throw new Refused(got);
-    return got;
-  };
   const by = new Map(shifts), lent = good.flatMap(it => it.ready || []);
   const inputs = good.map(it => it.ready || it.taken || it.bytes);
   for (const it of good) it.ready = undefined;
-  let book = (await answerOf("merge", inputs, { lent })).bytes;
+  const { bytes } = await answerOf(begun, "merge", inputs, gap, lent);
   tellShare(0.6);
-  if (book.length <= limits.alone) {
-    const [rows, messages] =
-      await Promise.all([answerOf("rows", [book]), answerOf("messages", [book])]);
-    return { book, rows: rows.bytes, read: rows.read || null, messages: messages.bytes,
-      shifts: by };
-  }
-  // of a large book one after the other, so that there is room for each; the book goes to and fro
-  const ofBook = async (/** @type {Command} */ command) => {
-    const got = await answerOf(command, [book], { lent: [book], keeps: true });
-    [book] = got.inputs || [book];
-    return got;
-  };
-  const rows = await ofBook("rows"), messages = await ofBook("messages");
-  return { book, rows: rows.bytes, read: rows.read || null, messages: messages.bytes, shifts: by };
+  const made = (/** @type {Tables} */ { book, rows, messages }) => ({ book, rows: rows.bytes,
+    read: rows.read || null, messages: messages.bytes, shifts: by });
+  if (bytes.length > limits.alone) return made(await tablesApart(bytes, gap));
+  const [rows, messages] = await Promise.all([answerOf(begun, "rows", [bytes], gap),
+    answerOf(begun, "messages", [bytes], gap)]);
+  return made({ book: bytes, rows, messages });
 }
