@@ -2,7 +2,9 @@
 // The runs that make a book and its tables of files, which begin before the files are checked.
 
 import { placeOf, shifts } from "./intake.js";
+import { merged } from "./merging.js";
 import { limits, sizeOfAll } from "./sources.js";
+import { warmUp } from "./warming.js";
 import { run } from "./workers.js";
 
 /** @typedef {import("./intake.js").Given} Given */
@@ -34,14 +36,17 @@ let early = null;
 /**
  * Begins with files that aren't checked yet. Files have the same table as their book, so it need
  * not wait for the book; but each run holds all files, so only where they are small. Where clocks
- * are put right, logs are moved once they are checked.
+ * are put right, logs are moved once they are checked. Before large files it is waited until their
+ * runs will be fast.
  * @param {Given[]} all
  * @param {number} gap
  */
-export function beginEarly(all, gap) {
+export async function beginEarly(all, gap) {
   const inputs = all.map(it => it.taken || it.bytes);
   early = null;
-  if (shifts.size || sizeOfAll(inputs) > limits.alone) return;
+  if (sizeOfAll(inputs) > limits.alone)
+    return warmUp(all.map(({ kind }, k) => ({ kind, source: inputs[k] })), gap);
+  if (shifts.size) return;
   const begin = (/** @type {Command} */ command, /** @type {Source[]} */ given) =>
     run(command, gap, given).catch(() => null);
   const rows = begin("rows", inputs), merge = begin("merge", inputs);
@@ -66,12 +71,11 @@ function orRefused(got) {
 }
 /**
  * What a run gives that began early and well, or else one that is begun now.
- * @param {Begun} begun @param {Command} command @param {Source[]} inputs @param {number} gap
- * @param {Source[]} [lent]
+ * @param {Promise<Got | null> | undefined} begun @param {() => Promise<Got>} begin
  */
-async function answerOf(begun, command, inputs, gap, lent) {
-  const before = await begun[command];
-  return before?.status === 0 ? before : orRefused(await run(command, gap, inputs, { lent }));
+async function answerOf(begun, begin) {
+  const before = await begun;
+  return before?.status === 0 ? before : orRefused(await begin());
 }
 /**
  * A book and its tables.
@@ -107,12 +111,14 @@ export async function textsOf(good, gap, tellShare) {
   const by = new Map(shifts), lent = good.flatMap(it => it.ready || []);
   const inputs = good.map(it => it.ready || it.taken || it.bytes);
   for (const it of good) it.ready = undefined;
-  const { bytes } = await answerOf(begun, "merge", inputs, gap, lent);
-  tellShare(0.6);
+  const tellMerged = (/** @type {number} */ share) => tellShare(0.3 + 0.3 * share);
+  const { bytes } = await answerOf(begun.merge, () => merged(inputs, gap, lent, tellMerged));
+  tellMerged(1);
   const made = (/** @type {Tables} */ { book, rows, messages }) => ({ book, rows: rows.bytes,
     read: rows.read || null, messages: messages.bytes, shifts: by });
   if (bytes.length > limits.alone) return made(await tablesApart(bytes, gap));
-  const [rows, messages] = await Promise.all([answerOf(begun, "rows", [bytes], gap),
-    answerOf(begun, "messages", [bytes], gap)]);
+  const [rows, messages] = await Promise.all([
+    answerOf(begun.rows, () => run("rows", gap, [bytes])),
+    answerOf(begun.messages, () => run("messages", gap, [bytes]))]);
   return made({ book: bytes, rows, messages });
 }

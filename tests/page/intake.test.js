@@ -1,6 +1,6 @@
 import assert from "node:assert/strict";
 import { test } from "node:test";
-import { bytesOf, line, saved, stand, textOf } from "./stand.js";
+import { answering, bytesOf, line, saved, textOf } from "./stand.js";
 import { files, movedOf, shiftNotes } from "../../page/inputs.js";
 import { fileOf, look, shifts } from "../../page/intake.js";
 import { beginEarly, textsOf } from "../../page/runs.js";
@@ -16,13 +16,6 @@ async function looked(name, text) {
   return file;
 }
 const bookOf = async files => textOf((await textsOf(files, 30, () => {})).book);
-/** Calls `run` with other answers, or slow ones, of the workers. */
-async function answering(of, run) {
-  const before = { ...stand };
-  Object.assign(stand, of);
-  await run().finally(() => Object.assign(stand, before));
-}
-
 test("a log that comes after a clock was put right is moved in the book too", async t => {
   t.after(() => shifts.clear());
   shifts.set("COAST", -3600);
