@@ -18,10 +18,9 @@ async function headOf({ kind, source }) {
   return kind === "book" ? beginningOf(bytes) : bytes.subarray(0, bytes.lastIndexOf(10) + 1);
 }
 /**
- * Runs, over the beginnings of inputs, what will be run over all of them.
  * @param {{ kind: string, source: Source }[]} inputs @param {number} gap
  */
-async function warm(inputs, gap) {
+async function runOver(inputs, gap) {
   const heads = await Promise.all(inputs.slice(0, MANY).map(headOf));
   for (let k = 0; k < TIMES; k++) {
     await Promise.all(heads.map((it, n) => inputs[n].kind !== "book" && run("check", gap, [it])));
@@ -31,7 +30,13 @@ async function warm(inputs, gap) {
   }
 }
 /**
- * Makes runs over these inputs fast, once. What goes wrong is said where they are read.
+ * Runs, over the beginnings of inputs, what will be run over all of them. What goes wrong is said
+ * where they are read.
  * @param {{ kind: string, source: Source }[]} inputs @param {number} gap
  */
-export const warmUp = (inputs, gap) => warmed ||= warm(inputs, gap).catch(() => {});
+export const warm = (inputs, gap) => runOver(inputs, gap).catch(() => {});
+/**
+ * The same, once.
+ * @param {{ kind: string, source: Source }[]} inputs @param {number} gap
+ */
+export const warmUp = (inputs, gap) => warmed ||= warm(inputs, gap);
