@@ -51,11 +51,9 @@ export class Thing {
     this.label = said(this.name) || "(no name)";
     this.colour = colourOf(key);
     this.first = Infinity;
-    this.last = -Infinity;
-    /** @type {string[]} */
-    this.by = [];
     this.sent = 0;
     // numbers of rows, -1 for none
+    this.lastHeard = -1;
     this.lastStatus = -1;
     this.lastPlace = -1;
     this.lastSays = -1;
@@ -76,20 +74,19 @@ export class Thing {
     const { rows } = this;
     this.sent++;
     this.first = Math.min(this.first, rows.first[k]);
-    if (rows.last[k] >= this.last) {
-      this.last = rows.last[k];
-      this.by = rows.lists[rows.heard[k]];
-    }
+    this.lastHeard = rows.later(this.lastHeard, k);
+  }
+  get last() {
+    return this.lastHeard < 0 ? -Infinity : this.rows.last[this.lastHeard];
+  }
+  /** Who heard it last. */
+  get by() {
+    return this.lastHeard < 0 ? [] : this.rows.lists[this.rows.heard[this.lastHeard]];
   }
   /**
-   * The later one of two rows, the second where both are as late.
-   * @param {number} a
-   * @param {number} b
+   * Takes the next one of its places in order.
+   * @param {number} k
    */
-  later(a, b) {
-    return a >= 0 && this.rows.last[a] > this.rows.last[b] ? a : b;
-  }
-  /** @param {number} k */
   put(k) {
     const { rows, lastPlace } = this, { last } = rows;
     this.placedBy.push(k);
@@ -154,29 +151,31 @@ const byKindAndName = (/** @type {Thing} */ a, /** @type {Thing} */ b) =>
  * @param {number} k
  */
 function note(station, rows, k) {
-  if (rows.is(k, "status")) station.lastStatus = station.later(station.lastStatus, k);
-  else if (rows.is(k, "weather")) station.lastWeather = station.later(station.lastWeather, k);
-  else if (rows.is(k, "telemetry")) station.lastTelemetry = station.later(station.lastTelemetry, k);
-  else if (rows.is(k, "mic-e")) station.lastSays = station.later(station.lastSays, k);
-  if (rows.urgent[k]) station.lastUrgent = station.later(station.lastUrgent, k);
+  if (rows.is(k, "status")) station.lastStatus = rows.later(station.lastStatus, k);
+  else if (rows.is(k, "weather")) station.lastWeather = rows.later(station.lastWeather, k);
+  else if (rows.is(k, "telemetry")) station.lastTelemetry = rows.later(station.lastTelemetry, k);
+  else if (rows.is(k, "mic-e")) station.lastSays = rows.later(station.lastSays, k);
+  if (rows.urgent[k]) station.lastUrgent = rows.later(station.lastUrgent, k);
 }
 /**
- * Stations, then objects, then items, each kind by name, with their places in order.
- * @param {Rows} rows @param {Picks} picks @returns {Generator<unknown, Thing[]>}
+ * Stations, then objects, then items, each kind by name, with their places in order. `picks` are
+ * the rows since that moment in their order. What lies apart is slow, so only places come so.
+ * @param {Rows} rows @param {number} since @param {Picks} picks
+ * @returns {Generator<unknown, Thing[]>}
  */
-function* thingsOf(rows, picks) {
+function* thingsOf(rows, since, picks) {
   /** @type {Thing[]} */
   const things = [];
   const thing = (/** @type {number} */ n) => things[n] ||= new Thing(rows, rows.things[n]);
-  yield* each(picks, k => {
+  yield* eachSince(rows, since, k => {
     const station = thing(rows.station[k]);
     station.hear(k);
     note(station, rows, k);
     const it = thing(rows.thing[k]);
     if (rows.isUnfixed(k)) it.unfixed++;
     if (it !== station) it.hear(k);
-    if (rows.hasPlace(k)) it.put(k);
   });
+  yield* each(picks, k => { if (rows.hasPlace(k)) things[rows.thing[k]].put(k); });
   return things.filter(Boolean).sort(byKindAndName);
 }
 
@@ -285,7 +284,7 @@ export function* netOf(all, since, gap) {
   // they stand by their first moment, and the last of all is one of them
   const begin = some ? rows.first[picks[0]] : Infinity, end = some ? rows.until : -Infinity;
   const messages = all.messages.filter(it => it.last >= since);
-  const things = yield* thingsOf(rows, picks);
+  const things = yield* thingsOf(rows, since, picks);
   const placed = things.filter(it => it.lastPlace >= 0);
   for (const it of placed) yield it.track; // it is kept
   let others = 0;

@@ -101,6 +101,15 @@ export class Rows {
     return picks.slice(0, n);
   }
   /**
+   * The later one of two rows, by their last moments; of equal ones the one that stands behind the
+   * other in `order`. A number below 0 is no row.
+   * @param {number} a @param {number} b
+   */
+  later(a, b) {
+    const { first, last } = this;
+    return a >= 0 && (last[a] - last[b] || first[a] - first[b] || a - b) > 0 ? a : b;
+  }
+  /**
    * Whether a row has a place. At 0, 0 is no fix.
    * @param {number} k
    */

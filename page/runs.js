@@ -2,7 +2,9 @@
 // The runs that make a book and its tables of files, which begin before the files are checked.
 
 import { placeOf, shifts } from "./intake.js";
+import { merged } from "./merging.js";
 import { limits, sizeOfAll } from "./sources.js";
+import { warmUp } from "./warming.js";
 import { run } from "./workers.js";
 
 /** @typedef {import("./intake.js").Given} Given */
@@ -34,14 +36,17 @@ let early = null;
 /**
  * Begins with files that aren't checked yet. Files have the same table as their book, so it need
  * not wait for the book; but each run holds all files, so only where they are small. Where clocks
- * are put right, logs are moved once they are checked.
+ * are put right, logs are moved once they are checked. Before large files it is waited until their
+ * runs will be fast.
  * @param {Given[]} all
  * @param {number} gap
  */
-export function beginEarly(all, gap) {
+export async function beginEarly(all, gap) {
   const inputs = all.map(it => it.taken || it.bytes);
   early = null;
-  if (shifts.size || sizeOfAll(inputs) > limits.alone) return;
+  if (sizeOfAll(inputs) > limits.alone)
+    return warmUp(all.map(({ kind }, k) => ({ kind, source: inputs[k] })), gap);
+  if (shifts.size) return;
   const begin = (/** @type {Command} */ command, /** @type {Source[]} */ given) =>
     run(command, gap, given).catch(() => null);
   const rows = begin("rows", inputs), merge = begin("merge", inputs);
@@ -59,6 +64,40 @@ function begunOf(good, gap) {
     early.all.every((it, k) => good.includes(it) && it.taken === early?.inputs[k]);
   return is && early ? early.got : {};
 }
+/** @param {Got} got */
+function orRefused(got) {
+  if (got.status) throw new Refused(got);
+  return got;
+}
+/**
+ * What a run gives that began early and well, or else one that is begun now.
+ * @param {Promise<Got | null> | undefined} begun @param {() => Promise<Got>} begin
+ */
+async function answerOf(begun, begin) {
+  const before = await begun;
+  return before?.status === 0 ? before : orRefused(await begin());
+}
+/**
+ * A book and its tables.
+ * @typedef {{ book: Uint8Array, rows: Got, messages: Got }} Tables
+ */
+/**
+ * The tables of a large book, one after the other, so that there is room for each; the book goes to
+ * and fro.
+ * @param {Uint8Array} book @param {number} gap @returns {Promise<Tables>}
+ */
+async function tablesApart(book, gap) {
+  const ofBook = async (/** @type {Command} */ command) => {
+    const got = orRefused(await run(command, gap, [book], { lent: [book], keeps: true }));
+    [book] = got.inputs || [book];
+    return got;
+  };
+  const rows = await ofBook("rows"), { said } = rows;
+  // most rows tell of no message, and needn't be read again
+  const some = said && await run("messages", gap, [said], { lent: [said] }).catch(() => null);
+  const messages = some?.status === 0 ? some : await ofBook("messages");
+  return { book, rows, messages };
+}
 /**
  * Book and tables of these files, also where they began early and well.
  * @param {Given[]} good
@@ -69,30 +108,17 @@ function begunOf(good, gap) {
 export async function textsOf(good, gap, tellShare) {
   const begun = begunOf(good, gap);
   early = null;
-  const answerOf = async (/** @type {Command} */ command, /** @type {Source[]} */ inputs,
-    /** @type {{ lent?: Source[], keeps?: boolean }} */ of = {}) => {
-    const before = await begun[command];
-    const got = before?.status === 0 ? before : await run(command, gap, inputs, of);
-    if (got.status) throw new Refused(got);
-    return got;
-  };
   const by = new Map(shifts), lent = good.flatMap(it => it.ready || []);
   const inputs = good.map(it => it.ready || it.taken || it.bytes);
   for (const it of good) it.ready = undefined;
-  let book = (await answerOf("merge", inputs, { lent })).bytes;
-  tellShare(0.6);
-  if (book.length <= limits.alone) {
-    const [rows, messages] =
-      await Promise.all([answerOf("rows", [book]), answerOf("messages", [book])]);
-    return { book, rows: rows.bytes, read: rows.read || null, messages: messages.bytes,
-      shifts: by };
-  }
-  // of a large book one after the other, so that there is room for each; the book goes to and fro
-  const ofBook = async (/** @type {Command} */ command) => {
-    const got = await answerOf(command, [book], { lent: [book], keeps: true });
-    [book] = got.inputs || [book];
-    return got;
-  };
-  const rows = await ofBook("rows"), messages = await ofBook("messages");
-  return { book, rows: rows.bytes, read: rows.read || null, messages: messages.bytes, shifts: by };
+  const tellMerged = (/** @type {number} */ share) => tellShare(0.3 + 0.3 * share);
+  const { bytes } = await answerOf(begun.merge, () => merged(inputs, gap, lent, tellMerged));
+  tellMerged(1);
+  const made = (/** @type {Tables} */ { book, rows, messages }) => ({ book, rows: rows.bytes,
+    read: rows.read || null, messages: messages.bytes, shifts: by });
+  if (bytes.length > limits.alone) return made(await tablesApart(bytes, gap));
+  const [rows, messages] = await Promise.all([
+    answerOf(begun.rows, () => run("rows", gap, [bytes])),
+    answerOf(begun.messages, () => run("messages", gap, [bytes]))]);
+  return made({ book: bytes, rows, messages });
 }

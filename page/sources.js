@@ -4,9 +4,10 @@
 /** @typedef {Uint8Array | Blob} Source */
 /**
  * A file of more bytes than `kept` isn't kept in memory, and after a run over more than `alone` a
- * worker is replaced; what is read so has no other run beside it.
+ * worker is replaced; what is read so has no other run beside it. More than `together` are merged
+ * part by part.
  */
-export const limits = { kept: 2 ** 26, alone: 2 ** 26 };
+export const limits = { kept: 2 ** 26, alone: 2 ** 26, together: 2 ** 29 };
 export const GONE = "can't be read any more: it has changed, or is gone";
 
 /** @param {Source} source */

@@ -2,6 +2,7 @@
 // What a worker of the page does: it runs the module and reads rows into columns, so that the page
 // doesn't stand still.
 
+import { saidIn } from "./bookparts.js";
 import { FUNCTIONS, run } from "./host.js";
 import { columnsOf } from "./reading.js";
 import { bytesIn, GONE } from "./sources.js";
@@ -52,6 +53,8 @@ async function answer(module, { command, options, inputs, keeps }) {
   if (command === "rows" && !got.status) {
     got.read = atOnce(columnsOf(got.bytes));
     buffers.push(...Object.values(got.read.columns).map(it => it.buffer));
+    got.said = keeps && saidIn(all[0], got.read.columns) || undefined;
+    if (got.said) buffers.push(got.said.buffer);
   }
   return [got, buffers];
 }

@@ -6,9 +6,10 @@ import { limits, sizeOf, sizeOfAll } from "./sources.js";
 /** @typedef {import("./sources.js").Source} Source */
 /**
  * What a run gives: its status, which input and line it refused and why, and what it wrote; of
- * the rows of a table their columns too. `inputs` are the bytes of what was lent, or of files.
+ * the rows of a table their columns too. `inputs` are the bytes of what was lent, or of files, and
+ * `said` is the book of what tells of messages in a book that is kept.
  * @typedef {import("./host.js").Run & { read?: import("./reading.js").Read,
- *   inputs?: Uint8Array[] }} Got
+ *   inputs?: Uint8Array[], said?: Uint8Array }} Got
  */
 /**
  * A run that is asked for: a command of the program, or `rows` or `messages`, which gives a table.

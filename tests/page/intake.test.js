@@ -1,9 +1,10 @@
 import assert from "node:assert/strict";
 import { test } from "node:test";
-import { bytesOf, line, saved, stand, textOf } from "./stand.js";
+import { answering, bytesOf, line, saved, textOf } from "./stand.js";
 import { files, movedOf, shiftNotes } from "../../page/inputs.js";
 import { fileOf, look, shifts } from "../../page/intake.js";
 import { beginEarly, textsOf } from "../../page/runs.js";
+import { limits } from "../../page/sources.js";
 import { beginWorkers, run } from "../../page/workers.js";
 
 await beginWorkers("", null, fault => assert.fail(fault));
@@ -15,13 +16,6 @@ async function looked(name, text) {
   return file;
 }
 const bookOf = async files => textOf((await textsOf(files, 30, () => {})).book);
-/** Calls `run` with other answers, or slow ones, of the workers. */
-async function answering(of, run) {
-  const before = { ...stand };
-  Object.assign(stand, of);
-  await run().finally(() => Object.assign(stand, before));
-}
-
 test("a log that comes after a clock was put right is moved in the book too", async t => {
   t.after(() => shifts.clear());
   shifts.set("COAST", -3600);
@@ -66,6 +60,33 @@ test("what began early is the book where files are what they were", async () => 
     assert.match(await bookOf([file]), /T19:00/);
   });
   assert.deepEqual(asked.sort(), ["check", "merge", "messages", "rows"]);
+});
+test("the messages of a large book are those of its part that tells of them", async t => {
+  const { alone } = limits, said = bytesOf("said"), asked = [], good = [await looked("a.log",
+    line("18:00:00", "RX1") + line("18:30:00", "RX1"))];
+  t.after(() => Object.assign(limits, { alone }));
+  limits.alone = 9;
+  const messages = async ofSaid => {
+    asked.length = 0;
+    await answering({ answer: ({ command, inputs }) => {
+      asked.push([command, inputs[0].length]);
+      if (command === "rows")
+        return { status: 0, bytes: bytesOf("rows"), inputs, said: Uint8Array.from(said) };
+      return command === "messages" && inputs[0].length === said.length ? ofSaid : null;
+    } }, async () => {
+      const made = await textsOf(good, 30, () => {});
+      assert.match(textOf(made.book), /END 2\n$/);
+      assert.equal(asked[1][1], made.book.length);
+      asked.push(textOf(made.messages));
+    });
+    return asked.slice(2);
+  };
+  const { book, messages: all } = await textsOf(good, 30, () => {});
+  assert.deepEqual(await messages({ status: 0, bytes: bytesOf("some") }),
+    [["messages", said.length], "some"]);
+  // a run of them that is refused, or a worker that stops, is no reason to show none
+  assert.deepEqual(await messages({ status: 4, fault: "", bytes: bytesOf("") }),
+    [["messages", said.length], ["messages", book.length], textOf(all)]);
 });
 
 test("a large file with CR LF behind its beginning is spelled, and its damage found", async () => {

@@ -130,6 +130,21 @@ test("a clock is put right at one click and not twice, and of two by the one tha
   assert.deepEqual(waysFor({ name: "A", clock }, false, { shifted: () => 0, can }), []);
 });
 
+test("of rows that were heard last at one moment the one that began later decides", () => {
+  const heard = (source, from, text, receivers) =>
+    row("status", from, source, { text, receivers })
+      .replace(`${moment(from)}\tRX`, `${moment(9)}\tRX`);
+  const lines = [heard("Q1A", 5, "late", "RX1"), heard("Q1A", 2, "early", "RX2"),
+    heard("Q1B", 3, "one", "RX1"), heard("Q1B", 3, "other", "RX2"),
+    heard("Q1C", 0, "said", "RX1"), row("raw", 9, "Q1C", { receivers: "RX3" })];
+  const told = all => Object.fromEntries(netOfLines(all).things.map(it =>
+    [it.name, [it.status, it.by.join(), it.sent, it.last - it.first]]));
+  const { Q1A, Q1B, Q1C } = told(lines), turned = told([...lines].reverse());
+  assert.deepEqual([Q1A, Q1B, Q1C], [["late", "RX1", 2, 7], ["other", "RX2", 2, 6],
+    ["said", "RX3", 2, 9]]);
+  // what began at one moment too counts as it stands in the table
+  assert.deepEqual(turned, { Q1A, Q1B: ["one", "RX1", 2, 6], Q1C });
+});
 test("a net is the same in whatever order its table stands, also since a moment", () => {
   const lines = [];
   for (let k = 0; k < 7; k++)

@@ -4,8 +4,17 @@ import { bytesIn } from "../../page/sources.js";
 import * as words from "../../page/words.js";
 import { run } from "../net/stand_in.js";
 
-/** How many milliseconds a run takes, by its command, and what it gives where that is another. */
+/**
+ * How many milliseconds a run takes, by its command, and what it gives where that is another; where
+ * that has `stops`, the worker stops so.
+ */
 export const stand = { wait: command => 0, answer: given => null };
+/** Calls `run` with other answers, or slow ones, of the workers. */
+export async function answering(of, run) {
+  const before = { ...stand };
+  Object.assign(stand, of);
+  await run().finally(() => Object.assign(stand, before));
+}
 
 async function answerOf({ command, options, inputs: given, keeps }) {
   const inputs = await Promise.all(given.map(bytesIn));
@@ -17,7 +26,8 @@ class Worker {
   async postMessage([id, what, given]) {
     await new Promise(done => setTimeout(done, what === "run" ? stand.wait(given.command) : 0));
     const value = what === "load" ? true : stand.answer(given) || await answerOf(given);
-    this.onmessage({ data: [id, value, ""] });
+    if (value.stops) this.onerror({ message: value.stops });
+    else this.onmessage({ data: [id, value, ""] });
   }
   terminate() {}
 }
