@@ -8,6 +8,7 @@ import { listenToEdge } from "./edge.js";
 import { sift } from "./finding.js";
 import { pick } from "./picked.js";
 import { keepClock, play } from "./playing.js";
+import { reveal } from "./reveal.js";
 import { page } from "./state.js";
 import { runAllWaiting } from "./steps.js";
 
@@ -76,8 +77,7 @@ function listenToHead() {
     page.alarm.turn(byId("sound").checked);
   });
   on("news", "click", ({ target }) => {
-    const { key } = /** @type {HTMLElement} */ (target).dataset;
-    if (key && key !== page.picked) pick(key);
+    reveal(/** @type {HTMLElement} */ (target).dataset);
   });
   on("one-close", "click", () => pick(page.picked));
   on("lay", "click", () => page.grounds.lay());

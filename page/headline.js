@@ -40,14 +40,15 @@ export function drawLooked() {
  * @returns {HTMLElement[]}
  */
 function newsNodes() {
-  const { net, data } = page, now = presentOf(page);
-  const expected = expectedOf(page.roster.list, net.things);
+  const { net, data, all } = page, now = presentOf(page);
+  const expected = expectedOf(page.roster.list, net.whole.stations);
   const missing = expected.filter(it => now - it.last > view.silent).map(it => it.call);
-  const news = net.rows.length ? newsOf(net, { gap: data.gap, silent: data.silent,
+  const news = all.rows.length ? newsOf(net, { gap: data.gap, silent: data.silent,
     isSilent: view.isSilent, missing, expected: expected.length }) : [];
   const faults = faultWords(page.roster.faults).map(it => `roster, ${it}`);
-  return [...news.map(({ href, grade, text, pick: key }) => make("a", { href, className: grade,
-    textContent: text, data: key ? { key } : {} })),
+  return [...news.map(({ href, grade, text, pick: key, isEarlier }) => make("a", { href,
+    className: grade, textContent: text,
+    data: { ...key && { key }, ...isEarlier && { earlier: "yes" } } })),
   ...[...firstOf(data.notes), ...faults].map(text => make("span", { className: "bad", textContent: text }))];
 }
 /** What wants doing, as links; what says the same stays, and keeps the focus. */
@@ -57,7 +58,7 @@ export function drawNews() {
     list.map(it => it.className + it.textContent).join("\n");
   if (words(nodes) !== words([...byId("news").children]))
     byId("news").replaceChildren(...nodes.flatMap(it => [it, " "]));
-  const needs = needsOf(page.net.things).filter(it => it.grade === "alarm" || it.grade === "bad");
+  const needs = needsOf(page.net.whole.needy).filter(it => it.grade === "alarm" || it.grade === "bad");
   const fresh = page.alarm.hear(needs).map(it => it.text);
   if (fresh.length) byId("needs").textContent = firstOf(fresh).join("; ");
 }

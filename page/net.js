@@ -16,11 +16,17 @@ import { byLetters, said } from "./words.js";
 /** @typedef {ArrayLike<number>} Picks numbers of rows */
 /** @typedef {{ rows: Rows, messages: Message[], end: number }} All what was read of the tables */
 /**
+ * What stays in sight whatever part of the time is shown: when each station was last heard at all,
+ * who is in need, and all messages.
+ * @typedef {{ stations: Heard[], needy: Thing[], messages: Message[] }} Whole
+ */
+/** @typedef {{ key: string, kind: string, name: string, last: number }} Heard */
+/**
  * A net since a moment: the numbers of its rows, when the first and the last was heard, and what
  * they tell of; `others` are rows of a kind that the page doesn't know.
  * @typedef {{ rows: Picks, since: number, begin: number, end: number, things: Thing[],
  *   placed: Thing[], others: number, messages: Message[], bulletins: Message[],
- *   receivers: Receiver[] }} Net
+ *   receivers: Receiver[], whole: Whole }} Net
  */
 /**
  * Who heard whom, who alone, who repeated whom, and how much each station sent.
@@ -276,6 +282,32 @@ function* receiversOf(rows, since, gap) {
 }
 
 /**
+ * When each station was last heard, and which of them were ever in need.
+ * @param {Rows} rows @returns {Generator<unknown, { stations: Heard[], urgent: Set<number> }>}
+ */
+function* lastOf(rows) {
+  const last = new Float64Array(rows.things.length).fill(-Infinity), urgent = new Set();
+  yield* eachSince(rows, -Infinity, k => {
+    const n = rows.station[k];
+    if (rows.last[k] > last[n]) last[n] = rows.last[k];
+    if (rows.urgent[k]) urgent.add(n);
+  });
+  const stations = rows.things.map((key, n) =>
+    ({ key, kind: kindIn(key), name: nameIn(key), last: last[n] }));
+  return { stations: stations.filter(it => it.last > -Infinity), urgent };
+}
+/**
+ * What wants doing of all the time, of which a part is shown. Of most stations it is enough when
+ * they were heard.
+ * @param {All} all @returns {Generator<unknown, Whole>}
+ */
+function* wholeOf({ rows, messages }) {
+  const { stations, urgent } = yield* lastOf(rows);
+  const picks = urgent.size ? rows.order.filter(k => urgent.has(rows.station[k])) : [];
+  const needy = (yield* thingsOf(rows, picks)).filter(it => it.lastUrgent >= 0);
+  return { stations, needy, messages: messages.filter(it => !isBulletin(it)) };
+}
+/**
  * All of the net that was heard since a moment, but who heard whom.
  * @param {All} all @param {number} since @param {number} gap
  * @returns {Generator<unknown, Net>}
@@ -290,7 +322,10 @@ export function* netOf(all, since, gap) {
   for (const it of placed) yield it.track; // it is kept
   let others = 0;
   yield* eachSince(rows, since, k => { if (rows.is(k, "other")) others++; });
-  return { rows: picks, since, begin, end, things, placed, others,
-    messages: messages.filter(it => !isBulletin(it)), bulletins: messages.filter(isBulletin),
+  const said = messages.filter(it => !isBulletin(it));
+  const whole = since > -Infinity ? yield* wholeOf(all) : { needy: things, messages: said,
+    stations: things.filter(it => it.kind === "station") };
+  return { rows: picks, since, begin, end, things, placed, others, messages: said,
+    bulletins: messages.filter(isBulletin), whole,
     receivers: yield* receiversOf(rows, since, gap) };
 }

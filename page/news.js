@@ -6,10 +6,12 @@ import { apartText, clockWords } from "./clockwords.js";
 import { count, timeText } from "./words.js";
 
 /** @typedef {import("./net.js").Thing} Thing */
+/** @typedef {import("./net.js").Heard} Heard */
 /**
- * A word of news: where it stands, or what it is about; how bad it is; what it says.
+ * A word of news: where it stands, or what it is about; how bad it is; what it says; whether some
+ * of it was heard before the time that is shown.
  * @typedef {{ href: string, grade: "alarm" | "bad" | "warn" | "good", text: string,
- *   pick?: string }} Word
+ *   pick?: string, isEarlier?: boolean }} Word
  */
 
 /** @typedef {Word & { id: string }} Need with what it is known by, however it is worded */
@@ -88,25 +90,38 @@ function missingText(missing, expected, silent) {
 }
 
 /**
- * All news of a net, what matters most first.
- * @param {{ things: Thing[], messages: { state: string }[], others: number,
- *   receivers: import("./net.js").Receiver[] }} net
- * @param {{ gap: number, silent: number, isSilent: (it: Thing) => boolean, missing: string[],
+ * How many of those that are counted were heard before the time that is shown.
+ * @param {number} early
+ */
+const earlierText = early => early ? ` (${early.toLocaleString("en")} earlier than is shown)` : "";
+/**
+ * All news of a net, what matters most first. What wants doing is of all the time.
+ * @param {Pick<import("./net.js").Net, "since" | "things" | "others" | "receivers"> &
+ *   { whole: { stations: Heard[], needy: Thing[], messages: { state: string, last: number }[] }
+ *   }} net
+ * @param {{ gap: number, silent: number, isSilent: (it: Heard) => boolean, missing: string[],
  *   expected: number }} of the gap in seconds, silence in minutes, who is expected
  * @returns {Word[]}
  */
 export function newsOf(net, { gap, silent, isSilent, missing, expected }) {
-  const of = (/** @type {string} */ state) => net.messages.filter(it => it.state === state).length;
-  const unanswered = of("unanswered"), rejected = of("rejected");
-  const quiet = net.things.filter(isSilent).length;
+  const { whole, since } = net;
   /** @type {Word[]} */
-  const words = [...mostOf(needsOf(net.things))];
+  const words = [...mostOf(needsOf(whole.needy))];
   const unfixed = net.things.filter(it => it.unfixed).length;
   /** @param {string} href @param {Word["grade"]} grade @param {string} text */
   const say = (href, grade, text) => words.push({ href, grade, text });
-  say("#said", unanswered ? "bad" : "good", `${count(unanswered, "message")} unanswered`);
-  if (rejected) say("#said", "bad", `${count(rejected, "message")} rejected`);
-  say("#list", quiet ? "warn" : "good", `${count(quiet, "station")} silent for over ${silent} min`);
+  const sayOf = (/** @type {string} */ href, /** @type {Word["grade"]} */ grade,
+    /** @type {{ last: number }[]} */ all, /** @type {(n: number) => string} */ textOf) => {
+    const { length } = all, early = all.filter(it => it.last < since).length;
+    words.push({ href, grade: length ? grade : "good", text: textOf(length) + earlierText(early),
+      isEarlier: early > 0 });
+  };
+  const of = (/** @type {string} */ state) => whole.messages.filter(it => it.state === state);
+  sayOf("#said", "bad", of("unanswered"), n => `${count(n, "message")} unanswered`);
+  const rejected = of("rejected");
+  if (rejected.length) sayOf("#said", "bad", rejected, n => `${count(n, "message")} rejected`);
+  sayOf("#list", "warn", whole.stations.filter(isSilent),
+    n => `${count(n, "station")} silent for over ${silent} min`);
   if (expected)
     say("#roster", missing.length ? "bad" : "good", missingText(missing, expected, silent));
   words.push(...clocksOff(net.receivers, gap));

@@ -85,7 +85,7 @@ export const view = {
   get clockOf() { return page.clockOf; },
   isNewThing: (/** @type {Thing} */ it) => page.looked.isNewThing(it),
   isNewMessage: (/** @type {Message} */ it) => page.looked.isNewMessage(it),
-  isSilent: (/** @type {Thing} */ it) =>
+  isSilent: (/** @type {import("./net.js").Heard} */ it) =>
     it.kind === "station" && presentOf(page) - it.last > page.data.silent * 60,
 };
 /**

@@ -497,6 +497,32 @@ def test_shown(page, folder):
                 "return row.top >= box.top && row.bottom <= box.bottom })()"), True)
 
 
+def test_hidden(page, folder):
+    """What the news name is shown, also where the time, the words or the map's moment hide it."""
+    where = {"latitude": "54.51", "longitude": "-3.47", "symbol": "/j"}
+    rows = (row("mic-e", 10, "Q1MIC-9", says="emergency", **where) +
+            "".join(place(120 + k, "Q1B", 54.5 + k / 1000, -3.5) for k in range(60)))
+    page.open(page_of(folder / "hidden.html", rows,
+                      message("Q1NET", "Q1B", "where are you", "unanswered", 20, id="1")))
+    change(page, "since", "1")
+    is_(page.js(shown), ["Q1B"])
+    is_(page.js(BADGES), ["EMERGENCY: Q1MIC-9, 00:10:00",
+                          "1 message unanswered (1 earlier than is shown)",
+                          "1 station silent for over 30 min (1 earlier than is shown)"])
+    page.js("document.querySelectorAll('#news > a')[1].click()")
+    is_(page.js("[since.value, document.activeElement.id]"), ["0", "said"])
+    change(page, "since", "1")
+    change(page, "find", "Q1B", "input")
+    change(page, "clock", "0", "input")
+    page.js("document.querySelector('#news > a').click()")
+    page.wait("aprsbook.page.picked === 'station Q1MIC-9'")
+    is_(page.js("[since.value, %s.value, clock.value, then.textContent]" % FIND),
+        ["0", "", "1000", "02:59:00"])
+    is_(page.js("(aprsbook.page.map.paint(), aprsbook.page.map.marks.some(it => it.picked))"), True)
+    is_(page.js("location.hash"), "#pick=station+Q1MIC-9")
+    is_(page.problems(), [])
+
+
 def test_far(page, folder):
     """The map opens on what is near most; the rest is said, and shown at a click."""
     rows = "".join(place(k, f"Q1A{k}", 54.5 + k / 500, -3.5) for k in range(9))

@@ -3,7 +3,7 @@ import { test } from "node:test";
 import { apartText, clockWords } from "../../page/clockwords.js";
 import { hearings } from "../../page/net.js";
 import { needsOf, newsOf } from "../../page/news.js";
-import { know } from "../../page/roster.js";
+import { expectedOf, know } from "../../page/roster.js";
 import { waysFor } from "../../page/tables.js";
 import { Alarm } from "../../page/sound.js";
 import { atOnce } from "../../page/steps.js";
@@ -44,6 +44,23 @@ test("rejected messages are counted, and kinds that aren't known", () => {
   assert.ok(texts.includes("1 message rejected"));
   assert.ok(texts.includes("1 transmission of a kind that this page doesn\u2019t know"));
   assert.ok(texts.includes("1 station at 0, 0, which is no fix"));
+});
+
+test("what wants doing stays in sight where a part of the time alone is shown", () => {
+  const lines = [micE(0, "Q1A", "emergency"), place(1, "Q1A", 54, -3), place(2, "Q1RUN", 54, -3),
+    place(9000, "Q1B", 54, -3)];
+  const net = netOfLines(lines, [message("Q1A", "Q1B", "x", "unanswered", 3, { id: 1 }),
+    message("Q1B", "Q1A", "y", "unanswered", 8999, { id: 2 })],
+  { since: Date.parse(moment(5400)) / 1000 });
+  assert.deepEqual(net.things.map(it => it.name), ["Q1B"]);
+  const isSilent = ({ last }) => Date.parse(moment(9000)) / 1000 - last > 1800;
+  assert.deepEqual(newsOf(net, { ...OF, isSilent }).map(it => [it.grade, it.text, it.isEarlier]), [
+    ["alarm", "EMERGENCY: Q1A, 18:00:00", undefined],
+    ["bad", "2 messages unanswered (1 earlier than is shown)", true],
+    ["warn", "2 stations silent for over 30 min (2 earlier than is shown)", true]]);
+  // who is expected was heard, however long ago
+  const [runner] = expectedOf([{ call: "Q1RUN" }], net.whole.stations);
+  assert.equal(runner.last, Date.parse(moment(2)) / 1000);
 });
 
 test("the alarm rings for what is new, and only where it is on", () => {
