@@ -27,8 +27,8 @@ import { Alarm } from "./sound.js";
  *   all: import("./net.js").All | null }} Next
  */
 /**
- * A map or a roster that the reader brought, or why it is none.
- * @typedef {{ name: string, text: string, base: import("./overlays.js").Base | null,
+ * A map or a roster that the reader brought, or why it is none; and what is said of its spelling.
+ * @typedef {{ name: string, text: string, spelling: string, base: import("./overlays.js").Base | null,
  *   roster: Roster | null, fault: string }} Brought
  */
 /**
