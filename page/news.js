@@ -3,7 +3,7 @@
 
 import { who } from "./roster.js";
 import { apartText, clockWords } from "./clockwords.js";
-import { count, timeText } from "./words.js";
+import { count, namesText, timeText } from "./words.js";
 
 /** @typedef {import("./net.js").Thing} Thing */
 /** @typedef {import("./net.js").Heard} Heard */
@@ -74,6 +74,22 @@ function clocksOff(receivers, gap) {
   return words;
 }
 
+/** A clock may be ahead by so many seconds. */
+const AHEAD = 60;
+/**
+ * Who heard something that is still to come, in words.
+ * @param {import("./net.js").Receiver[]} receivers
+ * @param {number} now by this computer's clock, in seconds
+ * @returns {Word[]}
+ */
+function datedAhead(receivers, now) {
+  const ahead = receivers.filter(it => it.last - now > AHEAD);
+  if (!ahead.length) return [];
+  const last = ahead.reduce((most, it) => Math.max(most, it.last), now);
+  const names = namesText(ahead.map(it => it.name));
+  return [{ href: "#ears", grade: "bad", text: `${names} heard something ` +
+    `${apartText(last - now)} after now: a clock there, or this computer\u2019s, is wrong` }];
+}
 /** So many of those who are missing are named. */
 const NAMED = 3;
 /**
@@ -100,10 +116,11 @@ const earlierText = early => early ? ` (${early.toLocaleString("en")} earlier th
  *   { whole: { stations: Heard[], needy: Thing[], messages: { state: string, last: number }[] }
  *   }} net
  * @param {{ gap: number, silent: number, isSilent: (it: Heard) => boolean, missing: string[],
- *   expected: number }} of the gap in seconds, silence in minutes, who is expected
+ *   expected: number, now?: number }} of the gap in seconds, silence in minutes, who is expected;
+ *   and the moment now, where moments after it are to be said
  * @returns {Word[]}
  */
-export function newsOf(net, { gap, silent, isSilent, missing, expected }) {
+export function newsOf(net, { gap, silent, isSilent, missing, expected, now = Infinity }) {
   const { whole, since } = net;
   /** @type {Word[]} */
   const words = [...mostOf(needsOf(whole.needy))];
@@ -124,7 +141,7 @@ export function newsOf(net, { gap, silent, isSilent, missing, expected }) {
     n => `${count(n, "station")} silent for over ${silent} min`);
   if (expected)
     say("#roster", missing.length ? "bad" : "good", missingText(missing, expected, silent));
-  words.push(...clocksOff(net.receivers, gap));
+  words.push(...clocksOff(net.receivers, gap), ...datedAhead(net.receivers, now));
   if (unfixed) say("#list", "warn", `${count(unfixed, "station")} at 0, 0, which is no fix`);
   if (net.others)
     say("#list", "warn", `${count(net.others, "transmission")} of a kind that this page ` +

@@ -131,6 +131,15 @@ test("how far clocks are apart is said to the second, the minute or nearly so", 
     "2 h", "2 h", "5 h 30 min", "2 d", "2 d 5 h"]);
   assert.equal(clockWords({ clock: { by: -5430, of: 9, from: [] } }, 30).text, "\u22121 h 30 min");
 });
+test("what is dated after now is said of its receivers, also where no other one heard it", () => {
+  const net = netOfLines([place(0, "Q1A", 54, -3), place(7200, "Q1B", 54, -3, { receivers: "RX2" })]);
+  const said = second => newsOf(net, { ...OF, now: Date.parse(moment(second)) / 1000 })
+    .map(it => it.text).filter(it => /after now/.test(it));
+  assert.deepEqual(said(7200), []);
+  assert.deepEqual(said(3600), ["RX2 heard something 60 min after now: a clock there, or this " +
+    "computer\u2019s, is wrong"]);
+  assert.match(said(-600)[0], /^RX1, RX2 heard something 2 h 10 min after now/);
+});
 test("a clock is put right at one click and not twice, and of two by the one that is right", () => {
   const lines = [], put = 60, can = name => name !== "C";
   for (let k = 0; k < 5; k++)
