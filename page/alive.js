@@ -30,7 +30,7 @@ export function beginAlive() {
   box.addEventListener("change", () => choose("live", box.checked ? "" : "off"));
   setInterval(() => {
     tick();
-    const idle = Date.now() - alive.touched > 10000 && !page.playing;
+    const idle = Date.now() - alive.touched > 10000 && !page.playing && !page.form.isWritten;
     if (!box.checked || !idle || alive.asks || Date.now() - alive.asked < live * 1000) return;
     alive.asked = Date.now();
     again();

@@ -816,6 +816,28 @@ def test_live(page, folder):
     is_(page.problems(), [])
 
 
+def test_written(page, folder):
+    """What is written in the form isn't lost where a page on a disk loads itself again."""
+    url = page_of(folder / "written.html", place(0, "Q1A", 54.5, -3.5), live=1)
+    page.open(url)
+    page.js("document.getElementById('ics-open').click()")
+    change(page, "ics-net", "145.500", "input")
+    page.js("document.getElementById('ics-net').dispatchEvent(new Event('input', { bubbles: true }))")
+    change(page, "own-text", "12 needs water", "input")
+    page.js("(window.old = true, aprsbook.alive.touched = aprsbook.alive.asked = 0, 1)")
+    # not while a line is being written
+    time.sleep(3)
+    is_(page.js("[window.old, document.getElementById('own-text').value]"), [True, "12 needs water"])
+    page.js("document.getElementById('own-add').click()")
+    page.js("(aprsbook.alive.touched = aprsbook.alive.asked = 0, 1)")
+    page.wait("!window.old && !!aprsbook.page.net")
+    page.settle()
+    is_(page.js("[document.getElementById('ics').hidden, document.getElementById('ics-net').value, "
+                "document.querySelector('#ics-sheets .own .text').firstChild.textContent]"),
+        [False, "145.500", "12 needs water"])
+    is_(page.problems(), [])
+
+
 def test_asleep(page, folder):
     """A page that goes on and wakes: receivers and expected stations are silent too, and it says
     how old it is, not that nothing was heard."""
