@@ -6,6 +6,7 @@ import { byId, choose, keep } from "./dom.js";
 import { colour, refresh } from "./drawing.js";
 import { listenToEdge } from "./edge.js";
 import { sift } from "./finding.js";
+import { drawPart } from "./headline.js";
 import { pick } from "./picked.js";
 import { keepClock, play } from "./playing.js";
 import { reveal } from "./reveal.js";
@@ -127,7 +128,9 @@ function listenToEscape() {
 function listenToPaper() {
   addEventListener("beforeprint", () => {
     runAllWaiting();
-    for (const list of Object.values(page.lists)) list.whole();
+    drawPart();
+    // the transmissions of one station aren't on paper
+    for (const list of Object.values(page.lists)) if (list !== page.lists.frames) list.whole();
     dressFor(true);
   });
   addEventListener("afterprint", () => {

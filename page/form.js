@@ -45,9 +45,10 @@ export class Form {
     byId(open ? "ics-incident" : "ics-open").focus();
     keepDraft(open);
   }
-  /** Opens it as it was, where it was open when the page was loaded again. */
+  /** Fills it as it was, and opens it where it was open when the page was loaded again. */
   reopen() {
-    if (!readDraft()) return;
+    const [way] = performance.getEntriesByType("navigation");
+    if (!readDraft() || !way || Reflect.get(way, "type") !== "reload") return;
     const at = byId("own-at").value;
     this.open(true);
     // a line that was being written has its moment
@@ -105,5 +106,7 @@ export class Form {
       on(id, "change", () => this.draw());
     on("ics", "input", () => keepDraft(true));
     addEventListener("storage", ({ key }) => this.hear(key));
+    // the browser asks whether to leave
+    addEventListener("beforeunload", event => this.page.own.isAtRisk && event.preventDefault());
   }
 }

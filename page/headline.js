@@ -1,7 +1,7 @@
 // @ts-check
 // What stands above all else: when and by whom the net was heard, what is new, what wants doing.
 
-import { byId, make } from "./dom.js";
+import { byId, make, write } from "./dom.js";
 import { needsOf, newsOf } from "./news.js";
 import { expectedOf, faultWords } from "./roster.js";
 import { page, presentOf, view } from "./state.js";
@@ -24,6 +24,24 @@ export function drawAbout() {
       `${zone} \u00b7 ${count(net.rows.length, "transmission")} of ` +
       `${count(stations, "station")} \u00b7 heard by ${by}`;
   }
+}
+/**
+ * What is said on paper of a part, since what the reader chose can't be seen there: the hours that
+ * are shown or 0, the moment of the map, and how many things of all are found.
+ * @param {{ hours: number, until: number, found: number, all: number }} of
+ */
+export function partText({ hours, until, found, all }) {
+  const words = [];
+  if (hours) words.push(`the last ${hours} h alone`);
+  if (until !== Infinity) words.push(`the map as it was at ${timeText(until)}`);
+  if (found < all) words.push(`${found} of ${all} stations, objects and items`);
+  return words.length ? `This is a part: ${words.join("; ")}.` : "";
+}
+/** Says on paper that something is left out. */
+export function drawPart() {
+  const { net, found, map: { until } } = page;
+  write("part", partText({ hours: +byId("since").value, until, found: found.length,
+    all: net.things.length }));
 }
 /** Says what is new since the reader looked, where the page goes on. */
 export function drawLooked() {

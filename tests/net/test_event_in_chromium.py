@@ -822,12 +822,13 @@ def test_written(page, folder):
     page.open(url)
     page.js("document.getElementById('ics-open').click()")
     change(page, "ics-net", "145.500", "input")
-    page.js("document.getElementById('ics-net').dispatchEvent(new Event('input', { bubbles: true }))")
+    page.js("ics.dispatchEvent(new Event('input'))")
     change(page, "own-text", "12 needs water", "input")
     page.js("(window.old = true, aprsbook.alive.touched = aprsbook.alive.asked = 0, 1)")
     # not while a line is being written
     time.sleep(3)
-    is_(page.js("[window.old, document.getElementById('own-text').value]"), [True, "12 needs water"])
+    written = "document.getElementById('own-text').value"
+    is_(page.js(f"[window.old, {written}]"), [True, "12 needs water"])
     page.js("document.getElementById('own-add').click()")
     page.js("(aprsbook.alive.touched = aprsbook.alive.asked = 0, 1)")
     page.wait("!window.old && !!aprsbook.page.net")

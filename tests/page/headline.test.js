@@ -1,7 +1,7 @@
 import assert from "node:assert/strict";
 import { test } from "node:test";
 import "./document.js";
-import { drawAbout, drawNews } from "../../page/headline.js";
+import { drawAbout, drawNews, partText } from "../../page/headline.js";
 import { page } from "../../page/state.js";
 import { message, netOfLines, place } from "./tables.js";
 
@@ -34,4 +34,11 @@ test("of very many receivers the first are named above the news", () => {
   drawAbout();
   assert.match(document.getElementById("about").textContent,
     /heard by RX10, RX11, RX12, RX13, RX14, RX15, RX16, RX17, and 52 more$/);
+});
+test("paper says that it has a part, since nobody sees there what was chosen", () => {
+  const all = { hours: 0, until: Infinity, found: 5, all: 5 };
+  assert.equal(partText(all), "");
+  assert.equal(partText({ ...all, hours: 6 }), "This is a part: the last 6 h alone.");
+  assert.equal(partText({ ...all, until: Date.UTC(2024, 5, 21, 18, 30) / 1000, found: 1 }),
+    "This is a part: the map as it was at 18:30:00; 1 of 5 stations, objects and items.");
 });
