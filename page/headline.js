@@ -64,9 +64,9 @@ function newsNodes() {
   const expected = expectedOf(page.roster.list, net.whole.stations);
   const missing = expected.filter(it => now - it.last > view.silent).map(it => it.call);
   const news = all.rows.length ? newsOf(net, { gap: data.gap, silent: data.silent,
-    isSilent: view.isSilent, missing, expected: expected.length,
-    // a page that goes on says it by itself, and by the server's clock
-    now: data.live || page.follows ? Infinity : Date.now() / 1000 }) : [];
+    isLongAgo: view.isLongAgo, missing, expected: expected.length,
+    // a page that goes on says itself what it misses, and by the server's clock
+    now: data.live || page.follows ? undefined : Date.now() / 1000 }) : [];
   const faults = faultWords(page.roster.faults).map(it => `roster, ${it}`);
   return [...news.map(({ href, grade, text, pick: key, isEarlier }) => make("a", { href,
     className: grade, textContent: text,

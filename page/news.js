@@ -6,7 +6,6 @@ import { apartText, clockWords } from "./clockwords.js";
 import { count, namesText, timeText } from "./words.js";
 
 /** @typedef {import("./net.js").Thing} Thing */
-/** @typedef {import("./net.js").Heard} Heard */
 /**
  * A word of news: where it stands, or what it is about; how bad it is; what it says; whether some
  * of it was heard before the time that is shown.
@@ -90,6 +89,19 @@ function datedAhead(receivers, now) {
   return [{ href: "#ears", grade: "bad", text: `${names} heard something ` +
     `${apartText(last - now)} after now: a clock there, or this computer\u2019s, is wrong` }];
 }
+/** After so many seconds it is said that ages count to the last transmission, up to a day. */
+const QUIET = 600, DAY = 86400;
+/**
+ * That ages don't count to now, while a net may go on.
+ * @param {number} end when something was last heard
+ * @param {number} now
+ * @returns {Word[]}
+ */
+function agesText(end, now) {
+  const far = now - end;
+  return !(far > QUIET && far < DAY) ? [] : [{ href: "#when", grade: "warn",
+    text: `ages count to ${timeText(end)}, ${apartText(far)} ago, when something was last heard` }];
+}
 /** So many of those who are missing are named. */
 const NAMED = 3;
 /**
@@ -110,17 +122,18 @@ function missingText(missing, expected, silent) {
  * @param {number} early
  */
 const earlierText = early => early ? ` (${early.toLocaleString("en")} earlier than is shown)` : "";
+/** When something was last heard. */
+const lastOf = (/** @type {import("./net.js").Whole} */ { stations }) =>
+  stations.reduce((most, it) => Math.max(most, it.last), -Infinity);
 /**
  * All news of a net, what matters most first. What wants doing is of all the time.
- * @param {Pick<import("./net.js").Net, "since" | "things" | "others" | "receivers"> &
- *   { whole: { stations: Heard[], needy: Thing[], messages: { state: string, last: number }[] }
- *   }} net
- * @param {{ gap: number, silent: number, isSilent: (it: Heard) => boolean, missing: string[],
+ * @param {Pick<import("./net.js").Net, "since" | "things" | "others" | "receivers" | "whole">} net
+ * @param {{ gap: number, silent: number, isLongAgo: (last: number) => boolean, missing: string[],
  *   expected: number, now?: number }} of the gap in seconds, silence in minutes, who is expected;
- *   and the moment now, where moments after it are to be said
+ *   and the moment now, where ages don't count to it
  * @returns {Word[]}
  */
-export function newsOf(net, { gap, silent, isSilent, missing, expected, now = Infinity }) {
+export function newsOf(net, { gap, silent, isLongAgo, missing, expected, now }) {
   const { whole, since } = net;
   /** @type {Word[]} */
   const words = [...mostOf(needsOf(whole.needy))];
@@ -137,11 +150,16 @@ export function newsOf(net, { gap, silent, isSilent, missing, expected, now = In
   sayOf("#said", "bad", of("unanswered"), n => `${count(n, "message")} unanswered`);
   const rejected = of("rejected");
   if (rejected.length) sayOf("#said", "bad", rejected, n => `${count(n, "message")} rejected`);
-  sayOf("#list", "warn", whole.stations.filter(isSilent),
+  sayOf("#list", "warn", whole.stations.filter(it => isLongAgo(it.last)),
     n => `${count(n, "station")} silent for over ${silent} min`);
   if (expected)
     say("#roster", missing.length ? "bad" : "good", missingText(missing, expected, silent));
-  words.push(...clocksOff(net.receivers, gap), ...datedAhead(net.receivers, now));
+  const deaf = whole.ears.filter(it => isLongAgo(it.last)).map(it => it.name);
+  if (deaf.length)
+    say("#ears", "warn", `nothing heard for over ${silent} min by ${namesText(deaf)}`);
+  words.push(...clocksOff(net.receivers, gap));
+  if (now !== undefined)
+    words.push(...datedAhead(net.receivers, now), ...agesText(lastOf(whole), now));
   if (unfixed) say("#list", "warn", `${count(unfixed, "station")} at 0, 0, which is no fix`);
   if (net.others)
     say("#list", "warn", `${count(net.others, "transmission")} of a kind that this page ` +

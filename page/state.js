@@ -85,8 +85,9 @@ export const view = {
   get clockOf() { return page.clockOf; },
   isNewThing: (/** @type {Thing} */ it) => page.looked.isNewThing(it),
   isNewMessage: (/** @type {Message} */ it) => page.looked.isNewMessage(it),
+  isLongAgo: (/** @type {number} */ last) => presentOf(page) - last > page.data.silent * 60,
   isSilent: (/** @type {import("./net.js").Heard} */ it) =>
-    it.kind === "station" && presentOf(page) - it.last > page.data.silent * 60,
+    it.kind === "station" && view.isLongAgo(it.last),
 };
 /**
  * Says what came of something that the reader did.
