@@ -18,6 +18,10 @@ export const alive = { asked: Date.now(), asks: false, touched: 0, answered: 0, 
 /** After how many milliseconds a server that doesn't answer is away, and is asked anew. */
 export const patience = { late: 10000, most: 120000 };
 
+const isServed = () => location.protocol.startsWith("http");
+/** Whether somebody is at work in the page, or would lose something where it is loaded again. */
+export const isBusy = () => Date.now() - alive.touched < 10000 || page.playing !== undefined ||
+  !isServed() && (page.form.isWritten || page.own.isAtRisk);
 /** Has the page of an event ask for itself again, unless somebody is at work in it. */
 export function beginAlive() {
   const { live } = page.data, box = byId("live");
@@ -30,8 +34,7 @@ export function beginAlive() {
   box.addEventListener("change", () => choose("live", box.checked ? "" : "off"));
   setInterval(() => {
     tick();
-    const idle = Date.now() - alive.touched > 10000 && !page.playing;
-    if (!box.checked || !idle || alive.asks || Date.now() - alive.asked < live * 1000) return;
+    if (!box.checked || isBusy() || alive.asks || Date.now() - alive.asked < live * 1000) return;
     alive.asked = Date.now();
     again();
   }, 1000);
@@ -49,7 +52,7 @@ export function heard(answer, asked) {
 class Refused extends Error {}
 /** Loads the page again: its data alone where a server has it, and all of it from a disk. */
 export async function again() {
-  if (!location.protocol.startsWith("http")) return location.reload();
+  if (!isServed()) return location.reload();
   alive.asks = true;
   const late = setTimeout(() => { alive.away ||= alive.asked; tick(); }, patience.late);
   try {

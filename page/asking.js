@@ -1,6 +1,7 @@
 // @ts-check
 // Asks a server for a file: it may take long, as long as more of it comes.
 
+import { kindOf, writtenIn } from "./kinds.js";
 import { joined } from "./unpacking.js";
 
 /** The server is there, and hands out no such file. */
@@ -47,4 +48,24 @@ async function bytesOf({ body }, onPart) {
     onPart();
   }
   return joined(parts, size);
+}
+/** A list of more logs than these isn't one. */
+const MOST = 1000;
+/** How a line of a log begins. */
+const LINE = /^\d{4}-\d\d-\d\dT\S*Z /;
+/**
+ * The names of logs in a list of them. What is something else, such as a log or a page that asks
+ * for a password, is refused, since each of its lines would be asked for.
+ * @param {Uint8Array} bytes
+ */
+export function namesIn(bytes) {
+  const kind = kindOf(bytes, ""), refuse = (/** @type {string} */ what) => {
+    throw new Refused(`the server answers with ${what}, and no list of logs`);
+  };
+  if (kind !== "log") refuse(/^(?:an? |XML)/.test(kind) ? kind : `a ${kind}`);
+  const names = writtenIn(bytes).text.split("\n").map(it => it.trim())
+    .filter(it => it && !it.startsWith("#"));
+  if (names.some(it => LINE.test(it))) refuse("a log");
+  if (names.length > MOST) refuse(`${names.length.toLocaleString("en")} lines`);
+  return names;
 }

@@ -17,6 +17,7 @@ begin();
 if (textOf("data").trim())
   show(dataIn(textOf("data"))).then(() => {
     beginClock();
+    page.form.reopen();
     if (page.data.live) beginAlive();
   });
 /** For the script that reads logs, and for tests. */

@@ -3,6 +3,7 @@
 
 import { readBrought } from "./bases.js";
 import { refresh } from "./drawing.js";
+import { writtenIn } from "./kinds.js";
 import { readBase } from "./overlays.js";
 import { faultWords, readRoster } from "./roster.js";
 import { page, tell } from "./state.js";
@@ -24,10 +25,11 @@ function readText(text) {
  * Takes a base map or a roster, in place of one of its name; says so where it is none.
  * @param {string} name
  * @param {string} text
+ * @param {string} spelling how it was spelled, where that is to be said
  */
-export function bring(name, text) {
+export function bring(name, text, spelling = "") {
   /** @type {Brought} */
-  const it = { name, text, base: null, roster: null, fault: "" };
+  const it = { name, text, spelling, base: null, roster: null, fault: "" };
   try {
     Object.assign(it, readText(text));
   } catch (fault) {
@@ -44,17 +46,18 @@ const isBad = (/** @type {Brought} */ { fault, roster }) =>
  * What came of something that was brought.
  * @param {Brought} it
  */
-function toldOf({ name, roster, fault }) {
-  const calls = roster ? [count(roster.list.length, "call"),
-    ...faultWords(roster.faults)].join(", ") : "a map";
-  return `${printable(name)}: ${fault || calls}`;
+function toldOf({ name, roster, base, fault, spelling }) {
+  const words = roster ? [count(roster.list.length, "call"), ...faultWords(roster.faults)]
+    : [base && !base.lines.length && !base.points.length ? "a map of nothing" : "a map"];
+  return `${printable(name)}: ${fault || [...words, spelling].filter(Boolean).join(", ")}`;
 }
 /** @param {File[]} files */
 export async function bringAll(files) {
   for (const it of files) {
     const fault = await bringGround(it);
-    const text = fault === null ? await it.text().catch(() => null) : null;
-    if (text !== null) bring(it.name, text);
+    const bytes = fault === null ? await it.arrayBuffer().catch(() => null) : null;
+    const written = bytes && writtenIn(new Uint8Array(bytes));
+    if (written) bring(it.name, written.text, written.spelling);
     else if (fault !== "")
       tell(`${printable(it.name)}: ${fault || "it is gone, or can\u2019t be read"}`, true);
   }

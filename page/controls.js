@@ -6,8 +6,10 @@ import { byId, choose, keep } from "./dom.js";
 import { colour, refresh } from "./drawing.js";
 import { listenToEdge } from "./edge.js";
 import { sift } from "./finding.js";
+import { drawPart } from "./headline.js";
 import { pick } from "./picked.js";
 import { keepClock, play } from "./playing.js";
+import { reveal } from "./reveal.js";
 import { page } from "./state.js";
 import { runAllWaiting } from "./steps.js";
 
@@ -76,8 +78,7 @@ function listenToHead() {
     page.alarm.turn(byId("sound").checked);
   });
   on("news", "click", ({ target }) => {
-    const { key } = /** @type {HTMLElement} */ (target).dataset;
-    if (key && key !== page.picked) pick(key);
+    reveal(/** @type {HTMLElement} */ (target).dataset);
   });
   on("one-close", "click", () => pick(page.picked));
   on("lay", "click", () => page.grounds.lay());
@@ -127,7 +128,9 @@ function listenToEscape() {
 function listenToPaper() {
   addEventListener("beforeprint", () => {
     runAllWaiting();
-    for (const list of Object.values(page.lists)) list.whole();
+    drawPart();
+    // the transmissions of one station aren't on paper
+    for (const list of Object.values(page.lists)) if (list !== page.lists.frames) list.whole();
     dressFor(true);
   });
   addEventListener("afterprint", () => {

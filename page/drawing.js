@@ -10,7 +10,7 @@ import { inOrder } from "./messages.js";
 import { hearings, netOf, rank } from "./net.js";
 import { drawOne } from "./picked.js";
 import { forms } from "./placeforms.js";
-import { turnClock } from "./playing.js";
+import { holdClock } from "./playing.js";
 import { columnsOf, messagesOf } from "./reading.js";
 import { expectedOf, who } from "./roster.js";
 import { Rows } from "./rows.js";
@@ -82,7 +82,7 @@ function* drawing(next) {
   drawLooked();
   drawNews();
   drawOne(true);
-  turnClock();
+  holdClock();
   sift(true);
   yield;
   drawLists();
@@ -107,9 +107,9 @@ function turnTo(data, all, net) {
   clocks.local = byId("local").checked;
   units.miles = byId("miles").checked;
   forms.now = /** @type {import("./placeforms.js").Form} */ (byId("place-form").value);
-  // a message may have been sent first before the part of the time that is shown
+  // a message, or who is in need, may be of before the part of the time that is shown
   clocks.dated = datedBy([net.begin, net.end, ...[...net.messages, ...net.bulletins]
-    .map(it => it.first)]);
+    .map(it => it.first), ...net.whole.needy.map(it => all.rows.last[it.lastUrgent] ?? NaN)]);
   if (fresh) {
     readBrought();
     page.own.open(data.title, data.lines, spanOf(all));
@@ -137,7 +137,7 @@ function drawLists() {
   byId("bulletins-head").hidden = byId("bulletins-box").hidden = !net.bulletins.length;
   lists.bulletins.show([...net.bulletins].sort((a, b) => b.last - a.last), true);
   byId("roster").hidden = !page.roster.list.length;
-  lists.roster.show(expectedOf(page.roster.list, net.things), true);
+  lists.roster.show(expectedOf(page.roster.list, net.whole.stations), true);
   later("receivers", once(() => lists.receivers.show(net.receivers, true)));
   later("pairs", drawPairs(all, net));
   later("find", madeHays(net.things));

@@ -149,6 +149,17 @@ export async function add(dropped) {
   }
 }
 /**
+ * Files that are being checked; one that comes again meanwhile is one of them.
+ * @type {Given[]}
+ */
+const coming = [];
+/** @param {Given} file @param {number} gap */
+async function lookAt(file, gap) {
+  await look(file, gap);
+  coming.splice(coming.indexOf(file), 1);
+  files.push(file);
+}
+/**
  * Takes files: each is checked while the runs over all of them go on.
  * @param {Iterable<Dropped>} dropped
  */
@@ -167,17 +178,19 @@ async function takeAll(dropped) {
   for (const it of await Promise.all(plain.map(takeFile))) {
     if (it?.lines) pages.push({ name: it.name, lines: it.lines });
     // one that is there already says nothing new
-    else if (it && ![...files, ...read].some(one => isSame(one, it))) read.push(it);
+    else if (it && ![...files, ...coming, ...read].some(one => isSame(one, it))) read.push(it);
   }
   if (pages.length) bringLines(pages);
-  if (made && !read.length && files.length === many) return tellAgain();
+  const isNew = read.length > 0 || files.length > many;
+  if (!isNew && coming.length) return;
+  if (made && !isNew) return tellAgain();
+  coming.push(...read);
   const whole = [...files.filter(it => it.taken), ...read.filter(it => !it.unread)];
   if (read.length && whole.every(it => it.kind !== "KISS stream"))
     await beginEarly(whole, gap);
   let done = 0;
   await Promise.all(read.map(async file => {
-    await look(file, gap);
-    files.push(file);
+    await lookAt(file, gap);
     tellProgress(0.3 * ++done / read.length, "reading");
   }));
   files.sort((a, b) => a.name < b.name ? -1 : a.name > b.name ? 1 : 0);

@@ -2,7 +2,7 @@
 // A page that is served beside logs: it reads a list of their names, and asks again for what has
 // grown. Each log is asked for by itself, and for so long; what was read of it stays.
 
-import { askFor, Refused } from "./asking.js";
+import { askFor, namesIn, Refused } from "./asking.js";
 import { alive, byId, choose, chosen, fullText, heard, page, printable, tick } from "./drawn.js";
 import { work } from "./drop.js";
 import { files, numberIn } from "./inputs.js";
@@ -66,8 +66,9 @@ async function follow() {
 async function namesOf(base) {
   const asked = Date.now(), { answer, bytes } = await askFor(base.href, pace.limit);
   heard(answer, asked);
+  const names = namesIn(bytes);
   missed.delete(byId("follow").value);
-  return new TextDecoder().decode(bytes).split(/\r?\n/).map(it => it.trim()).filter(it => it && !it.startsWith("#"));
+  return names;
 }
 /** @param {Map<string, string>} logs names by addresses */
 async function followAll(logs) {

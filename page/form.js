@@ -2,6 +2,7 @@
 // The form ICS-309 as it is used: opened, filled, added to, printed and saved.
 
 import { byId } from "./dom.js";
+import { keepDraft, readDraft } from "./draft.js";
 import { fieldOf, fillForm, momentIn } from "./ics309.js";
 import { count } from "./words.js";
 
@@ -24,6 +25,10 @@ export class Form {
   get isOpen() {
     return !byId("ics").hidden;
   }
+  /** Whether a line is being written. */
+  get isWritten() {
+    return this.isOpen && byId("own-text").value !== "";
+  }
   /** Draws it where it is open. */
   draw() {
     if (this.isOpen) fillForm(this.page.net, this.page.own.lines, line => this.remove(line));
@@ -38,6 +43,17 @@ export class Form {
     byId("own-at").value = fieldOf(Number.isFinite(now) ? now : Date.now() / 1000);
     this.draw();
     byId(open ? "ics-incident" : "ics-open").focus();
+    keepDraft(open);
+  }
+  /** Fills it as it was, and opens it where it was open when the page was loaded again. */
+  reopen() {
+    const [way] = performance.getEntriesByType("navigation");
+    if (!readDraft() || !way || Reflect.get(way, "type") !== "reload") return;
+    const at = byId("own-at").value;
+    this.open(true);
+    // a line that was being written has its moment
+    if (this.isWritten) byId("own-at").value = at;
+    byId(this.isWritten ? "own-text" : "ics-incident").focus();
   }
   /** @param {Line} line */
   remove(line) {
@@ -55,6 +71,7 @@ export class Form {
     this.tell(this.page.own.add({ at, from: value("own-from"), to: value("own-to"),
       id: value("own-id"), text }));
     byId("own-id").value = byId("own-text").value = "";
+    keepDraft(true);
     this.draw();
     byId("own-text").focus();
   }
@@ -87,6 +104,9 @@ export class Form {
     byId("own-text").addEventListener("keydown", ({ key }) => key === "Enter" && this.add());
     for (const id of ["ics-incident", "ics-net", "ics-operator"])
       on(id, "change", () => this.draw());
+    on("ics", "input", () => keepDraft(true));
     addEventListener("storage", ({ key }) => this.hear(key));
+    // the browser asks whether to leave
+    addEventListener("beforeunload", event => this.page.own.isAtRisk && event.preventDefault());
   }
 }

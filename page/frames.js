@@ -3,7 +3,7 @@
 // tells of it.
 
 import { air, letters, make } from "./dom.js";
-import { cell, List, timeCell } from "./lists.js";
+import { cell, heardCell, List, timeCell } from "./lists.js";
 import { said } from "./words.js";
 
 /** @typedef {import("./rows.js").Rows} Rows */
@@ -50,7 +50,7 @@ export function frameList(box, view) {
   const row = (/** @type {number} */ k) => {
     const it = record(k), rest = restOf(it);
     return make("tr", {}, timeCell(view.rows.first[k]),
-      cell("by", it.receivers.replaceAll(",", ", ")),
+      heardCell(view.rows.lists[view.rows.heard[k]]),
       cell("way", letters(said(wayOf(it)))), cell("kind", it.kind),
       cell("about", air(it.text), " ", rest ? make("small", {}, letters(rest)) : null));
   };

@@ -1,11 +1,13 @@
 // @ts-check
 // What stands above all else: when and by whom the net was heard, what is new, what wants doing.
 
-import { byId, make } from "./dom.js";
+import { byId, make, write } from "./dom.js";
 import { needsOf, newsOf } from "./news.js";
 import { expectedOf, faultWords } from "./roster.js";
 import { page, presentOf, view } from "./state.js";
-import { clocks, count, dateText, firstOf, secondText, timeText, zonesText } from "./words.js";
+import {
+  clocks, count, dateText, firstOf, namesText, secondText, timeText, zonesText,
+} from "./words.js";
 
 /** Says when, of how many and by whom the net was heard. */
 export function drawAbout() {
@@ -16,12 +18,30 @@ export function drawAbout() {
     byId("about").textContent = all.rows.length ? "Nothing was heard in this time." :
       page.data.waits ? "" : "Nothing was heard yet.";
   else {
-    const by = net.receivers.map(it => it.name).join(", ");
+    const by = namesText(net.receivers.map(it => it.name));
     const to = (clocks.dated ? dateText(net.end) + " " : "") + secondText(net.end);
     byId("about").textContent = `${dateText(net.begin)} ${secondText(net.begin)} to ${to} ` +
       `${zone} \u00b7 ${count(net.rows.length, "transmission")} of ` +
       `${count(stations, "station")} \u00b7 heard by ${by}`;
   }
+}
+/**
+ * What is said on paper of a part, since what the reader chose can't be seen there: the hours that
+ * are shown or 0, the moment of the map, and how many things of all are found.
+ * @param {{ hours: number, until: number, found: number, all: number }} of
+ */
+export function partText({ hours, until, found, all }) {
+  const words = [];
+  if (hours) words.push(`the last ${hours} h alone`);
+  if (until !== Infinity) words.push(`the map as it was at ${timeText(until)}`);
+  if (found < all) words.push(`${found} of ${all} stations, objects and items`);
+  return words.length ? `This is a part: ${words.join("; ")}.` : "";
+}
+/** Says on paper that something is left out. */
+export function drawPart() {
+  const { net, found, map: { until } } = page;
+  write("part", partText({ hours: +byId("since").value, until, found: found.length,
+    all: net.things.length }));
 }
 /** Says what is new since the reader looked, where the page goes on. */
 export function drawLooked() {
@@ -40,24 +60,41 @@ export function drawLooked() {
  * @returns {HTMLElement[]}
  */
 function newsNodes() {
-  const { net, data } = page, now = presentOf(page);
-  const expected = expectedOf(page.roster.list, net.things);
+  const { net, data, all } = page, now = presentOf(page);
+  const expected = expectedOf(page.roster.list, net.whole.stations);
   const missing = expected.filter(it => now - it.last > view.silent).map(it => it.call);
-  const news = net.rows.length ? newsOf(net, { gap: data.gap, silent: data.silent,
-    isSilent: view.isSilent, missing, expected: expected.length }) : [];
+  const news = all.rows.length ? newsOf(net, { gap: data.gap, silent: data.silent,
+    isLongAgo: view.isLongAgo, missing, expected: expected.length,
+    // a page that goes on says itself what it misses, and by the server's clock
+    now: data.live || page.follows ? undefined : Date.now() / 1000 }) : [];
   const faults = faultWords(page.roster.faults).map(it => `roster, ${it}`);
-  return [...news.map(({ href, grade, text, pick: key }) => make("a", { href, className: grade,
-    textContent: text, data: key ? { key } : {} })),
-  ...[...firstOf(data.notes), ...faults].map(text => make("span", { className: "bad", textContent: text }))];
+  return [...news.map(({ href, grade, text, pick: key, isEarlier }) => make("a", { href,
+    className: grade, textContent: text,
+    data: { ...key && { key }, ...isEarlier && { earlier: "yes" } } })),
+  ...[...firstOf(data.notes), ...faults].map(textContent =>
+    make("span", { className: "bad", textContent }))];
 }
-/** What wants doing, as links; what says the same stays, and keeps the focus. */
+/**
+ * Puts these in place of the news that stand there; who has the keyboard in them keeps it, also
+ * where other words are said of the same.
+ * @param {HTMLElement[]} nodes
+ */
+function putNews(nodes) {
+  const news = byId("news"), before = /** @type {HTMLElement | null} */ (document.activeElement);
+  const of = (/** @type {HTMLElement} */ it) => `${Reflect.get(it, "href")} ${it.dataset.key}`;
+  const after = before && before !== news && news.contains(before)
+    ? nodes.find(it => of(it) === of(before)) || nodes[0] : null;
+  news.replaceChildren(...nodes.flatMap(it => [it, " "]));
+  after?.focus({ preventScroll: true });
+}
+/** What wants doing, as links; what says the same stays. */
 export function drawNews() {
   const nodes = newsNodes();
   const words = (/** @type {Element[]} */ list) =>
     list.map(it => it.className + it.textContent).join("\n");
-  if (words(nodes) !== words([...byId("news").children]))
-    byId("news").replaceChildren(...nodes.flatMap(it => [it, " "]));
-  const needs = needsOf(page.net.things).filter(it => it.grade === "alarm" || it.grade === "bad");
+  if (words(nodes) !== words([...byId("news").children])) putNews(nodes);
+  const needs = needsOf(page.net.whole.needy)
+    .filter(it => it.grade === "alarm" || it.grade === "bad");
   const fresh = page.alarm.hear(needs).map(it => it.text);
   if (fresh.length) byId("needs").textContent = firstOf(fresh).join("; ");
 }

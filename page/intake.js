@@ -3,7 +3,7 @@
 
 import { count } from "./drawn.js";
 import {
-  countLines, damagedLines, endOf, kindOf, MANY, READ, REASONS, spelled, without,
+  countLines, damagedLines, endOf, kindOf, MANY, READ, REASONS, spelled, without, writtenIn,
 } from "./kinds.js";
 import { shifting } from "./shift.js";
 import { linesIn } from "./ownlines.js";
@@ -75,7 +75,8 @@ async function bytesOf(file) {
 }
 /**
  * Reads a file that was given; of one that is nothing of a net, no more than how it begins.
- * @param {File} file @param {(name: string, text: string) => void} bring takes a map or a roster
+ * @param {File} file
+ * @param {(name: string, text: string, spelling: string) => void} bring takes a map or a roster
  * @returns {Promise<Given | null>}
  */
 export async function take(file, bring) {
@@ -94,9 +95,12 @@ export async function take(file, bring) {
     if (isPlain && file.size > limits.kept && !isPacked(head)) return fileOf(file.name, kind, file);
     const bytes = await all();
     if (kind === "book" || kind === "KISS stream") return fileOf(file.name, kind, bytes);
-    const text = spelled(bytes);
-    if (kind === "log") return fileOf(file.name, kind, text.bytes, { spelling: text.spelling });
-    bring(file.name, new TextDecoder().decode(text.bytes));
+    if (kind === "log") {
+      const plain = spelled(bytes);
+      return fileOf(file.name, kind, plain.bytes, { spelling: plain.spelling });
+    }
+    const written = writtenIn(bytes);
+    bring(file.name, written.text, written.spelling);
     return null;
   } catch (fault) {
     const { message } = /** @type {Error} */ (fault);

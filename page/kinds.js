@@ -30,9 +30,17 @@ const STRANGERS = [
  */
 export const isPicture = bytes =>
   /^\x89PNG|^\xff\xd8\xff|^RIFF....WEBP/s.test(String.fromCharCode(...bytes.subarray(0, 12)));
-/** How a line of a roster begins: a call, or the head of a column. */
-const WORD = "(?:[a-z0-9]{1,6}(?:-(?:\\d{1,2}|\\*))?|callsign|station|tactical)";
-const ROSTER = new RegExp(`^(?:\\s*#[^\\n]*\\n)*\\s*"?${WORD}"?([\\s,;]|$)`, "i");
+/**
+ * How a line of a roster begins: with a call or the head of a column before a sign; or with a call
+ * before blanks, which has a digit or is in capitals, as words of a note aren't.
+ */
+const SSID = "(?:-(?:[0-9]{1,2}|\\*))?";
+const HEAD = "callsign|station|tactical".replace(/[a-z]/g, it => `[${it}${it.toUpperCase()}]`);
+const WORD = `(?:[A-Za-z0-9]{1,6}${SSID}|${HEAD})`;
+const CALL = "(?:(?=[A-Za-z]*[0-9])(?=[0-9]*[A-Za-z])[A-Za-z0-9]{3,6}|" +
+  `(?=[0-9]*[A-Z])[A-Z0-9]{3,6})${SSID}`;
+const ROSTER =
+  new RegExp(`^(?:\\s*#[^\\n]*\\n)*\\s*(?:"?${WORD}"? *[,;\\t]|"?${CALL}"?(?:\\s|$))`);
 
 /**
  * What a file is: book, KISS stream, map, roster, log, or what else it is, such as `a picture`.
@@ -70,6 +78,20 @@ export function spelled(bytes) {
   const plain = withoutReturns(bytes);
   if (plain.length < bytes.length) spelling.push("CR LF");
   return { bytes: plain, spelling };
+}
+/**
+ * A text that people wrote: in UTF-8 or UTF-16, or else as old programs of Windows write it, which
+ * is said.
+ * @param {Uint8Array} bytes
+ */
+export function writtenIn(bytes) {
+  const plain = spelled(bytes).bytes;
+  try {
+    return { text: new TextDecoder("utf-8", { fatal: true }).decode(plain), spelling: "" };
+  } catch {
+    return { text: new TextDecoder("windows-1252").decode(plain),
+      spelling: "read as Windows-1252, since it isn\u2019t in UTF-8" };
+  }
 }
 const CR = 13, LF = 10;
 /**

@@ -4,7 +4,7 @@
 
 import { choose, chosen, make, momentOf } from "./dom.js";
 import { atOnce, later } from "./steps.js";
-import { age } from "./words.js";
+import { age, namesText } from "./words.js";
 
 /**
  * So many rows are more than a box shows. Of a long list the first few come at once, and the rest
@@ -262,6 +262,14 @@ export const newMark = isNew =>
   isNew ? [" ", make("small", { className: "fresh", textContent: "new" })] : [];
 /** @param {string} className @param {import("./dom.js").Inside[]} inside */
 export const cell = (className, ...inside) => make("td", { className }, ...inside);
+/**
+ * Who heard something, all of them where there are few.
+ * @param {string[]} names
+ */
+export function heardCell(names) {
+  const text = namesText(names), all = names.join(", ");
+  return make("td", { className: "by", textContent: text, title: text === all ? "" : all });
+}
 /** @param {number} n nothing is written of 0 */
 export const number = n => cell("num", n === 0 ? "" : n.toLocaleString("en"));
 /** @param {number} seconds */

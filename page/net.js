@@ -16,11 +16,18 @@ import { byLetters, said } from "./words.js";
 /** @typedef {ArrayLike<number>} Picks numbers of rows */
 /** @typedef {{ rows: Rows, messages: Message[], end: number }} All what was read of the tables */
 /**
+ * What stays in sight whatever part of the time is shown: when each station was last heard at all,
+ * when each receiver last heard something, who is in need, and all messages.
+ * @typedef {{ stations: Heard[], ears: { name: string, last: number }[], needy: Thing[],
+ *   messages: Message[] }} Whole
+ */
+/** @typedef {{ key: string, kind: string, name: string, last: number }} Heard */
+/**
  * A net since a moment: the numbers of its rows, when the first and the last was heard, and what
  * they tell of; `others` are rows of a kind that the page doesn't know.
  * @typedef {{ rows: Picks, since: number, begin: number, end: number, things: Thing[],
  *   placed: Thing[], others: number, messages: Message[], bulletins: Message[],
- *   receivers: Receiver[] }} Net
+ *   receivers: Receiver[], whole: Whole }} Net
  */
 /**
  * Who heard whom, who alone, who repeated whom, and how much each station sent.
@@ -275,6 +282,41 @@ function* receiversOf(rows, since, gap) {
 }
 
 /**
+ * When each station was last heard, when each receiver heard something last, and which stations
+ * were ever in need.
+ * @param {Rows} rows
+ * @returns {Generator<unknown, Pick<Whole, "stations" | "ears"> & { urgent: Set<number> }>}
+ */
+function* lastOf(rows) {
+  const last = new Float64Array(rows.things.length).fill(-Infinity), urgent = new Set();
+  const heard = new Float64Array(rows.lists.length).fill(-Infinity), ears = new Map();
+  yield* eachSince(rows, -Infinity, k => {
+    const n = rows.station[k], list = rows.heard[k];
+    if (rows.last[k] > last[n]) last[n] = rows.last[k];
+    if (rows.first[k] > heard[list]) heard[list] = rows.first[k];
+    if (rows.urgent[k]) urgent.add(n);
+  });
+  rows.lists.forEach((names, n) => {
+    for (const name of heard[n] > -Infinity ? names : [])
+      ears.set(name, Math.max(ears.get(name) ?? -Infinity, heard[n]));
+  });
+  const stations = rows.things.map((key, n) =>
+    ({ key, kind: kindIn(key), name: nameIn(key), last: last[n] }));
+  return { stations: stations.filter(it => it.last > -Infinity), urgent,
+    ears: [...ears].map(([name, last]) => ({ name, last })) };
+}
+/**
+ * What wants doing of all the time, of which a part is shown. Of most stations it is enough when
+ * they were heard.
+ * @param {All} all @returns {Generator<unknown, Whole>}
+ */
+function* wholeOf({ rows, messages }) {
+  const { stations, ears, urgent } = yield* lastOf(rows);
+  const picks = urgent.size ? rows.order.filter(k => urgent.has(rows.station[k])) : [];
+  const needy = (yield* thingsOf(rows, picks)).filter(it => it.lastUrgent >= 0);
+  return { stations, ears, needy, messages: messages.filter(it => !isBulletin(it)) };
+}
+/**
  * All of the net that was heard since a moment, but who heard whom.
  * @param {All} all @param {number} since @param {number} gap
  * @returns {Generator<unknown, Net>}
@@ -289,7 +331,10 @@ export function* netOf(all, since, gap) {
   for (const it of placed) yield it.track; // it is kept
   let others = 0;
   yield* eachSince(rows, since, k => { if (rows.is(k, "other")) others++; });
-  return { rows: picks, since, begin, end, things, placed, others,
-    messages: messages.filter(it => !isBulletin(it)), bulletins: messages.filter(isBulletin),
-    receivers: yield* receiversOf(rows, since, gap) };
+  const said = messages.filter(it => !isBulletin(it));
+  const receivers = yield* receiversOf(rows, since, gap);
+  const whole = since > -Infinity ? yield* wholeOf(all) : { needy: things, messages: said,
+    ears: receivers, stations: things.filter(it => it.kind === "station") };
+  return { rows: picks, since, begin, end, things, placed, others, messages: said,
+    bulletins: messages.filter(isBulletin), whole, receivers };
 }

@@ -3,13 +3,14 @@
 
 import { who } from "./roster.js";
 import { apartText, clockWords } from "./clockwords.js";
-import { count, timeText } from "./words.js";
+import { count, namesText, timeText } from "./words.js";
 
 /** @typedef {import("./net.js").Thing} Thing */
 /**
- * A word of news: where it stands, or what it is about; how bad it is; what it says.
+ * A word of news: where it stands, or what it is about; how bad it is; what it says; whether some
+ * of it was heard before the time that is shown.
  * @typedef {{ href: string, grade: "alarm" | "bad" | "warn" | "good", text: string,
- *   pick?: string }} Word
+ *   pick?: string, isEarlier?: boolean }} Word
  */
 
 /** @typedef {Word & { id: string }} Need with what it is known by, however it is worded */
@@ -72,6 +73,35 @@ function clocksOff(receivers, gap) {
   return words;
 }
 
+/** A clock may be ahead by so many seconds. */
+const AHEAD = 60;
+/**
+ * Who heard something that is still to come, in words.
+ * @param {import("./net.js").Receiver[]} receivers
+ * @param {number} now by this computer's clock, in seconds
+ * @returns {Word[]}
+ */
+function datedAhead(receivers, now) {
+  const ahead = receivers.filter(it => it.last - now > AHEAD);
+  if (!ahead.length) return [];
+  const last = ahead.reduce((most, it) => Math.max(most, it.last), now);
+  const names = namesText(ahead.map(it => it.name));
+  return [{ href: "#ears", grade: "bad", text: `${names} heard something ` +
+    `${apartText(last - now)} after now: a clock there, or this computer\u2019s, is wrong` }];
+}
+/** After so many seconds it is said that ages count to the last transmission, up to a day. */
+const QUIET = 600, DAY = 86400;
+/**
+ * That ages don't count to now, while a net may go on.
+ * @param {number} end when something was last heard
+ * @param {number} now
+ * @returns {Word[]}
+ */
+function agesText(end, now) {
+  const far = now - end;
+  return !(far > QUIET && far < DAY) ? [] : [{ href: "#when", grade: "warn",
+    text: `ages count to ${timeText(end)}, ${apartText(far)} ago, when something was last heard` }];
+}
 /** So many of those who are missing are named. */
 const NAMED = 3;
 /**
@@ -88,28 +118,48 @@ function missingText(missing, expected, silent) {
 }
 
 /**
- * All news of a net, what matters most first.
- * @param {{ things: Thing[], messages: { state: string }[], others: number,
- *   receivers: import("./net.js").Receiver[] }} net
- * @param {{ gap: number, silent: number, isSilent: (it: Thing) => boolean, missing: string[],
- *   expected: number }} of the gap in seconds, silence in minutes, who is expected
+ * How many of those that are counted were heard before the time that is shown.
+ * @param {number} early
+ */
+const earlierText = early => early ? ` (${early.toLocaleString("en")} earlier than is shown)` : "";
+/** When something was last heard. */
+const lastOf = (/** @type {import("./net.js").Whole} */ { stations }) =>
+  stations.reduce((most, it) => Math.max(most, it.last), -Infinity);
+/**
+ * All news of a net, what matters most first. What wants doing is of all the time.
+ * @param {Pick<import("./net.js").Net, "since" | "things" | "others" | "receivers" | "whole">} net
+ * @param {{ gap: number, silent: number, isLongAgo: (last: number) => boolean, missing: string[],
+ *   expected: number, now?: number }} of the gap in seconds, silence in minutes, who is expected;
+ *   and the moment now, where ages don't count to it
  * @returns {Word[]}
  */
-export function newsOf(net, { gap, silent, isSilent, missing, expected }) {
-  const of = (/** @type {string} */ state) => net.messages.filter(it => it.state === state).length;
-  const unanswered = of("unanswered"), rejected = of("rejected");
-  const quiet = net.things.filter(isSilent).length;
+export function newsOf(net, { gap, silent, isLongAgo, missing, expected, now }) {
+  const { whole, since } = net;
   /** @type {Word[]} */
-  const words = [...mostOf(needsOf(net.things))];
+  const words = [...mostOf(needsOf(whole.needy))];
   const unfixed = net.things.filter(it => it.unfixed).length;
   /** @param {string} href @param {Word["grade"]} grade @param {string} text */
   const say = (href, grade, text) => words.push({ href, grade, text });
-  say("#said", unanswered ? "bad" : "good", `${count(unanswered, "message")} unanswered`);
-  if (rejected) say("#said", "bad", `${count(rejected, "message")} rejected`);
-  say("#list", quiet ? "warn" : "good", `${count(quiet, "station")} silent for over ${silent} min`);
+  const sayOf = (/** @type {string} */ href, /** @type {Word["grade"]} */ grade,
+    /** @type {{ last: number }[]} */ all, /** @type {(n: number) => string} */ textOf) => {
+    const { length } = all, early = all.filter(it => it.last < since).length;
+    words.push({ href, grade: length ? grade : "good", text: textOf(length) + earlierText(early),
+      isEarlier: early > 0 });
+  };
+  const of = (/** @type {string} */ state) => whole.messages.filter(it => it.state === state);
+  sayOf("#said", "bad", of("unanswered"), n => `${count(n, "message")} unanswered`);
+  const rejected = of("rejected");
+  if (rejected.length) sayOf("#said", "bad", rejected, n => `${count(n, "message")} rejected`);
+  sayOf("#list", "warn", whole.stations.filter(it => isLongAgo(it.last)),
+    n => `${count(n, "station")} silent for over ${silent} min`);
   if (expected)
     say("#roster", missing.length ? "bad" : "good", missingText(missing, expected, silent));
+  const deaf = whole.ears.filter(it => isLongAgo(it.last)).map(it => it.name);
+  if (deaf.length)
+    say("#ears", "warn", `nothing heard for over ${silent} min by ${namesText(deaf)}`);
   words.push(...clocksOff(net.receivers, gap));
+  if (now !== undefined)
+    words.push(...datedAhead(net.receivers, now), ...agesText(lastOf(whole), now));
   if (unfixed) say("#list", "warn", `${count(unfixed, "station")} at 0, 0, which is no fix`);
   if (net.others)
     say("#list", "warn", `${count(net.others, "transmission")} of a kind that this page ` +

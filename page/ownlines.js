@@ -66,6 +66,10 @@ export class OwnLines {
     return this.all.filter(it =>
       it.at >= begin - FAR && it.at <= end + FAR || here.has(keyOf(it)));
   }
+  /** Whether lines are in this page alone, and gone where it is closed or loaded again. */
+  get isAtRisk() {
+    return !this.isStored && this.kept.lines.length > 0;
+  }
   /** How many are left out, since they lie far off. */
   get others() {
     return this.all.length - this.lines.length;

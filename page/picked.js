@@ -7,7 +7,7 @@ import { detailLines } from "./facts.js";
 import { numbersOf } from "./frames.js";
 import { bearing, distance } from "./globe.js";
 import { graphNode, graphsOf } from "./graphs.js";
-import { cell, List, timeCell } from "./lists.js";
+import { cell, heardCell, List, timeCell } from "./lists.js";
 import { placeFacts } from "./placeforms.js";
 import { who } from "./roster.js";
 import { page } from "./state.js";
@@ -15,6 +15,7 @@ import { markOf, symbolOf } from "./symbols.js";
 import { NO_FIX, whereOf } from "./tables.js";
 import { channelsOf } from "./telemetry.js";
 import { far } from "./units.js";
+import { namesText } from "./words.js";
 
 /** @typedef {import("./net.js").Thing} Thing */
 /** @typedef {import("./rows.js").Place} Place */
@@ -59,7 +60,7 @@ export function drawOne(stays = false) {
 function factsOf(thing, channels) {
   const { now } = thing;
   /** @type {Fact[]} */
-  const facts = [["last heard", momentOf(thing.last), ` by ${thing.by.join(", ")}`],
+  const facts = [["last heard", momentOf(thing.last), ` by ${namesText(thing.by)}`],
     ["sent", String(thing.sent)]];
   if (thing.unfixed) facts.push(["0, 0", NO_FIX]);
   if (now) facts.push(...factsAt(thing, now));
@@ -95,7 +96,7 @@ export function placeList(box, view) {
     const it = place(k);
     return make("tr", {}, timeCell(it.first), cell("where", ...whereOf(it)),
       cell("about", wordsOf(it).join(", ")), cell("about", air(it.comment)),
-      cell("by", it.receivers.join(", ")));
+      heardCell(it.receivers));
   };
   return new List(box, { id: "places", caption: "places", row, none: "no place", columns: [
     { title: "heard", number: true, value: (/** @type {number} */ k) => view.rows.first[k] },

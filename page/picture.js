@@ -158,10 +158,14 @@ export class Picture {
     const { map, painter, writer } = this;
     if (map.isDense) map.marks = map.marks.filter(it => it.picked || it.thing.urgent);
     const small = map.marks.length > SMALL, reach = small ? 4 : 10, room = this.room();
-    const spread = this.spread();
-    if (small) painter.paintDots(map.marks.filter(it => !it.picked && !spread.has(it)));
+    const spread = this.spread(), urgent = map.marks.filter(it => it.thing.urgent);
+    // nobody can fill the map by sending many of them
+    const ringed = new Set(urgent.length > SMALL ? [] : urgent);
+    const isWhole = (/** @type {Mark} */ it) =>
+      !small || it.picked || ringed.has(it) || spread.has(it);
+    if (small) painter.paintDots(map.marks.filter(it => !isWhole(it)));
     for (const mark of map.marks) {
-      if (!small || mark.picked || spread.has(mark)) painter.paint(mark);
+      if (isWhole(mark)) painter.paint(mark);
       room.take(mark.x - reach, mark.y - reach, mark.x + reach, mark.y + reach);
     }
     if (!small)
@@ -235,10 +239,10 @@ export class Picture {
    */
   name({ thing, place, picked, x, y }, room, reach, small) {
     const { map, colours, writer } = this, isUrgent = thing.urgent !== "";
-    const isWanted = picked || isUrgent, isRinged = isUrgent && !small;
+    const isWanted = picked || isUrgent;
     const label = nameOnMap(thing.label), width = writer.widthOf(label, isWanted) + 2;
     const spot = map.sides.place(thing.key, { x, y },
-      { width, reach: isRinged ? RING : reach, isWanted }, room);
+      { width, reach: isUrgent ? RING : reach, isWanted }, room);
     if (!spot) return;
     const colour = place.state === "killed" ? colours.soft
       : isUrgent ? colours.bad : colours.ink;

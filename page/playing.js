@@ -1,22 +1,40 @@
 // @ts-check
 // The time that the map shows.
 
-import { byId, choose, chosen } from "./dom.js";
+import { byId, choose, chosen, textOf } from "./dom.js";
 import { page } from "./state.js";
 import { timeText } from "./words.js";
 
 /** So much of the clock passes at each step, and a step takes so many milliseconds. */
 const STEP = 4, PAUSE = 80;
 
+/**
+ * Has the map show the net as it was at a moment, and says so.
+ * @param {number} moment
+ * @param {boolean} all whether it is the last one
+ */
+function showAt(moment, all) {
+  const { net, map } = page, some = net.rows.length > 0, text = some ? timeText(moment) : "";
+  map.until = all ? Infinity : moment;
+  byId("then").textContent = all || !some ? text : `until ${text}`;
+  byId("then").className = all ? "" : "warn";
+  byId("clock").setAttribute("aria-valuetext", textOf("then"));
+  map.paintSoon();
+}
 /** Shows the net as it was at the clock's moment; gives that, or nothing where all is shown. */
 export function turnClock() {
   const clock = byId("clock"), { net } = page, all = +clock.value === +clock.max;
   const moment = net.begin + (net.end - net.begin) * +clock.value / +clock.max;
-  page.map.until = all ? Infinity : moment;
-  byId("then").textContent = net.rows.length ? timeText(moment) : "";
-  clock.setAttribute("aria-valuetext", byId("then").textContent || "");
-  page.map.paintSoon();
+  showAt(moment, all);
   return all || !net.rows.length ? "" : String(Math.round(moment));
+}
+/** Leaves the map at its moment, also where the net goes on, or another part of it is shown. */
+export function holdClock() {
+  const clock = byId("clock"), { net, map: { until } } = page;
+  const isIn = until >= net.begin && until < net.end;
+  const share = (until - net.begin) / (net.end - net.begin);
+  clock.value = isIn ? String(Math.min(+clock.max - 1, share * +clock.max)) : clock.max;
+  showAt(isIn ? until : net.end, !isIn);
 }
 export const keepClock = () => choose("clock", turnClock());
 function stop() {

@@ -27,8 +27,8 @@ import { Alarm } from "./sound.js";
  *   all: import("./net.js").All | null }} Next
  */
 /**
- * A map or a roster that the reader brought, or why it is none.
- * @typedef {{ name: string, text: string, base: import("./overlays.js").Base | null,
+ * A map or a roster that the reader brought, or why it is none; and what is said of its spelling.
+ * @typedef {{ name: string, text: string, spelling: string, base: import("./overlays.js").Base | null,
  *   roster: Roster | null, fault: string }} Brought
  */
 /**
@@ -85,8 +85,9 @@ export const view = {
   get clockOf() { return page.clockOf; },
   isNewThing: (/** @type {Thing} */ it) => page.looked.isNewThing(it),
   isNewMessage: (/** @type {Message} */ it) => page.looked.isNewMessage(it),
-  isSilent: (/** @type {Thing} */ it) =>
-    it.kind === "station" && presentOf(page) - it.last > page.data.silent * 60,
+  isLongAgo: (/** @type {number} */ last) => presentOf(page) - last > page.data.silent * 60,
+  isSilent: (/** @type {import("./net.js").Heard} */ it) =>
+    it.kind === "station" && view.isLongAgo(it.last),
 };
 /**
  * Says what came of something that the reader did.

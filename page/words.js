@@ -192,5 +192,12 @@ export function age(passed) {
  */
 export const firstOf = (texts, most = 5) => texts.length > most
   ? [...texts.slice(0, most), `and ${(texts.length - most).toLocaleString("en")} more`] : texts;
+/** So many names of receivers stand where there is no room for all of them. */
+const NAMES = 8;
+/**
+ * Names of receivers, the first of many.
+ * @param {string[]} names
+ */
+export const namesText = names => firstOf(names, NAMES).join(", ");
 /** @param {number} n @param {string} word of one of them */
 export const count = (n, word) => `${n.toLocaleString("en")} ${word}${n === 1 ? "" : "s"}`;

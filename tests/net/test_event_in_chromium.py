@@ -249,7 +249,9 @@ def test_times(page, folder):
     is_(page.js(BADGES)[:2], ["2 messages unanswered", "2 stations silent for over 30 min"])
     change(page, "since", "6")
     is_(page.js(times), ["21 Jun 23:10:00", "22 Jun 00:05:00"])
-    is_(page.js(BADGES)[:2], ["1 message unanswered", "1 station silent for over 30 min"])
+    # what wants doing stays in sight
+    is_(page.js(BADGES)[:2], ["2 messages unanswered (1 earlier than is shown)",
+                              "2 stations silent for over 30 min (1 earlier than is shown)"])
     change(page, "since", "1")
     change(page, "since", "24")
     is_(len(page.js(times)), 3)
@@ -495,6 +497,32 @@ def test_shown(page, folder):
     is_(page.js("(() => { const row = document.querySelector('tr.picked').getBoundingClientRect(), "
                 "box = document.getElementById('things-box').getBoundingClientRect(); "
                 "return row.top >= box.top && row.bottom <= box.bottom })()"), True)
+
+
+def test_hidden(page, folder):
+    """What the news name is shown, also where the time, the words or the map's moment hide it."""
+    where = {"latitude": "54.51", "longitude": "-3.47", "symbol": "/j"}
+    rows = (row("mic-e", 10, "Q1MIC-9", says="emergency", **where) +
+            "".join(place(120 + k, "Q1B", 54.5 + k / 1000, -3.5) for k in range(60)))
+    page.open(page_of(folder / "hidden.html", rows,
+                      message("Q1NET", "Q1B", "where are you", "unanswered", 20, id="1")))
+    change(page, "since", "1")
+    is_(page.js(shown), ["Q1B"])
+    is_(page.js(BADGES), ["EMERGENCY: Q1MIC-9, 00:10:00",
+                          "1 message unanswered (1 earlier than is shown)",
+                          "1 station silent for over 30 min (1 earlier than is shown)"])
+    page.js("document.querySelectorAll('#news > a')[1].click()")
+    is_(page.js("[since.value, document.activeElement.id]"), ["0", "said"])
+    change(page, "since", "1")
+    change(page, "find", "Q1B", "input")
+    change(page, "clock", "0", "input")
+    page.js("document.querySelector('#news > a').click()")
+    page.wait("aprsbook.page.picked === 'station Q1MIC-9'")
+    is_(page.js("[since.value, %s.value, clock.value, then.textContent]" % FIND),
+        ["0", "", "1000", "02:59:00"])
+    is_(page.js("(aprsbook.page.map.paint(), aprsbook.page.map.marks.some(it => it.picked))"), True)
+    is_(page.js("location.hash"), "#pick=station+Q1MIC-9")
+    is_(page.problems(), [])
 
 
 def test_far(page, folder):
@@ -787,6 +815,29 @@ def test_live(page, folder):
     time.sleep(2.5)
     page.js("1")
     is_(loads(), 0)
+    is_(page.problems(), [])
+
+
+def test_written(page, folder):
+    """What is written in the form isn't lost where a page on a disk loads itself again."""
+    url = page_of(folder / "written.html", place(0, "Q1A", 54.5, -3.5), live=1)
+    page.open(url)
+    page.js("document.getElementById('ics-open').click()")
+    change(page, "ics-net", "145.500", "input")
+    page.js("ics.dispatchEvent(new Event('input'))")
+    change(page, "own-text", "12 needs water", "input")
+    page.js("(window.old = true, aprsbook.alive.touched = aprsbook.alive.asked = 0, 1)")
+    # not while a line is being written
+    time.sleep(3)
+    written = "document.getElementById('own-text').value"
+    is_(page.js(f"[window.old, {written}]"), [True, "12 needs water"])
+    page.js("document.getElementById('own-add').click()")
+    page.js("(aprsbook.alive.touched = aprsbook.alive.asked = 0, 1)")
+    page.wait("!window.old && !!aprsbook.page.net")
+    page.settle()
+    is_(page.js("[document.getElementById('ics').hidden, document.getElementById('ics-net').value, "
+                "document.querySelector('#ics-sheets .own .text').firstChild.textContent]"),
+        [False, "145.500", "12 needs water"])
     is_(page.problems(), [])
 
 

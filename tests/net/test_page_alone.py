@@ -595,8 +595,13 @@ def test_example(page, folder):
     shown = "document.getElementById('first').checkVisibility()"
     is_(page.js(shown), True)
     picture(page, "first")
-    page.js("(document.getElementById('example').click(), 1)")
+    # two clicks bring each file once
+    page.js("(document.getElementById('example').click(), "
+            "document.getElementById('example').click(), 1)")
     page.wait(f"{MADE} && aprsfiles.files.length === 3")
+    time.sleep(1)
+    is_(page.js(f"[aprsfiles.files.length, {MADE}, document.getElementById('progress').hidden]"),
+        [3, True, True])
     is_(page.js(shown), False)
     assert page.js("aprsbook.page.net.placed.length") > 1
     picture(page, "example")

@@ -1,7 +1,7 @@
 import assert from "node:assert/strict";
 import http from "node:http";
 import { test } from "node:test";
-import { askFor, Refused } from "../../page/asking.js";
+import { askFor, namesIn, Refused } from "../../page/asking.js";
 
 const after = ms => new Promise(done => setTimeout(done, ms));
 /** Calls `run` with the address of a server that answers so. */
@@ -42,4 +42,15 @@ test("a server that refuses, or hangs, is told from one that is away", async () 
     assert.deepEqual([answer.status, bytes.length], [200, 0]);
   });
   await assert.rejects(askFor(away, 9000), fault => !(fault instanceof Refused));
+});
+test("a list of logs is read, and what is something else is refused", () => {
+  const of = text => namesIn(new TextEncoder().encode(text));
+  assert.deepEqual(of("\ufeff# ours\r\na.log\r\n\r\n b c.log \n"), ["a.log", "b c.log"]);
+  assert.deepEqual(of(""), []);
+  const kinds = { "<!DOCTYPE html>\n<p>log in": "a web page", "<p>\n": "XML",
+    "APRSBOOK 3\n": "a book", "2024-06-21T18:00:00Z RX1 c000c0\n": "a log",
+    ["a.log\n".repeat(1001)]: "1,001 lines" };
+  for (const [text, kind] of Object.entries(kinds))
+    assert.throws(() => of(text),
+      new Refused(`the server answers with ${kind}, and no list of logs`));
 });

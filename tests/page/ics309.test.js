@@ -95,7 +95,9 @@ test("two windows of one net lose nothing of each other", () => {
 test("without a store, with a full or a damaged one, lines stay in the page", () => {
   for (const store of [null, new Store(true)]) {
     const lines = opened(store, [own(1, "a")]);
+    assert.equal(lines.isAtRisk, false);
     assert.equal(lines.add(own(2, "b")), false);
+    assert.equal(lines.isAtRisk, true);
     assert.deepEqual(textsOf(lines), ["a", "b"]);
     // the page is drawn again, as for each new log
     lines.open("Race", [own(1, "a")]);

@@ -1,7 +1,7 @@
 import assert from "node:assert/strict";
 import { test } from "node:test";
 import { runInThisContext } from "node:vm";
-import { damagedLines, kindOf, linesLost, READ, spelled, without } from "../../page/kinds.js";
+import { damagedLines, kindOf, linesLost, READ, spelled, without, writtenIn } from "../../page/kinds.js";
 import { movedIn, receiversIn, shifting } from "../../page/shift.js";
 import { atOnce } from "../../page/steps.js";
 
@@ -24,6 +24,14 @@ test("books, captures, maps, rosters and logs are known", () => {
     ["\xef\xbb\xbfcall,name\n", "x.csv", "roster"], ["# a\nQ1A-* x\n", "x.txt", "roster"],
     [LINE, "x.txt", "log"], ["0Z RX1 c000\n" + LINE, "x.txt", "log"], ["", "x.log", "log"], ["Q1A x", "x.log", "log"]];
   for (const [text, name, kind] of cases) assert.equal(kindOf(bytesOf(text), name), kind, text);
+});
+test("a note isn't a list of calls, whose words would be expected on the air", () => {
+  const kinds = { "hello world, this is a note\n": "log", "To do:\n": "log", "I am late\n": "log",
+    "2024 was good\n": "log", "Q1RUN-7 Runner\n": "roster", "q1run runner\n": "roster",
+    "SWEEP the last car\n": "roster", "sweep,the last car\n": "roster", "Q1A-*": "roster",
+    "who;call\n": "roster", "Call\tName\n": "roster", "\"Q1A\" x\n": "roster" };
+  for (const [text, kind] of Object.entries(kinds))
+    assert.equal(kindOf(bytesOf(text), "x.txt"), kind, text);
 });
 test("what a file is takes no time that grows with blank lines or comments", () => {
   const cases = [["\n", "!", "x.txt", "log"], ["\n", "Q1A x", "x.txt", "roster"],
@@ -48,6 +56,12 @@ test("Windows' spellings are read and named", () => {
   }
   // a CR that ends no line stays
   assert.equal(textOf(spelled(bytesOf("a\rb\r\n")).bytes), "a\rb\n");
+});
+test("what people wrote is read as it is spelled, and what isn't UTF-8 is said", () => {
+  const cases = [["J\xc3\xb6rg", "J\u00f6rg", ""], ["\xff\xfeJ\0\xf6\0", "J\u00f6", ""],
+    ["J\xf6rg\r\n", "J\u00f6rg\n", "read as Windows-1252, since it isn\u2019t in UTF-8"]];
+  for (const [bytes, text, spelling] of cases)
+    assert.deepEqual(writtenIn(bytesOf(bytes)), { text, spelling });
 });
 test("line ends are spelled wherever they are", () => {
   for (const [text, plain] of [["a\nb\r\nc\n", "a\nb\nc\n"], ["\r\n\r\n", "\n\n"],

@@ -6,6 +6,7 @@ import { capOf, distance, locatorOf, Projection, vectorOf } from "../../page/glo
 import { rangeOf } from "../../page/grid.js";
 import { listenToMap, zoomOf } from "../../page/hands.js";
 import { crossings, ringsOf } from "../../page/land.js";
+import { Picture } from "../../page/picture.js";
 import { nameOnMap, Room, Sides } from "../../page/sides.js";
 import { squareOf } from "../../page/tiles.js";
 
@@ -65,6 +66,25 @@ test("a view of the whole earth has all of its parallels and meridians", () => {
   assert.deepEqual(rangeOf(view), { low: -90, high: 90, west: -170, east: 190, wide: true });
   view.scale = 1e5;
   assert.equal(rangeOf(view).wide, false);
+});
+test("who is in need has a whole mark among many dots", () => {
+  const marksOf = (many, urgent) => Array.from({ length: many }, (_, k) => ({ x: 9 * k, y: 9,
+    place: { state: "live" }, picked: false,
+    thing: { key: `station Q1A-${k}`, label: "Q1A", urgent: k < urgent ? "emergency" : "" } }));
+  const painted = (...of) => {
+    const painted = { whole: 0, dots: 0 }, view = new Projection();
+    const picture = new Picture({ view, colours: {}, pen: {}, fan: { at: null }, placed: [],
+      marks: marksOf(...of), isDense: false, sides: { by: new Map(), place: () => null } });
+    picture.painter = { paint: () => painted.whole++,
+      paintDots: list => { painted.dots += list.length; } };
+    picture.writer = { widthOf: () => 40 };
+    picture.paintMarks();
+    return painted;
+  };
+  assert.deepEqual(painted(300, 2), { whole: 2, dots: 298 });
+  assert.deepEqual(painted(300, 0), { whole: 0, dots: 300 });
+  // nobody can fill the map
+  assert.deepEqual(painted(3000, 2000), { whole: 0, dots: 3000 });
 });
 test("names stay on their side while the map moves, also above a lone mark", () => {
   const sides = new Sides(400, 300), name = { width: 60, reach: 10, isWanted: false };

@@ -3,14 +3,14 @@ import { test } from "node:test";
 import { apartText, clockWords } from "../../page/clockwords.js";
 import { hearings } from "../../page/net.js";
 import { needsOf, newsOf } from "../../page/news.js";
-import { know } from "../../page/roster.js";
+import { expectedOf, know } from "../../page/roster.js";
 import { waysFor } from "../../page/tables.js";
 import { Alarm } from "../../page/sound.js";
 import { atOnce } from "../../page/steps.js";
 import { clocks } from "../../page/words.js";
 import { message, moment, netOfLines, place, row, rowsOf, thing } from "./tables.js";
 
-const OF = { gap: 30, silent: 30, isSilent: () => false, missing: [], expected: 0 };
+const OF = { gap: 30, silent: 30, isLongAgo: () => false, missing: [], expected: 0 };
 const micE = (second, source, says) => row("mic-e", second, source,
   { latitude: "54.5", longitude: "-3.5", symbol: "/j", says });
 
@@ -44,6 +44,24 @@ test("rejected messages are counted, and kinds that aren't known", () => {
   assert.ok(texts.includes("1 message rejected"));
   assert.ok(texts.includes("1 transmission of a kind that this page doesn\u2019t know"));
   assert.ok(texts.includes("1 station at 0, 0, which is no fix"));
+});
+
+test("what wants doing stays in sight where a part of the time alone is shown", () => {
+  const lines = [micE(0, "Q1A", "emergency"), place(1, "Q1A", 54, -3), place(2, "Q1RUN", 54, -3),
+    place(3, "Q1B", 54, -3, { receivers: "RX1,RX2" }), place(9000, "Q1B", 54, -3)];
+  const net = netOfLines(lines, [message("Q1A", "Q1B", "x", "unanswered", 3, { id: 1 }),
+    message("Q1B", "Q1A", "y", "unanswered", 8999, { id: 2 })],
+  { since: Date.parse(moment(5400)) / 1000 });
+  assert.deepEqual(net.things.map(it => it.name), ["Q1B"]);
+  const isLongAgo = last => Date.parse(moment(9000)) / 1000 - last > 1800;
+  assert.deepEqual(newsOf(net, { ...OF, isLongAgo }).map(it => [it.grade, it.text, it.isEarlier]), [
+    ["alarm", "EMERGENCY: Q1A, 18:00:00", undefined],
+    ["bad", "2 messages unanswered (1 earlier than is shown)", true],
+    ["warn", "2 stations silent for over 30 min (2 earlier than is shown)", true],
+    ["warn", "nothing heard for over 30 min by RX2", undefined]]);
+  // who is expected was heard, however long ago
+  const [runner] = expectedOf([{ call: "Q1RUN" }], net.whole.stations);
+  assert.equal(runner.last, Date.parse(moment(2)) / 1000);
 });
 
 test("the alarm rings for what is new, and only where it is on", () => {
@@ -113,6 +131,20 @@ test("how far clocks are apart is said to the second, the minute or nearly so", 
     .map(apartText), ["0 s", "59 s", "1 min", "2 min 5 s", "60 min", "60 min 1 s", "1 h 59 min",
     "2 h", "2 h", "5 h 30 min", "2 d", "2 d 5 h"]);
   assert.equal(clockWords({ clock: { by: -5430, of: 9, from: [] } }, 30).text, "\u22121 h 30 min");
+});
+test("what is dated after now is said of its receivers, also where no other one heard it", () => {
+  const net = netOfLines([place(0, "Q1A", 54, -3), place(7200, "Q1B", 54, -3, { receivers: "RX2" })]);
+  const said = second => newsOf(net, { ...OF, now: Date.parse(moment(second)) / 1000 })
+    .map(it => it.text).filter(it => /after now/.test(it));
+  assert.deepEqual(said(7200), []);
+  assert.deepEqual(said(3600), ["RX2 heard something 60 min after now: a clock there, or this " +
+    "computer\u2019s, is wrong"]);
+  assert.match(said(-600)[0], /^RX1, RX2 heard something 2 h 10 min after now/);
+  // as long as it may be taken for now it is said to which moment ages count
+  const ages = second => newsOf(net, { ...OF, now: Date.parse(moment(second)) / 1000 })
+    .map(it => it.text).filter(it => /^ages/.test(it));
+  assert.deepEqual([7200 + 600, 7200 + 86400, 7200 + 601].map(it => ages(it).join()), ["", "",
+    "ages count to 20:00:00, 10 min 1 s ago, when something was last heard"]);
 });
 test("a clock is put right at one click and not twice, and of two by the one that is right", () => {
   const lines = [], put = 60, can = name => name !== "C";

@@ -1,7 +1,8 @@
 import assert from "node:assert/strict";
 import { test } from "node:test";
-import { again, alive } from "../../page/alive.js";
+import { again, alive, isBusy } from "../../page/alive.js";
 import { aheadOf, staleWords } from "../../page/stale.js";
+import { page } from "../../page/state.js";
 import { age, clocks, datedBy, timeText, zonesText } from "../../page/words.js";
 
 const AT = Date.UTC(2024, 5, 21, 18) / 1000;
@@ -60,6 +61,21 @@ test("both zones of a night are said in which clocks change, and each day's date
   // such as of a receiver that began without a clock
   assert.deepEqual(["", "day", "year"].map(it => timeText(0, it)),
     ["00:00:00", "1 Jan 00:00:00", "1970-01-01 00:00:00"]);
+});
+test("a page doesn't load itself again where somebody would lose what was written", () => {
+  const before = Object.getOwnPropertyDescriptor(globalThis, "location");
+  const of = (isWritten, isAtRisk, protocol, touched = 0) => {
+    Object.defineProperty(globalThis, "location", { value: { protocol }, configurable: true });
+    Object.assign(page, { form: { isWritten }, own: { isAtRisk } });
+    alive.touched = touched;
+    return isBusy();
+  };
+  assert.deepEqual([of(false, false, "file:"), of(true, false, "file:"), of(false, true, "file:"),
+    of(false, false, "file:", Date.now())], [false, true, true, true]);
+  // a server is asked for data alone
+  assert.equal(of(true, true, "https:"), false);
+  delete globalThis.location;
+  if (before) Object.defineProperty(globalThis, "location", before);
 });
 test("a page stays where its server answers with a fault, or with another page", async t => {
   let loaded = 0, answer = { ok: false, status: 500 };

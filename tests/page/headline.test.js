@@ -1,0 +1,44 @@
+import assert from "node:assert/strict";
+import { test } from "node:test";
+import "./document.js";
+import { drawAbout, drawNews, partText } from "../../page/headline.js";
+import { page } from "../../page/state.js";
+import { message, netOfLines, place } from "./tables.js";
+
+const news = document.getElementById("news");
+/** A page of these rows and messages. */
+function take(lines, messages = []) {
+  const net = netOfLines(lines, messages), [{ rows }] = net.things;
+  Object.assign(page, { net, all: { rows, end: rows.until },
+    data: { silent: 30, gap: 30, live: 0, notes: [] }, roster: { list: [], faults: [] } });
+}
+const ask = (source, second) => message(source, "Q1B", "x", "unanswered", second, { id: second });
+
+test("who has the keyboard in the news keeps it, also where there is one message more", () => {
+  take([place(0, "Q1A", 54, -3)], [ask("Q1A", 1)]);
+  drawNews();
+  const link = text => news.children.find(it => it.textContent === text);
+  link("0 stations silent for over 30 min").focus();
+  take([place(0, "Q1A", 54, -3), place(4000, "Q1B", 54, -3)], [ask("Q1A", 1), ask("Q1A", 2)]);
+  drawNews();
+  assert.ok(link("2 messages unanswered"));
+  assert.equal(document.activeElement, link("1 station silent for over 30 min"));
+  document.body.focus();
+  take([place(0, "Q1A", 54, -3)]);
+  drawNews();
+  assert.equal(document.activeElement, document.body);
+});
+test("of very many receivers the first are named above the news", () => {
+  const receivers = Array.from({ length: 60 }, (_, k) => `RX${k + 10}`).join();
+  take([place(0, "Q1A", 54, -3, { receivers })]);
+  drawAbout();
+  assert.match(document.getElementById("about").textContent,
+    /heard by RX10, RX11, RX12, RX13, RX14, RX15, RX16, RX17, and 52 more$/);
+});
+test("paper says that it has a part, since nobody sees there what was chosen", () => {
+  const all = { hours: 0, until: Infinity, found: 5, all: 5 };
+  assert.equal(partText(all), "");
+  assert.equal(partText({ ...all, hours: 6 }), "This is a part: the last 6 h alone.");
+  assert.equal(partText({ ...all, until: Date.UTC(2024, 5, 21, 18, 30) / 1000, found: 1 }),
+    "This is a part: the map as it was at 18:30:00; 1 of 5 stations, objects and items.");
+});
