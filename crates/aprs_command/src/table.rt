@@ -9,14 +9,15 @@ use crate::jobs::{JobFault, Table, TableJob};
 use clap::{ArgMatches, Command};
 use std::alloc::{AllocError, Global};
 
-/// What the arguments of `aprsbook-table [TABLE] [--gap SECONDS] [INPUT]...` ask for, the program's
-/// name being the first: the table, which is that of the rows where none is named, the gap, which
-/// is 30 seconds where it is not given, and the inputs' paths in the order of the arguments. The
-/// first word that is neither an option nor SECONDS names a table where it is the name of one, and
-/// is a path else. SECONDS is 1 to 3,600, and else a fault of `JobFault::Clap`. Where the arguments ask for help or
-/// the version, its text is that of `JobFault::Clap`. `JobFault::Memory` where an allocation
-/// failed. By `asked` the job is the one that the definition of the command reads from the
-/// arguments; by `judged` clap's refusal is for a fault that this definition finds in them.
+/// What the arguments of `aprsbook-table [TABLE] [--gap SECONDS] [INPUT]...` ask for, the
+/// program's name being the first: the table, which is that of the rows where none is named, the
+/// gap, which is 30 seconds where it is not given, and the inputs' paths in the order of the
+/// arguments. The first word that is neither an option nor SECONDS names a table where it is the
+/// name of one, and is a path else. SECONDS is 1 to 3,600, and else a fault of `JobFault::Clap`.
+/// Where the arguments ask for help or the version, its text is that of `JobFault::Clap`.
+/// `JobFault::Memory` where an allocation failed. By `asked` the job is the one that the
+/// definition of the command reads from the arguments; by `judged` clap's refusal is for a fault
+/// that this definition finds in them.
 pub fn table_job(alloc: Global, arguments: &[&str]) -> Result<TableJob, JobFault>
     ensures asked { Spec.AnswersTable (map (λ a. a.now) arguments.now) result }
     ensures judged { Spec.JudgesArguments Spec.table_app (map (λ a. a.now) arguments.now)
