@@ -166,15 +166,17 @@ function note(station, rows, k) {
 }
 /**
  * Stations, then objects, then items, each kind by name, with their places in order. `picks` are
- * the rows since that moment in their order. What lies apart is slow, so only places come so.
- * @param {Rows} rows @param {number} since @param {Picks} picks
+ * the rows in their order, and `walk` goes through them in any: what lies apart is slow, so only
+ * places come in order.
+ * @param {Rows} rows @param {Picks} picks
+ * @param {(run: (k: number) => void) => Generator<unknown, void>} walk
  * @returns {Generator<unknown, Thing[]>}
  */
-function* thingsOf(rows, since, picks) {
+function* thingsOf(rows, picks, walk) {
   /** @type {Thing[]} */
   const things = [];
   const thing = (/** @type {number} */ n) => things[n] ||= new Thing(rows, rows.things[n]);
-  yield* eachSince(rows, since, k => {
+  yield* walk(k => {
     const station = thing(rows.station[k]);
     station.hear(k);
     note(station, rows, k);
@@ -313,7 +315,8 @@ function* lastOf(rows) {
 function* wholeOf({ rows, messages }) {
   const { stations, ears, urgent } = yield* lastOf(rows);
   const picks = urgent.size ? rows.order.filter(k => urgent.has(rows.station[k])) : [];
-  const needy = (yield* thingsOf(rows, picks)).filter(it => it.lastUrgent >= 0);
+  const things = yield* thingsOf(rows, picks, run => each(picks, run));
+  const needy = things.filter(it => it.lastUrgent >= 0);
   return { stations, ears, needy, messages: messages.filter(it => !isBulletin(it)) };
 }
 /**
@@ -326,7 +329,7 @@ export function* netOf(all, since, gap) {
   // they stand by their first moment, and the last of all is one of them
   const begin = some ? rows.first[picks[0]] : Infinity, end = some ? rows.until : -Infinity;
   const messages = all.messages.filter(it => it.last >= since);
-  const things = yield* thingsOf(rows, since, picks);
+  const things = yield* thingsOf(rows, picks, run => eachSince(rows, since, run));
   const placed = things.filter(it => it.lastPlace >= 0);
   for (const it of placed) yield it.track; // it is kept
   let others = 0;
