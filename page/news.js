@@ -154,7 +154,10 @@ export function newsOf(net, { gap, silent, isLongAgo, missing, expected, now }) 
     n => `${count(n, "station")} silent for over ${silent} min`);
   if (expected)
     say("#roster", missing.length ? "bad" : "good", missingText(missing, expected, silent));
-  const deaf = whole.ears.filter(it => isLongAgo(it.last)).map(it => it.name);
+  // where a clock is wrong, that is what is said
+  const wrong = net.receivers.filter(it => clockWords(it, gap).wrong).map(it => it.name);
+  const deaf = whole.ears.filter(it => isLongAgo(it.last)).map(it => it.name)
+    .filter(it => !wrong.includes(it));
   if (deaf.length)
     say("#ears", "warn", `nothing heard for over ${silent} min by ${namesText(deaf)}`);
   words.push(...clocksOff(net.receivers, gap));

@@ -115,6 +115,9 @@ test("two wrong clocks don't hide one another", () => {
   assert.ok(Math.abs(by.COAST - 7200) <= 40 && Math.abs(by.HILL + 3600) <= 40, JSON.stringify(by));
   const said = newsOf(net, { ...OF, gap: 40 }).map(it => it.text).filter(it => /clock/.test(it));
   assert.equal(said.length, 2);
+  // that their moments are old says nothing of them
+  const texts = newsOf(net, { ...OF, gap: 40, isLongAgo: () => true }).map(it => it.text);
+  assert.ok(texts.includes("nothing heard for over 30 min by RX1, RX2"), texts.join());
 });
 
 test("where no two clocks agree none is called right", () => {
