@@ -4,7 +4,10 @@
 import { spawnSync } from "node:child_process";
 import fs from "node:fs";
 import path from "node:path";
+import { saidIn } from "../page/bookparts.js";
 import { attempt, FUNCTIONS, run } from "../page/host.js";
+import { columnsOf } from "../page/reading.js";
+import { atOnce } from "../page/steps.js";
 import { changedBy, picksBy } from "./changed.js";
 
 const [file, program, count, seed, ...files] = process.argv.slice(2);
@@ -45,6 +48,14 @@ function saidOf(command, it, names) {
   return `${NAME_OF(command)}: ${names[it.input]}: ${place}${it.fault}\n`;
 }
 
+// the messages of a book are those of its rows that tell of any, which the page reads alone
+function compareMessages(book, gap) {
+  const table = (name, bytes) => run(code, `table ${name}`, gap, [Uint8Array.from(bytes)]).bytes;
+  const said = saidIn(Uint8Array.from(book), atOnce(columnsOf(table("rows", book))).columns);
+  if (!said || Buffer.compare(table("messages", book), table("messages", said)) !== 0)
+    fail("messages of a book of", book.length, "bytes aren't those of the rows that tell of any");
+}
+
 function compare(command, options, inputs) {
   // what is let go of isn't read again, also where a run wants more room
   const wanted = byProgram(command, options, inputs), letGo = it => it.fill(0);
@@ -55,6 +66,7 @@ function compare(command, options, inputs) {
       || said !== saidOf(command, got, wanted.names))
     fail(command, options, inputs.map(it => it.length), "status", got.status, "and not",
       wanted.status, got.bytes.length, "bytes and not", wanted.bytes.length, said, got.fault);
+  if (command === "merge" && wanted.status === 0) compareMessages(wanted.bytes, options);
   return wanted;
 }
 
