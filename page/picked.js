@@ -22,6 +22,11 @@ import { namesText } from "./words.js";
 /** @typedef {import("./facts.js").Fact} Fact */
 
 const thingOf = (/** @type {string | null} */ key) => page.net.things.find(it => it.key === key);
+/** Brings what is told of it into view where lists stand beside the map, in a box that scrolls. */
+export function showOne() {
+  const [box, one] = [byId("beside"), byId("one")];
+  box.scrollTop += one.getBoundingClientRect().top - box.getBoundingClientRect().top;
+}
 /**
  * Picks a thing, or, where it is picked already, nothing. Where it wasn't picked on the map, the
  * map comes into view; its row in the table is marked.
@@ -38,6 +43,7 @@ export function pick(key, onMap = false) {
   drawOne();
   page.lists.things.mark(page.picked, onMap);
   if (thing?.now && !onMap) byId("map").scrollIntoView({ block: "nearest" });
+  if (thing && onMap) showOne();
   page.map.paintSoon();
 }
 /** What is known of the thing that is picked; its lists stay where they are in another drawing. */

@@ -5,7 +5,7 @@
 import { byId, choose } from "./dom.js";
 import { refresh } from "./drawing.js";
 import { sift } from "./finding.js";
-import { pick } from "./picked.js";
+import { pick, showOne } from "./picked.js";
 import { keepClock } from "./playing.js";
 import { page } from "./state.js";
 
@@ -39,4 +39,5 @@ export async function reveal({ key, earlier }) {
   if (isIn(page.net.things) && !isIn(page.found)) showAllThings();
   if (page.map.until !== Infinity) showLatest();
   if (key !== page.picked) pick(key);
+  showOne();
 }
