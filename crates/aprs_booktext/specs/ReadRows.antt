@@ -5,7 +5,7 @@ use Rattle.aprs_laws.specs.Row.{Row}
 use Rattle.aprs_booktext.specs.declared.fault.BookCause.TheVariants as why
 use Rattle.aprs_booktext.specs.declared.fault.BookFault.{BookFault}
 
--- The answer as a book: its gap, and its rows.
+-- The book of the gap that was answered and of these rows; or the fault that was answered.
 abbrev pub book_read : Result ℕ BookFault → List Row → Result BookValue BookFault
 book_read (Ok gap) rows = Ok (record { gap = gap; rows = rows })
 book_read (Err fault) rows = Err fault

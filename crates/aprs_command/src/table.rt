@@ -35,8 +35,8 @@ pub fn table_command_is_simple()
     ensures { is_simple_and_free Spec.table_app ≡ true }
 {}
 
-/// The command `aprsbook-table [--gap SECONDS] [INPUT]...`. `AllocError` where an allocation
-/// failed.
+/// The command `aprsbook-table [--gap SECONDS] [INPUT]...`; the first INPUT may name a table.
+/// `AllocError` where an allocation failed.
 fn table_command<'a>(alloc: Global) -> Result<Command<'a>, AllocError>
     ensures { IfOk result (λ c. app_of c ≡ Spec.table_app) }
 {

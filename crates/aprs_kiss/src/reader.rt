@@ -256,8 +256,8 @@ impl KissReader {
     }
 
     /// Judges a piece at the frame end after it: the port of its data frame, which stays in the
-    /// buffer, or its first fault. An escape that isn't whole is a bad one. The next byte begins
-    /// another piece.
+    /// buffer, or the first fault in the order of `PassFault`, wherever in the piece it stands. An
+    /// escape that isn't whole is a bad one. The next byte begins another piece.
     fn end_piece(&mut self) -> Result<u8, PassFault>
         ensures stands { StandsAfter self.new [] }
         ensures judged { (before : List ℕ) → StandsAfter self.old before → 0 < length before

@@ -96,7 +96,8 @@ fn told_fields<'t>(
 }
 
 /// Puts the line of a frame by what it reports: its kind, the fields that are told, and those of
-/// the report. Fails where the output is refused.
+/// the report. A frame without a report has the line of `put_other`. Fails where the output is
+/// refused.
 fn put_told<W: Write>(
     out: &mut Outlet<'_, W>,
     told: &[Field<'_>],

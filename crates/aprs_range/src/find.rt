@@ -79,8 +79,9 @@ fn find_in<R: ReadAt, A: Allocator>(
     })
 }
 
-/// The place of the first line, from that at `start` on, that is no row's whose source comes before
-/// `first`. Where there is no `first`, it is `start`. `None` as from `find_cut`.
+/// In a book file the place of the first line, from that at `start` on, that is no row's whose
+/// source comes before `first`. Where there is no `first`, it is `start`. `None` as from
+/// `find_cut`.
 fn find_first<R: ReadAt, A: Allocator>(
     source: &mut R,
     line: &mut Vec<u8, A>,
@@ -98,10 +99,10 @@ fn find_first<R: ReadAt, A: Allocator>(
     }
 }
 
-/// The place of the first line, from that at `start` on, that is no row's whose source comes before
-/// `before`. Where there is no `before`, it is the first that is no row's. The bisection begins
-/// with the lines up to the place `end`. `None` as from `bisect`, and where the line that it finds
-/// can't be read or judged, or is still such a row's.
+/// In a book file the place of the first line, from that at `start` on, that is no row's whose
+/// source comes before `before`. Where there is no `before`, it is the first that is no row's. The
+/// bisection begins with the lines up to the place `end`. `None` as from `bisect`, and where the
+/// line that it finds can't be read or judged, or is still such a row's.
 fn find_cut<R: ReadAt, A: Allocator>(
     source: &mut R,
     line: &mut Vec<u8, A>,

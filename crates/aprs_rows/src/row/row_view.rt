@@ -180,7 +180,7 @@ impl<'a> RowView<'a> {
         Ok(names)
     }
 
-    /// The greatest reception, which lies at the same place. Takes no memory.
+    /// The greatest reception, as a view of the same bytes. Takes no memory.
     pub fn greatest(&self) -> ReceptionRef<'a>
         ensures { result ≡ self.now.greatest }
     {
