@@ -31,6 +31,8 @@ const queue = [];
 let last = 0;
 /** So many bytes are copied without a pause. */
 const PIECE = 2 ** 23;
+/** So many milliseconds after its end a worker's memory is free for others. */
+const LEAVES = 100;
 /**
  * What workers are made of: their script, the module, and who hears that one stopped.
  * @type {{ script: string, module: WebAssembly.Module | null, onStop: (fault: string) => void }}
@@ -48,10 +50,14 @@ function addWorker() {
     hand.busy--;
     if (!hand.began) URL.revokeObjectURL(url);
     hand.began = true;
-    if (fault) who?.fail(new Error(fault));
-    else who?.done(value);
-    if (hand.isLarge) replace(hand);
-    else queue.shift()?.();
+    const answer = () => fault ? who?.fail(new Error(fault)) : who?.done(value);
+    if (!hand.isLarge) {
+      answer();
+      return queue.shift()?.();
+    }
+    // what is run next mustn't be there beside it
+    replace(hand);
+    setTimeout(answer, LEAVES);
   };
   hand.it.onerror = ({ message }) => stopped(hand, `a worker stopped: ${message}`);
   hands.push(hand);
