@@ -6,8 +6,8 @@ import { fullText, isoText, said, timeText } from "./words.js";
 /**
  * @typedef {"choose" | "choose-folder" | "name" | "gap" | "silent" | "follow" | "local" | "miles" |
  *   "sound" | "live" | "bring" | "corner-0" | "corner-1" | "corner-2" | "clock" | "find" |
- *   "ics-incident" | "ics-net" | "ics-operator" | "ics-by" | "own-at" | "own-from" | "own-id" | "own-to" |
- *   "own-text" | "most"} Input
+ *   "ics-incident" | "ics-net" | "ics-operator" | "ics-by" | "own-at" | "own-from" | "own-id" |
+ *   "own-to" | "own-text" | "most"} Input
  */
 /** @typedef {"since" | "place-form" | "colours" | "kind"} Select */
 /** @typedef {"looked" | "ics-open" | "book" | "event" | "listing" | "history"} Button */

@@ -28,8 +28,8 @@ import { Alarm } from "./sound.js";
  */
 /**
  * A map or a roster that the reader brought, or why it is none; and what is said of its spelling.
- * @typedef {{ name: string, text: string, spelling: string, base: import("./overlays.js").Base | null,
- *   roster: Roster | null, fault: string }} Brought
+ * @typedef {{ name: string, text: string, spelling: string,
+ *   base: import("./overlays.js").Base | null, roster: Roster | null, fault: string }} Brought
  */
 /**
  * The lists of the page; the last three are made anew for each net.

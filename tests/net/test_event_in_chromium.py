@@ -820,7 +820,7 @@ def test_live(page, folder):
 
 def test_written(page, folder):
     """What is written in the form isn't lost where a page on a disk loads itself again."""
-    url = page_of(folder / "written.html", place(0, "Q1A", 54.5, -3.5), live=1)
+    url = page_of(folder / "written.html", place(0, "Q1A", 54.5, -3.5), live=60)
     page.open(url)
     page.js("document.getElementById('ics-open').click()")
     change(page, "ics-net", "145.500", "input")
@@ -833,8 +833,7 @@ def test_written(page, folder):
     is_(page.js(f"[window.old, {written}]"), [True, "12 needs water"])
     page.js("document.getElementById('own-add').click()")
     page.js("(aprsbook.alive.touched = aprsbook.alive.asked = 0, 1)")
-    page.wait("!window.old && !!aprsbook.page.net")
-    page.settle()
+    page.wait("!window.old && !!document.querySelector('#ics-sheets .own .text')")
     is_(page.js("[document.getElementById('ics').hidden, document.getElementById('ics-net').value, "
                 "document.querySelector('#ics-sheets .own .text').firstChild.textContent]"),
         [False, "145.500", "12 needs water"])

@@ -367,6 +367,9 @@ def test_first_minutes(page, folder):
     is_(page.js("[...document.querySelectorAll('#news > *')].every(it => { "
                 "const { top, bottom } = it.getBoundingClientRect(); "
                 "return top >= 0 && bottom <= innerHeight && it.checkVisibility() })"), True)
+    # a long line that is damaged is broken, and what can be done with each file stays in view
+    is_(page.js("(it => it.scrollWidth > it.clientWidth)(document.getElementById('files-box'))"),
+        False)
     picture(page, "first-minutes")
     quiet(page)
 

@@ -1,7 +1,9 @@
 import assert from "node:assert/strict";
 import { test } from "node:test";
 import { runInThisContext } from "node:vm";
-import { damagedLines, kindOf, linesLost, READ, spelled, without, writtenIn } from "../../page/kinds.js";
+import {
+  damagedLines, kindOf, linesLost, READ, spelled, without, writtenIn,
+} from "../../page/kinds.js";
 import { movedIn, receiversIn, shifting } from "../../page/shift.js";
 import { atOnce } from "../../page/steps.js";
 

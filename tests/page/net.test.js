@@ -136,7 +136,8 @@ test("how far clocks are apart is said to the second, the minute or nearly so", 
   assert.equal(clockWords({ clock: { by: -5430, of: 9, from: [] } }, 30).text, "\u22121 h 30 min");
 });
 test("what is dated after now is said of its receivers, also where no other one heard it", () => {
-  const net = netOfLines([place(0, "Q1A", 54, -3), place(7200, "Q1B", 54, -3, { receivers: "RX2" })]);
+  const net = netOfLines([place(0, "Q1A", 54, -3),
+    place(7200, "Q1B", 54, -3, { receivers: "RX2" })]);
   const said = second => newsOf(net, { ...OF, now: Date.parse(moment(second)) / 1000 })
     .map(it => it.text).filter(it => /after now/.test(it));
   assert.deepEqual(said(7200), []);
