@@ -10,6 +10,7 @@ import { NetMap } from "./map.js";
 import { bulletinList, messageList } from "./messages.js";
 import { pick, placeList } from "./picked.js";
 import { spotText } from "./placeforms.js";
+import { reveal } from "./reveal.js";
 import { drawSaves, saveNow } from "./saving.js";
 import { isMute } from "./sound.js";
 import { page, presentOf, tell, view } from "./state.js";
@@ -89,7 +90,7 @@ export function begin() {
     things: thingList(byId("things-box"), view, pick),
     places: placeList(byId("one-places"), view), frames: frameList(byId("one-frames"), view),
     receivers: receiverList(byId("receivers-box"), view),
-    roster: rosterList(byId("roster-box"), view),
+    roster: rosterList(byId("roster-box"), view, key => reveal({ key })),
   };
   drawSaves();
   listenToControls();

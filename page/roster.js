@@ -162,17 +162,21 @@ export class Names {
   }
 }
 /**
- * When each expected station was last heard.
- * @param {Expected[]} list @param {{ name: string, kind: string, last: number }[]} things
+ * When each expected station was last heard, and its key; of any SSID, that of the one heard last.
+ * @param {Expected[]} list
+ * @param {{ key: string, name: string, kind: string, last: number }[]} things
  */
 export function expectedOf(list, things) {
-  const last = new Map();
+  const none = { last: -Infinity, key: "" }, latest = new Map();
   for (const it of things) {
     if (it.kind !== "station") continue;
     for (const call of [it.name, `${baseOf(it.name)}-*`])
-      last.set(call, Math.max(last.get(call) ?? -Infinity, it.last));
+      if (it.last > (latest.get(call) || none).last) latest.set(call, it);
   }
-  return list.map(it => ({ ...it, last: last.get(it.call) ?? -Infinity }));
+  return list.map(it => {
+    const { last, key } = latest.get(it.call) || none;
+    return { ...it, last, key };
+  });
 }
 
 // who is known to this page

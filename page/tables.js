@@ -4,7 +4,7 @@
 import { clockWords } from "./clockwords.js";
 import { OPEN, wordsOf } from "./details.js";
 import { air, callIn, letters, make } from "./dom.js";
-import { ageCell, cell, List, newMark, number, timeCell } from "./lists.js";
+import { ageCell, cell, heardCell, List, newMark, number, timeCell } from "./lists.js";
 import { placeText } from "./placeforms.js";
 import { who } from "./roster.js";
 import { markOf, symbolOf } from "./symbols.js";
@@ -13,7 +13,7 @@ import { printable, said } from "./words.js";
 /** @typedef {import("./net.js").Thing} Thing */
 /** @typedef {import("./net.js").Receiver} Receiver */
 /** @typedef {import("./rows.js").Place} Place */
-/** @typedef {import("./roster.js").Expected & { last: number }} Waited whom one waits for */
+/** @typedef {import("./roster.js").Expected & { last: number, key: string }} Waited who is due */
 /**
  * How a receiver's clock is put right: by how much it was in what is drawn, whether it can be, and
  * what puts it forward by so much, or back, in place of that.
@@ -66,7 +66,7 @@ function thingRow(it, view, onPick) {
     make("th", { scope: "row" }, now ? markOf(it, now) : make("span", { className: "mark" }), pick,
       ...newMark(view.isNewThing(it))),
     cell("kind", ...kind), timeCell(it.last),
-    ageCell(it.last, view), cell("by", it.by.join(", ")), cell("num sent", String(it.sent)),
+    ageCell(it.last, view), heardCell(it.by), cell("num sent", it.sent.toLocaleString("en")),
     cell("where", ...whereOf(now)), cell("about", ...aboutOf(it, now)));
 }
 /** @param {Place | null} place */
@@ -176,13 +176,15 @@ export function receiverList(box, view) {
 }
 /**
  * Whom one waits for.
- * @param {HTMLElement} box @param {View} view
+ * @param {HTMLElement} box @param {View} view @param {(key: string) => void} onPick
  */
-export function rosterList(box, view) {
+export function rosterList(box, view, onPick) {
   const row = (/** @type {Waited} */ it) => {
     const heard = it.last > -Infinity, silent = !heard || view.now - it.last > view.silent;
+    const call = heard ? make("button", { type: "button", className: "pick", title:
+      "show on the map", onclick: () => onPick(it.key) }, it.call) : it.call;
     return make("tr", { className: silent ? "silent" : "" },
-      make("th", { scope: "row", textContent: it.call }), cell("text", letters(printable(it.name))),
+      make("th", { scope: "row" }, call), cell("text", letters(printable(it.name))),
       cell("group", letters(printable([it.group, it.bib].filter(Boolean).join(" ")))),
       heard ? timeCell(it.last) : cell("num time", "not heard"),
       heard ? ageCell(it.last, view) : cell("num age"));

@@ -406,6 +406,10 @@ def test_brought(page, folder):
     is_(page.js(texts % "#expected .time"), ["20:02:14", "not heard", "19:44:12"])
     assert ("2 of 3 expected not heard for 30 min: not here (Q1NINE-9), =1+1 (Q1MED-7)"
             in page.js(BADGES)), page.js(BADGES)
+    # who was heard is shown on the map at a click
+    is_(page.js(texts % "#expected .pick"), ["Q1RUN-*", "Q1MED-7"])
+    page.js("document.querySelector('#expected .pick').click()")
+    page.wait("aprsbook.page.picked?.includes('Q1RUN-')")
     is_(page.problems(), [])
     # Chromium has a word of its own on XML that isn't well-formed
     for name in "bad.gpx", "far.geojson":

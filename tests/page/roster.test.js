@@ -51,11 +51,12 @@ test("a list of all calls is read at once, and of many faults a few are said", (
   assert.deepEqual(faultWords([]), []);
 });
 test("a call stands for itself alone, and with -* for each of its SSIDs and none", () => {
-  const heard = [{ name: "Q1A-7", kind: "station", last: 5 },
-    { name: "Q1B", kind: "station", last: 6 }];
-  const last = text => expectedOf(readRoster(text).list, heard).map(it => it.last);
-  assert.deepEqual(last("Q1A\nQ1A-*\nQ1A-7\nQ1B-*\nQ1B\nQ1B-1\n"),
-    [-Infinity, 5, 5, 6, 6, -Infinity]);
+  const heard = [{ key: "a", name: "Q1A-7", kind: "station", last: 5 },
+    { key: "b", name: "Q1B", kind: "station", last: 6 },
+    { key: "c", name: "Q1B-1", kind: "station", last: 4 }];
+  const expected = text => expectedOf(readRoster(text).list, heard).map(it => [it.last, it.key]);
+  assert.deepEqual(expected("Q1A\nQ1A-*\nQ1A-7\nQ1B-*\nQ1B\nQ1B-1\nQ1B-2\n"),
+    [[-Infinity, ""], [5, "a"], [5, "a"], [6, "b"], [6, "b"], [4, "c"], [-Infinity, ""]]);
 });
 test("a station has the name of its own line before that of its -* line", () => {
   const names = new Names(readRoster("Q1A-7 Leader\nQ1A-* Runner\nQ1B\n").list);
