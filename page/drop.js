@@ -172,8 +172,7 @@ async function takeAll(dropped) {
   if (pages.length) bringLines(pages);
   if (made && !read.length && files.length === many) return tellAgain();
   const whole = [...files.filter(it => it.taken), ...read.filter(it => !it.unread)];
-  if (read.length && whole.every(it => it.kind !== "KISS stream"))
-    await beginEarly(whole, gap);
+  if (read.length && whole.every(it => it.kind !== "KISS stream")) beginEarly(whole, gap);
   let done = 0;
   await Promise.all(read.map(async file => {
     await look(file, gap);
