@@ -2,7 +2,6 @@
 // Books of some rows of a book. A book has a first line, a line for each row, and a line that says
 // how many rows there are; a part of a book's rows makes a book too.
 
-import { countLines } from "./kinds.js";
 import { KINDS } from "./reading.js";
 
 const LINE = 10;
@@ -44,14 +43,6 @@ export function partOf(book, n, isWanted) {
   }
   if (!at || book.indexOf(LINE, at) !== book.length - 1) return null;
   return joined([...pieces, book.subarray(begin, at), lastLine(many)]);
-}
-/**
- * The book of the whole rows in the beginning of a book.
- * @param {Uint8Array} bytes
- */
-export function beginningOf(bytes) {
-  const lines = bytes.subarray(0, bytes.lastIndexOf(LINE) + 1);
-  return joined([lines, lastLine(countLines(lines) - 1)]);
 }
 /**
  * The book of the rows that tell of messages, by the columns of its table, or null.

@@ -186,8 +186,7 @@ async function takeAll(dropped) {
   if (made && !isNew) return tellAgain();
   coming.push(...read);
   const whole = [...files.filter(it => it.taken), ...read.filter(it => !it.unread)];
-  if (read.length && whole.every(it => it.kind !== "KISS stream"))
-    await beginEarly(whole, gap);
+  if (read.length && whole.every(it => it.kind !== "KISS stream")) beginEarly(whole, gap);
   let done = 0;
   await Promise.all(read.map(async file => {
     await lookAt(file, gap);

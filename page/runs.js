@@ -4,7 +4,6 @@
 import { placeOf, shifts } from "./intake.js";
 import { merged } from "./merging.js";
 import { limits, sizeOfAll } from "./sources.js";
-import { warmUp } from "./warming.js";
 import { run } from "./workers.js";
 
 /** @typedef {import("./intake.js").Given} Given */
@@ -36,17 +35,14 @@ let early = null;
 /**
  * Begins with files that aren't checked yet. Files have the same table as their book, so it need
  * not wait for the book; but each run holds all files, so only where they are small. Where clocks
- * are put right, logs are moved once they are checked. Before large files it is waited until their
- * runs will be fast.
+ * are put right, logs are moved once they are checked.
  * @param {Given[]} all
  * @param {number} gap
  */
-export async function beginEarly(all, gap) {
+export function beginEarly(all, gap) {
   const inputs = all.map(it => it.taken || it.bytes);
   early = null;
-  if (sizeOfAll(inputs) > limits.alone)
-    return warmUp(all.map(({ kind }, k) => ({ kind, source: inputs[k] })), gap);
-  if (shifts.size) return;
+  if (shifts.size || sizeOfAll(inputs) > limits.alone) return;
   const begin = (/** @type {Command} */ command, /** @type {Source[]} */ given) =>
     run(command, gap, given).catch(() => null);
   const rows = begin("rows", inputs), merge = begin("merge", inputs);

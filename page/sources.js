@@ -7,7 +7,7 @@
  * worker is replaced; what is read so has no other run beside it. More than `together` are merged
  * part by part.
  */
-export const limits = { kept: 2 ** 26, alone: 2 ** 26, together: 2 ** 29 };
+export const limits = { kept: 2 ** 26, alone: 2 ** 26, together: 2 ** 30 };
 export const GONE = "can't be read any more: it has changed, or is gone";
 
 /** @param {Source} source */

@@ -17,7 +17,7 @@ import { limits, sizeOf, sizeOfAll } from "./sources.js";
  * @typedef {{ command: string, options: import("./host.js").Options, inputs: Source[],
  *   keeps: boolean }} Asked
  */
-/** @typedef {{ it: Worker, busy: number, isLarge: boolean, began: boolean }} Hand */
+/** @typedef {{ it: Worker, busy: number, large: number, began: boolean }} Hand */
 
 /** @type {Hand[]} */
 const hands = [];
@@ -31,8 +31,12 @@ const queue = [];
 let last = 0;
 /** So many bytes are copied without a pause. */
 const PIECE = 2 ** 23;
-/** So many milliseconds after its end a worker's memory is free for others. */
-const LEAVES = 100;
+/**
+ * How many milliseconds it takes at most until the memory of a worker is free, which had so many
+ * bytes to read.
+ * @param {number} size
+ */
+const leaving = size => 100 + size / 2 ** 21;
 /**
  * What workers are made of: their script, the module, and who hears that one stopped.
  * @type {{ script: string, module: WebAssembly.Module | null, onStop: (fault: string) => void }}
@@ -43,7 +47,7 @@ export const aMoment = () => new Promise(done => setTimeout(done));
 /** Adds a worker, which loads the module. */
 function addWorker() {
   const url = URL.createObjectURL(new Blob([made.script], { type: "text/javascript" }));
-  const hand = { it: new Worker(url), busy: 1, isLarge: false, began: false };
+  const hand = { it: new Worker(url), busy: 1, large: 0, began: false };
   hand.it.onmessage = ({ data: [id, value, fault] }) => {
     const who = asked.get(id);
     asked.delete(id);
@@ -51,13 +55,13 @@ function addWorker() {
     if (!hand.began) URL.revokeObjectURL(url);
     hand.began = true;
     const answer = () => fault ? who?.fail(new Error(fault)) : who?.done(value);
-    if (!hand.isLarge) {
+    if (!hand.large) {
       answer();
       return queue.shift()?.();
     }
     // what is run next mustn't be there beside it
     replace(hand);
-    setTimeout(answer, LEAVES);
+    setTimeout(answer, leaving(hand.large));
   };
   hand.it.onerror = ({ message }) => stopped(hand, `a worker stopped: ${message}`);
   hands.push(hand);
@@ -158,7 +162,8 @@ export async function run(command, options, inputs, { lent = [], keeps = false }
     await new Promise(done => queue.push(() => done(null)));
   free.busy++;
   // a worker that had much is replaced afterwards, which frees its memory at once
-  free.isLarge = sizeOfAll(inputs) > limits.alone;
+  const size = sizeOfAll(inputs);
+  free.large = size > limits.alone ? size : 0;
   // a copy that is handed over takes less time than what a browser copies itself
   const hand = free, copies = await copiesOf(inputs, lent).catch(fault => {
     letGo(hand); // there is no room for them

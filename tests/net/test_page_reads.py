@@ -603,7 +603,7 @@ def test_large(page, folder):
 def test_larger(page, folder):
     """More than 64 MB: the evening on each of 320 days, its lines ten times. The rows are the
     book's then, and aren't made of all the files; files and book may go to and fro, and files may
-    be merged in parts. Before that the same is run over the beginnings of the files."""
+    be merged in parts."""
     logs = [folder / it.name for it in EVENING]
     for own, path in zip(EVENING, logs):
         text = own.read_bytes()
@@ -611,12 +611,11 @@ def test_larger(page, folder):
         path.write_bytes(b"".join(10 * text.replace(b"2024-06-21", str(day).encode())
                                   for day in days))
     assert sum(it.stat().st_size for it in logs) > 2 ** 26
-    first = ["check 1"] * 9 + ["merge 1"] * 3 + ["merge 3", "messages 1", "rows 1"] * 3
     small = "kept: 1e6, alone: 1e6"
     for limits, merges in [("{}", ["merge 3"]), (f"{{ {small} }}", ["merge 3"]),
                            (f"{{ {small}, together: 4e7 }}", ["merge 2", "merge 2"])]:
         dropped(page, "more than 64 MB", logs, {}, limits)
         # each log was looked into before it was read
         is_(sorted(page.js("[...window.asked]")),
-            sorted([*first, *["check 1"] * 6, *merges, "messages 1", "rows 1"]))
+            ["check 1"] * 6 + [*merges, "messages 1", "rows 1"])
 

@@ -1,6 +1,6 @@
 import assert from "node:assert/strict";
 import { test } from "node:test";
-import { beginningOf, partOf, saidIn } from "../../page/bookparts.js";
+import { partOf, saidIn } from "../../page/bookparts.js";
 import { columnsOf, tableOf } from "../../page/reading.js";
 import { atOnce } from "../../page/steps.js";
 import { bytesOf, textOf } from "./stand.js";
@@ -32,10 +32,4 @@ test("the table's kinds say what tells of messages, in whatever order it was hea
   const { columns } = atOnce(columnsOf(tableOf(table(rows))));
   assert.equal(textOf(saidIn(book, columns)), `${HEAD}T a\nT c\nT d\nEND 3\n`);
   assert.equal(saidIn(book.subarray(0, -6), columns), null);
-});
-test("the beginning of a book is a book of the rows that are whole in it", () => {
-  const cut = (from, to) => textOf(beginningOf(book.subarray(from, to)));
-  assert.equal(cut(0, HEAD.length + 4), `${HEAD}T a\nEND 1\n`);
-  assert.equal(cut(0, HEAD.length + 7), `${HEAD}T a\nEND 1\n`);
-  assert.equal(cut(0, HEAD.length), `${HEAD}END 0\n`);
 });
