@@ -71,10 +71,10 @@ const ALTERNATE = {
  * @param {{ table: string, code: string }} place
  */
 export function symbolOf(place) {
-  const [shape, ...words] = ((place.table === "/" ? PRIMARY : ALTERNATE)[place.code] || "dot")
-    .split(" ");
+  const named = (place.table === "/" ? PRIMARY : ALTERNATE)[place.code] || "dot";
+  const shape = named.replace(/ .*/, ""), own = named.slice(shape.length + 1);
   const overlay = place.table === "/" || place.table === "\\" ? "" : place.table;
-  return { shape, overlay, word: (words.join(" ") || (shape === "dot" ? "" : shape)) +
+  return { shape, overlay, word: (own || (shape === "dot" ? "" : shape)) +
     (overlay ? ` ${overlay}` : "") };
 }
 /** @type {Map<string, Path2D>} */
