@@ -12,8 +12,8 @@ abbrev pub most_input : ℕ
 most_input = 1073741824
 
 -- After `text` was read of an input, `rest` is left of it, and `after` is what the device still
--- has. `End`: nothing is left, and what the device has isn't said. `Read`: the device still has just
--- the rest, as after a failed read. In both the text has at most `limit` bytes. `TooLong`: the
+-- has. `End`: nothing is left, and what the device has isn't said. `Read`: the device still has
+-- just the rest, as after a failed read. In both the text has at most `limit` bytes. `TooLong`: the
 -- text is as long as the limit, something is left, and the device still has it but for its first
 -- byte, which was taken and isn't kept.
 abbrev pub EndsSo : InputEnd → ℕ → List ℕ → List ℕ → Option (List ℕ) → Type 0
@@ -22,8 +22,8 @@ EndsSo how.Read limit text rest after = (after ≡ Some rest) × (length text �
 EndsSo how.TooLong limit text rest after =
     (0 < length rest) × (length text ≡ limit) × (after ≡ Some (drop 1 rest))
 
--- A text of at most `limit` bytes is read of the input, which then ends in this way; what the device
--- then has, `after`, is as `EndsSo` says.
+-- A text of at most `limit` bytes is read of the input, which then ends in this way; what the
+-- device then has, `after`, is as `EndsSo` says.
 pub record Gets (limit : ℕ) (input : List ℕ) (after : Option (List ℕ)) (text : List ℕ)
     (ending : InputEnd) : Type 0 where
   pub rest : List ℕ

@@ -8,8 +8,8 @@ use Rattle.aprs_io.specs.Octet.{octet}
 abbrev pub is_shown_as_is : ℕ → Bool
 is_shown_as_is b = nat_le 32 b && nat_le b 126 && not (b == octet "\\")
 
--- What a byte is shown as: itself where `is_shown_as_is` holds, and otherwise a backslash, x and two
--- lower case hexadecimal digits.
+-- What a byte is shown as: itself where `is_shown_as_is` holds, and otherwise a backslash, x and
+-- two lower case hexadecimal digits.
 abbrev pub shown_byte : ℕ → List ℕ
 shown_byte b = if is_shown_as_is b then b ∷ [] else codes "\\x" ++ encode_lower (b ∷ [])
 

@@ -82,7 +82,8 @@ impl<A: Allocator + Copy> KeyedRows<A> {
         Walk::of(self.map.values())
     }
 
-    /// Rows of the last key prefix, with which all rows end; or no rows, where there are none at all.
+    /// Rows of the last key prefix, with which all rows end; or no rows, where there are none at
+    /// all.
     fn last_rows(&self) -> &[KeptRow<A>]
         ensures { IsEndOf result.now self.now }
     {
