@@ -13,33 +13,35 @@ crate = $(subst -,_,$(1))
 # as `make build` made them
 BUILT = $(foreach it,$(PROGRAMS),crates/$(call crate,$(it))/out/$(call crate,$(it)))
 
-.PHONY: build libraries run try test words map reading recipes cookbook bench hostile page-tests
+.PHONY: build run test prove check edits words map limits reading recipes cookbook bench hostile page-tests
 .PHONY: arm64 static elsewhere install uninstall deb tarball release wasm clib
 
-# how many checks run side by side: as many as there are processors, each with 3 GB of free memory
-LANES ?= $(shell awk -v n=$$(nproc) '/MemAvailable/ { most = int($$2 / 3000000) } \
-    END { if (n > most) n = most; print (n < 1 ? 1 : n) }' /proc/meminfo)
-# how many jobs a proof has: at most four
-JOBS ?= $(shell n=$(LANES); echo $$((n < 4 ? n : 4)))
+# the main job: the book of the sample log of two receivers, or of LOG=FILE.., and what is last known of
+# whom
+LOG = examples/sample.log
+run:
+	@build/run.sh $(LOG)
 
-# what is proved beside the book and what leads to it, which take longer: one job each, and after these
-BESIDE = aprs_report aprs_convert aprs_command aprs_listing
+# every test, and no proof; with programs of these sources, built or released, also those of programs
+test:
+	@build/gate.py test
 
-# the programs alone, each call of them proved: crates that don't stand on each other side by side, and
-# last the programs with one job, which is quicker than with more
+# the gate: every proof from nothing, every edit that must fail, and every test with the programs that
+# this made, but those of aprs-net
+prove:
+	@build/gate.py prove
+
+# the four programs, proved, over what was proved before
 build:
-	@$(MAKE) --no-print-directory -j 3 libraries JOBS=$(JOBS)
-	cd crates/aprsbook && rt run --jobs 1 -- check ../../examples/sample.log > /dev/null
-	cd crates/aprsbook_history && rt run --jobs 1 -- ../../examples/sample.log > /dev/null
-	cd crates/aprsbook_table && rt run --jobs 1 -- ../../examples/sample.log > /dev/null
-	cd crates/aprsbook_fold && rt run --jobs 1 -- --version > /dev/null
+	@build/gate.py build
 
-LIBRARIES := $(shell sed -n '/_tests:/d; /^aprs_fixtures:/d; /^aprs_arena:/d; /^aprs_example:/d; s/^\(aprs_[a-z0-9]*\):.*/\1/p' crates.txt)
-$(foreach it,$(LIBRARIES),$(eval $(it): $(filter $(LIBRARIES),$(shell sed -n 's/^$(it)://p' crates.txt))))
-.PHONY: $(LIBRARIES)
-libraries: $(LIBRARIES)
-$(LIBRARIES):
-	@$(if $(filter $@,$(BESIDE)),nice) build/prove.sh $@ $(if $(filter $@,$(BESIDE)),1,$(JOBS))
+# the gate over what was proved before; or one crate, and its edits that must fail: make check CRATE=aprs_log
+check:
+	@$(if $(CRATE),cd crates/$(CRATE) && rt check && cd ../.. && build/edits.py $(CRATE),build/gate.py check)
+
+# every edit that must fail, over what was proved before
+edits:
+	build/edits.py
 
 # the runs for other programs, each call proved: out/aprsbook.wasm for web pages, and the library for C
 # and other languages, out/aprsbook.h, out/libaprsbook.a and out/libaprsbook.so
@@ -48,60 +50,42 @@ wasm:
 clib:
 	build/clib.sh
 
-# the main job, on the sample log of two receivers: their book, and what is last known of whom
-run: build
-	@mkdir -p out
-	$(PROGRAM) merge examples/sample.log > out/sample.book
-	$(PROGRAM) show out/sample.book
-
-# the same without any proof
-try:
-	cd crates/aprsbook && rt try < ../../examples/sample.log
-
-# the whole gate: every proof, edit that must fail, test and stored run, and then what is tried with the
-# programs that this built; each check with one job, since four jobs read four times what they begin with
-test: words
-	RT_JOBS=$(LANES) build/gate.sh $(BUILT)
-
 # the manual page and the completions name what the program has, the documents what the crates have and
 # by the same numbers, no source makes up a want of memory, the reading list is that of the sources, the
-# version is one, and the scripts and packaging/system.c are in order
+# version is one, each edit applies, and the scripts, the gate and packaging/system.c are in order
 words:
 	tests/version.sh
 	tests/words.sh
 	tests/sentences.py
 	tests/outside.py
+	build/limits.py --check
+	tests/every_byte.py
 	tests/names.sh
 	tests/numbers.sh
 	tests/memory.sh
-	tests/planted.py
+	tests/edits.py
 	tests/map.sh
+	tests/unused.py
 	tests/reading.sh
 	tests/library.sh
 	tests/completions.sh
 	tests/scripts.sh
-	tests/gate.sh
-	tests/tools.sh
+	tests/gate.py
 	tests/system_c.sh
-	@$(MAKE) --no-print-directory page-tests
 
-# the parts of the page that need no browser, their types, and that a bundler reads them too, each
-# where its tool is there
+# the parts of the page that need no browser, and their types, each where its tool is there
 page-tests:
 	@mkdir -p out
 	@if command -v node > /dev/null; then node --test tests/page/*.test.js > out/page-tests.txt || \
-	    { cat out/page-tests.txt; exit 1; }; echo "page: $$(grep -c '^ok' out/page-tests.txt) tests"; \
+	    { cat out/page-tests.txt; exit 1; }; grep -E '^# (pass|fail)' out/page-tests.txt; \
 	else echo 'left out: the tests of the page (no node is there)'; fi
-	@if command -v tsc > /dev/null; then tsc -p page/jsconfig.json; \
+	@if command -v tsc > /dev/null; then tsc -p page; \
 	else echo 'left out: the types of the page (no tsc is there)'; fi
-	@if command -v esbuild > /dev/null; then for it in begin reads worker command; do \
-	    esbuild --bundle --platform=node --log-level=error page/$$it.js > /dev/null || exit 1; done; \
-	else echo 'left out: the page by a bundler (no esbuild is there)'; fi
 
 # the tests of the command aprs-net, in tools, with the programs where they are built
 .PHONY: tools
 tools:
-	tests/tools.sh --all $(PROGRAM)
+	@programs=$$(build/programs.sh) || programs=; set -- $$programs; tests/tools.sh --all $$1
 
 # the completions, and the synopsis and the options of the manual pages, written anew of
 # completions/programs.txt
@@ -113,6 +97,10 @@ options:
 map:
 	build/map.py > docs/architecture.new
 	mv docs/architecture.new docs/architecture.md
+
+# the limits of the definitions, written into a module of Python, one of JavaScript, and documents
+limits:
+	build/limits.py
 
 # the pages of docs/reading and the sums in docs/proved.md, written anew of the clauses and definitions
 reading:
@@ -130,23 +118,21 @@ tries = $(call passes,tests/arguments.py $(PROGRAM)) $(call passes,tests/ample.p
     $(foreach it,$(TRIED),$(call passes,tests/$(it).sh $(PROGRAM))) \
     $(foreach it,$(TRIED_ALL),$(call passes,tests/$(it).sh $(PROGRAM) $(HISTORY) $(TABLE)))
 
-# what isn't there of the programs, and the sources that are newer than one of them
-stale = for it in $(BUILT); do if [ ! -x $$it ]; then echo $$it; else \
-    find crates -name out -prune -o -name '*.rt' -newer $$it -print; fi; done | sort -u | sed 4q
-
-# these, and the recipes that need only a POSIX system; each says what it leaves out because a tool
-# isn't there
+# these, and the recipes that need only a POSIX system, with the programs that build/programs.sh finds; each
+# says what it leaves out because a tool isn't there
 .PHONY: tried
 tried:
-	@stale=$$($(stale)); if [ -n "$$stale" ]; then \
-	    echo "no program is built of these sources (make build):" $$stale >&2; exit 1; fi
+	@programs=$$(build/programs.sh) && set -- $$programs && \
+	    $(MAKE) --no-print-directory tried-with PROGRAM=$$1 HISTORY=$$2 TABLE=$$3
+.PHONY: tried-with
+tried-with:
 	@$(tries) $(call passes,examples/cookbook.sh --posix $(PROGRAM)) true
 
 # the same, with the programs for other machines, where all programs are newer than their sources
 recipes:
-	@if [ -z "$$($(stale))" ]; then \
+	@if build/programs.sh > /dev/null; then \
 	    $(MAKE) --no-print-directory elsewhere && $(MAKE) --no-print-directory tried; \
-	else echo 'left out: the recipes of the cookbook, since no program is built (make build)'; fi
+	else echo 'left out: the recipes of the cookbook'; fi
 
 # these, the module and the library for C, and every recipe of the cookbook whose tools are there
 cookbook: build
@@ -165,12 +151,24 @@ bench: build
 	bench/history.sh $(PROGRAM) $(HISTORY)
 	bench/tables.sh $(PROGRAM) $(TABLE)
 
+# the page of an event, which aprs-net fills: no proof is needed for it, but esbuild
+.PHONY: event-page
+EVENT_PAGE = tools/src/aprsbook_tools/data/event.html
+event-page: $(EVENT_PAGE)
+$(EVENT_PAGE): build/page.py $(shell find page/src page/assets -type f)
+	build/page.py event $@ out/event.readable.html
+
+# the same where its tool is there; else the page is that of the release
+.PHONY: event-page-here
+event-page-here:
+	@if command -v esbuild > /dev/null; then $(MAKE) --no-print-directory event-page; \
+	else echo 'left out: the page of an event is that of the release (no esbuild is there)'; fi
+
 # the page that reads logs, out/aprsbook.html, and the command for Node, out/aprsbook.mjs, both with the
-# module in them; the command has the programs' texts of help
+# module in them; the command has the programs' texts of help. Beside each page is a readable one.
 .PHONY: page
-page: wasm build
-	page/together.py out/aprsbook.wasm > out/aprsbook.html.new
-	mv out/aprsbook.html.new out/aprsbook.html
+page: event-page wasm build
+	build/page.py reader out/aprsbook.wasm out/aprsbook.html out/aprsbook.readable.html
 	rm -rf out/named && mkdir -p out/named
 	$(foreach it,$(PROGRAMS),ln -s '$(CURDIR)/crates/$(call crate,$(it))/out/$(call crate,$(it))' out/named/$(it) && ) true
 	build/command.py out/aprsbook.wasm out/named > out/aprsbook.mjs.new
@@ -179,13 +177,8 @@ page: wasm build
 # the recipes of tracks, a page and a net that runs, each where its tools are there
 .PHONY: net
 cookbook: net
-net: build
-	tests/net/run.sh $(PROGRAM) out/aprsbook.html
-
-# the wrong bodies that were planted beside those of the gate
-planted:
-	build/planted.sh
-.PHONY: planted
+net: build event-page
+	tests/browser/run.sh $(PROGRAM) out/aprsbook.html
 
 # book files that nobody would write by hand: what each takes
 hostile: build
@@ -231,9 +224,12 @@ elsewhere:
 
 # ---- what follows builds nothing, so that no root runs a prover ----
 
+# the programs that are put in place: BUILT, where it is given, or those that there are of these sources
+FOUND = $(if $(filter command,$(origin BUILT)),echo '$(BUILT)',build/programs.sh)
 install:
-	$(call there,build,$(BUILT))
-	packaging/put-into '$(DESTDIR)$(PREFIX)' $(BUILT)
+	@programs=$$($(FOUND)) && for it in $$programs; do \
+	    [ -x "$$it" ] || { echo "there is no program $$it yet: make build" >&2; exit 1; }; done && \
+	    packaging/put-into '$(DESTDIR)$(PREFIX)' $$programs
 	packaging/put-tools '$(DESTDIR)$(PREFIX)'
 
 uninstall:
@@ -247,24 +243,31 @@ deb:
 
 # the package of aprs-net, for each processor, and aprs-net as one file for any system with Python
 .PHONY: tools-deb pyz
-tools-deb:
+tools-deb: event-page
 	packaging/make-deb all '$(OUT)'
-pyz:
+pyz: event-page
 	build/pyz.py '$(OUT)/aprs-net.pyz'
 
-# a tar file of the static programs, with what puts it in place
+# a tar file of the static programs, with what puts it in place, and with all that goes with them, or
+# with the programs alone
+CONTENT = all
 tarball:
 	$(call there,static,$(PROGRAMS:%=out/static/$(ARCH)/%))
-	packaging/make-tarball '$(ARCH)' '$(OUT)' $(PROGRAMS:%=out/static/$(ARCH)/%)
+	CONTENT='$(CONTENT)' packaging/make-tarball '$(ARCH)' '$(OUT)' $(PROGRAMS:%=out/static/$(ARCH)/%)
 
-# all that a release has, in out/release: packages and tar files for both processors, aprs-net, the
-# page, the module that it runs, and sums. The same programs give the same packages, in any folder and on any day.
-PAGES = out/aprsbook.html out/aprsbook.wasm out/aprsbook.mjs
+# all that a release has, in out/release: packages and tar files for both processors, aprs-net, the page,
+# the module that it runs, and sums. What runs without a package lies in release/VERSION too, with
+# SOURCES, which says of what it is made. The same commit and programs give the same files, in any folder
+# and on any day.
+PAGES = out/aprsbook.html out/aprsbook.wasm out/aprsbook.mjs $(EVENT_PAGE)
 release:
 	@for it in $(PAGES); do [ -f $$it ] || { echo "there is no $$it yet: make page" >&2; exit 1; }; done
 	rm -rf out/release
-	for arch in amd64 arm64; do \
-	    $(MAKE) --no-print-directory deb tarball ARCH=$$arch OUT=out/release || exit 1; done
-	$(MAKE) --no-print-directory tools-deb pyz OUT=out/release
+	export SOURCE_DATE_EPOCH=$$(packaging/version --epoch) && for arch in amd64 arm64; do \
+	    $(MAKE) --no-print-directory deb tarball ARCH=$$arch OUT=out/release || exit 1; done && \
+	    $(MAKE) --no-print-directory tools-deb pyz OUT=out/release
 	cp $(PAGES) out/release
 	cd out/release && sums=$$(sha256sum *) && printf '%s\n' "$$sums" > SHA256SUMS
+	rm -rf out/slim && for arch in amd64 arm64; do SOURCE_DATE_EPOCH=$$(packaging/version --epoch) \
+	    $(MAKE) --no-print-directory tarball CONTENT=programs ARCH=$$arch OUT=out/slim || exit 1; done
+	packaging/put-release out/release out/slim

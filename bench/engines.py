@@ -123,8 +123,8 @@ def measure_cluster(folder):
             time.sleep(10)
             book = folder / "cluster.book"
             book.unlink(missing_ok=True)
-            client = Run("aprs-net", "cluster", "--piece", 64, f"tcp://{SCHEDULER}", f"{work}/work",
-                         book, folder / "logs").wait()
+            client = Run("aprs-net", "cluster", "--piece", 64, "--scheduler", f"tcp://{SCHEDULER}",
+                         "--work", f"{work}/work", book, folder / "logs").wait()
             same(folder, book)
             for it in hosts:
                 it.started.kill()

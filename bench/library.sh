@@ -1,8 +1,8 @@
 #!/usr/bin/env bash
 # Measures calls of the library that no command makes: `Book::merge` of two books in memory, as a ratio to
 # what it takes to make these of logs; and `Book::take`, in the orders that cost most, as a ratio to as many
-# transmissions of one key, the earliest first. Proves the program that makes the calls over the libraries
-# of `make build`, in out/ of the repository.
+# transmissions of one key, the earliest first. Proves the crate of books, which no program needs, and the
+# program that makes the calls, over the libraries of `make build`, in out/ of the repository.
 # usage: bench/library.sh [ROWS]...    two books of 20,000 rows where none are asked for
 # environment: RUNS                    of how many runs the best counts (5)
 set -euo pipefail

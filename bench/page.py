@@ -18,7 +18,7 @@ from typing import Dict, List, Tuple
 
 HERE = pathlib.Path(__file__).resolve().parent
 sys.dont_write_bytecode = True
-sys.path.append(str(HERE.parent / "tests/net"))
+sys.path.append(str(HERE.parent / "tests/browser"))
 from browser import Chromium  # noqa: E402 (it lies there)
 
 SHOWN = r"/ in [0-9.]+ s$/.test(document.getElementById('status').textContent)"

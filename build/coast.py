@@ -1,11 +1,12 @@
 #!/usr/bin/env python3
-"""Makes page/coast.txt, the coasts of the world below the map of a page.
+"""Makes page/assets/coast.txt, the coasts of the world below the map of a page.
 
-usage: build/coast.py [FOLDER] > page/coast.txt    FOLDER has Rdata.rdx and Rdata.rdb of Debian's
+usage: build/coast.py [FOLDER] > page/assets/coast.txt
+       FOLDER has Rdata.rdx and Rdata.rdb of Debian's
                                                    package r-cran-rnaturalearthdata, once unpacked
 
 The data are Natural Earth's coastline at 1:50 million, which is in the public domain. The text is
-base64 of a zlib stream of rings, each of them closed: how many places it has, then the steps from
+base85 (RFC 1924) of a zlib stream of rings, each of them closed: how many places it has, then the steps from
 one place to the next, east and north in hundredths of a degree, as numbers of seven bits a byte,
 lower ones first, twice as large and one less where they are negative.
 """
@@ -162,8 +163,17 @@ def packed(all_rings):
     return bytes(written)
 
 
+def deflated(written):
+    """The least that zlib makes of it."""
+    made = []
+    for strategy in range(5):
+        packer = zlib.compressobj(9, zlib.DEFLATED, 15, 9, strategy)
+        made.append(packer.compress(written) + packer.flush())
+    return min(made, key=len)
+
+
 if __name__ == "__main__":
     folder = sys.argv[1] if len(sys.argv) > 1 else FOLDER
     found = sorted(rings(read_lines(folder, "coastline50")))
-    print(base64.b64encode(zlib.compress(packed(found), 9)).decode())
+    print(base64.b85encode(deflated(packed(found))).decode())
     print(f"{len(found)} rings of {sum(map(len, found))} places", file=sys.stderr)

@@ -4,24 +4,22 @@
 usage: build/command.py MODULE.wasm FOLDER > aprsbook.mjs
 
 FOLDER has the programs aprsbook, aprsbook-history and aprsbook-table, whose texts of help it says.
-Needs Python 3.9.
+Needs Python 3.9 and esbuild.
 """
 import base64
-import importlib
 import json
 import pathlib
 import re
 import subprocess
 import sys
-from typing import Any, Dict, List, TypedDict
+from typing import Dict, List, TypedDict
+
+import page
 
 HERE = pathlib.Path(__file__).resolve().parent
-sys.dont_write_bytecode = True
-sys.path.append(str(HERE.parent / "page"))
-together: Any = importlib.import_module("together")
 
 PROGRAMS = ["aprsbook", "aprsbook-history", "aprsbook-table"]
-NODE = re.compile(r'^import .* from "node:\w+";\n', re.M)
+ENTRY = 'import { command } from "./main-node.js";\ncommand(PARTS);\n'
 
 
 class Row(TypedDict):
@@ -82,22 +80,10 @@ def whole(module: bytes, folder: pathlib.Path) -> str:
     version = said(HERE.parent / "packaging" / "version").strip()
     parts = {"rows": typed, "helps": helps(folder, typed), "version": version,
              "module": base64.b64encode(module).decode()}
-    own = together.read
-    imports: List[str] = []
-
-    def read(name: str) -> str:
-        text: str = own(name)
-        imports.extend(it for it in NODE.findall(text) if it not in imports)
-        return NODE.sub("", text)
-
-    together.read = read
-    try:
-        script = "".join(together.modules_of("command", {}).values())
-    finally:
-        together.read = own
+    script = page.esbuild("--bundle", "--minify", "--format=esm", "--platform=node",
+                          folder=page.PAGE / "src", given=ENTRY).decode()
     return ("#!/usr/bin/env node\n// aprsbook, aprsbook-history and aprsbook-table for Node 20 or "
-            "later: node aprsbook.mjs --help\n" + "".join(imports) + script +
-            f"in_command.command({json.dumps(parts)});\n")
+            f"later: node aprsbook.mjs --help\nconst PARTS = {json.dumps(parts)};\n{script}")
 
 
 if __name__ == "__main__":

@@ -59,9 +59,11 @@ class Row(NamedTuple):
 
 
 class Option(NamedTuple):
-    """An option: its value, and what completions and manual pages say of it."""
+    """An option: its value, the kind of file that it is, and what completions and manual pages say
+    of it."""
 
     value: str
+    file: str
     says: str
     manual: str
 
@@ -91,7 +93,8 @@ def table() -> Tuple[List[Row], Dict[str, Option]]:
         cells = [cell.strip() for cell in line.split("|")]
         if line.startswith("--"):
             name, _, value = cells[0].partition(" ")
-            options[name] = Option(value, cells[1], cells[2])
+            value, _, file = value.partition(":")
+            options[name] = Option(value, file, cells[1], cells[2])
         elif line and not line.startswith("#"):
             words = cells[0].replace("[", "").replace("]", "").split()
             rows.append(Row(words, values_of(cells[1]), cells[2], "[" in cells[0]))
@@ -196,7 +199,8 @@ def bash(program: Program) -> str:
     deepest_first = sorted(program.rows, key=lambda row: -len(row.words))
     arms = [line for row in deepest_first for line in bash_arms(program, row)]
     asked = program.asked()
-    untold = " | ".join(name for name, it in asked.items() if it.value not in ("", "MOMENT"))
+    untold = " | ".join(name for name, it in asked.items()
+                        if it.value not in ("", "MOMENT") and not it.file)
     timed = " | ".join(name for name, it in asked.items() if it.value == "MOMENT")
     values = [f"    {untold}) files= ;;"] if untold else []
     values += [f"    {timed}) words=$({NOW}) files= ;;"] if timed else []
@@ -228,7 +232,8 @@ def zsh_given(program: Program, row: Row) -> List[str]:
     given = []
     for name in row.options:
         it = program.options[name]
-        given.append(f"'{name}[{it.says}]" + (f":{it.value.lower()}: '" if it.value else "'"))
+        action = f":{it.file}:_files" if it.file else f":{it.value.lower()}: "
+        given.append(f"'{name}[{it.says}]" + (f"{action}'" if it.value else "'"))
     for number, place in enumerate(row.places, 1):
         action = f"{place.file}:_files" if place.file else f"{place.name.lower()}: "
         given.append(f"'{'*' if place.many else number}:{action}'")
@@ -318,7 +323,7 @@ def fish_row(program: Program, row: Row) -> List[str]:
     for name in row.options:
         it = program.options[name]
         offers = f" -a '({NOW})'" if it.value == "MOMENT" else ""
-        given = " -x" if it.value else ""
+        given = " -r" if it.file else " -x" if it.value else ""
         lines.append(fish_line(program, at, f"-l {name[2:]}{given}{offers}", it.says))
     return lines
 
@@ -443,7 +448,7 @@ def in_sources(program: Program) -> Tuple[Set[str], Set[str]]:
             if "Table::named(" in text:
                 tables = read("crates/aprs_command/src/jobs.rt")
                 words |= set(re.findall(r'if name == b"([a-z]+)"', tables))
-            options |= {f"--{it}" for it in re.findall(r'option_arg\(\s*alloc,\s*"(\w+)"', text)}
+            options |= {f"--{it}" for it in re.findall(r'option_arg\(\s*alloc,\s*"([\w-]+)"', text)}
             options |= {f"--{it}" for it in re.findall(r'\.long\("(\w+)"\)', text)}
             options |= {"--gap"} if "gap_arg(alloc)" in text else set()
     return words - {program.name}, options

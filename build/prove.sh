@@ -1,6 +1,6 @@
 #!/usr/bin/env bash
-# build/prove.sh CRATE JOBS: proves a library, once those below it are proved, beside others that don't
-# stand on it, with so many jobs.
+# build/prove.sh CRATE JOBS: proves a library, a program, or a crate of tests, which then run, once those
+# below it are proved, beside others that don't stand on it, with so many jobs.
 #
 # `rt` holds the folder of the crate that it proves and those of all crates below, so that two crates over
 # a third would wait for each other. So each is proved in a view of its own under out/: folders with links
@@ -34,11 +34,21 @@ for it in $lower "$crate"; do
     for part in src specs proofs; do
         if [ -d "crates/$it/$part" ]; then cp -rl "crates/$it/$part" "$view/crates/$it/"; fi
     done
-    grep "^$it:" crates.txt >> "$view/crates.txt"
+    grep -E "^$it( [a-z]+)?:" crates.txt >> "$view/crates.txt"
 done
 for it in $lower; do
     mkdir "$view/crates/$it/out"
     cp -rl "crates/$it/out/rlib" "$view/crates/$it/out/"
 done
 if [ -d "crates/$crate/out" ]; then mv "crates/$crate/out" "$view/crates/$crate/"; fi
-(cd "$view/crates/$crate" && rt lib --jobs "$jobs") 2>&1 | sed -u "s/^/$crate: /"
+case $crate in
+*_tests) command=(rt test --jobs "$jobs") ;;
+*) command=(rt lib --jobs "$jobs") ;;
+esac
+given=/dev/null
+if [ -f "crates/$crate/src/main.rt" ]; then
+    # a program runs once, so that it is linked, on what its stored run reads
+    command=(rt run --jobs "$jobs")
+    given=$PWD/crates/$crate/stdin
+fi
+(cd "$view/crates/$crate" && "${command[@]}" 2>&1 < "$given") | sed -u "s/^/$crate: /"

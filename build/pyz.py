@@ -22,10 +22,11 @@ sys.exit(main())
 def main() -> None:
     out = pathlib.Path(sys.argv[1])
     files = {"__main__.py": MAIN.encode()}
-    for root, folder in (SOURCES, SOURCES / "aprsbook_tools"), (REPOSITORY, REPOSITORY / "page"):
-        for path in folder.rglob("*"):
-            if path.is_file() and "__pycache__" not in path.parts:
-                files[path.relative_to(root).as_posix()] = path.read_bytes()
+    for path in (SOURCES / "aprsbook_tools").rglob("*"):
+        if path.is_file() and "__pycache__" not in path.parts:
+            files[path.relative_to(SOURCES).as_posix()] = path.read_bytes()
+    if "aprsbook_tools/data/event.html" not in files:
+        sys.exit("the page of an event isn't built: make event-page")
     out.parent.mkdir(parents=True, exist_ok=True)
     new = out.with_name(out.name + ".new")
     with open(new, "wb") as file:

@@ -309,11 +309,21 @@ def does_nothing(call):
     return False
 
 
+def calls_of(facts, crate):
+    """The public functions that a crate has, and then those of lower crates that it gives on."""
+    found = [call for call in facts.calls if call.text and call.clauses]
+    given = facts.given.get(crate, ())
+    own = [call for call in found if call.crate == crate]
+    return own + [call for call in found if (call.crate, call.name.split("::")[0]) in given]
+
+
 def types_table(facts, crate):
-    """The public types of a crate, each with the first sentence of its comment."""
+    """The public types of a crate, those of lower crates that it gives on among them, each with the
+    first sentence of its comment."""
     names = {name for _, name in facts.given[crate]}
-    own = [(name, item) for (of, name), item in facts.items.items() if of == crate]
-    rows = [[f"`{name}`", prose([first_sentence(item.doc)])] for name, item in own if name in names]
+    keys = {facts.item(crate, name) for name in names} - {None}
+    own = [(name, facts.items[of, name]) for of, name in keys]
+    rows = [[f"`{name}`", prose([first_sentence(item.doc)])] for name, item in own]
     return table(["type or constant", "is"], sorted(rows)) if rows else []
 
 
@@ -324,10 +334,10 @@ def crate_text(facts, crate, home):
     lines = [f"# `{crate}`", "", MADE]
     lines += [prose(line[3:].strip() for line in about.splitlines()), ""]
     lines += [f"A caller that the gate proves, of `{path}`:", ""] + fenced("rust", caller)
-    lines += ["Each function below has its comment, its head and its clauses. `make test` proves"]
+    lines += ["Each function below has its comment, its head and its clauses. `make prove` proves"]
     lines += ["them, and `build/reading.py --page FUNCTION` prints the definitions that they cite.", ""]
     lines += types_table(facts, crate)
-    own = [call for call in facts.calls if call.crate == crate and call.text and call.clauses]
+    own = calls_of(facts, crate)
     for heading, law in (("Functions", False), ("Laws and examples, which do nothing", True)):
         some = [call for call in own if does_nothing(call) is law]
         lines += [f"## {heading}", ""] if some else []
@@ -361,7 +371,7 @@ def with_sums(facts, text):
         if mark == "names":
             value = len(ambiguous(facts))
         elif mark == "edits":
-            value = len(glob.glob("crates/*/must-fail/*.edit"))
+            value = len(glob.glob("crates/*/must-fail/*.edit") + glob.glob("edits/*/*.edit"))
         else:
             keys = counted(facts, what.strip(": "))
             value = facts.size(keys) if mark == "lines" else len(keys)
@@ -431,7 +441,7 @@ def print_page(facts, words):
 
 def print_calls(facts, crate):
     """The public functions of a crate, each with the first sentence of its comment and its clauses."""
-    found = [call for call in facts.calls if call.crate == crate and call.text and call.clauses]
+    found = calls_of(facts, crate)
     if not found:
         raise LookupError(f"there is no crate {crate} with public clauses")
     for call in found:

@@ -43,4 +43,7 @@ for it in ../*/out/rlib; do set -- "$@" -L dependency="$PWD/$it"; done
 mkdir -p "$(dirname "$module")"
 "$kit/bin/rattle-link" --target wasm64-unknown-unknown --toolchain "$kit/toolchain" -o "$module" \
     out/aprs_web.wasm.a
+# without the names of its functions, which nothing reads
+ln -s "$kit/toolchain/bin/clang" "$tools/bin/llvm-strip"
+"$tools/bin/llvm-strip" "$module"
 echo "$module: $(wc -c < "$module") bytes"

@@ -23,7 +23,7 @@ _aprsbook_fold() {
     local words='' options='' files=1
     COMPREPLY=()
     case $path in
-    ' '*) options='--gap --from --until --check --help --version' ;;
+    ' '*) options='--gap --from --until --new-to --check --help --version' ;;
     esac
     case $before in
     --gap | --from | --until) files= ;;

@@ -20,6 +20,7 @@ end
 complete -c aprsbook-fold -l gap -x -d 'Seconds within which copies are one, 1 to 3600'
 complete -c aprsbook-fold -l from -x -d 'The source to begin with'
 complete -c aprsbook-fold -l until -x -d 'The source to end before'
+complete -c aprsbook-fold -l new-to -r -d 'The book whose rows are left out'
 complete -c aprsbook-fold -l check -d 'Only check the books'
 complete -c aprsbook-fold -s h -l help -d 'Write help'
 complete -c aprsbook-fold -s V -l version -d 'Write the version'

@@ -23,15 +23,15 @@ _aprsbook_table() {
     local words='' options='' files=1
     COMPREPLY=()
     case $path in
-    ' rows '*) options='--gap --help' ;;
-    ' messages '*) options='--gap --help' ;;
-    ' stations '*) options='--gap --help' ;;
-    ' things '*) options='--gap --help' ;;
-    ' ') words='rows messages stations things' options='--gap --help --version' ;;
-    ' '*) options='--gap --help --version' ;;
+    ' rows '*) options='--gap --message-gap --help' ;;
+    ' messages '*) options='--gap --message-gap --help' ;;
+    ' stations '*) options='--gap --message-gap --help' ;;
+    ' things '*) options='--gap --message-gap --help' ;;
+    ' ') words='rows messages stations things' options='--gap --message-gap --help --version' ;;
+    ' '*) options='--gap --message-gap --help --version' ;;
     esac
     case $before in
-    --gap) files= ;;
+    --gap | --message-gap) files= ;;
     *) if [[ $word == -* ]]; then words=$options files=; fi ;;
     esac
     if [[ -n $files ]]; then

@@ -45,9 +45,6 @@ for name in table fold; do
     done
 done
 tools=$(dirname "$here")/tools
-if [ -x "$tools/old_names.py" ] && command -v python3 > /dev/null; then
-    "$tools/old_names.py" "$scratch/bin" > /dev/null
-fi
 export PATH="$scratch/bin:$tools/bin:$here/recipes:$PATH"
 export EXAMPLES="$here"
 cp "$here"/evening/*.log "$work"

@@ -1,5 +1,5 @@
 #!/bin/sh
-# Tries what happens to books: merge-driver, book-to-sqlite, and the line of the cookbook for a crontab.
+# Tries what happens to books: merge-driver, aprs-net sqlite, and the line of the cookbook for a crontab.
 # Needs a POSIX system and mktemp, and says what it leaves out because a tool isn't there.
 # usage: tests/books.sh PROGRAM
 . "$(dirname "$0")/program.sh"
@@ -78,9 +78,9 @@ if has merge-driver git; then
     [ "$(cat left)" = 'repo/a net.book' ] || fail "left behind: $(cat left)"
 fi
 
-# ---- book-to-sqlite ----
+# ---- aprs-net sqlite ----
 
-if has book-to-sqlite python3 sqlite3 aprsbook-table; then
+if has 'aprs-net sqlite' python3 sqlite3 aprsbook-table; then
     # counts: the rows of the tables
     counts() {
         for it in transmissions messages; do
@@ -92,17 +92,17 @@ if has book-to-sqlite python3 sqlite3 aprsbook-table; then
     heads() { grep -Ec "^($1) " "$2"; }
     expected="$(heads T all.30) $(heads message listing) "
     for book in all.30 all.30 all.60; do
-        book-to-sqlite $book net.db
+        aprs-net sqlite net.db $book
         [ "$(counts)" = "$expected" ] || [ $book = all.60 ] || fail "rows: $(counts), not $expected"
     done
     # one is faulty: what was there stays
     before=$(counts)
-    refused 'line [0-9]*: Ending' book-to-sqlite cut.30 net.db
+    refused 'line [0-9]*: Ending' aprs-net sqlite net.db cut.30
     cp empty empty.book
-    refused 'empty.book is empty' book-to-sqlite empty.book net.db
+    refused 'empty.book is empty' aprs-net sqlite net.db empty.book
     [ "$(counts)" = "$before" ] || fail 'a faulty book changed the database'
     printf 'APRSBOOK 3 30\nEND 0\n' > nothing
-    book-to-sqlite nothing net.db
+    aprs-net sqlite net.db nothing
     [ "$(counts)" = '0 0 ' ] || fail "rows of nothing: $(counts)"
 fi
 

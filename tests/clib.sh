@@ -45,9 +45,9 @@ fi
 if has 'the example in Python, and each function' python3; then
     show=$repository/examples/clib/show.py
     aprsbook show "$evening"/*.log > wanted
-    same 0 "$show" "$folder/libaprsbook.so" "$evening"/*.log
+    same 0 python3 "$show" "$folder/libaprsbook.so" "$evening"/*.log
     : > wanted
-    same 1 "$show" "$folder/libaprsbook.so" "$evening/hill.log" bad.log
+    same 1 python3 "$show" "$folder/libaprsbook.so" "$evening/hill.log" bad.log
     [ "$(cat said)" = 'bad.log:1: Moment' ] || fail "show.py says: $(cat said)"
     "$repository/tests/exports.py" "$folder/libaprsbook.so"
 fi

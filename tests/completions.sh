@@ -69,7 +69,7 @@ offers 'aprsbook-history rx1.log di:r/' r/x.log
 offers 'aprsbook-table ' rows messages stations things 2024-05-01T12:00.log rx1.log 'a b.log' 'di:r'
 offers 'aprsbook-table r' rows rx1.log
 offers 'aprsbook-table rows r' rx1.log
-offers 'aprsbook-table -' --gap --help --version
+offers 'aprsbook-table -' --gap --message-gap --help --version
 offers 'aprsbook-table --gap '
 offers 'aprsbook-table rows --gap 60 r' rx1.log
 offers 'aprsbook-table 2024-05-01T12:' 00.log

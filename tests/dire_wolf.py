@@ -82,7 +82,7 @@ def said_by_dire_wolf(frames: List[Heard]) -> List[str]:
 
 
 def degrees(text: str) -> Optional[Tuple[float, float]]:
-    at = re.search(r"^([NS]) (\d+) ([\d.]+), ([EW]) (\d+) (-?[\d.]+)", text, re.MULTILINE)
+    at = re.search(r"^([NS]) (\d+) (-?[\d.]+), ([EW]) (\d+) (-?[\d.]+)", text, re.MULTILINE)
     if not at:
         return None
     north = int(at[2]) + float(at[3]) / 60
@@ -257,6 +257,8 @@ def why(it: Differs) -> str:
         return "`!DAO!` after a compressed position (1.2): of plain ones alone here"
     if it.column in ("longitude", "latitude") and re.search(r"!([A-VX-Z][0-9 ]{2}|[a-vx-z][!-{ ]{2})!", text):
         return "`!DAO!` of another datum (1.2): none here"
+    if it.column in ("longitude", "latitude") and abs(float(it.ours) + float(it.theirs or "nan")) < 3e-6:
+        return "`!DAO!` at 0 degrees (1.2): to the side of the letter here"
     if it.column in ("longitude", "latitude") and len(text) < 7:
         return "`!DAO!` in a comment of fewer than seven bytes (1.2): not read there"
     if it.column in ("telemetry_sequence", "a1", "a2", "a3", "a4", "a5", "bits") and text.count("|") > 2:
@@ -265,6 +267,8 @@ def why(it: Differs) -> str:
         return "a killed object with weather (11): not said there"
     if it.column == "id":
         return "an id of other bytes than letters and digits, or before CR (14)"
+    if "\0" in text:
+        return "a byte 0: the text ends there"
     return why_of_comment(it, text)
 
 

@@ -141,15 +141,57 @@ awk 'BEGIN {
             48 + int(i / 10000), 48 + int(i / 1000) % 10, 48 + int(i / 100) % 10, 32 + i % 100
     print "END 100000" }' > large
 # shellcheck disable=SC3045 # a shell without such a limit, or qemu, which needs more, tries nothing
+# shellcheck disable=SC3045 # a shell without it leaves this out
 if (ulimit -v 65536 && aprsbook-fold --version) > left 2>&1; then
-    # shellcheck disable=SC3045
     (ulimit -v 65536; aprsbook-fold large large large) | cmp -s - large ||
         fail 'the fold of 100,000 rows differs, or takes more than 64 MiB'
 fi
 
+# ---- what a book lacks ----
+
+old=$(find . -name '*.log.book' | sort | head -n 1)
+rows=$(($(wc -l < "$old") - 2))
+digest=$(sha256sum "$old" | cut -d ' ' -f 1)
+told="aprsbook-fold: new to $old: $rows rows, sha256 $digest"
+aprsbook-fold --new-to "$old" evening.book > news.book 2> said || fail "no news: $(cat said)"
+[ "$(cat said)" = "$told" ] || fail "of news it says: $(cat said)"
+alike 'an old book and its news' news.book "$old"
+aprsbook-fold --new-to "$old" < evening.book 2> said | cmp -s - news.book ||
+    fail 'the news of standard input differ'
+aprsbook-fold --new-to evening.book ./*.log.book 2> said | cmp -s - none.book ||
+    fail 'nothing is new, and something is written'
+aprsbook-fold --check --new-to "$old" evening.book > left 2> said || fail "a check: $(cat said)"
+[ "$(cat left said)" = "$told" ] || fail "a check of news says: $(cat left said)"
+# lacks COMPLAINT OLD BOOK..: the old book, or another one, is refused so
+lacks() {
+    wanted=$1
+    shift
+    status=0
+    aprsbook-fold --new-to "$@" > left 2> said || status=$?
+    [ "$status $(cat said)" = "1 aprsbook-fold: $wanted" ] || fail "news: $status, $(cat said)"
+}
+lacks 'no.book: cannot open' no.book evening.book
+lacks 'no.book: cannot open' "$old" no.book
+lacks 'all.600: other gap' all.600 evening.book
+lacks 'all.600: other gap' "$old" all.600
+sed '$d' evening.book > cut.book
+lacks "cut.book: line $(wc -l < evening.book): Ending" cut.book evening.book
+lacks "cut.book: line $(wc -l < evening.book): Ending" "$old" cut.book
+# a pipe can't be read twice
+mkfifo old.pipe
+cat "$old" > old.pipe 2> /dev/null &
+lacks 'old.pipe: cannot open' old.pipe evening.book
+wait
+# shellcheck disable=SC3045 # a shell without it leaves this out
+if (ulimit -v 65536 && aprsbook-fold --version) > left 2>&1; then
+    (ulimit -v 65536; aprsbook-fold --new-to large large large) > left 2> said ||
+        fail 'the news of 100,000 rows take more than 64 MiB'
+    cmp -s left none.book || fail 'of the same book something is new'
+fi
+
 # ---- words ----
 
-for it in gap from until check help version; do
+for it in gap from until new-to check help version; do
     for where in man/aprsbook-fold.1 completions/aprsbook-fold.bash completions/aprsbook-fold.fish \
         completions/_aprsbook-fold; do
         tr -d '\134' < "$repository/$where" | grep -qe "-l $it\|--$it" || fail "$where lacks --$it"
@@ -160,5 +202,6 @@ aprsbook-fold --version | grep -q '^aprsbook-fold [0-9]' || fail 'the version'
 
 if command -v python3 > /dev/null; then
     "$repository/tests/folds.py" "$program" "$scratch/bin/aprsbook-fold" 40 > said || fail "$(cat said)"
+    "$repository/tests/news.py" "$program" "$scratch/bin/aprsbook-fold" 40 > said || fail "$(cat said)"
 fi
 echo 'folds are as merges are'

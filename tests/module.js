@@ -4,10 +4,10 @@
 import { spawnSync } from "node:child_process";
 import fs from "node:fs";
 import path from "node:path";
-import { saidIn } from "../page/bookparts.js";
-import { attempt, FUNCTIONS, run } from "../page/host.js";
-import { columnsOf } from "../page/reading.js";
-import { atOnce } from "../page/steps.js";
+import { saidIn } from "../page/src/net/book-slices.js";
+import { attempt, FUNCTIONS, run } from "../page/src/worker/wasm-host.js";
+import { columnsOf } from "../page/src/net/table-reader.js";
+import { atOnce } from "../page/src/util/tasks.js";
 import { changedBy, picksBy } from "./changed.js";
 
 const [file, program, count, seed, ...files] = process.argv.slice(2);

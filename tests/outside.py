@@ -16,7 +16,7 @@ from typing import Iterator, List, NamedTuple, Tuple
 
 # texts outside Rattle that say limits
 TEXTS = (
-    "*.md", "docs/*.md", "man/*.1", "completions/*", "include/*.h", "page/*", "examples/recipes/*",
+    "*.md", "docs/*.md", "man/*.1", "completions/*", "include/*.h", "page/assets/*.html", "page/src/**/*.js", "examples/recipes/*",
     "tools/**/*.py", "tools/**/*.md",
 )
 
@@ -50,9 +50,9 @@ LIMITS = (
 
 
 def read(path: str) -> str:
-    """The text of a file; bytes that are none are passed over."""
+    """The text of a file, without the marks of limits; bytes that are none are passed over."""
     with open(path, encoding="utf8", errors="ignore") as file:
-        return file.read()
+        return re.sub(r"<!-- \w+ -->([^<]*)<!-- -->", r"\1", file.read())
 
 
 def texts() -> List[Tuple[str, str]]:
@@ -86,7 +86,7 @@ def wrong_kinds() -> Iterator[str]:
     words = subprocess.run(
         ["build/rattle_text.py", "--calls", *asked], capture_output=True, text=True, check=True
     ).stdout.split()
-    page = "\n".join(read(path) for path in glob.glob("page/*.js"))
+    page = "\n".join(read(path) for path in glob.glob("page/src/**/*.js", recursive=True))
     if not words:
         yield "found no kinds in crates/aprs_listing/src/history.rt"
     for word in dict.fromkeys(words):

@@ -43,22 +43,16 @@ runs() {
             [ -e "${page%/*}/$link" ] || fail "$page: nothing is at $link"
         done
     done
-    # the recipes and aprs-net's names are in the PATH, and each unit names what is there
-    {
-        find "$repository"/examples/recipes "$repository"/tools/bin -type f -perm -1 | sed 's,.*/,,'
-        "$repository"/tools/old_names.py
-    } | while read -r name; do
+    # the recipes and aprs-net are in the PATH, and each unit names what is there
+    find "$repository"/examples/recipes "$repository"/tools/bin -type f -perm -1 | sed 's,.*/,,' | while read -r name; do
         [ -x "$1/bin/$name" ] || fail "$1: $name isn't in bin"
         [ -e "$1/share/man/man1/$name.1" ] || [ -e "$1/share/man/man1/$name.1.gz" ] ||
             fail "$1: $name has no manual page"
     done
     if has 'what is installed of aprs-net' python3; then
-        for name in whole-lines 'aprs-net mend'; do
-            # shellcheck disable=SC2086 # words
-            PATH=$PWD/$1/bin:/usr/bin:/bin $name "$1/share/aprsbook/examples/sample.log" > said 2>&1 ||
-                fail "$1: $name says: $(cat said)"
-            cmp said "$1/share/aprsbook/examples/sample.log" || fail "$1: $name makes another log"
-        done
+        PATH=$PWD/$1/bin:/usr/bin:/bin aprs-net mend "$1/share/aprsbook/examples/sample.log" > said 2>&1 ||
+            fail "$1: aprs-net mend says: $(cat said)"
+        cmp said "$1/share/aprsbook/examples/sample.log" || fail "$1: aprs-net mend makes another log"
         if [ -x "$1/bin/aprsbook-table" ]; then
             PATH=$PWD/$1/bin:/usr/bin:/bin aprs-net page -o page.html \
                 "$1/share/aprsbook/examples/sample.log" || fail "$1: there is no page"
@@ -110,7 +104,7 @@ twice() {
 }
 if has 'make tarball' tar; then
     twice make-tarball amd64 "$program" "$history" "$table" "$fold"
-    tar -xzf make-tarball-amd64/*.tar.gz
+    tar -xf make-tarball-amd64/*.tar.xz
     # and again, over itself; all may read it, whoever puts it there
     CDPATH=.:/ "aprsbook-$version/install.sh" prefix
     (umask 077 && "aprsbook-$version/install.sh" prefix && "aprsbook-$version/install.sh" private)

@@ -40,7 +40,6 @@ done
 for it in "${program%/*}/aprsbook-fold" "${program%/aprsbook/out/*}"/*/out/aprsbook_fold; do
     if [ -x "$it" ]; then ln -sf "$it" "$scratch/bin/aprsbook-fold" && break; fi
 done
-if command -v python3 > /dev/null; then "$repository/tools/old_names.py" "$scratch/bin" > /dev/null; fi
 PATH=$scratch/bin:$repository/tools/bin:$repository/examples/recipes:$PATH
 export PATH PYTHONDONTWRITEBYTECODE=1
 # same FILE FILE: they have the same bytes

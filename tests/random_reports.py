@@ -77,12 +77,14 @@ def feet(n: random.Random) -> str:
 
 def plain_place(n: random.Random, code: str) -> str:
     left_out = n.choice([0, 0, 0, 0, 1, 2, 3, 4])
-    north = f"{n.randrange(6000):04}"[: 4 - left_out].ljust(4)
-    east = n.choice([f"{n.randrange(6000):04}", f"{n.randrange(6000):04}"[: 4 - left_out].ljust(4)])
+    north = n.choice([f"{n.randrange(6000):04}"] * 3 + ["0000"])[: 4 - left_out].ljust(4)
+    minutes = n.choice([f"{n.randrange(6000):04}"] * 3 + ["0000"])
+    east = n.choice([minutes, minutes[: 4 - left_out].ljust(4)])
+    degrees_north, degrees_east = n.choice([n.randrange(91)] * 3 + [0]), n.choice([n.randrange(181)] * 3 + [0])
     table = n.choice("///\\\\1AZ")
     return (
-        f"{n.randrange(91):02}{north[:2]}.{north[2:]}{n.choice('NS')}{table}"
-        f"{n.randrange(181):03}{east[:2]}.{east[2:]}{n.choice('EW')}{code}"
+        f"{degrees_north:02}{north[:2]}.{north[2:]}{n.choice('NS')}{table}"
+        f"{degrees_east:03}{east[:2]}.{east[2:]}{n.choice('EW')}{code}"
     )
 
 
@@ -188,7 +190,8 @@ def mic_e(n: random.Random) -> Heard:
         if n.random() < 0.1:
             row[i] = "ABCDEFGHIJK"
     left_out = n.choice([0, 0, 0, 1, 4])
-    number = f"{n.randrange(91):02}{n.randrange(6000):04}"[: 6 - left_out]
+    degrees, minutes = n.choice([n.randrange(91)] * 3 + [0]), n.choice([n.randrange(6000)] * 3 + [0])
+    number = f"{degrees:02}{minutes:04}"[: 6 - left_out]
     to = "".join(row[i][int(number[i]) if i < len(number) else 10] for i in range(6))
     octets = bytes([
         n.randrange(38, 128), n.randrange(38, 98), n.randrange(28, 128),

@@ -1,15 +1,15 @@
 #!/bin/sh
 # Does the README from its top, in a checkout of this repository without anything that was built. The
-# first command of its first block prints last what the README says, and the second is the command
-# of .ci/run. Then the commands of its example print what the README says, those of the table and
-# that of the page end well, and the files of a release have the names that it has.
+# first command of its first block prints last what the README says, and the third is the command of
+# .ci/run. Then the commands of its example print what the README says, those of the table and that of
+# the page end well, and the files of a release have the names that it has.
 #
-# With PROGRAM the first command runs it, and the second nothing. With --whole both commands build and
-# prove everything, as for somebody who begins here, and with --first or --second that one alone does;
-# all else is done with the programs that this made. That takes the time that the README says. Needs a
-# POSIX system, git, tar and GNU make (with such an option what the README says), and says what it
-# leaves out because a tool isn't there.
-# usage: tests/readme.sh PROGRAM | --whole | --first | --second
+# With PROGRAM the first command runs it, and the others nothing. With --whole the three commands do what
+# they do for somebody who begins here, and with --first, --second or --third that one alone does; all
+# else is done with the programs that `make prove` makes, or that a release has. That takes the time that
+# the README says. Needs a POSIX system, git, tar and GNU make (with such an option what the README says),
+# and says what it leaves out because a tool isn't there.
+# usage: tests/readme.sh PROGRAM | --whole | --first | --second | --third
 set -eu
 
 # ---- the two commands of the first block ----
@@ -20,8 +20,10 @@ page=$top/README.md
 block() {
     awk -v name="$1" -v n="$2" '/^```/ { open = $0 == "```" name && ++at == n; next } open' "$page"
 }
-first=$(block sh 1 | sed -n '1s/ *#.*//p')
-second=$(block sh 1 | sed -n '2s/ *#.*//p')
+command_at() { block sh 1 | sed -n "$1s/ *#.*//p"; }
+first=$(command_at 1)
+second=$(command_at 2)
+third=$(command_at 3)
 made=$(mktemp -d)
 trap 'rm -rf "$made"' EXIT
 mkdir "$made/checkout"
@@ -33,14 +35,19 @@ in_checkout() {
 checks_out() { (cd "$top" && git ls-files | tar -cf - -T -) | tar -xf - -C "$made/checkout"; }
 whole=
 case ${1-} in
---whole | --first | --second)
+--whole | --first | --second | --third)
     whole=$1
     checks_out
-    if [ "$whole" != --second ]; then in_checkout "$first" > "$made/printed"; fi
-    if [ "$whole" != --first ]; then
-        in_checkout "$second" > "$made/tested" || tail "$made/tested" >&2
-    fi
-    set -- "$made/checkout/crates/aprsbook/out/aprsbook"
+    # does OPTION COMMAND FILE: does the command where this option asks for it
+    does() {
+        if [ "$whole" != --whole ] && [ "$whole" != "$1" ]; then return; fi
+        in_checkout "$2" > "$3" || tail "$3" >&2
+    }
+    does --first "$first" "$made/printed"
+    does --second "$second" "$made/tested"
+    does --third "$third" "$made/proved"
+    program=$(in_checkout build/programs.sh | sed 1q)
+    set -- "$made/checkout/$program"
     ;;
 esac
 . "$(dirname "$0")/program.sh"
@@ -48,28 +55,30 @@ trap 'rm -rf "$scratch" "$made"' EXIT
 cd "$scratch"
 
 block text 1 > expected
-if [ "$(block sh 1 | wc -l)" != 2 ] || [ ! -s expected ]; then
-    fail 'the first block of the README has no two commands'
+if [ "$(block sh 1 | wc -l)" != 3 ] || [ ! -s expected ]; then
+    fail 'the first block of the README has no three commands'
 fi
-[ "$(sed '/^## The page/,$d' "$page" | wc -l)" -le 40 ] || fail 'its two commands are too far below'
-# the gate calls the second, in this folder and in no other
-[ "$(sed -n 's/^exec //p' "$repository/.ci/run" | sed 's/ --no-print-directory//')" = "$second" ] ||
-    fail ".ci/run doesn't call '$second'"
-if [ -z "$whole" ] && has 'the two commands of the README' make git tar &&
+[ "$(sed '/^## The page/,$d' "$page" | wc -l)" -le 40 ] || fail 'its three commands are too far below'
+# the gate calls the third, in this folder and in no other
+[ "$(sed -n 's/^exec //p' "$repository/.ci/run" | sed 's/ --no-print-directory//')" = "$third" ] ||
+    fail ".ci/run doesn't call '$third'"
+if [ -z "$whole" ] && has 'the three commands of the README' make git tar &&
     git -C "$repository" rev-parse HEAD > /dev/null 2>&1; then
     checks_out
-    in_checkout "$first -s -o build PROGRAM='$program'" > "$made/printed"
-    in_checkout "make -n '${second#make }'" > /dev/null || fail "there is no '$second'"
+    in_checkout "$first -s PROGRAM='$program'" > "$made/printed"
+    for it in "$second" "$third"; do
+        in_checkout "make -n '${it#make }'" > /dev/null || fail "there is no '$it'"
+    done
 fi
 if [ -f "$made/printed" ]; then
     tail -n "$(wc -l < expected)" "$made/printed" | cmp - expected ||
         fail "$first prints: $(cat "$made/printed")"
 fi
-if [ -f "$made/tested" ]; then
-    tail -n 1 "$made/tested"
-    tail -n 1 "$made/tested" | grep -qx '[1-9][0-9]* passed, 0 failed' ||
-        fail "$second: $(tail "$made/tested")"
-fi
+for it in tested proved; do
+    [ -f "$made/$it" ] || continue
+    tail -n 1 "$made/$it"
+    tail -n 1 "$made/$it" | grep -qx '[1-9][0-9]* passed, 0 failed' || fail "$(tail "$made/$it")"
+done
 
 # ---- its other commands ----
 
@@ -105,7 +114,7 @@ if has 'the page of the README' python3 aprsbook-table; then
     grep -q 'Fell race' race.html || fail 'aprs-net makes another page'
 fi
 version=$("$repository/packaging/version")
-for name in "/aprsbook_${version}_arm64.deb" " aprsbook-$version-linux-arm64.tar.gz"; do
+for name in "/aprsbook_${version}_arm64.deb" " aprsbook-$version-linux-arm64.tar.xz"; do
     grep -qF -- "$name" "$page" || fail "the README doesn't name$name"
 done
 echo "the README's commands, from its top, print what the README says and end well"

@@ -1,5 +1,5 @@
 #!/usr/bin/env python3
-"""Compares the table of random messages and answers with a reading of its own, by the rules of
+"""Compares the table of random messages and answers, one line each, with a reading of its own, by the rules of
 docs/formats.md, sections "Reports" and "Table". The same words give the same conversation.
 
 usage: replies.py PROGRAM [COUNT [SEED]]   PROGRAM is aprsbook-table; 2,000 frames without a COUNT
@@ -13,6 +13,8 @@ import subprocess
 import sys
 import tempfile
 from typing import Dict, List, NamedTuple, Optional, Tuple
+
+import net_messages
 
 START = datetime.datetime(2024, 5, 1)
 STEP = datetime.timedelta(seconds=7)
@@ -97,8 +99,11 @@ def line_of(key: Key, heard: List[Heard], moments: List[str]) -> Dict[str, str]:
     numbered = None if id_ else WITH_NUMBER.match(said)
     reply = last([it.moment for it in heard if numbered and (it.source, it.to) == (to, source)
                   and acknowledged(it.part.rstrip("\r\n")) == numbered[1]], moments[0])
+    number, decides = net_messages.number_of(said, id_), answer or reply
     return {
-        "source": source, "addressee": to, "id": id_ or "", "text": said, "state": state,
+        "gate": "", "class": net_messages.class_of(to, said, id_), "number": number,
+        "outcome": "unnumbered" if not number else state if id_ else "acknowledged" if reply else "unanswered",
+        "outcome_moment": decides, "source": source, "addressee": to, "id": id_ or "", "text": said, "state": state,
         "first": moments[0], "last": moments[-1], "answer": answer,
         "answer_source": to if answer else "",
         "reply_ack": "" if not numbered else "acknowledged" if reply else "unanswered",
@@ -123,7 +128,7 @@ def table_of(program: str, heard: List[Heard]) -> List[Dict[str, str]]:
     with tempfile.NamedTemporaryFile("w", suffix=".log") as log:
         log.writelines(map(log_line, heard))
         log.flush()
-        run = [program, "messages", log.name]
+        run = [program, "messages", "--message-gap", "0", log.name]
         header, *rows = subprocess.run(
             run, stdout=subprocess.PIPE, check=True).stdout.decode("ascii").split("\n")[:-1]
     names = header.split("\t")

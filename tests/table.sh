@@ -64,6 +64,7 @@ aprsbook-table things sample.log | tee "$scratch/things" |
 
 if has 'random messages' python3; then
     python3 "$repository/tests/replies.py" "$table" || fail 'random messages differ'
+    python3 "$repository/tests/net_messages.py" "$table" || fail 'the messages of random nets differ'
 fi
 
 # ---- the words ----
@@ -177,9 +178,11 @@ cat ./*.log | aprsbook-table | cmp -s - "$scratch/evening" || fail 'standard inp
 # ---- a database of it ----
 
 if has 'a table in a database' sqlite3; then
-    sqlite3 "$scratch/net.db" '.mode tabs' ".import $scratch/evening rows" \
-        'select count(*) from rows where kind = "position" and latitude + 0.0 <> 0.0' > "$scratch/count"
-    [ "$(cat "$scratch/count")" = "$(grep -c "^position$tab" "$scratch/evening")" ] ||
-        fail 'a database has other positions'
+    sqlite3 "$scratch/net.db" '.mode ascii' '.separator "\t" "\n"' ".import $scratch/evening rows" \
+        'select count(*) from rows' \
+        'select count(*) from rows where kind = "position" and latitude + 0.0 <> 0.0' |
+        tr -s '\n\t ' ' ' > "$scratch/count"
+    [ "$(cat "$scratch/count")" = "$(($(wc -l < "$scratch/evening") - 1)) $(
+        grep -c "^position$tab" "$scratch/evening") " ] || fail 'a database has other rows'
 fi
 echo 'a table has a line for each row, with as many fields as columns, whatever the inputs are'

@@ -138,7 +138,8 @@ def of_compressed(code: int, comment: bytes, cst: bytes) -> Line:
             if is_base91(s):
                 line["speed_knots"] = str(nearest(Fraction(108, 100) ** (s - 33)) - 1)
     if code == ord("_"):
-        line.update(weather((course, None), comment))
+        numbers = pair(comment)
+        line.update(weather(numbers[:2], numbers[2]) if numbers else weather((course, None), comment))
     if c == ord("{") and is_base91(s) and not is_gga:
         hundredths = nearest(200 * Fraction(108, 100) ** (s - 33))
         line["range_miles"] = with_decimals(hundredths, 2)
@@ -185,7 +186,16 @@ def measured(comment: bytes) -> Line:
     return {}
 
 
-def finer(comment: bytes, north: Fraction, east: Fraction) -> Line:
+class Exact(NamedTuple):
+    """Degrees north and east, and the halves of the globe that the letters name, also at 0."""
+
+    north: Fraction
+    east: Fraction
+    is_south: bool
+    is_west: bool
+
+
+def finer(comment: bytes, at: Exact) -> Line:
     """Of a plain position without ambiguity, with one digit more."""
     more = re.search(rb"!W([0-9 ])([0-9 ])!|!w([!-{ ])([!-{ ])!", comment)
     if not more:
@@ -194,8 +204,9 @@ def finer(comment: bytes, north: Fraction, east: Fraction) -> Line:
         parts = [Fraction(int(digit.replace(b" ", b"0")), 60000) for digit in more.group(1, 2)]
     else:
         parts = [Fraction(0 if digit == b" " else digit[0] - 33, 546000) for digit in more.group(3, 4)]
-    angles = [x - part if x < 0 else x + part for x, part in zip((north, east), parts)]
-    return {"finer_latitude": degrees(angles[0]), "finer_longitude": degrees(angles[1])}
+    north = at.north + (-parts[0] if at.is_south else parts[0])
+    east = at.east + (-parts[1] if at.is_west else parts[1])
+    return {"finer_latitude": degrees(north), "finer_longitude": degrees(east)}
 
 
 # ---- where something is
@@ -208,8 +219,8 @@ class Found(NamedTuple):
     code: int
     cst: Optional[bytes]
     rest: bytes
-    # degrees north and east, of a plain position of which nothing is left out
-    exact: Optional[Tuple[Fraction, Fraction]]
+    # where it is, of a plain position of which nothing is left out
+    exact: Optional[Exact]
 
 
 def angle(whole: bytes, minutes: bytes, ambiguity: int, most: int) -> Optional[int]:
@@ -240,9 +251,10 @@ def plain_place(at: bytes) -> Optional[Found]:
         return None
     latitude = Fraction(-north if parts[4] == b"S" else north, 6000)
     longitude = Fraction(-east if parts[9] == b"W" else east, 6000)
+    exact = Exact(latitude, longitude, parts[4] == b"S", parts[9] == b"W")
     line = placed(latitude, longitude, parts[5] + parts[10])
     line.update(compressed="no", ambiguity=str(ambiguity))
-    return Found(line, parts[10][0], None, at[19:], None if ambiguity else (latitude, longitude))
+    return Found(line, parts[10][0], None, at[19:], None if ambiguity else exact)
 
 
 def compressed_place(at: bytes) -> Optional[Found]:
@@ -273,7 +285,7 @@ def place(at: bytes) -> Optional[Line]:
     if feet:
         line["altitude_m"] = with_decimals(int(feet[1]) * 3048, 4)
     line.update(frequency(comment, after_extension(comment)), **measured(comment))
-    line.update(finer(comment, *exact) if exact else {}, text=shown(comment))
+    line.update(finer(comment, exact) if exact else {}, text=shown(comment))
     return line
 
 
@@ -493,7 +505,8 @@ def mic_e(destination: bytes, info: bytes) -> Optional[Line]:
     line = placed(latitude_is, longitude_is, info[8:9] + info[7:8])
     comment = info[9:]
     line.update(frequency(after_altitude(comment), after_altitude(comment[is_marked(comment) :])))
-    line.update(measured(comment), **({} if ambiguity else finer(comment, latitude_is, longitude_is)))
+    exact = Exact(latitude_is, longitude_is, rows[3] != "standard", rows[5] == "standard")
+    line.update(measured(comment), **({} if ambiguity else finer(comment, exact)))
     line.update(kind="mic-e", compressed="no", ambiguity=str(ambiguity))
     line.update(course=str(course) if course else "", speed_knots=str(knots))
     line.update(altitude_m=mic_e_altitude(info[9:]), says=says(rows[:3]), text=shown(info[9:]))

@@ -73,7 +73,11 @@ if [ -n "$program" ]; then
 fi
 python=$(python_with pytest,hypothesis)
 if [ -n "$python" ]; then
-    $python -m pytest -q -p no:cacheprovider
+    # side by side, where that can be done (Debian: python3-pytest-xdist)
+    together=
+    if [ "$(python_with pytest,hypothesis,xdist)" = "$python" ]; then together='-n 4'; fi
+    # shellcheck disable=SC2086 # two words, or none
+    $python -m pytest -q $together -p no:cacheprovider
 else
     echo 'left out: tests of tools (Debian: apt install python3-pytest python3-hypothesis)'
 fi

@@ -21,6 +21,15 @@ if has 'systemd-analyze verify' systemd-analyze; then
     done
 fi
 
+# what a unit may do is little: 9.2 is nothing forbidden, and 30 is 3.0
+if has 'systemd-analyze security' systemd-analyze &&
+    systemd-analyze --help | grep -q -e --offline; then
+    for unit in "$units"/*.service; do
+        systemd-analyze security --offline=true --threshold=30 --no-pager "$unit" > said 2>&1 ||
+            fail "$unit: $(tail -n 1 said)"
+    done
+fi
+
 # command_of UNIT: what the unit gives to the shell, once systemd has read $$ and %%
 command_of() { sed -n "s/^ExecStart=.*-c '\(.*\)'.*/\1/p" "$units/$1" | sed 's/\$\$/$/g; s/%%/%/g'; }
 # settings UNIT: what the unit and the file below /etc set, as the shell reads it
@@ -46,11 +55,15 @@ calls() {
 calls aprs-log@.service RX1 'log --connect localhost:8001 RX1 logs'
 calls aprs-log@.service RX-2:8002 'log --connect localhost:8002 --ports RX-2 logs' --ports
 calls aprs-serial@.service ttyUSB0 'log --serial /dev/ttyUSB0 --baud 9600 ttyUSB0 logs'
+calls aprs-serial@.service usb-FTDI_A6008-if00-port0:RX1 \
+    'log --serial /dev/serial/by-id/usb-FTDI_A6008-if00-port0 --baud 9600 RX1 logs'
 calls aprs-serial@.service ttyUSB0:RX1 'log --serial /dev/ttyUSB0 --baud 9600 RX1 logs'
 export CALL=Q0CALL FILTER='-t/o r/54.5/-3.5/50'
 calls aprs-is@.service FEED \
     'log --aprs-is localhost:14580 --call Q0CALL --filter=-t/o r/54.5/-3.5/50 FEED logs'
 calls aprs-book.service '' 'book --days days net.book logs'
+calls aprs-net-serve.service aprs-net 'serve --listen 127.0.0.1:8443 --tokens tokens logs' \
+    --listen 127.0.0.1:8443 --tokens tokens
 # the file below /etc says what the units say where it isn't there
 for unit in "$units"/*.service; do
     settings "${unit##*/}" | tr ' ' '\n' | sed -n 's/^"*\([A-Z_]*=[^"]*\).*/\1/p' |
@@ -61,7 +74,7 @@ done
 
 # ---- the gap, which both units take that make books ----
 
-export GAP=60
+export APRS_NET_GAP=60
 calls aprs-book.service '' 'book --gap 60 --days days net.book logs'
 mkdir -p logs/2024-06-21
 cp hill.log logs/2024-06-21/HILL.log
@@ -72,7 +85,7 @@ if has 'what aprs-book.service runs' python3; then
     same hill.60 days/2024-06-21.book
 fi
 if has 'what net-page.service runs' python3 aprsbook-table; then
-    DAYS=2024-06-21 sh -c "$(command_of net-page.service)" aprs-net --title 'Tuesday net' --live 60 ||
+    APRS_NET_DAYS=2024-06-21 sh -c "$(command_of net-page.service)" aprs-net --title 'Tuesday net' --live 60 ||
         fail 'net-page.service makes no page'
     cmp hill.60 page/net.book || fail 'the book of the page is another'
     grep -q '<title>Tuesday net' page/index.html || fail 'the page has another title'

@@ -38,11 +38,11 @@ heard=aprs_listing/src/heard_line.rt
 } > "$scratch/program/listed"
 sed -n 's/.*if live { b"\([a-z]*\)" } else { b"\([a-z]*\)" }.*/\1 \2/p' crates/aprs_report/src/kinds/object.rt |
     tr ' ' '\n' > "$scratch/program/object_states"
-arms aprs_book/src/lists/message.rt 'impl MessageState {' > "$scratch/program/message_states"
+arms aprs_summary/src/lists/message.rt 'impl MessageState {' > "$scratch/program/message_states"
 arms aprs_log/src/fault.rt 'impl Reason {' > "$scratch/program/reasons"
 # a failed allocation is reported by a message of its own
 arms aprs_log/src/fault.rt 'impl LogCause {' | sed '/^Memory$/d' > "$scratch/program/log_causes"
-arms aprs_booktext/src/fault.rt 'impl BookCause {' | sed '/^Memory$/d' \
+arms aprs_bookfile/src/fault.rt 'impl BookCause {' | sed '/^Memory$/d' \
     > "$scratch/program/book_causes"
 {
     echo 0
@@ -65,8 +65,11 @@ columns() {
         "crates/$1" | grep -o 'codes "[a-z0-9_]*"' | sed 's/codes "\(.*\)"/\1/'
 }
 columns aprs_table/specs/Table.antt columns > "$scratch/program/row_columns"
-for file in Messages Stations Things; do
-    name=$(echo ${file%s} | tr MST mst)
+for file in Told Stations Things; do
+    case $file in
+        Told) name=message ;;
+        *) name=$(echo ${file%s} | tr ST st) ;;
+    esac
     columns aprs_lists/specs/$file.antt "${name}_columns" > "$scratch/program/${name}_columns"
 done
 for name in history table; do
@@ -157,8 +160,8 @@ done > "$scratch/lacks"
 
 # ---- the documents: all of them can be read, and the first at once ----
 
-[ "$(cat README.md CONTRIBUTING.md CHANGELOG.md docs/*.md | wc -w)" -le 27000 ] ||
-    fail 'the documents have more than 27,000 words'
+[ "$(cat README.md CONTRIBUTING.md CHANGELOG.md docs/*.md | wc -w)" -le 29000 ] ||
+    fail 'the documents have more than 29,000 words'
 [ "$(wc -l < README.md)" -le 120 ] || fail 'README.md has more than 120 lines'
 
 # ---- each file by its own reader ----

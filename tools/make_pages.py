@@ -10,30 +10,41 @@ import os
 import re
 import sys
 import textwrap
-from typing import Dict, List, Tuple
+from typing import Dict, List
 
 sys.dont_write_bytecode = True
 HERE = os.path.dirname(os.path.realpath(__file__))
 sys.path.insert(0, os.path.join(HERE, "src"))
-from aprsbook_tools import cli, typed  # noqa: E402
+from aprsbook_tools import argv, commands  # noqa: E402
+from aprsbook_tools.errors import MEANINGS  # noqa: E402
 
 Options = List[argparse.Action]
+Parsers = Dict[str, argv.Parser]
 NOTE = "Made of the parsers of aprs-net by make_pages.py."
-STATUSES = [
-    ("0", "All went well."),
-    ("1", "An input can't be opened, is faulty or has another gap; or what the command says."),
-    ("2", "The arguments are wrong, or an output is an input or a log."),
-    ("3", "The output was refused, as on a full disk."),
-    ("4", "Memory was refused."),
-]
+HELPS = {name: words for group in commands.GROUPS.values() for name, words in group.items()}
+MAIN = ["help", "--help", "--quiet", "--verbose", "--version"]  # what stands beside commands
+EVERYWHERE = ("help", "quiet", "verbose")  # options of each command
+ENVIRONMENT = {
+    "APRS_NET_DAYS": "The days of follow and watch where --day isn't given, with blanks between "
+    "them, such as 2024-06-21.",
+    "APRS_NET_GAP": "The gap of follow and watch where --gap isn't given, in seconds.",
+    "TMPDIR": "Where inputs are unpacked and books are made meanwhile: a disk with room for them.",
+}
+FILES = {
+    ".net.book.of": "Beside net.book: what aprs-net book has merged into it. Without it, all "
+    "inputs are merged again.",
+    ".net.book.lock": "Beside net.book, or another file that runs share: it holds back a second "
+    "run while one writes. It may be deleted when none runs.",
+    ".NAME.xxxxxxxx.aprs-net-new, .NAME.xxxxxxxx.aprs-net-work": "What a run that was killed has "
+    "left; the next takes it away after a day.",
+    "FOLDER/DAY/NAME.log": "What aprs-net log writes, with the day in UTC; of one's own stations "
+    "NAME.own.",
+}
 
 
-def commands() -> Tuple[Dict[str, argparse.ArgumentParser], Dict[str, str]]:
-    """The subcommands' parsers, and what each is for."""
-    [group] = [it for it in cli.make_parser()._actions
-               if isinstance(it, argparse._SubParsersAction)]
-    helps = {it.dest: it.help or "" for it in group._choices_actions}
-    return dict(group.choices), helps
+def parsers() -> Parsers:
+    """The commands' parsers, by name."""
+    return {name: argv.parser_of(name) for name in commands.NAMES}
 
 
 def options(parser: argparse.ArgumentParser) -> Options:
@@ -97,8 +108,40 @@ def paragraphs(text: str) -> List[str]:
     return lines
 
 
+def command_lines(name: str, parser: argv.Parser) -> List[str]:
+    """What the manual page says of a command."""
+    words = " ".join(map(shown, arguments(parser)))
+    lines = [f".SS {roff(name)}",
+             f"\\fBaprs\\-net {roff(name)}\\fR [\\fIOPTION\\fR].. {roff(words)}"]
+    lines += paragraphs(parser.said)
+    for argument in arguments(parser):
+        if argument.help:
+            lines += [".TP", f"\\fI{roff(shown(argument))}\\fR", roff(filled(help_of(argument)))]
+    for option in options(parser):
+        if option.dest not in EVERYWHERE:
+            lines += [".TP", tag(option), roff(filled(help_of(option)))]
+    return lines
+
+
+def listed(heading: str, words: Dict[str, str]) -> List[str]:
+    """A section of names with what each is."""
+    lines = [f".SH {heading}"]
+    for name, meaning in words.items():
+        lines += [".TP", f".B {roff(name)}", roff(filled(meaning))]
+    return lines
+
+
+def example_lines(all_parsers: Parsers) -> List[str]:
+    lines = [".SH EXAMPLES"]
+    for parser in all_parsers.values():
+        for words, command in parser.examples:
+            lines += [".PP", roff(filled(words[0].upper() + words[1:] + ":")), ".PP", ".nf", ".RS",
+                      roff(command), ".RE", ".fi"]
+    return lines
+
+
 def page(version: str, day: str) -> str:
-    parsers, helps = commands()
+    known = parsers()
     lines = [f'.\\" {NOTE}', f'.TH APRS\\-NET 1 {day} "aprsbook {version}" "User Commands"',
              ".SH NAME", "aprs\\-net \\- logs, books and reports of APRS nets",
              ".SH SYNOPSIS", ".B aprs\\-net", ".I COMMAND", "[\\fIOPTION\\fR]..",
@@ -106,25 +149,16 @@ def page(version: str, day: str) -> str:
              "Writes logs of APRS receivers, keeps books of them, and makes pages and",
              "reports, with the programs of", ".BR aprsbook (1).",
              "Options may stand before, among and behind the",
-             "arguments; what follows \\fB\\-\\-\\fR is no option.", ".SH COMMANDS"]
-    for name, parser in parsers.items():
-        words = " ".join(map(shown, arguments(parser)))
-        lines += [f".SS {roff(name)}",
-                  f"\\fBaprs\\-net {roff(name)}\\fR [\\fIOPTION\\fR].. {roff(words)}"]
-        lines += paragraphs(parser.description or helps.get(name) or "")
-        for argument in arguments(parser):
-            if argument.help:
-                lines += [".TP", f"\\fI{roff(shown(argument))}\\fR",
-                          roff(filled(help_of(argument)))]
-        for option in options(parser):
-            if option.dest != "help":
-                lines += [".TP", tag(option), roff(filled(help_of(option)))]
-    lines += [".SH OTHER NAMES", "For this version these are links to it:"]
-    for link, stands in sorted(typed.LINKS.items()):
-        lines += [".TP", f".B {roff(link)}", roff("aprs-net " + " ".join(stands))]
-    lines.append(".SH EXIT STATUS")
-    for status, meaning in STATUSES:
-        lines += [".TP", f".B {status}", roff(filled(meaning))]
+             "arguments; what follows \\fB\\-\\-\\fR is no option.",
+             "\\fB\\-q\\fR says only what went wrong, and \\fB\\-v\\fR also what is run.",
+             "\\fBaprs\\-net help\\fR \\fICOMMAND\\fR says of a command what stands here."]
+    for group, names in commands.GROUPS.items():
+        lines.append(f".SH {group.upper()}")
+        for name in names:
+            lines += command_lines(name, known[name])
+    lines += listed("EXIT STATUS", {str(int(it)): words for it, words in MEANINGS.items()})
+    lines += [".PP", "A reader of its output that ends early, as head does, ends it by SIGPIPE."]
+    lines += listed("ENVIRONMENT", ENVIRONMENT) + listed("FILES", FILES) + example_lines(known)
     lines += [".SH SEE ALSO", ".BR aprsbook (1),", ".BR aprsbook\\-table (1)"]
     return "\n".join(lines) + "\n"
 
@@ -146,28 +180,26 @@ def choices_of(parser: argparse.ArgumentParser) -> Dict[str, List[str]]:
 
 
 def bash() -> str:
-    parsers, _ = commands()
-    lines = [f"# {NOTE}", "_aprs_net() {", "    local word=${COMP_WORDS[COMP_CWORD]} words=",
+    known = parsers()
+    lines = [f"# {NOTE}", "_aprs_net() {",
+             "    local word=${COMP_WORDS[COMP_CWORD]} words=",
              "    local before=${COMP_WORDS[COMP_CWORD-1]} command=${COMP_WORDS[1]}",
-             "    case ${COMP_WORDS[0]##*/} in"]
-    for link, stands in sorted(typed.LINKS.items()):
-        lines.append(f"    {link}) command='{stands[0]}' ;;")
-    lines += ["    *)", "        if [ \"$COMP_CWORD\" = 1 ]; then",
-              f"            words='{' '.join(parsers)} --help --version'",
-              "            mapfile -t COMPREPLY < <(compgen -W \"$words\" -- \"$word\")",
-              "            return", "        fi", "        ;;", "    esac",
-              "    case $command$before in"]
-    for name, parser in parsers.items():
+             "    if [ \"$COMP_CWORD\" = 1 ] || [ \"$command\" = help ]; then",
+             f"        words='{' '.join(known)} {' '.join(MAIN)}'",
+             "        mapfile -t COMPREPLY < <(compgen -W \"$words\" -- \"$word\")",
+             "        return", "    fi",
+             "    case $command$before in"]
+    for name, parser in known.items():
         for option, choices in choices_of(parser).items():
             if option:
                 lines.append(f"    {name}{option}) words='{' '.join(choices)}' ;;")
     lines += ["    *)", "        case $command in"]
-    for name, parser in parsers.items():
+    for name, parser in known.items():
         words = [*names_of(parser), *choices_of(parser).get("", [])]
         lines.append(f"        {name}) words='{' '.join(words)}' ;;")
     lines += ["        esac", "        ;;", "    esac",
               "    mapfile -t COMPREPLY < <(compgen -W \"$words\" -- \"$word\")", "}",
-              f"complete -o default -F _aprs_net aprs-net {' '.join(sorted(typed.LINKS))}"]
+              "complete -o default -F _aprs_net aprs-net"]
     return "\n".join(lines) + "\n"
 
 
@@ -176,28 +208,32 @@ def quoted(text: str) -> str:
     return text.replace("'", "'\\''")
 
 
+def zsh_options(parser: argv.Parser) -> List[str]:
+    """The options of a command, with what may stand behind each."""
+    lines = []
+    for option in options(parser):
+        text = re.sub(r"[\[\]:]", " ", quoted(help_of(option)))
+        end = ""
+        if value(option):
+            words = " ".join(map(str, option.choices)) if option.choices else ""
+            action = f"({words})" if words else "_files"
+            end = f":{value(option).lower().replace(':', ' ').replace('|', ' ')}:{action}"
+        lines += [f"            '{it}[{text}]{end}' \\" for it in option.option_strings]
+    return lines
+
+
 def zsh() -> str:
-    parsers, helps = commands()
-    lines = [f"#compdef aprs-net {' '.join(sorted(typed.LINKS))}", f"# {NOTE}", "_aprs_net() {",
+    known = parsers()
+    lines = ["#compdef aprs-net", f"# {NOTE}", "_aprs_net() {",
              "    local command=$words[2]", "    local -a commands=("]
-    for name in parsers:
-        lines.append(f"        '{name}:{quoted(helps.get(name, '')).replace(':', ' ')}'")
-    lines += ["    )", "    case ${words[1]:t} in"]
-    lines += [f"    {link}) command={stands[0]} ;;" for link, stands in sorted(typed.LINKS.items())]
-    lines += ["    *)", "        if (( CURRENT == 2 )); then",
-              "            _describe command commands", "            return", "        fi",
-              "        ;;", "    esac", "    case $command in"]
-    for name, parser in parsers.items():
-        lines.append(f"    {name})")
-        lines.append("        _arguments \\")
-        for option in options(parser):
-            text = re.sub(r"[\[\]:]", " ", quoted(help_of(option)))
-            end = ""
-            if value(option):
-                words = " ".join(map(str, option.choices)) if option.choices else ""
-                action = f"({words})" if words else "_files"
-                end = f":{value(option).lower().replace(':', ' ').replace('|', ' ')}:{action}"
-            lines += [f"            '{it}[{text}]{end}' \\" for it in option.option_strings]
+    for name in known:
+        lines.append(f"        '{name}:{quoted(HELPS[name]).replace(':', ' ')}'")
+    lines += ["        'help:says more of a command'", "    )",
+              "    if (( CURRENT == 2 )) || [ \"$command\" = help ]; then",
+              "        _describe command commands", "        return", "    fi",
+              "    case $command in"]
+    for name, parser in known.items():
+        lines += [f"    {name})", "        _arguments \\", *zsh_options(parser)]
         chosen = choices_of(parser).get("")
         if chosen:
             lines.append(f"            '1:form:({' '.join(chosen)})' \\")
@@ -207,26 +243,25 @@ def zsh() -> str:
 
 
 def fish() -> str:
-    parsers, helps = commands()
     lines = [f"# {NOTE}"]
-    for name in parsers:
+    known = parsers()
+    for name, words in {**HELPS, "help": "says more of a command"}.items():
         lines.append(f"complete -c aprs-net -n __fish_use_subcommand -f -a {name} "
-                     f"-d '{fish_text(helps.get(name, ''))}'")
-    for name, parser in parsers.items():
-        seen = [("aprs-net", f" -n '__fish_seen_subcommand_from {name}'")]
-        seen += [(link, "") for link, stands in sorted(typed.LINKS.items()) if stands[0] == name]
-        for program, condition in seen:
-            for option in options(parser):
-                words = [f"-l {it[2:]}" if it.startswith("--") else f"-s {it[1:]}"
-                         for it in option.option_strings]
-                if option.choices:
-                    words.append(f"-x -a '{' '.join(map(str, option.choices))}'")
-                elif value(option):
-                    words.append("-r")
-                lines.append(f"complete -c {program}{condition} {' '.join(words)} "
-                             f"-d '{fish_text(help_of(option))}'")
-            for word in choices_of(parser).get("", []):
-                lines.append(f"complete -c {program}{condition} -a {word}")
+                     f"-d '{fish_text(words)}'")
+    for name in known:
+        lines.append(f"complete -c aprs-net -n '__fish_seen_subcommand_from help' -f -a {name}")
+    for name, parser in known.items():
+        start = f"complete -c aprs-net -n '__fish_seen_subcommand_from {name}'"
+        for option in options(parser):
+            words_of = [f"-l {it[2:]}" if it.startswith("--") else f"-s {it[1:]}"
+                        for it in option.option_strings]
+            if option.choices:
+                words_of.append(f"-x -a '{' '.join(map(str, option.choices))}'")
+            elif value(option):
+                words_of.append("-r")
+            lines.append(f"{start} {' '.join(words_of)} -d '{fish_text(help_of(option))}'")
+        for word in choices_of(parser).get("", []):
+            lines.append(f"{start} -a {word}")
     return "\n".join(lines) + "\n"
 
 

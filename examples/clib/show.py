@@ -1,7 +1,6 @@
-#!/usr/bin/env python3
 """Writes the listing of logs and books under a gap of 30 seconds, by the library for C.
 
-usage: examples/clib/show.py LIBRARY FILE..     LIBRARY is such as out/libaprsbook.so
+usage: python3 examples/clib/show.py LIBRARY FILE..     LIBRARY is such as out/libaprsbook.so
 """
 import ctypes
 import sys

@@ -5,11 +5,11 @@ import os from "node:os";
 import path from "node:path";
 import { test } from "node:test";
 import zlib from "node:zlib";
-import { boxAround, carriedIn } from "../../page/carried.js";
-import { openMbtiles } from "../../page/mbtiles.js";
-import { entriesOf, numberOf, openPmtiles } from "../../page/pmtiles.js";
-import { openSqlite } from "../../page/sqlite.js";
-import { squaresOf } from "../../page/tiles.js";
+import { boxAround, carriedIn } from "../../page/src/intake/embedded-tiles.js";
+import { openMbtiles } from "../../page/src/formats/mbtiles.js";
+import { entriesOf, numberOf, openPmtiles } from "../../page/src/formats/pmtiles.js";
+import { openSqlite } from "../../page/src/formats/sqlite.js";
+import { tilesOf } from "../../page/src/map/layers/tile-layer.js";
 
 const PNG = [0x89, 0x50, 0x4e, 0x47, 13, 10, 26, 10];
 const squares = (z, wide) => Array.from({ length: wide * wide }, (_, k) =>
@@ -25,11 +25,11 @@ test("a saved page carries whole levels around the places, in so many bytes", as
   // over the date line it is narrow
   const over = boxAround([{ north: 1, east: 179.99 }, { north: 1, east: -179.99 }]);
   assert.ok(over.east - over.west < 0.3 && over.east > 180);
-  assert.deepEqual(squaresOf(over, 1, 9), ["1/1/0", "1/0/0"]);
+  assert.deepEqual(tilesOf(over, 1, 9), ["1/1/0", "1/0/0"]);
   const picture = Uint8Array.from([...PNG, ...new Uint8Array(100)]), one = 4 * 36;
-  const all = squaresOf(box, 9, 99), tiles = { least: 8, most: 10,
+  const all = tilesOf(box, 9, 99), tiles = { least: 8, most: 10,
     find: async key => key.startsWith("10/") || key === all[0] ? null : new Blob([picture]) };
-  const sizes = [8, 9].map(z => squaresOf(box, z, 99).length), before = one * sizes[0];
+  const sizes = [8, 9].map(z => tilesOf(box, z, 99).length), before = one * sizes[0];
   const { squares, leftOut } = await carriedIn(tiles, box, before + one * (sizes[1] - 1));
   assert.equal(leftOut, null);
   assert.equal(Object.keys(squares).length, sizes[0] + sizes[1] - 1);

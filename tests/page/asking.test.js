@@ -1,7 +1,7 @@
 import assert from "node:assert/strict";
 import http from "node:http";
 import { test } from "node:test";
-import { askFor, namesIn, Refused } from "../../page/asking.js";
+import { askFor, namesIn, Refused } from "../../page/src/intake/http-get.js";
 
 const after = ms => new Promise(done => setTimeout(done, ms));
 /** Calls `run` with the address of a server that answers so. */

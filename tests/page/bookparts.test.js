@@ -1,8 +1,9 @@
 import assert from "node:assert/strict";
 import { test } from "node:test";
-import { partOf, saidIn } from "../../page/bookparts.js";
-import { columnsOf, tableOf } from "../../page/reading.js";
-import { atOnce } from "../../page/steps.js";
+import { partOf, saidIn } from "../../page/src/net/book-slices.js";
+import { columnsOf } from "../../page/src/net/table-reader.js";
+import { tableOf } from "../../page/src/net/table-lines.js";
+import { atOnce } from "../../page/src/util/tasks.js";
 import { bytesOf, textOf } from "./stand.js";
 import { row, table } from "./tables.js";
 

@@ -1,6 +1,6 @@
 import assert from "node:assert/strict";
 import { test } from "node:test";
-import { jobOf } from "../../page/command.js";
+import { jobOf } from "../../page/src/main-node.js";
 
 const row = (words, of = {}) => ({ words, options: [], required: [], seconds: false, many: false,
   ...of });

@@ -1,7 +1,7 @@
 import assert from "node:assert/strict";
 import { test } from "node:test";
 import "./document.js";
-import { keepDraft, readDraft } from "../../page/draft.js";
+import { keepDraft, readDraft } from "../../page/src/ics309/draft.js";
 
 const field = id => document.getElementById(id);
 function store() {

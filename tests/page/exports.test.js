@@ -1,9 +1,8 @@
 import assert from "node:assert/strict";
 import { test } from "node:test";
-import { SAVES, savedText } from "../../page/exports.js";
-import { know } from "../../page/roster.js";
-import { letterOf, printable, said } from "../../page/words.js";
-import { message, moment, netOfLines, place, row } from "./tables.js";
+import { SAVES } from "../../page/src/formats/exports.js";
+import { letterOf, printable, said } from "../../page/src/util/text.js";
+import { message, moment, netOfLines, place, row, savedText } from "./tables.js";
 
 test("places: a row for each, with what the table says, and no formula", () => {
   const net = netOfLines([place(0, "Q1A", 49.0583333, -72.0291667, { course: 88, speed_knots: 36,
@@ -32,12 +31,8 @@ test("messages: in the table's states, bulletins too", () => {
 test("messages: with names in columns of their own, where the roster has some", () => {
   const net = netOfLines([], [message("Q1A-7", "Q1B", "hi", "unanswered", 5, { id: "7" })]);
   const own = { at: Date.UTC(2024, 5, 21, 18) / 1000, from: "Q1A-7", to: "CP1", id: "", text: "x" };
-  const saved = list => {
-    know(list);
-    const text = savedText("messages (CSV)", net, {}, [own]);
-    know([]);
-    return text.split("\n");
-  };
+  const saved = list =>
+    savedText("messages (CSV)", net, {}, { lines: [own], list }).split("\n");
   const name = (call, said) => ({ call, name: said, group: "", bib: "" });
   assert.deepEqual(saved([name("Q1A-*", "=Leader"), name("Q1C", "")]), [
     "time,from,number,to,message,state,from_name,to_name", `${moment(0)},Q1A-7,,CP1,x,own,,`,

@@ -3,8 +3,8 @@ import { setImmediate as pause } from "node:timers/promises";
 import { test } from "node:test";
 import v8 from "node:v8";
 import vm from "node:vm";
-import { madeHays } from "../../page/finding.js";
-import { atOnce } from "../../page/steps.js";
+import { madeHays } from "../../page/src/app/search.js";
+import { atOnce } from "../../page/src/util/tasks.js";
 import { netOfLines, place } from "./tables.js";
 
 v8.setFlagsFromString("--expose-gc");

@@ -1,6 +1,6 @@
 import assert from "node:assert/strict";
 import { test } from "node:test";
-import { filesOf } from "../../page/folders.js";
+import { filesOf } from "../../page/src/intake/folders.js";
 
 const fileNamed = name => ({ isFile: true, name, file: done => done({ name }) });
 const folderOf = (name, entries) => ({ isDirectory: true, name, createReader: () => {

@@ -1,16 +1,16 @@
 import assert from "node:assert/strict";
 import { test } from "node:test";
 import "./document.js";
-import { drawAbout, drawNews, partText } from "../../page/headline.js";
-import { page } from "../../page/state.js";
-import { message, netOfLines, place } from "./tables.js";
+import { drawAbout, drawNews, partText } from "../../page/src/app/header.js";
+import { page } from "../../page/src/app/state.js";
+import { message, netOfLines, place, SETTINGS } from "./tables.js";
 
 const news = document.getElementById("news");
 /** A page of these rows and messages. */
 function take(lines, messages = []) {
   const net = netOfLines(lines, messages), [{ rows }] = net.things;
-  Object.assign(page, { net, all: { rows, end: rows.until },
-    data: { silent: 30, gap: 30, live: 0, notes: [] }, roster: { list: [], faults: [] } });
+  page.shown = { net, all: { rows, end: rows.until },
+    data: { silent: 30, gap: 30, live: 0, notes: [] } };
 }
 const ask = (source, second) => message(source, "Q1B", "x", "unanswered", second, { id: second });
 
@@ -36,7 +36,7 @@ test("of very many receivers the first are named above the news", () => {
     /heard by RX10, RX11, RX12, RX13, RX14, RX15, RX16, RX17, and 52 more$/);
 });
 test("paper says that it has a part, since nobody sees there what was chosen", () => {
-  const all = { hours: 0, until: Infinity, found: 5, all: 5 };
+  const all = { hours: 0, until: Infinity, found: 5, all: 5, clock: SETTINGS };
   assert.equal(partText(all), "");
   assert.equal(partText({ ...all, hours: 6 }), "This is a part: the last 6 h alone.");
   assert.equal(partText({ ...all, until: Date.UTC(2024, 5, 21, 18, 30) / 1000, found: 1 }),

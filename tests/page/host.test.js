@@ -1,6 +1,6 @@
 import assert from "node:assert/strict";
 import { test } from "node:test";
-import { OutOfMemory, run } from "../../page/host.js";
+import { OutOfMemory, run } from "../../page/src/worker/wasm-host.js";
 
 const PAGE = 65536, MIB = 2 ** 20;
 /**

@@ -1,9 +1,10 @@
 import assert from "node:assert/strict";
 import { test } from "node:test";
-import { savedText } from "../../page/exports.js";
-import { entriesOf, fieldOf, momentIn, sheetsOf } from "../../page/ics309.js";
-import { linesIn, OwnLines } from "../../page/ownlines.js";
-import { message, moment, netOfLines } from "./tables.js";
+import { entriesOf } from "../../page/src/net/log-entries.js";
+import { fieldOf, momentIn, sheetsOf } from "../../page/src/ics309/sheets.js";
+import { linesIn, OwnLines } from "../../page/src/ics309/own-lines.js";
+import { Names } from "../../page/src/net/roster.js";
+import { message, moment, netOfLines, savedText } from "./tables.js";
 
 const AT = Date.UTC(2024, 5, 21, 18) / 1000;
 const own = (second, text, fields = {}) => ({ at: AT + second, from: "Net", to: "CP1", id: "", text,
@@ -35,12 +36,13 @@ test("the log has messages, bulletins and own lines by time, each with a number"
   assert.deepEqual(entriesOf(net, [own(4.5, "by voice")]).map(it =>
     [it.number, it.id, it.text, it.note]),
   [[1, "", "all", ""], [2, "", "by voice", ""], [3, "7", "hi", "acknowledged"]]);
-  assert.equal(savedText("messages (CSV)", net, {}, [own(4.5, "\\x41=1")]).split("\n")[2],
+  const lines = [own(4.5, "\\x41=1")];
+  assert.equal(savedText("messages (CSV)", net, {}, { lines }).split("\n")[2],
     `${moment(4.5)},Net,,CP1,\\x41=1,own`);
 });
 test("a log goes on over sheets, a long text takes more room, and one is of nothing", () => {
   const net = netOfLines([]), many = (n, text) => sheetsOf(entriesOf(net,
-    Array.from({ length: n }, (_, k) => own(k, text))));
+    Array.from({ length: n }, (_, k) => own(k, text))), new Names([]));
   assert.equal(many(0, "").length, 1);
   assert.equal(many(26, "short").length, 1);
   const short = many(100, "short"), long = many(100, "long ".repeat(40));
@@ -148,7 +150,9 @@ test("lines of last week's net of the same title are left out, and counted", () 
   assert.deepEqual(JSON.parse(store.getItem("aprsbook lines: Race")).lines.length, 4);
 });
 test("a field for date and time gives back its moment", () => {
-  assert.equal(fieldOf(AT), "2024-06-21T18:00:00");
-  assert.equal(momentIn(fieldOf(AT)), AT);
-  assert.ok(Number.isNaN(momentIn("")));
+  for (const local of [false, true]) {
+    assert.equal(momentIn(fieldOf(AT, { local }), { local }), AT);
+    assert.ok(Number.isNaN(momentIn("", { local })));
+  }
+  assert.equal(fieldOf(AT, { local: false }), "2024-06-21T18:00:00");
 });

@@ -1,11 +1,11 @@
 import assert from "node:assert/strict";
 import { test } from "node:test";
 import { answering, bytesOf, line, saved, textOf } from "./stand.js";
-import { files, movedOf, shiftNotes } from "../../page/inputs.js";
-import { fileOf, look, shifts } from "../../page/intake.js";
-import { beginEarly, textsOf } from "../../page/runs.js";
-import { limits } from "../../page/sources.js";
-import { beginWorkers, run } from "../../page/workers.js";
+import { files, movedOf, shiftNotes } from "../../page/src/intake/file-table.js";
+import { fileOf, look, shifts } from "../../page/src/intake/intake.js";
+import { beginEarly, textsOf } from "../../page/src/intake/runs.js";
+import { limits } from "../../page/src/worker/sources.js";
+import { beginWorkers, run } from "../../page/src/worker/pool.js";
 
 await beginWorkers("", null, fault => assert.fail(fault));
 const logOf = (name, text, of) => fileOf(name, "log", bytesOf(text), of);
@@ -44,7 +44,8 @@ test("a log is saved as its clock is put right at the click, which notes say of 
   file.bytes = bytesOf(line("19:00:00", "COAST") + line("19:10:00", "COAST"));
   await look(file, 30);
   button.onclick();
-  assert.deepEqual([saved[0][0], textOf(saved[0][1]).match(/T\d\d:\d\d/g)],
+  const [[name, blob]] = saved;
+  assert.deepEqual([name, (await blob.text()).match(/T\d\d:\d\d/g)],
     ["a.put-right.log", ["T18:00", "T18:10"]]);
   const words = ["the clock of COAST was put 60 min back here"];
   assert.deepEqual(shiftNotes(shifts), words);

@@ -3,9 +3,9 @@ import { test } from "node:test";
 import { runInThisContext } from "node:vm";
 import {
   damagedLines, kindOf, linesLost, READ, spelled, without, writtenIn,
-} from "../../page/kinds.js";
-import { movedIn, receiversIn, shifting } from "../../page/shift.js";
-import { atOnce } from "../../page/steps.js";
+} from "../../page/src/formats/file-kinds.js";
+import { movedIn, receiversIn, shifting } from "../../page/src/intake/clock-shift.js";
+import { atOnce } from "../../page/src/util/tasks.js";
 
 const bytesOf = text => Uint8Array.from(text, it => it.charCodeAt(0));
 const textOf = bytes => new TextDecoder("latin1").decode(bytes);

@@ -1,11 +1,11 @@
 import assert from "node:assert/strict";
 import { test } from "node:test";
 import { element } from "./document.js";
-import { make } from "../../page/dom.js";
-import { List } from "../../page/lists.js";
-import { placeList } from "../../page/picked.js";
-import { runAllWaiting } from "../../page/steps.js";
-import { netOfLines, place, thing } from "./tables.js";
+import { make } from "../../page/src/util/dom.js";
+import { List } from "../../page/src/lists/table-view.js";
+import { placeList } from "../../page/src/lists/detail-panel.js";
+import { runAllWaiting } from "../../page/src/util/task-queue.js";
+import { netOfLines, place, thing, SETTINGS } from "./tables.js";
 
 test("of a station's many places those are read that are shown", () => {
   const lines = Array.from({ length: 3000 }, (_, k) =>
@@ -16,7 +16,7 @@ test("of a station's many places those are read that are shown", () => {
     read.push(k);
     return own.call(rows, k);
   };
-  const list = placeList(box, { rows });
+  const list = placeList(box, { rows, settings: SETTINGS });
   list.show([...placedBy].reverse());
   runAllWaiting();
   assert.equal(list.body.children.length, 26);

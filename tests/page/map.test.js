@@ -2,13 +2,16 @@ import assert from "node:assert/strict";
 import fs from "node:fs";
 import { test } from "node:test";
 import zlib from "node:zlib";
-import { capOf, distance, locatorOf, Projection, vectorOf } from "../../page/globe.js";
-import { rangeOf } from "../../page/grid.js";
-import { listenToMap, zoomOf } from "../../page/hands.js";
-import { crossings, ringsOf } from "../../page/land.js";
-import { Picture } from "../../page/picture.js";
-import { nameOnMap, Room, Sides } from "../../page/sides.js";
-import { squareOf } from "../../page/tiles.js";
+import { capOf, distance, vectorOf } from "../../page/src/geo/sphere.js";
+import { locatorOf } from "../../page/src/geo/coordinate-formats.js";
+import { fromBase85 } from "../../page/src/formats/base85.js";
+import { Projection } from "../../page/src/geo/projection.js";
+import { rangeOf } from "../../page/src/map/layers/graticule.js";
+import { listenToMap, zoomOf } from "../../page/src/map/gestures.js";
+import { crossings, ringsOf } from "../../page/src/map/layers/coastline.js";
+import { StationPainter } from "../../page/src/map/station-layer.js";
+import { nameOnMap, Room, Sides } from "../../page/src/map/label-placement.js";
+import { tileOf } from "../../page/src/map/layers/tile-layer.js";
 
 const line = spots => Float64Array.from(spots.flatMap(([north, east]) => vectorOf(north, east)));
 const wheel = of => zoomOf({ deltaX: 0, deltaY: 0, deltaMode: 0, ctrlKey: false, ...of });
@@ -28,7 +31,7 @@ test("a mouse moves the map by its first button alone, and picks by it", () => {
   globalThis.addEventListener = listen;
   const node = { addEventListener: listen, style: {}, querySelector: () => ({}),
     getBoundingClientRect: () => ({ left: 0, top: 0 }) };
-  listenToMap({ node, isFull: false, point() {}, markAt: () => null, paintSoon() {}, turn() {},
+  listenToMap({ node, keys: {}, isFull: false, point() {}, tip: () => [], paintSoon() {}, turn() {},
     move: (...by) => said.push(by), tap: (...at) => said.push(at) });
   const say = (type, of) => runs.filter(it => it.kind === type).forEach(it =>
     it.run({ type, pointerId: 1, pointerType: "mouse", button: 0, ...of }));
@@ -73,8 +76,9 @@ test("who is in need has a whole mark among many dots", () => {
     thing: { key: `station Q1A-${k}`, label: "Q1A", urgent: k < urgent ? "emergency" : "" } }));
   const painted = (...of) => {
     const painted = { whole: 0, dots: 0 }, view = new Projection();
-    const picture = new Picture({ view, colours: {}, pen: {}, fan: { at: null }, placed: [],
-      marks: marksOf(...of), isDense: false, sides: { by: new Map(), place: () => null } });
+    const layer = { fan: { at: null }, placed: [], marks: marksOf(...of), isDense: false,
+      sides: { by: new Map(), place: () => null } };
+    const picture = new StationPainter(layer, { colours: {}, pen: {} }, view);
     picture.painter = { paint: () => painted.whole++,
       paintDots: list => { painted.dots += list.length; } };
     picture.writer = { widthOf: () => 40 };
@@ -107,8 +111,8 @@ test("names stay on their side while the map moves, also above a lone mark", () 
     { left: 95, base: 82 });
 });
 test("coasts: what is land, and what isn't", () => {
-  const text = fs.readFileSync(new URL("../../page/coast.txt", import.meta.url), "latin1");
-  const rings = ringsOf(new Uint8Array(zlib.inflateSync(Buffer.from(text, "base64"))));
+  const text = fs.readFileSync(new URL("../../page/assets/coast.txt", import.meta.url), "latin1");
+  const rings = ringsOf(new Uint8Array(zlib.inflateSync(fromBase85(text.trim()))));
   const isLand = (north, east) =>
     rings.reduce((sum, it) => sum + crossings(it, north, east), 0) % 2 === 1;
   const land = [[48.8, 2.3], [40, -100], [-25, 135], [-85, 0], [-85, 170], [65, 178], [66, -172],
@@ -118,10 +122,10 @@ test("coasts: what is land, and what isn't", () => {
   for (const [north, east] of sea) assert.equal(isLand(north, east), false, `${north} ${east}`);
 });
 test("which square a file of a web map has", () => {
-  assert.deepEqual(squareOf("tiles/12/2007/1300.png"), { z: 12, x: 2007, y: 1300 });
-  assert.deepEqual(squareOf("0/0/0.jpg"), { z: 0, x: 0, y: 0 });
+  assert.deepEqual(tileOf("tiles/12/2007/1300.png"), { z: 12, x: 2007, y: 1300 });
+  assert.deepEqual(tileOf("0/0/0.jpg"), { z: 0, x: 0, y: 0 });
   for (const it of ["12/4096/0.png", "12/1.png", "a/b/c.png", "1/0/0.txt", "23/0/0.png"])
-    assert.equal(squareOf(it), null, it);
+    assert.equal(tileOf(it), null, it);
 });
 test("locators of known places", () => {
   // Munich and Newington (both of the literature on Maidenhead locators)

@@ -1,11 +1,11 @@
 import assert from "node:assert/strict";
 import { test } from "node:test";
 import { answering, bytesOf, line, textOf } from "./stand.js";
-import { fileOf, look } from "../../page/intake.js";
-import { merged, partsOf } from "../../page/merging.js";
-import { Refused, textsOf } from "../../page/runs.js";
-import { limits } from "../../page/sources.js";
-import { beginWorkers } from "../../page/workers.js";
+import { fileOf, look } from "../../page/src/intake/intake.js";
+import { merged, partsOf } from "../../page/src/intake/merging.js";
+import { Refused, textsOf } from "../../page/src/intake/runs.js";
+import { limits } from "../../page/src/worker/sources.js";
+import { beginWorkers } from "../../page/src/worker/pool.js";
 
 await beginWorkers("", null, fault => assert.fail(fault));
 /** Calls `run` where so many bytes are merged at once. */

@@ -1,16 +1,19 @@
 import assert from "node:assert/strict";
 import { test } from "node:test";
-import { apartText, clockWords } from "../../page/clockwords.js";
-import { hearings } from "../../page/net.js";
-import { needsOf, newsOf } from "../../page/news.js";
-import { expectedOf, know } from "../../page/roster.js";
-import { waysFor } from "../../page/tables.js";
-import { Alarm } from "../../page/sound.js";
-import { atOnce } from "../../page/steps.js";
-import { clocks } from "../../page/words.js";
-import { message, moment, netOfLines, place, row, rowsOf, thing } from "./tables.js";
+import { apartText, clockWords } from "../../page/src/net/clock-words.js";
+import { hearings } from "../../page/src/net/net.js";
+import { needsOf, newsOf } from "../../page/src/app/alerts.js";
+import { expectedOf } from "../../page/src/net/roster.js";
+import { waysFor } from "../../page/src/lists/stations.js";
+import { Alarm } from "../../page/src/app/alarm.js";
+import { atOnce } from "../../page/src/util/tasks.js";
+import {
+  message, moment, netOfLines, place, row, rowsOf, SETTINGS, settingsFor, thing,
+} from "./tables.js";
 
-const OF = { gap: 30, silent: 30, isLongAgo: () => false, missing: [], expected: 0 };
+const OF = { gap: 30, silent: 30, isLongAgo: () => false, missing: [], expected: 0,
+  settings: SETTINGS };
+const LEADER = [{ call: "Q1A-*", name: "Leader", group: "", bib: "" }];
 const micE = (second, source, says) => row("mic-e", second, source,
   { latitude: "54.5", longitude: "-3.5", symbol: "/j", says });
 
@@ -33,7 +36,7 @@ test("many in need don't fill the page", () => {
 });
 test("an emergency that is over is said, and no longer as one", () => {
   const net = netOfLines([micE(0, "Q1A", "emergency"), micE(9, "Q1A", "in-service")]);
-  assert.deepEqual(needsOf(net.things).map(it => [it.grade, it.text]),
+  assert.deepEqual(needsOf(net.things, SETTINGS).map(it => [it.grade, it.text]),
     [["warn", "Q1A said emergency at 18:00:00, and no longer does"]]);
 });
 
@@ -85,13 +88,10 @@ test("the alarm rings once for a need, also where it is worded in another way", 
   let rung = 0;
   const alarm = new Alarm(() => rung++), lines = [micE(0, "Q1A-7", "emergency")];
   alarm.turn(true, false);
-  const hear = () => alarm.hear(needsOf(netOfLines(lines).things)).map(it => it.text);
+  const hear = (settings = SETTINGS) =>
+    alarm.hear(needsOf(netOfLines(lines).things, settings)).map(it => it.text);
   assert.deepEqual(hear(), ["EMERGENCY: Q1A-7, 18:00:00"]);
-  clocks.dated = "day";
-  know([{ call: "Q1A-*", name: "Leader", group: "", bib: "" }]);
-  assert.deepEqual(hear(), []);
-  clocks.dated = "";
-  know([]);
+  assert.deepEqual(hear(settingsFor(LEADER, { dated: "day" })), []);
   lines.push(micE(60, "Q1A-7", "emergency"));
   assert.deepEqual(hear(), ["EMERGENCY: Q1A-7, 18:01:00"]);
   assert.equal(rung, 2);
@@ -100,7 +100,7 @@ test("the alarm rings once for a need, also where it is worded in another way", 
   later[2] = moment(75);
   lines[1] = later.join("\t");
   assert.deepEqual(hear(), []);
-  assert.equal(needsOf(netOfLines(lines).things)[0].text, "EMERGENCY: Q1A-7, 18:01:15");
+  assert.equal(needsOf(netOfLines(lines).things, SETTINGS)[0].text, "EMERGENCY: Q1A-7, 18:01:15");
 });
 
 test("two wrong clocks don't hide one another", () => {
@@ -202,15 +202,13 @@ test("a net is the same in whatever order its table stands, also since a moment"
   assert.equal(new Map(some.sent).get("Q1C"), 4);
 });
 test("a name of the roster stands wherever a station is in need", () => {
-  know([{ call: "Q1A-*", name: "Leader", group: "", bib: "" }]);
-  const net = netOfLines([micE(0, "Q1A-7", "emergency")]);
-  assert.equal(needsOf(net.things)[0].text, "EMERGENCY: Leader (Q1A-7), 18:00:00");
-  const missingText = missing => newsOf(net, { ...OF, missing, expected: 5 })
+  const net = netOfLines([micE(0, "Q1A-7", "emergency")]), settings = settingsFor(LEADER);
+  assert.equal(needsOf(net.things, settings)[0].text, "EMERGENCY: Leader (Q1A-7), 18:00:00");
+  const missingText = missing => newsOf(net, { ...OF, missing, expected: 5, settings })
     .map(it => it.text).find(it => / expected /.test(it));
   assert.equal(missingText([]), "0 of 5 expected not heard");
   assert.equal(missingText(["Q1A-1", "Q1B", "Q1C", "Q1D"]),
     "4 of 5 expected not heard for 30 min: Leader (Q1A-1), Q1B, Q1C, and 1 more");
-  know([]);
 });
 
 test("weather and telemetry without a place are kept for their station", () => {

@@ -1,15 +1,15 @@
 import assert from "node:assert/strict";
 import { test } from "node:test";
 import "./document.js";
-import { pick } from "../../page/picked.js";
-import { page } from "../../page/state.js";
+import { pick } from "../../page/src/app/selection.js";
+import { page } from "../../page/src/app/state.js";
 import { netOfLines, place } from "./tables.js";
 
 test("what is told of a mark that is clicked on comes into view beside the map", () => {
   const net = netOfLines([place(0, "Q1A", 54, -3), place(1, "Q1B", 54, -3)]), list = { show() {} };
-  Object.assign(page, { net, all: { rows: net.things[0].rows, messages: [] },
-    map: { reach() {}, paintSoon() {} },
-    lists: { places: list, frames: list, things: { mark() {} } } });
+  page.shown = { net, all: { rows: net.things[0].rows, messages: [] } };
+  page.widgets = { map: { reach() {}, paintSoon() {} }, layers: { stations: {} },
+    lists: { places: list, frames: list, things: { mark() {} } } };
   const [box, one] = ["beside", "one"].map(id => document.getElementById(id));
   box.getBoundingClientRect = () => ({ top: 155 });
   one.getBoundingClientRect = () => ({ top: 855 - box.scrollTop });

@@ -1,11 +1,12 @@
 import assert from "node:assert/strict";
 import { test } from "node:test";
-import { orderOf } from "../../page/reading.js";
-import { detailsOf } from "../../page/rows.js";
-import { wordsOf } from "../../page/details.js";
-import { columnsOf, tableOf } from "../../page/reading.js";
-import { atOnce } from "../../page/steps.js";
+import { columnsOf, orderOf } from "../../page/src/net/table-reader.js";
+import { detailsOf } from "../../page/src/net/rows.js";
+import { wordsOf } from "../../page/src/net/details.js";
+import { tableOf } from "../../page/src/net/table-lines.js";
+import { atOnce } from "../../page/src/util/tasks.js";
 import {
+  SETTINGS,
   COLUMNS, message, moment, netOfLines, place, readMessages, row, rowsOf, table, thing,
 } from "./tables.js";
 
@@ -47,12 +48,13 @@ test("what a row says comes from the table's columns and not from its comment", 
   const said = { course: "88", speed_knots: "36", altitude_m: "376.1232", wind_from: "220",
     wind_mph: "4", gust_mph: "5", temperature_f: "77", humidity: "50", pressure_tenths: "9900",
     says: "returning" };
-  assert.deepEqual(wordsOf(detailsOf(said)), ["88\u00b0, 67 km/h", "wind from 220\u00b0, 1.8 m/s",
+  assert.deepEqual(wordsOf(detailsOf(said), SETTINGS), [
+    "88\u00b0, 67 km/h", "wind from 220\u00b0, 1.8 m/s",
     "gusts of 2.2 m/s", "25 \u00b0C", "humidity 50 %", "990.0 hPa", "376 m high", "returning"]);
-  assert.deepEqual(wordsOf(detailsOf({ text: "088/036/A=001234" })), []);
+  assert.deepEqual(wordsOf(detailsOf({ text: "088/036/A=001234" }), SETTINGS), []);
   // empty isn't nought
-  assert.deepEqual(wordsOf(detailsOf({ wind_mph: "", temperature_f: "" })), []);
-  assert.deepEqual(wordsOf(detailsOf({ wind_mph: "0" })), ["calm"]);
+  assert.deepEqual(wordsOf(detailsOf({ wind_mph: "", temperature_f: "" }), SETTINGS), []);
+  assert.deepEqual(wordsOf(detailsOf({ wind_mph: "0" }), SETTINGS), ["calm"]);
 });
 
 test("at one moment the greater receiver decides which place is the last", () => {

@@ -2,7 +2,7 @@ import assert from "node:assert/strict";
 import { test } from "node:test";
 import {
   expectedOf, faultWords, joined, Names, readRoster, rosterText,
-} from "../../page/roster.js";
+} from "../../page/src/net/roster.js";
 
 const calls = text => readRoster(text).list.map(it => [it.call, it.name, it.group, it.bib]);
 

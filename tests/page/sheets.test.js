@@ -1,12 +1,12 @@
 import assert from "node:assert/strict";
 import { test } from "node:test";
 import "./document.js";
-import { bounded } from "../../page/edge.js";
-import { degreesOf } from "../../page/globe.js";
-import { Grounds } from "../../page/grounds.js";
-import { placeText, forms, placeFacts, spotText } from "../../page/placeforms.js";
-import { cornersIn, cornersOf } from "../../page/sheets.js";
-import { vectorOf } from "../../page/globe.js";
+import { bounded } from "../../page/src/app/splitter.js";
+import { degreesOf } from "../../page/src/geo/sphere.js";
+import { TileSources } from "../../page/src/map/layers/tile-sources.js";
+import { placeText, placeFacts, spotText } from "../../page/src/geo/coordinate-formats.js";
+import { cornersIn, cornersOf } from "../../page/src/map/layers/image-overlay.js";
+import { vectorOf } from "../../page/src/geo/sphere.js";
 
 test("corners are read as they are written", () => {
   const spots = cornersOf(["54.6, -3.7", "54.6 -3.4", " 54.4;-3.7 "]).map(degreesOf);
@@ -37,9 +37,9 @@ const world = (name, north, east) =>
   file(name, `0.01\n0\n0\n-0.01\n${east + 0.005}\n${north - 0.005}\n`);
 function grounds() {
   globalThis.createImageBitmap = async () => ({ width: 100, height: 50 });
-  const map = { sheets: [], tiles: { archives: new Map(), size: 0, clear() {} },
-    paintSoon() {} }, told = [];
-  return { all: new Grounds(map, text => told.push(text)), told, whereIs: () => map.sheets
+  const tiles = { archives: new Map(), size: 0, clear() {} }, images = { all: [] }, told = [];
+  const page = { tell: text => told.push(text), paintSoon() {} };
+  return { all: new TileSources({ tiles, images }, page), told, whereIs: () => images.all
     .map(it => [it.name, ...degreesOf(it.corners[0]).map(Math.round)].join(" ")).sort() };
 }
 const field = id => document.getElementById(id);
@@ -77,11 +77,8 @@ test("a wrong world file refuses its own picture alone", async () => {
   assert.deepEqual(whereIs(), []);
 });
 test("places in each form, and in degrees near a pole", () => {
-  const all = ["", "minutes", "utm", "mgrs", "locator"].map(it => {
-    forms.now = it;
-    return [placeText(54.5, -3.5), placeText(89, 10)];
-  });
-  forms.now = "";
+  const all = ["", "minutes", "utm", "mgrs", "locator"].map(form =>
+    [placeText(54.5, -3.5, { form }), placeText(89, 10, { form })]);
   assert.deepEqual(all, [["54.5000, -3.5000", "89.0000, 10.0000"],
     ["54\u00b030.00\u2032N 003\u00b030.00\u2032W", "89\u00b000.00\u2032N 010\u00b000.00\u2032E"],
     ["30U 467619 6039269", "89.0000, 10.0000"], ["30U VF 67619 39269", "89.0000, 10.0000"],

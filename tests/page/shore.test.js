@@ -1,9 +1,10 @@
 import assert from "node:assert/strict";
 import { test } from "node:test";
 import zlib from "node:zlib";
-import { degreesOf, Projection, RADIUS } from "../../page/globe.js";
-import { Numbers } from "../../page/land.js";
-import { Shore, shoreOf } from "../../page/shore.js";
+import { degreesOf, RADIUS } from "../../page/src/geo/sphere.js";
+import { Projection } from "../../page/src/geo/projection.js";
+import { Numbers } from "../../page/src/map/layers/coastline.js";
+import { Shore, shoreOf } from "../../page/src/map/layers/fine-coastline.js";
 
 /** Numbers as the tool packs them. */
 const packed = numbers => Uint8Array.from(numbers.flatMap(it => {

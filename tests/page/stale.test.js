@@ -1,13 +1,14 @@
 import assert from "node:assert/strict";
 import { test } from "node:test";
-import { again, alive, isBusy } from "../../page/alive.js";
-import { aheadOf, staleWords } from "../../page/stale.js";
-import { page } from "../../page/state.js";
-import { age, clocks, datedBy, timeText, zonesText } from "../../page/words.js";
+import { again, alive, isBusy } from "../../page/src/app/live.js";
+import { aheadOf, staleWords } from "../../page/src/app/staleness.js";
+import { page } from "../../page/src/app/state.js";
+import { age, datedBy, timeText, zonesText } from "../../page/src/util/time.js";
 
 const AT = Date.UTC(2024, 5, 21, 18) / 1000;
+const UTC = { local: false, dated: "" }, LOCAL = { local: true, dated: "" };
 const words = of => staleWords({ now: AT, end: AT - 5, answered: AT - 9, away: 0, each: 60,
-  ahead: 0, refused: "", ...of });
+  ahead: 0, refused: "", clock: UTC, ...of });
 
 test("a page that is fresh says nothing, and what isn't heard is said", () => {
   assert.deepEqual(words({}), []);
@@ -48,25 +49,25 @@ test("ages have units, what is to come too", () => {
 test("both zones of a night are said in which clocks change, and each day's date", () => {
   const { TZ } = process.env, change = Date.UTC(2024, 9, 27, 1) / 1000;
   process.env.TZ = "Europe/Berlin";
-  clocks.local = true;
-  assert.equal(zonesText(change - 7200, change - 1), "UTC+02:00");
-  assert.equal(zonesText(change - 7200, change + 7200), "UTC+02:00 and UTC+01:00");
+  assert.equal(zonesText(change - 7200, change - 1, LOCAL), "UTC+02:00");
+  assert.equal(zonesText(change - 7200, change + 7200, LOCAL), "UTC+02:00 and UTC+01:00");
   // a year that ends as it begins
-  assert.equal(zonesText(change - 40 * 86400, change + 320 * 86400), "UTC+02:00 and UTC+01:00");
-  clocks.local = false;
+  assert.equal(zonesText(change - 40 * 86400, change + 320 * 86400, LOCAL),
+    "UTC+02:00 and UTC+01:00");
   process.env.TZ = TZ || "";
-  assert.equal(zonesText(change - 7200, change + 7200), "UTC");
-  assert.deepEqual([[AT, AT + 1, Infinity], [AT, AT + 86400], [AT, 0], []].map(datedBy),
+  assert.equal(zonesText(change - 7200, change + 7200, UTC), "UTC");
+  const times = [[AT, AT + 1, Infinity], [AT, AT + 86400], [AT, 0], []];
+  assert.deepEqual(times.map(it => datedBy(it, UTC)),
     ["", "day", "year", ""]);
   // such as of a receiver that began without a clock
-  assert.deepEqual(["", "day", "year"].map(it => timeText(0, it)),
+  assert.deepEqual(["", "day", "year"].map(dated => timeText(0, { ...UTC, dated })),
     ["00:00:00", "1 Jan 00:00:00", "1970-01-01 00:00:00"]);
 });
 test("a page doesn't load itself again where somebody would lose what was written", () => {
   const before = Object.getOwnPropertyDescriptor(globalThis, "location");
   const of = (isWritten, isAtRisk, protocol, touched = 0) => {
     Object.defineProperty(globalThis, "location", { value: { protocol }, configurable: true });
-    Object.assign(page, { form: { isWritten }, own: { isAtRisk } });
+    Object.assign(page, { widgets: { form: { isWritten } }, own: { isAtRisk } });
     alive.touched = touched;
     return isBusy();
   };

@@ -1,8 +1,8 @@
 // What the modules that read logs ask of the page and of a browser, by hand: workers run the
 // stand-in for the module. It stands before those modules in a test.
-import { bytesIn } from "../../page/sources.js";
-import * as words from "../../page/words.js";
-import { run } from "../net/stand_in.js";
+import { resolveObjectURL } from "node:buffer";
+import { bytesIn } from "../../page/src/worker/sources.js";
+import { run } from "../browser/stand_in.js";
 
 /**
  * How many milliseconds a run takes, by its command, and what it gives where that is another; where
@@ -31,11 +31,18 @@ class Worker {
   }
   terminate() {}
 }
-/** What was saved: names, what, and of which type. */
+/** What was saved: names, and what. */
 export const saved = [];
-const make = (tag, of, ...inside) => ({ tag, ...of, inside });
-Object.assign(globalThis, { Worker,
-  aprsbook: { ...words, make, save: (...it) => { saved.push(it); } } });
+/** An element of the page: a link of it saves what is behind it. */
+class Node {
+  dataset = {};
+  append() {}
+  setAttribute() {}
+  click() {
+    saved.push([this.download, resolveObjectURL(this.href)]);
+  }
+}
+Object.assign(globalThis, { Worker, document: { createElement: () => new Node() } });
 Object.defineProperty(globalThis, "navigator", { value: { hardwareConcurrency: 2 },
   configurable: true });
 

@@ -1,8 +1,13 @@
 // Tables by hand, for the tests of the page's parts.
-import { atOnce } from "../../page/steps.js";
-import { netOf, rank } from "../../page/net.js";
-import { columnsOf, messagesOf, tableOf } from "../../page/reading.js";
-import { Rows } from "../../page/rows.js";
+import { SAVES } from "../../page/src/formats/exports.js";
+import { Names } from "../../page/src/net/roster.js";
+import { settingsOf } from "../../page/src/net/settings.js";
+import { atOnce } from "../../page/src/util/tasks.js";
+import { netOf, rank } from "../../page/src/net/net.js";
+import { columnsOf } from "../../page/src/net/table-reader.js";
+import { messagesOf } from "../../page/src/net/message-table.js";
+import { tableOf } from "../../page/src/net/table-lines.js";
+import { Rows } from "../../page/src/net/rows.js";
 
 export const COLUMNS = ("kind first last receivers receiver source destination via gate name " +
   "state id latitude longitude ambiguity compressed symbol stamp course speed_knots altitude_m " +
@@ -26,6 +31,7 @@ export const message = (source, addressee, text, state, second, fields = {}) => 
   { source, addressee, text, state, first: moment(second), last: moment(second), ...fields });
 
 export const table = (lines, columns = COLUMNS) => columns.join("\t") + "\n" + lines.join("");
+export const messageTable = lines => table(lines, MESSAGES);
 export const rowsOf = (lines, columns) =>
   new Rows(atOnce(columnsOf(tableOf(table(lines, columns)))));
 export const readMessages = text => atOnce(messagesOf(tableOf(text)));
@@ -35,4 +41,10 @@ export function netOfLines(lines, messages = [], { since = -Infinity, gap = 30 }
   read.forEach(rank);
   return atOnce(netOf({ rows, messages: read, end: rows.until }, since, gap));
 }
+/** Settings of a page with a roster of these. */
+export const settingsFor = (list = [], of = {}) => settingsOf({ names: new Names(list), ...of });
+export const SETTINGS = settingsOf();
+/** What is saved by a name of the menu, with an operator's lines and a roster. */
+export const savedText = (name, net, data = { title: "net" }, { lines = [], list = [] } = {}) =>
+  [...SAVES[name][2](net, data, { lines, names: new Names(list) })].join("");
 export const thing = (net, name) => net.things.find(it => it.name === name);

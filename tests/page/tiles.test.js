@@ -1,8 +1,8 @@
 import assert from "node:assert/strict";
 import { setImmediate as pause } from "node:timers/promises";
 import { test } from "node:test";
-import { Projection } from "../../page/globe.js";
-import { Tiles } from "../../page/tiles.js";
+import { Projection } from "../../page/src/geo/projection.js";
+import { TileLayer } from "../../page/src/map/layers/tile-layer.js";
 
 globalThis.devicePixelRatio = 1;
 globalThis.createImageBitmap = async () => ({ width: 256, height: 256 });
@@ -18,13 +18,13 @@ function viewOf(width, height, out) {
 async function settled(tiles, view) {
   for (let paints = 1, isNew = true; ; paints++) {
     isNew = false;
-    const some = tiles.paint(PEN, view, () => { isNew = true; });
+    const some = tiles.paint({ pen: PEN, again: () => { isNew = true; } }, view) === "";
     for (let k = 0; k < 20; k++) await pause();
     if (!isNew || paints === 30) return [paints, some];
   }
 }
 function archive() {
-  const read = [], tiles = new Tiles();
+  const read = [], tiles = new TileLayer();
   tiles.open("x", { least: 12, most: 16, read: async (...square) => {
     read.push(square.join());
     return new Blob(["p"]);
@@ -50,14 +50,14 @@ test("of squares that are kept those go first that were drawn longest ago", asyn
     view.move(right, down);
     await settled(tiles, view);
     arms.push(read.length - before);
-    tiles.paint(PEN, middle, () => {});
+    tiles.paint({ pen: PEN, again() {} }, middle);
     await settled(tiles, middle);
     assert.equal(read.length - before, arms.at(-1), "the middle was read again");
   }
   assert.ok(new Set(read).size > 400 && arms.at(-1) > 0, `${arms}`);
 });
 test("a square that comes later is drawn where its gap was seen", async () => {
-  const tiles = new Tiles(), view = viewOf(256, 256, 0);
+  const tiles = new TileLayer(), view = viewOf(256, 256, 0);
   tiles.take({ z: 12, x: 0, y: 0 }, new Blob(["far away"]));
   assert.deepEqual(await settled(tiles, view), [1, false]);
   const [z, x, y] = [...tiles.made.keys()][0].split("/").map(Number);

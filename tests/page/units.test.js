@@ -1,42 +1,38 @@
 import assert from "node:assert/strict";
-import { afterEach, test } from "node:test";
-import { distance, vectorOf } from "../../page/globe.js";
-import { Measure, wayOf } from "../../page/measure.js";
-import { far, inWords, scaleOf, units } from "../../page/units.js";
+import { test } from "node:test";
+import { distance, vectorOf } from "../../page/src/geo/sphere.js";
+import { Measure, wayOf } from "../../page/src/map/measure.js";
+import { far, inWords, scaleOf } from "../../page/src/geo/units.js";
 
-afterEach(() => { units.miles = false; });
 /** What a run says in metric units, and in miles. */
-const both = run => [false, true].map(miles => {
-  units.miles = miles;
-  return run();
-});
+const METRIC = { miles: false };
+const both = run => [{ miles: false }, { miles: true }].map(run);
 
 test("numbers of the table in both units", () => {
   // 100 feet, 36 knots, 77 degrees of Fahrenheit, and what is a hundredth of an inch
-  assert.deepEqual(both(() => inWords("metres", 30.48)), ["30 m", "100 ft"]);
-  assert.deepEqual(both(() => inWords("knots", 36)), ["67 km/h", "41 mph"]);
-  assert.deepEqual(both(() => inWords("mph", 4)), ["1.8 m/s", "4 mph"]);
-  assert.deepEqual(both(() => inWords("mph", 30)), ["13 m/s", "30 mph"]);
-  assert.deepEqual(both(() => inWords("fahrenheit", 77)), ["25 \u00b0C", "77 \u00b0F"]);
-  assert.deepEqual(both(() => inWords("fahrenheit", 31.9)), ["0 \u00b0C", "32 \u00b0F"]);
-  assert.deepEqual(both(() => inWords("rain", 1)), ["0.3 mm", "0.01 in"]);
+  assert.deepEqual(both(units => inWords("metres", 30.48, units)), ["30 m", "100 ft"]);
+  assert.deepEqual(both(units => inWords("knots", 36, units)), ["67 km/h", "41 mph"]);
+  assert.deepEqual(both(units => inWords("mph", 4, units)), ["1.8 m/s", "4 mph"]);
+  assert.deepEqual(both(units => inWords("mph", 30, units)), ["13 m/s", "30 mph"]);
+  assert.deepEqual(both(units => inWords("fahrenheit", 77, units)), ["25 \u00b0C", "77 \u00b0F"]);
+  assert.deepEqual(both(units => inWords("fahrenheit", 31.9, units)), ["0 \u00b0C", "32 \u00b0F"]);
+  assert.deepEqual(both(units => inWords("rain", 1, units)), ["0.3 mm", "0.01 in"]);
 });
 test("ways in the unit that says enough", () => {
-  assert.deepEqual(both(() => far(999.4)), ["999 m", "0.6 mi"]);
-  assert.deepEqual(both(() => far(999.6)), ["1.0 km", "0.6 mi"]);
-  assert.deepEqual(both(() => far(304)), ["304 m", "997 ft"]);
-  assert.deepEqual(both(() => far(160934.4)), ["161 km", "100 mi"]);
-  assert.deepEqual(both(() => far(99949)), ["99.9 km", "62.1 mi"]);
+  assert.deepEqual(both(units => far(999.4, units)), ["999 m", "0.6 mi"]);
+  assert.deepEqual(both(units => far(999.6, units)), ["1.0 km", "0.6 mi"]);
+  assert.deepEqual(both(units => far(304, units)), ["304 m", "997 ft"]);
+  assert.deepEqual(both(units => far(160934.4, units)), ["161 km", "100 mi"]);
+  assert.deepEqual(both(units => far(99949, units)), ["99.9 km", "62.1 mi"]);
 });
 test("the scale of a map is a round length", () => {
-  assert.deepEqual(both(() => scaleOf(130).text), ["200 m", "500 ft"]);
-  assert.deepEqual(both(() => scaleOf(700).text), ["1 km", "1 mi"]);
-  assert.deepEqual(both(() => scaleOf(1400).text), ["2 km", "1 mi"]);
-  assert.deepEqual(both(() => scaleOf(2.9e6).text), ["5000 km", "2000 mi"]);
+  assert.deepEqual(both(units => scaleOf(130, units).text), ["200 m", "500 ft"]);
+  assert.deepEqual(both(units => scaleOf(700, units).text), ["1 km", "1 mi"]);
+  assert.deepEqual(both(units => scaleOf(1400, units).text), ["2 km", "1 mi"]);
+  assert.deepEqual(both(units => scaleOf(2.9e6, units).text), ["5000 km", "2000 mi"]);
   for (const miles of [false, true]) {
-    units.miles = miles;
     for (let metres = 1; metres < 2e7; metres *= 1.3)
-      assert.ok(scaleOf(metres).metres >= metres * 0.99, String(metres));
+      assert.ok(scaleOf(metres, { miles }).metres >= metres * 0.99, String(metres));
   }
 });
 test("a line that is measured goes the shortest way", () => {
@@ -50,17 +46,17 @@ test("a line that is measured goes the shortest way", () => {
 });
 test("what is measured, in words", () => {
   const line = new Measure();
-  assert.equal(line.text, "");
+  assert.equal(line.text(METRIC), "");
   line.turn(true);
-  assert.equal(line.text, "measure: click where it begins");
+  assert.equal(line.text(METRIC), "measure: click where it begins");
   line.add(vectorOf(0, 0));
-  assert.equal(line.text, "measure: click where it ends");
+  assert.equal(line.text(METRIC), "measure: click where it ends");
   line.add(vectorOf(1, 0));
-  assert.equal(line.text, "111 km at 000\u00b0");
+  assert.equal(line.text(METRIC), "111 km at 000\u00b0");
   line.add(vectorOf(1, -1));
-  assert.equal(line.text, "111 km at 270\u00b0, all 222 km");
+  assert.equal(line.text(METRIC), "111 km at 270\u00b0, all 222 km");
   line.back();
-  assert.equal(line.text, "111 km at 000\u00b0");
+  assert.equal(line.text(METRIC), "111 km at 000\u00b0");
   line.turn(false);
-  assert.deepEqual([line.text, line.places], ["", []]);
+  assert.deepEqual([line.text(METRIC), line.places], ["", []]);
 });

@@ -1,7 +1,7 @@
 import assert from "node:assert/strict";
 import { test } from "node:test";
 import { gzipSync } from "node:zlib";
-import { beginningOf, unzipped } from "../../page/unpacking.js";
+import { beginningOf, unzipped } from "../../page/src/formats/gunzip.js";
 
 const text = "2024-06-21T18:00:00Z RX1 c000aac0\n".repeat(200);
 const blobOf = bytes => new Blob([bytes]);

@@ -1,6 +1,6 @@
 import assert from "node:assert/strict";
 import { test } from "node:test";
-import { mgrsText, utmOf, utmText, zoneOf } from "../../page/utm.js";
+import { mgrsText, utmOf, utmText, zoneOf } from "../../page/src/geo/utm.js";
 
 const at = (degrees, minutes, seconds) => degrees + minutes / 60 + seconds / 3600;
 function near(north, east, zone, easting, northing) {

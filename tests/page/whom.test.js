@@ -1,13 +1,14 @@
 import assert from "node:assert/strict";
 import { test } from "node:test";
-import { Colouring, densityOf, isDense, wayFor } from "../../page/colouring.js";
-import { Fan, pilesOf, spotsAround } from "../../page/fans.js";
-import { numbersOf, restOf, wayOf } from "../../page/frames.js";
-import { graphsOf, partsOf, ticksOf } from "../../page/graphs.js";
-import { Looked } from "../../page/looked.js";
-import { channelsOf, isBattery } from "../../page/telemetry.js";
-import { quarterOf } from "../../page/tracks.js";
-import { message, netOfLines, place, row, thing } from "./tables.js";
+import { Colouring, wayFor } from "../../page/src/map/colours.js";
+import { densityOf, isDense } from "../../page/src/map/density.js";
+import { Fan, pilesOf, spotsAround } from "../../page/src/map/spiderfy.js";
+import { numbersOf, restOf, wayOf } from "../../page/src/lists/frames.js";
+import { graphsOf, partsOf, ticksOf } from "../../page/src/lists/charts.js";
+import { Looked } from "../../page/src/app/seen.js";
+import { channelsOf, isBattery } from "../../page/src/net/telemetry.js";
+import { quarterOf } from "../../page/src/map/tracks.js";
+import { message, netOfLines, place, row, thing, SETTINGS } from "./tables.js";
 
 const mark = (key, x, y) =>
   ({ thing: { key }, place: { vector: [1, 0, 0] }, picked: false, colour: "", x, y });
@@ -41,7 +42,7 @@ test("a fan puts its own marks around a spot, in the same places each time", () 
   assert.deepEqual([fan.isOpen, fan.spread(marks, { x: 0, y: 0 }).length], [false, 0]);
 });
 test("colours say age, receiver or kind, and each is in the legend", () => {
-  const of = (by, kind = "station") => ({ by, kind, colour: 4 });
+  const of = (by, kind = "station") => ({ by, kind, key: "station Q1A" });
   const age = new Colouring("age", { silent: 1800 });
   assert.deepEqual([0, 299, 300, 899, 900, 1799, 1800, 3599, 3600].map(it => age.of(of([]), it)),
     ["a0", "a0", "a1", "a1", "a2", "a2", "a3", "a3", "a4"]);
@@ -52,7 +53,7 @@ test("colours say age, receiver or kind, and each is in the legend", () => {
     ["t0", "t1", "soft", "ink"]);
   assert.deepEqual(by.legend.map(it => it.text).slice(-3), ["RX1", "several", "another"]);
   assert.equal(new Colouring("kind").of(of([], "item"), 0), "item");
-  assert.deepEqual([new Colouring("own").of(of([]), 0), new Colouring("own").legend], ["t4", []]);
+  assert.deepEqual([new Colouring("own").of(of([]), 0), new Colouring("own").legend], ["t2", []]);
   assert.deepEqual([wayFor(60), wayFor(61)], ["own", "age"]);
 });
 test("many marks in few squares are density, and squares move with the map", () => {
@@ -84,7 +85,7 @@ test("graphs are of the table's columns, in the unit that is said, of two values
   assert.equal(numbers.length, 3);
   // of a station with many rows, records of all would stop the page for seconds
   rows.record = () => assert.fail("a record");
-  assert.deepEqual(graphsOf(rows, numbers).map(it =>
+  assert.deepEqual(graphsOf(rows, numbers, channelsOf([], ""), SETTINGS).map(it =>
     [it.title, it.unit, it.lines.map(line => line.map(one => one.value))]),
   [["temperature", "\u00b0C", [[10, 20]]], ["telemetry 1", "as sent", [[7, 8]]]]);
 });
@@ -96,7 +97,7 @@ test("telemetry has the names, units and equations that messages to its station 
     say("PARM.Sun", 9, "Q1B")]);
   const channels = channelsOf(net.messages, "Q1A");
   const { rows } = thing(net, "Q1A"), numbers = numbersOf(thing(net, "Q1A"), net.rows);
-  assert.deepEqual(graphsOf(rows, numbers, channels).map(it =>
+  assert.deepEqual(graphsOf(rows, numbers, channels, SETTINGS).map(it =>
     [it.title, it.unit, it.lines[0].map(one => Number(one.value.toFixed(6)))]),
   [["Vbat", "V", [12, 11.8]], ["Temp", "C", [123, 443]], ["telemetry 3", "as sent", [3, 4]]]);
   // no equation fills a line with digits

@@ -24,7 +24,7 @@ async function answered(text, asked) {
   };
   globalThis.postMessage = (answer, buffers) => given.push([answer, buffers]);
   try {
-    await import("../../page/worker.js");
+    await import("../../page/src/main-worker.js");
     await globalThis.onmessage({ data: [1, "load", {}] });
     await globalThis.onmessage({ data: [2, "run", { options: 30, ...asked }] });
     assert.deepEqual(given[0][0], [1, true, ""]);

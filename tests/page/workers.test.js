@@ -1,8 +1,8 @@
 import assert from "node:assert/strict";
 import { test } from "node:test";
 import { bytesOf, line } from "./stand.js";
-import { limits } from "../../page/sources.js";
-import { beginWorkers, run } from "../../page/workers.js";
+import { limits } from "../../page/src/worker/sources.js";
+import { beginWorkers, run } from "../../page/src/worker/pool.js";
 
 await beginWorkers("", null, fault => assert.fail(fault));
 const log = bytesOf(line("18:00:00", "RX1"));

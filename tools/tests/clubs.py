@@ -7,7 +7,7 @@ from typing import List, Optional, Set
 
 import pytest
 
-from aprsbook_tools import log_file
+from aprsbook_tools.formats import log_file
 from conftest import EVENING, HERE, environment, tried
 
 PATH = os.environ["PATH"]

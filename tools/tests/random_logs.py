@@ -2,7 +2,7 @@
 import random
 from typing import List
 
-from aprsbook_tools import ax25, kiss, log_file, moments
+from aprsbook_tools.formats import ax25, kiss, log_file, moments
 
 # as they are sent; a byte that is no UTF-8 stands as a surrogate
 TEXTS = [

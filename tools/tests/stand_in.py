@@ -3,6 +3,7 @@
 sorted, each once, which grow by merges as those of aprsbook do. A station is all of one minute.
 
 usage: aprsbook merge|widen [--gap] SECONDS [--] [FILE..]
+       aprsbook check
        aprsbook-fold --gap SECONDS [--from SOURCE] [--until SOURCE] FILE..
        aprsbook-table stations --gap SECONDS -- FILE..
        any of them: --version, --help
@@ -37,7 +38,7 @@ def read_book(path: str, text: str, gap: int, widen: bool) -> Set[str]:
 
 def read(path: str, gap: int, widen: bool) -> Set[str]:
     try:
-        with open(path or 0, encoding="ascii") as file:
+        with open(path or 0, encoding="ascii", errors="replace", newline="\n") as file:
             text = file.read()
     except OSError:
         fail(f"{path}: cannot open")
@@ -48,12 +49,14 @@ def read(path: str, gap: int, widen: bool) -> Set[str]:
         fail(f"{path}: line 1: Header")
     if text and not text.endswith("\n"):
         fail(f"{path}: line {text.count(chr(10)) + 1}: NoNewline")
-    for number, line in enumerate(text.splitlines(), 1):
+    for number, line in enumerate(text.split("\n")[:-1], 1):
         if len(line) > 8192:
             fail(f"{path}: line {number}: LongLine")
-        if not re.fullmatch(r"\S{20,24} \S{1,16} [0-9a-f]*", line):
+        if not re.match(r"(19|20)\d\d-\d\d-\d\dT\d\d:\d\d:\d\d(\.\d{3})?Z ", line):
             fail(f"{path}: line {number}: Moment")
-        if not re.fullmatch(r"\S+ \S+ ([0-9a-f]{2})*", line):
+        if not re.match(r"[^ ]+ [A-Za-z0-9_-]{1,16} ", line):
+            fail(f"{path}: line {number}: Receiver")
+        if not re.fullmatch(r"[^ ]+ [^ ]+ ([0-9A-Fa-f]{2})*", line):
             fail(f"{path}: line {number}: Hex")
     return {re.sub(r"(:\d\d)Z", r"\1.000Z", line) for line in text.splitlines()}
 
@@ -78,6 +81,7 @@ def main() -> None:
     parser.add_argument("--version", action="version", version=f"{PROGRAM} 0")
     parser.add_argument("--gap", type=int)
     if PROGRAM == "aprsbook-fold":
+        parser.add_argument("--check", action="store_true")
         parser.add_argument("--from", dest="since", default="")
         parser.add_argument("--until", default="~")
     parser.add_argument("words", nargs="*")
@@ -89,11 +93,21 @@ def main() -> None:
     words: List[str] = args.words
     if any("\udc80" <= it <= "\udcff" for it in "".join(words)):
         fail("a name that isn't UTF-8", 2)
+    if getattr(args, "check", False):
+        for it in words:
+            with open(it, encoding="ascii") as file:
+                text = file.read()
+            begins = text.startswith("APRSBOOK 3")
+            read_book(it, text, int(text.split()[2]) if begins else 30, False)
+        return
     gap = int(words.pop(0)) if command == "widen" else args.gap or 30
     if os.environ.get("STAND_IN_RUNS"):
         with open(os.environ["STAND_IN_RUNS"], "a", encoding="utf-8") as file:
             file.write(" ".join(words) + "\n")
     rows = sorted(set().union(*(read(it, gap, command == "widen") for it in words or [""])))
+    if command == "check":
+        write(f"heard {len(rows)} passed 0\n")
+        return
     if command == "stations":
         write(stations(rows))
         return

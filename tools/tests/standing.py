@@ -4,12 +4,14 @@ import os
 import pathlib
 import stat
 import sys
-from typing import Any, Dict, List, Sequence
+from typing import Any, Dict, Iterable, Iterator, List, Sequence
 
 import pytest
 
-from aprsbook_tools import cli
-from aprsbook_tools.table import WORDS, Message, Row, Station, Thing
+from aprsbook_tools import cli, table_output
+from aprsbook_tools.reports import track_files, tracks
+from aprsbook_tools.reports.roster import Roster
+from aprsbook_tools.reports.table import WORDS, Message, Row, Station, Thing
 
 # prints the table that is asked for, and as a book what it is given; it notes how it was called
 SCRIPT = """#!{python}
@@ -113,6 +115,15 @@ def table_text(kind: Any, items: Sequence[Any]) -> str:
     return "".join("\t".join(line) + "\n" for line in [[*names, "of_later"], *lines])
 
 
+def tracks_of(form: str, things: Iterable[tracks.Thing]) -> Iterator[str]:
+    """The tracks of things in a format, without a roster."""
+    if form in track_files.TRACKS:
+        return track_files.TRACKS[form](things, Roster(), "net")
+    head = track_files.head_of(Roster())
+    lines = [it[:len(head)] for it in track_files.lines_of(things, Roster())]
+    return table_output.lines_of(form, head, lines)
+
+
 class Programs:
     """Stand-ins in the PATH, with the tables that they print."""
 
@@ -166,7 +177,7 @@ def programs(
 ) -> Programs:
     """Stand-ins for the programs, and a log for them, `net.log`, in the present folder."""
     monkeypatch.chdir(tmp_path)
-    monkeypatch.delenv("DAYS", raising=False)
-    monkeypatch.delenv("GAP", raising=False)
+    monkeypatch.delenv("APRS_NET_DAYS", raising=False)
+    monkeypatch.delenv("APRS_NET_GAP", raising=False)
     (tmp_path / "net.log").write_text("")
     return Programs(tmp_path, monkeypatch, capfd)

@@ -1,4 +1,4 @@
--- What the steps of reading a frame return. No public clause cites this module.
+-- What the steps of reading a frame return.
 use Rattle.std.specs.Prelude.{◌≡◌, ℕ, ◌==◌, true, false, not, nat_le, nat_lt, if◌then◌else◌, List}
 use Rattle.std.specs.Prelude.{length, slice_index, Option, None, Some, MatchOption, Result}
 use Rattle.std.specs.Prelude.{MatchResult}

@@ -1,9 +1,9 @@
 -- Rows of a book as a store takes them.
-use Rattle.aprs_book.proofs.Common.{◌≡◌, ◌∙◌, inl, inr, ℕ, ◌<◌, ◌≤◌, List, [], ◌∷◌, ◌++◌, length, Result, Ok, Err, refl, sym, ap, subst, append_assoc, append-nil, arith, All, IfOk, is_gt, join_with_byte, IsName, Received, ◌∈◌, millis_of, AreInOrder, IsBelow, IsUpTo, Row, row_cmp, IsSoundRow, Sound, merge, Joined, BookValue, IsSoundBook, HaveOneGap, AreJoined, widened_to, widened_rows, one_value, some_millis, ordered_weaker, one_book, together, witnesses, witnessed, widens_witnesses, joined_by_merge, AreSoundRows}
+use Rattle.aprs_book.proofs.Common.{◌≡◌, ◌∙◌, inl, inr, ℕ, ◌<◌, ◌≤◌, List, [], ◌∷◌, ◌++◌, length, Result, Ok, Err, refl, sym, ap, subst, append_assoc, append-nil, arith, All, IfOk, join_with_byte, IsName, Received, ◌∈◌, millis_of, Row, IsSoundRow, Sound, merge, Joined, BookValue, IsSoundBook, HaveOneGap, AreJoined, widened_to, widened_rows, one_value, some_millis, one_book, together, witnesses, witnessed, widens_witnesses, joined_by_merge, AreSoundRows}
 use Rattle.aprs_rows.specs.declared.memory.Memory.{Memory}
 use Rattle.aprs_rows.specs.Names.{names_in}
 use Rattle.aprs_rows.proofs.NameTexts.{names_joined}
-use Rattle.aprs_book.specs.Taking.{MergesInto}
+use Rattle.aprs_book.specs.Changes.{MergesInto}
 use Rattle.aprs_book.proofs.Taking.{merges_into, value}
 
 -- ---- a row
@@ -58,12 +58,6 @@ sound_walk b rows e w = subst AreSoundRows (sym e) w.sound.each
 pub all_put : (put rest all : List Row) → rest ≡ [] → put ++ rest ≡ all → put ≡ all
 all_put put rest all none split =
     sym (append-nil put) ∙ ap (λ rows. put ++ rows) (sym none) ∙ split
-
-pub in_order : (b : BookValue) (rows : List Row) → rows ≡ b.rows → IsSoundBook b → AreInOrder rows
-in_order b rows e w =
-    subst AreInOrder (sym e)
-    (ordered_weaker (IsBelow row_cmp) (IsUpTo row_cmp) b.rows (λ x y hx hy less. ap is_gt less)
-    w.sound.ascending)
 
 -- ---- the book in a store
 

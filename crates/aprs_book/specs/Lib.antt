@@ -1,26 +1,11 @@
 -- Definitions that contracts of the book cite.
-pub mod Examples
 pub mod Keyed
-pub mod Known
-pub mod Shown
-pub mod Notes
+pub mod KeyedFrame
 pub mod Slots
-pub mod Taking
+pub mod Changes
 pub mod Replay
 pub mod Applying
 pub mod RowsFault
-pub mod Reports
-pub mod LastKnown
-pub mod Stations
-pub mod Messages
-pub mod ReplyAcks
-pub mod ReplyTexts
-pub mod Exchange
-pub mod SummaryBuilder
-pub mod MessageRows
-pub mod Names
-pub mod NamedRows
-pub mod StationRows
 -- What public clauses cite of lower crates.
 pub use Rattle.aprs_log.specs.Reception
 pub use Rattle.aprs_laws.specs.Lists
@@ -38,11 +23,9 @@ pub use Rattle.aprs_laws.specs.Joining
 pub use Rattle.aprs_laws.specs.Widening
 pub use Rattle.aprs_laws.specs.BookValue
 pub use Rattle.aprs_laws.specs.Taken
-pub use Rattle.aprs_laws.specs.Best
-pub use Rattle.aprs_laws.specs.BestLaws
-pub use Rattle.aprs_laws.specs.Spans
 pub use Rattle.aprs_rows.specs.Refusal
-pub use Rattle.aprs_ax25.specs.CallText
-pub use Rattle.aprs_report.specs.Bytes
-pub use Rattle.aprs_report.specs.Reading
-pub use Rattle.aprs_report.specs.Reader
+pub use Rattle.aprs_summary.specs.Reports
+pub use Rattle.aprs_summary.specs.LastKnown
+pub use Rattle.aprs_summary.specs.Stations
+pub use Rattle.aprs_summary.specs.Names
+pub use Rattle.aprs_summary.specs.Messages

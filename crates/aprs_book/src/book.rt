@@ -5,12 +5,10 @@ ghost use Rattle.aprs_laws.specs.BookValue.{Holds, IsSoundBook, HaveOneGap, AreJ
 ghost use Rattle.aprs_laws.specs.Sound.{Sound};
 ghost use Rattle.aprs_laws.specs.Inserted.{FitsInPlace};
 ghost use Rattle.aprs_laws.proofs.Joins.{gap_laws};
-ghost use Rattle.aprs_book.specs.Taking.{TakesIn, MergesInto, WidensTo};
+ghost use Rattle.aprs_book.specs.Changes.{TakesIn, MergesInto, WidensTo};
 ghost use Rattle.aprs_rows.specs.Refusal.{refusal};
-ghost use Rattle.aprs_book.specs.Known.{AreIndexesOf};
+ghost use Rattle.aprs_summary.specs.Known.{AreIndexesOf};
 
-use crate::known::indexes::Indexes;
-use crate::known::subject::Subject;
 use crate::rows::kept_row::KeptRow;
 use crate::rows::keyed::KeyedRows;
 use crate::rows::millis::Millis;
@@ -19,6 +17,7 @@ use crate::stored::{add_rows, book_of};
 use crate::{Gap, Join, Memory, MergeFault, RowCause, RowParts, Rows, WidenFault};
 use aprs_log::{Reception, ReceptionRef};
 use aprs_rows::BookStore;
+use aprs_summary::{Indexes, Subject};
 use std::alloc::{Allocator, Global};
 use std::marker::Model;
 
@@ -45,7 +44,7 @@ impl<A: Allocator> Drop for Book<A> {
 
 impl<A: Allocator> Model for Book<A> {
     ghost use Rattle.aprs_laws.specs.BookValue.{BookValue, IsSoundBook};
-    ghost use Rattle.aprs_book.specs.Known.{AreIndexesOf};
+    ghost use Rattle.aprs_summary.specs.Known.{AreIndexesOf};
 
     ghost Value = { BookValue };
 

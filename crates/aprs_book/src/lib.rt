@@ -2,9 +2,8 @@
 #![tactic(auto)]
 
 mod book;
-mod examples;
 mod from_parts;
-mod known;
+mod last_known;
 mod lists;
 mod of_rows;
 mod rows;
@@ -13,18 +12,12 @@ mod stored;
 
 pub use aprs_laws::{Gap, MergeFault, RowCause, WidenFault};
 pub use aprs_rows::{Greatest, Join, Memory, Receivers, all_fit, join_all};
+pub use aprs_summary::{
+    Heard, HeardRoom, MessageRow, MessageState, MessageWalk, Named, NamedWalk, ReplyAck, Station,
+    StationWalk, Summary,
+};
 pub use book::Book;
 pub use from_parts::{RowsFault, from_rows, rows_are_sound_or_have_one_fault};
-pub use known::heard::Heard;
-pub use lists::heard_room::HeardRoom;
-pub use lists::message::{MessageRow, MessageState};
-pub use lists::message_walk::MessageWalk;
-pub use lists::named::Named;
-pub use lists::named_walk::NamedWalk;
-pub use lists::reply_ack::ReplyAck;
-pub use lists::station::Station;
-pub use lists::station_walk::StationWalk;
-pub use lists::summary::Summary;
 pub use rows::push::sound_rows_are_pushed;
 pub use rows::row::{Row, Rows};
 pub use rows::row_parts::RowParts;

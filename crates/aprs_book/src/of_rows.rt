@@ -1,13 +1,11 @@
 //! Rows that come one after another, as a book.
 ghost use Rattle.std.specs.Prelude.{◌≡◌, IfOk};
 
-use crate::known::notes::Notes;
-use crate::known::subject::{Subject, info_of};
-use crate::lists::sender::Sender;
 use crate::rows::kept_row::KeptRow;
 use crate::rows::keyed::KeyedRows;
 use crate::{Book, Memory};
 use aprs_rows::BookRows;
+use aprs_summary::{Notes, Sender, Subject, info_of};
 use std::alloc::Allocator;
 
 impl<A: Allocator + Copy> Book<A> {

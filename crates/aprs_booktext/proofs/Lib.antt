@@ -1,25 +1,2 @@
+-- Lemmas of reading and writing a book.
 pub mod Common
-pub mod Accepting
-pub mod Asking
-pub mod BookRows
-pub mod CutRows
-pub mod Cuts
-pub mod Deciding
-pub mod Digits
-pub mod Spellings
-pub mod Standing
-pub mod Inputs
-pub mod KeptLines
-pub mod KeptRows
-pub mod LastLines
-pub mod LastRows
-pub mod OneCause
-pub mod OneFault
-pub mod OneText
-pub mod RowReading
-pub mod RowStreams
-pub mod SameFaults
-pub mod TextParts
-pub mod Written
-pub mod Versions
-pub mod Worked

@@ -1,20 +1,7 @@
-pub mod Asking
-pub mod BookAnswers
-pub mod Examples
-pub mod Fault
-pub mod FirstFault
-pub mod Law
-pub mod Lines
-pub mod RowLines
-pub mod Reader
-pub mod Reading
-pub mod ReadRows
-pub mod KeptLine
-pub mod RowFields
-pub mod Seconds
-pub mod Text
-pub mod TextFault
-pub mod Version
-pub mod Piece
-pub mod RowReader
-pub mod RowStream
+-- What public clauses cite of lower crates.
+pub use Rattle.aprs_io.specs.Device
+pub use Rattle.aprs_io.specs.Input
+pub use Rattle.aprs_bookfile.specs.Asking
+pub use Rattle.aprs_bookfile.specs.BookAnswers
+pub use Rattle.aprs_bookfile.specs.Seconds
+pub use Rattle.aprs_bookfile.specs.Text

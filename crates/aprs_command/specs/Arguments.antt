@@ -1,5 +1,5 @@
 -- The program's arguments, as the definition of its command reads them.
-use Rattle.std.specs.Prelude.{◌≡◌, ℕ, List, [], ◌∷◌, map, true, Option, None, Some, Result, MatchResult, codes, if◌then◌else◌, option_map, option_and_then, unwrap_or}
+use Rattle.std.specs.Prelude.{◌≡◌, ◌⊎◌, ◌==◌, nat_le, ℕ, List, [], ◌∷◌, map, true, Option, None, Some, Result, MatchResult, codes, if◌then◌else◌, option_map, option_and_then, unwrap_or}
 use Rattle.std.specs.Str.{bytes_eq}
 use Rattle.std.specs.Str.Parse.{digits_value, without_leading_plus}
 use Rattle.std.specs.String.{string_bytes}
@@ -69,6 +69,16 @@ gap_parser = vp.Unsigned 1 greatest_gap
 abbrev pub gap_rule : Rule
 gap_rule = record (option_rule (codes "gap")) { parser = Some gap_parser }
 
+-- The message gap that is taken where no other is chosen: half an hour.
+abbrev pub standard_message_gap : ℕ
+standard_message_gap = 1800
+
+-- The option --message-gap: a number of 0 to 3,600.
+abbrev pub message_gap_rule : Rule
+message_gap_rule = record (option_rule (codes "message-gap")) {
+  parser = Some (vp.Unsigned 0 greatest_gap);
+}
+
 -- The argument SECONDS.
 abbrev pub seconds_rule : Rule
 seconds_rule =
@@ -131,10 +141,10 @@ program_app p = with_subcommand (with_subcommand (with_subcommand (with_subcomma
 abbrev pub history_app : App
 history_app = with_gathered (versioned_app (codes "aprsbook-history"))
 
--- The program of tables, which has a version: `aprsbook-table [--gap SECONDS] [INPUT]...`, where
--- the first INPUT may name a table.
+-- The program of tables, which has a version. Its arguments are `[--gap SECONDS]
+-- [--message-gap SECONDS] [INPUT]...`, where the first INPUT may name a table.
 abbrev pub table_app : App
-table_app = with_gathered (versioned_app (codes "aprsbook-table"))
+table_app = with_rule (with_gathered (versioned_app (codes "aprsbook-table"))) message_gap_rule
 
 -- ---- what is read of the matches
 
@@ -289,10 +299,40 @@ AnswersHistory arguments answer = MatchResult answer
 
 -- ---- the program of tables
 
+-- The gap of so many seconds, or none of 0.
+abbrev pub gap_unless_0 : ℕ → Option ℕ
+gap_unless_0 n = if n == 0 then None else Some n
+
+-- The message gap of so many seconds, 0 to 3,600: none of 0.
+abbrev pub message_gap_of : ℕ → Option (Option ℕ)
+message_gap_of n = if nat_le n greatest_gap then Some (gap_unless_0 n) else None
+
+-- The message gap in a text, if the command takes it. It may begin with a plus sign.
+abbrev pub read_message_gap : Text → Option (Option ℕ)
+read_message_gap t = if is_unsigned_in 0 greatest_gap t
+    then Some (gap_unless_0 (digits_value 10 (without_leading_plus t))) else None
+
+-- The message gap in a text, or the standard one without a text.
+abbrev pub given_message_gap : Option Text → Option (Option ℕ)
+given_message_gap None = Some (Some standard_message_gap)
+given_message_gap (Some t) = read_message_gap t
+
+-- The message gap of a table.
+abbrev pub chosen_message_gap : List Row → Option (Option ℕ)
+chosen_message_gap rows = given_message_gap (first_of (codes "message-gap") rows)
+
+-- The table, under this message gap if it is that of messages.
+abbrev pub with_message_gap : Option ℕ → Table → Table
+with_message_gap gap (table.Messages other) = table.Messages gap
+with_message_gap gap table.Rows = table.Rows
+with_message_gap gap table.Stations = table.Stations
+with_message_gap gap table.Things = table.Things
+
 -- The table that a word names.
 abbrev pub named_table : Text → Option Table
 named_table word = if bytes_eq word (codes "rows") then Some table.Rows
-    else (if bytes_eq word (codes "messages") then Some table.Messages
+    else (if bytes_eq word (codes "messages")
+    then Some (table.Messages (Some standard_message_gap))
     else (if bytes_eq word (codes "stations") then Some table.Stations
     else (if bytes_eq word (codes "things") then Some table.Things else None)))
 
@@ -308,12 +348,27 @@ abbrev pub table_and_paths : List Text → Table × List Text
 table_and_paths [] = (table.Rows, [])
 table_and_paths (first ∷ others) = table_or_path (named_table first) first others
 
--- The job has the table, the gap and the inputs that these matches ask for.
+-- A table under this message gap, and paths.
+abbrev pub under_message_gap : Option ℕ → Table × List Text → Table × List Text
+under_message_gap gap p = (with_message_gap gap p.0, p.1)
+
+-- The job has the table, the gaps and the inputs that these matches ask for.
 pub record IsTableJobOf (rows : List Row) (j : TableJob) : Type 0 where
   pub gap : chosen_gap rows ≡ Some j.gap
-  pub table_and_inputs : (j.table, paths_of j.inputs.items) ≡ table_and_paths (given_inputs rows)
+  pub message_gap : Option ℕ
+  pub is_message_gap : chosen_message_gap rows ≡ Some message_gap
+  pub table_and_inputs : (j.table, paths_of j.inputs.items)
+      ≡ under_message_gap message_gap (table_and_paths (given_inputs rows))
 
--- The answer is the job that the matches ask for, or a refusal as `FailsGathering` says.
+-- Clap refuses arguments only where the command doesn't take them. They are refused for `Options`
+-- only where a gap can't be read. Of `Memory` nothing is said.
+abbrev pub FailsTable : List Text → JobFault → Type 0
+FailsTable arguments fault.Memory = Unit {0}
+FailsTable arguments fault.Options = (chosen_gap (matches_of table_app arguments) ≡ None)
+    ⊎ (chosen_message_gap (matches_of table_app arguments) ≡ None)
+FailsTable arguments (fault.Clap error) = takes table_app arguments ≡ true → ⊥
+
+-- The answer is the job that the matches ask for, or a refusal as `FailsTable` says.
 abbrev pub AnswersTable : List Text → Result TableJob JobFault → Type 0
 AnswersTable arguments answer = MatchResult answer
-    (IsTableJobOf (matches_of table_app arguments)) (FailsGathering table_app arguments)
+    (IsTableJobOf (matches_of table_app arguments)) (FailsTable arguments)

@@ -1,6 +1,8 @@
 -- What the arguments of `aprsbook-fold` ask for.
-use Rattle.std.specs.Prelude.{◌≡◌, ◌⊎◌, Bool, List, [], true, false, None, Some, Option, Result, MatchResult, codes}
+use Rattle.std.specs.Prelude.{◌≡◌, ◌⊎◌, Bool, List, [], true, false, None, Some, Option, Result, MatchResult, codes, option_map}
 use Rattle.std.specs.Str.{bytes_eq}
+use Rattle.std.specs.String.{string_bytes}
+use Rattle.std.specs.declared.string.String.{String}
 use Rattle.clap.specs.Words.{App, IsAmong, Row, Rule, Text, fault_of, first_of, kind_of, matches_of, new_rule, takes, with_rule}
 use Rattle.clap.specs.declared.builder.action.ArgAction.TheVariants.{SetTrue}
 use Rattle.clap.specs.declared.error.kind.ErrorKind.TheVariants.{ValueValidation}
@@ -23,10 +25,11 @@ abbrev pub with_sources : App → App
 with_sources a = with_rule (with_rule a (option_rule (codes "from"))) (option_rule (codes "until"))
 
 -- The program of folds, which has a version:
--- `aprsbook-fold [--gap SECONDS] [--from SOURCE] [--until SOURCE] [--check] [BOOK]...`.
+-- `aprsbook-fold [--gap SECONDS] [--from SOURCE] [--until SOURCE] [--new-to OLD] [--check]
+-- [BOOK]...`.
 abbrev pub fold_app : App
-fold_app =
-    with_rule (with_sources (with_gathered (versioned_app (codes "aprsbook-fold")))) check_rule
+fold_app = with_rule (with_rule (with_sources (with_gathered (versioned_app
+    (codes "aprsbook-fold")))) (option_rule (codes "new-to"))) check_rule
 
 -- The value of an option without one, as clap has it: `true` where the option is given.
 abbrev pub is_true : Option Text → Bool
@@ -36,6 +39,10 @@ is_true (Some t) = bytes_eq t (codes "true")
 -- Whether --check is given.
 abbrev pub is_check_asked : List Row → Bool
 is_check_asked rows = is_true (first_of (codes "check") rows)
+
+-- The bytes of the path, if there is one.
+abbrev pub path_in : {Z : Type 0} → Option (String Z) → Option Text
+path_in path = option_map (λ p. string_bytes p) path
 
 -- The source is the callsign that the text spells, or there is neither a source nor a text.
 abbrev pub IsSourceIn : Option Text → Option Call → Type 0
@@ -53,12 +60,13 @@ abbrev pub HasBadSource : List Row → Type 0
 HasBadSource rows =
     SpellsNone (first_of (codes "from") rows) ⊎ SpellsNone (first_of (codes "until") rows)
 
--- The job has the gap, the sources and the inputs that these matches ask for, and only checks if
--- they say so.
+-- The job has the gap, the sources, the old book and the inputs that these matches ask for, and only
+-- checks if they say so.
 pub record IsFoldJobOf (rows : List Row) (j : FoldJob) : Type 0 where
   pub gap : chosen_gap rows ≡ Some j.gap
   pub from : IsSourceIn (first_of (codes "from") rows) j.from
   pub until : IsSourceIn (first_of (codes "until") rows) j.until
+  pub new_to : path_in j.new_to ≡ first_of (codes "new-to") rows
   pub inputs : paths_of j.inputs.items ≡ given_inputs rows
   pub checks : j.is_check ≡ is_check_asked rows
 

@@ -18,7 +18,7 @@ use clap::{Arg, ArgMatches, Command};
 use std::alloc::{AllocError, Global};
 
 /// The greatest gap, in seconds.
-const GREATEST_GAP: u64 = 3600;
+pub(crate) const GREATEST_GAP: u64 = 3600;
 
 /// What is asked for, without the inputs.
 #[derive(Drop)]

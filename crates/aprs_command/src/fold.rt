@@ -27,6 +27,9 @@ pub struct FoldJob {
     /// The source to end before: neither its rows nor those of sources after it are written. `None`
     /// where the rows are written up to the last.
     pub until: Option<Callsign>,
+    /// The path of the book file whose rows are known: only those are written that it lacks. `None`
+    /// where all are.
+    pub new_to: Option<String>,
     /// The paths, in the order of the arguments.
     pub inputs: Vec<String>,
     /// Whether the book files are only checked, and nothing is written.
@@ -34,9 +37,9 @@ pub struct FoldJob {
 }
 
 /// What the arguments of `aprsbook-fold` ask for, the program's name being the first, which are
-/// `[--gap SECONDS] [--from SOURCE] [--until SOURCE] [--check] [BOOK]...`: the gap, which is 30
-/// seconds where it is not given, the sources, the inputs' paths in the order of the arguments, and
-/// whether `--check` is among them. SECONDS is 1 to 3,600, and SOURCE the text of a callsign, and
+/// `[--gap SECONDS] [--from SOURCE] [--until SOURCE] [--new-to OLD] [--check] [BOOK]...`: the gap,
+/// which is 30 seconds where it is not given, the sources, the path of the old book, the inputs'
+/// paths in the order of the arguments, and whether `--check` is among them. SECONDS is 1 to 3,600, and SOURCE the text of a callsign, and
 /// else it is a fault of `JobFault::Clap`. Where the arguments ask for help or the version, its
 /// text is that of `JobFault::Clap`. `JobFault::Memory` where an allocation failed. By `asked` the
 /// job is the one that the definition of the command reads from the arguments; by `judged` clap's
@@ -70,11 +73,13 @@ fn read_fold(
     let Some(until) = read_source(matches, "until") else {
         return Err(source_fault(command, help::NO_UNTIL));
     };
+    let new_to = read_path(alloc, matches, "new-to")?;
     let inputs = read_given_inputs(alloc, matches)?;
     Ok(FoldJob {
         gap,
         from,
         until,
+        new_to,
         inputs,
         is_check: is_check_asked(matches),
     })
@@ -113,6 +118,22 @@ fn read_source(matches: &ArgMatches<'_>, name: &str) -> Option<Option<Callsign>>
     }
 }
 
+/// The path that the option of this name gives, in memory of its own, or `None` where it isn't
+/// given. `AllocError` where an allocation failed.
+fn read_path(
+    alloc: Global,
+    matches: &ArgMatches<'_>,
+    name: &str,
+) -> Result<Option<String>, AllocError>
+    ensures { IfOk result (λ path. Spec.path_in path
+        ≡ first_of name.now (rows_of (found_of matches.now))) }
+{
+    match text_at(matches, name) {
+        Some(text) => Ok(Some(String::from_str(alloc, text)?)),
+        None => Ok(None),
+    }
+}
+
 /// The fault for a source that is no callsign, of which clap says this; or `Memory` where an
 /// allocation failed.
 fn source_fault(command: &mut Command<'_>, message: &str) -> JobFault
@@ -141,8 +162,10 @@ fn fold_command<'a>(alloc: Global) -> Result<Command<'a>, AllocError>
     let with_from = with_gap.arg(from)?;
     let until = option_arg(alloc, "until", "SOURCE", help::FOLD_UNTIL);
     let with_until = with_from.arg(until)?;
+    let new_to = option_arg(alloc, "new-to", "OLD", help::FOLD_NEW_TO);
+    let with_new_to = with_until.arg(new_to)?;
     let check = check_arg(alloc);
-    with_until.arg(check)
+    with_new_to.arg(check)
 }
 
 /// The option `--check`, which has no value.

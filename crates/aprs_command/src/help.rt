@@ -1,7 +1,7 @@
 //! What a program's help says, beside the arguments that it takes.
 
 /// The version of the programs.
-pub const VERSION: &str = "0.2.0";
+pub const VERSION: &str = "0.2.1";
 
 /// What the program is for.
 pub const ABOUT: &str = "Reads, checks, converts, merges and lists the logs of APRS receivers";
@@ -61,6 +61,10 @@ pub const WIDENED: &str = "A log or a book file; without one, standard input";
 pub const GAP: &str =
     "The gap of the book, 1 to 3600 seconds, as of each book file among the inputs; without it, 30";
 
+pub const MESSAGE_GAP: &str =
+    "Copies of a message that begin at most so many seconds after its last \
+    one are the same message, 0 to 3600; without it, 1800; with 0 one line a message, as in `show`";
+
 pub const SECONDS: &str = "The gap to widen to, 1 to 3600 seconds, not less than that of the input";
 
 pub const RECEIVER: &str = "With capture: the receiver's name, of 1 to 16 letters, digits, - and _";
@@ -95,7 +99,7 @@ pub const TABLE_USAGE: &str = "aprsbook-table [OPTIONS] [TABLE] [INPUT]...";
 /// The tables that the first word after the options may name.
 pub const TABLES: &str = "Tables:
   rows      a line for each transmission; without a TABLE too
-  messages  a line for each message, with what came of it
+  messages  a line for each time that a message was sent, with what came of it
   stations  a line for each station, with its last position and status
   things    a line for each object and item, with its last report
 
@@ -104,7 +108,7 @@ A file of such a name is given as ./rows.";
 /// The tables, examples of `aprsbook-table`, and its exit statuses.
 pub const TABLE_EXAMPLES: &str = "Tables:
   rows      a line for each transmission; without a TABLE too
-  messages  a line for each message, with what came of it
+  messages  a line for each time that a message was sent, with what came of it
   stations  a line for each station, with its last position and status
   things    a line for each object and item, with its last report
 
@@ -114,6 +118,7 @@ Examples:
   aprsbook-table net.book
   aprsbook-table rx1.log rx2.log > evening.tsv
   aprsbook-table messages net.book
+  aprsbook-table messages --message-gap 0 net.book
   aprsbook-table rows --gap 60 slow.book
 
 Exit status:
@@ -130,6 +135,9 @@ pub const FOLD_FROM: &str = "The source to begin with, such as N0CALL-7; without
 
 /// What `--until` of `aprsbook-fold` is for.
 pub const FOLD_UNTIL: &str = "The source to end before; without it, all are written";
+
+/// What `--new-to` of `aprsbook-fold` is for.
+pub const FOLD_NEW_TO: &str = "Write only rows that this book file lacks; it is folded too";
 
 /// What is said of a text of `--from` that is no callsign.
 pub const NO_FROM: &str = "invalid value for '--from <SOURCE>': no callsign, such as N0CALL-7";
@@ -150,6 +158,7 @@ pub const FOLD_EXAMPLES: &str = "Examples:
   aprsbook-fold --check year.book day.book && aprsbook-fold year.book day.book > new.book
   aprsbook-fold --gap 60 slow.book more.book > slower.book
   aprsbook-fold --from K --until N year.book > k-to-m.book
+  aprsbook-fold --new-to theirs.book ours.book > news.book
 
 Exit status:
   0  done, or help or the version was asked for

@@ -1,10 +1,13 @@
 //! What a program is asked to do.
 ghost use Rattle.std.specs.Prelude.{◌≡◌};
-ghost use Rattle.aprs_command.specs.Arguments.{named_table};
+ghost use Rattle.aprs_command.specs.Arguments.{named_table, with_message_gap};
 
 use aprs_convert::Form;
 use aprs_laws::Gap;
 use std::alloc::AllocError;
+
+/// The message gap that is taken where no other is chosen, in seconds.
+pub(crate) const STANDARD_MESSAGE_GAP: u64 = 1800;
 
 /// What the program's arguments ask for, with the paths of its inputs; without any, standard input
 /// is read.
@@ -37,8 +40,10 @@ pub struct HistoryJob {
 pub enum Table {
     /// A line for each row of the book.
     Rows,
-    /// A line for each message, with what came of it.
-    Messages,
+    /// A line for each time that a message was sent, with what came of it: copies of it are one
+    /// time if each begins at most this message gap after the end of those before. `None` is one
+    /// line for each message, as the listing has it.
+    Messages(Option<Gap>),
     /// A line for each station, with its last known position and status.
     Stations,
     /// A line for each object and item, with its last report.
@@ -47,20 +52,32 @@ pub enum Table {
 
 impl Table {
     /// The table of this name, which is `rows`, `messages`, `stations` or `things`, or `None` where
-    /// no table has it.
+    /// no table has it. The message gap is half an hour.
     pub fn named(name: &[u8]) -> Option<Table>
         ensures { result ≡ named_table name.now }
     {
         if name == b"rows".as_slice() {
             Some(Table::Rows)
         } else if name == b"messages".as_slice() {
-            Some(Table::Messages)
+            Some(Table::Messages(Gap::new(STANDARD_MESSAGE_GAP)))
         } else if name == b"stations".as_slice() {
             Some(Table::Stations)
         } else if name == b"things".as_slice() {
             Some(Table::Things)
         } else {
             None
+        }
+    }
+}
+
+impl Table {
+    /// The table, under this message gap if it is that of messages.
+    pub(crate) fn with_message_gap(self, gap: Option<Gap>) -> Table
+        ensures { result ≡ with_message_gap gap self }
+    {
+        match self {
+            Table::Messages(_) => Table::Messages(gap),
+            other => other,
         }
     }
 }

@@ -1,12 +1,16 @@
 //! The arguments of `aprsbook-table`.
-ghost use Rattle.std.specs.Prelude.{◌≡◌, IfOk, map, true};
-ghost use Rattle.clap.specs.Words.{app_of, found_of, is_simple_and_free, rows_of};
+ghost use Rattle.std.specs.Prelude.{◌≡◌, IfOk, map, true, false};
+ghost use Rattle.clap.specs.Words.{app_of, found_of, is_simple_and_free, rows_of, rule_of};
 ghost use Rattle.aprs_command.specs.Arguments as Spec;
 
-use crate::arguments::{copy_paths, gap_arg, inputs_arg, read_matches_and_gap};
+use crate::arguments::{
+    GREATEST_GAP, copy_paths, gap_arg, inputs_arg, option_arg, read_matches_and_gap, text_at,
+};
 use crate::help;
-use crate::jobs::{JobFault, Table, TableJob};
-use clap::{ArgMatches, Command};
+use crate::jobs::{JobFault, STANDARD_MESSAGE_GAP, Table, TableJob};
+use aprs_laws::Gap;
+use clap::builder::ValueParser;
+use clap::{Arg, ArgMatches, Command};
 use std::alloc::{AllocError, Global};
 
 /// What the arguments of `aprsbook-table [TABLE] [--gap SECONDS] [INPUT]...` ask for, the
@@ -25,7 +29,11 @@ pub fn table_job(alloc: Global, arguments: &[&str]) -> Result<TableJob, JobFault
 {
     let mut command = table_command(alloc)?;
     let (matches, gap) = read_matches_and_gap(&mut command, arguments)?;
-    let (table, inputs) = read_table_and_inputs(alloc, &matches)?;
+    let Some(message_gap) = read_message_gap(&matches) else {
+        return Err(JobFault::Options);
+    };
+    let (named, inputs) = read_table_and_inputs(alloc, &matches)?;
+    let table = named.with_message_gap(message_gap);
     Ok(TableJob { table, gap, inputs })
 }
 
@@ -35,7 +43,8 @@ pub fn table_command_is_simple()
     ensures { is_simple_and_free Spec.table_app ≡ true }
 {}
 
-/// The command `aprsbook-table [--gap SECONDS] [INPUT]...`; the first INPUT may name a table.
+/// The command `aprsbook-table [--gap SECONDS] [--message-gap SECONDS] [INPUT]...`; the first INPUT
+/// may name a table.
 /// `AllocError` where an allocation failed.
 fn table_command<'a>(alloc: Global) -> Result<Command<'a>, AllocError>
     ensures { IfOk result (λ c. app_of c ≡ Spec.table_app) }
@@ -49,7 +58,54 @@ fn table_command<'a>(alloc: Global) -> Result<Command<'a>, AllocError>
         .after_long_help(help::TABLE_EXAMPLES)
         .arg(inputs)?;
     let gap = gap_arg(alloc);
-    with_inputs.arg(gap)
+    let with_gap = with_inputs.arg(gap)?;
+    let message_gap = message_gap_arg(alloc);
+    with_gap.arg(message_gap)
+}
+
+/// The option `--message-gap SECONDS`, with 0 to 3,600 seconds.
+fn message_gap_arg<'a>(alloc: Global) -> Arg<'a>
+    ensures rule { rule_of result ≡ Spec.message_gap_rule }
+    ensures local { result.global ≡ false }
+{
+    option_arg(alloc, "message-gap", "SECONDS", help::MESSAGE_GAP).value_parser(
+        ValueParser::unsigned(0, GREATEST_GAP),
+    )
+}
+
+/// The message gap that `--message-gap` gives: half an hour where it isn't given, `Some(None)`
+/// where it is 0, and `None` where its text is no number of 0 to 3,600.
+fn read_message_gap(matches: &ArgMatches<'_>) -> Option<Option<Gap>>
+    ensures { result ≡ Spec.chosen_message_gap (rows_of (found_of matches.now)) }
+{
+    match text_at(matches, "message-gap") {
+        Some(text) => message_gap_in(text),
+        None => Some(Gap::new(STANDARD_MESSAGE_GAP)),
+    }
+}
+
+/// The message gap of as many seconds as the text says, which may begin with a plus sign. `None`
+/// where it says no number of 0 to 3,600; the command has refused such a text before.
+fn message_gap_in(text: &str) -> Option<Option<Gap>>
+    ensures { result ≡ Spec.read_message_gap text.now }
+{
+    match text.parse::<u64>() {
+        Ok(seconds) => message_gap_of(seconds),
+        Err(_) => None,
+    }
+}
+
+/// The message gap of so many seconds: `Some(None)` of 0, and `None` of more than 3,600.
+fn message_gap_of(seconds: u64) -> Option<Option<Gap>>
+    ensures { result ≡ Spec.message_gap_of seconds }
+{
+    if seconds == 0 {
+        return Some(None);
+    }
+    match Gap::new(seconds) {
+        Some(gap) => Some(Some(gap)),
+        None => None,
+    }
 }
 
 /// The table that INPUT names first among these matches, and the paths that it gives else, in the

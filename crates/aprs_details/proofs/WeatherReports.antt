@@ -8,8 +8,8 @@ use Rattle.aprs_details.specs.declared.weather.Weather.{Weather}
 use Rattle.aprs_details.specs.Value.{known}
 use Rattle.aprs_details.specs.Compressed.{course_of_cst}
 use Rattle.aprs_details.specs.Extension.{IsPair, pair_of}
-use Rattle.aprs_details.specs.Weather.{field_at, places_in, number_of, temperature_of, humidity_of, luminosity_of, bright_of, fahrenheit, percent, direction_in, weather_with, weather_of_fields, weather_after, weather_of_comment, weather_of_cst, is_underscore, fields_of_info, weather_of_info}
-use Rattle.aprs_details.specs.WeatherReport.{IsWeatherField, HasField, here, later, Says, field, missing, percent_in, bright_in, SaysWeather, SaysWind, IsWeatherReport, IsWeatherComment, IsCompressedWeather, with_wind, in_fields}
+use Rattle.aprs_details.specs.Weather.{field_at, places_in, number_of, temperature_of, humidity_of, luminosity_of, bright_of, fahrenheit, percent, direction_in, weather_with, weather_of_fields, weather_after, weather_of_comment, weather_after_cst, weather_of_cst, is_underscore, fields_of_info, weather_of_info}
+use Rattle.aprs_details.specs.WeatherReport.{IsWeatherField, HasField, here, later, Says, field, missing, percent_in, bright_in, SaysWeather, SaysWind, IsWeatherReport, IsWeatherComment, IsCompressedWeather, with_wind, in_fields, after_wind, in_bytes}
 use Rattle.aprs_details.proofs.Pairs.{pair_found, pair_takes}
 use Rattle.aprs_details.proofs.Lacking.{then_some}
 use Rattle.aprs_details.proofs.Fields.{field_found, field_takes, walk_stops, walk_goes_on, walk_ends}
@@ -264,11 +264,30 @@ comment_takes comment w (in_fields never says) =
 
 -- ---- with a compressed position
 
+compressed_after : (cst comment : List ℕ) (o : Option (Option ℕ × Option ℕ × List ℕ)) →
+    pair_of comment ≡ o → IsCompressedWeather (weather_after_cst cst comment o) cst comment
+compressed_after cst comment None e =
+    in_bytes (λ first second rest h. none_some (first, second, rest) (sym e ∙ pair_takes comment first second rest h))
+    (weather_said (course_of_cst cst) None comment)
+compressed_after cst comment (Some x) e =
+    after_wind x.0 x.1 x.2 (pair_found comment x e) (weather_said x.0 x.1 x.2)
+
 pub compressed_said : (cst comment : List ℕ) → IsCompressedWeather (weather_of_cst cst comment) cst comment
 unfolding weather_of_cst
-compressed_said cst comment = weather_said (course_of_cst cst) None comment
+compressed_said cst comment = compressed_after cst comment (pair_of comment) refl
+
+without_pair : (cst comment : List ℕ) (o : Option (Option ℕ × Option ℕ × List ℕ)) → pair_of comment ≡ o →
+    ((first second : Option ℕ) (rest : List ℕ) → IsPair first second rest comment → ⊥) →
+    weather_after_cst cst comment o ≡ weather_with (course_of_cst cst) None comment
+without_pair cst comment None e never = refl
+without_pair cst comment (Some x) e never = absurd (never x.0 x.1 x.2 (pair_found comment x e))
 
 pub compressed_takes : (cst comment : List ℕ) (w : Weather) → IsCompressedWeather w cst comment →
     weather_of_cst cst comment ≡ w
 unfolding weather_of_cst
-compressed_takes cst comment w h = weather_takes w (course_of_cst cst) None comment h
+compressed_takes cst comment w (after_wind wind_from wind rest pair says) =
+    ap (weather_after_cst cst comment) (pair_takes comment wind_from wind rest pair)
+    ∙ weather_takes w wind_from wind rest says
+compressed_takes cst comment w (in_bytes never says) =
+    without_pair cst comment (pair_of comment) refl never
+    ∙ weather_takes w (course_of_cst cst) None comment says

@@ -1,5 +1,5 @@
 -- More digits of a position (APRS 1.2, !DAO!): three bytes in a comment between exclamation marks.
-use Rattle.std.specs.Prelude.{ℕ, ℤ, pos, ◌-◌, ◌+ℤ◌, ◌-ℤ◌, ◌*ℤ◌, int_lt, Bool, ◌==◌, ◌&&◌, if◌then◌else◌, List, slice_index, Option, None, Some}
+use Rattle.std.specs.Prelude.{ℕ, ℤ, pos, ◌-◌, ◌+ℤ◌, ◌-ℤ◌, ◌*ℤ◌, Bool, true, false, ◌==◌, ◌&&◌, if◌then◌else◌, List, slice_index, Option, None, Some}
 use Rattle.aprs_io.specs.Octet.{octet}
 use Rattle.aprs_report.specs.Bytes.{is_digit, is_space}
 use Rattle.aprs_report.specs.Reader.{◌>>=◌, value_when, chunk_of}
@@ -11,6 +11,8 @@ use Rattle.aprs_details.specs.Compressed.{is_base91}
 use Rattle.aprs_details.specs.declared.precision.Scale.{Scale}
 use Rattle.aprs_details.specs.declared.precision.Scale.TheVariants.{Tenths, NinetyFirsts}
 use Rattle.aprs_details.specs.declared.precision.Precision.{Precision}
+use Rattle.aprs_details.specs.declared.precision.SignedPrecision.{SignedPrecision}
+use Rattle.aprs_details.specs.Halves.{halves_of, mic_e_halves_of}
 
 -- ---- the bytes
 
@@ -61,21 +63,35 @@ precision_of comment = first_in precision_at comment
 -- ---- the finer position
 
 -- An angle of hundredths of a minute, counted in smaller parts: a hundredth has `parts` of them.
--- `more` of them are added away from 0, or upwards where the angle is 0.
-abbrev pub finer : (parts more : ℕ) → ℤ → ℤ
-finer parts more angle =
-    if int_lt angle (pos 0)
-    then (angle *ℤ pos parts) -ℤ pos more
-    else (angle *ℤ pos parts) +ℤ pos more
+-- `more` of them are added away from 0: downwards in the negative half of the globe, also where the
+-- angle is 0.
+abbrev pub finer : (parts more : ℕ) → (is_negative : Bool) → ℤ → ℤ
+finer parts more true angle = (angle *ℤ pos parts) -ℤ pos more
+finer parts more false angle = (angle *ℤ pos parts) +ℤ pos more
 
 -- The angle in degrees: a hundredth of a minute has ten parts, or ninety-one.
-abbrev pub finer_angle : Scale → (more : ℕ) → ℤ → Fraction
-finer_angle Tenths more angle = record { numerator = finer 10 more angle; denominator = pos 60000 }
-finer_angle NinetyFirsts more angle = record { numerator = finer 91 more angle; denominator = pos 546000 }
+abbrev pub finer_angle : Scale → (more : ℕ) → (is_negative : Bool) → ℤ → Fraction
+finer_angle Tenths more is_negative angle =
+    record { numerator = finer 10 more is_negative angle; denominator = pos 60000 }
+finer_angle NinetyFirsts more is_negative angle =
+    record { numerator = finer 91 more is_negative angle; denominator = pos 546000 }
 
 -- The latitude and the longitude in degrees with one digit more. There is none where the place is
 -- compressed, or where digits of it are left out. At 90 or 180 degrees the digits lead past these.
-abbrev pub finer_place : Precision → Place → Option (Fraction × Fraction)
-finer_place x (Plain lat lon ambiguity) =
-    value_when (ambiguity == 0) (finer_angle x.scale x.latitude lat, finer_angle x.scale x.longitude lon)
+abbrev pub finer_place : SignedPrecision → Place → Option (Fraction × Fraction)
+finer_place x (Plain lat lon ambiguity) = value_when (ambiguity == 0) (
+  finer_angle x.digits.scale x.digits.latitude x.halves.is_south lat,
+  finer_angle x.digits.scale x.digits.longitude x.halves.is_west lon,
+)
 finer_place x (Base91 down east cst) = None
+
+-- The digits that the comment of a report says, with the halves that the report's letters name.
+abbrev pub signed_precision_of : (info comment : List ℕ) → Option SignedPrecision
+signed_precision_of info comment = precision_of comment
+    >>= λ x. Some (record { digits = x; halves = halves_of info comment })
+
+-- The digits that the comment of a Mic-E position says, with the halves that its destination's
+-- letters name.
+abbrev pub mic_e_signed_precision_of : (letters comment : List ℕ) → Option SignedPrecision
+mic_e_signed_precision_of letters comment = precision_of comment
+    >>= λ x. Some (record { digits = x; halves = mic_e_halves_of letters })

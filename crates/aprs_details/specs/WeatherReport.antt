@@ -85,7 +85,11 @@ pub data IsWeatherComment (w : Weather) (comment : List ℕ) : Type 0 where
   in_fields : ((wind_from wind : Option ℕ) (rest : List ℕ) → IsPair wind_from wind rest comment → ⊥) →
       SaysWind w comment → IsWeatherComment w comment
 
--- The comment of a weather station's compressed position says this weather: the wind's direction is
--- in the bytes c, s and T, and its speed isn't said.
-abbrev pub IsCompressedWeather : Weather → (cst comment : List ℕ) → Type 0
-IsCompressedWeather w cst comment = SaysWeather w (course_of_cst cst) None comment
+-- The comment of a weather station's compressed position says this weather: it begins with the
+-- wind's direction and speed, or else the direction is in the bytes c, s and T, and the speed isn't
+-- said.
+pub data IsCompressedWeather (w : Weather) (cst comment : List ℕ) : Type 0 where
+  after_wind : (wind_from wind : Option ℕ) (rest : List ℕ) → IsPair wind_from wind rest comment →
+      SaysWeather w wind_from wind rest → IsCompressedWeather w cst comment
+  in_bytes : ((from wind : Option ℕ) (rest : List ℕ) → IsPair from wind rest comment → ⊥) →
+      SaysWeather w (course_of_cst cst) None comment → IsCompressedWeather w cst comment

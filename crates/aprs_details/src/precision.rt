@@ -2,6 +2,7 @@
 ghost use Rattle.std.specs.Prelude.{◌≡◌, ◌<◌, ◌^◌, IfSome, unsigned_abs};
 ghost use Rattle.aprs_details.specs.Precision as Spec;
 
+use crate::halves::Halves;
 use crate::value::is_base91;
 use aprs_report::{Fraction, Place};
 
@@ -100,13 +101,14 @@ fn precision_at(text: &[u8]) -> Option<Precision>
 }
 
 /// An angle of hundredths of a minute, counted in smaller parts: a hundredth has `parts` of them.
-/// `more` of them are added away from 0, or upwards where the angle is 0.
-fn finer(parts: u8, more: u8, angle: i32) -> i64
+/// `more` of them are added away from 0: downwards in the negative half of the globe, also where the
+/// angle is 0.
+fn finer(parts: u8, more: u8, is_negative: bool, angle: i32) -> i64
     requires few { parts < 92 }
-    ensures exact { result ≡ Spec.finer parts more angle }
+    ensures exact { result ≡ Spec.finer parts more is_negative angle }
     ensures small { unsigned_abs result < 2 ^ 38 }
 {
-    if angle < 0 {
+    if is_negative {
         angle as i64 * parts as i64 - more as i64
     } else {
         angle as i64 * parts as i64 + more as i64
@@ -114,26 +116,26 @@ fn finer(parts: u8, more: u8, angle: i32) -> i64
 }
 
 /// An angle of hundredths of a minute with one digit more, in degrees.
-fn finer_angle(scale: Scale, more: u8, angle: i32) -> Fraction
-    ensures exact { result ≡ Spec.finer_angle scale more angle }
+fn finer_angle(scale: Scale, more: u8, is_negative: bool, angle: i32) -> Fraction
+    ensures exact { result ≡ Spec.finer_angle scale more is_negative angle }
     ensures small { unsigned_abs result.numerator < 2 ^ 38 }
     ensures some { 0 < unsigned_abs result.denominator }
     ensures few { unsigned_abs result.denominator < 2 ^ 34 }
 {
     match scale {
         Scale::Tenths => Fraction {
-            numerator: finer(10, more, angle),
+            numerator: finer(10, more, is_negative, angle),
             denominator: 60_000,
         },
         Scale::NinetyFirsts => Fraction {
-            numerator: finer(91, more, angle),
+            numerator: finer(91, more, is_negative, angle),
             denominator: 546_000,
         },
     }
 }
 
 impl Precision {
-    ghost use Rattle.std.specs.Prelude.{◌≡◌, ◌<◌, ◌^◌, IfSome, unsigned_abs};
+    ghost use Rattle.std.specs.Prelude.{◌≡◌};
     ghost use Rattle.aprs_details.specs.Precision as Spec;
 
     /// The first further digits in a comment, which may stand anywhere in it. They are `!Wxy!` with
@@ -150,11 +152,45 @@ impl Precision {
         }
         None
     }
+}
+
+/// More digits of a position, with the halves of the globe in which they count.
+#[derive(Clone, Copy, Debug, PartialEq, Eq)]
+pub struct SignedPrecision {
+    /// The digits.
+    pub digits: Precision,
+    /// The halves that the letters of the position name.
+    pub halves: Halves,
+}
+
+impl SignedPrecision {
+    ghost use Rattle.std.specs.Prelude.{◌≡◌, ◌<◌, ◌^◌, IfSome, unsigned_abs};
+    ghost use Rattle.aprs_details.specs.Precision as Spec;
+
+    /// The first further digits in the comment of a report, with the halves that the letters of its
+    /// plain position name. `None` where the comment has none. Takes no memory.
+    pub fn of_report(info: &[u8], comment: &[u8]) -> Option<SignedPrecision>
+        ensures { result ≡ Spec.signed_precision_of info.now comment.now }
+    {
+        let digits = Precision::of_comment(comment)?;
+        let halves = Halves::of_report(info, comment);
+        Some(SignedPrecision { digits, halves })
+    }
+
+    /// The first further digits in the comment of a Mic-E position, with the halves that the letters
+    /// of its destination name. `None` where the comment has none. Takes no memory.
+    pub fn of_mic_e(letters: &[u8], comment: &[u8]) -> Option<SignedPrecision>
+        ensures { result ≡ Spec.mic_e_signed_precision_of letters.now comment.now }
+    {
+        let digits = Precision::of_comment(comment)?;
+        let halves = Halves::of_mic_e(letters);
+        Some(SignedPrecision { digits, halves })
+    }
 
     /// The latitude and the longitude of the place in degrees, with the digits more, as
     /// `decimal_degrees_text` takes them. `None` where the place is compressed, or digits of it
-    /// are left out. A place on the equator or the meridian of Greenwich is read as north or east
-    /// of it. At 90 or 180 degrees the digits lead past these. Takes no memory.
+    /// are left out. A place on the equator or the meridian of Greenwich lies in the half that its
+    /// letter names. At 90 or 180 degrees the digits lead past these. Takes no memory.
     pub fn refine(&self, place: &Place) -> Option<(Fraction, Fraction)>
         ensures exact { result ≡ Spec.finer_place self.now place.now }
         ensures small { IfSome result (λ x. unsigned_abs x.0.numerator < 2 ^ 38) }
@@ -171,9 +207,14 @@ impl Precision {
                 ambiguity,
             } => {
                 if ambiguity == 0 {
+                    let Precision {
+                        scale,
+                        latitude,
+                        longitude,
+                    } = self.digits;
                     Some((
-                        finer_angle(self.scale, self.latitude, lat),
-                        finer_angle(self.scale, self.longitude, lon),
+                        finer_angle(scale, latitude, self.halves.is_south, lat),
+                        finer_angle(scale, longitude, self.halves.is_west, lon),
                     ))
                 } else {
                     None

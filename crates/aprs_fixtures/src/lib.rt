@@ -1,13 +1,19 @@
-//! What tests share: frames, receptions, texts.
-//! Also an arena that is almost full.
+//! What tests share: frames, receptions, books, texts. Also arenas that are almost full, and devices
+//! that fail.
 #![tactic(auto)]
 
+mod books;
+mod devices;
+mod faults;
 mod memory;
 mod receptions;
 mod texts;
 mod vectors;
 
-pub use memory::squeeze;
+pub use books::{SENT, book_of_sent, hundred, joined_all, parts, store_of_sent};
+pub use devices::{Failing, Flushing, Full, Growing, Halting, Stuttering, Tight};
+pub use faults::{are_refused_or_written_back, fault_of, fault_within};
+pub use memory::{arena, squeeze};
 pub use receptions::{NOON, callsign, frame_of, heard, receiver, sent};
 pub use texts::{is_shown, is_written_as, shown, text_of};
 pub use vectors::{

@@ -1,6 +1,7 @@
-//! An arena that is almost full.
+//! Arenas that are almost full.
 
 use bumpalo::Bump;
+use std::alloc::Global;
 use std::test::Fail;
 
 /// Takes all room of an arena but for so many units of 128 bytes, and refuses any growth beyond. It
@@ -11,4 +12,17 @@ pub fn squeeze(bump: &Bump, units: usize) -> Result<Vec<u8, &Bump>, Fail> {
     let room = units.saturating_mul(128);
     fill.reserve(bump.chunk_capacity().saturating_sub(room))?;
     Ok(fill)
+}
+
+/// An arena that has room for so many units of 64 bytes, and refuses the growth that would take it
+/// beyond until its limit is lifted.
+pub fn arena(alloc: Global, units: usize) -> Result<Bump, Fail> {
+    let room = units.saturating_mul(64);
+    let bump = Bump::try_with_capacity(alloc, room)?;
+    bump.set_allocation_limit(Some(0));
+    let beyond = bump.chunk_capacity().saturating_sub(room);
+    if beyond > 0 {
+        bump.try_alloc_slice_fill_clone(beyond, 0u8)?;
+    }
+    Ok(bump)
 }

@@ -1,16 +1,16 @@
 -- How far the inputs' rows were taken, by the streams that read them.
 use Rattle.aprs_fold.proofs.Common.{◌≡◌, ◌∙◌, ℕ, zero, suc, false, List, [], ◌∷◌, ◌++◌, map, set, Option, None, Some, Ok, inl, inr, refl, sym, ap, subst, append_assoc, last_or, Counted, Row, millis_of}
 use Rattle.aprs_log.specs.LogText.{text_of_lines}
-use Rattle.aprs_booktext.specs.Piece.{bytes_left}
-use Rattle.aprs_booktext.specs.Reader.{gap_in, is_done, HasReadLines}
-use Rattle.aprs_booktext.specs.Reading.{Got, IsAnswered}
-use Rattle.aprs_booktext.specs.RowStream.{front_of, gap_of_stream, is_ended, HoldsTo}
-use Rattle.aprs_booktext.specs.Text.{row_line, IsBookRows}
-use Rattle.aprs_booktext.specs.Version.{form_of, gap_of, header_of}
-use Rattle.aprs_booktext.specs.declared.stage.Stage.{Stage}
-use Rattle.aprs_booktext.specs.declared.stage.Stage.TheVariants.{Header, Rows, Done}
-use Rattle.aprs_booktext.specs.declared.row_stream.RowStream.{RowStream}
-use Rattle.aprs_booktext.specs.declared.version.Version.{Version}
+use Rattle.aprs_bookfile.specs.Piece.{bytes_left}
+use Rattle.aprs_bookfile.specs.Reader.{gap_in, is_done, HasReadLines}
+use Rattle.aprs_bookfile.specs.Reading.{Got, IsAnswered}
+use Rattle.aprs_bookfile.specs.RowStream.{front_of, gap_of_stream, is_ended, HoldsTo}
+use Rattle.aprs_bookfile.specs.Text.{row_line, IsBookRows}
+use Rattle.aprs_bookfile.specs.Version.{form_of, gap_of, header_of}
+use Rattle.aprs_bookfile.specs.declared.stage.Stage.{Stage}
+use Rattle.aprs_bookfile.specs.declared.stage.Stage.TheVariants.{Header, Rows, Done}
+use Rattle.aprs_bookfile.specs.declared.row_stream.RowStream.{RowStream}
+use Rattle.aprs_bookfile.specs.declared.version.Version.{Version}
 use Rattle.aprs_folding.specs.Folding.{IsFolding}
 use Rattle.aprs_fold.specs.Begun.{AreFolded, AreTaken, BeginsWith, IsTaken}
 use Rattle.aprs_fold.specs.Fronts.{row_at}

@@ -4,8 +4,8 @@ use Rattle.std.specs.Prelude.{is_some}
 use Rattle.std.specs.Ordering.{is_gt, is_lt, ordering_reverse}
 use Rattle.std.specs.declared.cmp.Ordering.{Ordering}
 use Rattle.std.specs.declared.cmp.Ordering.TheVariants.{Less, Equal, Greater}
-use Rattle.aprs_booktext.specs.RowStream.{front_of}
-use Rattle.aprs_booktext.specs.declared.row_stream.RowStream.{RowStream}
+use Rattle.aprs_bookfile.specs.RowStream.{front_of}
+use Rattle.aprs_bookfile.specs.declared.row_stream.RowStream.{RowStream}
 use Rattle.aprs_fold.specs.Fronts.{row_at, IsFirst, NotAfter}
 
 pub NotAfter-itself : (o : Option Row) → NotAfter o o

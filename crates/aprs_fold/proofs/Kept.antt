@@ -33,6 +33,10 @@ module _ {X : Type 0} (p : X → Bool) where
 abbrev pub is_row_within : SourceRange → Row → Bool
 is_row_within range x = is_within range (row_key x).source
 
+pub in_within : (range : SourceRange) (x : Row) (rows : List Row) → x ∈ rows_of_sources range rows
+    → x ∈ rows
+in_within range x rows h = kept_in (is_row_within range) x rows h
+
 pub sound_within : (gap : ℕ) (range : SourceRange) (rows : List Row) → Sound gap rows
     → Sound gap (rows_of_sources range rows)
 sound_within gap range rows h = record {

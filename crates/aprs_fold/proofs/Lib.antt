@@ -7,5 +7,9 @@ pub mod Streamed
 pub mod Kept
 pub mod Parts
 pub mod Puttings
+pub mod PuttingNew
 pub mod Walking
 pub mod Texts
+pub mod Lacking
+pub mod Newing
+pub mod NewTexts

@@ -1,7 +1,7 @@
 -- Matches between the rows in front of several streams.
 use Rattle.aprs_fold.proofs.Common.{◌≡◌, ◌≢◌, ◌<◌, ◌≤◌, ◌+◌, ◌-◌, ◌⊎◌, ◌∙◌, ℕ, zero, suc, List, [], ◌∷◌, length, get_or, set, Option, inl, inr, refl, sym, ap, subst, arith, cases_lt, Row}
 use Rattle.std.proofs.Common.{◌*◌, ◌/◌, ◌==◌, true, false}
-use Rattle.aprs_booktext.specs.declared.row_stream.RowStream.{RowStream}
+use Rattle.aprs_bookfile.specs.declared.row_stream.RowStream.{RowStream}
 use Rattle.aprs_fold.specs.Fronts.{row_at, NotAfter}
 use Rattle.aprs_fold.specs.Matches.{halved, winner_of, AreWithin, IsAbove, IsPlayed, IsPlayedBut, IsWon}
 use Rattle.aprs_fold.proofs.Fronts.{NotAfter-itself, NotAfter-then}

@@ -5,8 +5,8 @@ use Rattle.aprs_io.specs.Outlet.{held_of, writer_loan_of, writer_of}
 use Rattle.aprs_io.specs.declared.outlet.Outlet.{Outlet}
 use Rattle.aprs_io.proofs.Sends.{Sends-last, Sends-ok}
 use Rattle.aprs_log.specs.declared.moment_form.MomentForm.TheVariants.{Millis}
-use Rattle.aprs_booktext.specs.RowLines.{line_and_lf}
-use Rattle.aprs_booktext.specs.Text.{IsBookRow}
+use Rattle.aprs_bookfile.specs.RowLines.{line_and_lf}
+use Rattle.aprs_bookfile.specs.Text.{IsBookRow}
 use Rattle.aprs_rows.specs.OpenRow.{JoinsOrNot}
 use Rattle.aprs_fold.specs.Range.{rows_of_sources}
 use Rattle.aprs_fold.specs.Taking.{lines_of_rows, FailsPut, FailsTaking, HasPut, IsThere, Takes}

@@ -6,22 +6,22 @@ use Rattle.aprs_io.specs.Input.{Gets}
 use Rattle.aprs_io.specs.declared.input.InputEnd.{InputEnd}
 use Rattle.aprs_io.specs.declared.input.InputEnd.TheVariants as how
 use Rattle.aprs_laws.specs.BookValue.{BookValue}
-use Rattle.aprs_booktext.specs.Asking.{AsksAt}
-use Rattle.aprs_booktext.specs.BookAnswers.{ReadsBook}
-use Rattle.aprs_booktext.specs.Reader.{gap_in, HoldsIn}
-use Rattle.aprs_booktext.specs.Reading.{Got, IsAnswered}
-use Rattle.aprs_booktext.specs.RowReader.{row_at_stage, version_in, KeepsVersion}
-use Rattle.aprs_booktext.specs.RowStream.{front_of, gap_of_stream, GetsOne, HasGot, HoldsTo, is_ended, IsFaultyAfter, stream_ahead, stream_size}
-use Rattle.aprs_booktext.specs.Text.{IsBookRows}
-use Rattle.aprs_booktext.specs.Version.{gap_of}
-use Rattle.aprs_booktext.specs.declared.fault.BookCause.{BookCause}
-use Rattle.aprs_booktext.specs.declared.fault.BookCause.TheVariants as why
-use Rattle.aprs_booktext.specs.declared.fault.BookFault.{BookFault}
-use Rattle.aprs_booktext.specs.declared.stage.Stage.{Stage}
-use Rattle.aprs_booktext.specs.declared.stage.Stage.TheVariants.{Header, Rows, Done}
-use Rattle.aprs_booktext.specs.declared.row_stream.RowStream.{RowStream}
-use Rattle.aprs_booktext.specs.declared.version.Version.{Version}
-use Rattle.aprs_booktext.proofs.BookRows.{rows_sound}
+use Rattle.aprs_bookfile.specs.Asking.{AsksAt}
+use Rattle.aprs_bookfile.specs.BookAnswers.{ReadsBook}
+use Rattle.aprs_bookfile.specs.Reader.{gap_in, HoldsIn}
+use Rattle.aprs_bookfile.specs.Reading.{Got, IsAnswered}
+use Rattle.aprs_bookfile.specs.RowReader.{row_at_stage, version_in, KeepsVersion}
+use Rattle.aprs_bookfile.specs.RowStream.{front_of, gap_of_stream, GetsOne, HasGot, HoldsTo, is_ended, IsFaultyAfter, stream_ahead, stream_size}
+use Rattle.aprs_bookfile.specs.Text.{IsBookRows}
+use Rattle.aprs_bookfile.specs.Version.{gap_of}
+use Rattle.aprs_bookfile.specs.declared.fault.BookCause.{BookCause}
+use Rattle.aprs_bookfile.specs.declared.fault.BookCause.TheVariants as why
+use Rattle.aprs_bookfile.specs.declared.fault.BookFault.{BookFault}
+use Rattle.aprs_bookfile.specs.declared.stage.Stage.{Stage}
+use Rattle.aprs_bookfile.specs.declared.stage.Stage.TheVariants.{Header, Rows, Done}
+use Rattle.aprs_bookfile.specs.declared.row_stream.RowStream.{RowStream}
+use Rattle.aprs_bookfile.specs.declared.version.Version.{Version}
+use Rattle.aprs_bookfile.proofs.BookRows.{rows_sound}
 use Rattle.aprs_fold.specs.Fronts.{row_at}
 use Rattle.aprs_fold.specs.Inputs.{all_of, AreAsked, AreBooks, IsAsked, IsRefused}
 use Rattle.aprs_fold.specs.Streams.{ahead_of, ahead_of_all, fronts_of, taken_at, AreReading, IsReading, IsReadyAt}
@@ -86,7 +86,7 @@ last_two : {X : Type 0} (Q : X → X → Type 0) (xs : List X) (x y : X)
 last_two Q [] x y h = h.0 y (inl refl)
 last_two Q (z ∷ xs) x y h = last_two Q xs x y h.1
 
-rows_of_stage : (stage : Stage) (rows : List Row) (line : List ℕ) (x : Row) (before : List Row)
+pub rows_of_stage : (stage : Stage) (rows : List Row) (line : List ℕ) (x : Row) (before : List Row)
     → rows ≡ before ++ x ∷ [] → HoldsIn stage rows line → (v : Version) × IsBookRows v rows
 rows_of_stage Header rows line x [] e h = absurd (let f = sym h ∙ e in cc)
 rows_of_stage Header rows line x (y ∷ before) e h = absurd (let f = sym h ∙ e in cc)
@@ -134,7 +134,7 @@ module _ {R A : Type 0} (remaining : R → Option (List ℕ)) (limit gap : ℕ) 
   ]
 
   -- one row is taken, and the stream is read on
-  reads_on : (f n m : Counted R) (s r : RowStream A) (t : List Row) → is_ended s ≡ false
+  pub reads_on : (f n m : Counted R) (s r : RowStream A) (t : List Row) → is_ended s ≡ false
       → ((limit : ℕ) (head : List ℕ) (first : Counted R) (rows : List Row)
       → HasGot remaining limit head first n s rows
       → GetsOne remaining limit head first m r rows)
@@ -444,7 +444,7 @@ row_at-other (s ∷ streams) (suc i) (suc k) r unlike =
     row_at-other streams i k r (λ e. unlike (ap suc e))
 
 -- less is ahead
-less_ahead : (b c : Bool) (m n : ℕ) → b ≡ false → (c ≡ false → m < n)
+pub less_ahead : (b c : Bool) (m n : ℕ) → b ≡ false → (c ≡ false → m < n)
     → cond c 0 (m + 1) < cond b 0 (n + 1)
 less_ahead true c m n e less = absurd (cc)
 less_ahead false true m n e less = omega arith

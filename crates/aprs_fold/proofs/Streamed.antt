@@ -7,20 +7,20 @@ use Rattle.aprs_io.specs.Input.{Gets}
 use Rattle.aprs_io.specs.declared.input.InputEnd.{InputEnd}
 use Rattle.aprs_io.specs.declared.input.InputEnd.TheVariants as how
 use Rattle.aprs_log.specs.LogText.{text_of_lines}
-use Rattle.aprs_booktext.specs.BookAnswers.{ReadsBook}
-use Rattle.aprs_booktext.specs.Piece.{bytes_left}
-use Rattle.aprs_booktext.specs.Reader.{gap_in, HasReadLines}
-use Rattle.aprs_booktext.specs.Reading.{Got}
-use Rattle.aprs_booktext.specs.Text.{book_text, end_line, row_line}
-use Rattle.aprs_booktext.specs.RowLines.{ended_by_lf}
-use Rattle.aprs_booktext.specs.RowStream.{gap_of_stream, GetsOne, HoldsTo}
-use Rattle.aprs_booktext.specs.Version.{form_of, gap_of, header_of, IsVersion}
-use Rattle.aprs_booktext.specs.declared.stage.Stage.{Stage}
-use Rattle.aprs_booktext.specs.declared.stage.Stage.TheVariants.{Header, Rows, Done}
-use Rattle.aprs_booktext.specs.declared.row_stream.RowStream.{RowStream}
-use Rattle.aprs_booktext.specs.declared.version.Version.{Version}
-use Rattle.aprs_fold.specs.Inputs.{AreAsked, BeginsOther, IsAsked, IsRefused}
-use Rattle.aprs_fold.specs.Streams.{AreOpened, AreReading, IsOfInputs, IsOneRefused, IsReading}
+use Rattle.aprs_bookfile.specs.BookAnswers.{ReadsBook}
+use Rattle.aprs_bookfile.specs.Piece.{bytes_left}
+use Rattle.aprs_bookfile.specs.Reader.{gap_in, HasReadLines}
+use Rattle.aprs_bookfile.specs.Reading.{Got}
+use Rattle.aprs_bookfile.specs.Text.{book_text, end_line, row_line}
+use Rattle.aprs_bookfile.specs.RowLines.{ended_by_lf}
+use Rattle.aprs_bookfile.specs.RowStream.{gap_of_stream, GetsOne, HoldsTo}
+use Rattle.aprs_bookfile.specs.Version.{form_of, gap_of, header_of, IsVersion}
+use Rattle.aprs_bookfile.specs.declared.stage.Stage.{Stage}
+use Rattle.aprs_bookfile.specs.declared.stage.Stage.TheVariants.{Header, Rows, Done}
+use Rattle.aprs_bookfile.specs.declared.row_stream.RowStream.{RowStream}
+use Rattle.aprs_bookfile.specs.declared.version.Version.{Version}
+use Rattle.aprs_fold.specs.Inputs.{AreAsked, BeginsOther, IsAsked, IsOneRefused, IsRefused}
+use Rattle.aprs_fold.specs.Streams.{AreOpened, AreReading, IsOfInputs, IsReading}
 use Rattle.aprs_fold.specs.declared.fault.FoldFault.{FoldFault}
 use Rattle.aprs_fold.specs.declared.fault.FoldFault.TheVariants.{Input, OtherGap, Memory, Write}
 use Rattle.aprs_fold.proofs.Reading.{faulty_asked, reading_asked}

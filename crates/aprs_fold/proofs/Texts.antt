@@ -9,11 +9,11 @@ use Rattle.aprs_io.specs.declared.outlet.Outlet.{Outlet}
 use Rattle.aprs_log.specs.LogText.{text_of_lines}
 use Rattle.aprs_log.specs.declared.moment_form.MomentForm.TheVariants.{Millis}
 use Rattle.aprs_laws.specs.BookValue.{BookValue}
-use Rattle.aprs_booktext.specs.RowLines.{ended_by_lf, line_and_lf}
-use Rattle.aprs_booktext.specs.Text.{end_line, row_line, written_text}
-use Rattle.aprs_booktext.specs.declared.version.Version.TheVariants.{Three}
-use Rattle.aprs_booktext.proofs.CutRows.{lack_an_end}
-use Rattle.aprs_booktext.proofs.TextParts.{text_parts}
+use Rattle.aprs_bookfile.specs.RowLines.{ended_by_lf, line_and_lf}
+use Rattle.aprs_bookfile.specs.Text.{end_line, row_line, written_text}
+use Rattle.aprs_bookfile.specs.declared.version.Version.TheVariants.{Three}
+use Rattle.aprs_bookfile.proofs.CutRows.{lack_an_end}
+use Rattle.aprs_bookfile.proofs.TextParts.{text_parts}
 use Rattle.aprs_folding.proofs.Steps.{begins}
 use Rattle.aprs_fold.specs.Fold.{header_text, IsFoldedBook, IsLeft, IsPart, IsWhole, LacksEnd, LeavesRows, LeavesText, PutsPart, PutsRows, PutsTextPart}
 use Rattle.aprs_fold.specs.Range.{rows_of_sources}
@@ -23,10 +23,10 @@ use Rattle.aprs_fold.specs.declared.fault.FoldFault.TheVariants.{Input, OtherGap
 use Rattle.aprs_fold.specs.declared.range.SourceRange.{SourceRange}
 use Rattle.aprs_fold.proofs.Walking.{folded_whole}
 
-abbrev book_of : ℕ → List Row → BookValue
+abbrev pub book_of : ℕ → List Row → BookValue
 book_of gap rows = record { gap = gap; rows = rows }
 
-text_is : (gap : ℕ) (rows : List Row) (n : ℕ) → n ≡ length rows → written_text (book_of gap rows)
+pub text_is : (gap : ℕ) (rows : List Row) (n : ℕ) → n ≡ length rows → written_text (book_of gap rows)
     ≡ header_text gap ++ (lines_of_rows rows ++ ended_by_lf (end_line n))
 text_is gap rows n e = text_parts (book_of gap rows) gap (header_text gap) refl refl n
     (ended_by_lf (end_line n)) e refl
@@ -34,6 +34,68 @@ text_is gap rows n e = text_parts (book_of gap rows) gap (header_text gap) refl 
 row_lines : (rows : List Row) → text_of_lines (map (row_line Millis) rows) ≡ lines_of_rows rows
 row_lines [] = refl
 row_lines (x ∷ rows) = ap (λ l. line_and_lf x ++ l) (row_lines rows)
+
+-- ---- parts of a text
+
+module _ {W : Type 0} (contents : W → Option (List ℕ)) (gap : ℕ) where
+  -- the header was sent, and then some lines were put
+  pub text_part : (old mid new : Outlet W)
+      → Puts {E = Unit {0}} contents (Ok tt) old mid (header_text gap) → held_of mid ≡ []
+      → (fault : FoldFault) (rows last : List Row) → PutsPart contents fault rows last mid new
+      → PutsTextPart contents gap fault rows last old new
+  text_part old mid new header none Write rows last put = Puts-is
+      (Puts-then header (Puts-fails (Err Write) refl put
+      (ended_by_lf (end_line (length (rows ++ last))))))
+      (sym (text_is gap (rows ++ last) (length (rows ++ last)) refl))
+  text_part old mid new header none (Input index fault) rows last put = (mid, header, none, put)
+  text_part old mid new header none (OtherGap index) rows last put = (mid, header, none, put)
+  text_part old mid new header none Memory rows last put = (mid, header, none, put)
+
+  -- the last line was put, or not
+  pub whole_text : {E : Type 0} (r : Result (Unit {0}) E) (old mid put new : Outlet W) (count : ℕ)
+      (rows : List Row) → Puts {E = Unit {0}} contents (Ok tt) old mid (header_text gap)
+      → Puts {E = Unit {0}} contents (Ok tt) mid put (lines_of_rows rows) → count ≡ length rows
+      → Puts contents r put new (ended_by_lf (end_line count))
+      → Puts contents r old new (written_text (book_of gap rows))
+  whole_text r old mid put new count rows header lines counted end =
+      Puts-is (Puts-then header (Puts-then lines end)) (sym (text_is gap rows count counted))
+
+  -- what went out of it
+  module _ (first : Counted W) (o p : Outlet W) (none : HasTaken contents first o []) where
+    sent_part : (rows : List Row) → IsWhole gap rows → (mid : Outlet W)
+        → Puts {E = Unit {0}} contents (Ok tt) o mid (header_text gap) → held_of mid ≡ []
+        → Puts {E = Unit {0}} contents (Ok tt) mid p (lines_of_rows rows)
+        → (part : List ℕ) × (rest : List ℕ) × (lines_of_rows rows ≡ part ++ rest)
+        × Appends (contents first.device) (contents (writer_of p).device) (header_text gap ++ part)
+        × Calls Going first (writer_of p)
+        × LacksEnd (header_text gap ++ part)
+    sent_part rows whole_rows mid header empty lines =
+        let head = left_of_both none (header_text gap) header.took in
+        let whole : header_text gap ≡ head.gone =
+        head.whole ∙ ap (λ l. head.gone ++ l) empty ∙ append-nil head.gone in
+        let rest = lines.took in
+        let cut : lines_of_rows rows ≡ rest.gone ++ held_of p =
+        ap (λ l. l ++ lines_of_rows rows) (sym empty) ∙ rest.whole in (
+          rest.gone,
+          held_of p,
+          cut,
+          subst (λ l. Appends (contents first.device) (contents (writer_of p).device) (l ++ rest.gone))
+              (sym whole)
+              (Appends-trans (contents first.device) (contents (writer_of mid).device)
+              (contents (writer_of p).device) head.gone rest.gone head.sends.sent rest.sends.sent),
+          Calls-then head.sends.calls rest.sends.calls,
+          lack_an_end (Three gap) rows whole_rows rest.gone (held_of p) (row_lines rows ∙ cut),
+        )
+
+    pub parts : (fault : FoldFault) (rows last : List Row) → IsWhole gap rows
+        → PutsTextPart contents gap fault rows last o p
+        → IsPart contents gap fault rows last first (writer_of p)
+    parts Write rows last whole put = Sends-unput none (Err Write) refl put
+    parts (Input index fault) rows last whole put = sent_part rows whole put.0 put.1 put.2 put.3
+    parts (OtherGap index) rows last whole put = sent_part rows whole put.0 put.1 put.2 put.3
+    parts Memory rows last whole put = sent_part rows whole put.0 put.1 put.2 put.3
+
+-- ---- the text of a fold
 
 module _ {R W : Type 0} (remaining : R → Option (List ℕ)) (contents : W → Option (List ℕ))
     (limit gap : ℕ) (range : SourceRange) (begun now : List (Counted R)) where
@@ -62,18 +124,9 @@ module _ {R W : Type 0} (remaining : R → Option (List ℕ)) (contents : W → 
       last = h.last;
       begun = h.begun;
       rows_are = h.rows_are;
-      put = by_fault fault (rows_of_sources range h.rows) (rows_of_sources range h.last) h.put;
-    } where
-      by_fault : (fault : FoldFault) (rows last : List Row)
-          → PutsPart contents fault rows last mid new
-          → PutsTextPart contents gap fault rows last old new
-      by_fault Write rows last put = Puts-is
-          (Puts-then header (Puts-fails (Err Write) refl put
-          (ended_by_lf (end_line (length (rows ++ last))))))
-          (sym (text_is gap (rows ++ last) (length (rows ++ last)) refl))
-      by_fault (Input index fault) rows last put = (mid, header, none, put)
-      by_fault (OtherGap index) rows last put = (mid, header, none, put)
-      by_fault Memory rows last put = (mid, header, none, put)
+      put = text_part contents gap old mid new header none fault (rows_of_sources range h.rows)
+          (rows_of_sources range h.last) h.put;
+    }
 
   -- the last line was put, or not
   pub text_ends : {E : Type 0} (r : Result (Unit {0}) E) (old mid put new : Outlet W) (count : ℕ)
@@ -82,8 +135,7 @@ module _ {R W : Type 0} (remaining : R → Option (List ℕ)) (contents : W → 
       → Puts contents r put new (ended_by_lf (end_line count))
       → Puts contents r old new (written_text (book_of gap rows))
   text_ends r old mid put new count rows header lines end =
-      Puts-is (Puts-then header (Puts-then lines.puts end))
-      (sym (text_is gap rows count lines.counted))
+      whole_text contents gap r old mid put new count rows header lines.puts lines.counted end
 
   -- where the output was refused after all rows, a prefix of the text went out
   pub leaves_all : {E : Type 0} {e : E} (old new : Outlet W) (rows : List Row)
@@ -103,39 +155,6 @@ module _ {R W : Type 0} (remaining : R → Option (List ℕ)) (contents : W → 
   -- ---- what went out
 
   module _ (first : Counted W) (o p : Outlet W) (none : HasTaken contents first o []) where
-    sent_part : (rows : List Row) → IsWhole gap rows → (mid : Outlet W)
-        → Puts {E = Unit {0}} contents (Ok tt) o mid (header_text gap) → held_of mid ≡ []
-        → Puts {E = Unit {0}} contents (Ok tt) mid p (lines_of_rows rows)
-        → (part : List ℕ) × (rest : List ℕ) × (lines_of_rows rows ≡ part ++ rest)
-        × Appends (contents first.device) (contents (writer_of p).device) (header_text gap ++ part)
-        × Calls Going first (writer_of p)
-        × LacksEnd (header_text gap ++ part)
-    sent_part rows whole_rows mid header empty lines =
-        let head = left_of_both none (header_text gap) header.took in
-        let whole : header_text gap ≡ head.gone =
-        head.whole ∙ ap (λ l. head.gone ++ l) empty ∙ append-nil head.gone in
-        let rest = lines.took in
-        let cut : lines_of_rows rows ≡ rest.gone ++ held_of p =
-        ap (λ l. l ++ lines_of_rows rows) (sym empty) ∙ rest.whole in (
-          rest.gone,
-          held_of p,
-          cut,
-          subst (λ l. Appends (contents first.device) (contents (writer_of p).device) (l ++ rest.gone))
-              (sym whole)
-              (Appends-trans (contents first.device) (contents (writer_of mid).device)
-              (contents (writer_of p).device) head.gone rest.gone head.sends.sent rest.sends.sent),
-          Calls-then head.sends.calls rest.sends.calls,
-          lack_an_end (Three gap) rows whole_rows rest.gone (held_of p) (row_lines rows ∙ cut),
-        )
-
-    parts : (fault : FoldFault) (rows last : List Row) → IsWhole gap rows
-        → PutsTextPart contents gap fault rows last o p
-        → IsPart contents gap fault rows last first (writer_of p)
-    parts Write rows last whole put = Sends-unput none (Err Write) refl put
-    parts (Input index fault) rows last whole put = sent_part rows whole put.0 put.1 put.2 put.3
-    parts (OtherGap index) rows last whole put = sent_part rows whole put.0 put.1 put.2 put.3
-    parts Memory rows last whole put = sent_part rows whole put.0 put.1 put.2 put.3
-
     pub leaves_text : (fault : FoldFault)
         → LeavesText remaining contents limit gap range fault begun now o p
         → IsLeft remaining contents limit gap range fault begun now first (writer_of p)
@@ -144,8 +163,8 @@ module _ {R W : Type 0} (remaining : R → Option (List ℕ)) (contents : W → 
       last = h.last;
       begun = h.begun;
       rows_are = h.rows_are;
-      part = parts fault (rows_of_sources range h.rows) (rows_of_sources range h.last) h.rows_are
-          h.put;
+      part = parts contents gap first o p none fault (rows_of_sources range h.rows)
+          (rows_of_sources range h.last) h.rows_are h.put;
     }
 
   -- the whole text was put, but not sent

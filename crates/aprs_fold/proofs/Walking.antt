@@ -6,10 +6,10 @@ use Rattle.aprs_log.specs.declared.moment_form.MomentForm.TheVariants.{Millis}
 use Rattle.aprs_laws.specs.Sound.{IsFar}
 use Rattle.aprs_laws.specs.Together.{book_together}
 use Rattle.aprs_laws.proofs.Together.{book_is_sound}
-use Rattle.aprs_booktext.specs.Text.{IsBookRow}
-use Rattle.aprs_booktext.specs.declared.row_stream.RowStream.{RowStream}
-use Rattle.aprs_booktext.specs.declared.version.Version.TheVariants.{Three}
-use Rattle.aprs_booktext.proofs.BookRows.{rows_are}
+use Rattle.aprs_bookfile.specs.Text.{IsBookRow}
+use Rattle.aprs_bookfile.specs.declared.row_stream.RowStream.{RowStream}
+use Rattle.aprs_bookfile.specs.declared.version.Version.TheVariants.{Three}
+use Rattle.aprs_bookfile.proofs.BookRows.{rows_are}
 use Rattle.aprs_folding.specs.Folding.{rows_put, IsFolding, NoneIsBefore, TakesNext}
 use Rattle.aprs_folding.proofs.Steps.{begins, ends_as_book, takes_on}
 use Rattle.aprs_fold.specs.Begun.{IsBegun}
@@ -35,7 +35,7 @@ front_ordered Q [] ys h = tt
 front_ordered Q (x ∷ xs) ys h =
     ((λ y k. h.0 y (in_left y xs ys k)), front_ordered Q xs ys h.1)
 
-front_sound : (gap : ℕ) (xs ys : List Row) → Sound gap (xs ++ ys) → Sound gap xs
+pub front_sound : (gap : ℕ) (xs ys : List Row) → Sound gap (xs ++ ys) → Sound gap xs
 front_sound gap xs ys h = record {
   ascending = front_ordered (IsBelow row_cmp) xs ys h.ascending;
   apart = front_ordered (IsFar gap) xs ys h.apart;
@@ -50,17 +50,17 @@ some_of : (x : List ℕ) (xs : List (List ℕ)) → x ∈ xs → 0 < length xs
 some_of x [] h = absurd h
 some_of x (y ∷ ys) h = omega arith
 
-sound_whole : (gap : ℕ) (rows : List Row) → IsGap gap → Sound (millis_of gap) rows
+pub sound_whole : (gap : ℕ) (rows : List Row) → IsGap gap → Sound (millis_of gap) rows
     → AreSpelled rows → IsWhole gap rows
 sound_whole gap rows is_gap sound spelled = rows_are (Three gap) rows is_gap sound
     (each_all (IsBookRow Millis) rows (λ x h. let own = sound.each x h in
     spelled x h (some_of x.greatest.receiver x.receivers own.receiver)))
 
 module _ (gap : ℕ) (is_gap : IsGap gap) where
-  some_millis : 0 < millis_of gap
+  pub some_millis : 0 < millis_of gap
   some_millis = omega (arith, is_gap.0)
 
-  read_sound : (read front written last : List Row)
+  pub read_sound : (read front written last : List Row)
       → IsFolding (millis_of gap) read front written last
       → Sound (millis_of gap) (written ++ last)
   read_sound read front written last h =
@@ -75,6 +75,54 @@ module _ (gap : ℕ) (is_gap : IsGap gap) where
       sound_whole gap (rows_of_sources range written) is_gap
       (sound_within (millis_of gap) range written
       (front_sound (millis_of gap) written last (read_sound read front written last h))) spelled
+
+-- ---- a row in front is taken
+
+module _ {R A : Type 0} (remaining : R → Option (List ℕ)) (limit gap : ℕ)
+    (first now : List (Counted R)) (streams : List (RowStream A)) (taken : List (List Row))
+    (reading : AreReading remaining limit gap first now streams taken) (i : ℕ)
+    (f : IsFirst streams i) where
+  -- none in front comes before it
+  none_before : NoneIsBefore f.row (fronts_of streams)
+  none_before y h =
+      let at = AreReading-front remaining limit gap first now streams taken y reading h in
+      subst (λ (o : Option Row). NotAfter o (Some y)) f.is
+      (subst (λ (o : Option Row). NotAfter (row_at streams i) o) at.1 (f.least at.0))
+
+  module _ (final last : List Row)
+      (folding : IsFolding (millis_of gap) (all_of taken) (fronts_of streams) final last)
+      (sound : IsSoundRow f.row) (closed : Bool) (new : List Row)
+      (takes : TakesNext closed (millis_of gap) last f.row new) where
+    takes_to : (ahead : List Row) → NoneIsBefore f.row ahead
+        → IsFolding (millis_of gap) (all_of (taken_at streams i taken)) ahead
+        (final ++ rows_put closed last) new
+    takes_to ahead none = takes_on (millis_of gap) (all_of taken) (fronts_of streams) final last
+        f.row closed (all_of (taken_at streams i taken)) ahead new folding
+        (AreReading-in remaining limit gap i first now streams taken f.row f.is reading) sound
+        (AreReading-taken remaining limit gap i first now streams taken f.row f.is reading)
+        none takes
+
+    -- the rows that are written are final, whatever stays in front
+    pub takes_here : IsFolding (millis_of gap) (all_of (taken_at streams i taken))
+        (fronts_of streams) (final ++ rows_put closed last) new
+    takes_here = takes_to (fronts_of streams) none_before
+
+    -- the stream is read on
+    pub takes_there : (after : List (Counted R)) (others : List (RowStream A))
+        → AreReading remaining limit gap first after others (taken_at streams i taken)
+        → GoesOn i streams others
+        → IsFolding (millis_of gap) (all_of (taken_at streams i taken)) (fronts_of others)
+        (final ++ rows_put closed last) new
+    takes_there after others onward goes = takes_to (fronts_of others) none_ahead where
+      none_ahead : NoneIsBefore f.row (fronts_of others)
+      none_ahead y h =
+          let at = AreReading-front remaining limit gap first after others
+          (taken_at streams i taken) y onward h in
+          elim (goes at.0 f.row y f.is at.1) [
+            | inl old ↦ subst (λ (o : Option Row). NotAfter o (Some y)) f.is
+                (subst (λ (o : Option Row). NotAfter (row_at streams i) o) old (f.least at.0))
+            | inr up ↦ up
+          ]
 
 -- ---- the walk
 
@@ -91,21 +139,21 @@ pub record Walking {R W A : Type 0} (remaining : R → Option (List ℕ))
   pub put : HasPut contents begun out (rows_of_sources range written)
   pub counted : count ≡ length (rows_of_sources range written)
 
-all_none : {A : Type 0} (streams : List (RowStream A))
+pub all_none : {A : Type 0} (streams : List (RowStream A))
     → all_of (map (λ (s : RowStream A). []) streams) ≡ []
 all_none [] = refl
 all_none (s ∷ streams) = all_none streams
 
-len_there : (wrote : Bool) (last : List Row) → IsThere wrote last → length last ≡ cond wrote 1 0
+pub len_there : (wrote : Bool) (last : List Row) → IsThere wrote last → length last ≡ cond wrote 1 0
 len_there true last h = ap length h.1
 len_there false last h = ap length h
 
-count_put : (wrote : Bool) (count n m : ℕ) → count ≡ n → m ≡ cond wrote 1 0
+pub count_put : (wrote : Bool) (count n m : ℕ) → count ≡ n → m ≡ cond wrote 1 0
     → cond wrote (count + 1) count ≡ n + m
 count_put true count n m e f = omega (arith, e, f)
 count_put false count n m e f = omega (arith, e, f)
 
-parts_by : {W : Type 0} (contents : W → Option (List ℕ)) (fault : FoldFault)
+pub parts_by : {W : Type 0} (contents : W → Option (List ℕ)) (fault : FoldFault)
     (rows last : List Row) (old new : Outlet W) → IsOfInputs fault
     → Puts {E = Unit {0}} contents (Ok tt) old new (lines_of_rows rows)
     → PutsPart contents fault rows last old new
@@ -226,27 +274,8 @@ module _ {R W A : Type 0} (remaining : R → Option (List ℕ)) (contents : W �
     }
 
     module _ (i : ℕ) (f : IsFirst streams i) where
-      -- none in front comes before it
-      none_before : NoneIsBefore f.row (fronts_of streams)
-      none_before y h =
-          let at = AreReading-front remaining limit gap first now streams w.taken y w.reading h in
-          subst (λ (o : Option Row). NotAfter o (Some y)) f.is
-          (subst (λ (o : Option Row). NotAfter (row_at streams i) o) at.1 (f.least at.0))
-
       module _ (closed : Bool) (next : Outlet W) (sound : IsSoundRow f.row)
           (put : HasPut contents out next (rows_of_sources range (rows_put closed last))) where
-        -- with it the rows that are written are final, whatever stays in front
-        takes_here : (new : List Row) → TakesNext closed (millis_of gap) last f.row new
-            → IsFolding (millis_of gap) (all_of (taken_at streams i w.taken)) (fronts_of streams)
-            (w.written ++ rows_put closed last) new
-        takes_here new takes = takes_on (millis_of gap) (all_of w.taken) (fronts_of streams)
-            w.written last f.row closed (all_of (taken_at streams i w.taken)) (fronts_of streams) new
-            w.folding
-            (AreReading-in remaining limit gap i first now streams w.taken f.row f.is w.reading)
-            sound
-            (AreReading-taken remaining limit gap i first now streams w.taken f.row f.is w.reading)
-            none_before takes
-
         put_here : HasPut contents begun next
             (rows_of_sources range (w.written ++ rows_put closed last))
         put_here = put_more contents range begun out next w.written (rows_put closed last) w.put put
@@ -257,7 +286,8 @@ module _ {R W A : Type 0} (remaining : R → Option (List ℕ)) (contents : W �
             → ChangesAt i now others
             → LeavesRows remaining contents limit gap range fault first others begun next
         leaves_taken new takes fault is others changes =
-            let folding = takes_here new takes in
+            let folding = takes_here remaining limit gap first now streams w.taken w.reading i f
+            w.written last w.folding sound closed new takes in
             record {
               rows = w.written ++ rows_put closed last;
               last = new;
@@ -283,25 +313,11 @@ module _ {R W A : Type 0} (remaining : R → Option (List ℕ)) (contents : W �
           taken = taken_at streams i w.taken;
           written = w.written ++ rows_put closed last;
           reading = reading;
-          folding = takes_on (millis_of gap) (all_of w.taken) (fronts_of streams)
-              w.written last f.row closed (all_of (taken_at streams i w.taken)) (fronts_of others)
-              new w.folding
-              (AreReading-in remaining limit gap i first now streams w.taken f.row f.is w.reading)
-              sound
-              (AreReading-taken remaining limit gap i first now streams w.taken f.row f.is w.reading)
-              none_ahead takes;
+          folding = takes_there remaining limit gap first now streams w.taken w.reading i f
+              w.written last w.folding sound closed new takes after others reading goes;
           put = put_here;
           counted = counted ∙ count_more wrote (rows_put closed last) there;
-        } where
-          none_ahead : NoneIsBefore f.row (fronts_of others)
-          none_ahead y h =
-              let at = AreReading-front remaining limit gap first after others
-              (taken_at streams i w.taken) y reading h in
-              elim (goes at.0 f.row y f.is at.1) [
-                | inl old ↦ subst (λ (o : Option Row). NotAfter o (Some y)) f.is
-                    (subst (λ (o : Option Row). NotAfter (row_at streams i) o) old (f.least at.0))
-                | inr up ↦ up
-              ]
+        }
 
       leaves_by : (fault : FoldFault) (next : Outlet W) → IsSoundRow f.row → (closed : Bool)
           → HasPut contents out next (rows_of_sources range (rows_put closed last))

@@ -8,12 +8,12 @@ use Rattle.aprs_io.specs.declared.device.Counted.{Counted}
 use Rattle.aprs_io.specs.declared.outlet.Outlet.{Outlet}
 use Rattle.aprs_io.specs.declared.input.InputEnd.TheVariants as how
 use Rattle.aprs_laws.specs.Row.{Row}
-use Rattle.aprs_booktext.specs.RowLines.{ended_by_lf, line_and_lf}
-use Rattle.aprs_booktext.specs.Text.{written_text, IsBookRows}
-use Rattle.aprs_booktext.specs.TextFault.{HasBookFault}
-use Rattle.aprs_booktext.specs.Version.{header_of}
-use Rattle.aprs_booktext.specs.declared.fault.BookCause.TheVariants as why
-use Rattle.aprs_booktext.specs.declared.version.Version.TheVariants.{Three}
+use Rattle.aprs_bookfile.specs.RowLines.{ended_by_lf, line_and_lf}
+use Rattle.aprs_bookfile.specs.Text.{written_text, IsBookRows}
+use Rattle.aprs_bookfile.specs.TextFault.{HasBookFault}
+use Rattle.aprs_bookfile.specs.Version.{header_of}
+use Rattle.aprs_bookfile.specs.declared.fault.BookCause.TheVariants as why
+use Rattle.aprs_bookfile.specs.declared.version.Version.TheVariants.{Three}
 use Rattle.aprs_fold.specs.Begun.{IsBegun}
 use Rattle.aprs_fold.specs.Range.{rows_of_sources}
 use Rattle.aprs_fold.specs.Taking.{lines_of_rows}

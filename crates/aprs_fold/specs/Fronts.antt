@@ -4,8 +4,8 @@ use Rattle.std.specs.Prelude.{◌≡◌, ℕ, ◌<◌, zero, suc, List, [], ◌�
 use Rattle.std.specs.List.{last_or}
 use Rattle.aprs_laws.specs.Order.{IsUpTo}
 use Rattle.aprs_laws.specs.Row.{Row, row_cmp}
-use Rattle.aprs_booktext.specs.RowStream.{front_of}
-use Rattle.aprs_booktext.specs.declared.row_stream.RowStream.{RowStream}
+use Rattle.aprs_bookfile.specs.RowStream.{front_of}
+use Rattle.aprs_bookfile.specs.declared.row_stream.RowStream.{RowStream}
 
 -- The row that the stream of this number has in front, if there is such a stream and it has one.
 abbrev pub row_at : {A : Type 0} → List (RowStream A) → ℕ → Option Row

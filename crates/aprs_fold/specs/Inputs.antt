@@ -9,12 +9,12 @@ use Rattle.aprs_laws.specs.BookValue.{BookValue}
 use Rattle.aprs_laws.specs.Gap.{millis_of}
 use Rattle.aprs_laws.specs.Row.{Row}
 use Rattle.aprs_laws.specs.Together.{book_together}
-use Rattle.aprs_booktext.specs.Reading.{IsAnswered}
-use Rattle.aprs_booktext.specs.RowLines.{ended_by_lf}
-use Rattle.aprs_booktext.specs.Version.{gap_of, header_of, IsVersion}
-use Rattle.aprs_booktext.specs.declared.version.Version.{Version}
+use Rattle.aprs_bookfile.specs.Reading.{IsAnswered}
+use Rattle.aprs_bookfile.specs.RowLines.{ended_by_lf}
+use Rattle.aprs_bookfile.specs.Version.{gap_of, header_of, IsVersion}
+use Rattle.aprs_bookfile.specs.declared.version.Version.{Version}
 use Rattle.aprs_fold.specs.declared.fault.FoldFault.{FoldFault}
-use Rattle.aprs_fold.specs.declared.fault.FoldFault.TheVariants.{Input, OtherGap}
+use Rattle.aprs_fold.specs.declared.fault.FoldFault.TheVariants.{Input, OtherGap, Memory, Write}
 
 -- Each input is the whole text of a book of this gap, and was read to its end; these are their
 -- rows.
@@ -61,6 +61,17 @@ pub record IsAsked {R : Type 0} (remaining : R → Option (List ℕ)) (limit : �
   pub gets : IfSome (remaining old.device) (λ input. (text : List ℕ) × (ending : InputEnd)
       × Gets limit input (remaining new.device) text ending)
   pub calls : (last : Last) × Calls last old new
+
+-- Why a fold ends before its end, by one input, which has this number: it has this fault as a book
+-- file, as far as it was read, or begins as one of another gap.
+abbrev pub IsOneRefused : {R : Type 0} → (R → Option (List ℕ)) → ℕ → ℕ → ℕ → FoldFault
+    → Counted R → Counted R → Type 0
+IsOneRefused remaining limit gap number (Input index fault) old new =
+    (index ≡ number) × IsAnswered remaining limit [] (Err fault) old new
+IsOneRefused remaining limit gap number (OtherGap index) old new =
+    (index ≡ number) × BeginsOther gap (remaining old.device) × IsAsked remaining limit old new
+IsOneRefused remaining limit gap number Memory old new = IsAsked remaining limit old new
+IsOneRefused remaining limit gap number Write old new = ⊥
 
 -- So it is with each input.
 abbrev pub AreAsked : {R : Type 0} → (R → Option (List ℕ)) → ℕ → List (Counted R)

@@ -1,6 +1,6 @@
 -- Matches between the rows in front of several streams. No public clause cites this module.
 use Rattle.std.specs.Prelude.{◌≡◌, ℕ, ◌+◌, ◌*◌, ◌/◌, ◌<◌, ◌⊎◌, zero, suc, List, [], ◌∷◌, length}
-use Rattle.aprs_booktext.specs.declared.row_stream.RowStream.{RowStream}
+use Rattle.aprs_bookfile.specs.declared.row_stream.RowStream.{RowStream}
 use Rattle.aprs_fold.specs.Fronts.{row_at, NotAfter}
 
 -- The stream that won the match of this number. The numbers after those of all matches stand for

@@ -4,14 +4,13 @@ use Rattle.std.specs.List.{flat_map}
 use Rattle.aprs_io.specs.declared.device.Counted.{Counted}
 use Rattle.aprs_laws.specs.Order.{IsUpTo}
 use Rattle.aprs_laws.specs.Row.{Row, row_cmp}
-use Rattle.aprs_booktext.specs.Reading.{IsAnswered}
-use Rattle.aprs_booktext.specs.RowReader.{most_stream}
-use Rattle.aprs_booktext.specs.RowStream.{front_of, gap_of_stream, GetsOne, is_ended, stream_ahead, stream_size}
-use Rattle.aprs_booktext.specs.declared.row_stream.RowStream.{RowStream}
+use Rattle.aprs_bookfile.specs.Reading.{IsAnswered}
+use Rattle.aprs_bookfile.specs.RowReader.{most_stream}
+use Rattle.aprs_bookfile.specs.RowStream.{front_of, gap_of_stream, GetsOne, is_ended, stream_ahead, stream_size}
+use Rattle.aprs_bookfile.specs.declared.row_stream.RowStream.{RowStream}
 use Rattle.aprs_fold.specs.Fronts.{row_at}
-use Rattle.aprs_fold.specs.Inputs.{BeginsOther, IsAsked}
 use Rattle.aprs_fold.specs.declared.fault.FoldFault.{FoldFault}
-use Rattle.aprs_fold.specs.declared.fault.FoldFault.TheVariants.{Input, OtherGap, Memory, Write}
+use Rattle.aprs_fold.specs.declared.fault.FoldFault.TheVariants.{Write}
 
 -- Of an input that was `first` these rows were taken, and the next is in front; or they are all,
 -- and the input has ended.
@@ -37,16 +36,6 @@ AreOpened remaining limit gap first now [] = now ≡ first
 AreOpened remaining limit gap (f ∷ first) (n ∷ now) (s ∷ streams) =
     IsReading remaining limit gap f n s [] × AreOpened remaining limit gap first now streams
 AreOpened remaining limit gap first now streams = ⊥
-
--- Why the stream of one input isn't opened, by the input, which has this number.
-abbrev pub IsOneRefused : {R : Type 0} → (R → Option (List ℕ)) → ℕ → ℕ → ℕ → FoldFault
-    → Counted R → Counted R → Type 0
-IsOneRefused remaining limit gap number (Input index fault) old new =
-    (index ≡ number) × IsAnswered remaining limit [] (Err fault) old new
-IsOneRefused remaining limit gap number (OtherGap index) old new =
-    (index ≡ number) × BeginsOther gap (remaining old.device) × IsAsked remaining limit old new
-IsOneRefused remaining limit gap number Memory old new = IsAsked remaining limit old new
-IsOneRefused remaining limit gap number Write old new = ⊥
 
 -- The stream of this number may be read on: it hasn't ended, and isn't too large.
 abbrev pub IsReadyAt : {A : Type 0} → List (RowStream A) → ℕ → Type 0

@@ -1,7 +1,7 @@
 //! Why a fold ends before its end.
 ghost use Rattle.std.specs.Prelude.{◌≡◌};
 
-use aprs_booktext::BookFault;
+use aprs_bookfile::BookFault;
 use aprs_io::WriteFault;
 use aprs_rows::Memory;
 

@@ -4,11 +4,11 @@ ghost use Rattle.aprs_io.specs.Device.{Sends};
 ghost use Rattle.aprs_io.specs.Outlet.{Puts, held_of};
 ghost use Rattle.aprs_laws.specs.Gap.{IsGap};
 ghost use Rattle.aprs_laws.specs.Row.{Row};
-ghost use Rattle.aprs_booktext.specs.RowLines.{ended_by_lf};
-ghost use Rattle.aprs_booktext.specs.RowReader.{most_stream};
-ghost use Rattle.aprs_booktext.specs.Text.{written_text};
-ghost use Rattle.aprs_booktext.specs.Version.{header_of};
-ghost use Rattle.aprs_booktext.specs.declared.version.Version.TheVariants.{Three};
+ghost use Rattle.aprs_bookfile.specs.RowLines.{ended_by_lf};
+ghost use Rattle.aprs_bookfile.specs.RowReader.{most_stream};
+ghost use Rattle.aprs_bookfile.specs.Text.{written_text};
+ghost use Rattle.aprs_bookfile.specs.Version.{header_of};
+ghost use Rattle.aprs_bookfile.specs.declared.version.Version.TheVariants.{Three};
 ghost use Rattle.aprs_fold.specs.Fold as Spec;
 ghost use Rattle.aprs_fold.specs.Inputs.{AreAsked, AreBooks, IsRefused};
 ghost use Rattle.aprs_fold.specs.Range.{book_of_sources};
@@ -18,7 +18,7 @@ use crate::opening::{advance, open_all};
 use crate::range::SourceRange;
 use crate::taking::{count_after, has_line, put_last, take_front};
 use crate::tournament::Tournament;
-use aprs_booktext::{OpenLine, WrittenRow, end_line_and_lf, header_line};
+use aprs_bookfile::{OpenLine, WrittenRow, end_line_and_lf, header_line};
 use aprs_io::{Counted, Outlet, WriteFault};
 use aprs_laws::Gap;
 use std::alloc::Allocator;
@@ -101,7 +101,7 @@ fn put_text<R: Read, W: Write, A: Allocator + Copy>(
 }
 
 /// Puts the header of a book of this gap, and sends all that `out` holds.
-fn put_header<W: Write>(gap: Gap, out: &mut Outlet<'_, W>) -> Result<(), WriteFault>
+pub(crate) fn put_header<W: Write>(gap: Gap, out: &mut Outlet<'_, W>) -> Result<(), WriteFault>
     ensures puts { Puts W.contents result out.old out.new (ended_by_lf (header_of (Three gap))) }
     ensures empty { OnOk result (held_of out.new ≡ []) }
 {

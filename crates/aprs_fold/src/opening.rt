@@ -2,12 +2,12 @@
 ghost use Rattle.std.specs.Prelude.{◌≡◌, ℕ, ◌<◌, ◌≤◌, ◌++◌, ◌∷◌, [], IfErr, IfOk, List, OnOk, length};
 ghost use Rattle.aprs_io.specs.declared.device.Counted.{Counted as CountedValue};
 ghost use Rattle.aprs_laws.specs.Row.{Row};
-ghost use Rattle.aprs_booktext.specs.RowReader.{most_stream};
+ghost use Rattle.aprs_bookfile.specs.RowReader.{most_stream};
 ghost use Rattle.aprs_fold.specs.Inputs as Spec;
 ghost use Rattle.aprs_fold.specs.Streams as Streams;
 
 use crate::fault::FoldFault;
-use aprs_booktext::RowStream;
+use aprs_bookfile::RowStream;
 use aprs_io::Counted;
 use aprs_laws::Gap;
 use std::alloc::Allocator;
@@ -55,7 +55,7 @@ fn keep<A: Allocator + Copy>(
 
 /// A stream of this input, which was read to its first row, or to its end where it has none.
 /// Fails with the input's fault or with `OtherGap`, each with the number `index`, or with `Memory`.
-fn open_one<R: Read, A: Allocator + Copy>(
+pub(crate) fn open_one<R: Read, A: Allocator + Copy>(
     alloc: A,
     limit: u64,
     gap: Gap,
@@ -66,7 +66,7 @@ fn open_one<R: Read, A: Allocator + Copy>(
     ensures reads { IfOk result (λ stream.
         Streams.IsReading R.remaining limit gap input.old input.new stream []) }
     ensures refuses { IfErr result (λ fault.
-        Streams.IsOneRefused R.remaining limit gap index fault input.old input.new) }
+        Spec.IsOneRefused R.remaining limit gap index fault input.old input.new) }
 {
     let mut stream = RowStream::new(alloc, limit)?;
     if let Err(fault) = stream.advance(input) {

@@ -10,7 +10,7 @@ ghost use Rattle.aprs_fold.specs.Taking as Spec;
 
 use crate::fault::FoldFault;
 use crate::range::SourceRange;
-use aprs_booktext::{LentRow, OpenLine, RowStream, WrittenRow};
+use aprs_bookfile::{LentRow, OpenLine, RowStream, WrittenRow};
 use aprs_io::Outlet;
 use aprs_laws::Gap;
 use std::alloc::Allocator;

@@ -3,7 +3,7 @@ ghost use Rattle.std.specs.Prelude.{◌≡◌, ◌≢◌, ◌<◌, ◌+◌, ◌�
 ghost use Rattle.aprs_fold.specs.Fronts.{row_at, IsFirst, NotAfter};
 ghost use Rattle.aprs_fold.specs.Matches as Spec;
 
-use aprs_booktext::RowStream;
+use aprs_bookfile::RowStream;
 use aprs_rows::Memory;
 use std::alloc::Allocator;
 

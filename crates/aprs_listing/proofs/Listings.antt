@@ -2,12 +2,12 @@
 use Rattle.aprs_listing.proofs.Common.{◌≡◌, ◌∷◌, ◌++◌, [], List, ap, flat_map, map, refl, Received}
 use Rattle.aprs_laws.specs.BookValue.{BookValue}
 use Rattle.aprs_laws.specs.Gap.{millis_of}
-use Rattle.aprs_book.specs.Messages.{ReportsMessages}
-use Rattle.aprs_book.specs.Names.{ReportsNamed, Thing, shown_report}
-use Rattle.aprs_book.specs.Stations.{ReportsStations}
-use Rattle.aprs_book.specs.declared.lists.message.MessageRow.{MessageRow}
-use Rattle.aprs_book.specs.declared.lists.named.Named.{Named}
-use Rattle.aprs_book.specs.declared.lists.station.Station.{Station}
+use Rattle.aprs_summary.specs.Messages.{ReportsMessages}
+use Rattle.aprs_summary.specs.Names.{ReportsNamed, Thing, shown_report}
+use Rattle.aprs_summary.specs.Stations.{ReportsStations}
+use Rattle.aprs_summary.specs.declared.lists.message.MessageRow.{MessageRow}
+use Rattle.aprs_summary.specs.declared.lists.named.Named.{Named}
+use Rattle.aprs_summary.specs.declared.lists.station.Station.{Station}
 use Rattle.aprs_listing.specs.Listing.{IsShown, message_line, named_line, station_lines, thing_line}
 
 -- an object or an item that shows this report

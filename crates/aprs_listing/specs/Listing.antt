@@ -17,15 +17,15 @@ use Rattle.aprs_report.specs.Object.{live_text}
 use Rattle.aprs_log.specs.Moment.{moment_text}
 use Rattle.aprs_log.specs.Reception.{Received}
 use Rattle.aprs_laws.specs.Key.{key_of}
-use Rattle.aprs_book.specs.Reports.{report_of}
-use Rattle.aprs_book.specs.declared.lists.message.MessageRow.{MessageRow}
+use Rattle.aprs_summary.specs.Reports.{report_of}
+use Rattle.aprs_summary.specs.declared.lists.message.MessageRow.{MessageRow}
 use Rattle.aprs_laws.specs.BookValue.{BookValue}
 use Rattle.aprs_laws.specs.Gap.{millis_of}
-use Rattle.aprs_book.specs.Messages.{ReportsMessages, state_text}
-use Rattle.aprs_book.specs.Names.{ReportsNamed, Thing}
-use Rattle.aprs_book.specs.Stations.{ReportsStations}
-use Rattle.aprs_book.specs.declared.lists.named.Named.{Named}
-use Rattle.aprs_book.specs.declared.lists.station.Station.{Station}
+use Rattle.aprs_summary.specs.Messages.{ReportsMessages, state_text}
+use Rattle.aprs_summary.specs.Names.{ReportsNamed, Thing}
+use Rattle.aprs_summary.specs.Stations.{ReportsStations}
+use Rattle.aprs_summary.specs.declared.lists.named.Named.{Named}
+use Rattle.aprs_summary.specs.declared.lists.station.Station.{Station}
 use Rattle.aprs_io.specs.Shown.{shown_byte, shown_text}
 
 -- The byte of a space.

@@ -5,9 +5,9 @@ ghost use Rattle.aprs_listing.specs.Listing as Spec;
 
 use crate::field::{Field, place_fields};
 use crate::line::put_text_line;
-use aprs_book::Heard;
 use aprs_io::{Outlet, WriteFault};
 use aprs_report::{Place, Report, Stamp, Symbol, live_text};
+use aprs_summary::Heard;
 use std::io::Write;
 
 /// Where a report says that something is.

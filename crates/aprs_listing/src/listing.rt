@@ -9,10 +9,10 @@ ghost use Rattle.aprs_listing.specs.Listing as Spec;
 use crate::field::Field;
 use crate::heard_line::put_heard;
 use crate::line::{put_line, put_text_line};
-use aprs_book::{
+use aprs_io::{Counted, Outlet, WriteFault};
+use aprs_summary::{
     Heard, HeardRoom, MessageRow, MessageWalk, NamedWalk, Station, StationWalk, Summary,
 };
-use aprs_io::{Counted, Outlet, WriteFault};
 use std::alloc::Allocator;
 use std::io::Write;
 

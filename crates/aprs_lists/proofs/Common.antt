@@ -16,7 +16,7 @@ pub use Rattle.aprs_log.specs.Moment.{moment_text}
 pub use Rattle.aprs_log.specs.Reception.{Received}
 pub use Rattle.aprs_report.specs.Reading.{Value, view}
 pub use Rattle.aprs_report.specs.declared.report.Report.{Report}
-pub use Rattle.aprs_book.specs.Reports.{report_of}
+pub use Rattle.aprs_summary.specs.Reports.{report_of}
 pub use Rattle.aprs_table.proofs.Lines.{tabbed_cells}
 pub use Rattle.aprs_io.proofs.SoFar.{PutSoFar, PutSoFar-all, PutSoFar-broken, PutSoFar-more, PutSoFar-none}
 pub use Rattle.aprs_table.specs.Cells.{cell_text, tabbed_cell}

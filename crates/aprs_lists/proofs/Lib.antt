@@ -4,3 +4,7 @@ pub mod ThingLines
 pub mod Once
 pub mod OneTable
 pub mod Shapes
+pub mod TrafficGiven
+pub mod TextNumber
+pub mod NetTable
+pub mod OneNet

@@ -1,5 +1,5 @@
 -- Sets with the same members have one text of each table.
-use Rattle.aprs_lists.proofs.Common.{◌≡◌, ◌∙◌, ◌++◌, ◌∷◌, [], ℕ, List, None, Option, Some, ap, arith, refl, subst, sym, call_text, moment_text, shown_text, bytes_total, bool_cmp_total, on_total, then_total, IsTotalOrder, BookOf, Received, Row, SameMembers, ◌∈◌, Key, call_total, known_once, not_both}
+use Rattle.aprs_lists.proofs.Common.{◌≡◌, ◌∙◌, ◌++◌, ◌∷◌, [], ℕ, List, None, Option, Some, ap, arith, refl, subst, sym, call_text, bytes_total, bool_cmp_total, on_total, then_total, IsTotalOrder, BookOf, Received, Row, SameMembers, ◌∈◌, Key, call_total, known_once, not_both}
 use Rattle.std.specs.Fmt.{decimal}
 use Rattle.std.specs.List.{count_by}
 use Rattle.aprs_ax25.specs.Callsign.{Call, call_cmp}
@@ -9,19 +9,20 @@ use Rattle.aprs_laws.specs.BestLaws.{Passes}
 use Rattle.aprs_laws.specs.Order.{IsBelow}
 use Rattle.aprs_laws.specs.Row.{row_key}
 use Rattle.aprs_laws.specs.Spans.{IsFirstMoment, IsLastMoment}
-use Rattle.aprs_book.proofs.Messages.{message_total}
-use Rattle.aprs_book.proofs.OneReplyAck.{reply_ack_once}
-use Rattle.aprs_book.specs.declared.lists.reply_ack.ReplyAck.{ReplyAck}
-use Rattle.aprs_book.specs.Messages.{AnswersIt, AreMessages, IsAnsweredAt, IsReplyAckOf, IsStateOf, Message, ReportsIt, answered_by, message_cmp, shown_message, state_by, state_text}
-use Rattle.aprs_book.specs.Names.{AreNamed, ReportsOf, Thing, shown_thing, thing_cmp}
-use Rattle.aprs_book.specs.Reports.{has_source, reports_position, reports_status}
-use Rattle.aprs_book.specs.Stations.{AreStations}
-use Rattle.aprs_book.specs.declared.lists.message.MessageRow.{MessageRow}
-use Rattle.aprs_book.specs.declared.lists.message.MessageState.{MessageState}
-use Rattle.aprs_book.specs.declared.lists.named.Named.{Named}
-use Rattle.aprs_book.specs.declared.lists.station.Station.{Station}
+use Rattle.aprs_summary.proofs.Messages.{message_total}
+use Rattle.aprs_summary.proofs.OneReplyAck.{reply_ack_once}
+use Rattle.aprs_summary.specs.declared.lists.reply_ack.ReplyAck.{ReplyAck}
+use Rattle.aprs_summary.specs.Messages.{AnswersIt, AreMessages, IsAnsweredAt, IsReplyAckOf, IsStateOf, Message, ReportsIt, answered_by, message_cmp, shown_message, state_by}
+use Rattle.aprs_summary.specs.Names.{AreNamed, ReportsOf, Thing, shown_thing, thing_cmp}
+use Rattle.aprs_summary.specs.Reports.{has_source, reports_position, reports_status}
+use Rattle.aprs_summary.specs.Stations.{AreStations}
+use Rattle.aprs_summary.specs.declared.lists.message.MessageRow.{MessageRow}
+use Rattle.aprs_summary.specs.declared.lists.message.MessageState.{MessageState}
+use Rattle.aprs_summary.specs.declared.lists.named.Named.{Named}
+use Rattle.aprs_summary.specs.declared.lists.station.Station.{Station}
 use Rattle.aprs_lists.specs.Lines.{tabbed_line}
-use Rattle.aprs_lists.specs.Messages.{answer_fields, id_or_nothing, message_columns, message_table_line, messages_table, reply_ack_fields}
+use Rattle.aprs_lists.specs.Messages.{messages_table}
+use Rattle.aprs_lists.specs.Told.{listed_line, listed_outcome, listed_settled, message_columns, told_line}
 use Rattle.aprs_lists.specs.Stations.{position_fields, station_columns, station_table_line, stations_table, status_fields}
 use Rattle.aprs_lists.specs.Things.{heard_thing_line, thing_columns, thing_table_line, things_table}
 use Rattle.aprs_lists.proofs.Once.{same_lines}
@@ -54,13 +55,21 @@ module _ (S T : List Received) (same : SameMembers S T) where
       ∙ (ap (answered_by first) (known_once S T (AnswersIt m id) h.0 k.0 same h.1 k.1) ∙ sym k.2)
 
   abbrev message_told : Message → MessageState → ℕ → ℕ → Option ℕ → ReplyAck → List ℕ
-  message_told m state first last answered reply_ack = tabbed_line (call_text m.source ∷ shown_text m.addressee
-      ∷ shown_text (id_or_nothing m.id) ∷ shown_text m.text ∷ state_text state ∷ moment_text first
-      ∷ moment_text last ∷ answer_fields answered m.addressee ++ reply_ack_fields reply_ack)
+  message_told m state first last answered reply_ack = told_line (record {
+    message = record { source = m.source; addressee = m.addressee; text = m.text; id = m.id };
+    state = state;
+    first = first;
+    last = last;
+    answered = answered;
+    reply_ack = reply_ack;
+    gate = None;
+    outcome = listed_outcome state reply_ack;
+    settled = listed_settled answered reply_ack;
+  })
 
   module _ (xs ys : List MessageRow) (p : AreMessages S xs) (q : AreMessages T ys) where
     one_message_line : (x y : MessageRow) → x ∈ xs → y ∈ ys → shown_message x ≡ shown_message y
-        → message_table_line x ≡ message_table_line y
+        → listed_line x ≡ listed_line y
     one_message_line x y i j e =
         let a = p.each x i in
         let b = q.each y j in
@@ -87,7 +96,7 @@ module _ (S T : List Received) (same : SameMembers S T) where
 
     pub one_messages : messages_table xs ≡ messages_table ys
     one_messages = ap (λ (l : List ℕ). tabbed_line message_columns ++ l)
-        (same_lines shown_message message_table_line (IsBelow message_cmp)
+        (same_lines shown_message listed_line (IsBelow message_cmp)
         (not_both message_total) xs ys p.ascending q.ascending
         (λ x i. let s = (p.messages (shown_message x)).0 (x, i, refl) in
         (q.messages (shown_message x)).1 (s.0, (same s.0).0 s.1, s.2))

@@ -1,11 +1,11 @@
 -- Each line of the tables has all fields.
 use Rattle.aprs_lists.proofs.Common.{◌≡◌, ◌∙◌, ◌∷◌, ◌++◌, [], ℕ, Bool, List, None, Option, Some, ap, ap₂, codes, length, refl, Received, Value, key_of, report_of}
-use Rattle.std.specs.Prelude.{All, true, false}
+use Rattle.std.specs.Prelude.{All, true, false, if◌then◌else◌}
 use Rattle.std.proofs.Common.{suc, ◌+◌}
 use Rattle.std.proofs.lemmas.List.{length-append}
 use Rattle.std.specs.List.{AllByRecursion}
 use Rattle.std.proofs.lemmas.List.Elements.{All-from_recursion}
-use Rattle.aprs_ax25.specs.Callsign.{IsCall}
+use Rattle.aprs_ax25.specs.Callsign.{Call, IsCall}
 use Rattle.aprs_log.specs.Receiver.{IsName}
 use Rattle.aprs_report.specs.Object.{live_text}
 use Rattle.aprs_report.specs.Place.{latitude_of, longitude_of}
@@ -17,21 +17,22 @@ use Rattle.aprs_report.specs.declared.place.Place.TheVariants as place
 use Rattle.aprs_report.specs.declared.stamp.Stamp.{Stamp}
 use Rattle.aprs_report.specs.declared.symbol.Symbol.{Symbol}
 use Rattle.aprs_report.proofs.Readings.{reads_as}
-use Rattle.aprs_book.specs.Messages.{shown_message, state_text}
-use Rattle.aprs_book.specs.Names.{ReportsOf, Thing, reported_thing, shown_thing}
-use Rattle.aprs_book.specs.declared.lists.message.MessageRow.{MessageRow}
-use Rattle.aprs_book.specs.declared.lists.message.MessageState.{MessageState}
-use Rattle.aprs_book.specs.declared.lists.message.MessageState.TheVariants.{Unnumbered, Unanswered, Acknowledged, Rejected}
-use Rattle.aprs_book.specs.declared.lists.named.Named.{Named}
-use Rattle.aprs_book.specs.declared.lists.reply_ack.ReplyAck.{ReplyAck}
-use Rattle.aprs_book.specs.declared.lists.reply_ack.ReplyAck.TheVariants.{NotAwaited, Awaited, Heard}
-use Rattle.aprs_book.specs.declared.lists.station.Station.{Station}
+use Rattle.aprs_summary.specs.Messages.{state_text}
+use Rattle.aprs_summary.specs.Names.{ReportsOf, Thing, reported_thing, shown_thing}
+use Rattle.aprs_summary.specs.declared.lists.message.MessageState.{MessageState}
+use Rattle.aprs_summary.specs.declared.lists.message.MessageState.TheVariants.{Unnumbered, Unanswered, Acknowledged, Rejected}
+use Rattle.aprs_summary.specs.declared.lists.named.Named.{Named}
+use Rattle.aprs_summary.specs.declared.lists.reply_ack.ReplyAck.{ReplyAck}
+use Rattle.aprs_summary.specs.declared.lists.reply_ack.ReplyAck.TheVariants.{NotAwaited, Awaited, Heard}
+use Rattle.aprs_summary.specs.declared.lists.station.Station.{Station}
 use Rattle.aprs_table.specs.Cells.{ambiguity_field, compressed_field, stamp_field}
 use Rattle.aprs_table.specs.Shape.{IsField}
 use Rattle.aprs_table.proofs.Frees.{AreFree, Free, Plain, free_call, free_decimal, free_degrees, free_moment, free_name, free_shown, free_stamp, free_word}
 use Rattle.aprs_lists.specs.Lines.{tabbed_line}
-use Rattle.aprs_lists.specs.Messages.{answer_fields, id_or_nothing, message_columns, message_table_fields, message_table_line, reply_ack_fields}
-use Rattle.aprs_lists.specs.Shape.{HasAllFieldsOf, HasName}
+use Rattle.aprs_messages.specs.Copies.{Message}
+use Rattle.aprs_lists.specs.Class.{class_text, is_announcement, is_answer, is_bulletin, is_query, is_telemetry, is_weather_bulletin}
+use Rattle.aprs_lists.specs.Told.{Told, answer_fields, bytes_or_nothing, call_or_nothing, message_columns, message_number, moment_or_nothing, net_fields, reply_ack_fields, told_fields, told_line}
+use Rattle.aprs_lists.specs.Shape.{HasAllFieldsOf, HasCall, HasName}
 use Rattle.aprs_lists.specs.Stations.{position_fields, position_in, station_columns, station_table_fields, station_table_line, status_fields, status_in}
 use Rattle.aprs_lists.specs.Things.{named_fields, placed_fields, thing_columns, thing_line_in, thing_table_line}
 
@@ -68,40 +69,76 @@ reply_free NotAwaited = (tt, (tt, tt))
 reply_free Awaited = (free_word (codes "unanswered") refl, (tt, tt))
 reply_free (Heard moment) = (free_word (codes "acknowledged") refl, (free_moment moment, tt))
 
-four : (o : Option ℕ) (to : List ℕ) (r : ReplyAck)
-    → length (answer_fields o to ++ reply_ack_fields r) ≡ 4
-four None to NotAwaited = refl
-four None to Awaited = refl
-four None to (Heard moment) = refl
-four (Some answered) to NotAwaited = refl
-four (Some answered) to Awaited = refl
-four (Some answered) to (Heard moment) = refl
+either_free : (b : Bool) (x y : List ℕ) → Free x → Free y → Free (if b then x else y)
+either_free true x y h k = h
+either_free false x y h k = k
 
-pub message_line : (x : MessageRow) → IsCall x.source
-    → HasAllFieldsOf message_columns (message_table_line x)
-message_line x call =
-    let to = (shown_message x).addressee in
+class_free : (m : Message) → Free (class_text m)
+class_free m =
+    either_free (is_bulletin m.addressee) _ _ (free_word (codes "bulletin") refl)
+    (either_free (is_announcement m.addressee) _ _ (free_word (codes "announcement") refl)
+    (either_free (is_weather_bulletin m.addressee) _ _ (free_word (codes "weather-bulletin") refl)
+    (either_free (is_telemetry m.text) _ _ (free_word (codes "telemetry") refl)
+    (either_free (is_query m.text) _ _ (free_word (codes "query") refl)
+    (either_free (is_answer m.id m.text) _ _ (free_word (codes "answer") refl)
+    (free_word (codes "message") refl))))))
+
+gate_free : (o : Option Call) → HasCall o → Free (call_or_nothing o)
+gate_free None h = tt
+gate_free (Some call) h = free_call call h
+
+settled_free : (o : Option ℕ) → Free (moment_or_nothing o)
+settled_free None = tt
+settled_free (Some moment) = free_moment moment
+
+net_free : (t : Told) → HasCall t.gate → AreFree (net_fields t)
+net_free t gate = (
+  gate_free t.gate gate,
+  (
+    class_free t.message,
+    (
+      free_shown (bytes_or_nothing (message_number t.message)),
+      (state_free t.outcome, (settled_free t.settled, tt)),
+    ),
+  ),
+)
+
+nine : (o : Option ℕ) (to : List ℕ) (r : ReplyAck) (t : Told)
+    → length (answer_fields o to ++ (reply_ack_fields r ++ net_fields t)) ≡ 9
+nine None to NotAwaited t = refl
+nine None to Awaited t = refl
+nine None to (Heard moment) t = refl
+nine (Some answered) to NotAwaited t = refl
+nine (Some answered) to Awaited t = refl
+nine (Some answered) to (Heard moment) t = refl
+
+pub message_line : (t : Told) → IsCall t.message.source → HasCall t.gate
+    → HasAllFieldsOf message_columns (told_line t)
+message_line t call gate =
+    let to = t.message.addressee in
     record {
-      fields = message_table_fields x;
+      fields = told_fields t;
       count =
           ap (λ (n : ℕ). suc (suc (suc (suc (suc (suc (suc n)))))))
-          (four x.answered to x.reply_ack);
-      are_fields = are_fields (message_table_fields x) (
-        free_call x.source call,
+          (nine t.answered to t.reply_ack t);
+      are_fields = are_fields (told_fields t) (
+        free_call t.message.source call,
         (
           free_shown to,
           (
-            free_shown (id_or_nothing (shown_message x).id),
+            free_shown (bytes_or_nothing t.message.id),
             (
-              free_shown (shown_message x).text,
+              free_shown t.message.text,
               (
-                state_free x.state,
+                state_free t.state,
                 (
-                  free_moment x.first,
+                  free_moment t.first,
                   (
-                    free_moment x.last,
-                    are_append (answer_fields x.answered to) (reply_ack_fields x.reply_ack)
-                        (answer_free x.answered to) (reply_free x.reply_ack),
+                    free_moment t.last,
+                    are_append (answer_fields t.answered to)
+                        (reply_ack_fields t.reply_ack ++ net_fields t) (answer_free t.answered to)
+                        (are_append (reply_ack_fields t.reply_ack) (net_fields t)
+                        (reply_free t.reply_ack) (net_free t gate)),
                   ),
                 ),
               ),

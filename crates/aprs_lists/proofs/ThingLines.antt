@@ -1,7 +1,7 @@
 -- The table of objects and items, of a walk over them, and the fields of its lines.
 use Rattle.aprs_lists.proofs.Common.{◌≡◌, ◌∷◌, ◌++◌, [], ℕ, Bool, List, ap, flat_map, map, refl, BookValue, Call, Received, call_text, key_of, millis_of, moment_text, shown_text}
-use Rattle.aprs_book.specs.Names.{ReportsNamed, Thing, shown_report}
-use Rattle.aprs_book.specs.declared.lists.named.Named.{Named}
+use Rattle.aprs_summary.specs.Names.{ReportsNamed, Thing, shown_report}
+use Rattle.aprs_summary.specs.declared.lists.named.Named.{Named}
 use Rattle.aprs_lists.specs.Lines.{tabbed_line}
 use Rattle.aprs_lists.specs.Things.{IsThingsTable, named_fields, report_table_line, thing_columns, thing_table_line}
 use Rattle.aprs_report.specs.Object.{live_text}

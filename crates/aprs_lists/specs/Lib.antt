@@ -1,6 +1,12 @@
 -- Definitions that contracts of these tables cite.
+pub mod Class
+pub mod Examples
 pub mod Lines
 pub mod Messages
+pub mod Net
+pub mod Said
 pub mod Shape
 pub mod Stations
 pub mod Things
+pub mod Told
+pub mod Traffic

@@ -1,16 +1,15 @@
 -- Each line of the tables has as many fields as its table has columns.
 use Rattle.std.specs.Prelude.{◌≡◌, ℕ, List, length, All, Option, None, Some}
-use Rattle.aprs_ax25.specs.Callsign.{IsCall}
+use Rattle.aprs_ax25.specs.Callsign.{Call, IsCall}
 use Rattle.aprs_log.specs.Receiver.{IsName}
 use Rattle.aprs_log.specs.Reception.{Received}
 use Rattle.aprs_laws.specs.Key.{key_of}
-use Rattle.aprs_book.specs.Names.{ReportsOf, shown_thing}
-use Rattle.aprs_book.specs.declared.lists.message.MessageRow.{MessageRow}
-use Rattle.aprs_book.specs.declared.lists.named.Named.{Named}
-use Rattle.aprs_book.specs.declared.lists.station.Station.{Station}
+use Rattle.aprs_summary.specs.Names.{ReportsOf, shown_thing}
+use Rattle.aprs_summary.specs.declared.lists.named.Named.{Named}
+use Rattle.aprs_summary.specs.declared.lists.station.Station.{Station}
 use Rattle.aprs_table.specs.Shape.{IsField}
 use Rattle.aprs_lists.specs.Lines.{tabbed_line}
-use Rattle.aprs_lists.specs.Messages.{message_columns, message_table_line}
+use Rattle.aprs_lists.specs.Told.{Told, message_columns, told_line}
 use Rattle.aprs_lists.specs.Stations.{station_columns, station_table_line}
 use Rattle.aprs_lists.specs.Things.{thing_columns, thing_table_line}
 
@@ -27,10 +26,15 @@ abbrev pub HasName : Option Received → Type 0
 HasName None = Unit {0}
 HasName (Some x) = IsName x.receiver
 
--- The line of each message from a callsign has all fields.
+-- Where a gate is known, it has a callsign.
+abbrev pub HasCall : Option Call → Type 0
+HasCall None = Unit {0}
+HasCall (Some call) = IsCall call
+
+-- The line of each message from a callsign, passed on by one or by none, has all fields.
 abbrev pub MessageLinesHaveAllFields : Type 0
-MessageLinesHaveAllFields =
-    (x : MessageRow) → IsCall x.source → HasAllFieldsOf message_columns (message_table_line x)
+MessageLinesHaveAllFields = (t : Told) → IsCall t.message.source → HasCall t.gate
+    → HasAllFieldsOf message_columns (told_line t)
 
 -- The line of each station with a callsign that named receivers heard has all fields.
 abbrev pub StationLinesHaveAllFields : Type 0

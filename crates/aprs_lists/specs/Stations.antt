@@ -10,9 +10,9 @@ use Rattle.aprs_report.specs.Reading.{Value, position, status}
 use Rattle.aprs_laws.specs.BookValue.{BookValue}
 use Rattle.aprs_laws.specs.Gap.{millis_of}
 use Rattle.aprs_laws.specs.Key.{key_of}
-use Rattle.aprs_book.specs.Reports.{report_of}
-use Rattle.aprs_book.specs.Stations.{ReportsStations}
-use Rattle.aprs_book.specs.declared.lists.station.Station.{Station}
+use Rattle.aprs_summary.specs.Reports.{report_of}
+use Rattle.aprs_summary.specs.Stations.{ReportsStations}
+use Rattle.aprs_summary.specs.declared.lists.station.Station.{Station}
 use Rattle.aprs_table.specs.Cells.{stamp_field}
 use Rattle.aprs_lists.specs.Lines.{tabbed_line}
 use Rattle.aprs_lists.specs.Things.{placed_fields}

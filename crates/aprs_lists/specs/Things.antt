@@ -13,9 +13,9 @@ use Rattle.aprs_report.specs.Object.{live_text}
 use Rattle.aprs_laws.specs.BookValue.{BookValue}
 use Rattle.aprs_laws.specs.Gap.{millis_of}
 use Rattle.aprs_laws.specs.Key.{key_of}
-use Rattle.aprs_book.specs.Names.{ReportsNamed, Thing}
-use Rattle.aprs_book.specs.Reports.{report_of}
-use Rattle.aprs_book.specs.declared.lists.named.Named.{Named}
+use Rattle.aprs_summary.specs.Names.{ReportsNamed, Thing}
+use Rattle.aprs_summary.specs.Reports.{report_of}
+use Rattle.aprs_summary.specs.declared.lists.named.Named.{Named}
 use Rattle.aprs_table.specs.Cells.{ambiguity_field, compressed_field, latitude_field, longitude_field, stamp_field, symbol_field}
 use Rattle.aprs_lists.specs.Lines.{tabbed_line}
 

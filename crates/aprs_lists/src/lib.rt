@@ -1,14 +1,22 @@
 //! The tables of what is listed of a book: its messages, its stations, its objects and items.
 #![tactic(auto)]
 
+mod class;
+mod examples;
 mod laws;
 mod line;
 mod messages;
+mod net;
+mod said;
 mod stations;
 mod table;
 mod things;
+mod told;
+mod traffic;
 
 pub use laws::listed_lines_have_all_fields;
 pub use messages::write_messages;
+pub use net::write_net_messages;
 pub use stations::write_stations;
 pub use things::write_things;
+pub use traffic::Traffic;

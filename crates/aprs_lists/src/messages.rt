@@ -1,24 +1,18 @@
-//! The table of a book's messages.
-ghost use Rattle.std.specs.Prelude.{◌≡◌, [], ◌∷◌, ◌++◌, ℕ, List, map};
+//! The table of a book's messages, as the listing has them.
+ghost use Rattle.std.specs.Prelude.{◌≡◌, ℕ, List};
 ghost use Rattle.std.specs.List.{flat_map};
-ghost use Rattle.std.specs.Option.{option_map};
 ghost use Rattle.aprs_io.specs.Device.{Sends};
 ghost use Rattle.aprs_io.specs.Outlet.{Puts};
-ghost use Rattle.aprs_table.specs.Cells.{cell_text};
 ghost use Rattle.aprs_lists.specs.Messages as Spec;
+ghost use Rattle.aprs_lists.specs.Told.{listed_line, listed_outcome, listed_settled, listed_told, told_of};
 
-use crate::line::put_line;
 use crate::table::{Lines, write_table};
-use aprs_book::{MessageRow, MessageWalk, ReplyAck, Summary};
+use crate::told::{MESSAGE_COLUMNS, MessageLine, put_message};
 use aprs_io::{Counted, Outlet, WriteFault};
-use aprs_table::Cell;
+use aprs_log::Moment;
+use aprs_summary::{MessageRow, MessageState, MessageWalk, ReplyAck, Summary};
 use std::alloc::Allocator;
 use std::io::Write;
-
-/// The names of the columns.
-const COLUMNS: &[u8] = b"\
-    source\taddressee\tid\ttext\tstate\tfirst\tlast\tanswer\tanswer_source\t\
-    reply_ack\treply_answer\n";
 
 /// Writes the table of the messages of a book, from its summary: the names of the columns, and
 /// exactly one line for each message, ascending by source, addressee, text and id. One without an
@@ -30,81 +24,66 @@ pub fn write_messages<W: Write, A: Allocator + Copy>(
     ensures { (text : List ℕ) × Spec.IsMessagesTable summary.now text
         × Sends W.contents result w.old w.new text }
 {
-    write_table(w, COLUMNS, summary.messages())
+    write_table(w, MESSAGE_COLUMNS, summary.messages())
 }
 
 impl<'s, 't, A: Allocator + Copy> Lines for MessageWalk<'s, 't, A> {
-    ghost lines = { flat_map Spec.message_table_line };
+    ghost lines = { flat_map listed_line };
 
     /// Puts the lines of the messages, in their order.
     fn put_lines<W: Write>(self, out: &mut Outlet<'_, W>) -> Result<(), WriteFault> {
         for message in self {
-            put_message(out, &message)?;
+            put_listed(out, message)?;
         }
         Ok(())
     }
 }
 
-/// Puts the line of a message. Fails where the output is refused.
-fn put_message<W: Write>(
-    out: &mut Outlet<'_, W>,
-    message: &MessageRow<'_>,
-) -> Result<(), WriteFault>
-    ensures { Puts W.contents result out.old out.new (Spec.message_table_line message.now) }
+/// Puts the line of a message of the listing. Fails where the output is refused.
+fn put_listed<W: Write>(out: &mut Outlet<'_, W>, message: MessageRow<'_>) -> Result<(), WriteFault>
+    ensures { Puts W.contents result out.old out.new (listed_line message.entry) }
 {
-    let source = Cell::Call(message.source.copy());
-    let said = [
-        Cell::Shown(message.addressee),
-        Cell::Shown(id_or_nothing(message.id)),
-        Cell::Shown(message.text),
-        Cell::Plain(message.state.text()),
-        Cell::Moment(message.first),
-        Cell::Moment(message.last),
-    ];
-    let answers = answer_cells(message);
-    put_line(out, &source, &said, &answers)
+    let line = line_of(message);
+    put_message(out, &line)
 }
 
-/// When a message was last answered and by whom, and what reply-acks say of it.
-fn answer_cells<'a>(message: &MessageRow<'a>) -> [Cell<'a>; 4]
-    ensures { map cell_text result
-        ≡ Spec.answer_fields message.now.answered message.now.addressee.now
-        ++ Spec.reply_ack_fields message.now.reply_ack }
+/// What the table tells of a message of the listing.
+fn line_of<'t>(message: MessageRow<'t>) -> MessageLine<'t>
+    ensures { told_of result ≡ listed_told message.entry }
 {
-    let (answered, by) = answer_of(message);
-    let (reply_ack, replied) = reply_ack_of(message.reply_ack);
-    [answered, by, reply_ack, replied]
-}
-
-/// When a message was last answered, and by whom: by its addressee. Nothing where it wasn't.
-fn answer_of<'a>(message: &MessageRow<'a>) -> (Cell<'a>, Cell<'a>)
-    ensures { cell_text result.0 ∷ cell_text result.1 ∷ []
-        ≡ Spec.answer_fields message.now.answered message.now.addressee.now }
-{
-    match message.answered {
-        Some(answered) => (Cell::Moment(answered), Cell::Shown(message.addressee)),
-        None => (Cell::Plain(b""), Cell::Plain(b"")),
+    MessageLine {
+        source: message.source,
+        addressee: message.addressee,
+        text: message.text,
+        id: message.id,
+        state: message.state,
+        first: message.first,
+        last: message.last,
+        answered: message.answered,
+        reply_ack: message.reply_ack,
+        gate: None,
+        outcome: outcome_of(message.state, message.reply_ack),
+        settled: settled_by(message.answered, message.reply_ack),
     }
 }
 
-/// What came of the number that a message has for reply-acks, and when it was last acknowledged.
-/// Nothing where it has none, as a message with an id has none.
-fn reply_ack_of(reply_ack: ReplyAck) -> (Cell<'static>, Cell<'static>)
-    ensures { cell_text result.0 ∷ cell_text result.1 ∷ [] ≡ Spec.reply_ack_fields reply_ack }
+/// What came of a number, by what came of an id and by reply-acks.
+fn outcome_of(state: MessageState, reply_ack: ReplyAck) -> MessageState
+    ensures { result ≡ listed_outcome state reply_ack }
 {
-    match reply_ack {
-        ReplyAck::NotAwaited => (Cell::Plain(b""), Cell::Plain(b"")),
-        ReplyAck::Awaited => (Cell::Plain(b"unanswered"), Cell::Plain(b"")),
-        ReplyAck::Heard(moment) => (Cell::Plain(b"acknowledged"), Cell::Moment(moment)),
+    match (state, reply_ack) {
+        (MessageState::Unnumbered, ReplyAck::Awaited) => MessageState::Unanswered,
+        (MessageState::Unnumbered, ReplyAck::Heard(_)) => MessageState::Acknowledged,
+        _ => state,
     }
 }
 
-/// The id, or nothing where there is none.
-fn id_or_nothing<'a>(id: Option<&'a [u8]>) -> &'a [u8]
-    ensures { result.now ≡ Spec.id_or_nothing (option_map (λ x. x.now) id.entry) }
+/// When that came.
+fn settled_by(answered: Option<Moment>, reply_ack: ReplyAck) -> Option<Moment>
+    ensures { result ≡ listed_settled answered reply_ack }
 {
-    match id {
-        Some(id) => id,
-        None => b"",
+    match (answered, reply_ack) {
+        (None, ReplyAck::Heard(moment)) => Some(moment),
+        _ => answered,
     }
 }

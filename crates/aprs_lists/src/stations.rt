@@ -8,9 +8,9 @@ ghost use Rattle.aprs_lists.specs.Stations as Spec;
 
 use crate::line::put_line;
 use crate::table::{Lines, write_table};
-use aprs_book::{Heard, HeardRoom, Station, StationWalk, Summary};
 use aprs_io::{Counted, Outlet, WriteFault};
 use aprs_report::Report;
+use aprs_summary::{Heard, HeardRoom, Station, StationWalk, Summary};
 use aprs_table::Cell;
 use itoa::Buffer;
 use std::alloc::Allocator;

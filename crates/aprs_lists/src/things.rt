@@ -9,9 +9,9 @@ ghost use Rattle.aprs_lists.specs.Things as Spec;
 
 use crate::line::put_line;
 use crate::table::{Lines, write_table};
-use aprs_book::{Heard, HeardRoom, NamedWalk, Summary};
 use aprs_io::{Counted, Outlet, WriteFault};
 use aprs_report::{Place, Report, Stamp, Symbol, live_text};
+use aprs_summary::{Heard, HeardRoom, NamedWalk, Summary};
 use aprs_table::Cell;
 use std::alloc::Allocator;
 use std::io::Write;

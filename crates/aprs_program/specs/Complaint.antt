@@ -4,13 +4,13 @@ use Rattle.std.specs.Fmt.{decimal}
 use Rattle.aprs_log.specs.Fault.{log_cause_name}
 use Rattle.aprs_log.specs.declared.fault.LogCause.{LogCause}
 use Rattle.aprs_log.specs.declared.fault.LogCause.TheVariants as cause
-use Rattle.aprs_booktext.specs.Fault.{book_cause_name}
-use Rattle.aprs_booktext.specs.declared.fault.BookCause.{BookCause}
-use Rattle.aprs_booktext.specs.declared.fault.BookCause.TheVariants as book
-use Rattle.aprs_tool.specs.declared.fault.InputFault.TheVariants.{Log, Book, Memory, OtherGap, Narrower}
-use Rattle.aprs_tool.specs.declared.fault.RunFault.{RunFault}
-use Rattle.aprs_tool.specs.declared.fault.RunFault.TheVariants.{Input, Write}
-use Rattle.aprs_tool.specs.declared.fault.RunFault.TheVariants as run
+use Rattle.aprs_bookfile.specs.Fault.{book_cause_name}
+use Rattle.aprs_bookfile.specs.declared.fault.BookCause.{BookCause}
+use Rattle.aprs_bookfile.specs.declared.fault.BookCause.TheVariants as book
+use Rattle.aprs_runs.specs.declared.fault.InputFault.TheVariants.{Log, Book, Memory, OtherGap, Narrower}
+use Rattle.aprs_runs.specs.declared.fault.RunFault.{RunFault}
+use Rattle.aprs_runs.specs.declared.fault.RunFault.TheVariants.{Input, Write}
+use Rattle.aprs_runs.specs.declared.fault.RunFault.TheVariants as run
 use Rattle.aprs_program.specs.declared.complaint.Complaint.{Complaint}
 use Rattle.aprs_program.specs.declared.complaint.Complaint.TheVariants as why
 

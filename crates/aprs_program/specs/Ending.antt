@@ -1,8 +1,8 @@
 -- How a program ends.
 use Rattle.std.specs.Prelude.{◌≡◌, ℕ, Bool, true, false, List, Option, None, Some, Result, Ok, Err, slice_get, unwrap_or, codes}
-use Rattle.aprs_tool.specs.Status.{status_of_fault}
-use Rattle.aprs_tool.specs.declared.fault.RunFault.{RunFault}
-use Rattle.aprs_tool.specs.declared.fault.RunFault.TheVariants.{Input}
+use Rattle.aprs_runs.specs.ExitStatus.{status_of_fault}
+use Rattle.aprs_runs.specs.declared.fault.RunFault.{RunFault}
+use Rattle.aprs_runs.specs.declared.fault.RunFault.TheVariants.{Input}
 use Rattle.aprs_program.specs.Complaint.{run_words, status, words_of}
 use Rattle.aprs_program.specs.declared.complaint.Complaint.{Complaint}
 use Rattle.aprs_program.specs.declared.complaint.Complaint.TheVariants as why

@@ -9,16 +9,16 @@ use Rattle.aprs_convert.specs.Ends.{Runs}
 use Rattle.aprs_convert.specs.Got.{OfGot}
 use Rattle.aprs_command.specs.declared.jobs.Job.{Job}
 use Rattle.aprs_command.specs.declared.jobs.Job.TheVariants as job
-use Rattle.aprs_tool.specs.Devices.{AsksEach, AsksMerge, CallsOutput}
-use Rattle.aprs_tool.specs.HistoryOf.{IsHistoryOf}
-use Rattle.aprs_tool.specs.Merge.{IsTextOfBook}
-use Rattle.aprs_tool.specs.Outcome.{IsToldOf, RefusesFor, WritesFor}
-use Rattle.aprs_tool.specs.Run.{AnswersAs}
-use Rattle.aprs_tool.specs.Several.{GiveUnion, IsFirstRefused, OfEach}
-use Rattle.aprs_tool.specs.Show.{IsListingOf}
-use Rattle.aprs_tool.specs.TableOf.{IsTableOf}
-use Rattle.aprs_tool.specs.Widen.{GivesSetWithin, IsNotWidened}
-use Rattle.aprs_tool.specs.declared.fault.RunFault.{RunFault}
+use Rattle.aprs_runs.specs.Devices.{AsksEach, AsksMerge, CallsOutput}
+use Rattle.aprs_runs.specs.HistoryOf.{IsHistoryOf}
+use Rattle.aprs_runs.specs.Merge.{IsTextOfBook}
+use Rattle.aprs_runs.specs.Outcome.{IsToldOf, RefusesFor, WritesFor}
+use Rattle.aprs_runs.specs.RunEnds.{AnswersAs}
+use Rattle.aprs_runs.specs.Several.{GiveUnion, IsFirstRefused, OfEach}
+use Rattle.aprs_runs.specs.Show.{IsListingOf}
+use Rattle.aprs_runs.specs.TableOf.{IsTableOf}
+use Rattle.aprs_runs.specs.Widen.{GivesSetWithin, IsNotWidened}
+use Rattle.aprs_runs.specs.declared.fault.RunFault.{RunFault}
 use Rattle.aprs_program.specs.declared.work.Gathering.{Gathering}
 use Rattle.aprs_program.specs.declared.work.Gathering.TheVariants as gathering
 use Rattle.aprs_program.specs.declared.work.Single.{Single}

@@ -1,17 +1,17 @@
 //! Complaints of a program.
 ghost use Rattle.std.specs.Prelude.{◌≡◌, ◌≢◌, ℕ, ◌++◌, codes};
-ghost use Rattle.aprs_tool.specs.Status.{status_of_book_cause, status_of_cause, status_of_fault, status_of_input};
-ghost use Rattle.aprs_tool.specs.declared.fault.RunFault.TheVariants.{Input};
+ghost use Rattle.aprs_runs.specs.ExitStatus.{status_of_book_cause, status_of_cause, status_of_fault, status_of_input};
+ghost use Rattle.aprs_runs.specs.declared.fault.RunFault.TheVariants.{Input};
 ghost use Rattle.std.specs.Fmt.{decimal};
 ghost use Rattle.std.specs.IoError.{error_kind};
 ghost use Rattle.aprs_io.specs.Device.{Sends};
 ghost use Rattle.aprs_io.specs.Outlet.{Puts};
 ghost use Rattle.aprs_program.specs.Complaint as Spec;
 
-use aprs_booktext::BookCause;
+use aprs_bookfile::BookCause;
 use aprs_io::{Counted, Outlet, WriteFault};
 use aprs_log::LogCause;
-use aprs_tool::{InputFault, RunFault};
+use aprs_runs::{InputFault, RunFault};
 use itoa::Buffer;
 use std::io::{self, ErrorKind, Write};
 

@@ -3,7 +3,7 @@ ghost use Rattle.std.specs.Prelude.{◌≡◌, map, string_bytes};
 ghost use Rattle.aprs_program.specs.Ending as Spec;
 
 use crate::complaint::{Complaint, complaint_of};
-use aprs_tool::RunFault;
+use aprs_runs::RunFault;
 
 /// What a complaint names where an input has no path.
 const STANDARD_INPUT: &str = "standard input";

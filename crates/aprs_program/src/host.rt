@@ -6,10 +6,12 @@ use crate::ending::{complaint_after, input_name};
 use crate::opening::{OpenFault, Opener, open_inputs};
 use crate::retried::Retried;
 use crate::work::{Work, run_work};
+use aprs_command::{FoldJob, JobFault};
+use aprs_fold::{MAX_BOOK, SourceRange};
 use aprs_io::Counted;
 use aprs_laws::Gap;
 use aprs_range::BookRange;
-use aprs_tool::{FoldJob, InputFault, JobFault, MAX_BOOK, RunFault, SourceRange, fold_range_run};
+use aprs_runs::{InputFault, RunFault, fold_range_run};
 use std::alloc::{Allocator, Global};
 use std::env;
 use std::fs::File;
@@ -58,8 +60,8 @@ impl Read for HostInput {
 /// A program on its host, with the name that it has in what it reports.
 #[derive(Clone, Copy)]
 pub struct Program<'a> {
-    rt: &'a HostRuntime,
-    name: &'a str,
+    pub(crate) rt: &'a HostRuntime,
+    pub(crate) name: &'a str,
 }
 
 impl Opener for Program<'_> {
@@ -123,17 +125,21 @@ impl<'a> Program<'a> {
     /// job has a range, its rows alone are read of a file in which bisection finds them. The output
     /// has no buffer of its own, so that its header is there as soon as the fold sends it. Where
     /// the books are only checked, they are read whole, and nothing is written. Returns the exit
-    /// status.
+    /// status. Where the job has an old book, it does as `do_news` says.
     pub fn do_fold(&mut self, job: FoldJob) -> ExitCode {
         let FoldJob {
             gap,
             from,
             until,
+            new_to,
             inputs,
             is_check,
         } = job;
-        let paths = inputs.as_slice();
         let range = SourceRange { from, until };
+        if let Some(old) = new_to {
+            return self.do_news(gap, &range, old, inputs, is_check);
+        }
+        let paths = inputs.as_slice();
         let mut inputs = match open_inputs(self, self.rt.alloc(), paths) {
             Ok(inputs) => inputs,
             Err(complaint) => return self.report(complaint),
@@ -178,7 +184,7 @@ impl<'a> Program<'a> {
     /// were read of it, its file is read from its beginning, and the file's first fault is reported
     /// in its place. The file may have changed: where no fault is found in it, the given one is
     /// reported. Its line is then counted among the rows of the range.
-    fn report_input(
+    pub(crate) fn report_input(
         &self,
         gap: Gap,
         name: &str,
@@ -238,13 +244,13 @@ impl<'a> Program<'a> {
 }
 
 /// Whether a range has a source to begin with, or one to end before.
-fn has_bounds(range: &SourceRange) -> bool {
+pub(crate) fn has_bounds(range: &SourceRange) -> bool {
     range.from.is_some() || range.until.is_some()
 }
 
 /// The inputs, each with the rows of the range alone where they can be found. Fails where an
 /// allocation failed.
-fn parts_of(
+pub(crate) fn parts_of(
     alloc: Global,
     inputs: Vec<Counted<HostInput>>,
     range: &SourceRange,

@@ -3,8 +3,10 @@
 #![tactic(auto)]
 
 mod complaint;
+mod digested;
 mod ending;
 mod host;
+mod news;
 mod opening;
 mod retried;
 mod texts;

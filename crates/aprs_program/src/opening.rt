@@ -114,7 +114,7 @@ pub fn open_inputs<'t, O: Opener, A: Allocator>(
 }
 
 /// What is complained of where the input of this path can't be opened.
-fn complaint_of_open<'t>(path: &'t [u8], fault: OpenFault) -> Complaint<'t>
+pub(crate) fn complaint_of_open<'t>(path: &'t [u8], fault: OpenFault) -> Complaint<'t>
     ensures { result ≡ complaint_at path.entry fault }
 {
     match fault {

@@ -2,17 +2,18 @@
 ghost use Rattle.std.specs.Prelude.{◌≡◌, ◌≤◌, length};
 ghost use Rattle.aprs_command.specs.Arguments.{inputs_of, paths_of};
 ghost use Rattle.aprs_io.specs.Input.{most_input};
-ghost use Rattle.aprs_tool.specs.Devices.{CallsOutput};
-ghost use Rattle.aprs_tool.specs.Outcome.{IsToldOf, RefusesFor, WritesFor};
-ghost use Rattle.aprs_tool.specs.Several.{GiveUnion, IsFirstRefused, OfEach};
+ghost use Rattle.aprs_runs.specs.Devices.{CallsOutput};
+ghost use Rattle.aprs_runs.specs.Outcome.{IsToldOf, RefusesFor, WritesFor};
+ghost use Rattle.aprs_runs.specs.Several.{GiveUnion, IsFirstRefused, OfEach};
 ghost use Rattle.aprs_program.specs.Work as Spec;
 
+use aprs_command::{Job, Table};
+use aprs_convert::Form;
 use aprs_io::Counted;
 use aprs_laws::Gap;
 use aprs_log::MAX_INPUT;
-use aprs_tool::{
-    Form, Job, RunFault, Table, check_run, convert_run, history_run, merge_run, show_run,
-    table_run, widen_run,
+use aprs_runs::{
+    RunFault, check_run, convert_run, history_run, merge_run, show_run, table_run, widen_run,
 };
 use std::alloc::Allocator;
 use std::io::{Read, Write};

@@ -12,9 +12,9 @@ use Rattle.aprs_io.specs.Cut.{Lacks}
 use Rattle.aprs_log.specs.Moment.{moment_text_in}
 use Rattle.aprs_log.specs.declared.moment_form.MomentForm.{MomentForm}
 use Rattle.aprs_laws.specs.Row.{Row, last_moment}
-use Rattle.aprs_booktext.proofs.OneText.{has_line}
-use Rattle.aprs_booktext.proofs.Spellings.{row_fields_lack}
-use Rattle.aprs_booktext.specs.Text.{IsBookRow, row_line}
+use Rattle.aprs_bookfile.proofs.OneText.{has_line}
+use Rattle.aprs_bookfile.proofs.Spellings.{row_fields_lack}
+use Rattle.aprs_bookfile.specs.Text.{IsBookRow, row_line}
 
 -- one text has one last field
 same_last : (a b x y : List ℕ) → Lacks 32 b → Lacks 32 y → a ++ 32 ∷ b ≡ x ++ 32 ∷ y → b ≡ y

@@ -13,11 +13,11 @@ use Rattle.aprs_io.specs.Cut.{Lacks, is_byte}
 use Rattle.aprs_log.specs.LogText.{text_of_lines}
 use Rattle.aprs_log.specs.declared.moment_form.MomentForm.{MomentForm}
 use Rattle.aprs_laws.specs.Row.{Row, row_key}
-use Rattle.aprs_booktext.proofs.OneText.{row_lacks}
-use Rattle.aprs_booktext.specs.RowLines.{ended_by_lf}
-use Rattle.aprs_booktext.specs.Text.{IsBookRow, IsBookRows, book_text, end_line, row_line}
-use Rattle.aprs_booktext.specs.Version.{form_of, header_of}
-use Rattle.aprs_booktext.specs.declared.version.Version.{Version}
+use Rattle.aprs_bookfile.proofs.OneText.{row_lacks}
+use Rattle.aprs_bookfile.specs.RowLines.{ended_by_lf}
+use Rattle.aprs_bookfile.specs.Text.{IsBookRow, IsBookRows, book_text, end_line, row_line}
+use Rattle.aprs_bookfile.specs.Version.{form_of, header_of}
+use Rattle.aprs_bookfile.specs.declared.version.Version.{Version}
 use Rattle.aprs_fold.specs.Range.{is_within, rows_of_sources}
 use Rattle.aprs_fold.specs.declared.range.SourceRange.{SourceRange}
 use Rattle.aprs_range.specs.Cuts.{HasStretch}

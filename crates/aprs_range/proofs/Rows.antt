@@ -15,8 +15,8 @@ use Rattle.aprs_laws.proofs.Orders.{call_total}
 use Rattle.aprs_laws.specs.Lists.{Ordered, ◌∈◌}
 use Rattle.aprs_laws.specs.Order.{IsBelow}
 use Rattle.aprs_laws.specs.Row.{Row, row_cmp, row_key}
-use Rattle.aprs_booktext.proofs.OneText.{All-middle, end_lacks, row_lacks}
-use Rattle.aprs_booktext.specs.Text.{IsBookRow, end_line, row_line}
+use Rattle.aprs_bookfile.proofs.OneText.{All-middle, end_lacks, row_lacks}
+use Rattle.aprs_bookfile.specs.Text.{IsBookRow, end_line, row_line}
 use Rattle.aprs_fold.proofs.Parts.{row_sources}
 use Rattle.aprs_fold.specs.Range.{is_until}
 use Rattle.aprs_range.specs.Cuts.{BeginsLine, CutsRows, EndsBefore, IsCutAt, IsLow, RowsStand}

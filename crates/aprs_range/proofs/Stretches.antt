@@ -15,10 +15,10 @@ use Rattle.aprs_log.specs.declared.moment_form.MomentForm.{MomentForm}
 use Rattle.aprs_laws.proofs.Lists.{in_left, in_right}
 use Rattle.aprs_laws.specs.Lists.{◌∈◌}
 use Rattle.aprs_laws.specs.Row.{Row, row_key}
-use Rattle.aprs_booktext.proofs.Versions.{header_lacks}
-use Rattle.aprs_booktext.specs.Text.{IsBookRows, book_text, end_line, row_line}
-use Rattle.aprs_booktext.specs.Version.{form_of, header_of}
-use Rattle.aprs_booktext.specs.declared.version.Version.{Version}
+use Rattle.aprs_bookfile.proofs.Versions.{header_lacks}
+use Rattle.aprs_bookfile.specs.Text.{IsBookRows, book_text, end_line, row_line}
+use Rattle.aprs_bookfile.specs.Version.{form_of, header_of}
+use Rattle.aprs_bookfile.specs.declared.version.Version.{Version}
 use Rattle.aprs_fold.specs.Range.{is_from, is_until, is_within, rows_of_sources}
 use Rattle.aprs_fold.specs.declared.range.SourceRange.{SourceRange}
 use Rattle.aprs_range.specs.Cuts.{CutsRows, HasStretch, IsCutAt, RowsStand}

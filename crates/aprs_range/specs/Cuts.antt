@@ -6,9 +6,9 @@ use Rattle.aprs_log.specs.declared.moment_form.MomentForm.{MomentForm}
 use Rattle.aprs_laws.specs.Lists.{◌∈◌, Ordered}
 use Rattle.aprs_laws.specs.Order.{IsBelow}
 use Rattle.aprs_laws.specs.Row.{Row, row_cmp, row_key}
-use Rattle.aprs_booktext.specs.Text.{IsBookRow, IsBookRows, book_text, end_line, row_line}
-use Rattle.aprs_booktext.specs.Version.{form_of, header_of}
-use Rattle.aprs_booktext.specs.declared.version.Version.{Version}
+use Rattle.aprs_bookfile.specs.Text.{IsBookRow, IsBookRows, book_text, end_line, row_line}
+use Rattle.aprs_bookfile.specs.Version.{form_of, header_of}
+use Rattle.aprs_bookfile.specs.declared.version.Version.{Version}
 use Rattle.aprs_fold.specs.Range.{rows_of_sources}
 use Rattle.aprs_fold.specs.declared.range.SourceRange.{SourceRange}
 use Rattle.aprs_range.specs.Lines.{IsJudged, ReadsLine}

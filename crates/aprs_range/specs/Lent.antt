@@ -3,9 +3,9 @@ use Rattle.std.specs.Prelude.{◌≡◌, ℕ, ◌+◌, ◌-◌, Bool, false, tru
 use Rattle.std.specs.Option.{option_map}
 use Rattle.aprs_io.specs.Cut.{is_byte}
 use Rattle.aprs_laws.specs.Row.{Row}
-use Rattle.aprs_booktext.specs.RowLines.{ended_by_lf}
-use Rattle.aprs_booktext.specs.Text.{IsBookRows, book_text, end_line}
-use Rattle.aprs_booktext.specs.declared.version.Version.{Version}
+use Rattle.aprs_bookfile.specs.RowLines.{ended_by_lf}
+use Rattle.aprs_bookfile.specs.Text.{IsBookRows, book_text, end_line}
+use Rattle.aprs_bookfile.specs.declared.version.Version.{Version}
 use Rattle.aprs_fold.specs.Range.{rows_of_sources}
 use Rattle.aprs_fold.specs.declared.range.SourceRange.{SourceRange}
 use Rattle.aprs_range.specs.declared.book_range.BookRange.{BookRange}

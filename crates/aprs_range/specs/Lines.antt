@@ -4,7 +4,7 @@ use Rattle.aprs_ax25.specs.Callsign.{Call}
 use Rattle.aprs_io.specs.Cut.{Lacks}
 use Rattle.aprs_log.specs.declared.moment_form.MomentForm.{MomentForm}
 use Rattle.aprs_laws.specs.Row.{Row, row_key}
-use Rattle.aprs_booktext.specs.Text.{IsBookRow, end_line, row_line}
+use Rattle.aprs_bookfile.specs.Text.{IsBookRow, end_line, row_line}
 use Rattle.aprs_fold.specs.Range.{is_until}
 
 -- The line stands at this place of the bytes, with an LF after it.

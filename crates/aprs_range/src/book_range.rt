@@ -1,14 +1,14 @@
 //! A reader of the rows of a range of sources in a book file.
 ghost use Rattle.std.specs.Prelude.{◌≡◌, ◌≤◌, ◌<◌, ◌++◌, ℕ, false, List, length, take, Some, IfErr, IfOk, OnErr, OnOk};
 ghost use Rattle.std.specs.Io.{ReadsAtMost};
-ghost use Rattle.aprs_booktext.specs.RowLines.{ended_by_lf};
-ghost use Rattle.aprs_booktext.specs.Version.{header_of};
+ghost use Rattle.aprs_bookfile.specs.RowLines.{ended_by_lf};
+ghost use Rattle.aprs_bookfile.specs.Version.{header_of};
 ghost use Rattle.aprs_range.specs.Lent as Spec;
 
 use crate::cut::count_lines;
 use crate::find::{Stretch, find_stretch};
 use crate::read_at::ReadAt;
-use aprs_booktext::{Version, end_line_and_lf};
+use aprs_bookfile::{Version, end_line_and_lf};
 use aprs_fold::SourceRange;
 use aprs_io::push_all;
 use arrayvec::ArrayVec;

@@ -1,7 +1,7 @@
 //! A worked example of what is lent, and a near miss. The function does nothing.
 ghost use Rattle.std.specs.Prelude.{◌≡◌, [], ◌∷◌, ◌++◌, codes};
-ghost use Rattle.aprs_booktext.specs.RowLines.{ended_by_lf};
-ghost use Rattle.aprs_booktext.specs.Text.{end_line};
+ghost use Rattle.aprs_bookfile.specs.RowLines.{ended_by_lf};
+ghost use Rattle.aprs_bookfile.specs.Text.{end_line};
 ghost use Rattle.aprs_range.specs.Lent.{with_last};
 
 /// A last line counts the lines before it and those that were lent before. What has no LF is no

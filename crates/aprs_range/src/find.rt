@@ -10,7 +10,7 @@ use crate::line::read_line;
 use crate::read_at::ReadAt;
 use crate::tail::last_line;
 use aprs_ax25::Callsign;
-use aprs_booktext::Version;
+use aprs_bookfile::Version;
 use aprs_fold::SourceRange;
 use std::alloc::Allocator;
 

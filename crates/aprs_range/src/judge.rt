@@ -3,7 +3,7 @@ ghost use Rattle.std.specs.Prelude.{◌≡◌, IfSome};
 ghost use Rattle.hex.specs.Hex.{IsBytes};
 ghost use Rattle.aprs_log.specs.declared.moment_form.MomentForm.{MomentForm};
 ghost use Rattle.aprs_laws.specs.Row.{Row};
-ghost use Rattle.aprs_booktext.specs.Text.{IsBookRow, row_line};
+ghost use Rattle.aprs_bookfile.specs.Text.{IsBookRow, row_line};
 ghost use Rattle.aprs_laws.specs.Key.{key_of};
 ghost use Rattle.aprs_fold.specs.Range.{is_until};
 ghost use Rattle.aprs_range.specs.Lines.{IsJudged};

@@ -1,11 +1,11 @@
 //! The last line of a book file.
 ghost use Rattle.std.specs.Prelude.{◌≡◌, ◌∷◌, ℕ, List, length, Some, IfSome};
-ghost use Rattle.aprs_booktext.specs.RowLines.{ended_by_lf};
-ghost use Rattle.aprs_booktext.specs.Text.{end_line};
+ghost use Rattle.aprs_bookfile.specs.RowLines.{ended_by_lf};
+ghost use Rattle.aprs_bookfile.specs.Text.{end_line};
 ghost use Rattle.aprs_range.specs.Lent.{EndsWithLast};
 
 use crate::read_at::ReadAt;
-use aprs_booktext::end_line_and_lf;
+use aprs_bookfile::end_line_and_lf;
 use aprs_io::push_all;
 use arrayvec::ArrayVec;
 use memchr::memrchr;

@@ -19,5 +19,6 @@ mod ReceiverNames
 pub mod Refusals
 pub mod Rows
 pub mod SortedTexts
+pub mod SoundOrder
 pub mod Told
 pub mod Unions

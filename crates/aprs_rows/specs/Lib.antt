@@ -12,6 +12,7 @@ pub mod Names
 pub mod OpenRow
 pub mod Packed
 pub mod Refusal
+pub mod RowWith
 pub mod Sorted
 pub mod Told
 -- What public clauses cite of lower crates.

@@ -1,12 +1,11 @@
 //! Inputs whose device gives nothing once, and then more bytes or a fault: it isn't asked again.
 
-use crate::devices::Growing;
 use crate::pieces::{RUNS, writes};
 use crate::refused_runs::MERGED_LISTING;
 use aprs_book::Gap;
 use aprs_booktext::{BookCause, read_book};
 use aprs_fixtures::{
-    DIRECT_TEXT, EMPTY_TEXT, FIRST_LINE, MERGED_TEXT, ONE_LINE, THREE_LINES, is_written_as,
+    DIRECT_TEXT, EMPTY_TEXT, FIRST_LINE, Growing, MERGED_TEXT, ONE_LINE, THREE_LINES, is_written_as,
 };
 use aprs_log::MAX_INPUT;
 use aprs_tool::{Counted, Desk, merge_run, read_input, show_run, widen_run};

@@ -1,9 +1,10 @@
 //! Merges and listings of several inputs, over devices that fail at each byte.
 
-use crate::devices::{Failing, Tight};
 use aprs_book::Gap;
 use aprs_booktext::BookCause;
-use aprs_fixtures::{DIRECT_TEXT, LOG, MERGED_TEXT, ONE_LINE, THREE_LINES, line_after};
+use aprs_fixtures::{
+    DIRECT_TEXT, Failing, LOG, MERGED_TEXT, ONE_LINE, THREE_LINES, Tight, line_after,
+};
 use aprs_kiss::Counted;
 use aprs_log::{LogCause, MAX_INPUT};
 use aprs_tool::{InputFault, RunFault, merge_run, show_run};

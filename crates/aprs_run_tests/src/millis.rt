@@ -1,13 +1,12 @@
 //! Moments to the second and to the millisecond, in lines, words, rows and texts of books.
 
-use crate::book_faults::fault_of;
 use crate::merges::is_merged_to;
 use crate::runs::converted;
 use aprs_ax25::Frame;
 use aprs_book::Book;
 use aprs_fixtures::{
     DIRECT, DIRECT_LINE, DIRECT_TEXT, EMPTY_TEXT, MERGED_TEXT, OLD_DIRECT_TEXT, OLD_EMPTY_TEXT,
-    OLD_MERGED_TEXT, ONE_LINE, WRITTEN_LINE, receiver,
+    OLD_MERGED_TEXT, ONE_LINE, WRITTEN_LINE, fault_of, receiver,
 };
 use aprs_log::{Line, LineFault, LogCause, MAX_INPUT, Moment, MomentForm, Reception, read_line};
 use aprs_tool::{Form, Job, JobFault, job};

@@ -1,9 +1,8 @@
 //! Runs over readers that give few bytes a call, over devices that are interrupted, and over
 //! devices that fail at each byte.
 
-use crate::devices::{Failing, Halting, Stuttering, Tight};
 use crate::runs::FRAME;
-use aprs_fixtures::{LOG, SHORT_LOG, line_after};
+use aprs_fixtures::{Failing, Halting, LOG, SHORT_LOG, Stuttering, Tight, line_after};
 use aprs_kiss::Counted;
 use aprs_log::{LogCause, LogFault, MAX_INPUT, Moment, Receiver};
 use aprs_tool::{Form, InputFault, RunFault, check_run, convert_run, status_of};

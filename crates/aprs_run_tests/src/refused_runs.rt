@@ -1,15 +1,14 @@
 //! Memory that is refused in the midst of a run.
 
 use crate::pieces::{RUNS, writes};
-use crate::table_runs::{TABLES, table_of};
+use crate::table_runs::{TABLES, table_at, table_of};
 use aprs_book::Gap;
 use aprs_booktext::BookCause;
-use aprs_fixtures::{MERGED_TEXT, THREE_LINES, is_shown, is_written_as, shown};
+use aprs_fixtures::{MERGED_TEXT, THREE_LINES, arena, is_shown, is_written_as, shown};
 use aprs_kiss::Counted;
 use aprs_log::MAX_INPUT;
 use aprs_tool::{
-    Desk, InputFault, RunFault, Table, history_run, merge_run, read_input, show_run, status_of,
-    table_run,
+    Desk, InputFault, RunFault, history_run, merge_run, read_input, show_run, status_of, table_run,
 };
 use bumpalo::Bump;
 use std::alloc::Global;
@@ -23,19 +22,6 @@ const MERGED_HISTORY: &[u8] = b"status 1970-01-01T00:00:00.000Z 1970-01-01T00:00
     N0CALL-7 WIDE1-1* -:Hi
 status 2099-12-31T23:59:59.000Z 2099-12-31T23:59:59.000Z RX2 N0CALL-7 - -:Hi
 ";
-
-/// An arena that has room for so many units of 64 bytes, and refuses the growth that would take it
-/// beyond until its limit is lifted.
-pub fn arena(alloc: Global, units: usize) -> Result<Bump, Fail> {
-    let room = units.saturating_mul(64);
-    let bump = Bump::try_with_capacity(alloc, room)?;
-    bump.set_allocation_limit(Some(0));
-    let beyond = bump.chunk_capacity().saturating_sub(room);
-    if beyond > 0 {
-        bump.try_alloc_slice_fill_clone(beyond, 0u8)?;
-    }
-    Ok(bump)
-}
 
 /// Memory was refused for a log, or in a line of a book.
 fn is_memory(fault: &InputFault, is_book: bool) -> bool {
@@ -154,7 +140,8 @@ enum Gathering {
     Merge,
     Show,
     History,
-    Table(Table),
+    /// The table of this number.
+    Table(usize),
 }
 
 /// How far a run came: to its log, to its book file, to the lists, or to its end.
@@ -189,7 +176,9 @@ fn gathered(alloc: Global, bump: &Bump, gathering: Gathering) -> (Vec<u8>, Resul
         Gathering::Merge => merge_run(bump, limit, gap, inputs, &mut out),
         Gathering::Show => show_run(bump, limit, gap, inputs, &mut out),
         Gathering::History => history_run(bump, limit, gap, inputs, &mut out),
-        Gathering::Table(table) => table_run(bump, limit, table, gap, inputs, &mut out),
+        Gathering::Table(number) => {
+            table_run(bump, limit, table_at(number), gap, inputs, &mut out)
+        }
     };
     (out.into_inner(), run)
 }
@@ -245,9 +234,9 @@ fn runs_write_nothing_where_memory_is_refused(rt: HostRuntime) -> Result<(), Fai
 fn tables_are_whole_or_nothing_where_memory_is_refused(rt: HostRuntime) -> Result<(), Fail> {
     let alloc = rt.alloc();
     let wanted = [Stage::Log, Stage::Book, Stage::Lists, Stage::End];
-    for &table in TABLES {
-        let whole = table_of(alloc, table, &[THREE_LINES, MERGED_TEXT])?;
-        let seen = stages(alloc, Gathering::Table(table), whole.as_slice())?;
+    for number in 0..TABLES {
+        let whole = table_of(alloc, table_at(number), &[THREE_LINES, MERGED_TEXT])?;
+        let seen = stages(alloc, Gathering::Table(number), whole.as_slice())?;
         assert!(rt; seen.as_slice() == wanted.as_slice());
     }
     Ok(())

@@ -1,8 +1,7 @@
 //! Runs over logs and streams.
 ghost use Rattle.std.specs.Prelude.{◌≤◌};
 
-use crate::devices::{Failing, Full};
-use aprs_fixtures::{LOG, ONE_LINE, WRITTEN_LINE};
+use aprs_fixtures::{Failing, Full, LOG, ONE_LINE, WRITTEN_LINE};
 use aprs_kiss::Counted;
 use aprs_log::{LogCause, LogFault, MAX_INPUT, Moment, Receiver};
 use aprs_tool::{Form, InputFault, RunFault, check_run, convert_run, status_of};

@@ -1,16 +1,26 @@
 //! Tables of several inputs, outputs that refuse them, and a table of many rows.
 
-use crate::devices::{Full, Tight};
 use aprs_book::Gap;
-use aprs_fixtures::{DIRECT, DIRECT_TEXT, MERGED_TEXT, ONE_LINE, THREE_LINES, heard};
+use aprs_fixtures::{DIRECT, DIRECT_TEXT, Full, MERGED_TEXT, ONE_LINE, THREE_LINES, Tight, heard};
 use aprs_kiss::Counted;
 use aprs_log::{MAX_INPUT, write_line};
 use aprs_tool::{RunFault, Table, table_run};
 use std::alloc::Global;
 use std::test::Fail;
 
-/// All tables.
-pub const TABLES: &[Table] = &[Table::Rows, Table::Messages, Table::Stations, Table::Things];
+/// How many tables there are.
+pub const TABLES: usize = 5;
+
+/// The table of this number.
+pub fn table_at(number: usize) -> Table {
+    match number {
+        0 => Table::Rows,
+        1 => Table::Messages(None),
+        2 => Table::Messages(Some(Gap::STANDARD)),
+        3 => Table::Stations,
+        _ => Table::Things,
+    }
+}
 
 /// Inputs that stand for the set of `ONE_LINE`.
 const SAME: &[&[&[u8]]] = &[
@@ -48,13 +58,15 @@ pub fn table_of(alloc: Global, table: Table, texts: &[&[u8]]) -> Result<Vec<u8>,
 #[test]
 fn a_book_has_the_table_of_its_log(rt: HostRuntime) -> Result<(), Fail> {
     let alloc = rt.alloc();
-    for &table in TABLES {
-        let wanted = table_of(alloc, table, &[ONE_LINE])?;
+    for number in 0..TABLES {
+        let wanted = table_of(alloc, table_at(number), &[ONE_LINE])?;
         for &texts in SAME {
-            assert!(rt; table_of(alloc, table, texts)?.as_slice() == wanted.as_slice());
+            assert!(rt; table_of(alloc, table_at(number), texts)?.as_slice() == wanted.as_slice());
         }
-        let wanted = table_of(alloc, table, &[THREE_LINES])?;
-        assert!(rt; table_of(alloc, table, &[MERGED_TEXT])?.as_slice() == wanted.as_slice());
+        let wanted = table_of(alloc, table_at(number), &[THREE_LINES])?;
+        assert!(rt;
+            table_of(alloc, table_at(number), &[MERGED_TEXT])?.as_slice() == wanted.as_slice()
+        );
     }
     Ok(())
 }
@@ -75,17 +87,17 @@ fn is_written_up_to(alloc: Global, table: Table, whole: &[u8], room: usize) -> b
 #[test]
 fn a_refused_output_has_a_prefix_of_the_table(rt: HostRuntime) -> Result<(), Fail> {
     let alloc = rt.alloc();
-    for &table in TABLES {
-        let whole = table_of(alloc, table, &[THREE_LINES])?;
+    for number in 0..TABLES {
+        let whole = table_of(alloc, table_at(number), &[THREE_LINES])?;
         for room in 0..whole.len() {
-            assert!(rt; is_written_up_to(alloc, table, whole.as_slice(), room));
+            assert!(rt; is_written_up_to(alloc, table_at(number), whole.as_slice(), room));
         }
         let mut inputs = [Counted::new(ONE_LINE)];
         let (gap, mut full) = (Gap::STANDARD, Counted::new(Full));
         let run = table_run(
             alloc,
             MAX_INPUT,
-            table,
+            table_at(number),
             gap,
             inputs.as_mut_slice(),
             &mut full,

@@ -1,25 +1,14 @@
 //! With ample memory no call fails: books of a hundred rows, and nine inputs.
 
-use crate::pushed_rows::parts;
-use aprs_book::{Book, Gap, Join, all_fit, join_all};
+use aprs_book::{Book, Gap, Join};
 use aprs_booktext::read_book;
-use aprs_fixtures::{DIRECT, NOON, heard, text_of};
+use aprs_fixtures::{DIRECT, NOON, heard, hundred, joined_all, parts, text_of};
 use aprs_kiss::Counted;
 use aprs_log::{MAX_INPUT, write_line};
 use aprs_tool::{merge_run, read_input, show_run};
 use linked_list_allocator::LocalHeap;
 use std::alloc::{Allocator, Global};
 use std::test::Fail;
-
-/// A hundred receptions of one frame, a minute apart, from a second of the hour on.
-pub fn hundred<A: Allocator + Copy>(alloc: A, first: u64, name: &[u8]) -> Result<Book<A>, Fail> {
-    let mut book = Book::new(alloc);
-    for minute in 0..100u64 {
-        let x = heard(first.saturating_add(minute * 60), name, &DIRECT)?;
-        book.take(&x).ok().ok_or("memory")?;
-    }
-    Ok(book)
-}
 
 /// The same receptions as a log.
 fn hundred_lines<A: Allocator + Copy>(
@@ -63,14 +52,6 @@ fn three_books<A: Allocator + Copy>(alloc: A) -> Result<Vec<Book<A>, A>, Fail> {
         books.push(hundred(alloc, first, name)?)?;
     }
     Ok(books)
-}
-
-/// The books joined to the first, where they all have its gap.
-pub fn joined_all<A: Allocator + Copy>(first: &Book<A>, books: &[Book<A>]) -> Option<Book<A>> {
-    if !all_fit(first, books) {
-        return None;
-    }
-    Some(join_all(first, books).ok()?)
 }
 
 /// Whether a book stays the same where this one is joined to it.

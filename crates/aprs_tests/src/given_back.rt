@@ -1,10 +1,10 @@
 //! Each type gives all its memory back where it is dropped, and so does each call that fails.
 
-use crate::pushed_rows::parts;
-use crate::refused_calls::{SENT, book_of_sent, store_of_sent};
 use aprs_book::{Book, Gap, Join, Receivers, Step, Summary, from_rows, replay, steps_fit};
 use aprs_booktext::read_book;
-use aprs_fixtures::{LOG, MERGED_TEXT, NOON, receiver, sent};
+use aprs_fixtures::{
+    LOG, MERGED_TEXT, NOON, SENT, book_of_sent, parts, receiver, sent, store_of_sent,
+};
 use aprs_kiss::Counted;
 use aprs_log::MAX_INPUT;
 use aprs_rows::WalkRoom;

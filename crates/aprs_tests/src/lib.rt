@@ -1,29 +1,12 @@
-//! Tests of books and stores.
+//! Tests of the library as callers use it, of the memory that all its calls take, and of writes that
+//! are interrupted.
 #![tactic(auto)]
 
 #[cfg(test)]
 mod ample_memory;
 #[cfg(test)]
-mod books;
-#[cfg(test)]
-mod compared_books;
-#[cfg(test)]
 mod given_back;
-#[cfg(test)]
-mod last_known;
 #[cfg(test)]
 mod library;
 #[cfg(test)]
-mod listed;
-#[cfg(test)]
-mod no_requests;
-#[cfg(test)]
-mod plain_book;
-#[cfg(test)]
-mod pushed_rows;
-#[cfg(test)]
-mod refused_calls;
-#[cfg(test)]
-mod refused_memory;
-#[cfg(test)]
-mod stored_rows;
+mod retried;

@@ -1,24 +1,3 @@
+-- Lemmas of a desk.
 pub mod Common
-pub mod Beginnings
-pub mod Sets
-pub mod Faultless
-pub mod RowsTold
-pub mod Inputs
-pub mod Into
-pub mod Logs
-pub mod Shows
-pub mod Told
-pub mod Histories
-pub mod Tables
-pub mod Extracts
-pub mod Merges
-pub mod OneMerge
-pub mod OneInput
-pub mod Outcomes
-pub mod RunsOver
-pub mod ShortLogs
-pub mod Folds
-pub mod Readers
-pub mod Widens
-pub mod LastRefused
-pub mod Worked
+pub mod Merged

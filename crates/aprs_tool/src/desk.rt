@@ -6,19 +6,18 @@ ghost use Rattle.aprs_log.specs.Reception.{Received};
 ghost use Rattle.aprs_laws.specs.Book.{BookOf};
 ghost use Rattle.aprs_laws.specs.BookValue.{HaveOneGap};
 ghost use Rattle.aprs_laws.specs.Gap.{millis_of};
-ghost use Rattle.aprs_book.specs.Taking.{MergesInto};
+ghost use Rattle.aprs_book.specs.Changes.{MergesInto};
 ghost use Rattle.aprs_convert.specs.Got.{OfGot};
-ghost use Rattle.aprs_tool.specs.Devices.{AsksInput};
-ghost use Rattle.aprs_tool.specs.InputBook.{ReadsInput};
-ghost use Rattle.aprs_tool.specs.InputRows.{RefusesGaps};
+ghost use Rattle.aprs_runs.specs.Devices.{AsksInput};
+ghost use Rattle.aprs_runs.specs.InputBook.{ReadsInput};
+ghost use Rattle.aprs_runs.specs.InputRows.{RefusesGaps};
 
-use crate::fault::InputFault;
-use crate::head::read_head;
-use crate::input::{BOOK_MARK, read_log, read_short};
-use aprs_book::{Book, Gap, MergeFault};
+use aprs_book::Book;
 use aprs_booktext::read_book;
 use aprs_io::Counted;
+use aprs_laws::{Gap, MergeFault};
 use aprs_rows::{BookStore, WalkRoom};
+use aprs_runs::{BOOK_MARK, InputFault, read_head, read_log, read_short};
 use std::alloc::{Allocator, Global};
 use std::io::Read;
 
@@ -49,8 +48,8 @@ impl<A: Allocator + Copy> Desk<A> {
     ghost use Rattle.aprs_laws.specs.Gap.{standard_gap};
     ghost use Rattle.aprs_tool.specs.Desk.{desk_book, desk_gap, desk_limit, desk_rows};
     ghost use Rattle.aprs_convert.specs.Got.{OfGot};
-    ghost use Rattle.aprs_tool.specs.Devices.{AsksInput};
-    ghost use Rattle.aprs_tool.specs.InputBook.{TakesInput};
+    ghost use Rattle.aprs_runs.specs.Devices.{AsksInput};
+    ghost use Rattle.aprs_runs.specs.InputBook.{TakesInput};
 
     /// An empty book with a gap of 30 seconds, for inputs of at most `limit` bytes each. A longer
     /// one is refused. Requires that `limit` is at most `MAX_INPUT` (1,073,741,824). Takes no

@@ -2,10 +2,10 @@
 use Rattle.aprs_web.proofs.Common.{◌≡◌, ℕ, List, [], ◌++◌, Option, None, Some, Ok, Err, map, subst, sym, ap, ◌∙◌, most_input, Counted, InputEnd, OfGot, IsTextOfBook, Input, Write, Memory}
 use Rattle.std.specs.Io.KnownBytes.{Appends}
 use Rattle.aprs_log.specs.Reception.{Received}
-use Rattle.aprs_tool.specs.Widen.{GivesSetWithin, IsNotWidened}
-use Rattle.aprs_tool.specs.Outcome.{IsToldOf, RefusesFor, WritesFor}
-use Rattle.aprs_tool.specs.Several.{GiveUnion, IsFirstRefused, OfEach}
-use Rattle.aprs_tool.specs.declared.fault.InputFault.{InputFault}
+use Rattle.aprs_runs.specs.Widen.{GivesSetWithin, IsNotWidened}
+use Rattle.aprs_runs.specs.Outcome.{IsToldOf, RefusesFor, WritesFor}
+use Rattle.aprs_runs.specs.Several.{GiveUnion, IsFirstRefused, OfEach}
+use Rattle.aprs_runs.specs.declared.fault.InputFault.{InputFault}
 use Rattle.aprs_web.specs.Answer.{Outcome}
 use Rattle.aprs_web.specs.Runs.{GathersTo, Gives, Widens}
 

@@ -1,12 +1,12 @@
 -- What a host reads of how a run ended.
 use Rattle.std.specs.Prelude.{◌≡◌, ◌≤◌, ◌<◌, ℕ, List, [], ◌++◌, length, drop, Result, Ok, Err, codes}
 use Rattle.aprs_log.specs.Fault.{log_cause_name}
-use Rattle.aprs_booktext.specs.Fault.{book_cause_name}
-use Rattle.aprs_tool.specs.Status.{status_of_fault}
-use Rattle.aprs_tool.specs.declared.fault.InputFault.{InputFault}
-use Rattle.aprs_tool.specs.declared.fault.InputFault.TheVariants.{Log, Book, Memory, OtherGap, Narrower}
-use Rattle.aprs_tool.specs.declared.fault.RunFault.{RunFault}
-use Rattle.aprs_tool.specs.declared.fault.RunFault.TheVariants.{Input}
+use Rattle.aprs_bookfile.specs.Fault.{book_cause_name}
+use Rattle.aprs_runs.specs.ExitStatus.{status_of_fault}
+use Rattle.aprs_runs.specs.declared.fault.InputFault.{InputFault}
+use Rattle.aprs_runs.specs.declared.fault.InputFault.TheVariants.{Log, Book, Memory, OtherGap, Narrower}
+use Rattle.aprs_runs.specs.declared.fault.RunFault.{RunFault}
+use Rattle.aprs_runs.specs.declared.fault.RunFault.TheVariants.{Input}
 use Rattle.aprs_web.specs.declared.answer.Answer.{Answer}
 
 -- What a run returns.

@@ -2,10 +2,10 @@
 -- No public clause but those of examples cites this module.
 use Rattle.std.specs.Prelude.{ℕ, List, Err}
 use Rattle.aprs_log.specs.declared.fault.LogCause.{LogCause}
-use Rattle.aprs_booktext.specs.declared.fault.BookCause.{BookCause}
-use Rattle.aprs_tool.specs.declared.fault.InputFault.{InputFault}
-use Rattle.aprs_tool.specs.declared.fault.InputFault.TheVariants.{Log, Book}
-use Rattle.aprs_tool.specs.declared.fault.RunFault.TheVariants.{Input}
+use Rattle.aprs_bookfile.specs.declared.fault.BookCause.{BookCause}
+use Rattle.aprs_runs.specs.declared.fault.InputFault.{InputFault}
+use Rattle.aprs_runs.specs.declared.fault.InputFault.TheVariants.{Log, Book}
+use Rattle.aprs_runs.specs.declared.fault.RunFault.TheVariants.{Input}
 use Rattle.aprs_web.specs.Answer.{Outcome, status_of_outcome, number_at_fault, line_at_fault, name_at_fault}
 
 -- What an answer tells of an outcome: the status, the number and the line of the input at fault,

@@ -9,16 +9,16 @@ use Rattle.aprs_laws.specs.Gap.{IsGap}
 use Rattle.aprs_command.specs.declared.jobs.Table.{Table}
 use Rattle.aprs_convert.specs.Ends.{Ends}
 use Rattle.aprs_convert.specs.Got.{OfGot}
-use Rattle.aprs_tool.specs.HistoryOf.{IsHistoryOf}
-use Rattle.aprs_tool.specs.Merge.{IsTextOfBook}
-use Rattle.aprs_tool.specs.Outcome.{IsToldOf}
-use Rattle.aprs_tool.specs.Run.{AnswersAs}
-use Rattle.aprs_tool.specs.Several.{GiveUnion, GotOf, IsFirstRefused}
-use Rattle.aprs_tool.specs.Show.{IsListingOf}
-use Rattle.aprs_tool.specs.TableOf.{IsTableOf}
-use Rattle.aprs_tool.specs.Widen.{GivesSetWithin, IsNotWidened}
-use Rattle.aprs_tool.specs.declared.fault.InputFault.{InputFault}
-use Rattle.aprs_tool.specs.declared.fault.RunFault.TheVariants.{Input, Write, Memory}
+use Rattle.aprs_runs.specs.HistoryOf.{IsHistoryOf}
+use Rattle.aprs_runs.specs.Merge.{IsTextOfBook}
+use Rattle.aprs_runs.specs.Outcome.{IsToldOf}
+use Rattle.aprs_runs.specs.RunEnds.{AnswersAs}
+use Rattle.aprs_runs.specs.Several.{GiveUnion, GotOf, IsFirstRefused}
+use Rattle.aprs_runs.specs.Show.{IsListingOf}
+use Rattle.aprs_runs.specs.TableOf.{IsTableOf}
+use Rattle.aprs_runs.specs.Widen.{GivesSetWithin, IsNotWidened}
+use Rattle.aprs_runs.specs.declared.fault.InputFault.{InputFault}
+use Rattle.aprs_runs.specs.declared.fault.RunFault.TheVariants.{Input, Write, Memory}
 use Rattle.aprs_web.specs.Answer.{Outcome}
 
 -- The arguments ask for a run over several inputs: the seconds are a gap, and the lengths add up to

@@ -2,7 +2,7 @@
 ghost use Rattle.std.specs.Prelude.{◌≡◌};
 ghost use Rattle.aprs_web.specs.Answer.{StandsIn, Tells, line_of_input, name_of_input};
 
-use aprs_tool::{InputFault, RunFault, status_of};
+use aprs_runs::{InputFault, RunFault, status_of};
 
 /// How a run ended.
 #[repr(C)]

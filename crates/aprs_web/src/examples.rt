@@ -1,9 +1,9 @@
 //! Worked examples of how a run ends. Their functions do nothing.
 ghost use Rattle.std.specs.Prelude.{◌≡◌, [], Err, Ok, codes};
 ghost use Rattle.aprs_log.specs.declared.fault.LogCause.TheVariants as log;
-ghost use Rattle.aprs_booktext.specs.declared.fault.BookCause.TheVariants as book;
-ghost use Rattle.aprs_tool.specs.declared.fault.InputFault.TheVariants as input;
-ghost use Rattle.aprs_tool.specs.declared.fault.RunFault.TheVariants as run;
+ghost use Rattle.aprs_bookfile.specs.declared.fault.BookCause.TheVariants as book;
+ghost use Rattle.aprs_runs.specs.declared.fault.InputFault.TheVariants as input;
+ghost use Rattle.aprs_runs.specs.declared.fault.RunFault.TheVariants as run;
 ghost use Rattle.aprs_web.specs.Examples.{at_input, book_at, log_at, told};
 
 /// What a host reads of how a run ended: the exit status, the number of the input at fault from 0,

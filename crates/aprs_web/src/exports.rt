@@ -18,9 +18,10 @@ use crate::answer::{Answer, answer_of, no_run};
 use crate::inputs::add_up;
 use crate::written::{check, convert, history, merge, show, tabulate, widen};
 use aprs_arena::{Arena, Region};
-use aprs_book::Gap;
+use aprs_command::Table;
+use aprs_convert::Form;
+use aprs_laws::Gap;
 use aprs_log::{Moment, Receiver};
-use aprs_tool::{Form, Table};
 
 /// Checks the log `input`: writes a line for each line in which no frame was heard, and the totals.
 /// At a fault of the log what is reported of the lines before it is written, and no totals.

@@ -3,7 +3,7 @@ ghost use Rattle.std.specs.Prelude.{◌≡◌, ◌↔◌, T, map, length, Some, 
 ghost use Rattle.std.specs.List.{sum};
 ghost use Rattle.aprs_web.specs.Runs.{input_texts};
 
-use aprs_tool::Counted;
+use aprs_io::Counted;
 use std::alloc::{AllocError, Allocator};
 
 /// Whether the lengths add up to `total`.

@@ -2,8 +2,8 @@
 //! for how that went.
 #![tactic(auto)]
 
+use aprs_command::fold_job;
 use aprs_program::{Program, texts_of};
-use aprs_tool::fold_job;
 use std::process::ExitCode;
 
 /// Reads the program's arguments and does what they ask for. Returns the exit status.

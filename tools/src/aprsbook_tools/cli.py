@@ -1,15 +1,30 @@
 """The command aprs-net: finds the subcommand, runs it, and says what went wrong."""
-import argparse
-import importlib
-import keyword
 import os
 import signal
 import sys
-from typing import IO, NoReturn, Optional, Sequence
+from typing import List, NoReturn, Optional, Sequence, Tuple
 
-from aprsbook_tools import VERSION, commands, errors, signals, typed, whole
-from aprsbook_tools.errors import Fault, words_of
-from aprsbook_tools.saying import say
+from aprsbook_tools import VERSION, commands, signals, stderr
+from aprsbook_tools.errors import ExitStatus, Fault, words_of
+
+HELP = """\
+aprs-net {version}: logs, books and reports of APRS nets, around aprsbook
+
+usage: aprs-net COMMAND [OPTION].. [ARGUMENT]..
+
+Write a log of the TNC at port 8001, and make a page of it:
+
+  aprs-net log --connect localhost:8001 RX1 logs
+  aprs-net page -o page.html logs
+
+{commands}Options, before or behind a command:
+  -h, --help     this help, or that of a command
+  -q, --quiet    say only what went wrong
+  -v, --verbose  say also what is run
+  -V, --version  the version
+
+`aprs-net help COMMAND` says more of a command, with examples.
+"""
 
 
 class Ended(BaseException):
@@ -24,58 +39,89 @@ def end(number: int, _: object) -> NoReturn:
     raise Ended(number)
 
 
-class Parser(argparse.ArgumentParser):
-    """Whose help and version are a Fault where the output takes nothing."""
-
-    def _print_message(self, message: str, file: Optional[IO[str]] = None) -> None:
-        if file is not None and file is sys.stdout:
-            whole.write_out(message.encode())
-        else:
-            super()._print_message(message, file)
+def help_text() -> str:
+    """What aprs-net is, two examples, and the commands in groups."""
+    groups = "".join(
+        f"{group}:\n" + "".join(f"  {name:<12} {words}\n" for name, words in names.items()) + "\n"
+        for group, names in commands.GROUPS.items())
+    return HELP.format(version=VERSION, commands=groups)
 
 
-def make_parser(names: Sequence[str] = commands.NAMES) -> argparse.ArgumentParser:
-    """The parser of all subcommands, from which manual page and completions are made too, or of
-    some, which is there sooner."""
-    parser = Parser(
-        prog="aprs-net", description="Logs, books and reports of APRS nets, around aprsbook.")
-    parser.add_argument("--version", action="version", version=f"aprs-net {VERSION}")
-    subparsers = parser.add_subparsers(metavar="COMMAND", required=True)
-    for name in names:
-        end = "_" if keyword.iskeyword(name) else ""
-        module = importlib.import_module(
-            f"aprsbook_tools.commands.{name.replace('-', '_')}{end}")
-        before = set(subparsers.choices)
-        module.add_parser(subparsers)
-        for new in set(subparsers.choices) - before:
-            subparsers.choices[new].set_defaults(run=module.run)
-    return parser
+def write_out(text: str) -> int:
+    from aprsbook_tools.system import atomic
+
+    atomic.write_out(text.encode())
+    return ExitStatus.DONE
+
+
+def split(words: Sequence[str]) -> Tuple[List[str], List[str]]:
+    """The options before the command, and the command with what follows."""
+    count = 0
+    while count < len(words) and words[count].startswith("-"):
+        count += 1
+    return list(words[:count]), list(words[count:])
+
+
+def dispatch(words: Sequence[str]) -> int:
+    """Does what was typed; the status."""
+    before, rest = split(words)
+    for word in before:
+        if word in ("-h", "--help"):
+            rest = ["help", *rest[:1]]
+        elif word in ("-V", "--version"):
+            return write_out(f"aprs-net {VERSION}\n")
+        elif word not in ("-q", "--quiet", "-v", "--verbose"):
+            raise Fault(f"no option is called {word} (see aprs-net help)", ExitStatus.ARGUMENTS)
+    if not rest:
+        stderr.say(help_text(), end="")
+        return ExitStatus.ARGUMENTS
+    if rest == ["help"]:
+        return write_out(help_text())
+    name, arguments = (rest[1], ["--help"]) if rest[0] == "help" else (rest[0], rest[1:])
+    if name not in commands.NAMES and name not in commands.HIDDEN:
+        raise Fault(unknown(name), ExitStatus.ARGUMENTS)
+    return run_command(name, [*before, *arguments] if rest[0] != "help" else arguments)
+
+
+def unknown(name: str) -> str:
+    """What is said of a command that isn't there."""
+    from aprsbook_tools import argv
+
+    known = commands.MEANT.get(name.lower())
+    hint = f"; did you mean {known}?" if known else argv.meant(name, commands.NAMES)
+    return f"no command is called {name}{hint} (see aprs-net help)"
+
+
+def run_command(name: str, words: Sequence[str]) -> int:
+    """Runs a command, whose module is imported now."""
+    from aprsbook_tools import argv
+
+    args = argv.parse(argv.parser_of(name), words)
+    stderr.set_level(stderr.Level.QUIET if args.quiet else
+                     stderr.Level.VERBOSE if args.verbose else stderr.Level.PLAIN)
+    status = int(argv.module_of(name).run(args))
+    if sys.stdout is not None:
+        sys.stdout.flush()
+    return status
 
 
 def run(arguments: Optional[Sequence[str]] = None) -> int:
-    """Runs a subcommand; its status."""
-    words = typed.words_of(sys.argv) if arguments is None else arguments
-    named = [words[0]] if words and words[0] in commands.NAMES else commands.NAMES
+    """Runs what was typed; its status, and in words what went wrong."""
     try:
-        args = typed.parse(make_parser(named), words)
-        status = int(args.run(args))
-        if sys.stdout is not None:
-            sys.stdout.flush()
-        return status
+        return dispatch(sys.argv[1:] if arguments is None else arguments)
     except Fault as fault:
-        say(words_of(fault))
+        stderr.say(words_of(fault))
         return fault.status
     except BrokenPipeError:
-        say("aprs-net: standard output: nobody reads it")
-        return errors.OUTPUT
+        raise  # nobody reads standard output any more
     except OSError as fault:
-        say(words_of(fault))
-        return errors.FAULTY
+        stderr.say(words_of(fault))
+        return ExitStatus.INPUT
     except (MemoryError, RuntimeError) as fault:
         if isinstance(fault, RuntimeError) and "start new thread" not in str(fault):
             raise
-        say("aprs-net: no memory is left")
-        return errors.MEMORY
+        stderr.warn("no memory is left")
+        return ExitStatus.MEMORY
 
 
 def hold_standard_files() -> None:
@@ -96,6 +142,8 @@ def main(arguments: Optional[Sequence[str]] = None) -> int:
         status = run(arguments)
     except KeyboardInterrupt:
         status = kill_self(signal.SIGINT)
+    except BrokenPipeError:
+        status = kill_self(getattr(signal, "SIGPIPE", None))
     except Ended as it:
         status = kill_self(it.number)
     # nothing is left to be said by Python where standard output or error is refused
@@ -108,8 +156,10 @@ def main(arguments: Optional[Sequence[str]] = None) -> int:
     return status
 
 
-def kill_self(number: int) -> int:
-    """Ends this process by a signal, so that who started it sees that."""
+def kill_self(number: Optional[int]) -> int:
+    """Ends this process by a signal, so that who started it sees that; Windows has no SIGPIPE."""
+    if number is None:
+        return ExitStatus.OUTPUT
     signal.signal(number, signal.SIG_DFL)
     os.kill(os.getpid(), number)
     return 128 + number

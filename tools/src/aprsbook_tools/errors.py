@@ -1,16 +1,36 @@
 """The one exception: what went wrong, in words, and the exit status, as of aprsbook."""
+import enum
 from typing import Union
 
-FAULTY = 1  # an input can't be opened, is faulty or has another gap
-ARGUMENTS = 2
-OUTPUT = 3  # the output was refused, as on a full disk
-MEMORY = 4
+
+class ExitStatus(enum.IntEnum):
+    """How a command ends: the same in all commands, and the first five as of aprsbook."""
+
+    DONE = 0
+    INPUT = 1
+    ARGUMENTS = 2
+    OUTPUT = 3
+    MEMORY = 4
+    FOUND = 5
+    MISSING = 6
+
+
+MEANINGS = {
+    ExitStatus.DONE: "All went well.",
+    ExitStatus.INPUT: "An input can't be opened, is faulty or has another gap.",
+    ExitStatus.ARGUMENTS: "The arguments are wrong, or an output is an input or a log.",
+    ExitStatus.OUTPUT: "The output was refused, as on a full disk.",
+    ExitStatus.MEMORY: "Memory was refused.",
+    ExitStatus.FOUND: "What was asked about was found: clocks that differ, or with --fail somebody "
+    "of the roster who wasn't heard.",
+    ExitStatus.MISSING: "A program or a service that is needed isn't there.",
+}
 
 
 class Fault(Exception):
     """What ends a command. `by` is the program that says so."""
 
-    def __init__(self, words: str, status: int = FAULTY, by: str = "aprs-net") -> None:
+    def __init__(self, words: str, status: int = ExitStatus.INPUT, by: str = "aprs-net") -> None:
         super().__init__(words)
         self.words = words
         self.status = status

@@ -8,6 +8,7 @@ from typing import List, NamedTuple, Sequence, Tuple
 
 EARTH_METRES = 6_371_000.0
 DEGREE_METRES = EARTH_METRES * math.pi / 180
+POLAR = 85  # degrees north or south, behind which a plane is that of directions and distances
 
 
 class Spot(NamedTuple):
@@ -48,6 +49,9 @@ def bearing(start: Spot, end: Spot) -> float:
 
 def flat(middle: Spot, spot: Spot) -> Tuple[float, float]:
     """Metres east and north of a middle, on a plane that touches the earth there."""
+    if max(abs(middle.north), abs(spot.north)) > POLAR:  # where meridians meet
+        metres, way = metres_between(middle, spot), math.radians(bearing(middle, spot))
+        return metres * math.sin(way), metres * math.cos(way)
     across = eastward(middle.east, spot.east) * math.cos(math.radians(middle.north))
     return across * DEGREE_METRES, (spot.north - middle.north) * DEGREE_METRES
 

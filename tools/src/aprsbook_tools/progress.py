@@ -4,7 +4,7 @@ import threading
 import time
 from typing import Iterable, Iterator, Optional, TypeVar
 
-from aprsbook_tools.saying import say
+from aprsbook_tools.stderr import show
 
 T = TypeVar("T")
 STEP = 0.2  # seconds between two counts
@@ -24,8 +24,8 @@ def counted(items: Iterable[T], words: str, total: Optional[int] = None) -> Iter
             now = time.monotonic()
             if now - shown >= STEP:
                 shown = now
-                say(f"\r{words}: {number}{of}\x1b[K", end="")
+                show(f"\r{words}: {number}{of}\x1b[K")
             yield item
     finally:
         if shown:
-            say("\r\x1b[K", end="")
+            show("\r\x1b[K")

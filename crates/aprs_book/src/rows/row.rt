@@ -31,7 +31,8 @@ pub struct Row<'a> {
 
 impl<'a> Model for Row<'a> {
     ghost use Rattle.aprs_laws.specs.Row.{Row as RowValue};
-    ghost use Rattle.aprs_book.specs.Shown.{row_with, IsKeyed};
+    ghost use Rattle.aprs_rows.specs.RowWith.{row_with};
+    ghost use Rattle.aprs_book.specs.KeyedFrame.{IsKeyed};
 
     ghost Value = { RowValue };
 

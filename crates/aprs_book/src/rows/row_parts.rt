@@ -23,7 +23,7 @@ pub struct RowParts<A: Allocator = Global> {
 
 impl<A: Allocator> Model for RowParts<A> {
     ghost use Rattle.aprs_laws.specs.Row.{Row as RowValue};
-    ghost use Rattle.aprs_book.specs.Shown.{row_with};
+    ghost use Rattle.aprs_rows.specs.RowWith.{row_with};
 
     ghost Value = { RowValue };
 

@@ -2,40 +2,45 @@
 import argparse
 import os
 
-from aprsbook_tools import arguments, book, cluster, inputs, saying
-from aprsbook_tools.commands import Subparsers
+from aprsbook_tools import arguments, stderr
+from aprsbook_tools.books import book, cluster, inputs
+from aprsbook_tools.books.chunks import MEGABYTE
 from aprsbook_tools.errors import Fault
-from aprsbook_tools.pieces import MEGABYTE
 
-TEXT = """\
+DESCRIPTION = """\
 BOOK becomes the book of itself and of logs and books, as with aprs-net book, and the workers of a
-Dask cluster do the work. SCHEDULER is its address, as tcp://10.0.0.1:8786, or tls:// as Dask's
+Dask cluster do the work. ADDRESS is its scheduler's, as tcp://10.0.0.1:8786, or tls:// as Dask's
 configuration says. Whoever reaches a scheduler's port can run anything on all workers: let it
 listen on 127.0.0.1, behind a tunnel, or with TLS.
 
-WORK is a folder that all machines have under one path, as they do the logs. Workers have aprs-net,
+The work folder has one path on all machines, as the logs do. Workers have aprs-net,
 aprsbook and aprsbook-fold of one version in their PATH. A job is done again by another worker where
 one is killed, frozen or full, and a run that was cut goes on where it was. Take WORK away when BOOK
-is there. The status is 1 where a log is faulty, and 3 where another run may go on."""
+is there. The status is 1 where a log is faulty, and 3 or 6 where another run may go on."""
 
 
-def add_parser(subparsers: Subparsers) -> None:
-    parser = subparsers.add_parser(
-        "cluster", help="make a book by many machines", description=TEXT,
-        formatter_class=argparse.RawDescriptionHelpFormatter)
+EXAMPLES = [
+    ("a book by the workers of a cluster",
+     "aprs-net cluster --scheduler tcp://10.0.0.1:8786 --work work net.book logs"),
+]
+
+
+def add_arguments(parser: argparse.ArgumentParser) -> None:
+    parser.add_argument("--scheduler", metavar="ADDRESS", required=True,
+                        help="where the cluster's scheduler listens")
+    parser.add_argument("--work", metavar="FOLDER", required=True,
+                        help="a folder that all machines have under one path")
     arguments.add_gap(parser)
-    arguments.add_pieces(parser, 256)
-    parser.add_argument("--patience", type=arguments.whole_number(1, 86_400), default=60,
+    arguments.add_chunks(parser, 256)
+    parser.add_argument("--patience", type=arguments.duration(1, 86_400, "s"), default=60,
                         metavar="SECONDS", help="give a job to another worker after so long (60), "
                         "and longer for a large one")
-    parser.add_argument("scheduler", metavar="SCHEDULER")
-    parser.add_argument("work", metavar="WORK")
     parser.add_argument("book", metavar="BOOK")
     parser.add_argument("inputs", nargs="+", metavar="INPUT", help="a log, a book or a folder")
 
 
 def say(text: str) -> None:
-    saying.say(f"aprs-net cluster: {text}")
+    stderr.warn(text)
 
 
 def run(args: argparse.Namespace) -> int:

@@ -1,35 +1,31 @@
 """The communications log of a net, as the form ICS 309 has it."""
 import argparse
 import re
-from typing import Iterable, List, Sequence
+from dataclasses import dataclass
+from typing import Iterable, Iterator, List, Sequence, Tuple
 
-from aprsbook_tools import moments, report
-from aprsbook_tools.commands import Subparsers
-from aprsbook_tools.errors import ARGUMENTS, Fault
-from aprsbook_tools.roster import Expected, Roster, call_of, roster_of
-from aprsbook_tools.spreadsheet import csv_text
-from aprsbook_tools.table import Message
-from aprsbook_tools.watching import state_of
+from aprsbook_tools import arguments, stderr, table_output
+from aprsbook_tools.formats import moments
+from aprsbook_tools.formats.spreadsheet import Cell
+from aprsbook_tools.reports.alerts import state_of
+from aprsbook_tools.reports.roster import Expected, Roster, call_of, roster_of
+from aprsbook_tools.reports.table import Message
+from aprsbook_tools.serving import entries
+from aprsbook_tools.serving.entries import Journals
 
 HEAD = ["time", "from", "number", "to", "message", "state"]
 NAMES = ["from_name", "to_name"]
 # how the form says a state of the table
 ANSWERS = {"acknowledged": "ack", "rejected": "rej", "unanswered": "no ack"}
-# what completes the beginning of a moment
-WHOLE = "0000-01-01T00:00:00.000Z"
+DESK = "desk"  # the column of the desk that wrote a line down
 BULLETIN = re.compile("BLN|NWS-")
-MOMENT = re.compile(r"\d{4}-\d\d-\d\d(T\d\d(:\d\d(:\d\d(\.\d{3})?)?)?)?Z?", re.ASCII)
 
 
-def moment_of(text: str) -> str:
-    """A moment as the table has it, of its beginning, such as 2024-06-21T18:00."""
-    try:
-        if not MOMENT.fullmatch(text):
-            raise ValueError
-        begin = text.rstrip("Z")
-        return moments.text_of(moments.milliseconds(begin + WHOLE[len(begin) :]))
-    except ValueError:
-        raise argparse.ArgumentTypeError(f"{text!r} is no moment in UTC, such as 2024-06-21T18:00")
+@dataclass(frozen=True)
+class Spoken(Message):
+    """A line of voice traffic, and the desk that wrote it down."""
+
+    desk: str = ""
 
 
 def station_of(text: str) -> Expected:
@@ -37,41 +33,53 @@ def station_of(text: str) -> Expected:
     return Expected(call_of(text) or text.upper())
 
 
-def add_parser(subparsers: Subparsers) -> None:
-    parser = subparsers.add_parser(
-        "ics-309",
-        help="the communications log of a net",
-        description="A line for each message at the moment when it was first heard (UTC): from "
-        "whom, its number, to whom, whether it was acknowledged (ack), rejected (rej) or not "
-        "answered (no ack), and its text. A message that was sent again under its number is one "
-        "line.",
-    )
-    parser.add_argument(
-        "--from",
-        dest="since",
-        type=moment_of,
-        metavar="MOMENT",
-        help="those from this moment on, such as 2024-06-21T18:00",
-    )
-    parser.add_argument(
-        "--to", dest="until", type=moment_of, metavar="MOMENT", help="those before this moment"
-    )
+DESCRIPTION = """\
+A line for each message at the moment when it was first heard (UTC): from whom, its number, to whom,
+whether it was acknowledged (ack), rejected (rej) or not answered (no ack), and its text. A message
+that was sent again under its number is one line. Without a format it is the form on paper."""
+EXAMPLES = [
+    ("the form of an evening", "aprs-net ics-309 --net 'Fell race' --from 18:00 logs"),
+    ("what a station sent or got, for a spreadsheet",
+     "aprs-net ics-309 --station q1net --format csv -o log.csv net.book"),
+]
+
+
+def add_arguments(parser: argparse.ArgumentParser) -> None:
     parser.add_argument(
         "--station", type=station_of, metavar="CALL", help="those that this station sent or got"
     )
     parser.add_argument("--net", default="", metavar="NAME", help="the net's name, for the form")
-    report.add_csv(parser)
-    report.add_arguments(parser)
+    parser.add_argument(
+        "--desks",
+        metavar="LOGS",
+        help="also what the desks of `aprs-net serve` have written down: voice traffic, and "
+        "tactical names",
+    )
+    table_output.add_arguments(parser)
+
+
+def spoken(journals: Journals, args: argparse.Namespace) -> Iterator[Message]:
+    """The voice traffic that desks have written down, of the time that is asked for."""
+    for it in journals.lines:
+        if arguments.is_within(args, it.moment):
+            first, text = moments.text_of(it.moment), " ".join(it.text.split())
+            yield Spoken(first=first, source=it.sender, addressee=it.addressee, id=it.number,
+                         text=text, desk=it.desk)
+
+
+def named_by(journals: Journals, roster: Roster) -> Roster:
+    """A roster with the tactical names that desks gave."""
+    names = journals.names
+    others = [it for it in roster.expected if it.call not in names]
+    return Roster([*others, *(Expected(call, name) for call, name in names.items())])
 
 
 def chosen(messages: Sequence[Message], args: argparse.Namespace) -> List[Message]:
-    """The messages of a time and a station, by their first moment."""
+    """The messages of a station, by their first moment."""
 
     def is_asked(it: Message) -> bool:
         station = args.station
-        return (args.since or "") <= it.first < (args.until or "~") and (
-            station is None or station.is_of(it.source) or station.is_of(it.addressee)
-        )
+        return station is None or station.is_of(it.source) or station.is_of(it.addressee)
 
     return in_order(filter(is_asked, messages))
 
@@ -81,13 +89,15 @@ def in_order(messages: Iterable[Message]) -> List[Message]:
     return sorted(messages, key=lambda it: (it.first, BULLETIN.match(it.addressee) is not None))
 
 
-def csv_of(messages: Sequence[Message], roster: Roster) -> str:
-    """The log as CSV, with the state as the table has it, and with tactical names."""
-    rows = [[it.first, it.source, it.id, it.addressee, it.text, state_of(it)] for it in messages]
-    if not roster.has_names:
-        return csv_text([HEAD, *rows])
-    names = [[roster.name_of(it.source), roster.name_of(it.addressee)] for it in messages]
-    return csv_text([[*HEAD, *NAMES], *([*row, *of] for row, of in zip(rows, names))])
+def table_of(messages: Sequence[Message], roster: Roster, has_desks: bool = False
+             ) -> Tuple[List[str], List[List[Cell]]]:
+    """The log as a table, with the state as the table has it, with desks and tactical names."""
+    rows: List[List[Cell]] = [
+        [it.first, it.source, it.id, it.addressee, it.text, state_of(it)] for it in messages]
+    for row, it in zip(rows, messages):
+        row += [getattr(it, DESK, "")] if has_desks else []
+        row += [roster.name_of(of) for of in (it.source, it.addressee) if roster.has_names]
+    return [*HEAD, *([DESK] if has_desks else []), *(NAMES if roster.has_names else [])], rows
 
 
 def form_of(messages: Sequence[Message], roster: Roster, net: str) -> str:
@@ -124,12 +134,17 @@ def form_of(messages: Sequence[Message], roster: Roster, net: str) -> str:
 
 
 def run(args: argparse.Namespace) -> int:
-    if args.since and args.until and args.since >= args.until:
-        raise Fault("--from isn't before --to", ARGUMENTS)
     roster = roster_of(args.roster)
-    messages = chosen(list(report.items_of(Message, args)), args)
-    if args.csv:
-        report.put(args, csv_of(messages, roster))
+    messages = [*table_output.items_of(Message, args)]
+    if args.desks is not None:
+        journals, others = entries.read(args.desks)
+        if others:
+            stderr.warn(f"{args.desks}: lines of desks that are no entries: {others}")
+        messages += spoken(journals, args)
+        roster = named_by(journals, roster)
+    messages = chosen(messages, args)
+    if args.format in (None, "text"):
+        table_output.put_lines(args, [form_of(messages, roster, args.net)])
     else:
-        report.put(args, form_of(messages, roster, args.net))
+        table_output.put_table(args, *table_of(messages, roster, args.desks is not None))
     return 0

@@ -2,12 +2,14 @@
 import argparse
 from typing import IO, Dict, Iterator, List, Tuple
 
-from aprsbook_tools import arguments, kiss, log_file, saying, streams, whole
-from aprsbook_tools.commands import Subparsers
-from aprsbook_tools.errors import ARGUMENTS, FAULTY, Fault
+from aprsbook_tools import arguments, stderr
+from aprsbook_tools.books import net_logs
+from aprsbook_tools.errors import ExitStatus, Fault
+from aprsbook_tools.formats import kiss, log_file
+from aprsbook_tools.formats.zones import Zones
 from aprsbook_tools.imports import (
     Found, Options, Reader, Refused, direwolf_csv, files, lines, packets)
-from aprsbook_tools.zones import Zones
+from aprsbook_tools.system import atomic, streams
 
 READERS: Dict[str, Tuple[Reader, str]] = {
     "monitor": (lines.monitor, "lines with a time and SOURCE>DESTINATION,PATH:INFORMATION"),
@@ -21,42 +23,48 @@ READERS: Dict[str, Tuple[Reader, str]] = {
     "pcap": (files.pcap, "a capture of AX.25 packets, as Wireshark's"),
     "book": (files.book, "a book: the greatest reception of each transmission"),
 }
-TEXT = """\
+FORMATS = "\n".join(f"  {name:<13} {words}" for name, (_, words) in READERS.items())
+DESCRIPTION = f"""\
 Writes a log of what another program has written down, in FORMAT:
 
-{formats}
+{FORMATS}
 
 A time has the zone that stands with it, such as Z, UTC, +02:00 or UTC+2, or else that of --zone, or
 UTC. A zone by its letters is known where --zone Europe/Berlin has it, or by --zone CEST=+02:00; a
-line with another one is refused. What the other program sent itself is left out, and goes to --own;
+line with another one is refused. What the other program sent itself is left out, and goes to
+--sent;
 so does what came over the Internet alone. What can't be taken is said with its line; the status is
 1 where a moment couldn't be told."""
 
 
-def add_parser(subparsers: Subparsers) -> None:
-    formats = "\n".join(f"  {name:<13} {words}"
-                        for name, (_, words) in READERS.items())
-    parser = subparsers.add_parser(
-        "import", help="write a log of what another program has written down",
-        description=TEXT.format(formats=formats),
-        formatter_class=argparse.RawDescriptionHelpFormatter)
+EXAMPLES = [
+    ("what Dire Wolf printed, whose computer had local time",
+     "aprs-net import direwolf --zone Europe/Berlin --name HILL -o a.log dw.txt"),
+    ("a recording, by Dire Wolf's decoder",
+     "atest -h net.wav | aprs-net import atest --start 2024-06-21T18:00 -o tape.log"),
+]
+
+
+def add_arguments(parser: argparse.ArgumentParser) -> None:
     parser.add_argument("--name", type=arguments.receiver, metavar="NAME",
                         help="the receiver's name, where it isn't that of the text, or TEXT")
     parser.add_argument("--zone", action="append", default=[], metavar="ZONE",
                         help="UTC, +02:00 or Europe/Berlin; or what letters mean, as CEST=+02:00")
-    parser.add_argument("--own", metavar="FILE", help="a log of what the other program sent")
+    parser.add_argument("--date", type=net_logs.day_of, metavar="DAY",
+                        help="the day of times that stand without one, as 2024-06-21")
+    parser.add_argument("--sent", metavar="FILE", help="a log of what the other program sent")
     parser.add_argument("--igate", action="store_true",
                         help="a feed of APRS-IS: the receiver is the gate that heard the frame")
-    parser.add_argument("--now", action="store_true",
+    parser.add_argument("--stamp", action="store_true",
                         help="a line without a time has the moment at which it is read")
     parser.add_argument("--bytes", choices=list(packets.ESCAPES), dest="escapes",
                         help="a byte that can't be printed stands as <0x0a> (direwolf), as \\x0a "
                         "(aprsbook) or as it is (raw)")
     parser.add_argument("--start", type=arguments.moment, metavar="MOMENT",
-                        help="when a recording began, as 2024-06-21T18:00:00Z")
+                        help="when a recording began, as 2024-06-21T18:00")
     arguments.add_output(parser)
     parser.add_argument("format", choices=list(READERS), metavar="FORMAT")
-    parser.add_argument("input", nargs="?", metavar="FILE", help="or else standard input")
+    arguments.add_log(parser, "INPUT")
 
 
 class Count:
@@ -71,8 +79,7 @@ class Count:
     def say(self, found: Refused) -> None:
         self.refused += 1
         self.untimed += found.untimed
-        saying.say(
-            f"aprs-net import: line {found.number}: {found.words}: {found.text[:100]!r}")
+        stderr.warn(f"line {found.number}: {found.words}: {found.text[:100]!r}")
 
 
 def found_in(file: IO[bytes], args: argparse.Namespace, options: Options) -> Iterator[Found]:
@@ -100,23 +107,26 @@ def written(file: IO[bytes], args: argparse.Namespace, options: Options,
 
 def run(args: argparse.Namespace) -> int:
     try:
-        zones = Zones(args.zone)
+        zones = Zones(args.zone, args.date or "")
     except ValueError as fault:
-        saying.say(f"aprs-net import: --zone: {fault}")
-        return 2
-    options = Options(args.name, zones, args.escapes, args.igate, args.now, args.start)
-    inputs, count = whole.all_of(args.input), Count()
-    for path in whole.all_of(args.output, args.own):
-        whole.check(path, inputs)
-    if args.output and args.own and whole.is_same(args.output, args.own):
-        raise Fault(f"{args.own} is the log itself: --own needs another file", ARGUMENTS)
+        raise Fault(f"--zone: {fault}", ExitStatus.ARGUMENTS) from fault
+    options = Options(args.name, zones, args.escapes, args.igate, args.stamp, args.start)
+    inputs, count = atomic.all_of(args.input), Count()
+    for path in atomic.all_of(args.output, args.sent):
+        atomic.check(path, inputs)
+    if args.output and args.sent and atomic.is_same(args.output, args.sent):
+        raise Fault(f"{args.sent} is the log itself: --sent needs another file",
+                    ExitStatus.ARGUMENTS)
     with streams.opened(args.input) as file:
-        streams.put(args.output, written(file, args, options, count), inputs, args.now)
-    if args.own:
-        whole.write(args.own, b"".join(count.own), inputs)
+        lines = streams.read_of(written(file, args, options, count), streams.name_of(args.input))
+        streams.put(args.output, lines, inputs, args.stamp)
+    if zones.doubtful:
+        stderr.warn(f"times of an hour that comes twice: {len(zones.doubtful)}, as "
+                    f"{zones.doubtful[0]}: until times go back they are taken for the first")
+    if args.sent:
+        atomic.write(args.sent, b"".join(count.own), inputs)
     elif count.own:
-        saying.say(
-            f"aprs-net import: frames that the station itself sent, left out: {len(count.own)}")
+        stderr.note(f"frames that the station itself sent, left out: {len(count.own)}")
     elif not count.taken and not count.refused:
-        saying.say(f"aprs-net import: nothing was found that {args.format} has of what was heard")
-    return FAULTY if count.untimed else 0
+        stderr.warn(f"nothing was found that {args.format} has of what was heard")
+    return ExitStatus.INPUT if count.untimed else 0

@@ -1,27 +1,34 @@
 """aprs-net log: a log of a receiver, for days on end."""
 import argparse
+import contextlib
 import errno
 import os
 import re
 import tempfile
 from typing import Callable, Iterator, Optional, Tuple
 
-from aprsbook_tools import arguments, ax25, kiss, log_file, saying, sources
-from aprsbook_tools.clock import Clock
-from aprsbook_tools.commands import Subparsers
-from aprsbook_tools.errors import said
+from aprsbook_tools import arguments, stderr
+from aprsbook_tools.errors import ExitStatus, Fault, said
+from aprsbook_tools.formats import ax25, kiss, log_file
+from aprsbook_tools.formats.log_file import Logs
+from aprsbook_tools.frame_sources import serial, source, tcp
+from aprsbook_tools.frame_sources.aprs_is import AprsIs
+from aprsbook_tools.frame_sources.stamping import Clock
+from aprsbook_tools.frame_sources.stdin import StandardInput
+from aprsbook_tools.frame_sources.writer import Writer
 from aprsbook_tools.imports import feed
-from aprsbook_tools.log_file import Logs
+from aprsbook_tools.serving import push_options
 
-TEXT = """\
+DESCRIPTION = """\
 Reads a KISS stream, over TCP, of a serial port or from standard input, or a feed of APRS-IS, and
 writes FOLDER/DAY/NAME.log: a line for each frame, stamped with the moment at which it ended, in
 milliseconds of UTC.
 
-A line is written at once, and a torn one, which a crash or a full disk left, is taken off the log
-before the next. While a log can't be written, as on a full disk, the last 10,000 frames are held,
-and written once there is room; the status is 1 where any was lost. What ended is opened again, also
-a serial port that was unplugged. All this, and a clock that was set, is said on standard error.
+A line is written at once, and is on the disk after 5 seconds (--sync): a power failure takes no
+more. A torn one, which a crash left, is taken off the log before the next; a link, and a file that
+is no log, isn't touched. While a log can't be written, as on a full disk, the last 10,000 frames
+are held, and written once there is room; the status is 1 where any was lost. What ended is opened
+again, also a serial port that was unplugged. All this, and a clock that was set, is said.
 
 Of APRS-IS nothing is taken but what a gate heard on the air: the receivers' names are the gates',
 all in the log of NAME. Nothing is sent but the login."""
@@ -34,31 +41,46 @@ def call(text: str) -> str:
     return found
 
 
-def place(text: str) -> sources.Place:
+def place(text: str, port: Optional[int] = None) -> tcp.Place:
     try:
-        return sources.place(text)
+        return tcp.place(text, port)
     except ValueError as fault:
         raise argparse.ArgumentTypeError(str(fault))
 
 
+def server(text: str) -> tcp.Place:
+    """A server of APRS-IS, whose port may be left out."""
+    return place(text, 14580)
+
+
 def seconds(text: str) -> float:
-    try:
+    """Seconds, which may be a part of one, or a time such as 15m."""
+    with contextlib.suppress(ValueError):
         if 0 < float(text) < 1e6:
             return float(text)
-    except ValueError:
-        pass
-    raise argparse.ArgumentTypeError("no number of seconds above 0")
+    return arguments.duration(1, 1_000_000, "s")(text)
 
 
-def add_parser(subparsers: Subparsers) -> None:
-    parser = subparsers.add_parser(
-        "log", help="write a log of a receiver, for days on end", description=TEXT,
-        formatter_class=argparse.RawDescriptionHelpFormatter)
-    source = parser.add_mutually_exclusive_group()
-    source.add_argument("--connect", type=place, metavar="HOST:PORT", help="a KISS TNC over TCP")
-    source.add_argument("--serial", metavar="DEVICE", help="a TNC in KISS mode, as /dev/ttyUSB0")
-    source.add_argument("--aprs-is", type=place, metavar="HOST:PORT", help="a server of APRS-IS")
-    parser.add_argument("--baud", type=int, choices=sources.speeds(), default=9600,
+def sync_seconds(text: str) -> float:
+    return 0.0 if re.fullmatch("0+", text) else seconds(text)
+
+
+EXAMPLES = [
+    ("a log of Dire Wolf, which listens at port 8001",
+     "aprs-net log --connect localhost:8001 RX1 logs"),
+    ("of a TNC at a serial port", "aprs-net log --serial /dev/ttyUSB0 --baud 9600 RX2 logs"),
+    ("of what gates heard around a place, from APRS-IS",
+     "aprs-net log --aprs-is HOST --call Q0CALL --filter r/54.5/-3.5/50 FEED logs"),
+]
+
+
+def add_arguments(parser: argparse.ArgumentParser) -> None:
+    where = parser.add_mutually_exclusive_group()
+    where.add_argument("--connect", type=place, metavar="HOST:PORT", help="a KISS TNC over TCP")
+    where.add_argument("--serial", metavar="DEVICE", help="a TNC in KISS mode, as /dev/ttyUSB0")
+    where.add_argument("--aprs-is", type=server, metavar="HOST",
+                       help="a server of APRS-IS; HOST:PORT for another port than 14580")
+    parser.add_argument("--baud", type=int, choices=serial.speeds(), default=9600,
                         metavar="BAUD", help="the serial port's speed (9600)")
     parser.add_argument("--filter", default="", metavar="FILTER",
                         help="what APRS-IS is asked for, such as r/54.5/-3.5/50")
@@ -71,12 +93,18 @@ def add_parser(subparsers: Subparsers) -> None:
     parser.add_argument("--own", action="append", type=call, default=[], metavar="CALL",
                         help="a station of one's own: what it sent, as the TNC tells it, is kept "
                         "apart, in NAME.own")
+    parser.add_argument("--sync", type=sync_seconds, default=log_file.SYNC, metavar="SECONDS",
+                        help="what was written is on the disk after so long (5); 0: each frame at "
+                        "once, which wears an SD card")
+    parser.add_argument("--push", metavar="URL",
+                        help="also bring the lines to a server, as `aprs-net push` does")
+    push_options.add_server(parser)
     parser.add_argument("name", type=arguments.receiver, metavar="NAME", help="the receiver's name")
     parser.add_argument("folder", metavar="FOLDER")
 
 
 def say(text: str) -> None:
-    saying.say_at_once(f"aprs-net log: {text}")
+    stderr.say_at_once(f"aprs-net: {text}")
 
 
 def refusal(args: argparse.Namespace) -> Optional[str]:
@@ -100,14 +128,14 @@ def refusal(args: argparse.Namespace) -> Optional[str]:
     return None
 
 
-def source_of(args: argparse.Namespace) -> sources.Source:
+def source_of(args: argparse.Namespace) -> source.Source:
     if args.connect:
-        return sources.Tcp(args.connect, args.idle or 900)
+        return tcp.Tcp(args.connect, args.idle or 900)
     if args.serial:
-        return sources.Serial(args.serial, args.baud)
+        return serial.Serial(args.serial, args.baud)
     if args.aprs_is:
-        return sources.AprsIs(args.aprs_is, args.call, args.filter, args.idle or 90)
-    return sources.StandardInput()
+        return AprsIs(args.aprs_is, args.call, args.filter, args.idle or 90)
+    return StandardInput()
 
 
 # what a piece of input has: receivers and frames that stand between two FEND
@@ -128,33 +156,39 @@ def cutting(args: argparse.Namespace) -> Tuple[Cut, Callable[[], None]]:
     return cut, framer.restart
 
 
+def push_beside(args: argparse.Namespace) -> None:
+    """Brings the lines to a server as they are written."""
+    from aprsbook_tools.serving import pushing
+    pusher = push_options.pusher_of(args, args.push, args.folder, push_options.DAYS)
+    pushing.push_beside(pusher, push_options.EACH, push_options.say)
+
+
 def run(args: argparse.Namespace) -> int:
     words = refusal(args)
     if words:
-        say(f"error: {words}")
-        return 2
-    logs, clock = Logs(args.folder, say), Clock(say)
+        raise Fault(words, ExitStatus.ARGUMENTS)
+    logs, clock = Logs(args.folder, say, args.sync), Clock(say)
+    writer = Writer(logs, say)
     cut, restart = cutting(args)
+    if args.push:
+        push_beside(args)
 
     def take(octets: bytes) -> None:
         for receiver, framed in cut(octets):
             for moment, name, frame in clock.stamp(receiver, framed):
                 own = ax25.direct_source(kiss.unwrap(frame[1:-1])) in args.own
                 line = log_file.of_frame(moment, name, frame)
-                logs.put(args.name if args.aprs_is else name, line, "own" if own else "log")
+                writer.put(args.name if args.aprs_is else name, line, "own" if own else "log")
 
-    def begin() -> None:
-        restart()
-        logs.write()
-
-    waiting = sources.Waiting()
+    waiting = source.Waiting()
     waiting.heed()
+    writer.start()
     try:
-        well, why = sources.listen(source_of(args), waiting, take, begin, say)
+        well, why = source.listen(source_of(args), waiting, take, restart, say)
     except OSError as fault:
         well, why = False, said(fault)
     if not well:
         say(why)
-    logs.lost += clock.lost + len(clock.waiting)
-    status = logs.end()
-    return status if well else 1
+    writer.lost += clock.lost + len(clock.waiting)
+    status = writer.end(waiting)
+    return status if well else ExitStatus.INPUT

@@ -3,15 +3,18 @@ import argparse
 import re
 from typing import Dict, List, Sequence, Tuple
 
-from aprsbook_tools import arguments, moments, report, text_file
-from aprsbook_tools.checkpoints import Checkpoint, Visit, all_visits, read_checkpoints
-from aprsbook_tools.commands import Subparsers
-from aprsbook_tools.errors import ARGUMENTS, Fault
-from aprsbook_tools.places import Thing, things_of
-from aprsbook_tools.roster import Roster, roster_of
-from aprsbook_tools.spreadsheet import Cell
-from aprsbook_tools.table import Row
+from aprsbook_tools import arguments, stderr, table_output
+from aprsbook_tools.errors import ExitStatus, Fault
+from aprsbook_tools.formats import moments
+from aprsbook_tools.formats.spreadsheet import Cell
+from aprsbook_tools.reports.checkpoints import (
+    FASTEST, Checkpoint, Visit, all_visits, nearest_to, read_checkpoints, ways_of)
+from aprsbook_tools.reports.roster import Roster, roster_of
+from aprsbook_tools.reports.table import Row
+from aprsbook_tools.reports.tracks import COLUMNS, Thing, things_of
+from aprsbook_tools.system import user_text
 
+FEW = 20  # places that are named
 HEAD = [
     "checkpoint",
     "turn",
@@ -27,21 +30,28 @@ HEAD = [
 ]
 
 
-def add_parser(subparsers: Subparsers) -> None:
-    parser = subparsers.add_parser(
-        "passed",
-        help="who came by each checkpoint, and when",
-        description="A line for each time that a station, an object or an item was within a "
-        "checkpoint's circle: its turn there, when it came and went, its lap, and the metres from "
-        "the checkpoint where it was nearest. `by` is `heard` where a place within the circle was "
-        "heard, and `between` where only the straight way between two places leads through. Places "
-        "with digits left out don't count. A line of POINTS is a name, degrees north and east, and "
-        "the circle's metres, such as `Tarn 54.5183 -3.5216 150`.",
-    )
+DESCRIPTION = """\
+A line for each time that a station, an object or an item was within a checkpoint's circle: its turn
+there, when it came and went, its lap, and the metres from the checkpoint where it was nearest. `by`
+is `heard` where a place within the circle was heard, and `between` where only the straight way
+between two places leads through. Places with digits left out don't count, nor those that nothing
+on the ground could have reached (--fastest), which are named. A line of POINTS is a name, degrees
+north and east, and the circle's metres, such as `Tarn 54.5183 -3.5216 150`, or CSV of these."""
+EXAMPLES = [
+    ("who passed each checkpoint", "aprs-net passed --points points.txt net.book"),
+    ("the times of each runner, for a spreadsheet",
+     "aprs-net passed --matrix --points points.txt --format csv net.book"),
+]
+
+
+def add_arguments(parser: argparse.ArgumentParser) -> None:
+    parser.add_argument("--points", metavar="POINTS", required=True,
+                        help="the file of checkpoints")
     parser.add_argument(
         "--matrix",
         action="store_true",
-        help="a line for each who passed, by bib, with the time at each checkpoint",
+        help="a line for each who passed, by bib, with the time at each checkpoint; ~ marks what "
+        "lies between two beacons",
     )
     parser.add_argument(
         "--segments",
@@ -50,14 +60,20 @@ def add_parser(subparsers: Subparsers) -> None:
     )
     parser.add_argument(
         "--apart",
-        type=arguments.whole_number(1, 1440),
+        type=arguments.duration(1, 1440, "m"),
         default=15,
         metavar="MINUTES",
         help="no way leads between places so far apart in time (15)",
     )
-    report.add_csv(parser)
-    parser.add_argument("points", metavar="POINTS", help="the file of checkpoints")
-    report.add_arguments(parser)
+    parser.add_argument(
+        "--fastest",
+        type=arguments.whole_number(0, 100_000),
+        default=FASTEST,
+        metavar="KMH",
+        help=f"no way is faster than so many kilometres an hour ({FASTEST}), but for what flies; "
+        "0: any may be",
+    )
+    table_output.add_arguments(parser)
 
 
 def bib_of(thing: Thing, roster: Roster) -> str:
@@ -135,7 +151,7 @@ def matrix_of(
     for it, time in zip(visits, times):
         key = it.thing.kind, it.thing.name
         things[key] = it.thing
-        cells.setdefault(key, {})[it.lap, it.checkpoint] = time
+        cells.setdefault(key, {})[it.lap, it.checkpoint] = time if it.was_heard else f"~{time}"
     lines: List[List[Cell]] = []
     for key, thing in sorted(
         things.items(), key=lambda it: (in_natural_order(bib_of(it[1], roster)), it[0])
@@ -145,17 +161,42 @@ def matrix_of(
     return ["bib", "name", "tactical", *names], lines
 
 
+def say_what_is_wild(things: Sequence[Thing], fastest: float) -> None:
+    """Names places that nothing could have reached."""
+    found = [place for it in things for way in ways_of(it, fastest) for place in way.wild]
+    for it in found[:FEW]:
+        north, east = it.spot
+        stderr.warn(f"{it.name}, {it.row.first}: {north:.4f}, {east:.4f} isn't reached by "
+                    f"{fastest} km/h, and is left out")
+    if len(found) > FEW:
+        stderr.warn(f"places more that are left out so: {len(found) - FEW}")
+
+
+def say_who_is_near(
+    things: Sequence[Thing], points: Sequence[Checkpoint], visits: Sequence[Visit]
+) -> None:
+    """Says of checkpoints that nobody passed who was nearest, as where degrees are swapped."""
+    passed = {it.checkpoint for it in visits}
+    for number, at in enumerate(points):
+        near = nearest_to(things, at) if number not in passed else None
+        if near:
+            stderr.note(f"nobody passed {at.name}: {near[1].name} was nearest, {near[0]:,.0f} m "
+                        f"away, at {near[1].row.first}")
+
+
 def run(args: argparse.Namespace) -> int:
     if args.segments and not args.matrix:
-        raise Fault("--segments goes with --matrix", ARGUMENTS)
+        raise Fault("--segments goes with --matrix", ExitStatus.ARGUMENTS)
     roster = roster_of(args.roster)
-    points = read_checkpoints(args.points, text_file.read(args.points))
-    things = things_of(report.items_of(Row, args))
-    visits = all_visits(things, points, args.apart * 60_000)
+    points = read_checkpoints(args.points, user_text.read(args.points))
+    things = things_of(table_output.items_of(Row, args, COLUMNS))
+    visits = all_visits(things, points, args.apart * 60_000, args.fastest)
+    say_what_is_wild(things, args.fastest)
+    say_who_is_near(things, points, visits)
     if args.matrix:
         times = (segments_of if args.segments else clocks_of)(visits)
         head, lines = matrix_of(visits, points, roster, times)
     else:
         head, lines = HEAD, lines_of(visits, points, roster)
-    report.put_table(args, head, lines, args.points)
+    table_output.put_table(args, head, lines, args.points)
     return 0

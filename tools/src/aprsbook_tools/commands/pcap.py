@@ -3,28 +3,30 @@ import argparse
 import struct
 from typing import IO, Iterator
 
-from aprsbook_tools import arguments, kiss, log_file, streams, whole
-from aprsbook_tools.commands import Subparsers
+from aprsbook_tools import arguments
 from aprsbook_tools.errors import Fault
+from aprsbook_tools.formats import kiss, log_file
 from aprsbook_tools.imports.files import AX25_KISS
+from aprsbook_tools.system import atomic, long_lines, streams
 
-TEXT = """\
+DESCRIPTION = """\
 Writes the frames of a log, of those lines that hold one, as a capture of packets that Wireshark
-reads. Of a book: aprs-net import book NET.book | aprs-net pcap -o NET.pcap"""
+reads."""
+EXAMPLES = [
+    ("a log in Wireshark", "aprs-net pcap hill.log -o hill.pcap"),
+    ("a book", "aprs-net import book net.book | aprs-net pcap -o net.pcap"),
+]
 
 
-def add_parser(subparsers: Subparsers) -> None:
-    parser = subparsers.add_parser(
-        "pcap", help="write the frames of a log for Wireshark", description=TEXT,
-        formatter_class=argparse.RawDescriptionHelpFormatter)
+def add_arguments(parser: argparse.ArgumentParser) -> None:
     arguments.add_output(parser)
-    parser.add_argument("log", nargs="?", metavar="LOG", help="or else standard input")
+    arguments.add_log(parser)
 
 
 def capture(file: IO[bytes], name: str) -> Iterator[bytes]:
     """The capture: its head, and a record of each frame."""
     yield struct.pack("<IHHIIII", 0xA1B2C3D4, 2, 4, 0, 0, 65535, AX25_KISS)
-    for number, line in enumerate(file, 1):
+    for number, line in enumerate(long_lines.bounded(file), 1):
         read = log_file.read_whole(line)
         if read is None:
             raise Fault(f"{name}: line {number}: no line of a log (aprs-net mend takes it out)")
@@ -38,5 +40,7 @@ def capture(file: IO[bytes], name: str) -> Iterator[bytes]:
 
 def run(args: argparse.Namespace) -> int:
     with streams.opened(args.log) as file:
-        streams.put(args.output, capture(file, streams.name_of(args.log)), whole.all_of(args.log))
+        name = streams.name_of(args.log)
+        lines = streams.read_of(capture(file, name), name)
+        streams.put(args.output, lines, atomic.all_of(args.log))
     return 0

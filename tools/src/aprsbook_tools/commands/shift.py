@@ -3,11 +3,12 @@ import argparse
 import re
 from typing import IO, Iterator
 
-from aprsbook_tools import arguments, log_file, streams, whole
-from aprsbook_tools.commands import Subparsers
+from aprsbook_tools import arguments
 from aprsbook_tools.errors import Fault
+from aprsbook_tools.formats import log_file
+from aprsbook_tools.system import atomic, long_lines, streams
 
-TEXT = """\
+DESCRIPTION = """\
 Moves the moments of a log by SECONDS, which are whole, and below 0 where the clock was ahead; with
 --from or --to, or a receiver's name, those of a part. Nothing else of a line is changed. A line
 that is none of a log, or whose new moment isn't from 1970 to 2099, ends it with status 1, and no
@@ -20,31 +21,31 @@ def seconds(text: str) -> int:
     return int(text)
 
 
-def add_parser(subparsers: Subparsers) -> None:
-    parser = subparsers.add_parser(
-        "shift", help="move the moments of a log whose clock was wrong", description=TEXT,
-        formatter_class=argparse.RawDescriptionHelpFormatter)
-    parser.add_argument("--from", type=arguments.moment, dest="begin", metavar="MOMENT",
-                        help="the first moment that is moved, as it stands in the log")
-    parser.add_argument("--to", type=arguments.moment, dest="end", metavar="MOMENT",
-                        help="the first moment after it that isn't moved")
+EXAMPLES = [
+    ("a log whose receiver's clock was two hours ahead",
+     "aprs-net shift -7200 coast.log -o mended.log"),
+    ("what it wrote before its clock was set",
+     "aprs-net shift 3600 --to 2024-06-21T18:30 coast.log -o mended.log"),
+]
+
+
+def add_arguments(parser: argparse.ArgumentParser) -> None:
+    arguments.add_range(parser, "moves what stands in the log")
     parser.add_argument("--receiver", type=arguments.receiver, metavar="NAME",
                         help="of this receiver alone")
     arguments.add_output(parser)
     parser.add_argument("seconds", type=seconds, metavar="SECONDS")
-    parser.add_argument("log", nargs="?", metavar="LOG", help="or else standard input")
+    arguments.add_log(parser)
 
 
 def shifted(file: IO[bytes], args: argparse.Namespace) -> Iterator[bytes]:
     """The lines of the new log."""
     name = streams.name_of(args.log)
-    for number, line in enumerate(file, 1):
+    for number, line in enumerate(long_lines.bounded(file), 1):
         read = log_file.read_whole(line)
         if read is None:
             raise Fault(f"{name}: line {number}: no line of a log (aprs-net mend takes it out)")
-        inside = (args.begin is None or read.moment >= args.begin) and \
-            (args.end is None or read.moment < args.end)
-        if inside and args.receiver in (None, read.receiver):
+        if arguments.is_within(args, read.moment) and args.receiver in (None, read.receiver):
             try:
                 line = log_file.moved(line, read, args.seconds)
             except ValueError as fault:
@@ -54,8 +55,8 @@ def shifted(file: IO[bytes], args: argparse.Namespace) -> Iterator[bytes]:
 
 
 def run(args: argparse.Namespace) -> int:
-    if args.begin is not None and args.end is not None and args.begin >= args.end:
-        raise Fault("--from isn't before --to", 2)
+    arguments.check_range(args)
     with streams.opened(args.log) as file:
-        streams.put(args.output, shifted(file, args), whole.all_of(args.log))
+        lines = streams.read_of(shifted(file, args), streams.name_of(args.log))
+        streams.put(args.output, lines, atomic.all_of(args.log))
     return 0

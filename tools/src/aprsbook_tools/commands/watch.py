@@ -8,30 +8,34 @@ import subprocess
 import time
 from typing import Dict, List, Optional, Set, Tuple, Union
 
-from aprsbook_tools import arguments, merged, net_logs, saying, table, watching, whole
-from aprsbook_tools.commands import Subparsers, follow
-from aprsbook_tools.errors import ARGUMENTS, FAULTY, Fault, words_of
-from aprsbook_tools.heard import heard_of
-from aprsbook_tools.roster import roster_of
-from aprsbook_tools.table import Message, Row
-from aprsbook_tools.watching import Alert
+from aprsbook_tools import arguments, stderr
+from aprsbook_tools.books import merged_inputs, net_logs
+from aprsbook_tools.errors import ExitStatus, Fault, words_of
+from aprsbook_tools.reports import alerts, table
+from aprsbook_tools.reports.alerts import Alert
+from aprsbook_tools.reports.last_heard import heard_of
+from aprsbook_tools.reports.roster import roster_of
+from aprsbook_tools.reports.table import Message, Row
+from aprsbook_tools.system import atomic
 
 PATIENCE = 60  # seconds that the user's command may take
 
-DESCRIPTION = """Tells, once each, of the logs LOGS/DAY/NAME.log: who of those expected (or of all
-that were heard) is silent, which message isn't answered, and who reports an emergency in Mic-E.
-It is told on standard output, or to COMMAND: the last of its arguments is what happened in words.
-APRS_KIND (silent, unanswered, emergency), APRS_CALL, APRS_SINCE and APRS_WORDS have it too. No
-shell reads these words. Where COMMAND fails, it is told again in the next turn."""
+DESCRIPTION = """\
+Tells, once each, of the logs LOGS/DAY/NAME.log: who of those expected (or of all that were heard)
+is silent, which message isn't answered, and who reports an emergency in Mic-E. It is told on
+standard output, or to COMMAND: the last of its arguments is what happened in words. The variables
+APRS_NET_KIND (silent, unanswered, emergency), APRS_NET_CALL, APRS_NET_SINCE and APRS_NET_WORDS have
+it too. No shell reads these words. Where COMMAND fails, it is told again in the next turn."""
+EXAMPLES = [
+    ("tell on the screen who is silent for 20 minutes, each minute",
+     "aprs-net watch --silent 20 --every 60 --roster expected.txt logs"),
+    ("tell a program of emergencies",
+     "aprs-net watch --emergency --every 30 --run 'notify-send APRS' logs"),
+]
 
 
-def add_parser(subparsers: Subparsers) -> None:
-    parser = subparsers.add_parser(
-        "watch",
-        description=DESCRIPTION,
-        help="tell of silence, unanswered messages and emergencies",
-    )
-    minutes = arguments.whole_number(1, 100_000)
+def add_arguments(parser: argparse.ArgumentParser) -> None:
+    minutes = arguments.duration(1, 100_000, "m")
     parser.add_argument(
         "--silent", type=minutes, metavar="MINUTES", help="tell who is silent so long"
     )
@@ -42,65 +46,58 @@ def add_parser(subparsers: Subparsers) -> None:
         help="tell of messages that nobody answered for so long",
     )
     parser.add_argument("--emergency", action="store_true", help="tell of emergencies in Mic-E")
-    parser.add_argument("--roster", metavar="FILE", help="who is expected, with their names")
+    arguments.add_roster(parser)
     parser.add_argument(
         "--run", dest="command", metavar="COMMAND", help="a command and its first arguments"
     )
-    parser.add_argument(
-        "--every",
-        type=arguments.whole_number(1, 86_400),
-        metavar="SECONDS",
-        help="again and again, with so many seconds between; otherwise once",
-    )
+    arguments.add_every(parser)
     parser.add_argument("--state", metavar="FILE", help="keeps what was told, from run to run")
     parser.add_argument(
-        "--now",
+        "--moment",
         type=arguments.moment,
         metavar="MOMENT",
         help="ages count to this moment, and not to the clock's",
     )
-    follow.add_days(parser)
-    arguments.add_gap(parser)
+    net_logs.add_days(parser)
+    arguments.add_gap(parser, variable=True)
     parser.add_argument("logs", metavar="LOGS", help="the folder of the logs")
 
 
 def now_of(args: argparse.Namespace) -> int:
-    said: Optional[int] = args.now
+    said: Optional[int] = args.moment
     return said if said is not None else time.time_ns() // 1_000_000
 
 
 def alerts_of(args: argparse.Namespace) -> List[Alert]:
     """All that is to be told now."""
     roster, now = roster_of(args.roster), now_of(args)
-    found = net_logs.gather(args.logs, follow.days_of(args))
-    alerts: List[Alert] = []
-    with merged.book([], args.gap, found.log) as book:
+    found = net_logs.gather(args.logs, net_logs.days_of(args))
+    found_alerts: List[Alert] = []
+    with merged_inputs.book([], args.gap, found.log) as book:
         if args.emergency:
-            alerts += watching.emergencies(table.of(Row, [book], args.gap), roster)
+            found_alerts += alerts.emergencies(table.of(Row, [book], args.gap), roster)
         if args.unanswered:
             messages = table.of(Message, [book], args.gap)
-            alerts += watching.unanswered(messages, roster, now, args.unanswered)
+            found_alerts += alerts.unanswered(messages, roster, now, args.unanswered)
         if args.silent:
             stations = heard_of(table.of(Row, [book], args.gap))
-            alerts += watching.silent(stations, roster, now, args.silent)
-    return alerts
+            found_alerts += alerts.silent(stations, roster, now, args.silent)
+    return found_alerts
 
 
 def tell(alert: Alert, command: Optional[str]) -> bool:
     """Tells of an alert; whether that went well."""
     fault = fault_of_output(alert) if command is None else fault_of_command(alert, command)
     if fault:
-        saying.say(f"aprs-net: {fault}")
+        stderr.warn(fault)
     return not fault
 
 
 def fault_of_output(alert: Alert) -> str:
     """Tells of an alert on standard output; why that can't be, or nothing."""
     try:
-        whole.write_out(f"{alert.kind}: {alert.words}\n".encode("utf-8", "surrogateescape"))
+        atomic.write_out(f"{alert.kind}: {alert.words}\n".encode("utf-8", "surrogateescape"))
     except Fault as fault:
-        if isinstance(fault.__cause__, BrokenPipeError):
-            raise fault.__cause__  # nobody reads it any more
         return fault.words
     return ""
 
@@ -113,10 +110,10 @@ def given(text: str) -> Union[str, bytes]:
 def fault_of_command(alert: Alert, command: str) -> str:
     """Tells a command of an alert; why that can't be, or nothing."""
     said = {
-        "APRS_KIND": alert.kind,
-        "APRS_CALL": alert.call,
-        "APRS_SINCE": alert.since,
-        "APRS_WORDS": alert.words,
+        "APRS_NET_KIND": alert.kind,
+        "APRS_NET_CALL": alert.call,
+        "APRS_NET_SINCE": alert.since,
+        "APRS_NET_WORDS": alert.words,
     }
     environment: Dict[str, Union[str, bytes]] = {**os.environ}
     environment.update((name, given(it)) for name, it in said.items())
@@ -143,7 +140,7 @@ def read_state(path: Optional[str]) -> Set[str]:
         with contextlib.suppress(ValueError), open(path, encoding="utf-8") as file:
             told = json.load(file)
     if not isinstance(told, list) or not all(isinstance(it, str) for it in told):
-        raise Fault(f"{path} isn't what was told before, and isn't replaced", ARGUMENTS)
+        raise Fault(f"{path} isn't what was told before, and isn't replaced", ExitStatus.ARGUMENTS)
     return set(told)
 
 
@@ -162,36 +159,36 @@ def turn(args: argparse.Namespace, told: Set[str]) -> Tuple[Set[str], bool]:
 def turn_of_state(args: argparse.Namespace, told: Set[str]) -> bool:
     """A turn of those runs that share what was told; whether all could be told. `told` is what this
     run told, also where that can't be written."""
-    whole.check(args.state, [args.logs])
-    with whole.locked(args.state):
+    atomic.check(args.state, [args.logs])
+    with atomic.locked(args.state):
         now, went_well = turn(args, read_state(args.state) | told)
         told.clear()
         told.update(now)
-        whole.write(args.state, json.dumps(sorted(now), indent=0).encode(), [args.logs])
+        atomic.write(args.state, json.dumps(sorted(now), indent=0).encode(), [args.logs])
     return went_well
 
 
 def check(args: argparse.Namespace) -> None:
     """Refuses options that would never tell anything."""
     if not (args.silent or args.unanswered or args.emergency):
-        raise Fault("nothing to tell: --silent, --unanswered or --emergency", ARGUMENTS)
+        raise Fault("nothing to tell: --silent, --unanswered or --emergency", ExitStatus.ARGUMENTS)
     if args.command is not None:
         try:
             words = shlex.split(args.command)
         except ValueError as fault:
-            raise Fault(f"--run {args.command}: {fault}", ARGUMENTS) from fault
+            raise Fault(f"--run {args.command}: {fault}", ExitStatus.ARGUMENTS) from fault
         if not words:
-            raise Fault("--run: no command", ARGUMENTS)
+            raise Fault("--run: no command", ExitStatus.ARGUMENTS)
 
 
 def run(args: argparse.Namespace) -> int:
     check(args)
-    args.gap = follow.gap_of(args)
+    args.gap = arguments.gap_of(args)
     read_state(args.state)  # refuses at once what is none
     told: Set[str] = set()
     if args.every is None:
         went_well = turn_of_state(args, told) if args.state else turn(args, told)[1]
-        return 0 if went_well else FAULTY
+        return 0 if went_well else ExitStatus.INPUT
     while True:
         try:
             if args.state:
@@ -201,5 +198,5 @@ def run(args: argparse.Namespace) -> int:
         except BrokenPipeError:
             raise
         except (Fault, OSError) as fault:  # the next turn may go well
-            saying.say(words_of(fault))
+            stderr.say(words_of(fault))
         time.sleep(args.every)

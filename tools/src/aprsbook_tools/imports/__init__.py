@@ -5,7 +5,7 @@ A reader is a function of a file and of Options, and gives what it finds, in ord
 import dataclasses
 from typing import IO, Callable, Iterator, Optional, Union
 
-from aprsbook_tools.zones import Zones
+from aprsbook_tools.formats.zones import Zones
 
 
 @dataclasses.dataclass

@@ -5,9 +5,10 @@ So positions and statuses become frames anew, addressed to APZCSV: who reads the
 import csv
 from typing import IO, Dict, Iterator, List, Optional
 
-from aprsbook_tools import ax25, moments
 from aprsbook_tools.errors import Fault
+from aprsbook_tools.formats import ax25, moments
 from aprsbook_tools.imports import Found, Heard, Options, Refused, packets
+from aprsbook_tools.system import long_lines
 
 DESTINATION = "APZCSV"
 POSITIONS = frozenset("!=/@`'")
@@ -16,6 +17,8 @@ NEEDED = ("utime", "source", "heard", "dti", "symbol", "latitude", "longitude", 
 
 def degrees(text: str, width: int, ends: str) -> str:
     """Degrees as a position report has them: degrees, minutes with two decimals, and a letter."""
+    if not abs(float(text)) <= (90 if width == 2 else 180):
+        raise ValueError(f"{text} is no place on the earth")
     hundredths = round(abs(float(text)) * 6000)
     whole, rest = divmod(hundredths, 6000)
     return f"{whole:0{width}}{rest // 100:02}.{rest % 100:02}{ends[float(text) < 0]}"
@@ -87,12 +90,12 @@ def heard_of(row: Dict[str, str], options: Options) -> Heard:
 def read(file: IO[bytes], options: Options) -> Iterator[Found]:
     """Dire Wolf's log in CSV, of positions and statuses. A text there has no end of a line, so that
     a line that was cut short takes none of the next ones in."""
-    head = file.readline()
+    head = file.readline(long_lines.LONGEST)
     names = head.decode("utf-8-sig", "replace").strip().split(",")
     for column in NEEDED:
         if column not in names:
             raise Fault(f"no log of Dire Wolf in CSV: it has no column {column}")
-    for number, line in enumerate(file, 2):
+    for number, line in enumerate(long_lines.bounded(file), 2):
         line = line.rstrip(b"\r\n")
         if not line or line == head.strip():  # of another day's log
             continue

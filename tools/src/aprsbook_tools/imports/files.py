@@ -3,9 +3,10 @@ import re
 import struct
 from typing import IO, Iterator, Optional
 
-from aprsbook_tools import book_file, kiss, moments
-from aprsbook_tools.errors import Fault
+from aprsbook_tools.errors import ExitStatus, Fault
+from aprsbook_tools.formats import book_file, kiss, moments
 from aprsbook_tools.imports import Found, Heard, Options, Refused
+from aprsbook_tools.system import long_lines
 
 DECODED = re.compile(rb"DECODED\[\d+\]\s+(?:(\d{1,6}):)?(\d{1,6}):(\d\d)\.(\d{3})\s")
 BYTES = re.compile(rb"  [0-9a-f]{3}:  ((?:[0-9a-f]{2} ){1,16})")
@@ -24,10 +25,11 @@ def heard_or_refused(number: int, moment: int, receiver: str, frame: bytes) -> F
 def atest(file: IO[bytes], options: Options) -> Iterator[Found]:
     """What `atest -h` prints of a recording: frames, each with its time from the start."""
     if options.start is None:
-        raise Fault("a recording needs --start MOMENT, such as 2024-06-21T18:00:00Z", 2)
+        raise Fault("a recording needs --start MOMENT, such as 2024-06-21T18:00",
+                    ExitStatus.ARGUMENTS)
     at: Optional[int] = None
     frame = b""
-    for number, line in enumerate(file, 1):
+    for number, line in enumerate(long_lines.bounded(file), 1):
         decoded, octets = DECODED.match(line), BYTES.match(line)
         if decoded:
             hours, minutes, seconds, fraction = (int(it or 0) for it in decoded.groups())

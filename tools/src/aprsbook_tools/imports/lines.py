@@ -3,11 +3,12 @@ import codecs
 import dataclasses
 import re
 import time
-from typing import Callable, Iterable, Iterator, NamedTuple, Optional
+from typing import IO, Callable, Iterable, Iterator, NamedTuple, Optional
 
-from aprsbook_tools import ax25, moments, zones
 from aprsbook_tools.errors import Fault
+from aprsbook_tools.formats import ax25, moments, zones
 from aprsbook_tools.imports import Found, Heard, Options, Refused, packets
+from aprsbook_tools.system import long_lines
 
 # where a packet begins in a line, perhaps behind aprx's mark of one that it didn't pass on
 BEGIN = re.compile(rb"(?:^|[ \t\]|,])[*#]?([A-Za-z0-9/-]+>[A-Za-z0-9*,_/-]+:.+)$", re.DOTALL)
@@ -45,9 +46,9 @@ def cut(line: bytes) -> Optional[Part]:
     return Part(line[:found.start(1)], found[1]) if found else None
 
 
-def plain(file: Iterable[bytes]) -> Iterator[bytes]:
+def plain(file: IO[bytes]) -> Iterator[bytes]:
     """The lines of a text in UTF-8, without a byte order mark."""
-    for number, line in enumerate(file):
+    for number, line in enumerate(long_lines.bounded(file)):
         if number == 0 and line.startswith((codecs.BOM_UTF16_LE, codecs.BOM_UTF16_BE)):
             raise Fault("in UTF-16, as PowerShell writes: make it UTF-8")
         yield line if number else line.removeprefix(codecs.BOM_UTF8)
@@ -58,6 +59,9 @@ def moment_of(before: bytes, options: Options) -> int:
     found = zones.find(before)
     if found:
         return options.zones.read(*found)
+    clock = zones.find_clock(before)
+    if clock and options.zones.date:
+        return options.zones.read_clock(*clock)
     epoch = EPOCH.match(before)
     if epoch:
         fraction = (epoch[2] or epoch[3] or b"").decode()[:3].ljust(3, "0")
@@ -65,15 +69,19 @@ def moment_of(before: bytes, options: Options) -> int:
     elif options.now:
         moment = int(time.time() * 1000)
     else:
-        raise ValueError("no time stands before it")
+        raise ValueError("its time has no day, which --date DAY says" if clock
+                         else "no time stands before it")
     moments.text_of(moment)  # refuses what is no moment of a log
     return moment
 
 
 def read(file: Iterable[bytes], options: Options, marks: Marks, escapes: str) -> Iterator[Found]:
     """The packets of lines that have a time before each."""
-    for number, line in enumerate(plain(file), 1):
+    for number, line in enumerate(file, 1):
         line = line.rstrip(b"\r\n")
+        if long_lines.is_too_long(line):
+            yield Refused(number, f"more than {long_lines.LONGEST} bytes", line)
+            continue
         part = cut(line)
         if part is None:
             continue
@@ -109,16 +117,16 @@ def heard(text: bytes, moment: int, mark: Mark, options: Options, escapes: str) 
     return Heard(moment, packets.receiver(name or "TEXT"), frame, mark.own)
 
 
-def monitor(file: Iterable[bytes], options: Options) -> Iterator[Found]:
+def monitor(file: IO[bytes], options: Options) -> Iterator[Found]:
     """Any text with a time before each packet, as Dire Wolf's with -T."""
     def marks(part: Part) -> Mark:
         if SENT.search(part.before):
             return Mark(own=True)
         return Mark(left_out=bool(NET.search(part.before)))
-    return read(file, options, marks, "direwolf")
+    return read(plain(file), options, marks, "direwolf")
 
 
-def aprx(file: Iterable[bytes], options: Options) -> Iterator[Found]:
+def aprx(file: IO[bytes], options: Options) -> Iterator[Found]:
     """aprx's rf.log: a time in UTC, the interface, R or d or T, and the packet."""
     def marks(part: Part) -> Mark:
         found = APRX.search(part.before)
@@ -126,10 +134,10 @@ def aprx(file: Iterable[bytes], options: Options) -> Iterator[Found]:
             return Mark(left_out=True)
         time = part.before[:found.start(1)].rstrip()
         return Mark(found[1].decode("ascii", "replace"), own=found[2] == b"T", time=time)
-    return read(file, options, marks, "direwolf")
+    return read(plain(file), options, marks, "direwolf")
 
 
-def aprs_fi(file: Iterable[bytes], options: Options) -> Iterator[Found]:
+def aprs_fi(file: IO[bytes], options: Options) -> Iterator[Found]:
     """aprs.fi's raw packets, as its page shows them: the receivers are the gates."""
     def stripped() -> Iterator[bytes]:
         for line in plain(file):
@@ -138,12 +146,12 @@ def aprs_fi(file: Iterable[bytes], options: Options) -> Iterator[Found]:
     return read(stripped(), told, lambda _: Mark(), "direwolf")
 
 
-def yaac(file: Iterable[bytes], options: Options) -> Iterator[Found]:
+def yaac(file: IO[bytes], options: Options) -> Iterator[Found]:
     """YAAC's log of raw packets: a time, or milliseconds since 1970, before each packet."""
-    return read(file, options, lambda _: Mark(), "raw")
+    return read(plain(file), options, lambda _: Mark(), "raw")
 
 
-def xastir(file: Iterable[bytes], options: Options) -> Iterator[Found]:
+def xastir(file: IO[bytes], options: Options) -> Iterator[Found]:
     """Xastir's tnc.log or net.log: a line `# SECONDS ..` before the packets of that moment."""
     def timed() -> Iterator[bytes]:
         moment = b""

@@ -2,7 +2,7 @@
 import re
 from typing import NamedTuple, Optional
 
-from aprsbook_tools import log_file
+from aprsbook_tools.formats import log_file
 
 PACKET = re.compile(rb"([A-Za-z0-9/-]+)>([A-Za-z0-9*,_/-]+):(.+)", re.DOTALL)
 GATE = re.compile(r",qA[ROro],([^,]+)")

@@ -1,5 +1,5 @@
 use Rattle.aprs_book.proofs.Common.{◌∙◌, ◌++◌, ap, sym, subst, AreInOrder, AreSoundRows}
-use Rattle.aprs_book.proofs.Collected.{on_ok}
+use Rattle.aprs_summary.proofs.Collected.{on_ok}
 use Rattle.aprs_book.proofs.InStore.{first_sound, rest_sound, one_put, all_put, joined_by}
 use Rattle.aprs_book.proofs.stored.add_rows.Goals as goal
 

@@ -1,5 +1,5 @@
 use Rattle.aprs_book.proofs.Common.{◌∙◌, ◌++◌, ◌∷◌, [], ap, sym, subst, arith, All, join_with_byte, IsName, Row, IsSoundRow}
-use Rattle.aprs_book.proofs.Collected.{on_ok}
+use Rattle.aprs_summary.proofs.Collected.{on_ok}
 use Rattle.aprs_book.proofs.InStore.{is_short}
 use Rattle.aprs_book.proofs.stored.put_row.Goals as goal
 

@@ -3,7 +3,7 @@ use Rattle.aprs_laws.specs.JoinRow.{merge}
 use Rattle.aprs_laws.specs.Together.{book_together}
 use Rattle.aprs_laws.proofs.Books.{one_book}
 use Rattle.aprs_laws.proofs.Together.{together}
-use Rattle.aprs_book.proofs.InStore.{in_order}
+use Rattle.aprs_rows.proofs.SoundOrder.{in_order}
 use Rattle.aprs_booktext.proofs.read.book_in.Goals as goal
 
 pub add-requires : goal.add-requires

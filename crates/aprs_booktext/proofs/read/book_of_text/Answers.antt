@@ -1,9 +1,9 @@
 use Rattle.aprs_booktext.proofs.Common.{ℕ, ◌≡◌, ◌<◌, ◌^◌, ◌∙◌, [], List, Ok, ap, arith, subst, sym, err_from_is_err_and, BookValue, IsSoundBook, Row}
-use Rattle.aprs_booktext.specs.Piece.{bytes_left}
-use Rattle.aprs_booktext.specs.Reader.{gap_in, is_done}
-use Rattle.aprs_booktext.specs.Reading.{IsAnswered}
-use Rattle.aprs_booktext.proofs.LastLines.{done_sound, first_refused}
-use Rattle.aprs_booktext.proofs.RowStreams.{begun, last_refused, rows_taken}
+use Rattle.aprs_bookfile.specs.Piece.{bytes_left}
+use Rattle.aprs_bookfile.specs.Reader.{gap_in, is_done}
+use Rattle.aprs_bookfile.specs.Reading.{IsAnswered}
+use Rattle.aprs_bookfile.proofs.LastLines.{done_sound, first_refused}
+use Rattle.aprs_bookfile.proofs.RowStreams.{begun, last_refused, rows_taken}
 use Rattle.aprs_booktext.proofs.read.book_of_text.Goals as goal
 
 pub book_in-requires : goal.book_in-requires

@@ -1,4 +1,4 @@
-use Rattle.aprs_booktext.proofs.Accepting.{answer_accepts, answer_seconds}
+use Rattle.aprs_bookfile.proofs.Accepting.{answer_accepts, answer_seconds}
 use Rattle.aprs_booktext.proofs.read.read_book.Goals as goal
 
 pub returns-clause-accepts : goal.returns-clause-accepts

@@ -1,5 +1,5 @@
 use Rattle.aprs_booktext.proofs.Common.{refl, sym, Puts-fails, Puts-is, Puts-then}
-use Rattle.aprs_booktext.proofs.TextParts.{told_parts}
+use Rattle.aprs_bookfile.proofs.TextParts.{told_parts}
 use Rattle.aprs_booktext.proofs.write.put_book_row.Goals as goal
 
 pub returns-in_err-put-clause-puts : goal.returns-in_err-put-clause-puts

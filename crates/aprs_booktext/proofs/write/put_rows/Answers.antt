@@ -1,4 +1,4 @@
-use Rattle.aprs_booktext.proofs.Written.{PutSoFar-all, PutSoFar-broken, PutSoFar-each, PutSoFar-more, PutSoFar-none, book_rows}
+use Rattle.aprs_bookfile.proofs.Written.{PutSoFar-all, PutSoFar-broken, PutSoFar-each, PutSoFar-more, PutSoFar-none, book_rows}
 use Rattle.aprs_booktext.proofs.write.put_rows.Goals as goal
 
 pub loop-row-init : goal.loop-row-init

@@ -1,4 +1,4 @@
-use Rattle.aprs_booktext.proofs.Written.{PutSoFar}
+use Rattle.aprs_bookfile.proofs.Written.{PutSoFar}
 use Rattle.aprs_booktext.proofs.write.put_rows.Given as goal
 
 abbrev pub invariant-loop-row : goal.invariant-loop-row

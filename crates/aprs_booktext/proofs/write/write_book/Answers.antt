@@ -1,5 +1,5 @@
 use Rattle.aprs_booktext.proofs.Common.{rules, subst, Sends, Sends-put, Sends-unput}
-use Rattle.aprs_booktext.specs.Text.{written_text}
+use Rattle.aprs_bookfile.specs.Text.{written_text}
 use Rattle.aprs_booktext.proofs.write.write_book.Goals as goal
 
 pub returns-in_err-put_book-clause-sends : goal.returns-in_err-put_book-clause-sends

@@ -14,5 +14,7 @@ returns c =
     ∙ ap₂ with_rule with_gap c.option_arg-from.ensures.rule in
     let with_until = c.in_ok-with_until.ensures.shape c.option_arg-until.ensures.local
     ∙ ap₂ with_rule with_from c.option_arg-until.ensures.rule in
-    IfOk-weaker c.arg-5.result _ _ (λ m h. h.shape c.check_arg-check.ensures.local
-    ∙ ap₂ with_rule with_until c.check_arg-check.ensures.rule) c.arg-5.ensures
+    let with_new_to = c.in_ok-with_new_to.ensures.shape c.option_arg-new_to.ensures.local
+    ∙ ap₂ with_rule with_until c.option_arg-new_to.ensures.rule in
+    IfOk-weaker c.arg-6.result _ _ (λ m h. h.shape c.check_arg-check.ensures.local
+    ∙ ap₂ with_rule with_new_to c.check_arg-check.ensures.rule) c.arg-6.ensures

@@ -8,5 +8,7 @@ returns c =
     search rules in
     let with_inputs = c.in_ok-with_inputs.ensures.shape c.inputs_arg-inputs.ensures.local
     ∙ ap₂ with_rule named c.inputs_arg-inputs.ensures.rule in
-    IfOk-weaker c.arg-2.result _ _ (λ m h. h.shape c.gap_arg-gap.ensures.local
-    ∙ ap₂ with_rule with_inputs c.gap_arg-gap.ensures.rule) c.arg-2.ensures
+    let with_gap = c.in_ok-with_gap.ensures.shape c.gap_arg-gap.ensures.local
+    ∙ ap₂ with_rule with_inputs c.gap_arg-gap.ensures.rule in
+    IfOk-weaker c.arg-3.result _ _ (λ m h. h.shape c.message_gap_arg-message_gap.ensures.local
+    ∙ ap₂ with_rule with_gap c.message_gap_arg-message_gap.ensures.rule) c.arg-3.ensures

@@ -1,6 +1,6 @@
 use Rattle.aprs_fold.proofs.Common.{Ok, rules, subst, err_from_is_err_and, Sends, Sends-put}
 use Rattle.aprs_io.proofs.Sends.{Sends-ok}
-use Rattle.aprs_booktext.specs.Text.{written_text}
+use Rattle.aprs_bookfile.specs.Text.{written_text}
 use Rattle.aprs_fold.specs.Fold.{IsLeft}
 use Rattle.aprs_fold.specs.Range.{book_of_sources}
 use Rattle.aprs_fold.specs.declared.fault.FoldFault.{FoldFault}

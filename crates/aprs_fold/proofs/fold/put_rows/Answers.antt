@@ -1,5 +1,5 @@
 use Rattle.aprs_fold.proofs.Common.{[], List, Row, map, sym, subst, arith, err_from_is_err_and}
-use Rattle.aprs_booktext.specs.declared.row_stream.RowStream.{RowStream}
+use Rattle.aprs_bookfile.specs.declared.row_stream.RowStream.{RowStream}
 use Rattle.aprs_fold.specs.Streams.{AreReading}
 use Rattle.aprs_fold.specs.declared.fault.FoldFault.TheVariants.{Memory}
 use Rattle.aprs_fold.proofs.Begun.{ChangesAt-none}

@@ -1,5 +1,5 @@
 use Rattle.aprs_fold.proofs.Common.{[], ◌∙◌, refl, sym, arith, err_from_is_err_and}
-use Rattle.aprs_booktext.proofs.RowStreams.{begun}
+use Rattle.aprs_bookfile.proofs.RowStreams.{begun}
 use Rattle.aprs_fold.proofs.Streamed.{begins_other, differing_gap, same_gap, IsAsked-none}
 use Rattle.aprs_fold.proofs.Reading.{gets_asked}
 use Rattle.aprs_fold.proofs.opening.open_one.Goals as goal

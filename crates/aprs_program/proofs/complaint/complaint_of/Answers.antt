@@ -1,5 +1,5 @@
 use Rattle.aprs_program.proofs.Common.{◌∙◌, ap, sym}
-use Rattle.aprs_tool.specs.declared.fault.RunFault.{RunFault}
+use Rattle.aprs_runs.specs.declared.fault.RunFault.{RunFault}
 use Rattle.aprs_program.specs.Complaint.{run_words}
 use Rattle.aprs_program.proofs.complaint.complaint_of.Goals as goal
 

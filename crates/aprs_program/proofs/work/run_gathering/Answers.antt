@@ -1,7 +1,7 @@
 use Rattle.aprs_program.proofs.Common.{subst, sym}
 use Rattle.aprs_io.specs.Input.{most_input}
-use Rattle.aprs_tool.specs.Outcome.{IsToldOf, WritesFor}
-use Rattle.aprs_tool.specs.Several.{GiveUnion, OfEach}
+use Rattle.aprs_runs.specs.Outcome.{IsToldOf, WritesFor}
+use Rattle.aprs_runs.specs.Several.{GiveUnion, OfEach}
 use Rattle.aprs_program.specs.Work.{AsksAll, IsOutputOf}
 use Rattle.aprs_program.specs.declared.work.Gathering.{Gathering}
 use Rattle.aprs_program.proofs.work.run_gathering.Goals as goal

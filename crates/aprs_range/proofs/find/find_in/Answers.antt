@@ -1,5 +1,5 @@
 use Rattle.std.proofs.Common.{◌≡◌, ◌<◌, ◌^◌, ◌∙◌, length, sym, arith}
-use Rattle.aprs_booktext.specs.Version.{header_of}
+use Rattle.aprs_bookfile.specs.Version.{header_of}
 use Rattle.aprs_range.proofs.Stretches.{has_stretch}
 use Rattle.aprs_range.proofs.find.find_in.Goals as goal
 

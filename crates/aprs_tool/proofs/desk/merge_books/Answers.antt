@@ -1,6 +1,6 @@
 use Rattle.aprs_tool.proofs.Common.{arith}
-use Rattle.aprs_tool.proofs.Into.{merges_empty}
-use Rattle.aprs_tool.proofs.RowsTold.{known_none, known_sound, whatever}
+use Rattle.aprs_tool.proofs.Merged.{merges_empty}
+use Rattle.aprs_runs.proofs.RowsTold.{known_none, known_sound, whatever}
 use Rattle.aprs_tool.proofs.desk.merge_books.Goals as goal
 
 pub returns-then-len-eq0-clause-merges : goal.returns-then-len-eq0-clause-merges

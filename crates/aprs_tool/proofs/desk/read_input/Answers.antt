@@ -1,7 +1,7 @@
 use Rattle.aprs_tool.proofs.Common.{[], ◌∙◌, refl, inl, inr, err_from_is_err_and, BookValue, Calls-then}
-use Rattle.aprs_tool.specs.declared.fault.InputFault.TheVariants.{Log}
-use Rattle.aprs_tool.proofs.Inputs.{book_input, of_got, of_log, of_mark, read_alone, refused_input, refused_log, short_empty, short_fault, short_is_log}
-use Rattle.aprs_tool.proofs.Readers.{AsksInput-then}
+use Rattle.aprs_runs.specs.declared.fault.InputFault.TheVariants.{Log}
+use Rattle.aprs_runs.proofs.Inputs.{book_input, of_got, of_log, of_mark, read_alone, refused_input, refused_log, short_empty, short_fault, short_is_log}
+use Rattle.aprs_runs.proofs.Readers.{AsksInput-then}
 use Rattle.aprs_tool.proofs.desk.read_input.Goals as goal
 
 -- ---- a book file

@@ -1,5 +1,5 @@
 use Rattle.aprs_web.proofs.Common.{map, List, ℕ, Some, sym, ap, ◌∙◌}
-use Rattle.aprs_tool.specs.HistoryOf.{IsHistoryOf}
+use Rattle.aprs_runs.specs.HistoryOf.{IsHistoryOf}
 use Rattle.aprs_web.proofs.Gathers.{gathers}
 use Rattle.aprs_web.proofs.written.history.Goals as goal
 

@@ -1,5 +1,5 @@
 use Rattle.aprs_web.proofs.Common.{map, List, ℕ, Some, sym, ap, ◌∙◌}
-use Rattle.aprs_tool.specs.TableOf.{IsTableOf}
+use Rattle.aprs_runs.specs.TableOf.{IsTableOf}
 use Rattle.aprs_web.proofs.Gathers.{gathers}
 use Rattle.aprs_web.proofs.written.tabulate.Goals as goal
 

@@ -1,10 +1,10 @@
 use Rattle.aprs_book.proofs.Common.{◌≡◌, ◌∙◌, ◌∷◌, ◌++◌, [], None, sym, ap, refl, subst, Received, millis_of, Row, Sound, refusal, free_ascends, none_exactly}
 use Rattle.aprs_laws.specs.Key.{key_of}
 use Rattle.aprs_book.specs.Keyed.{LastKeyIsUpTo}
-use Rattle.aprs_book.specs.Known.{topic_bytes}
+use Rattle.aprs_summary.specs.Known.{topic_bytes}
 use Rattle.aprs_book.proofs.Taking.{refusal_is}
 use Rattle.aprs_book.proofs.RefusalEnds.{none_ends_up_to}
-use Rattle.aprs_book.proofs.IndexSteps.{Noted, pushes_indexes}
+use Rattle.aprs_summary.proofs.IndexSteps.{Noted, pushes_indexes}
 use Rattle.aprs_book.proofs.book.Book.add.Goals as goal
 
 pub of-requires : goal.of-requires

@@ -1,8 +1,8 @@
 use Rattle.aprs_book.proofs.Common.{◌∙◌, None, map, sym, ap, subst, millis_of, known_of, plain_known}
-use Rattle.aprs_book.specs.Known.{greatest_of}
-use Rattle.aprs_book.specs.LastKnown.{IsLastKnown}
-use Rattle.aprs_book.specs.Reports.{has_source}
-use Rattle.aprs_book.proofs.IndexSteps.{entry_reports}
+use Rattle.aprs_summary.specs.Known.{greatest_of}
+use Rattle.aprs_summary.specs.LastKnown.{IsLastKnown}
+use Rattle.aprs_summary.specs.Reports.{has_source}
+use Rattle.aprs_summary.proofs.IndexSteps.{entry_reports}
 use Rattle.aprs_book.proofs.book.Book.last_heard.Goals as goal
 
 pub returns : goal.returns

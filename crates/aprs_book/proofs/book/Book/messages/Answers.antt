@@ -1,5 +1,5 @@
 use Rattle.aprs_book.proofs.Common.{subst, millis_of}
-use Rattle.aprs_book.specs.Exchange.{IsExchangeOf}
+use Rattle.aprs_summary.specs.Exchange.{IsExchangeOf}
 use Rattle.aprs_book.proofs.book.Book.messages.Goals as goal
 
 pub returns : goal.returns

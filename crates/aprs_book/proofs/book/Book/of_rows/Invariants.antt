@@ -1,5 +1,5 @@
 use Rattle.aprs_book.proofs.Common.{◌≡◌, ◌++◌}
-use Rattle.aprs_book.specs.Notes.{AreNotesOf}
+use Rattle.aprs_summary.specs.Notes.{AreNotesOf}
 use Rattle.aprs_book.proofs.book.Book.of_rows.Given as goal
 
 abbrev pub invariant-loop-row : goal.invariant-loop-row

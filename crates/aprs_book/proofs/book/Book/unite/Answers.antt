@@ -1,6 +1,7 @@
 use Rattle.aprs_book.proofs.Common.{◌≡◌, ◌∙◌, ℕ, List, [], Row, AreJoined, BookValue, IsSoundBook, gap_laws, millis_of}
-use Rattle.aprs_book.specs.Taking.{MergesInto}
-use Rattle.aprs_book.proofs.InStore.{sound_walk, in_order, joined_by, made_has, both, are_joined, is_merged}
+use Rattle.aprs_book.specs.Changes.{MergesInto}
+use Rattle.aprs_rows.proofs.SoundOrder.{in_order}
+use Rattle.aprs_book.proofs.InStore.{sound_walk, joined_by, made_has, both, are_joined, is_merged}
 use Rattle.aprs_book.proofs.Taking.{value}
 use Rattle.aprs_book.proofs.book.Book.unite.Goals as goal
 

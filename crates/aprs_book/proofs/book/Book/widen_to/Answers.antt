@@ -1,5 +1,6 @@
 use Rattle.aprs_book.proofs.Common.{◌≡◌, ◌∙◌, widened_to}
-use Rattle.aprs_book.proofs.InStore.{sound_walk, in_order, joined_by, made_has, widened}
+use Rattle.aprs_rows.proofs.SoundOrder.{in_order}
+use Rattle.aprs_book.proofs.InStore.{sound_walk, joined_by, made_has, widened}
 use Rattle.aprs_book.proofs.book.Book.widen_to.Goals as goal
 
 pub add_rows-requires-clause-order : goal.add_rows-requires-clause-order

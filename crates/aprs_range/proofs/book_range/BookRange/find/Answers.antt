@@ -1,5 +1,5 @@
 use Rattle.std.proofs.Common.{◌∙◌, refl}
-use Rattle.aprs_booktext.specs.Text.{book_text}
+use Rattle.aprs_bookfile.specs.Text.{book_text}
 use Rattle.aprs_range.proofs.Lent.{lent_is}
 use Rattle.aprs_range.proofs.book_range.BookRange.find.Goals as goal
 

@@ -1,6 +1,6 @@
 use Rattle.aprs_tool.proofs.Common.{inl, err_from_is_err_and, got_so}
-use Rattle.aprs_tool.proofs.Into.{merged_in, not_merged_in}
-use Rattle.aprs_tool.proofs.Readers.{AsksInput-ends, AsksInput-err, asks_merge}
+use Rattle.aprs_tool.proofs.Merged.{merged_in, not_merged_in}
+use Rattle.aprs_runs.proofs.Readers.{AsksInput-ends, AsksInput-err, asks_merge}
 use Rattle.aprs_tool.proofs.desk.Desk.take_input.Goals as goal
 
 pub returns-clause-takes : goal.returns-clause-takes

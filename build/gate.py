@@ -1,0 +1,193 @@
+#!/usr/bin/env python3
+"""Proves and tries everything of this repository, side by side.
+
+usage: build/gate.py prove    the gate: every proof from nothing, every edit that must fail, every test but
+                              those of aprs-net
+       build/gate.py check    the same over what was proved before
+       build/gate.py build    the proofs of the programs and of what they stand on, over those before
+       build/gate.py test     every test, and no proof; with programs of these sources those of programs
+
+Prints a line for each job, all that a failed one said, the minutes of processors that it took, and
+last `N passed, M failed`. Each job has a processor with 3 GB of free memory; LANES=N says another
+number. What was proved before a `prove` is set aside, and comes back where that fails.
+"""
+import contextlib
+import fcntl
+import os
+import pathlib
+import shutil
+import subprocess
+import sys
+from typing import Iterator, List, Sequence
+
+import crates
+import edits
+import jobs
+from jobs import Job
+
+TOP = crates.TOP
+ASIDE = TOP / "out" / "before"
+# how long a job takes, in lines that are proved: an edit, the link of a program, and a make of tests;
+# what a line of a test takes
+EDIT, LINK, TEST, LINE_OF_TEST = 160, 2_500, 4_000, 7
+# the target that makes the page of an event, where that can be done
+PAGE = "event-page-here"
+
+
+def size_of(crate: str) -> int:
+    """How long the proof of a crate takes, in lines."""
+    lines = sum(it.read_bytes().count(b"\n") for it in crates.files_of(crate))
+    if is_of_tests(crate):
+        return lines * LINE_OF_TEST
+    return lines + LINK * is_program(crate)
+
+
+def is_of_tests(crate: str) -> bool:
+    """Whether a crate has only tests."""
+    return crate.endswith("_tests")
+
+
+def is_program(crate: str) -> bool:
+    """Whether a crate is a program."""
+    return (TOP / "crates" / crate / "src" / "main.rt").is_file()
+
+
+def proofs(names: Sequence[str]) -> Iterator[Job]:
+    """The proofs of these crates. Programs and tests then run."""
+    every = crates.rows()
+    for name in names:
+        row = every[name]
+        after = frozenset(it for it in row.libraries if it in every)
+        command = ["build/prove.sh", name, jobs.JOBS]
+        most = 1 if is_program(name) or is_of_tests(name) else 4
+        yield Job(name, command, after, size_of(name), most)
+        if is_program(name):
+            yield Job(f"run of {name}", ["build/stored_run.sh", name], frozenset([name]))
+
+
+def trials() -> Iterator[Job]:
+    """The edits of each crate, once it is proved."""
+    for name in crates.rows():
+        count = len(edits.paths_of(name))
+        if count:
+            command = ["build/edits.py", "--jobs", jobs.JOBS, name]
+            yield Job(f"edits of {name}", command, frozenset([name]), count * EDIT, 2)
+
+
+def make(target: str, *after: str) -> Job:
+    """A target of the Makefile."""
+    command = ["make", "--no-print-directory", target]
+    return Job(target, command, frozenset(after), TEST)
+
+
+def tests_of_programs(programs: Sequence[str]) -> Iterator[Job]:
+    """What is tried with the programs, once these are built, and with the page of an event."""
+    yield make("tried", *programs, PAGE)
+    yield make("tools", *programs, PAGE)
+
+
+def tests_of_sources() -> Iterator[Job]:
+    """What is tried without any program."""
+    yield make(PAGE)
+    yield make("words")
+    yield make("page-tests")
+
+
+def tests_without_proof() -> Iterator[Job]:
+    """The tests of the crates, built with checks of each access in place of a proof. So those of
+    aprs_long_tests would take minutes."""
+    for name in crates.rows():
+        if is_of_tests(name) and name != "aprs_long_tests":
+            command = ["build/try.sh", name]
+            yield Job(f"tests of {name}", command, frozenset(), size_of(name))
+
+
+def build() -> List[Job]:
+    """The programs that are installed, and what they stand on."""
+    programs = [it for it in crates.rows() if is_program(it) and it.startswith("aprsbook")]
+    wanted = {it for program in programs for it in [*crates.below(program), program]}
+    return list(proofs([it for it in crates.rows() if it in wanted]))
+
+
+def prove() -> List[Job]:
+    """The gate."""
+    every = list(crates.rows())
+    programs = [it for it in every if is_program(it)]
+    release = Job("release", ["build/objects.sh", "--compare"], frozenset(programs))
+    # of aprs-net the types alone: its tests wait for clocks and servers, and are those of `make test`
+    tools = Job("types of tools", ["tests/tools.sh"], frozenset(), TEST)
+    of_programs = [make("tried", *programs, PAGE), release]
+    return [*proofs(every), *trials(), *tests_of_sources(), tools, *of_programs]
+
+
+def test() -> List[Job]:
+    """The tests, and no proof."""
+    has_kit = shutil.which("rt") is not None
+    if not has_kit:
+        print("left out: the tests of the crates (no Rattle kit is there)", flush=True)
+    found = subprocess.run(["build/programs.sh"], cwd=TOP, capture_output=True, check=False)
+    if found.returncode:
+        print(f"left out: the tests of programs ({found.stderr.decode().strip()})", flush=True)
+    of_programs = [make("tools", PAGE)] if found.returncode else list(tests_of_programs([]))
+    of_crates = list(tests_without_proof()) if has_kit else []
+    return [*of_crates, *tests_of_sources(), *of_programs]
+
+
+@contextlib.contextmanager
+def from_nothing() -> Iterator[None]:
+    """Sets aside what was proved before, and gives it back where it wasn't proved again."""
+    names = list(crates.rows())
+    # what a killed run set aside
+    put_back(names)
+    for name in names:
+        folder = TOP / "crates" / name / "out"
+        if folder.is_dir():
+            ASIDE.mkdir(parents=True, exist_ok=True)
+            folder.rename(ASIDE / name)
+    try:
+        yield
+    finally:
+        put_back(names)
+
+
+def put_back(names: Sequence[str]) -> None:
+    """Gives back what was set aside of the crates that have nothing whole in its place."""
+    for name in names:
+        folder = TOP / "crates" / name / "out"
+        is_whole = (folder / "rlib" / "stamp").exists() or (folder / name).is_file()
+        if (ASIDE / name).is_dir() and not is_whole:
+            shutil.rmtree(folder, ignore_errors=True)
+            (ASIDE / name).rename(folder)
+    shutil.rmtree(ASIDE, ignore_errors=True)
+
+
+def run(plan: List[Job]) -> int:
+    """Runs the jobs, and prints what came of all."""
+    passed, failed = jobs.Runner(plan, jobs.lanes()).run()
+    print(f"minutes of processors: {jobs.processor_minutes():.0f}")
+    print(f"{passed} passed, {failed} failed")
+    return 1 if failed or not passed else 0
+
+
+def main(words: Sequence[str]) -> int:
+    """Does what the words ask for."""
+    plans = {"prove": prove, "check": prove, "build": build, "test": test}
+    if len(words) != 1 or words[0] not in plans:
+        print(__doc__, file=sys.stderr)
+        return 2
+    os.chdir(TOP)
+    if words[0] != "prove":
+        return run(plans[words[0]]())
+    pathlib.Path("out").mkdir(exist_ok=True)
+    with open("out/gate.lock", "w", encoding="ascii") as held:
+        try:
+            fcntl.flock(held, fcntl.LOCK_EX | fcntl.LOCK_NB)
+        except BlockingIOError:
+            print("build/gate.py: waiting for another run to end", flush=True)
+            fcntl.flock(held, fcntl.LOCK_EX)
+        with from_nothing():
+            return run(prove())
+
+
+if __name__ == "__main__":
+    sys.exit(main(sys.argv[1:]))

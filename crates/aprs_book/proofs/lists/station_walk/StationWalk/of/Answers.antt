@@ -1,5 +1,0 @@
-use Rattle.aprs_book.proofs.Stations.{stations_ascend}
-use Rattle.aprs_book.proofs.lists.station_walk.StationWalk.of.Goals as goal
-
-pub returns-clause-ascending : goal.returns-clause-ascending
-returns-clause-ascending g c = stations_ascend c.args.tallies.now.entries c.iter.ensures.ordered

@@ -1,0 +1,12 @@
+use Rattle.aprs_bookfile.proofs.KeptRows.{judged_done, judged_header}
+use Rattle.aprs_bookfile.proofs.row_reader.judge.Goals as goal
+
+pub returns-in-Header-clause-judged : goal.returns-in-Header-clause-judged
+returns-in-Header-clause-judged g c = λ all same kept.
+    judged_header c.args.keeping all c.args.rows.now c.args.line.now kept c.args.stage
+    c.judge_header.result c.in-Header.is (c.judge_header.ensures.judged all)
+
+pub returns-in-Done-clause-judged : goal.returns-in-Done-clause-judged
+returns-in-Done-clause-judged g c = λ all same kept.
+    judged_done c.args.keeping all c.args.rows.now c.args.line.now kept c.args.stage
+    c.in-Done.field-0 c.in-Done.is

@@ -1,0 +1,16 @@
+use Rattle.aprs_bookfile.proofs.Common.{rules, subst, Sends, Sends-put, Sends-unput}
+use Rattle.aprs_bookfile.specs.Text.{written_text}
+use Rattle.aprs_bookfile.proofs.write_book_rows.write_rows.Goals as goal
+
+pub returns-in_err-put_text-clause-sends : goal.returns-in_err-put_text-clause-sends
+returns-in_err-put_text-clause-sends g c =
+    subst (λ w. Sends g.W.Write.contents c.from_residual.result c.args.w.now w
+    (written_text c.args.rows)) (search rules)
+    (Sends-unput c.new-out.ensures.nothing _ c.from_residual.ensures.0
+    c.in_err-put_text.ensures.puts)
+
+pub returns-clause-sends : goal.returns-clause-sends
+returns-clause-sends g c =
+    subst (λ w. Sends g.W.Write.contents c.flush.result c.args.w.now w
+    (written_text c.args.rows)) (search rules)
+    (Sends-put c.new-out.ensures.nothing c.in_ok-put_text.ensures.puts c.flush.ensures.sent)

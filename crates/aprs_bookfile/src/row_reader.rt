@@ -1,0 +1,413 @@
+//! A book's text, while it is read line by line.
+ghost use Rattle.std.specs.Prelude.{All, ◌≡◌, ◌<◌, ◌+◌, ◌≤◌, ◌++◌, ◌∷◌, ℕ, [], false, List, length, None, Some, OnErr, OnOk, IfErr, IfOk, IfSome, IfNone};
+ghost use Rattle.std.specs.List.{join_with_byte, last_or};
+ghost use Rattle.aprs_laws.specs.Row.{Row};
+ghost use Rattle.aprs_laws.specs.Sound.{IsSoundRow};
+ghost use Rattle.aprs_rows.specs.Packed.{IsShort};
+ghost use Rattle.aprs_bookfile.specs.BookAnswers.{IsAnswerFor};
+ghost use Rattle.aprs_bookfile.specs.Fault.{ending_cause};
+ghost use Rattle.aprs_io.specs.Cut.{Lacks};
+ghost use Rattle.aprs_bookfile.specs.Reader as Spec;
+ghost use Rattle.aprs_bookfile.specs.Lines.{pieces};
+ghost use Rattle.aprs_bookfile.specs.Text.{row_line};
+ghost use Rattle.aprs_log.specs.Receiver.{IsName};
+ghost use Rattle.aprs_bookfile.specs.RowReader.{answer_read, count_after, is_row_between, kept_after, most_stream, row_lent, rows_kept, size_read, version_in, HasReadText, HasReadTo, JudgesKept, KeepsVersion, ReadsOne, StopsHere};
+
+use crate::end_line::end_line;
+use crate::fault::{BookCause, BookFault};
+use crate::kept_rows::KeptRows;
+use crate::lent_row::LentRow;
+use crate::row_buffers::RowBuffers;
+use crate::row_line::read_row;
+use crate::stage::{Stage, ending_cause, is_done, judge_end, judge_header, may_end};
+use crate::version::Version;
+use aprs_io::InputEnd;
+use aprs_laws::Gap;
+use aprs_log::MomentForm;
+use aprs_rows::{Memory, PackedRows, RowView};
+use std::alloc::Allocator;
+use std::mem::replace;
+
+/// The most bytes that the names of a row's receivers have, with commas between, since more don't
+/// fit where rows are kept.
+const MOST_NAMES: usize = 4_294_967_295;
+
+/// Which rows of a text are kept.
+#[derive(Clone, Copy, Debug, PartialEq, Eq)]
+pub enum Keeping {
+    /// Each row.
+    Each,
+    /// The last row alone.
+    Last,
+}
+
+/// What was read of a book's text: how far its whole lines went, the rows that are kept of it, and
+/// the beginning of the next line.
+#[derive(Drop)]
+pub struct RowReader<A: Allocator> {
+    line: Vec<u8, A>,
+    stage: Stage,
+    buffers: RowBuffers,
+    keeping: Keeping,
+    /// The rows that are kept.
+    rows: KeptRows<A>,
+    /// How many rows there were.
+    count: usize,
+}
+
+impl<A: Allocator + Copy> RowReader<A> {
+    /// A reader that has read nothing of a text, and is to keep these rows of it.
+    pub fn new(alloc: A, keeping: Keeping) -> RowReader<A>
+        ensures reads { HasReadTo result [] [] }
+        ensures keeping { result.keeping ≡ keeping }
+    {
+        RowReader {
+            line: Vec::new(alloc),
+            stage: Stage::Header,
+            buffers: RowBuffers::new(),
+            keeping,
+            rows: KeptRows::new(alloc),
+            count: 0,
+        }
+    }
+
+    /// Whether the last line was read.
+    pub fn is_done(&self) -> bool
+        ensures { result ≡ Spec.is_done self.now.stage }
+    {
+        is_done(self.stage)
+    }
+
+    /// The gap of the text's book, as the header says; before that is read, the standard gap.
+    pub fn gap(&self) -> Gap
+        ensures { result ≡ Spec.gap_in self.now.stage }
+    {
+        match self.stage {
+            Stage::Header => Gap::STANDARD,
+            Stage::Rows(version) | Stage::Done(version) => version.gap(),
+        }
+    }
+
+    /// The row that was read last. `None` before the first row, once the last line was read, and
+    /// after `take_rows`. After a fault it may be any row, or `None`.
+    pub fn row(&self) -> Option<RowView<'_>>
+        ensures some { IfSome result (λ x. last_or None (row_lent self.now) ≡ Some x) }
+        ensures none { IfNone result (row_lent self.now ≡ []) }
+        // A row is sound by itself, and its receivers' names have fewer than 4,294,967,296 bytes.
+        ensures own { IfSome result (λ x. IsSoundRow x × IsShort x) }
+    {
+        self.rows.sound();
+        match self.stage {
+            Stage::Rows(_) => self.rows.last(),
+            Stage::Header | Stage::Done(_) => None,
+        }
+    }
+
+    /// The row that was read last, with its line where that is kept. `None` before the first row,
+    /// once the last line was read, and after `take_rows`. After a fault it may be any row, or
+    /// `None`.
+    pub fn front(&self) -> Option<LentRow<'_>>
+        ensures some { IfSome result (λ x. last_or None (row_lent self.now) ≡ Some x) }
+        ensures none { IfNone result (row_lent self.now ≡ []) }
+        // A row is sound by itself, and its receivers' names have fewer than 4,294,967,296 bytes.
+        ensures own { IfSome result (λ x. IsSoundRow x × IsShort x) }
+    {
+        self.rows.sound();
+        match self.stage {
+            Stage::Rows(_) => self.rows.last_lent(),
+            Stage::Header | Stage::Done(_) => None,
+        }
+    }
+
+    /// The rows that are kept, which then are kept no more.
+    pub fn take_rows(&mut self, alloc: A) -> PackedRows<A>
+        ensures rows { result ≡ self.old.rows }
+        ensures reads { (rows : List Row) (t : List ℕ) → HasReadText self.old rows t
+            → HasReadText self.new rows t }
+        ensures stage { self.new.stage ≡ self.old.stage }
+        ensures size { size_read self.new ≡ size_read self.old }
+    {
+        replace(&mut self.rows, KeptRows::new(alloc)).into_rows()
+    }
+
+    /// Keeps bytes, none of them an LF, after those that are kept of the line.
+    pub fn append(&mut self, bytes: &[u8]) -> Result<(), BookFault>
+        requires few { size_read self.old ≤ most_stream }
+        requires going { Spec.is_done self.old.stage ≡ false }
+        ensures stands { OnOk result ((rows : List Row) (t : List ℕ) → HasReadTo self.old rows t
+            → Lacks 10 bytes.now → HasReadTo self.new rows (t ++ bytes.now)) }
+        ensures size { OnOk result (size_read self.new ≡ size_read self.old + length bytes.now) }
+        ensures stage { self.new.stage ≡ self.old.stage }
+        ensures keeping { self.new.keeping ≡ self.old.keeping }
+        ensures fault { IfErr result (λ fault. (rows : List Row) (t more : List ℕ)
+            → HasReadTo self.old rows t
+            → Spec.IsFault (length bytes.now + length more) fault ((t ++ bytes.now) ++ more)) }
+        ensures stops { IfErr result (λ fault. (rows : List Row) (t : List ℕ)
+            → HasReadTo self.old rows t → StopsHere fault self.new) }
+        ensures cause { IfErr result (λ fault. Spec.IsOfText fault.cause) }
+    {
+        match self.line.extend_from_slice(bytes) {
+            Ok(()) => Ok(()),
+            Err(_) => Err(self.fault(BookCause::Memory)),
+        }
+    }
+
+    /// Judges the line that is the kept bytes and then `part`. Returns whether it is a row's, which
+    /// then is the last row; and then no bytes are kept. Fails where the line is wrong, or with
+    /// `Memory` as `BookCause` says it. After a fault bytes may still be kept.
+    pub fn end_line(&mut self, part: &[u8]) -> Result<bool, BookFault>
+        requires few { size_read self.old + length part.now ≤ most_stream }
+        requires going { Spec.is_done self.old.stage ≡ false }
+        ensures reads { IfOk result (λ is_row. (rows : List Row) (t : List ℕ)
+            → HasReadTo self.old rows t → Lacks 10 part.now
+            → ReadsOne is_row self.new rows ((t ++ part.now) ++ 10 ∷ [])) }
+        ensures version { OnOk result (KeepsVersion self.old.stage self.new.stage) }
+        ensures keeping { self.new.keeping ≡ self.old.keeping }
+        ensures size { OnOk result
+            (size_read self.new ≤ size_read self.old + length part.now + 1) }
+        ensures fault { IfErr result (λ fault. (rows : List Row) (t more : List ℕ)
+            → HasReadTo self.old rows t → Lacks 10 part.now
+            → Spec.IsFault (length part.now + (length more + 1)) fault
+            ((t ++ part.now) ++ 10 ∷ more)) }
+        ensures stops { IfErr result (λ fault. (rows : List Row) (t : List ℕ)
+            → HasReadTo self.old rows t → Lacks 10 part.now → StopsHere fault self.new) }
+        ensures cause { IfErr result (λ fault. Spec.IsOfText fault.cause) }
+    {
+        if self.line.is_empty() {
+            return self.take_line(part);
+        }
+        self.append(part)?;
+        self.take_kept_line()
+    }
+
+    /// Judges a whole line, where no bytes are kept, and returns whether it is a row's.
+    fn take_line(&mut self, line: &[u8]) -> Result<bool, BookFault>
+        requires few { size_read self.old + length line.now ≤ most_stream }
+        requires none { self.old.line.items ≡ [] }
+        requires going { Spec.is_done self.old.stage ≡ false }
+        ensures reads { IfOk result (λ is_row. (rows : List Row) (t : List ℕ)
+            → HasReadTo self.old rows t → Lacks 10 line.now
+            → ReadsOne is_row self.new rows ((t ++ line.now) ++ 10 ∷ [])) }
+        ensures version { OnOk result (KeepsVersion self.old.stage self.new.stage) }
+        ensures keeping { self.new.keeping ≡ self.old.keeping }
+        ensures size { OnOk result (size_read self.new ≤ size_read self.old + 1) }
+        ensures fault { IfErr result (λ fault. (rows : List Row) (t more : List ℕ)
+            → HasReadTo self.old rows t → Lacks 10 line.now
+            → Spec.IsFault (length more + 1) fault ((t ++ line.now) ++ 10 ∷ more)) }
+        ensures stops { IfErr result (λ fault. (rows : List Row) (t : List ℕ)
+            → HasReadTo self.old rows t → StopsHere fault self.new) }
+        ensures cause { IfErr result (λ fault. Spec.IsOfText fault.cause) }
+    {
+        let judged = judge(
+            self.stage,
+            self.keeping,
+            self.count,
+            &mut self.rows,
+            &mut self.buffers,
+            line,
+        );
+        match judged {
+            Ok(stage) => Ok(self.enter(stage)),
+            Err(cause) => Err(self.fault(cause)),
+        }
+    }
+
+    /// Judges the kept bytes as a whole line, and returns whether it is a row's. Then none are
+    /// kept; after a fault they stay.
+    fn take_kept_line(&mut self) -> Result<bool, BookFault>
+        requires few { size_read self.old ≤ most_stream }
+        requires going { Spec.is_done self.old.stage ≡ false }
+        ensures reads { IfOk result (λ is_row. (rows : List Row) (t : List ℕ)
+            → HasReadTo self.old rows t → ReadsOne is_row self.new rows (t ++ 10 ∷ [])) }
+        ensures version { OnOk result (KeepsVersion self.old.stage self.new.stage) }
+        ensures keeping { self.new.keeping ≡ self.old.keeping }
+        ensures size { OnOk result (size_read self.new ≤ size_read self.old + 1) }
+        ensures fault { IfErr result (λ fault. (rows : List Row) (t more : List ℕ)
+            → HasReadTo self.old rows t → Spec.IsFault (length more + 1) fault (t ++ 10 ∷ more)) }
+        ensures stops { IfErr result (λ fault. (rows : List Row) (t : List ℕ)
+            → HasReadTo self.old rows t → StopsHere fault self.new) }
+        ensures cause { IfErr result (λ fault. Spec.IsOfText fault.cause) }
+    {
+        let judged = judge(
+            self.stage,
+            self.keeping,
+            self.count,
+            &mut self.rows,
+            &mut self.buffers,
+            self.line.as_slice(),
+        );
+        match judged {
+            Ok(stage) => {
+                self.line.clear();
+                Ok(self.enter(stage))
+            }
+            Err(cause) => Err(self.fault(cause)),
+        }
+    }
+
+    /// Goes on to the stage after a line, and returns whether the line was a row's.
+    fn enter(&mut self, stage: Stage) -> bool
+        requires { self.old.count ≤ most_stream }
+        ensures row { result ≡ is_row_between self.old.stage stage }
+        ensures stage { self.new.stage ≡ stage }
+        ensures count { self.new.count ≡ count_after result self.old.count }
+        ensures line { self.new.line.items ≡ self.old.line.items }
+        ensures rows { self.new.rows ≡ self.old.rows }
+        ensures keeping { self.new.keeping ≡ self.old.keeping }
+    {
+        let is_row = is_row_between(&self.stage, &stage);
+        self.stage = stage;
+        if is_row {
+            self.count += 1;
+        }
+        is_row
+    }
+
+    /// `Ok` where the last line was read and the input ended after it (`End`). Otherwise the fault
+    /// of a text that ends in this way.
+    pub fn finish(&self, ending: InputEnd) -> Result<(), BookFault>
+        requires { self.now.count ≤ most_stream }
+        ensures reads { (rows : List Row) (t : List ℕ) → HasReadText self.now rows t
+            → IsAnswerFor (answer_read result (Spec.gap_in self.now.stage) rows) t ending }
+        ensures ending { Spec.AgreesWithEnding ending result }
+    {
+        if may_end(self.stage, ending) {
+            return Ok(());
+        }
+        Err(self.fault_of_ending(ending))
+    }
+
+    /// The fault of a text that ends in this way where a book's text may not end: `Ending`, `Read`
+    /// or `TooLong`.
+    pub fn fault_of_ending(&self, ending: InputEnd) -> BookFault
+        requires { self.now.count ≤ most_stream }
+        ensures { result ≡ record {
+          line = Spec.line_number self.now.stage self.now.count;
+          cause = ending_cause ending;
+        } }
+    {
+        self.fault(ending_cause(ending))
+    }
+
+    /// The fault where memory is refused after the last line was read. It is in that line.
+    pub fn memory_at_last(&self) -> BookFault
+        requires { self.now.count ≤ most_stream }
+        ensures { result ≡ record { line = self.now.count + 2; cause = BookCause.Memory } }
+    {
+        BookFault {
+            line: self.count as u64 + 2,
+            cause: BookCause::Memory,
+        }
+    }
+
+    /// A fault of this cause in the next line.
+    pub fn fault(&self, cause: BookCause) -> BookFault
+        requires { self.now.count ≤ most_stream }
+        ensures { result ≡ record {
+          line = Spec.line_number self.now.stage self.now.count;
+          cause = cause;
+        } }
+    {
+        let line = match self.stage {
+            Stage::Header => 1,
+            Stage::Rows(_) => self.count as u64 + 2,
+            Stage::Done(_) => self.count as u64 + 3,
+        };
+        BookFault { line, cause }
+    }
+}
+
+/// Whether a line between these stages is a row's.
+fn is_row_between(before: &Stage, after: &Stage) -> bool
+    ensures { result ≡ is_row_between before.now after.now }
+{
+    match (before, after) {
+        (Stage::Rows(_), Stage::Rows(_)) => true,
+        _ => false,
+    }
+}
+
+/// Judges a whole line at this stage, after so many rows, of which `rows` has those that are kept,
+/// and returns the stage after it. A row of the line is kept too. Fails with the cause for which
+/// the line is wrong, or with `Memory` as `BookCause` says it.
+fn judge<A: Allocator + Copy>(
+    stage: Stage,
+    keeping: Keeping,
+    count: usize,
+    rows: &mut KeptRows<A>,
+    buffers: &mut RowBuffers,
+    line: &[u8],
+) -> Result<Stage, BookCause>
+    ensures judged { (all : List Row) → count ≡ length all → rows.old ≡ rows_kept keeping all
+        → JudgesKept keeping stage result all line.now rows.new }
+    ensures version { IfOk result (KeepsVersion stage) }
+    ensures cause { IfErr result Spec.IsOfText }
+{
+    match stage {
+        Stage::Header => judge_header(line),
+        Stage::Rows(version) => judge_row(version, keeping, count, rows, buffers, line),
+        Stage::Done(_) => Err(BookCause::After),
+    }
+}
+
+/// Judges a line after those of the header and so many rows in a text of this version.
+fn judge_row<A: Allocator + Copy>(
+    version: Version,
+    keeping: Keeping,
+    count: usize,
+    rows: &mut KeptRows<A>,
+    buffers: &mut RowBuffers,
+    line: &[u8],
+) -> Result<Stage, BookCause>
+    ensures judged { (all : List Row) → count ≡ length all → rows.old ≡ rows_kept keeping all
+        → JudgesKept keeping (Stage.Rows version) result all line.now rows.new }
+    ensures version { IfOk result (λ next. version_in next ≡ Some version) }
+    ensures cause { IfErr result Spec.IsOfText }
+{
+    if line.starts_with(b"END") {
+        return judge_end(line, version, count);
+    }
+    let before = rows.last();
+    let row = read_row(buffers, version.form(), names_of(&before), line)?;
+    if let Some(cause) = row.refusal_after(before.as_ref(), version.gap()) {
+        return Err(BookCause::from(cause));
+    }
+    if row.receivers().len() > MOST_NAMES {
+        return Err(BookCause::Memory);
+    }
+    match keep(keeping, rows, &row, version.form(), line) {
+        Ok(()) => Ok(Stage::Rows(version)),
+        Err(_) => Err(BookCause::Memory),
+    }
+}
+
+/// The names of a row's receivers, with commas between, or an empty text where there is no row.
+fn names_of<'r>(row: &Option<RowView<'r>>) -> &'r [u8]
+    ensures { 0 < length result.now → All IsName (pieces 44 result.now) }
+{
+    match row {
+        Some(row) => row.receivers(),
+        None => &[],
+    }
+}
+
+/// Keeps a row, whose line in this form is `line`: after the others where each is kept, and else
+/// in their place. After `Memory` the rows are as before where each is kept, and else any.
+fn keep<A: Allocator + Copy>(
+    keeping: Keeping,
+    rows: &mut KeptRows<A>,
+    row: &RowView<'_>,
+    form: MomentForm,
+    line: &[u8],
+) -> Result<(), Memory>
+    requires sound { IsSoundRow row.now }
+    requires short { length (join_with_byte 44 row.now.receivers) < 4294967296 }
+    requires spelled { line.now ≡ row_line form row.now }
+    ensures kept { OnOk result (rows.new ≡ kept_after keeping rows.old row.now) }
+    ensures stays { OnErr result (keeping ≡ Keeping.Each → rows.new ≡ rows.old) }
+{
+    match keeping {
+        Keeping::Each => rows.push(row),
+        Keeping::Last => rows.set(row, form, line),
+    }
+}

@@ -1,5 +1,0 @@
-use Rattle.aprs_booktext.proofs.CutRows.{lack_an_end}
-use Rattle.aprs_booktext.proofs.laws.cut_rows_lack_an_end.Goals as goal
-
-pub returns : goal.returns
-returns c = lack_an_end

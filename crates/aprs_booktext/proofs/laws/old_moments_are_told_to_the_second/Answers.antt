@@ -1,5 +1,0 @@
-use Rattle.aprs_booktext.proofs.Accepting.{written_to_the_second}
-use Rattle.aprs_booktext.proofs.laws.old_moments_are_told_to_the_second.Goals as goal
-
-pub returns : goal.returns
-returns c = written_to_the_second

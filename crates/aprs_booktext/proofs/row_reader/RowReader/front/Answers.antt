@@ -1,7 +1,0 @@
-use Rattle.aprs_booktext.proofs.LastRows.{last_is_sound}
-use Rattle.aprs_booktext.proofs.row_reader.RowReader.front.Goals as goal
-
-pub returns-in-Rows-clause-own : goal.returns-in-Rows-clause-own
-returns-in-Rows-clause-own g c =
-    last_is_sound c.args.self.now.rows c.last_lent.result c.sound.ensures.sound c.sound.ensures.short
-    c.last_lent.ensures.some

@@ -1,5 +1,0 @@
-//! Tests of ranges of sources in book files.
-#![tactic(auto)]
-
-#[cfg(test)]
-mod ranges;

@@ -1,0 +1,32 @@
+-- Definitions that contracts of what rows say cite.
+pub mod Examples
+pub mod Known
+pub mod Notes
+pub mod Reports
+pub mod LastKnown
+pub mod Stations
+pub mod Messages
+pub mod ReplyAcks
+pub mod ReplyTexts
+pub mod Exchange
+pub mod SummaryBuilder
+pub mod MessageRows
+pub mod Names
+pub mod NamedRows
+pub mod StationRows
+-- What public clauses cite of lower crates.
+pub use Rattle.aprs_log.specs.Reception
+pub use Rattle.aprs_laws.specs.Lists
+pub use Rattle.aprs_laws.specs.Order
+pub use Rattle.aprs_laws.specs.Gap
+pub use Rattle.aprs_laws.specs.Key
+pub use Rattle.aprs_laws.specs.Row
+pub use Rattle.aprs_laws.specs.Book
+pub use Rattle.aprs_laws.specs.BookValue
+pub use Rattle.aprs_laws.specs.Best
+pub use Rattle.aprs_laws.specs.BestLaws
+pub use Rattle.aprs_laws.specs.Spans
+pub use Rattle.aprs_ax25.specs.CallText
+pub use Rattle.aprs_report.specs.Bytes
+pub use Rattle.aprs_report.specs.Reading
+pub use Rattle.aprs_report.specs.Reader

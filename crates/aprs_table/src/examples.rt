@@ -1,0 +1,6 @@
+//! Worked examples of the lines of a table, by topic.
+
+pub(crate) mod columns;
+pub(crate) mod kinds;
+pub(crate) mod places;
+pub(crate) mod rows;

@@ -1,5 +1,0 @@
-use Rattle.aprs_tool.proofs.Faultless.{no_fault}
-use Rattle.aprs_tool.proofs.laws.faultless_inputs_have_no_fault.Goals as goal
-
-pub returns : goal.returns
-returns c = record { none = no_fault }

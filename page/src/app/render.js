@@ -1,0 +1,164 @@
+// @ts-check
+// Draws the page: its lists, its map and what stands above them.
+
+import { readBrought } from "./basemaps.js";
+import { drawAbout, drawLooked, drawNews } from "./header.js";
+import { holdClock } from "./playback.js";
+import { madeHays, sift } from "./search.js";
+import { drawOne } from "./selection.js";
+import { page, presentOf, shownNow, view, widgets } from "./state.js";
+import { inOrder } from "../lists/messages.js";
+import { pairList, shareText } from "../lists/stations.js";
+import { timelineList } from "../lists/timeline.js";
+import { Colouring, wayFor } from "../map/colours.js";
+import { messagesOf } from "../net/message-table.js";
+import { hearings, netOf, rank } from "../net/net.js";
+import { expectedOf } from "../net/roster.js";
+import { Rows } from "../net/rows.js";
+import { columnsOf } from "../net/table-reader.js";
+import { byId, make } from "../util/dom.js";
+import { later } from "../util/task-queue.js";
+import { atOnce, inSlices, once } from "../util/tasks.js";
+import { datedBy } from "../util/time.js";
+
+/** @typedef {import("../net/net.js").All} All */
+/** @typedef {import("../net/net.js").Net} Net */
+/** @typedef {import("./state.js").Data} Data */
+/** @typedef {import("./state.js").Next} Next */
+/**
+ * Steps that come to a value.
+ * @template T
+ * @typedef {import("../util/tasks.js").Steps<T>} Steps
+ */
+/** Of rows of so many bytes at most, some 10,000, all is drawn in one step. */
+const SMALL = 2 ** 20;
+
+/**
+ * Draws the page of these texts and options, and shows what it did before until all is read. What
+ * the reader chose stays. `read` are the columns of the rows, where they are made already.
+ * @param {Data} data
+ * @param {import("../net/table-reader.js").Read | null} read
+ */
+export async function show(data, read = null) {
+  page.next = { data, read, all: null };
+  await refresh();
+}
+/** Draws all anew, for the part of the time that is shown. What is given up ends with the next. */
+export function refresh() {
+  return page.drawn = page.next ? draw(page.turn = {}, page.next) : undefined;
+}
+/**
+ * @param {object} turn
+ * @param {Next} next
+ * @returns {Promise<void>}
+ */
+async function draw(turn, next) {
+  const steps = drawing(next);
+  if (next.data.rows.length <= SMALL) return atOnce(steps);
+  await inSlices(steps, () => page.turn === turn);
+  return page.turn === turn ? undefined : page.drawn;
+}
+/**
+ * What is read of the next texts.
+ * @param {Next} next
+ * @returns {Steps<All>}
+ */
+function* allOf({ data, read }) {
+  const rows = new Rows(read || (yield* columnsOf(data.rows)));
+  const messages = yield* messagesOf(data.messages);
+  messages.forEach(rank);
+  return { rows, messages, end: rows.until };
+}
+/**
+ * The steps of a drawing.
+ * @param {Next} next
+ * @returns {Steps<void>}
+ */
+function* drawing(next) {
+  const all = next.all ||= yield* allOf(next), { hours } = page.choices;
+  const since = hours ? presentOf(next) - hours * 3600 : -Infinity;
+  const net = yield* netOf(all, since, next.data.gap);
+  turnTo({ data: next.data, all, net });
+  drawAbout();
+  drawLooked();
+  drawNews();
+  drawOne(true);
+  holdClock();
+  sift(true);
+  yield;
+  drawLists();
+  widgets().form.draw();
+}
+/**
+ * From when to when transmissions were heard, or will be where the page goes on; undefined for
+ * none.
+ * @param {All} all
+ */
+const spanOf = ({ rows, end }) => rows.length
+  ? { begin: rows.first[rows.order[0]], end: Math.max(end, view.now) } : undefined;
+/**
+ * From now on the page has this.
+ * @param {import("./state.js").Shown} shown
+ */
+function turnTo(shown) {
+  const { data, all, net } = shown, { settings } = page, { map, layers: { stations } } = widgets();
+  const fresh = page.shown?.data !== data;
+  page.shown = shown;
+  byId("title").textContent = document.title = data.title;
+  // a message, or who is in need, may be of before the part of the time that is shown
+  settings.dated = datedBy([net.begin, net.end, ...[...net.messages, ...net.bulletins]
+    .map(it => it.first), ...net.whole.needy.map(it => all.rows.last[it.lastUrgent] ?? NaN)],
+  settings);
+  if (fresh) {
+    readBrought();
+    page.own.open(data.title, data.lines, spanOf(all));
+  }
+  for (const it of net.things)
+    if (it.kind === "station" && it.name) it.label = settings.names.shown(it.name);
+  stations.placed = net.placed;
+  map.refit();
+  colour();
+  stations.picked = net.things.some(it => it.key === page.picked) ? page.picked : null;
+  byId("net").hidden = !all.rows.length;
+  byId("controls").hidden = !all.rows.length && !page.follows;
+}
+/** Colours the map as the reader chose, or else as so many things need; says what colours mean. */
+export function colour() {
+  const { net } = shownNow(), { layers: { stations } } = widgets();
+  stations.colouring = new Colouring(page.choices.colours || wayFor(net.placed.length),
+    { receivers: net.receivers, silent: view.silent });
+  stations.recolour();
+  byId("legend").replaceChildren(...stations.colouring.legend.map(it =>
+    make("span", {}, make("span", { className: `key c-${it.colour}` }), it.text)));
+}
+function drawLists() {
+  const { net, all } = shownNow(), { lists } = widgets();
+  lists.messages.show([...net.messages].sort(inOrder), true);
+  byId("bulletins-head").hidden = byId("bulletins-box").hidden = !net.bulletins.length;
+  lists.bulletins.show([...net.bulletins].sort((a, b) => b.last - a.last), true);
+  byId("roster").hidden = !page.roster.list.length;
+  lists.roster.show(expectedOf(page.roster.list, net.whole.stations), true);
+  later("receivers", once(() => lists.receivers.show(net.receivers, true)));
+  later("pairs", drawPairs(all, net));
+  later("find", madeHays(net.things));
+}
+/**
+ * Draws who heard and who repeated whom, and after them when, which has the same sums.
+ * @param {All} all
+ * @param {Net} net
+ * @returns {Steps<void>}
+ */
+function* drawPairs({ rows }, net) {
+  const { heard, alone, repeated, sent } = yield* hearings(rows, net.since), { lists } = widgets();
+  lists.heard = pairList(byId("heard-box"), { id: "heard",
+    caption: "how many transmissions each receiver heard", pairs: heard, sent,
+    tell: (source, name, n, of) =>
+      `${shareText(n, of)}, ${alone.get(source, name)} by no other` });
+  yield;
+  lists.repeated = pairList(byId("repeated-box"), { id: "repeated",
+    caption: "how many transmissions each digipeater repeated, of those that were heard",
+    pairs: repeated, sent, tell: (_, __, n, of) => shareText(n, of) });
+  yield;
+  lists.timeline = yield* timelineList(byId("timeline-box"), rows, net,
+    { sent, clock: page.settings });
+}

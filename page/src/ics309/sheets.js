@@ -1,0 +1,122 @@
+// @ts-check
+// The communications log ICS-309: messages and bulletins, and the operator's own lines, on sheets.
+
+import { cell } from "../lists/table-view.js";
+import { entriesOf } from "../net/log-entries.js";
+import { air, byId, callIn, letters, make, momentOf, textOf } from "../util/dom.js";
+import { printable, said } from "../util/text.js";
+import { datedBy, fullText, zonesText, zoneText } from "../util/time.js";
+
+/** @typedef {import("../net/message-table.js").Message} Message */
+/** @typedef {import("./own-lines.js").Line} Line */
+/** @typedef {import("../net/settings.js").Settings} Settings */
+/** @typedef {import("../net/roster.js").Names} Names */
+/** @typedef {import("../net/log-entries.js").Entry} Entry */
+
+/**
+ * Of a sheet of paper, A4 or Letter: points for rows, on the first sheet and on the others, of a
+ * row and of each line in it; and how many letters a line of text and one of a name have.
+ */
+const SHEET = { first: 430, next: 560, row: 3.5, line: 12.5, text: 48, name: 14 };
+/**
+ * The height of an entry on paper, in points.
+ * @param {Entry} it
+ * @param {Names} names
+ */
+function heightOf({ from, to, text }, names) {
+  const lines = (/** @type {string} */ of, /** @type {number} */ wide) =>
+    Math.max(1, Math.ceil(said(of).length / wide));
+  const most = Math.max(lines(names.shown(from), SHEET.name), lines(names.shown(to), SHEET.name),
+    lines(`${text} (acknowledged)`, SHEET.text));
+  return SHEET.row + SHEET.line * most;
+}
+/**
+ * Entries on sheets, one of none too.
+ * @param {Entry[]} entries
+ * @param {Names} names
+ * @returns {Entry[][]}
+ */
+export function sheetsOf(entries, names) {
+  /** @type {Entry[][]} */
+  const sheets = [[]];
+  let left = SHEET.first;
+  for (const it of entries) {
+    const high = heightOf(it, names);
+    if (high > left && sheets[sheets.length - 1].length) {
+      sheets.push([]);
+      left = SHEET.next;
+    }
+    sheets[sheets.length - 1].push(it);
+    left -= high;
+  }
+  return sheets;
+}
+
+/** @param {Entry} it @param {Settings} settings @param {(line: Line) => void} onRemove */
+function rowOf(it, settings, onRemove) {
+  const { own } = it;
+  const name = own ? printable : (/** @type {string} */ call) => settings.names.shown(call);
+  const remove = own && make("button", { type: "button", className: "no-print",
+    textContent: "take away", aria: { "aria-label": `take line ${it.number} away` },
+    onclick: () => onRemove(own) });
+  return make("tr", { className: own ? "own" : "" }, cell("num", String(it.number)),
+    cell("num time", momentOf(it.at, settings)), cell("call", callIn(name(it.from))),
+    cell("id", own ? letters(printable(it.id)) : it.id),
+    cell("call", callIn(name(it.to))),
+    cell("text", own ? letters(printable(it.text)) : air(it.text),
+      it.note ? make("small", { textContent: ` (${it.note})` }) : null,
+      own ? " " : null, remove));
+}
+const HEADS = [["num", "no."], ["", "time"], ["", "from"], ["", "msg no."], ["", "to"],
+  ["", "message"]];
+/**
+ * A sheet, with its number; the first stands below the form's own head.
+ * @param {Entry[]} entries
+ * @param {number} n
+ * @param {{ of: number, settings: Settings }} all how many sheets there are, and how all is written
+ * @param {(line: Line) => void} onRemove
+ */
+function sheetNode(entries, n, { of, settings }, onRemove) {
+  const field = (/** @type {import("../util/dom.js").Input} */ id) => byId(id).value;
+  const number = make("span", { className: "sheet-number", textContent: `page ${n + 1} of ${of}` });
+  const above = n ? ["ICS 309", field("ics-incident"), textOf("ics-period"),
+    field("ics-net"), field("ics-operator")].filter(Boolean).map(printable).join(" \u00b7 ") : "";
+  return make("div", { className: "sheet" },
+    make("p", {}, make("span", { textContent: above || "5. communications log" }), " ", number),
+    make("table", {}, make("thead", {}, make("tr", {}, ...HEADS.map(([className, textContent]) =>
+      make("th", { scope: "col", className, textContent })))),
+    make("tbody", {}, ...entries.map(it => rowOf(it, settings, onRemove)))));
+}
+/**
+ * Fills the form with the messages that are shown and with own lines.
+ * @param {{ rows: ArrayLike<number>, begin: number, end: number, messages: Message[],
+ *   bulletins: Message[] }} net
+ * @param {{ lines: Line[], settings: Settings, onRemove: (line: Line) => void }} of
+ */
+export function fillForm(net, { lines, settings, onRemove }) {
+  const entries = entriesOf(net, lines), sheets = sheetsOf(entries, settings.names);
+  const some = net.rows.length > 0, now = Date.now() / 1000;
+  byId("ics-period").textContent = some
+    ? `${fullText(net.begin, settings)} to ${fullText(net.end, settings)}` : "";
+  byId("ics-zone").textContent = some ? zonesText(net.begin, net.end, settings)
+    : zoneText(now, settings);
+  byId("ics-date").textContent = fullText(now, settings);
+  const dated = datedBy(entries.map(it => it.at), settings);
+  const all = { of: sheets.length, settings: { ...settings, dated } };
+  byId("ics-sheets").replaceChildren(...sheets.map((it, n) => sheetNode(it, n, all, onRemove)));
+}
+/**
+ * A moment as a field for date and time has it, in the time that the page shows.
+ * @param {number} seconds
+ * @param {{ local: boolean }} clock
+ */
+export function fieldOf(seconds, { local }) {
+  const off = local ? new Date(seconds * 1000).getTimezoneOffset() * 60 : 0;
+  return new Date((seconds - off) * 1000).toISOString().slice(0, 19);
+}
+/**
+ * The moment of such a field, or not a number.
+ * @param {string} text
+ * @param {{ local: boolean }} clock
+ */
+export const momentIn = (text, { local }) => Date.parse(local ? text : text + "Z") / 1000;

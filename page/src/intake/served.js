@@ -1,0 +1,198 @@
+// @ts-check
+// A page that `aprs-net serve` hands out: it is told at once what is new in the logs, and has what
+// desks write down for one another.
+
+import { bring } from "../app/add-layer.js";
+import { alive, tick } from "../app/live.js";
+import { drawNetPanel } from "../app/net-panel.js";
+import { page } from "../app/state.js";
+import { Journal } from "../desks/journal.js";
+import { goneOn, Stream } from "../desks/stream.js";
+import { byId } from "../util/dom.js";
+import { files } from "./file-table.js";
+import { followed, followedOf, followOne, mark, takeWhole, told } from "./follow.js";
+import { work } from "./reader-app.js";
+
+/** @typedef {import("../desks/stream.js").Told} Told */
+/** @typedef {import("../desks/stream.js").NetTold} NetTold */
+const LOGS = "logs/", DESKS = "desks/";
+/** The least milliseconds from one book to the next. */
+const REST = 250;
+
+/** The files whose bytes were told and aren't taken yet, by their names. */
+const fresh = /** @type {Map<string, Uint8Array>} */ (new Map());
+/** How far each journal was read. */
+const heard = /** @type {Map<string, number>} */ (new Map());
+/** Names of logs that have to be asked for. */
+const asked = new Set();
+let isTaking = false;
+
+/** @param {string} name */
+const urlOf = name => new URL(LOGS + name, location.href).href;
+/** @param {string} name */
+const bytesOf = name => fresh.get(name) || followed.get(urlOf(name))?.whole || new Uint8Array();
+
+/** How many bytes of each file are here. */
+function sizes() {
+  const all = new Map(heard);
+  for (const url of followed.keys()) {
+    const name = decodeURIComponent(url.slice(urlOf("").length));
+    all.set(name, bytesOf(name).length);
+  }
+  return all;
+}
+/** @param {Told} it */
+function take(it) {
+  if (it.name.startsWith(DESKS)) return takeJournal(it);
+  const whole = goneOn(bytesOf(it.name), it);
+  if (!whole) return ask(it.name);
+  fresh.set(it.name, whole);
+  takeSoon();
+}
+/** @param {Told} it */
+function takeJournal({ name, begin, bytes }) {
+  if (!bytes) return;
+  heard.set(name, begin + bytes.length);
+  page.journal?.hear(new TextDecoder().decode(bytes));
+}
+/** @param {string} name */
+function ask(name) {
+  if (name.startsWith(DESKS)) return heard.delete(name);
+  fresh.delete(name);
+  asked.add(name);
+  takeSoon();
+}
+/** Takes what was told, and what comes while that is drawn thereafter. */
+async function takeSoon() {
+  if (isTaking) return;
+  isTaking = true;
+  while (fresh.size || asked.size) {
+    await new Promise(done => setTimeout(done, REST));
+    const now = [...fresh], names = [...asked];
+    asked.clear();
+    let isNew = false;
+    for (const [name, whole] of now) {
+      const file = followedOf(LOGS + name, urlOf(name));
+      if (files.includes(file)) {
+        isNew = await takeWhole(file, file.whole || new Uint8Array(), whole) || isNew;
+        mark(file, "");
+      }
+      if (fresh.get(name) === whole) fresh.delete(name);
+    }
+    for (const name of names) isNew = await followOne(LOGS + name, urlOf(name)) || isNew;
+    if (isNew) await work();
+  }
+  isTaking = false;
+}
+
+// ---- what desks share
+
+/**
+ * Sends entries of a desk.
+ * @type {import("../desks/journal.js").Send}
+ */
+async function send(desk, text) {
+  const answer = await fetch(DESKS + desk, { method: "POST", body: text,
+    headers: { "Content-Type": "application/x-ndjson" } });
+  if (answer.status >= 500 || answer.status === 401) return null;
+  const says = answer.ok ? await answer.json() : null;
+  return says ? says.refused.length + says.more : text.split("\n").length - 1;
+}
+/** What the server said of the net last. */
+let net = /** @type {NetTold | null} */ (null);
+/** What was set in the page last, by names of settings. */
+const set = /** @type {Map<string, string>} */ (new Map());
+/**
+ * Sets something of the net where it is another than before.
+ * @param {string} name
+ * @param {string} value
+ * @param {(value: string) => void} run
+ */
+function setOf(name, value, run) {
+  if (set.get(name) === value) return;
+  set.set(name, value);
+  run(value);
+}
+/** @param {"name" | "silent"} id */
+const putIn = id => (/** @type {string} */ value) => {
+  byId(id).value = value;
+  byId(id).dispatchEvent(new Event("change"));
+};
+/** What stands in the page as the net's names: those of desks come before those of the roster. */
+function namesText() {
+  return [...page.journal?.names || []].map(([call, name]) => `${call} ${name}\n`).join("");
+}
+/** Has the page show what the server and the desks say of the net. */
+function applySettings() {
+  if (!net) return;
+  const own = page.journal?.settings || new Map();
+  setOf("title", own.get("title") || net.title, putIn("name"));
+  setOf("silent", own.get("silent") || String(net.silent), putIn("silent"));
+  // of a call that stands in several lists the first line counts
+  setOf("names", namesText(), text => bringFirst("names of desks", text));
+  const bringRoster = (/** @type {string} */ text) => text && bring("roster of the net", text);
+  setOf("roster", own.get("roster") ?? net.roster, bringRoster);
+  const courses = own.has("course") ? [own.get("course") || ""] : net.courses;
+  setOf("course", courses.join("\0"), () => courses.forEach((text, k) =>
+    text && bring(`course ${k + 1} of the net`, text)));
+}
+/** @param {string} name @param {string} text */
+function bringFirst(name, text) {
+  page.brought = page.brought.filter(it => it.name !== name);
+  if (!text) return;
+  const others = page.brought;
+  page.brought = [];
+  bring(name, text);
+  page.brought = [...page.brought, ...others];
+}
+/** What a desk has written is new: the form, the names and the panel have it. */
+function journalChanged() {
+  applySettings();
+  page.widgets?.form.draw();
+  drawPanel();
+}
+const drawPanel = () => net && drawNetPanel({ net, journal: page.journal, isThere: told.now });
+
+// ---- begin
+
+/** Has the operator's lines go to the journal, and those of other desks stand beside them. */
+function share(/** @type {Journal} */ journal) {
+  page.journal = journal;
+  page.own.shared = journal;
+  journal.onChange = journalChanged;
+}
+/** Listens to the server, if it is one that tells what is new. */
+export async function beginServed() {
+  if (!location.protocol.startsWith("http")) return;
+  const answer = await fetch("who", { cache: "no-store" }).catch(() => null);
+  if (!answer?.ok || answer.headers.get("content-type") !== "application/json") return;
+  const who = await answer.json();
+  net = who.net;
+  if (who.name) share(new Journal(who.name, send, storeOf()));
+  applySettings();
+  const stream = new Stream({ sizes, take, anew: ask, gone() {},
+    net(text) {
+      net = JSON.parse(text);
+      applySettings();
+      drawPanel();
+    },
+    alive(isThere) {
+      told.now = isThere;
+      if (isThere) Object.assign(alive, { answered: Date.now(), away: 0 });
+      else alive.away ||= Date.now();
+      if (isThere) page.journal?.sendAll();
+      drawPanel();
+      tick();
+    } });
+  page.follows = true;
+  byId("follow").value ||= "logs.txt"; // so that it is asked where no stream comes through
+  stream.begin();
+}
+/** This browser's store, where it has one. */
+function storeOf() {
+  try {
+    return globalThis.localStorage || null;
+  } catch {
+    return null; // it is forbidden here
+  }
+}

@@ -1,0 +1,204 @@
+"""The page of a net that `aprs-net serve` hands out: it is told at once what is new, and desks share
+what they write down."""
+import contextlib
+import http.client
+import json
+import os
+import pathlib
+import signal
+import socket
+import subprocess
+import sys
+import time
+from typing import Any, Dict, Iterator
+
+import pytest
+
+from browser import Browser
+from given import REPOSITORY, TEXTS, picture
+from test_page_alone import page_text, place
+
+sys.path.append(str(REPOSITORY / "tools/src"))
+from aprsbook_tools.serving import tokens  # noqa: E402 (it lies there)
+
+pytest.importorskip("tornado", reason="needs Debian's python3-tornado")
+pytestmark = pytest.mark.browsers("Chromium")
+
+DAY = "2024-06-21"
+ROWS = "aprsbook.page.all.rows.length"
+LINES = "aprsbook.page.own.lines.map(it => it.text).sort().join('|')"
+CONNECTION = "document.getElementById('connection').textContent"
+# `aprsbook check` takes every line, where no program is built
+CHECK = "#!/bin/sh\ncat > /dev/null\necho heard 0 passed 0\n"
+
+
+class Live:
+    """A net that is served of a folder."""
+
+    def __init__(self, folder: pathlib.Path) -> None:
+        self.folder, self.logs = folder, folder / "logs"
+        (self.logs / DAY).mkdir(parents=True)
+        (folder / "page.html").write_text(page_text(), encoding="utf-8")
+        self.tokens = {name: tokens.add(str(folder / "tokens"), kind, name) for kind, name in
+                       [("receiver", "HILL"), ("desk", "BASE"), ("desk", "GATE")]}
+        (folder / "aprsbook").write_text(CHECK)
+        (folder / "aprsbook").chmod(0o755)
+        with socket.socket() as it:
+            it.bind(("127.0.0.1", 0))
+            self.port = it.getsockname()[1]
+
+    @property
+    def url(self) -> str:
+        return f"http://127.0.0.1:{self.port}/"
+
+    def begin(self) -> None:
+        env = {**os.environ, "PYTHONPATH": str(REPOSITORY / "tools/src"),
+               "PATH": f"{os.environ['PATH']}{os.pathsep}{self.folder}"}
+        self.process = subprocess.Popen(
+            [sys.executable, "-m", "aprsbook_tools", "serve", "--listen", f"127.0.0.1:{self.port}",
+             "--page", self.folder / "page.html", "--tokens", self.folder / "tokens", "--day", DAY,
+             "--title", "Fell race", self.logs], env=env, stderr=subprocess.DEVNULL)
+        for _ in range(600):
+            with contextlib.suppress(OSError):
+                socket.create_connection(("127.0.0.1", self.port)).close()
+                return
+            time.sleep(.05)
+        raise AssertionError("no server")
+
+    def end(self, how: int = signal.SIGTERM) -> None:
+        self.process.send_signal(how)
+        self.process.wait()
+
+    def ask(self, path: str, body: str, token: str, kind: str = "text/plain") -> Dict[str, Any]:
+        connection = http.client.HTTPConnection("127.0.0.1", self.port, timeout=20)
+        connection.request("POST", path, body, {"Authorization": f"Bearer {self.tokens[token]}",
+                                                "Content-Type": kind})
+        answer = connection.getresponse()
+        says: Dict[str, Any] = json.loads(answer.read())
+        assert answer.status == 200, says
+        return says
+
+    def push(self, *lines: str) -> None:
+        self.ask(f"/push/HILL/{DAY}", "".join(lines), "HILL")
+
+    def write(self, which: int, kind: str, **says: str) -> None:
+        """An entry of the other desk."""
+        entry = {"at": which, "desk": "GATE", "id": f"{which:032x}", "kind": kind, **says}
+        text = json.dumps(entry, sort_keys=True, separators=(",", ":"))
+        assert self.ask("/desks/GATE", text + "\n", "GATE", "application/x-ndjson")["added"] == 1
+
+    def journal(self, desk: str = "BASE") -> "list[dict[str, Any]]":
+        path = self.logs / "desks" / f"{desk}.jsonl"
+        return [json.loads(it) for it in path.read_text().splitlines()] if path.exists() else []
+
+
+@pytest.fixture
+def live(folder: pathlib.Path) -> Iterator[Live]:
+    it = Live(folder)
+    it.begin()
+    yield it
+    it.end()
+
+
+def enter(page: Browser, live: Live) -> None:
+    """Comes in by the form, as the desk BASE."""
+    page.open(live.url)
+    page.js(f"document.querySelector('input').value = '{live.tokens['BASE']}'")
+    page.js("document.querySelector('form').requestSubmit()")
+    page.wait("globalThis.aprsbook && location.hash === '#logs=logs.txt'")
+    page.wait(f"{CONNECTION}.includes('connected as desk BASE')")
+
+
+def say(page: Browser, text: str) -> None:
+    """Adds a line of voice traffic."""
+    page.js("document.getElementById('ics-open').click()")
+    page.js(f"document.getElementById('own-text').value = {text!r}")
+    page.js("document.getElementById('own-add').click()")
+
+
+def line(number: int) -> str:
+    return place(number, "Q1A", receiver="HILL", text=str(number))
+
+
+def test_lines_come_at_once(page: Browser, live: Live) -> None:
+    live.push(line(1), line(2))
+    enter(page, live)
+    page.wait(f"{ROWS} === 2")
+    assert page.js("document.title").endswith("Fell race")
+    begun = time.monotonic()
+    live.push(line(3))
+    page.wait(f"{ROWS} === 3")
+    assert time.monotonic() - begun < 10  # long before it would be asked for
+    with open(live.logs / DAY / "COAST.log", "a") as file:  # as a logger of this machine
+        file.write(line(4).replace("HILL", "COAST"))
+    page.wait(f"{ROWS} === 4")
+    assert not [it for it in page.requests() if it.endswith("COAST.log")]
+    picture(page, "served")
+
+
+def test_desks_share_what_they_write(page: Browser, live: Live) -> None:
+    live.push(line(1))
+    enter(page, live)
+    page.wait(f"{ROWS} === 1")
+    time_of = str(1_718_992_800_000)
+    live.write(1, "line", time=time_of, number="1", text="first runner", **{
+        "from": "Gate 1", "to": "NET"})
+    page.wait(f"{LINES} === 'first runner'")
+    say(page, "second runner")
+    page.wait(f"{LINES} === 'first runner|second runner'")
+    for _ in range(200):
+        if [it["text"] for it in live.journal()] == ["second runner"]:
+            break
+        time.sleep(.05)
+    assert [it["text"] for it in live.journal()] == ["second runner"]
+    # a line that the other desk wrote is taken away here
+    page.js("[...document.querySelectorAll('#ics-sheets tr.own')].find(it => "
+            "it.textContent.includes('first runner')).querySelector('button').click()")
+    page.wait(f"{LINES} === 'second runner'")
+    for _ in range(200):
+        if live.journal()[-1]["kind"] == "gone":
+            break
+        time.sleep(.05)
+    assert live.journal()[-1]["of"] == f"{1:032x}"
+    picture(page, "served-ics-309")
+    page.js("document.getElementById('ics-close').click()")
+
+
+def test_what_a_desk_sets_all_pages_show(page: Browser, live: Live) -> None:
+    live.push(line(1))
+    enter(page, live)
+    live.write(1, "setting", name="title", value="Fell race, second day")
+    page.wait("document.getElementById('title').textContent === 'Fell race, second day'")
+    live.write(2, "name", call="Q1A", name="Leader")
+    page.wait(f"{TEXTS % '#things-box td, #things-box th'}.join().includes('Leader')")
+    live.write(3, "setting", name="roster", value="Q1B Sweep\n")
+    page.wait(f"{TEXTS % '#roster-box td, #roster-box th'}.join().includes('Sweep')")
+    assert page.js("document.getElementById('silent').value") == "30"
+    live.write(4, "setting", name="silent", value="7")
+    page.wait("document.getElementById('silent').value === '7'")
+    live.write(5, "note", call="Q1A", text="has no lights")
+    page.wait(f"{TEXTS % '#desk li'}.join().includes('has no lights')")
+    # and what this desk sets
+    page.js("document.querySelector('#desk input').value = 'Third day'")
+    page.js("document.querySelector('#desk button').click()")
+    page.wait("document.getElementById('title').textContent === 'Third day'")
+
+
+def test_while_the_server_is_away(page: Browser, live: Live) -> None:
+    live.push(line(1))
+    enter(page, live)
+    page.wait(f"{ROWS} === 1")
+    live.end(signal.SIGKILL)
+    page.wait(f"{CONNECTION}.startsWith('not connected')")
+    page.wait("document.getElementById('stale').textContent.includes('server has been away')")
+    say(page, "while it was away")
+    page.wait(f"{CONNECTION}.includes('1 entry of this desk not sent yet')")
+    live.begin()
+    live.push(line(2))
+    page.wait(f"{ROWS} === 2")
+    page.wait(f"{CONNECTION} === 'connected as desk BASE'")
+    assert [it["text"] for it in live.journal()] == ["while it was away"]
+    assert len(live.journal()) == 1
+    assert not [it for it in page.problems() if it["level"] == "SEVERE" and
+                "ERR_CONNECTION_REFUSED" not in it["message"] and
+                "ERR_INCOMPLETE_CHUNKED" not in it["message"]]

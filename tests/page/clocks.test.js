@@ -1,0 +1,47 @@
+import assert from "node:assert/strict";
+import { test } from "node:test";
+import { clocksOf, FEWEST, medianOf, pairsOf } from "../../page/src/net/clock-offsets.js";
+import { hashOf, isSamePart, Parts, textIn, viewOf, Words } from "../../page/src/net/interning.js";
+import { tableOf } from "../../page/src/net/table-lines.js";
+import { atOnce } from "../../page/src/util/tasks.js";
+import { row, rowsOf } from "./tables.js";
+
+const bytesOf = text => tableOf(text);
+
+test("parts of a table are known by their bytes, each once", () => {
+  const bytes = bytesOf("HILL,COAST HILL,COAST HILL"), parts = new Parts(bytes);
+  assert.equal(parts.take(0, 10), parts.take(11, 21));
+  assert.equal(parts.take(22, 26), parts.take(0, 4));
+  assert.notEqual(parts.take(0, 10), parts.take(0, 4));
+  assert.deepEqual(parts.texts.filter(Boolean).sort(), ["HILL", "HILL,COAST"]);
+  assert.equal(textIn(bytes, 5, 10), "COAST");
+  const made = [], words = new Words(bytes, text => made.push(text));
+  assert.equal(words.of(0, 4), words.of(22, 26));
+  assert.deepEqual(made, ["HILL"]);
+});
+test("a hash is of the bytes and of what is its own", () => {
+  const view = viewOf(bytesOf("abcdefgh abcdefgh abcdefgx"));
+  assert.equal(hashOf(view, 0, 8, 1), hashOf(view, 9, 17, 1));
+  assert.notEqual(hashOf(view, 0, 8, 1), hashOf(view, 0, 8, 2));
+  assert.notEqual(hashOf(view, 0, 8, 1), hashOf(view, 18, 26, 1));
+  assert.deepEqual([isSamePart(view, 0, 8, 9, 17), isSamePart(view, 0, 8, 18, 26),
+    isSamePart(view, 0, 8, 9, 16)], [true, false, false]);
+});
+test("the middle of a list, of an even one the second of its two", () => {
+  assert.deepEqual([medianOf([3, 1, 2]), medianOf([4, 1, 3, 2])], [2, 3]);
+});
+test("clocks that differ are found by what both receivers heard", () => {
+  // C is an hour ahead of A and B
+  const shifts = { A: 0, B: 1, C: 3600 }, lines = [];
+  for (let k = 0; k < 8; k++)
+    for (const [name, by] of Object.entries(shifts))
+      lines.push({ at: 100 * k + by, text: row("position", 100 * k + by, "Q1A",
+        { receivers: name, latitude: 54, longitude: -3, text: `no. ${k}` }) });
+  lines.sort((a, b) => a.at - b.at);
+  const rows = rowsOf(lines.map(it => it.text));
+  const count = n => rows.heard.filter(it => it === n).length;
+  const heard = rows.lists.map((names, n) => ({ names, heard: count(n) }));
+  const clocks = clocksOf(atOnce(pairsOf(rows, -Infinity, heard)), 30);
+  assert.equal(Math.round(clocks.get("C").by), 3600);
+  assert.ok(Math.abs(clocks.get("A")?.by ?? 0) < 5 && FEWEST === 2);
+});

@@ -1,0 +1,83 @@
+import assert from "node:assert/strict";
+import { test } from "node:test";
+import zlib from "node:zlib";
+import { line } from "./stand.js";
+import { byId, enter, open, skip, textsOf, until } from "./window.js";
+
+const packed = text => zlib.deflateSync(Buffer.from(text)).toString("base64");
+const SHELL = "<title>@TITLE@</title>@CONNECT@|@COAST@|@DATA@|end";
+const PARTS = { worker: "", module: "AGFzbQEAAAA=", event: packed(SHELL),
+  example: packed(JSON.stringify({ "hill.log": line("18:00:00", "HILL") })) };
+/** A log of a plain position, heard by a receiver at a clock. */
+function logOf(clock, receiver, source = "Q1A", text = "!5430.00N/00330.00W>on foot") {
+  const call = (name, last) => [...name.padEnd(6).slice(0, 6)].map(it => it.charCodeAt(0) << 1)
+    .concat(last);
+  const frame = [...call("APRS", 0xe0), ...call(source, 0x61), 3, 0xf0, ...Buffer.from(text)];
+  return `2024-06-21T${clock}Z ${receiver} c000${Buffer.from(frame).toString("hex")}c0\n`;
+}
+const fileOf = (name, text) => new File([text], name);
+
+if (!skip) {
+  const window = open(null, { reads: true });
+  const parts = window.document.createElement("script");
+  Object.assign(parts,
+    { type: "application/json", id: "parts", textContent: JSON.stringify(PARTS) });
+  window.document.body.append(parts);
+  await import("../../page/src/main-reader.js");
+  await until(() => !byId("choose").disabled);
+}
+const { aprsbook, aprsfiles } = globalThis;
+const rows = () => [...document.querySelectorAll("#files tbody tr")];
+const verdicts = () => Object.fromEntries(rows().map(it =>
+  [it.querySelector("th").textContent, it.querySelector(".verdict").textContent]));
+
+test("the page begins without a log, and says that it is ready", { skip }, () => {
+  assert.deepEqual([byId("choose").disabled, byId("status").textContent, byId("net").hidden],
+    [false, "", true]);
+  assert.deepEqual(textsOf("#saves button").slice(0, 4), ["book", "history (text)",
+    "listing (text)", "page of the event (HTML)"]);
+  assert.equal(byId("book").disabled, true);
+});
+test("logs are checked, merged and drawn, and what is none says why", { skip }, async () => {
+  await aprsfiles.add([fileOf("hill.log", logOf("18:00:00", "HILL") + logOf("18:05:00", "HILL")),
+    fileOf("coast.log", logOf("18:00:02", "COAST")), fileOf("x.pdf", "%PDF-1.7")]);
+  assert.deepEqual(verdicts(), { "hill.log": "heard 2 passed 0", "coast.log": "heard 1 passed 0",
+    "x.pdf": "is a PDF, which no log is" });
+  assert.match(byId("status").textContent, /^2 transmissions of 2 files, in [\d.]+ s$/);
+  assert.equal(byId("about").textContent, "2024-06-21 18:00:00 to 18:05:00 UTC \u00b7 " +
+    "2 transmissions of 1 station \u00b7 heard by COAST, HILL");
+  assert.deepEqual(aprsbook.data.notes, ["x.pdf was left out: is a PDF, which no log is"]);
+  assert.equal(byId("book").disabled, false);
+  // the same again is nothing new
+  await aprsfiles.add([fileOf("coast.log", logOf("18:00:02", "COAST"))]);
+  assert.equal(aprsfiles.files.length, 3);
+});
+test("the page of the event has what is drawn, and its title", { skip }, async () => {
+  enter("name", "Fell <race>");
+  await until(() => aprsbook.data.title === "Fell <race>");
+  const page = await aprsfiles.eventPage({ "1/0/0": "cA==" });
+  const [head, coast, data, end] = page.split("|");
+  assert.deepEqual([head, coast, end], ["<title>Fell &lt;race&gt;</title>", "", "end"]);
+  const { title, rows, tiles, live, gap, silent } = JSON.parse(data);
+  assert.deepEqual([title, rows.split("\n").length, tiles, live, gap, silent],
+    ["Fell <race>", 4, { "1/0/0": "cA==" }, 0, 30, 30]);
+  assert.ok(!data.includes("<"));
+});
+test("a gap that is none is said, and files go when they are taken away", { skip }, async () => {
+  enter("gap", "0");
+  await until(() => byId("status").textContent.includes("gap"));
+  assert.equal(byId("status").textContent,
+    "the gap has to be a whole number of seconds, from 1 to 3600");
+  enter("gap", "60");
+  await until(() => aprsbook.data.gap === 60);
+  assert.equal(aprsbook.data.gap, 60);
+  for (let k = 0; k < 2; k++) {
+    document.querySelector("#files tbody td:last-child button").click();
+  }
+  assert.equal(aprsfiles.files.length, 1);
+});
+test("the example is read at a click", { skip }, async () => {
+  byId("example").click();
+  await until(() => verdicts()["hill.log"]);
+  assert.ok(Object.keys(verdicts()).includes("hill.log"));
+});

@@ -1,0 +1,1 @@
+"""Logs and books as files, and how books are made of them."""

@@ -1,0 +1,83 @@
+"""Inputs as programs read them, and their book, read once: what is asked of it afterwards is of one
+state of growing logs."""
+import contextlib
+import os
+import shutil
+import tempfile
+from typing import IO, ContextManager, Iterator, List, Optional, Sequence
+
+from aprsbook_tools import stderr
+from aprsbook_tools.books import inputs
+from aprsbook_tools.errors import Fault
+from aprsbook_tools.system import programs, streams
+
+
+@contextlib.contextmanager
+def spooled(paths: Sequence[str]) -> Iterator[List[str]]:
+    """The paths, in which a file with what standard input has stands for `-`, or for none."""
+    if paths and "-" not in paths:
+        yield list(paths)
+        return
+    with tempfile.TemporaryDirectory(prefix="aprs-net-") as folder:
+        path = os.path.join(folder, "standard input")
+        with streams.opened(None) as given, open(path, "wb") as file:
+            shutil.copyfileobj(given, file)
+        try:
+            yield [path if it == "-" else it for it in paths or ["-"]]
+        except Fault as fault:
+            fault.words = fault.words.replace(path, "standard input")
+            raise
+
+
+@contextlib.contextmanager
+def plain(paths: Sequence[str]) -> Iterator[List[str]]:
+    """The files that programs read for these: those below folders too, and compressed ones
+    unpacked. Where there are no paths, or `-` alone, a program reads standard input."""
+    if list(paths) in ([], ["-"]):
+        streams.say_what_is_awaited()
+        yield []
+        return
+    with tempfile.TemporaryDirectory(prefix="aprs-net-") as folder, spooled(paths) as paths:
+        found = inputs.of(paths)
+        if not found:
+            raise Fault(f"no logs and no books are in {' '.join(paths)}")
+        programs.check_inputs([it.path for it in found])
+        for it in [it for it in found if it.fault and it.path not in paths]:
+            if os.path.exists(it.path):
+                raise Fault(f"{it.path}: {it.fault}")
+            stderr.warn_once(f"{it.path}: {it.fault}: left out")  # a link that leads nowhere
+            found.remove(it)
+        # what is named is read, also a pipe, as the shell's <(..)
+        files = list(inputs.plain(found, folder))
+        for it, file in zip(found, files):
+            if it.is_book and it.packing and not os.path.getsize(file):
+                raise Fault(f"{it.path} is empty, which no book is: put back a copy")
+        try:
+            yield files
+        except Fault as fault:
+            words = fault.words
+            for it, file in zip(found, files):
+                if file.startswith(folder):
+                    words = words.replace(file, it.path)
+            raise Fault(words, fault.status, fault.by) from fault
+
+
+def write_book(
+    into: IO[bytes], paths: Sequence[str], gap: Optional[int], given: programs.Given = None
+) -> None:
+    """Writes the book of logs and books, or of what is given where there are none."""
+    nothing: ContextManager[List[str]] = contextlib.nullcontext([])
+    with plain(paths) if given is None else nothing as files:
+        command = programs.with_gap(["aprsbook", "merge"], gap, files)
+        programs.write_book(into, *command, given=given)
+    into.flush()
+
+
+@contextlib.contextmanager
+def book(paths: Sequence[str], gap: Optional[int], given: programs.Given = None) -> Iterator[str]:
+    """The path of the book of inputs, or of standard input, in a folder that goes away."""
+    with tempfile.TemporaryDirectory(prefix="aprs-net-") as folder:
+        path = os.path.join(folder, "net.book")
+        with open(path, "wb") as file:
+            write_book(file, paths, gap, given)
+        yield path

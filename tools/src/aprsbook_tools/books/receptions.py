@@ -1,0 +1,68 @@
+"""Each reception of logs as a row of the table, where a book has one row for all copies.
+
+Who was heard direct is known of each copy alone. So the n-th line of a log is given to
+`aprsbook-table` with a moment of its own, two seconds after that of the line before, under a gap of
+one second: no two are copies of one transmission then. The row's moment says which line it was.
+"""
+import io
+from dataclasses import dataclass
+from typing import List, Sequence
+
+from aprsbook_tools.books import inputs
+from aprsbook_tools.books.net_logs import octets_of
+from aprsbook_tools.errors import Fault
+from aprsbook_tools.formats import book_file, log_file, moments
+from aprsbook_tools.formats.log_file import Line
+from aprsbook_tools.reports import table
+from aprsbook_tools.reports.table import Row
+
+APART = 2000  # milliseconds between two lines
+
+
+@dataclass(frozen=True)
+class Reception:
+    """What a receiver heard at a moment in milliseconds."""
+
+    moment: int
+    row: Row
+
+
+def logs_of(paths: Sequence[str]) -> List[str]:
+    """The logs that are named, and those below folders that are named."""
+    found = inputs.of(paths)
+    for it in found:
+        if it.is_book:
+            raise Fault(f"{it.path} is a book, which has one copy of each transmission: name logs")
+        if it.fault:
+            raise Fault(f"{it.path}: {it.fault}")
+    if not found:
+        raise Fault(f"no logs are in {' '.join(paths)}")
+    return [it.path for it in found]
+
+
+def lines_of(path: str) -> List[Line]:
+    """The lines of a log, also of a compressed one, all of which are whole but for the last."""
+    octets, fault = octets_of(path)
+    if fault:
+        raise Fault(f"{path}: {fault}")
+    if octets.startswith(book_file.BEGIN):
+        raise Fault(f"{path} is a book, which has one copy of each transmission: name logs")
+    found = []
+    for number, text in enumerate(io.BytesIO(octets), 1):
+        line = log_file.read_whole(text)
+        if line is not None:
+            found.append(line)
+        elif text.endswith(b"\n"):
+            raise Fault(f"{path}: line {number} is no whole line of a log")
+    return found
+
+
+def receptions_of(paths: Sequence[str]) -> List[Reception]:
+    """The receptions of logs, by moment. What two files have, as a log and its compressed copy, is
+    one reception."""
+    lines = sorted({line for path in logs_of(paths) for line in lines_of(path)})
+    log = b"".join(
+        line._replace(moment=APART * number).write() for number, line in enumerate(lines)
+    )
+    rows = {moments.milliseconds(row.first) // APART: row for row in table.of(Row, [], 1, log)}
+    return [Reception(lines[number].moment, rows[number]) for number in sorted(rows)]

@@ -1,0 +1,1 @@
+"""Formats of files and of the air: each module reads or writes one."""

@@ -1,0 +1,1 @@
+"""What is told of a book: of the table of its rows, messages, stations and things."""

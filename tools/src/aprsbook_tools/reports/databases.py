@@ -1,0 +1,163 @@
+"""A database of SQLite with the tables of a book, in which numbers are numbers."""
+import contextlib
+import dataclasses
+import os
+import sqlite3
+from typing import (
+    Any, Callable, Dict, Iterable, Iterator, List, Mapping, Optional, Sequence, Type,
+    get_type_hints)
+
+from aprsbook_tools.errors import ExitStatus, Fault
+from aprsbook_tools.reports import table, table_files, tactical
+from aprsbook_tools.reports.roster import Roster
+from aprsbook_tools.reports.table import Message, Row, Station, Thing
+from aprsbook_tools.system import atomic
+
+# the table's name for each kind of the book's table
+TABLES: Dict[str, Type[Any]] = {
+    "transmissions": Row,
+    "messages": Message,
+    "stations": Station,
+    "things": Thing,
+}
+# what is told as it was sent, and is a number
+SENT = {f"a{number}": "real" for number in range(1, 6)}
+MAGIC = b"SQLite format 3\0"
+WAIT = 10.0  # seconds for another program's writing
+# each place, but for 0, 0, which GPS without a fix says, and the last one of each thing; a kill at
+# 0, 0 is where the thing was
+VIEWS = {
+    "tracks": """create view tracks as select
+        case when kind in ('object', 'item') then kind else 'station' end as kind,
+        case when kind in ('object', 'item') then name else source end as name,
+        case when state = '' then 'live' else state end as state,
+        first, last, receivers, receiver, source, latitude, longitude, ambiguity, compressed,
+        symbol, course, speed_knots, altitude_m, text
+        from transmissions where latitude <> 0 or longitude <> 0
+        union all select kill.kind, kill.name, kill.state, kill.first, kill.last, kill.receivers,
+        kill.receiver, kill.source, was.latitude, was.longitude, kill.ambiguity, kill.compressed,
+        kill.symbol, kill.course, kill.speed_knots, kill.altitude_m, kill.text
+        from transmissions as kill join transmissions as was on was.rowid = (
+            select rowid from transmissions as it where it.kind = kill.kind
+            and it.name = kill.name and (it.latitude <> 0 or it.longitude <> 0)
+            and (it.first, it.rowid) < (kill.first, kill.rowid)
+            order by it.first desc, it.rowid desc limit 1)
+        where kill.state = 'killed' and kill.latitude = 0 and kill.longitude = 0""",
+    # of a group a column stands for the row that has the greatest
+    "places": """create view places as select kind, name, state, first, last, receivers, receiver,
+        source, latitude, longitude, ambiguity, compressed, symbol, course, speed_knots, altitude_m,
+        text, max(last || ' ' || receiver) as heard from tracks group by kind, name""",
+}
+INDICES = [
+    "create index transmissions_source on transmissions (source, first)",
+    "create index transmissions_first on transmissions (first)",
+]
+
+
+def sql_type(hint: Any) -> str:
+    """The column type of a field: a number where it is one, and otherwise text."""
+    if hint == Optional[int]:
+        return "integer"
+    return "real" if hint == Optional[float] else "text"
+
+
+def columns_of(kind: Type[Any]) -> Dict[str, str]:
+    """The columns of a kind, each with its type."""
+    hints = get_type_hints(kind)
+    return {
+        it.name: SENT.get(it.name) or sql_type(hints[it.name]) for it in dataclasses.fields(kind)
+    }
+
+
+def converter_of(name: str, of: str, read: Callable[[str], Any]) -> Callable[[str], Any]:
+    """What makes a value of a column of what is shown there, where that isn't empty."""
+    if name in SENT:
+        return str
+    number = {"integer": int, "real": float}.get(of)
+    return number or table_files.remembered(table_files.then(read, table_files.cell_of))
+
+
+def values_of(kind: Type[Any], rows: Iterable[List[str]], count: int) -> Iterator[List[Any]]:
+    """Rows as the database takes them, with so many columns of names; what isn't known is null, or
+    an empty text."""
+    types, readers = columns_of(kind), table.readers_of(kind)
+    converters = [converter_of(name, of, readers[name]) for name, of in types.items()]
+    nulls = [at for at, name in enumerate(types) if name in SENT or readers[name]("") is None]
+    for row in table.converted(rows, [*converters, *[str] * count]):
+        for at in nulls:
+            if row[at] == "":
+                row[at] = None
+        yield row
+
+
+def check(path: str, inputs: Sequence[str]) -> str:
+    """Refuses a file that is there and is no database, an input or a log; the path behind links is
+    the result."""
+    real = atomic.check(path, inputs)
+    if os.path.exists(path) and os.path.getsize(path):
+        with open(path, "rb") as file:
+            if file.read(len(MAGIC)) != MAGIC:
+                raise Fault(f"{path} is no database of SQLite, and isn't replaced",
+                            ExitStatus.ARGUMENTS)
+    return real
+
+
+@contextlib.contextmanager
+def writing(path: str, inputs: Sequence[str]) -> Iterator[sqlite3.Connection]:
+    """A transaction, which is taken back where its block ends by a fault."""
+    real = check(path, inputs)
+    with atomic.locked(path):  # so that nobody waits for a new one that a fault takes away
+        yield from transaction(path, real)
+
+
+def transaction(path: str, real: str) -> Iterator[sqlite3.Connection]:
+    """As `writing`, of the file behind links."""
+    is_new = not os.path.exists(real)
+    try:
+        base = sqlite3.connect(real, timeout=WAIT, isolation_level=None)
+        try:
+            base.execute("begin immediate")
+            yield base
+            base.execute("commit")
+            is_new = False
+        finally:
+            base.close()  # what wasn't committed is taken back
+    except sqlite3.Error as fault:
+        raise Fault(f"{path}: {fault}", ExitStatus.OUTPUT) from fault
+    finally:
+        if is_new:
+            with contextlib.suppress(OSError):
+                os.unlink(real)
+
+
+def drop(base: sqlite3.Connection, name: str) -> None:
+    """Takes a table or a view of this name away, if there is one."""
+    for (kind,) in base.execute("select type from sqlite_master where name = ?", [name]).fetchall():
+        base.execute(f'drop {kind} "{name}"')
+
+
+def fill(base: sqlite3.Connection, name: str, rows: Iterable[List[str]], roster: Roster) -> None:
+    """Makes one table anew, with the columns of names that a roster brings."""
+    kind = TABLES[name]
+    columns, names = columns_of(kind), tactical.names_of(kind, roster)
+    drop(base, name)
+    types = [f"{it} {of}" for it, of in columns.items()] + [f"{it} text" for it in names]
+    base.execute(f"create table {name} ({', '.join(types)})")
+    base.executemany(
+        f"insert into {name} values ({', '.join('?' * len(types))})",
+        values_of(kind, tactical.named(kind, roster)(rows), len(names)))
+
+
+def write(path: str, tables: Mapping[str, Iterable[List[str]]], inputs: Sequence[str],
+          roster: Roster) -> None:
+    """Puts the tables, whose rows are as the program shows them, in place of those that are there;
+    all else of the database stays."""
+    with writing(path, inputs) as base:
+        for name in VIEWS:
+            drop(base, name)
+        for name, rows in tables.items():
+            fill(base, name, rows, roster)
+        for view in VIEWS.values():
+            base.execute(view)
+        for index in INDICES:
+            base.execute(index)

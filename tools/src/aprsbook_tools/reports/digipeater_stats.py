@@ -1,0 +1,116 @@
+"""What the keeper of a digipeater asks: who is heard direct, hops, hours, who repeats whom."""
+import re
+from collections import Counter, defaultdict
+from dataclasses import dataclass
+from typing import Dict, List, Optional, Sequence, Tuple
+
+from aprsbook_tools.books.receptions import Reception
+from aprsbook_tools.geo import Spot, bearing, metres_between
+from aprsbook_tools.reports.tracks import place_of
+
+# what stands for any digipeater, and names none
+ALIAS = re.compile(r"(WIDE|TRACE)[0-9]?(-[0-9]+)?|RELAY|ECHO|GATE", re.ASCII)
+HOUR = 3_600_000  # milliseconds
+
+
+@dataclass(frozen=True)
+class Heard:
+    """A station that a receiver heard direct."""
+
+    receiver: str
+    call: str
+    direct: int
+    frames: int
+    last: int
+    spot: Optional[Spot]
+
+
+def digipeaters_of(reception: Reception) -> List[str]:
+    """Who repeated a frame, in order; what names no digipeater only where nothing else is there."""
+    used = [it[:-1] for it in reception.row.via if it.endswith("*")]
+    named = [it for it in used if not ALIAS.fullmatch(it)]
+    return named or used[-1:]
+
+
+def is_own(reception: Reception) -> bool:
+    """Whether the path of the row is that of the frame, and not of one that it passes on."""
+    return not reception.row.gate
+
+
+def is_direct(reception: Reception) -> bool:
+    """Whether a receiver heard the station itself."""
+    return is_own(reception) and not digipeaters_of(reception)
+
+
+def hops_of(receptions: Sequence[Reception]) -> List[Tuple[str, int, int]]:
+    """Receiver, hops, frames."""
+    counts = Counter((it.row.receiver, len(digipeaters_of(it))) for it in receptions if is_own(it))
+    return [(*key, n) for key, n in sorted(counts.items())]
+
+
+def hours_of(receptions: Sequence[Reception]) -> List[Tuple[str, int, int, int]]:
+    """Receiver, the hour's first moment, frames, frames that were heard direct."""
+    frames: Dict[Tuple[str, int], List[int]] = defaultdict(lambda: [0, 0])
+    for it in receptions:
+        count = frames[it.row.receiver, it.moment // HOUR * HOUR]
+        count[0] += 1
+        count[1] += is_direct(it)
+    return [(*key, n, direct) for key, (n, direct) in sorted(frames.items())]
+
+
+def repeats_of(receptions: Sequence[Reception]) -> List[Tuple[str, str, int]]:
+    """Digipeater, whom it repeated (a station, or the digipeater before it), frames: those that one
+    receiver heard, of the receiver that heard most."""
+    counts: Dict[Tuple[str, str], "Counter[str]"] = defaultdict(Counter)
+    for it in filter(is_own, receptions):
+        path = [it.row.source, *digipeaters_of(it)]
+        for before, digipeater in zip(path, path[1:]):
+            counts[digipeater, before][it.row.receiver] += 1
+    return [(*key, max(of.values())) for key, of in sorted(counts.items())]
+
+
+def last_spots(receptions: Sequence[Reception]) -> Dict[str, Spot]:
+    """The last exact place of each station."""
+    spots: Dict[str, Spot] = {}
+    for it in receptions:
+        place = place_of(it.row)
+        if place and place.kind == "station" and place.is_exact:
+            spots[place.name] = place.spot
+    return spots
+
+
+def direct_of(receptions: Sequence[Reception]) -> List[Heard]:
+    """The stations that each receiver heard direct, with the last place that was heard so."""
+    frames = Counter((it.row.receiver, it.row.source) for it in receptions if is_own(it))
+    groups: Dict[Tuple[str, str], List[Reception]] = defaultdict(list)
+    for it in filter(is_direct, receptions):
+        groups[it.row.receiver, it.row.source].append(it)
+    return [
+        Heard(*key, len(own), frames[key], own[-1].moment, last_spots(own).get(key[1]))
+        for key, own in sorted(groups.items())
+    ]
+
+
+@dataclass(frozen=True)
+class Far:
+    """A place that was heard direct, and where it lies from the receiver."""
+
+    receiver: str
+    call: str
+    moment: int
+    metres: float
+    degrees: float
+
+
+def farthest_of(receptions: Sequence[Reception], at: Dict[str, Spot]) -> List[Far]:
+    """The farthest place of each station that a receiver, whose place is known, heard direct."""
+    most: Dict[Tuple[str, str], Far] = {}
+    for it in filter(is_direct, receptions):
+        place, here = place_of(it.row), at.get(it.row.receiver)
+        if here is None or place is None or place.kind != "station" or not place.is_exact:
+            continue
+        metres = metres_between(here, place.spot)
+        key = it.row.receiver, place.name
+        if key not in most or metres > most[key].metres:
+            most[key] = Far(*key, it.moment, metres, bearing(here, place.spot))
+    return sorted(most.values(), key=lambda it: (it.receiver, -it.metres, it.call))

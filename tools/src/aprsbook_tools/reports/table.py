@@ -1,0 +1,292 @@
+"""The table of a book, by column names: a dataclass for each kind. Columns that this doesn't know
+are passed over, and those that an older aprsbook-table lacks are empty."""
+import collections
+import dataclasses
+import operator
+import re
+import unicodedata
+from typing import (
+    Any, Callable, Dict, Iterable, Iterator, List, NamedTuple, Optional, Sequence, Tuple, Type,
+    TypeVar, cast)
+
+from aprsbook_tools.errors import Fault
+from aprsbook_tools.system import programs
+
+T = TypeVar("T")
+SHOWN = re.compile(r"((?:\\x[0-9a-f]{2})+)|\\\\")
+BIDI = frozenset("\u061c\u200e\u200f\u202a\u202b\u202c\u202d\u202e\u2066\u2067\u2068\u2069")
+
+
+def is_readable(character: str) -> bool:
+    """Whether a character stands in a text as itself: no control, no end of line, no direction."""
+    return character not in BIDI and unicodedata.category(character) not in ("Cc", "Cs", "Zl", "Zp")
+
+
+def read_bytes(octets: bytes) -> str:
+    """Bytes as text where they are UTF-8 that can be read, and as \\xNN elsewhere."""
+    result, at = [], 0
+    while at < len(octets):
+        for size in (1, 2, 3, 4):
+            try:
+                character = octets[at:at + size].decode("utf-8")
+            except UnicodeDecodeError:
+                continue
+            if len(character) == 1 and is_readable(character):
+                result.append(character)
+                at += size
+                break
+        else:
+            result.append(f"\\x{octets[at]:02x}")
+            at += 1
+    return "".join(result)
+
+
+def text_of(shown: str) -> str:
+    """A field as text: \\xNN becomes what it stands for in UTF-8, and \\\\ a backslash."""
+    def put(found: "re.Match[str]") -> str:
+        return read_bytes(bytes.fromhex(found[1].replace("\\x", ""))) if found[1] else "\\"
+    return SHOWN.sub(put, shown) if "\\" in shown else shown
+
+
+def names(shown: str) -> Tuple[str, ...]:
+    """A field with commas, as receivers or digipeaters."""
+    return tuple(text_of(it) for it in shown.split(",")) if shown else ()
+
+
+def number(shown: str) -> Optional[int]:
+    return int(shown) if shown else None
+
+
+def decimal(shown: str) -> Optional[float]:
+    return float(shown) if shown else None
+
+
+def yes(shown: str) -> Optional[bool]:
+    return {"yes": True, "no": False}.get(shown)
+
+
+def column(read: Callable[[str], Any] = text_of, late: bool = False) -> Any:
+    """How a column is read; a late one was added after the first version of the table."""
+    metadata = {"read": read, "late": late}
+    return dataclasses.field(default=read(""), metadata=metadata)
+
+
+@dataclasses.dataclass(frozen=True)
+class Row:
+    """A transmission. Moments are their 24 bytes, which sort as text."""
+    kind: str = column()
+    first: str = column()
+    last: str = column()
+    receivers: Tuple[str, ...] = column(names)
+    receiver: str = column()
+    source: str = column()
+    destination: str = column()
+    via: Tuple[str, ...] = column(names)
+    gate: str = column()
+    name: str = column()
+    state: str = column()
+    id: str = column()
+    latitude: Optional[float] = column(decimal)
+    longitude: Optional[float] = column(decimal)
+    ambiguity: Optional[int] = column(number)
+    compressed: Optional[bool] = column(yes)
+    symbol: str = column()
+    stamp: str = column()
+    course: Optional[int] = column(number)
+    speed_knots: Optional[int] = column(number)
+    altitude_m: Optional[float] = column(decimal)
+    wind_from: Optional[int] = column(number)
+    wind_mph: Optional[int] = column(number)
+    gust_mph: Optional[int] = column(number)
+    temperature_f: Optional[int] = column(number)
+    rain_hour: Optional[int] = column(number)
+    rain_day: Optional[int] = column(number)
+    rain_midnight: Optional[int] = column(number)
+    humidity: Optional[int] = column(number)
+    pressure_tenths: Optional[int] = column(number)
+    luminosity: Optional[int] = column(number)
+    telemetry_sequence: str = column()  # as they were sent: 005 isn't 5, and 1.50 not 1.5
+    a1: str = column()
+    a2: str = column()
+    a3: str = column()
+    a4: str = column()
+    a5: str = column()
+    bits: str = column()
+    says: str = column()
+    text: str = column()
+    messaging: Optional[bool] = column(yes, late=True)
+    fix: str = column(late=True)
+    range_miles: Optional[float] = column(decimal, late=True)
+    phg_watts: Optional[int] = column(number, late=True)
+    phg_height_ft: Optional[int] = column(number, late=True)
+    phg_gain_db: Optional[int] = column(number, late=True)
+    phg_direction: Optional[int] = column(number, late=True)
+    frequency_khz: Optional[int] = column(number, late=True)
+    tone: str = column(late=True)
+    offset_khz: Optional[int] = column(number, late=True)
+    finer_latitude: Optional[float] = column(decimal, late=True)
+    finer_longitude: Optional[float] = column(decimal, late=True)
+
+
+@dataclasses.dataclass(frozen=True)
+class Message:
+    """A message with its state, and the answer that decides it."""
+    source: str = column()
+    addressee: str = column()
+    id: str = column()
+    text: str = column()
+    state: str = column()
+    first: str = column()
+    last: str = column()
+    answer: str = column()
+    answer_source: str = column()
+    reply_ack: str = column(late=True)
+    reply_answer: str = column(late=True)
+
+
+@dataclasses.dataclass(frozen=True)
+class Station:
+    """A station with its last position and its last status."""
+    source: str = column()
+    transmissions: Optional[int] = column(number)
+    last: str = column()
+    receiver: str = column()
+    stamp: str = column()
+    latitude: Optional[float] = column(decimal)
+    longitude: Optional[float] = column(decimal)
+    ambiguity: Optional[int] = column(number)
+    compressed: Optional[bool] = column(yes)
+    symbol: str = column()
+    text: str = column()
+    status_last: str = column()
+    status_receiver: str = column()
+    status_stamp: str = column()
+    status_text: str = column()
+
+
+@dataclasses.dataclass(frozen=True)
+class Thing:
+    """An object or an item with its last state."""
+    kind: str = column()
+    name: str = column()
+    state: str = column()
+    last: str = column()
+    receiver: str = column()
+    source: str = column()
+    stamp: str = column()
+    latitude: Optional[float] = column(decimal)
+    longitude: Optional[float] = column(decimal)
+    ambiguity: Optional[int] = column(number)
+    compressed: Optional[bool] = column(yes)
+    symbol: str = column()
+    text: str = column()
+
+
+WORDS: Dict[Type[Any], str] = {
+    Row: "rows", Message: "messages", Station: "stations", Thing: "things"}
+# the moments by which a row is of a time: when it was first heard, or what is last known, last
+MOMENTS: Dict[Type[Any], Tuple[str, ...]] = {
+    Row: ("first",), Message: ("first",), Station: ("last", "status_last"), Thing: ("last",)}
+
+
+class Time(NamedTuple):
+    """From a moment on, and before another; their texts sort as moments do."""
+    since: str = ""
+    until: str = "~"
+
+
+ALWAYS = Time()
+
+
+def columns_of(kind: Type[Any]) -> List[str]:
+    return [it.name for it in dataclasses.fields(kind)]
+
+
+def readers_of(kind: Type[Any]) -> Dict[str, Callable[[str], Any]]:
+    """How each column of a kind is read."""
+    return {it.name: it.metadata["read"] for it in dataclasses.fields(kind)}
+
+
+def places_of(kind: Type[Any], names: Sequence[str], head: Sequence[str]) -> List[int]:
+    """Where columns stand in a line; one that an older program lacks, behind its end."""
+    late = {it.name for it in dataclasses.fields(kind) if it.metadata["late"]}
+    for it in names:
+        if it not in head and it not in late:
+            raise Fault(f"the table of {WORDS[kind]} has no column {it}")
+    return [head.index(it) if it in head else len(head) for it in names]
+
+
+def fields(kind: Type[Any], lines: Iterable[str], names: Sequence[str],
+           time: Time = ALWAYS) -> Iterator[List[str]]:
+    """These columns of the table's lines, as they are shown, of those of a time."""
+    lines = iter(lines)
+    head = next(lines, "").split("\t")
+    at = places_of(kind, names, head)
+    times = places_of(kind, MOMENTS[kind], head) if time != ALWAYS else []
+    most, tabs = max([*at, *times]) + 1, len(head) - 1
+    lacks, is_whole = len(head) in at, at == [*range(len(head))]
+    pick = operator.itemgetter(*at, at[0])  # of one column alone it would be no tuple
+    for number_, line in enumerate(lines, 2):
+        if line.count("\t") != tabs:
+            raise Fault(f"the table of {WORDS[kind]}: line {number_} has {line.count(chr(9)) + 1} "
+                        f"fields, and {tabs + 1} columns are named")
+        shown = line.split("\t", most)
+        if times and not any(time.since <= shown[it] < time.until for it in times if shown[it]):
+            continue
+        if lacks:
+            shown += [""]
+        yield shown if is_whole else list(pick(shown)[:-1])
+
+
+def read(kind: Type[T], lines: Iterable[str], names: Sequence[str] = (),
+         time: Time = ALWAYS) -> Iterator[T]:
+    """The table's lines as dataclasses of a kind, or as named tuples of some of its columns."""
+    make: Callable[[List[Any]], Any] = lambda values: kind(*values)
+    if names:
+        make = cast(Any, collections.namedtuple(kind.__name__, names))._make
+    names = names or columns_of(kind)
+    readers = [*enumerate(map(readers_of(kind).__getitem__, names))]
+    texts = [at for at, reads in readers if reads is text_of]
+    others = [(at, reads) for at, reads in readers if reads is not text_of]
+    for values in fields(kind, lines, names, time):
+        row: List[Any] = values
+        for at in texts:
+            if "\\" in row[at]:
+                row[at] = text_of(row[at])
+        try:
+            for at, reads in others:
+                row[at] = reads(row[at])
+        except ValueError as fault:
+            raise Fault(f"the table of {WORDS[kind]}: {fault}") from fault
+        yield make(row)
+
+
+def converted(rows: Iterable[List[str]], converters: Sequence[Callable[[str], Any]]
+              ) -> Iterator[List[Any]]:
+    """Rows as they are shown, in which each field that isn't empty is converted."""
+    for row in rows:
+        values: List[Any] = row
+        for at, shown in enumerate(row):
+            if shown:
+                values[at] = converters[at](shown)
+        yield values
+
+
+def lines_of(kind: Type[Any], inputs: Sequence[str], gap: Optional[int] = None,
+             given: programs.Given = None) -> Iterator[str]:
+    """The table of logs and books, or of standard input where there are none."""
+    # the first table, rows, needs no word, also of an older program
+    words = [] if kind is Row else [WORDS[kind]]
+    command = programs.with_gap(["aprsbook-table", *words], gap, inputs)
+    return programs.lines(*command, given=given)
+
+
+def of(kind: Type[T], inputs: Sequence[str], gap: Optional[int] = None,
+       given: programs.Given = None, names: Sequence[str] = (), time: Time = ALWAYS
+       ) -> Iterator[T]:
+    """The same as a kind, or as named tuples of some of its columns."""
+    return read(kind, lines_of(kind, inputs, gap, given), names, time)
+
+
+def rows(inputs: Sequence[str], gap: Optional[int] = None) -> Iterator[Row]:
+    return of(Row, inputs, gap)

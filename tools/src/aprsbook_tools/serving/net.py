@@ -1,0 +1,124 @@
+"""What all answers have: the net that is served, and what is known of its sites."""
+import time
+from typing import Any, Callable, Dict, List, NamedTuple, Optional
+
+from aprsbook_tools.formats import log_file
+from aprsbook_tools.serving.hub import Hub
+from aprsbook_tools.serving.store import Store
+from aprsbook_tools.serving.tokens import Grant, Tokens
+
+CLOCK = 5.0  # seconds: a clock that is off by more is told; a slow link makes some of it
+MOVED = 1.0  # seconds: it is told again where it has moved by more
+TRIES = 10  # wrong tokens of an address in a minute
+HOUR = 3600  # seconds: who comes again after as many is said again
+
+
+class Settings(NamedTuple):
+    """What the page is told of the net, where no desk has said it otherwise."""
+    title: str = "APRS net"
+    silent: int = 30
+    roster: str = ""
+    courses: List[str] = []
+
+
+class Site:
+    """A receiver's site: when it pushed last, and by how many seconds its clock is ahead."""
+
+    def __init__(self) -> None:
+        self.pushed = 0.0
+        self.clock = 0.0
+        self.seemed = 0.0  # what the clock seemed to be in the push before
+        self.refused = 0
+        self.strange_day = ""
+
+
+class Wrong:
+    """Addresses that came with wrong tokens, for a minute."""
+
+    def __init__(self) -> None:
+        self.counts: Dict[str, int] = {}
+        self.minute = 0
+
+    def count(self, address: str) -> int:
+        minute = int(time.monotonic() // 60)
+        if minute != self.minute or len(self.counts) > 10_000:
+            self.counts, self.minute = {}, minute
+        self.counts[address] = self.counts.get(address, 0) + 1
+        return self.counts[address]
+
+    def is_often(self, address: str) -> bool:
+        return self.count(address) > TRIES
+
+
+class Net:
+    """What is served, to whom, and what is said of it."""
+
+    def __init__(self, store: Store, hub: Hub, tokens: Tokens, page: bytes, settings: Settings,
+                 listeners: int, say: log_file.Say) -> None:
+        self.store, self.hub, self.tokens, self.say = store, hub, tokens, say
+        self.page, self.settings, self.most = page, settings, listeners
+        self.hosts: List[str] = []  # by which names it is asked
+        self.is_secure = False  # whether browsers reach it by TLS alone
+        self.know: Callable[[Any], None] = lambda connection: None
+        self.listening = 0
+        self.wrong = Wrong()
+        self.sites: Dict[str, Site] = {}
+        self.changed: "set[Callable[[], None]]" = set()  # who wants to know of changes in `told`
+        self._seen: Dict[str, float] = {}
+        tokens.on_change = self.tell
+
+    def told(self) -> Dict[str, Any]:
+        """What each page is told beside the lines."""
+        it = self.settings
+        return {"title": it.title, "silent": it.silent, "roster": it.roster,
+                "courses": it.courses, "days": self.hub.days,
+                "sites": {name: {"clock": round(site.clock, 1), "refused": site.refused,
+                                 "day": site.strange_day}
+                          for name, site in sorted(self.sites.items())}}
+
+    def tell(self) -> None:
+        for it in [*self.changed]:
+            it()
+
+    def meet(self, grant: Grant, address: str) -> None:
+        """Says who connects, once an hour."""
+        key, now = f"{grant} {address}", time.monotonic()
+        if now - self._seen.get(key, -HOUR) >= HOUR:
+            self.say(f"{grant if grant.token else 'somebody'} is there, from {address}")
+        if len(self._seen) > 10_000:
+            self._seen.clear()
+        self._seen[key] = now
+
+    def hear_of(self, name: str, day: str, clock: Optional[float], refused: int) -> None:
+        """What a push says of a site: its clock, and a day that no page shows."""
+        site = self.sites.setdefault(name, Site())
+        before = (site.clock, site.strange_day, site.refused)
+        site.pushed = time.time()
+        site.refused += refused
+        if clock is not None:
+            self.hear_of_clock(name, site, clock)
+        if day > max(self.hub.days) and day != site.strange_day:
+            site.strange_day = day
+            self.say(f"{name} has lines of {day}, which is to come: no page shows them; set its "
+                     "clock, and move them by `aprs-net shift`")
+        if before != (site.clock, site.strange_day, site.refused):
+            self.tell()
+
+
+    def hear_of_clock(self, name: str, site: Site, clock: float) -> None:
+        """Of a clock that is off. What was long on its way seems to be of one that is behind, so
+        that has to be said twice."""
+        is_sure = clock > -CLOCK or abs(clock - site.seemed) <= CLOCK
+        site.seemed = clock
+        if not is_sure or abs(clock - site.clock) <= MOVED:
+            return
+        before, site.clock = site.clock, clock if abs(clock) > CLOCK else 0.0
+        if before or site.clock:
+            self.say(f"{name}: {clock_words(site.clock)}")
+
+
+def clock_words(clock: float) -> str:
+    """What is said of a clock that is ahead by so many seconds, or behind."""
+    if not clock:
+        return "its clock is right again"
+    return f"its clock is {abs(clock):.0f} s {'ahead' if clock > 0 else 'behind'}: set it"

@@ -1,0 +1,182 @@
+"""The server: where it listens, for how many, and with what bounds."""
+import asyncio
+import ipaddress
+import re
+import signal
+import socket
+import ssl
+from typing import Any, Dict, List, Optional, Tuple
+
+import tornado.httpserver
+import tornado.httputil
+import tornado.iostream
+import tornado.web
+
+from aprsbook_tools.errors import ExitStatus, Fault, said
+from aprsbook_tools.frame_sources import tcp
+
+BODY = 1 << 20  # bytes of a request
+HEAD = 1 << 16
+IDLE = 60  # seconds of a connection without a request, or until one's head is there
+BODY_TIME = 20  # seconds for a body
+LOOPBACK = ["127.0.0.1", "::1"]
+REFUSAL = b"HTTP/1.1 411 Length Required\r\nConnection: close\r\nContent-Length: 0\r\n\r\n"
+
+Stream = tornado.iostream.IOStream
+
+
+class Server(tornado.httpserver.HTTPServer):
+    """Holds so many connections at most, of all and of an address. For one more, the oldest that
+    has shown no token goes, and where each has, the new one."""
+
+    def initialize(  # type: ignore[override]
+            self, *args: Any, most: int, each: int, **named: Any) -> None:
+        super().initialize(*args, **named)
+        self.most, self.each = most, each
+        self.addresses: Dict[str, int] = {}
+        self.hosts: Dict[Stream, str] = {}
+        self.strangers: Dict[Stream, str] = {}  # the oldest first
+
+    def handle_stream(self, stream: Stream, address: Tuple[Any, ...]) -> None:
+        host = str(address[0])
+        is_full = len(self.hosts) >= self.most
+        if is_full or self.addresses.get(host, 0) >= self.each:
+            oldest = next((it for it, of in self.strangers.items() if is_full or of == host), None)
+            if oldest is None:
+                stream.close()
+                return
+            self.forget(oldest)
+            oldest.close()
+        self.addresses[host] = self.addresses.get(host, 0) + 1
+        self.strangers[stream] = host
+        self.hosts[stream] = host
+        super().handle_stream(stream, address)
+
+    def know(self, connection: Any) -> None:
+        """Who holds this connection has shown a token."""
+        self.strangers.pop(connection.stream, None)
+
+    def forget(self, stream: Stream) -> None:
+        self.strangers.pop(stream, None)
+        host = self.hosts.pop(stream, None)
+        if host is not None:
+            self.addresses[host] -= 1
+            if not self.addresses[host]:
+                del self.addresses[host]
+
+    def on_close(self, server_conn: Any) -> None:
+        self.forget(server_conn.stream)
+        super().on_close(server_conn)
+
+    def start_request(self, server_conn: object, request_conn: Any) -> "Strict":
+        return Strict(super().start_request(server_conn, request_conn), request_conn)
+
+
+class Strict(tornado.httputil.HTTPMessageDelegate):
+    """Takes requests whose length is said once, by digits. Of others a proxy may think otherwise
+    than this server, and then a part of a body would be a request."""
+
+    def __init__(self, own: tornado.httputil.HTTPMessageDelegate, connection: Any) -> None:
+        self.own, self.connection = own, connection
+
+    def headers_received(self, start_line: Any, headers: tornado.httputil.HTTPHeaders) -> Any:
+        lengths = headers.get_list("Content-Length")
+        if "Transfer-Encoding" in headers or len(lengths) > 1 or \
+                any(not re.fullmatch(r"\d{1,9}", it, re.ASCII) for it in lengths):
+            self.connection.stream.write(REFUSAL)
+            self.connection.stream.close()
+            return None
+        return self.own.headers_received(start_line, headers)
+
+    def data_received(self, chunk: bytes) -> Any:
+        return self.own.data_received(chunk)
+
+    def finish(self) -> None:
+        self.own.finish()
+
+    def on_connection_close(self) -> None:
+        self.own.on_connection_close()
+
+
+def server_of(application: tornado.web.Application, tls: Optional[ssl.SSLContext], most: int,
+              each: int, behind_proxy: bool) -> Server:
+    """A server with its bounds. Behind a proxy, which is on this machine, it is the proxy that says
+    who asks, and how."""
+    return Server(application, ssl_options=tls, most=most, each=each, max_body_size=BODY,
+                  max_header_size=HEAD, max_buffer_size=2 * BODY, chunk_size=HEAD,
+                  idle_connection_timeout=IDLE, body_timeout=BODY_TIME, xheaders=behind_proxy,
+                  trusted_downstream=LOOPBACK if behind_proxy else None)
+
+
+def is_loopback(host: str) -> bool:
+    try:
+        return ipaddress.ip_address(host).is_loopback
+    except ValueError:
+        return host == "localhost"
+
+
+def check(place: tcp.Place, tls: Optional[List[str]], tokens: Optional[str],
+          is_plain: bool, behind_proxy: bool) -> None:
+    """Refuses to be there for others without tokens, or without what keeps these secret."""
+    is_here = is_loopback(place.host)
+    if behind_proxy and not is_here:
+        raise Fault("--behind-proxy is for a proxy of this machine: listen to 127.0.0.1",
+                    ExitStatus.ARGUMENTS)
+    if is_here and not behind_proxy:
+        return
+    missing = [] if tokens else ["--tokens FILE"]
+    if not tls and not is_plain and not behind_proxy:
+        missing.append("--tls CERTIFICATE KEY, or --plain")
+    if missing:
+        where = "through the proxy" if behind_proxy else f"at {place.host}"
+        raise Fault(f"others than this machine get here {where}: give {' and '.join(missing)}",
+                    ExitStatus.ARGUMENTS)
+
+
+def context_of(tls: Optional[List[str]]) -> Optional[ssl.SSLContext]:
+    """What encrypts, with a certificate and its key."""
+    if not tls:
+        return None
+    context = ssl.SSLContext(ssl.PROTOCOL_TLS_SERVER)
+    context.minimum_version = ssl.TLSVersion.TLSv1_2
+    try:
+        context.load_cert_chain(*tls)
+    except (OSError, ssl.SSLError) as fault:
+        raise Fault(f"{tls[0]}, {tls[1]}: {fault.strerror or fault}")
+    return context
+
+
+def hosts_of(place: tcp.Place, port: int, names: List[str], is_secure: bool) -> List[str]:
+    """What a request may name as its host; the first is where the page is."""
+    host = f"[{place.host}]" if ":" in place.host else place.host
+    all_names = [*names, host]
+    if is_loopback(place.host):
+        all_names += ["localhost", "127.0.0.1", "[::1]"]
+    usual = 443 if is_secure else 80
+    with_port = [f"{it}:{port}".lower() for it in all_names]
+    return [it.lower() for it in all_names] + with_port if port == usual else with_port
+
+
+def listen(server: Server, place: tcp.Place) -> int:
+    """Listens, on one address alone; the port."""
+    family = socket.AF_INET6 if ":" in place.host else socket.AF_INET
+    try:
+        listening = socket.socket(family, socket.SOCK_STREAM)
+        listening.setsockopt(socket.SOL_SOCKET, socket.SO_REUSEADDR, 1)
+        listening.bind((place.host, place.port))
+        listening.listen(128)
+        listening.setblocking(False)
+    except OSError as fault:
+        raise Fault(f"{place.host}:{place.port}: {said(fault)}", ExitStatus.OUTPUT)
+    server.add_sockets([listening])
+    return int(listening.getsockname()[1])
+
+
+async def until_signal() -> None:
+    ended = asyncio.Event()
+    loop = asyncio.get_running_loop()
+    for name in ("SIGINT", "SIGTERM", "SIGHUP"):
+        number = getattr(signal, name, None)
+        if number is not None and signal.getsignal(number) is not signal.SIG_IGN:
+            loop.add_signal_handler(number, ended.set)
+    await ended.wait()

@@ -1,0 +1,1 @@
+"""Files, streams and programs: what stands between a command and the machine."""

@@ -1,0 +1,261 @@
+"""Writes a file whole or not at all.
+
+What is written lies beside the file under a name that begins with a dot and is no input of
+anything, and is renamed once it is on the disk. The file keeps its mode and its owner, and a link
+stays a link. Where the bytes are those that the file has, it isn't touched.
+"""
+import contextlib
+import errno
+import filecmp
+import os
+import re
+import select
+import shutil
+import stat
+import sys
+import tempfile
+import threading
+import time
+from typing import IO, Iterator, List, Optional, Sequence, Union
+
+from aprsbook_tools.books import inputs
+from aprsbook_tools.errors import ExitStatus, Fault, said
+from aprsbook_tools.formats import log_file
+from aprsbook_tools.system import disk
+
+try:
+    import fcntl
+except ImportError:  # not on Windows
+    fcntl = None  # type: ignore[assignment]
+
+SUFFIX = ".aprs-net-new"
+WORK = ".aprs-net-work"  # with which the name of a folder ends that goes away
+DAY = 86_400  # seconds
+ASKING = threading.Lock()
+
+
+class Writing:
+    """A file that is being written, and its path for now; `changed` tells, at the end, whether it
+    became another."""
+
+    def __init__(self, file: IO[bytes], path: str) -> None:
+        self.file, self.path = file, path
+        self.changed = False
+
+
+def check(path: str, given: Sequence[str] = (), is_named: bool = True) -> str:
+    """Refuses a path that is no file, an input or a log; the path behind links is the result. A
+    link that the user hasn't named is refused: it would lead to a file that isn't meant."""
+    if not is_named and os.path.islink(path):
+        raise Fault(f"{path} is a link, and isn't written through: take it away", ExitStatus.OUTPUT)
+    real = os.path.realpath(path)
+    if os.path.basename(path) in ("", ".", "..") or os.path.islink(real):
+        raise Fault(f"'{path}' is no file, and can't become one", ExitStatus.OUTPUT)
+    if os.path.splitext(real)[1] in inputs.PACKED:
+        raise Fault(f"{path}: nothing is written compressed", ExitStatus.ARGUMENTS)
+    if any(is_of(real, it) for it in given):
+        raise Fault(f"{path} is an input, or would become one", ExitStatus.ARGUMENTS)
+    if not os.path.exists(real):
+        if not os.path.isdir(os.path.dirname(real)):
+            raise Fault(f"{path}: no folder {os.path.dirname(real)} is there", ExitStatus.OUTPUT)
+        return real
+    if not os.path.isfile(real):
+        raise Fault(f"'{path}' is no file, and can't become one", ExitStatus.OUTPUT)
+    if is_standard_input(real):
+        raise Fault(f"{path} is standard input: it would be replaced", ExitStatus.ARGUMENTS)
+    if is_log(real):
+        raise Fault(f"{path} is a log, and isn't replaced: take it away first",
+                    ExitStatus.ARGUMENTS)
+    return real
+
+
+def is_same(one: str, other: str) -> bool:
+    """Whether two paths lead to one file."""
+    try:
+        return os.path.samefile(one, other)
+    except OSError:
+        return os.path.realpath(one) == os.path.realpath(other)
+
+
+def is_of(path: str, given: str) -> bool:
+    """Whether a path is that of an input, or of what would be one of a folder."""
+    return is_same(path, given) or inputs.is_input(path) and os.path.isdir(given) and \
+        path.startswith(os.path.join(os.path.realpath(given), ""))
+
+
+def is_standard_input(path: str) -> bool:
+    """Whether standard input is read from this file."""
+    try:
+        return os.path.samestat(os.fstat(0), os.stat(path))
+    except OSError:
+        return False
+
+
+def is_log(path: str) -> bool:
+    """Whether a file is a log by its name or by its first line."""
+    if path.endswith(".log"):
+        return True
+    try:
+        with open(path, "rb") as file:
+            return log_file.begins_as_log(file.read(log_file.LINE + 1))
+    except OSError:
+        return False
+
+
+def remove_leftovers(folder: str, name: str = "") -> None:
+    """Takes away what runs that were killed have left of a file, or of all of a folder, after a
+    day: files, and folders with what is in them."""
+    of = re.escape(name) if name else ".+"
+    form = re.compile(rf"\.{of}\.[a-z0-9_]{{8}}({re.escape(SUFFIX)}|{re.escape(WORK)})", re.DOTALL)
+    with contextlib.suppress(OSError):
+        for it in os.scandir(folder):
+            found = form.fullmatch(it.name)
+            if not found or time.time() - it.stat(follow_symlinks=False).st_mtime <= DAY:
+                continue
+            if it.is_dir(follow_symlinks=False):
+                shutil.rmtree(it.path, ignore_errors=True)
+            elif found[1] == SUFFIX:
+                os.unlink(it.path)
+
+
+def mode_of_new(mode: int) -> int:
+    """The mode of a new file or folder. One thread asks at a time: another would take for the
+    user's mask what is set here meanwhile."""
+    with ASKING:
+        mask = os.umask(0o077)
+        os.umask(mask)
+    return mode & ~mask
+
+
+def take_over(file: int, real: str) -> None:
+    """Gives a file the owner and the mode of the one that it replaces, or those of a new file."""
+    try:
+        old = os.stat(real)
+    except FileNotFoundError:
+        mode = mode_of_new(0o666)
+    else:
+        mode = stat.S_IMODE(old.st_mode)
+        with contextlib.suppress(OSError, AttributeError):
+            os.fchown(file, old.st_uid, old.st_gid)
+    with contextlib.suppress(AttributeError):
+        os.fchmod(file, mode)
+
+
+@contextlib.contextmanager
+def writing(path: str, given: Sequence[str] = (), is_named: bool = True) -> Iterator[Writing]:
+    """A file to write into, which becomes that of the path where the block ends without a fault."""
+    real = check(path, given, is_named)
+    folder, name = os.path.split(real)
+    remove_leftovers(folder, name)
+    new = None
+    try:
+        number, new = tempfile.mkstemp(SUFFIX, f".{name}.", folder)
+        with open(number, "wb") as file:
+            result = Writing(file, new)
+            yield result
+            file.flush()
+            take_over(file.fileno(), real)
+            os.fsync(file.fileno())
+        if os.path.exists(real) and filecmp.cmp(new, real, shallow=False):
+            return
+        os.replace(new, real)
+        new, result.changed = None, True
+        disk.sync_folder(folder)
+    except OSError as fault:
+        if fault.errno is None:
+            raise  # of a compressed input
+        raise Fault(f"{path}: {fault.strerror or fault}", ExitStatus.OUTPUT) from fault
+    finally:
+        if new is not None:
+            with contextlib.suppress(OSError):
+                os.unlink(new)
+
+
+def write(path: str, octets: bytes, given: Sequence[str] = (), is_named: bool = True) -> bool:
+    """A file becomes these bytes; whether it was another before."""
+    with writing(path, given, is_named) as new:
+        new.file.write(octets)
+    return new.changed
+
+
+def beside(path: str, ending: str) -> str:
+    """A hidden name beside a file."""
+    folder, name = os.path.split(os.path.realpath(path))
+    return os.path.join(folder, f".{name}.{ending}")
+
+
+def read_hidden(path: str, ending: str) -> bytes:
+    """What is hidden beside a file, where that is one's own: no link, and of this user, of root, or
+    of the owner of the file. OSError of others."""
+    hidden = beside(path, ending)
+    file = disk.open_own(hidden, os.O_RDONLY)
+    with open(file, "rb") as opened:
+        owner = os.fstat(file).st_uid
+        if owner not in (0, os.stat(path).st_uid, *([os.geteuid()] if fcntl else [])):
+            raise PermissionError(errno.EPERM, "it is somebody else's", hidden)
+        return opened.read()
+
+
+def write_hidden(path: str, ending: str, octets: bytes) -> None:
+    """Hides bytes beside a file, in place of what was hidden there, if that was a file."""
+    write(beside(path, ending), octets, is_named=False)
+
+
+@contextlib.contextmanager
+def locked(path: str) -> Iterator[bool]:
+    """Waits until no other run writes this file, where the system has locks; whether one did."""
+    if fcntl is None:
+        yield False
+        return
+    try:
+        file = disk.open_own(beside(path, "lock"), os.O_RDWR | os.O_CREAT)
+    except OSError as fault:
+        raise Fault(said(fault), ExitStatus.OUTPUT) from fault
+    try:
+        has_waited = False
+        try:
+            fcntl.flock(file, fcntl.LOCK_EX | fcntl.LOCK_NB)
+        except BlockingIOError:
+            has_waited = True
+            fcntl.flock(file, fcntl.LOCK_EX)
+        yield has_waited
+    finally:
+        os.close(file)
+
+
+def write_out(octets: bytes) -> None:
+    """Writes bytes to standard output, all of them."""
+    try:
+        if sys.stdout is None:
+            raise OSError(errno.EBADF, "it is closed")
+        sys.stdout.flush()
+        left = memoryview(octets)
+        while left:
+            try:
+                left = left[os.write(1, left):]
+            except BlockingIOError:  # another program set it so
+                select.select([], [1], [])
+    except BrokenPipeError:
+        raise  # nobody reads it any more: the command ends as by SIGPIPE
+    except OSError as fault:
+        raise Fault(f"standard output: {said(fault)}", ExitStatus.OUTPUT) from fault
+
+
+def put(path: Optional[str], output: Union[str, bytes], given: Sequence[str] = ()) -> None:
+    """Writes a text, in UTF-8, or bytes into a file; to standard output without one or for `-`."""
+    octets = output.encode("utf-8", "surrogateescape") if isinstance(output, str) else output
+    if path is None or path == "-":
+        write_out(octets)
+    else:
+        write(path, octets, given)
+
+
+def all_of(*paths: Union[str, None, Sequence[str]]) -> List[str]:
+    """What a command reads, for `given`: paths, lists of paths, and None for what isn't given."""
+    result: List[str] = []
+    for it in paths:
+        if isinstance(it, str):
+            result.append(it)
+        elif it is not None:
+            result.extend(it)
+    return result

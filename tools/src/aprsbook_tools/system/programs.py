@@ -1,0 +1,167 @@
+"""Runs aprsbook, aprsbook-table and aprsbook-fold. Where one fails, its complaint and its status
+are those of the Fault."""
+import os
+import re
+import shutil
+import subprocess
+import tempfile
+import threading
+from typing import IO, Iterator, List, Optional, Sequence, Set, Tuple, Union
+
+from aprsbook_tools import stderr
+from aprsbook_tools.errors import ExitStatus, Fault
+
+Given = Union[bytes, IO[bytes], None]  # None: standard input as it is
+RUNNING: Set["subprocess.Popen[bytes]"] = set()  # what threads have started
+STARTING = threading.Lock()
+BLOCK = 1 << 16  # bytes that are read at a time
+ENDED = threading.Event()  # whether a signal has asked for the end
+
+
+def is_there(program: str) -> bool:
+    """Whether a program is in the PATH."""
+    return shutil.which(program) is not None
+
+
+def find(program: str) -> str:
+    """The path of a program."""
+    path = shutil.which(program)
+    if path is None:
+        raise Fault(f"the program {program} isn't in the PATH: install aprsbook",
+                    ExitStatus.MISSING)
+    return path
+
+
+def check_inputs(paths: Sequence[str]) -> None:
+    """Refuses a file whose name says that it is a book and that is empty, which no book is."""
+    for path in paths:
+        if path.endswith(".book") and os.path.isfile(path) and not os.path.getsize(path):
+            raise Fault(f"{path} is empty, which no book is: put back a copy")
+
+
+def open_many_files() -> None:
+    """Lets this process, and those that it starts, open as many files as the system allows."""
+    try:
+        import resource
+    except ImportError:  # not on Windows
+        return
+    soft, hard = resource.getrlimit(resource.RLIMIT_NOFILE)
+    if soft != hard:
+        try:
+            resource.setrlimit(resource.RLIMIT_NOFILE, (hard, hard))
+        except (OSError, ValueError):
+            pass
+
+
+def fault_of(command: Sequence[str], status: int, complaint: bytes) -> Fault:
+    """What a program's end means: its own words, and its status. Where a signal ended it, that is
+    the machine's, as of too little memory, and no input's."""
+    program = os.path.basename(command[0])
+    words = complaint.decode("utf-8", "backslashreplace").strip()
+    if words.startswith(program + ": "):
+        words = words[len(program) + 2:]
+    if status < 0 or status > 125:
+        words = words or f"ended by signal {-status if status < 0 else status - 128}"
+        status = ExitStatus.OUTPUT
+    return Fault(words or f"ended with status {status}", status, program)
+
+
+def fault_line(fault: Fault, place: str) -> Optional[Tuple[int, str]]:
+    """The number of the line of an input at which a program failed, and the cause; or None."""
+    found = re.fullmatch(re.escape(place) + r": line ([0-9]+): (\w+)", fault.words)
+    return (int(found[1]), found[2]) if found else None
+
+
+def go_on() -> None:
+    """A Fault where a signal has asked for the end, for a thread that wasn't told."""
+    if ENDED.is_set():
+        raise Fault("ended by a signal", ExitStatus.OUTPUT)
+
+
+def end_all() -> None:
+    """Ends the programs that threads run; no other begins."""
+    with STARTING:
+        ENDED.set()
+        for process in [*RUNNING]:
+            process.kill()
+
+
+def run(*command: str, given: Given = b"", into: Optional[IO[bytes]] = None) -> bytes:
+    """What a program writes, or nothing where that goes `into` a file."""
+    open_many_files()
+    path = find(command[0])
+    stderr.detail(f"runs {' '.join(command)}")
+    octets = given if isinstance(given, bytes) else None
+    stdin: Union[int, IO[bytes], None] = subprocess.PIPE
+    if not isinstance(given, bytes):
+        stdin = given
+    out: Union[int, IO[bytes]] = subprocess.PIPE if into is None else into
+    with STARTING:
+        go_on()
+        process = subprocess.Popen(
+            [path, *command[1:]], stdin=stdin, stdout=out, stderr=subprocess.PIPE)
+        RUNNING.add(process)
+    with process:
+        try:
+            written, complaint = process.communicate(octets)
+        except BaseException:
+            process.kill()
+            raise
+        finally:
+            RUNNING.discard(process)
+    if process.returncode:
+        raise fault_of(command, process.returncode, complaint)
+    return written or b""
+
+
+def write_book(into: IO[bytes], *command: str, given: Given = b"") -> None:
+    """Writes a book into a file, by a program; one that wrote nothing has made none."""
+    before = os.fstat(into.fileno()).st_size
+    run(*command, given=given, into=into)
+    if os.fstat(into.fileno()).st_size == before:
+        program = os.path.basename(command[0])
+        raise Fault("wrote nothing, which no book is", ExitStatus.OUTPUT, program)
+
+
+def lines_in(file: IO[bytes]) -> Iterator[str]:
+    """The lines of what is read, in blocks, each without its end."""
+    rest = ""
+    for block in iter(lambda: file.read(BLOCK), b""):
+        *found, rest = (rest + block.decode("ascii", "backslashreplace")).split("\n")
+        yield from found
+    if rest:
+        yield rest
+
+
+def lines(*command: str, given: Given = None) -> Iterator[str]:
+    """The lines that a program writes, as they come, each without its end. The Fault comes after
+    the last: write nothing before all have been read."""
+    open_many_files()
+    path = find(command[0])
+    stderr.detail(f"runs {' '.join(command)}")
+    with tempfile.TemporaryFile() as complaint, tempfile.TemporaryFile() as held:
+        stdin: Union[int, IO[bytes], None] = given if not isinstance(given, bytes) else held
+        if isinstance(given, bytes):
+            held.write(given)
+            held.seek(0)
+        process = subprocess.Popen(
+            [path, *command[1:]], stdin=stdin, stdout=subprocess.PIPE, stderr=complaint)
+        assert process.stdout is not None
+        try:
+            yield from lines_in(process.stdout)
+        except BaseException:
+            process.kill()
+            raise
+        finally:
+            process.stdout.close()
+            status = process.wait()
+        if status:
+            complaint.seek(0)
+            raise fault_of(command, status, complaint.read())
+
+
+def with_gap(program: List[str], gap: Optional[int], inputs: Sequence[str]) -> List[str]:
+    """A command with its gap and its inputs; standard input is read where there are none."""
+    check_inputs(inputs)
+    option = ["--gap", str(gap)] if gap is not None else []
+    return [*program, *option, "--", *inputs] if inputs else [*program, *option]

@@ -1,0 +1,41 @@
+"""Sorts what memory doesn't hold, in runs on the disk."""
+import contextlib
+import heapq
+import itertools
+import marshal
+import tempfile
+from typing import IO, Any, Iterable, Iterator, List, Tuple
+
+RUN = 20_000  # items that are sorted at once
+BLOCK = 1_000  # items that are read at once of a run
+
+
+def items_of(run: IO[bytes]) -> Iterator[Tuple[Any, ...]]:
+    """What was written into a run."""
+    run.seek(0)
+    while True:
+        try:
+            block: List[Tuple[Any, ...]] = marshal.load(run)
+        except EOFError:
+            return
+        yield from block
+
+
+def written(items: List[Tuple[Any, ...]], run: IO[bytes]) -> IO[bytes]:
+    for at in range(0, len(items), BLOCK):
+        marshal.dump(items[at:at + BLOCK], run)
+    return run
+
+
+def in_order(items: Iterable[Tuple[Any, ...]], size: int = RUN) -> Iterator[Tuple[Any, ...]]:
+    """Tuples of numbers and texts in their order; no two are alike. Up to `size` of them stay in
+    memory."""
+    items = iter(items)
+    with contextlib.ExitStack() as stack:
+        runs: List[IO[bytes]] = []
+        while True:
+            held = sorted(itertools.islice(items, size))
+            if len(held) < size:
+                break
+            runs.append(written(held, stack.enter_context(tempfile.TemporaryFile())))
+        yield from heapq.merge(held, *map(items_of, runs)) if runs else held
