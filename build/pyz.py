@@ -7,8 +7,11 @@ import pathlib
 import sys
 import zipfile
 
-REPOSITORY = pathlib.Path(__file__).resolve().parent.parent
-SOURCES = REPOSITORY / "tools/src"
+SOURCES = pathlib.Path(__file__).resolve().parent.parent / "tools/src"
+sys.path.append(str(SOURCES))
+from aprsbook_tools.page import event_page  # noqa: E402 (it lies there)
+
+PAGE = f"aprsbook_tools/{event_page.TEMPLATE}"
 DAY = (1980, 1, 1, 0, 0, 0)  # of each file in it
 MAIN = '''"""aprs-net, of the archive in which this lies."""
 import sys
@@ -25,8 +28,11 @@ def main() -> None:
     for path in (SOURCES / "aprsbook_tools").rglob("*"):
         if path.is_file() and "__pycache__" not in path.parts:
             files[path.relative_to(SOURCES).as_posix()] = path.read_bytes()
-    if "aprsbook_tools/data/event.html" not in files:
-        sys.exit("the page of an event isn't built: make event-page")
+    if PAGE not in files:
+        page = event_page.released()
+        if page is None:
+            sys.exit(event_page.MISSING)
+        files[PAGE] = page.encode()
     out.parent.mkdir(parents=True, exist_ok=True)
     new = out.with_name(out.name + ".new")
     with open(new, "wb") as file:
