@@ -64,6 +64,7 @@ words:
 	tests/numbers.sh
 	tests/memory.sh
 	tests/edits.py
+	tests/wrong_bodies.py
 	tests/map.sh
 	tests/unused.py
 	tests/reading.sh

@@ -3,6 +3,7 @@
 
 usage: build/crates.py --sum      a checksum over all that the crates are made of
        build/crates.py --below NAME   the crates of this repository below one, lowest first
+       build/crates.py --sum-of NAME  the same over one and those below it
 """
 import hashlib
 import os
@@ -62,6 +63,12 @@ def sum_of(crates: Sequence[str]) -> str:
     return found.hexdigest()
 
 
+def is_proved(crate: str) -> bool:
+    """Whether build/prove.sh noted that it proved a crate as it and those below it stand."""
+    path = TOP / "out" / "proved" / crate
+    return path.is_file() and path.read_text().strip() == sum_of([*below(crate), crate])
+
+
 def linked(folder: pathlib.Path, to: pathlib.Path) -> None:
     """Copies a folder by hard links: `rt` replaces such a file, and writes into none."""
     to.parent.mkdir(parents=True, exist_ok=True)
@@ -74,6 +81,8 @@ def main(words: List[str]) -> int:
         print(sum_of(list(rows())))
     elif words[:1] == ["--below"] and words[1:2]:
         print("\n".join(below(words[1])))
+    elif words[:1] == ["--sum-of"] and words[1:2]:
+        print(sum_of([*below(words[1]), words[1]]))
     else:
         print(__doc__, file=sys.stderr)
         return 2

@@ -139,6 +139,7 @@ def from_nothing() -> Iterator[None]:
     names = list(crates.rows())
     # what a killed run set aside
     put_back(names)
+    shutil.rmtree(TOP / "out" / "proved", ignore_errors=True)
     for name in names:
         folder = TOP / "crates" / name / "out"
         if folder.is_dir():
