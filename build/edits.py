@@ -14,11 +14,13 @@ goal of a function that it changes. What isn't refused so, and what shares no ch
 is tried alone. Before them the copy is checked as it stands, and has to be proved, unless build/prove.sh
 noted that it proved these very files.
 
-What was refused is kept in out/edits, by a checksum of the crate, of those below it and of the edit.
+What was refused is kept in out/edits, by the kit and a checksum of the crate, of those below it and of
+the edit.
 Prints a line for each crate and each edit that isn't refused, and last `N passed, M failed`. Needs rt.
 """
 import argparse
 import concurrent.futures
+import functools
 import hashlib
 import json
 import os
@@ -165,12 +167,19 @@ def judged_alone(edit: Edit, check: Check, texts: Dict[str, str], crate: str) ->
     return told
 
 
+@functools.lru_cache(maxsize=None)
+def kit() -> str:
+    """The kit by its version."""
+    said = subprocess.run(["rt", "version"], stdout=subprocess.PIPE, check=True, encoding="utf-8")
+    return said.stdout.strip()
+
+
 class Kept:
     """What earlier runs refused of a crate's edits."""
 
     def __init__(self, crate: str, is_anew: bool) -> None:
         self.path = KEPT / f"{crate}.json"
-        self.sum = crates.sum_of([*crates.below(crate), crate])
+        self.sum = f"{kit()} {crates.sum_of([*crates.below(crate), crate])}"
         self.refused: Set[str] = set()
         if self.path.is_file() and not is_anew:
             try:
