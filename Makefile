@@ -152,6 +152,11 @@ bench: build
 	bench/history.sh $(PROGRAM) $(HISTORY)
 	bench/tables.sh $(PROGRAM) $(TABLE)
 
+# instructions of each run, beside those that are written in bench/counts.txt
+.PHONY: bench-counts
+bench-counts:
+	programs=$$(build/programs.sh) && set -- $$programs && bench/counts.py $$1 $$2 $$3 $$4
+
 # the page of an event, which aprs-net fills: no proof is needed for it, but esbuild
 .PHONY: event-page
 EVENT_PAGE = tools/src/aprsbook_tools/data/event.html
