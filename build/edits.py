@@ -14,8 +14,8 @@ goal of a function that it changes. What isn't refused so, and what shares no ch
 is tried alone. Before them the copy is checked as it stands, and has to be proved, unless build/prove.sh
 noted that it proved these very files.
 
-What was refused is kept in out/edits, by the kit and a checksum of the crate, of those below it and of
-the edit.
+What was refused is kept in out/edits, by the kit and a checksum of the crate and of those below it, but
+for comments, and of the edit.
 Prints a line for each crate and each edit that isn't refused, and last `N passed, M failed`. Needs rt.
 """
 import argparse
@@ -174,12 +174,17 @@ def kit() -> str:
     return said.stdout.strip()
 
 
+def meaning_of(crate: str) -> str:
+    """A checksum over a crate and those below it, but for comments."""
+    return crates.sum_of([*crates.below(crate), crate], crates.without_comments)
+
+
 class Kept:
     """What earlier runs refused of a crate's edits."""
 
     def __init__(self, crate: str, is_anew: bool) -> None:
         self.path = KEPT / f"{crate}.json"
-        self.sum = f"{kit()} {crates.sum_of([*crates.below(crate), crate])}"
+        self.sum = f"{kit()} {meaning_of(crate)}"
         self.refused: Set[str] = set()
         if self.path.is_file() and not is_anew:
             try:
