@@ -115,7 +115,7 @@ def prove() -> List[Job]:
     programs = [it for it in every if is_program(it)]
     release = Job("release", ["build/objects.sh", "--compare"], frozenset(programs))
     # of aprs-net the types alone: its tests wait for clocks and servers, and are those of `make test`
-    tools = Job("types of tools", ["tests/tools.sh"], frozenset(), TEST)
+    tools = Job("types of tools", ["tests/sources/tools.sh"], frozenset(), TEST)
     of_programs = [make("tried", *programs, PAGE), release]
     return [*proofs(every), *trials(), *tests_of_sources(), tools, *of_programs]
 
