@@ -64,6 +64,7 @@ words:
 	tests/documents/numbers.sh
 	tests/sources/memory.sh
 	tests/sources/edits.py
+	tests/sources/wrong_bodies.py
 	tests/documents/map.sh
 	tests/sources/unused.py
 	tests/documents/reading.sh
@@ -154,6 +155,11 @@ bench: build
 	bench/library.sh
 	bench/history.sh $(PROGRAM) $(HISTORY)
 	bench/tables.sh $(PROGRAM) $(TABLE)
+
+# instructions of each run, beside those that are written in bench/counts.txt
+.PHONY: bench-counts
+bench-counts:
+	programs=$$(build/programs.sh) && set -- $$programs && bench/counts.py $$1 $$2 $$3 $$4
 
 # the page of an event, which aprs-net fills: no proof is needed for it, but esbuild
 .PHONY: event-page
