@@ -57,6 +57,7 @@ words:
 	tests/documents/version.sh
 	tests/documents/words.sh
 	tests/documents/sentences.py
+	tests/documents/links.py
 	tests/documents/outside.py
 	build/limits.py --check
 	tests/documents/every_byte.py
