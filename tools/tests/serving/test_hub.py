@@ -20,7 +20,7 @@ def test_a_folder_that_cannot_be_read_ends_nothing(
         tmp_path: pathlib.Path, monkeypatch: pytest.MonkeyPatch) -> None:
     (tmp_path / DAY).mkdir()
     it, said = hub_of(tmp_path), []  # type: Hub, List[str]
-    own, looks = it.look, []  # type: ignore[var-annotated]
+    own, looks = it.look, []
 
     def look() -> None:
         looks.append(1)
