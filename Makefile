@@ -64,6 +64,7 @@ words:
 	tests/numbers.sh
 	tests/memory.sh
 	tests/edits.py
+	tests/wrong_bodies.py
 	tests/map.sh
 	tests/unused.py
 	tests/reading.sh
@@ -150,6 +151,11 @@ bench: build
 	bench/library.sh
 	bench/history.sh $(PROGRAM) $(HISTORY)
 	bench/tables.sh $(PROGRAM) $(TABLE)
+
+# instructions of each run, beside those that are written in bench/counts.txt
+.PHONY: bench-counts
+bench-counts:
+	programs=$$(build/programs.sh) && set -- $$programs && bench/counts.py $$1 $$2 $$3 $$4
 
 # the page of an event, which aprs-net fills: no proof is needed for it, but esbuild
 .PHONY: event-page

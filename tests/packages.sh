@@ -89,7 +89,8 @@ rm installed/bin/other
 # ---- packages: the same bytes of two folders, on two days ----
 
 mkdir copy
-(cd "$repository" && { git ls-files && ls tools/src/aprsbook_tools/data/event.html 2> /dev/null || true; } |
+# with the page of an event, where it is built
+(cd "$repository" && { git ls-files && find tools/src/aprsbook_tools -name event.html; } |
     tar -cf - -T -) | tar -xf - -C copy
 find copy -exec touch -h -t 202001020304 {} +
 # twice WORD..: packs the programs here, and in another folder, day, umask and time zone
