@@ -118,7 +118,7 @@ def prove() -> List[Job]:
     programs = [it for it in every if is_program(it)]
     release = Job("release", ["build/objects.sh", "--compare"], frozenset(programs))
     # of aprs-net the types alone: its tests wait for clocks and servers, and are those of `make test`
-    tools = Job("types of tools", ["tests/tools.sh"], frozenset(), TEST)
+    tools = Job("types of tools", ["tests/sources/tools.sh"], frozenset(), TEST)
     of_programs = [make("tried", *programs, PAGE), release]
     of_sources = [*tests_of_crates(), *tests_of_sources(), tools]
     return [*proofs(every), *trials(), *of_sources, *of_programs]
