@@ -128,15 +128,15 @@ def test_what_was_acknowledged_is_there(tmp_path: pathlib.Path) -> None:
     sources = Sources(tmp_path / "sites")
     with serving(tmp_path) as net:
         direct, killed = Direct(net, sources), Killed(net, sources)
-        threads = [threading.Thread(target=it.run, daemon=True)
-                   for it in (sources, direct, *killed.pages)]
-        for it in threads:
-            it.start()
+        runs = [sources.run, direct.run, *(page.run for page in killed.pages)]
+        threads = [threading.Thread(target=run, daemon=True) for run in runs]
+        for thread in threads:
+            thread.start()
         for number in range(KILLS):
             killed.kill(number)
         sources.has_ended.set()
-        for it in threads:
-            it.join(60)
+        for thread in threads:
+            thread.join(60)
         wanted = {name: sources.lines(name) for name in RECEIVERS}
         wanted["HILL"] |= {*direct.lines}
         wait_for(lambda: all(wanted[it] <= {*net.log(it)} for it in RECEIVERS), "all lines", 60)
@@ -144,8 +144,8 @@ def test_what_was_acknowledged_is_there(tmp_path: pathlib.Path) -> None:
             assert len(net.log(name)) == len(wanted[name]) and {*net.log(name)} == wanted[name]
         journal = (net.logs / "desks" / "BASE.jsonl").read_bytes().splitlines(keepends=True)
         assert {*journal} == {*direct.entries} and len(journal) == len(direct.entries)
-        for it in killed.pages:
-            check_page(it.listener, net)
+        for page in killed.pages:
+            check_page(page.listener, net)
         assert len(direct.lines) > KILLS
     compare_books(net, sources, direct, tmp_path)
 
