@@ -101,7 +101,7 @@ def test_news_whose_base_is_missing_are_said(club: Club, tmp_path: pathlib.Path)
         club.mail("--sent", "bay")
 
     def take(*files: pathlib.Path) -> str:
-        club.net("book", theirs, *files)
+        club.net("book", theirs, *map(str, files))
         return club.said
 
     lacks = "is news to a book that is neither"
@@ -156,12 +156,12 @@ def test_one_faulty_neighbour_is_no_other_ones_fault(club: Club) -> None:
 
 def test_a_killed_run_loses_nothing(club: Club, tmp_path: pathlib.Path) -> None:
     """Whenever it is killed: what is there is whole, and all that isn't said to be sent waits."""
-    theirs = tmp_path / "theirs.book"
+    theirs, runs = tmp_path / "theirs.book", [["mail"], ["mail", "--sent", "bay"]]
     for turn in range(8):
         club.grow(EVENING[turn % 3])
-        for words in [], ["--sent", "bay"]:
+        for words in runs:
             running = subprocess.Popen(
-                command("mail", *words, club.folder), env=environment(),
+                command(*words, club.folder), env=environment(),
                 stdout=subprocess.DEVNULL, stderr=subprocess.DEVNULL)
             time.sleep(0.1 + 0.05 * turn)
             running.send_signal(signal.SIGKILL)

@@ -195,7 +195,7 @@ def test_a_communications_log_has_what_was_said(programs: Programs) -> None:
     assert "01     Q1B        ack     one{01}" in form and "Messages: 4" in form
     table = programs.lines("messages", "net.log")
     assert len(table) == 8
-    first = dict(zip(*table[:2]))
+    first = dict(zip(table[0], table[1]))
     assert first["class"] == "message" and first["gate"] == "Q1GATE-10"
     assert first["outcome_moment"] == "2024-06-21T18:00:09.000Z"
 
