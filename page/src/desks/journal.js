@@ -54,14 +54,14 @@ export class Journal {
   /**
    * @param {string} desk
    * @param {Send} send
-   * @param {Pick<Storage, "getItem" | "setItem"> | null} store keeps what waits
+   * @param {Pick<Storage, "getItem" | "setItem"> | null} store keeps what waits, by the key
    */
-  constructor(desk, send, store, now = Date.now) {
+  constructor(desk, send, store, now = Date.now, key = `aprsbook desk: ${desk}`) {
     this.desk = desk;
     this.send = send;
     this.store = store;
     this.now = now;
-    this.key = `aprsbook desk: ${desk}`;
+    this.key = key;
     /** @type {Map<string, Entry>} by their spelling, so that none is there twice */
     this.entries = new Map();
     /** @type {Set<string>} spellings of those that wait */
@@ -72,6 +72,8 @@ export class Journal {
     this.isStored = true;
     /** Is called where something is new, be it of this desk or of another. */
     this.onChange = () => {};
+    /** The marks by alarms, as they were at so many entries: none is ever changed. */
+    this.dealt = { at: -1, by: /** @type {Map<string, Entry[]>} */ (new Map()) };
     for (const it of this.read().split("\n")) if (this.put(it)) this.waiting.add(it);
   }
   read() {
@@ -207,7 +209,19 @@ export class Journal {
    * @param {string} alarm
    */
   dealtWith(alarm) {
-    return this.ofKind("dealt").filter(it => it.alarm === alarm);
+    return this.marks.get(alarm) || [];
+  }
+  /** Who deals with each alarm. */
+  get marks() {
+    const { dealt, entries: { size } } = this;
+    if (dealt.at === size) return dealt.by;
+    const by = /** @type {Map<string, Entry[]>} */ (new Map());
+    for (const it of this.ofKind("dealt")) {
+      const alarm = String(it.alarm);
+      by.set(alarm, [...by.get(alarm) || [], it]);
+    }
+    this.dealt = { at: size, by };
+    return by;
   }
   /**
    * The notes to a station.

@@ -31,7 +31,7 @@ export function linesIn(values) {
     .map(it => ({ at: it.at, from: it.from, to: it.to, id: it.id, text: it.text }));
 }
 /** This browser's store, where it has one. */
-function storeOf() {
+export function storeOf() {
   try {
     return globalThis.localStorage || null;
   } catch {

@@ -1,8 +1,6 @@
 // @ts-check
 // The entries of a communications log: messages, bulletins, and lines that an operator wrote.
 
-import { isBulletin } from "./net.js";
-
 /** @typedef {import("./message-table.js").Message} Message */
 /**
  * A line: a moment in seconds since 1970, from whom to whom, the message's number and its text.
@@ -24,7 +22,7 @@ import { isBulletin } from "./net.js";
 export function entriesOf(net, lines = []) {
   const heard = [...net.messages, ...net.bulletins].map(it => ({ at: it.first, from: it.source,
     to: it.addressee, id: it.id, text: it.text, state: it.state,
-    note: isBulletin(it) || it.state === "unnumbered" ? "" : it.state, own: null }));
+    note: it.isBulletin || it.state === "unnumbered" ? "" : it.state, own: null }));
   const own = lines.map(it => ({ ...it, state: "own", note: "", own: it }));
   return [...heard, ...own].sort((a, b) => a.at - b.at).map((it, n) => ({ number: n + 1, ...it }));
 }
