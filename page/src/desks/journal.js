@@ -47,7 +47,7 @@ function entryIn(text) {
  * @returns {Line}
  */
 export const lineOf = it => ({ at: Number(it.time) / 1000, from: String(it.from),
-  to: String(it.to), id: String(it.number), text: String(it.text) });
+  to: String(it.to), id: String(it.number), text: String(it.text), desk: it.desk });
 
 /** All entries that this desk knows, and those of its own that the server has yet to take. */
 export class Journal {
@@ -122,14 +122,25 @@ export class Journal {
    * @param {Record<string, string>} says
    */
   add(kind, says) {
-    const entry = { ...says, kind, desk: this.desk, at: this.now(), id: newId() };
-    const text = spelling(entry);
-    this.put(text);
-    this.waiting.add(text);
+    return this.addAll(kind, [says])[0];
+  }
+  /**
+   * Adds entries of this desk, be they many; their ids.
+   * @param {keyof typeof KINDS} kind
+   * @param {Record<string, string>[]} all what each of them says
+   */
+  addAll(kind, all) {
+    const added = all.map(says =>
+      ({ ...says, kind, desk: this.desk, at: this.now(), id: newId() }));
+    for (const text of added.map(spelling)) {
+      this.put(text);
+      this.waiting.add(text);
+    }
+    if (!added.length) return [];
     this.keep();
     this.onChange();
     this.sendAll();
-    return entry.id;
+    return added.map(it => it.id);
   }
   /**
    * Takes an entry away, for all desks.
@@ -179,13 +190,15 @@ export class Journal {
       to: line.to, number: line.id, text: line.text });
   }
   /**
-   * Takes a line away, whoever added it, as often as it is there.
-   * @param {Line} line
+   * Takes lines away, whoever added them, as often as they are there.
+   * @param {Line[]} lines
    */
-  removeLine(line) {
-    const isSame = (/** @type {Line} */ it) => it.at === line.at && it.from === line.from &&
-      it.to === line.to && it.id === line.id && it.text === line.text;
-    for (const it of this.ofKind("line").filter(of => isSame(lineOf(of)))) this.remove(it.id);
+  removeLines(lines) {
+    const keyOf = (/** @type {Line} */ it) =>
+      JSON.stringify([it.at, it.from, it.to, it.id, it.text]);
+    const keys = new Set(lines.map(keyOf));
+    this.addAll("gone", this.ofKind("line").filter(it => keys.has(keyOf(lineOf(it))))
+      .map(it => ({ of: it.id })));
   }
   /**
    * What the last entry of a kind says of each matter.

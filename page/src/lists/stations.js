@@ -197,8 +197,8 @@ export function receiverList(box, view) {
     { title: "clock", number: true, value: it => it.clock?.by || 0 },
   ] });
 }
-/** What is noted of a station for which nobody waits any more. */
-export const GONE = "went home";
+/** What is noted of one for whom nobody waits any more: who was heard, and who wasn't. */
+export const GONE = "went home", ABSENT = "isn\u2019t coming";
 /**
  * Whether nobody waits any more for one that is expected, by its call or that which was heard.
  * @param {Waited} it @param {Pick<View, "isExcused">} view
@@ -219,7 +219,7 @@ export function rosterList(box, view, onPick) {
       make("th", { scope: "row" }, call), cell("text", letters(printable(it.name))),
       cell("group", letters(printable([it.group, it.bib].filter(Boolean).join(" ")))),
       heard ? timeCell(heardAt, view.settings) : cell("num time", "not heard",
-        ...dealtNodes(homeOf(it.call), view, [GONE])),
+        ...dealtNodes(homeOf(it.call), view, [ABSENT])),
       heard ? ageCell(heardAt, view) : cell("num age"));
   };
   return new List(box, { id: "expected", caption: "expected stations", row, columns: [
