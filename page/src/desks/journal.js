@@ -27,6 +27,8 @@ const SOME = 100;
 export const spelling = entry => JSON.stringify(Object.fromEntries(Object.entries(entry)
   .sort(([a], [b]) => a < b ? -1 : 1)))
   .replace(/[\x7f-\uffff]/g, it => "\\u" + it.charCodeAt(0).toString(16).padStart(4, "0"));
+/** Half of a letter in UTF-16, as a text may have that was cut, and no server takes. */
+const HALF = /\p{Surrogate}/gu;
 /** An id that nobody else makes. */
 const newId = () => [...crypto.getRandomValues(new Uint8Array(16))]
   .map(it => it.toString(16).padStart(2, "0")).join("");
@@ -120,7 +122,9 @@ export class Journal {
    * @param {Record<string, string>} says
    */
   add(kind, says) {
-    const entry = { ...says, kind, desk: this.desk, at: this.now(), id: newId() };
+    const texts = Object.entries(says).map(([name, it]) => [name, it.replace(HALF, "\ufffd")]);
+    const entry = { ...Object.fromEntries(texts), kind, desk: this.desk, at: this.now(),
+      id: newId() };
     const text = spelling(entry);
     this.put(text);
     this.waiting.add(text);
