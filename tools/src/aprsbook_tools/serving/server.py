@@ -19,6 +19,8 @@ BODY = 1 << 20  # bytes of a request
 HEAD = 1 << 16
 IDLE = 60  # seconds of a connection without a request, or until one's head is there
 BODY_TIME = 20  # seconds for a body
+# what a proxy hands on as a client wrote it: who asks is the last one in X-Forwarded-For
+FORGED = ("X-Real-Ip", "X-Scheme")
 STRANGERS = 16 << 20  # bytes of bodies at a time, of all who have shown no token
 LOOPBACK = ["127.0.0.1", "::1"]
 REFUSAL = b"HTTP/1.1 %s\r\nConnection: close\r\nContent-Length: 0\r\n\r\n"
@@ -103,6 +105,9 @@ class Strict(tornado.httputil.HTTPMessageDelegate):
             return self.refuse(b"411 Length Required")
         if not self.server.admits(self.stream, sum(map(int, lengths))):
             return self.refuse(b"503 Service Unavailable")
+        for it in FORGED:
+            if it in headers:
+                del headers[it]
         return self.own.headers_received(start_line, headers)
 
     def refuse(self, why: bytes) -> None:
