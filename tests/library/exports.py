@@ -199,8 +199,10 @@ def try_gathering_to(function: str, words: List[bytes], both: bytes, none: bytes
     try_rooms(function, [30, *words, HERE + THERE, [len(HERE) - 1, len(THERE) + 1]], b"", (1, 0, 1),
               b"NoNewline")
     every = HERE + THERE
-    for lengths in ([], [len(HERE)], [len(every) - 1], [len(every) + 1], [len(HERE)] * 3,
-                    [2 ** 64 - 1, len(every) + 1], [len(every), 2 ** 64 - 1, 1]):
+    wrong: List[List[int]] = [
+        [], [len(HERE)], [len(every) - 1], [len(every) + 1], [len(HERE)] * 3,
+        [2 ** 64 - 1, len(every) + 1], [len(every), 2 ** 64 - 1, 1]]
+    for lengths in wrong:
         no_run(function, [30, *words, every, lengths])
     no_run(function, [30, *words, b"", [1]])
     for gap in (0, 3601, 2 ** 64 - 1):
