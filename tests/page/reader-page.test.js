@@ -84,7 +84,7 @@ test("the example is read at a click", { skip }, async () => {
 });
 test("a log that has grown takes its older one's place, and what is new is marked", { skip },
   async () => {
-    for (const it of [...document.querySelectorAll("#files tbody td:last-child button")]) it.click();
+    while (rows().length) rows()[0].querySelector("td:last-child button").click();
     await until(() => !aprsfiles.files.length);
     const first = logOf("18:00:00", "HILL"), more = logOf("18:30:00", "HILL", "Q1B");
     await aprsfiles.add([fileOf("hill.log", first)]);

@@ -79,7 +79,8 @@ export const markOf = ({ size, lastModified }) => `${size} ${lastModified}`;
  * @param {Given} it
  */
 export async function isGrown(older, it) {
-  if (older.name !== it.name || older.kind !== "log" || it.kind !== "log" || older.whole) return false;
+  const areLogs = older.kind === "log" && it.kind === "log" && !older.whole;
+  if (!areLogs || older.name !== it.name) return false;
   const had = older.given || older.bytes, now = it.bytes;
   if (sizeOf(now) < sizeOf(had)) return false;
   if (!(had instanceof Blob)) return goesOn(had, await bytesIn(now));
