@@ -40,6 +40,15 @@ export function bring(name, text, spelling = "") {
   readBrought();
   refresh();
 }
+/**
+ * Takes away what was brought by names of this form.
+ * @param {RegExp} form
+ */
+export function takeAway(form) {
+  page.brought = page.brought.filter(it => !form.test(it.name));
+  readBrought();
+  refresh();
+}
 const isBad = (/** @type {Brought} */ { fault, roster }) =>
   fault !== "" || roster !== null && roster.faults.length > 0;
 /**

@@ -2,9 +2,9 @@
 // A page that `aprs-net serve` hands out: it is told at once what is new in the logs, and has what
 // desks write down for one another.
 
-import { bring } from "../app/add-layer.js";
+import { bring, takeAway } from "../app/add-layer.js";
 import { alive, tick } from "../app/live.js";
-import { drawNetPanel } from "../app/net-panel.js";
+import { drawNetPanel, nowOf } from "../app/net-panel.js";
 import { drawMarks } from "../app/render.js";
 import { page } from "../app/state.js";
 import { Journal } from "../desks/journal.js";
@@ -12,6 +12,7 @@ import { goneOn, Stream } from "../desks/stream.js";
 import { storeOf } from "../ics309/own-lines.js";
 import { byId } from "../util/dom.js";
 import { files } from "./file-table.js";
+import { drawServed } from "./served-tiles.js";
 import { followed, followedOf, followOne, mark, takeWhole, told } from "./follow.js";
 import { work } from "./reader-app.js";
 
@@ -132,15 +133,24 @@ function applySettings() {
   setOf("silent", own.get("silent") || String(net.silent), putIn("silent"));
   // of a call that stands in several lists the first line counts
   setOf("names", namesText(), text => bringFirst("names of desks", text));
-  const bringRoster = (/** @type {string} */ text) => text && bring("roster of the net", text);
-  setOf("roster", own.get("roster") ?? net.roster, bringRoster);
-  const courses = own.has("course") ? [own.get("course") || ""] : net.courses;
-  setOf("course", courses.join("\0"), () => courses.forEach((text, k) =>
-    text && bring(`course ${k + 1} of the net`, text)));
+  const { roster, courses, tiles } = nowOf(net, own);
+  setOf("roster", roster, () => bringOnly("roster of the net", [roster]));
+  setOf("course", courses.join("\0"), () => bringOnly("course of the net", courses));
+  setOf("tiles", tiles, drawServed);
+}
+/**
+ * Has the page show these texts under a name, and no others.
+ * @param {string} name
+ * @param {string[]} texts
+ */
+function bringOnly(name, texts) {
+  const all = texts.filter(it => it), has = page.brought.some(it => it.name.startsWith(name));
+  if (has) takeAway(new RegExp(`^${name}`));
+  all.forEach((text, k) => bring(k ? `${name}, ${k + 1}` : name, text));
 }
 /** @param {string} name @param {string} text */
 function bringFirst(name, text) {
-  page.brought = page.brought.filter(it => it.name !== name);
+  takeAway(new RegExp(`^${name}$`));
   if (!text) return;
   const others = page.brought;
   page.brought = [];
