@@ -56,7 +56,7 @@ test("a message is marked as dealt with, by all its lists", { skip }, () => {
   assert.ok(newsOf("0 messages unanswered"));
   const rows = [...document.querySelectorAll("#messages tbody tr")];
   assert.deepEqual(rows.map(it => it.className), ["rejected", "dealt"]);
-  assert.match(rows[1].querySelector(".state").textContent, /^unanswered dealt with \(.+\)/);
+  assert.match(rows[1].querySelector(".text").textContent, /^ride 7 down dealt with \(.+\)/);
   button("#messages", "take back").click();
   assert.ok(newsOf("1 message unanswered"));
 });
@@ -64,7 +64,7 @@ test("one's own call stands first", { skip }, () => {
   enter("call", " q1old ");
   assert.deepEqual([byId("call").value, newsOf("unanswered")],
     ["Q1OLD", "1 message unanswered, 1 of Q1OLD"]);
-  assert.deepEqual(textsOf("#messages tbody .text"), ["medics", "ride 7 down"]);
+  assert.deepEqual(textsOf("#messages tbody .text bdi"), ["medics", "ride 7 down"]);
   enter("call", "");
 });
 test("distances are told from a fixed place, or from what was heard", { skip }, () => {
