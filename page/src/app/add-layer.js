@@ -1,11 +1,12 @@
 // @ts-check
-// What the reader brings to the page: maps, a roster, and the operator's own lines.
+// What the reader brings to the page: maps, a roster, checkpoints, and lines of operators.
 
 import { readBrought } from "./basemaps.js";
 import { refresh } from "./render.js";
 import { page, tell, widgets } from "./state.js";
 import { writtenIn } from "../formats/file-kinds.js";
 import { readingBase } from "../formats/read-vector.js";
+import { readCheckpoints } from "../net/checkpoints.js";
 import { faultWords, readRoster } from "../net/roster.js";
 import { inSlices } from "../util/tasks.js";
 import { count, messageOf, printable } from "../util/text.js";
@@ -48,25 +49,27 @@ async function readMap(name, text) {
   return await inSlices(counting(readingBase(text), own), () => true) || null;
 }
 /**
- * What a text is: a base map or a roster; throws where it is none.
+ * What a text is: a base map, checkpoints or a roster; throws where it is none.
  * @param {string} name
  * @param {string} text
  */
 async function readText(name, text) {
-  if (/^\s*[<{[]/.test(text)) return { base: await readMap(name, text), roster: null };
+  if (/^\s*[<{[]/.test(text)) return { base: await readMap(name, text) };
+  const points = readCheckpoints(text);
+  if (points.length) return { points };
   const roster = readRoster(text);
   if (!roster.list.length) throw new Error("no map and no list of calls");
-  return { base: null, roster };
+  return { roster };
 }
 /**
- * Takes a base map or a roster, in place of one of its name; says so where it is none.
+ * Takes a base map, checkpoints or a roster, in place of one of its name; says so where it is none.
  * @param {string} name
  * @param {string} text
  * @param {string} spelling how it was spelled, where that is to be said
  */
 export async function bring(name, text, spelling = "") {
   /** @type {Brought} */
-  const it = { name, text, spelling, base: null, roster: null, fault: "" };
+  const it = { name, text, spelling, base: null, roster: null, points: null, fault: "" };
   try {
     Object.assign(it, await readText(name, text));
   } catch (fault) {
@@ -92,8 +95,9 @@ const isBad = (/** @type {Brought} */ { fault, roster }) =>
  * What came of something that was brought.
  * @param {Brought} it
  */
-function toldOf({ name, roster, base, fault, spelling }) {
-  const words = roster ? [count(roster.list.length, "call"), ...faultWords(roster.faults)]
+function toldOf({ name, roster, points, base, fault, spelling }) {
+  const words = points ? [count(points.length, "checkpoint")]
+    : roster ? [count(roster.list.length, "call"), ...faultWords(roster.faults)]
     : [base && !base.lines.length && !base.points.length ? "a map of nothing" : "a map"];
   return `${printable(name)}: ${fault || [...words, spelling].filter(Boolean).join(", ")}`;
 }
