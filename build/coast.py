@@ -5,15 +5,17 @@ usage: build/coast.py [FOLDER] > page/assets/coast.txt
        FOLDER has Rdata.rdx and Rdata.rdb of Debian's
                                                    package r-cran-rnaturalearthdata, once unpacked
 
-The data are Natural Earth's coastline at 1:50 million, which is in the public domain. The text is
-base85 (RFC 1924) of a zlib stream of rings, each of them closed: how many places it has, then the steps from
-one place to the next, east and north in hundredths of a degree, as numbers of seven bits a byte,
-lower ones first, twice as large and one less where they are negative.
+The data are Natural Earth's coastline at 1:50 million, which is in the public domain. A place that
+lies nearer than 0.012 degrees, 1.3 km, to the line of others is left out, since the data are off by
+more. The text is base85 (RFC 1924) of a zlib stream of rings, each of them closed: how many places
+it has, then the steps from one place to the next, east and north in hundredths of a degree, as
+numbers of seven bits a byte, lower ones first, twice as large and one less where they are negative.
 """
 import base64
 import bz2
 import gzip
 import lzma
+import math
 import struct
 import sys
 import zlib
@@ -152,6 +154,37 @@ def rings(lines: Iterable[Iterable[Tuple[float, float]]]) -> Iterator[Line]:
             yield ring
 
 
+# how far a place may lie from the line of others, in hundredths of a degree
+NEAREST = 1.2
+
+
+def off(place: Place, begin: Place, end: Place) -> float:
+    """How far a place lies from a line between two others."""
+    level = math.cos(math.radians(begin[1] / 100))
+    east, north = (end[0] - begin[0]) * level, end[1] - begin[1]
+    own_east, own_north = (place[0] - begin[0]) * level, place[1] - begin[1]
+    square = east * east + north * north
+    share = (own_east * east + own_north * north) / square if square else 0
+    share = max(0, min(1, share))
+    return math.hypot(own_east - share * east, own_north - share * north)
+
+
+def simplified(ring: Line) -> Line:
+    """A ring without places that say nothing (Douglas and Peucker)."""
+    first = ring[0]
+    far = max(range(len(ring)), key=lambda k: math.dist(ring[k], first))
+    kept, line, left = {0, far}, [*ring, first], [(0, far), (far, len(ring))]
+    while left:
+        begin, end = left.pop()
+        distances = [off(line[k], line[begin], line[end]) for k in range(begin + 1, end)]
+        if distances and max(distances) > NEAREST:
+            at = begin + 1 + distances.index(max(distances))
+            kept.add(at)
+            left += [(begin, at), (at, end)]
+    found = [ring[k] for k in sorted(kept)]
+    return found if len(found) > 2 else ring
+
+
 def number(value: int) -> bytes:
     value = 2 * value if value >= 0 else -2 * value - 1
     written = bytearray()
@@ -184,6 +217,6 @@ def deflated(written: bytes) -> bytes:
 
 if __name__ == "__main__":
     folder = sys.argv[1] if len(sys.argv) > 1 else FOLDER
-    found = sorted(rings(read_lines(folder, "coastline50")))
+    found = [simplified(it) for it in sorted(rings(read_lines(folder, "coastline50")))]
     print(base64.b85encode(deflated(packed(found))).decode())
     print(f"{len(found)} rings of {sum(map(len, found))} places", file=sys.stderr)
