@@ -30,7 +30,7 @@ states of messages and objects: acknowledged rejected unanswered unnumbered trac
 columns and words of the table: altitude_m finer_latitude finer_longitude fix frequency_khz gate gust_mph
 h00 longitude no offset_khz phg_direction phg_gain_db phg_height_ft phg_watts pressure_tenths range_miles
 speed_knots telemetry_sequence temperature_f tone unknown wind_mph yes
-of examples: in/ logs/DAY/HILL.log logs/DAY/RECEIVER.log millis.log numerator/denominator own.book page
+of examples: gate.token https://localhost:8443/ net.book certificate.pem key.pem localhost subjectAltName in/ logs/DAY/HILL.log logs/DAY/RECEIVER.log millis.log numerator/denominator own.book page
 slow.log time RX1.own ./rows
 what is made: out out/ out/release aprsbook.html aprsbook.wasm out/aprsbook.html out/aprsbook.wasm aprsbook.mjs out/aprsbook.mjs crates/aprsbook/out/aprsbook
 share/aprsbook libaprsbook.a

@@ -26,7 +26,7 @@ done
 cd "$repository"
 is tools/src/aprsbook_tools/__init__.py "$version" \
     "$(sed -n 's/^VERSION = "\(.*\)"$/\1/p' tools/src/aprsbook_tools/__init__.py)"
-newest=$(sed -n 's/^## //p' CHANGELOG.md | sed 1q)
+newest=$(sed -n '/^## Unreleased/d; s/^## //p' CHANGELOG.md | sed 1q)
 is CHANGELOG.md "$version" "${newest%, *}"
 for page in man/*.1; do
     is "$page" "${newest#*, } \"aprsbook $version\"" \

@@ -114,11 +114,11 @@ test("desks that were away have the same lines, in whatever order they hear of t
   assert.deepEqual([server.size, one.waiting.size], [0, 1]);
   // the browser was closed, and its lines are there
   const again = new Journal("ONE", send, store);
-  assert.deepEqual(again.lines, [LINE]);
+  assert.deepEqual(again.lines, [{ ...LINE, desk: "ONE" }]);
   isThere = true;
   await again.sendAll();
   await two.sendAll();
-  two.removeLine({ ...LINE, text: "wrong" });
+  two.removeLines([{ ...LINE, text: "wrong" }]);
   await two.sendAll();
   const journal = [...server];
   again.hear(journal.join("\n"));
