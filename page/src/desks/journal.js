@@ -29,7 +29,11 @@ export const spelling = entry => JSON.stringify(Object.fromEntries(Object.entrie
   .replace(/[\x7f-\uffff]/g, it => "\\u" + it.charCodeAt(0).toString(16).padStart(4, "0"));
 /** Half of a letter in UTF-16, as a text may have that was cut, and no server takes. */
 const HALF = /\p{Surrogate}/gu;
-/** @param {Record<string, string>} says */
+/**
+ * What an entry says, with a mark in place of each half of a letter.
+ * @param {Record<string, string>} says
+ * @returns {Record<string, string>}
+ */
 const wholeLetters = says => Object.fromEntries(Object.entries(says)
   .map(([name, it]) => [name, it.replace(HALF, "\ufffd")]));
 /** An id that nobody else makes. */
