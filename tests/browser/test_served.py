@@ -24,7 +24,7 @@ sys.path.append(str(REPOSITORY / "tools/src"))
 from aprsbook_tools.serving import tokens  # noqa: E402 (it lies there)
 
 pytest.importorskip("tornado", reason="needs Debian's python3-tornado")
-pytestmark = pytest.mark.browsers("Chromium")
+pytestmark = pytest.mark.browsers("Chromium", "Firefox")
 
 DAY = "2024-06-21"
 ROWS = "aprsbook.all.rows.length"
