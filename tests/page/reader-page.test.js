@@ -55,10 +55,15 @@ test("logs are checked, merged and drawn, and what is none says why", { skip }, 
 test("the page of the event has what is drawn, and its title", { skip }, async () => {
   enter("name", "Fell <race>");
   await until(() => aprsbook.data.title === "Fell <race>");
+  const { bring, takeAllAway } = await import("../../page/src/app/add-layer.js");
+  bring("points.txt", "Tarn 54.5 -3.5 150");
+  aprsbook.page.marks.add("dealt", { alarm: "home Q1A", note: "went home" });
   const page = await aprsfiles.eventPage({ "1/0/0": "cA==" });
   const [head, coast, data, end] = page.split("|");
   assert.deepEqual([head, coast, end], ["<title>Fell &lt;race&gt;</title>", "", "end"]);
-  const { title, rows, tiles, live, gap, silent } = JSON.parse(data);
+  const { title, rows, tiles, live, gap, silent, points, marks } = JSON.parse(data);
+  assert.deepEqual([points, JSON.parse(marks).alarm], ["Tarn 54.5 -3.5 150", "home Q1A"]);
+  takeAllAway();
   assert.deepEqual([title, rows.split("\n").length, tiles, live, gap, silent],
     ["Fell <race>", 4, { "1/0/0": "cA==" }, 0, 30, 30]);
   assert.ok(!data.includes("<"));

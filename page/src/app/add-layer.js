@@ -1,35 +1,38 @@
 // @ts-check
-// What the reader brings to the page: maps, a roster, and the operator's own lines.
+// What the reader brings to the page: maps, a roster, checkpoints, and lines of operators.
 
 import { readBrought } from "./basemaps.js";
 import { refresh } from "./render.js";
 import { page, tell, widgets } from "./state.js";
 import { writtenIn } from "../formats/file-kinds.js";
 import { readBase } from "../formats/read-vector.js";
+import { readCheckpoints } from "../net/checkpoints.js";
 import { faultWords, readRoster } from "../net/roster.js";
 import { count, messageOf, printable } from "../util/text.js";
 
 /** @typedef {import("./state.js").Brought} Brought */
 
 /**
- * What a text is: a base map or a roster; throws where it is none.
+ * What a text is: a base map, checkpoints or a roster; throws where it is none.
  * @param {string} text
  */
 function readText(text) {
-  if (/^\s*[<{[]/.test(text)) return { base: readBase(text), roster: null };
+  if (/^\s*[<{[]/.test(text)) return { base: readBase(text) };
+  const points = readCheckpoints(text);
+  if (points.length) return { points };
   const roster = readRoster(text);
   if (!roster.list.length) throw new Error("no map and no list of calls");
-  return { base: null, roster };
+  return { roster };
 }
 /**
- * Takes a base map or a roster, in place of one of its name; says so where it is none.
+ * Takes a base map, checkpoints or a roster, in place of one of its name; says so where it is none.
  * @param {string} name
  * @param {string} text
  * @param {string} spelling how it was spelled, where that is to be said
  */
 export function bring(name, text, spelling = "") {
   /** @type {Brought} */
-  const it = { name, text, spelling, base: null, roster: null, fault: "" };
+  const it = { name, text, spelling, base: null, roster: null, points: null, fault: "" };
   try {
     Object.assign(it, readText(text));
   } catch (fault) {
@@ -55,8 +58,9 @@ const isBad = (/** @type {Brought} */ { fault, roster }) =>
  * What came of something that was brought.
  * @param {Brought} it
  */
-function toldOf({ name, roster, base, fault, spelling }) {
-  const words = roster ? [count(roster.list.length, "call"), ...faultWords(roster.faults)]
+function toldOf({ name, roster, points, base, fault, spelling }) {
+  const words = points ? [count(points.length, "checkpoint")]
+    : roster ? [count(roster.list.length, "call"), ...faultWords(roster.faults)]
     : [base && !base.lines.length && !base.points.length ? "a map of nothing" : "a map"];
   return `${printable(name)}: ${fault || [...words, spelling].filter(Boolean).join(", ")}`;
 }

@@ -37,6 +37,8 @@ export function dataOf() {
   data.maps = [...data.maps, ...bases.map(it => it.text)];
   if (rosters.length + (data.roster ? 1 : 0) > 1) data.roster = rosterText(page.roster.list);
   else if (rosters.length) data.roster = rosters[0].text;
+  const points = page.brought.filter(it => it.points).map(it => it.text);
+  if (points.length) data.points = [data.points, ...points].filter(Boolean).join("\n");
   if (page.own.lines.length) data.lines = page.own.carried;
   if (page.marks?.entries.size) data.marks = marksText();
   return data;
