@@ -388,7 +388,8 @@ def test_long_texts(page: Chromium, folder: pathlib.Path) -> None:
     high = page.js("[...document.querySelectorAll('#messages .text')].map(it => "
                    "[it.title.length, it.getBoundingClientRect().height])")
     is_([it[0] for it in high], [2, 4 * 67])
-    assert high[1][1] < 170, high
+    # and a line for what deals with it
+    assert high[1][1] < 190, high
 
 
 def test_world(page: Chromium, folder: pathlib.Path) -> None:
