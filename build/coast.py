@@ -17,31 +17,37 @@ import lzma
 import struct
 import sys
 import zlib
+from typing import Any, Iterable, Iterator, List, Tuple
 
 FOLDER = "/usr/lib/R/site-library/rnaturalearthdata/data"
 LZMA = [{"id": lzma.FILTER_LZMA2, "preset": 6}]
 
 
+Place = Tuple[int, int]  # hundredths of a degree, east and north
+Line = List[Place]
+
+
 class Values:
     """R's values as it stores them (R Internals, Serialization Formats, XDR)."""
 
-    def __init__(self, stored):
-        self.stored, self.at, self.known = stored, 2, []
+    def __init__(self, stored: bytes) -> None:
+        self.stored, self.at = stored, 2
+        self.known: List[Any] = []
         if stored[:2] != b"X\n":
             raise ValueError("no values of R")
         version, _, _ = self.take("i", 3)
         if version == 3:
             self.take("B", self.number())
 
-    def take(self, form, count=1):
+    def take(self, form: str, count: int = 1) -> List[Any]:
         values = struct.unpack_from(f">{count}{form}", self.stored, self.at)
         self.at += struct.calcsize(f">{count}{form}")
         return list(values)
 
-    def number(self):
-        return self.take("i")[0]
+    def number(self) -> int:
+        return int(self.take("i")[0])
 
-    def value(self):
+    def value(self) -> Any:
         flags = self.number()
         kind = flags & 255
         if kind == 254 or kind in (241, 242, 247, 250, 251, 252, 253):
@@ -68,14 +74,14 @@ class Values:
             raise ValueError(f"a value of R's kind {kind}")
         return (values, dict(self.value())) if flags & 512 else values
 
-    def pairs(self, flags):
+    def pairs(self, flags: int) -> List[Tuple[Any, Any]]:
         if flags & 512:
             self.value()
         tag = self.value() if flags & 1024 else None
         return [(tag, self.value()), *(self.value() or [])]
 
 
-def unpacked(packed):
+def unpacked(packed: bytes) -> bytes:
     if packed[4:5] == b"2":
         return bz2.decompress(packed[5:])
     if packed[4:5] == b"Z":
@@ -83,15 +89,15 @@ def unpacked(packed):
     return zlib.decompress(packed[4:])
 
 
-def plain(value):
+def plain(value: Any) -> Any:
     """A value without its attributes."""
     return value[0] if isinstance(value, tuple) else value
 
 
-def read_lines(folder, name):
+def read_lines(folder: str, name: str) -> Iterator[List[Tuple[float, float]]]:
     """The lines of one of the data, of degrees east and north."""
-    with open(f"{folder}/Rdata.rdx", "rb") as index:
-        read = index.read()
+    with open(f"{folder}/Rdata.rdx", "rb") as file:
+        read = file.read()
     index = gzip.decompress(read) if read[:2] == b"\x1f\x8b" else zlib.decompress(read)
     values, of = Values(index).value()
     values, of = dict(zip(plain(of["names"]), values))["variables"]
@@ -106,9 +112,9 @@ def read_lines(folder, name):
             yield list(zip(degrees[:count], degrees[count:]))
 
 
-def hundredths(line):
+def hundredths(line: Iterable[Tuple[float, float]]) -> Line:
     """A line in hundredths of a degree, each place once; 180 degrees west are 180 east."""
-    places = []
+    places: Line = []
     for east, north in line:
         it = round(100 * east), round(100 * north)
         it = (18000 if it[0] == -18000 else it[0]), it[1]
@@ -117,11 +123,11 @@ def hundredths(line):
     return places
 
 
-def is_near(a, b):
+def is_near(a: Place, b: Place) -> bool:
     return abs((a[0] - b[0] + 18000) % 36000 - 18000) <= 3 and abs(a[1] - b[1]) <= 3
 
 
-def rings(lines):
+def rings(lines: Iterable[Iterable[Tuple[float, float]]]) -> Iterator[Line]:
     """The lines joined to rings; what doesn't end where another begins is closed as it is."""
     open_lines = []
     for line in map(hundredths, lines):
@@ -134,15 +140,19 @@ def rings(lines):
         while not is_near(ring[0], ring[-1]):
             found = next((it for it in open_lines if is_near(ring[-1], it[0])), None)
             turned = next((it for it in open_lines if is_near(ring[-1], it[-1])), None)
-            if not found and not turned:
+            if found:
+                open_lines.remove(found)
+                ring += found
+            elif turned:
+                open_lines.remove(turned)
+                ring += turned[::-1]
+            else:
                 break
-            open_lines.remove(found or turned)
-            ring += found or turned[::-1]
         if len(ring) > 2:
             yield ring
 
 
-def number(value):
+def number(value: int) -> bytes:
     value = 2 * value if value >= 0 else -2 * value - 1
     written = bytearray()
     while value > 127:
@@ -151,7 +161,7 @@ def number(value):
     return bytes(written) + bytes([value])
 
 
-def packed(all_rings):
+def packed(all_rings: Iterable[Line]) -> bytes:
     written = bytearray()
     for ring in all_rings:
         written += number(len(ring))
@@ -163,7 +173,7 @@ def packed(all_rings):
     return bytes(written)
 
 
-def deflated(written):
+def deflated(written: bytes) -> bytes:
     """The least that zlib makes of it."""
     made = []
     for strategy in range(5):
