@@ -30,6 +30,8 @@ DAY = "2024-06-21"
 ROWS = "aprsbook.all.rows.length"
 LINES = "aprsbook.page.own.lines.map(it => it.text).sort().join('|')"
 CONNECTION = "document.getElementById('connection').textContent"
+OWN_MAP = "document.getElementById('own-map').textContent"
+BROUGHT = "aprsbook.page.brought.map(it => it.name).sort().join('|')"
 # `aprsbook check` takes every line, where no program is built
 CHECK = "#!/bin/sh\ncat > /dev/null\necho heard 0 passed 0\n"
 
@@ -212,8 +214,11 @@ def test_what_a_desk_sets_all_pages_show(page: Browser, live: Live) -> None:
     page.wait("document.getElementById('title').textContent === 'Fell race, second day'")
     live.write(2, "name", call="Q1A", name="Leader")
     page.wait(f"{TEXTS % '#things-box td, #things-box th'}.join().includes('Leader')")
-    live.write(3, "setting", name="roster", value="Q1B Sweep\n")
+    live.write(3, "setting", name="roster", value="Q1B Sweep\nQ1A Runner 1\n")
     page.wait(f"{TEXTS % '#roster-box td, #roster-box th'}.join().includes('Sweep')")
+    # a desk's name for a station counts before the roster's
+    page.wait(f"{BROUGHT} === 'names of desks|roster of the net'")
+    assert page.js("aprsbook.page.settings.names.shown('Q1A')") == "Leader (Q1A)"
     assert page.js("document.getElementById('silent').value") == "30"
     live.write(4, "setting", name="silent", value="7")
     page.wait("document.getElementById('silent').value === '7'")
@@ -223,10 +228,6 @@ def test_what_a_desk_sets_all_pages_show(page: Browser, live: Live) -> None:
     page.js("document.querySelector('#desk input').value = 'Third day'")
     page.js("document.querySelector('#desk button').click()")
     page.wait("document.getElementById('title').textContent === 'Third day'")
-
-
-OWN_MAP = "document.getElementById('own-map').textContent"
-BROUGHT = "aprsbook.page.brought.map(it => it.name).sort().join('|')"
 
 
 def set_for_all(page: Browser, words: str, change: str) -> None:
