@@ -256,6 +256,20 @@ def test_the_map_the_course_and_the_roster_are_one_for_all(page: Browser, live: 
     assert page.js("aprsbook.layers.vectors.all[0].lines[0].length") == 21_000
     live.write(3, "setting", name="course", value="")
     page.wait("aprsbook.layers.vectors.all.length === 0")
+    # this desk chooses a long one of its own, which is thinned, and what is no map is said
+    points = "".join(f'<trkpt lat="{54.5 + k / 1e5:.7f}" lon="{-3.5 + k / 2e5:.7f}"></trkpt>\n'
+                     for k in range(20_000))
+    (live.folder / "course.gpx").write_text(f"<gpx><trk><trkseg>{points}</trkseg></trk></gpx>")
+    page.give("#desk input[type=file]", live.folder / "course.gpx")
+    set_for_all(page, "set the course", "")
+    page.wait("aprsbook.layers.vectors.all.length === 1")
+    assert 5_000 < page.js("aprsbook.layers.vectors.all[0].lines[0].length / 3") <= 20_000
+    (live.folder / "course.gpx").write_text("no map")
+    page.give("#desk input[type=file]", live.folder / "course.gpx")
+    set_for_all(page, "set the course", "")
+    page.wait("document.getElementById('told').textContent.startsWith('course.gpx: ')")
+    set_for_all(page, "set the course", "field.value = ''")
+    page.wait("aprsbook.layers.vectors.all.length === 0")
     # a desk changes the roster that is there
     live.write(4, "setting", name="roster", value="Q1B Sweep\n")
     page.wait("document.querySelector('#desk textarea').value === 'Q1B Sweep\\n'")

@@ -6,11 +6,12 @@ import { bring, putFirst, takeAway } from "../app/add-layer.js";
 import { alive, tick } from "../app/live.js";
 import { drawNetPanel, nowOf } from "../app/net-panel.js";
 import { drawMarks } from "../app/render.js";
-import { page } from "../app/state.js";
+import { page, tell } from "../app/state.js";
 import { Journal } from "../desks/journal.js";
 import { goneOn, Stream } from "../desks/stream.js";
 import { storeOf } from "../ics309/own-lines.js";
 import { byId } from "../util/dom.js";
+import { messageOf } from "../util/text.js";
 import { files } from "./file-table.js";
 import { drawServed } from "./served-tiles.js";
 import { followed, followedOf, followOne, mark, takeWhole, told } from "./follow.js";
@@ -127,7 +128,9 @@ function namesText() {
 }
 /** What is brought comes one after the other: a long map is read in slices. */
 let turn = Promise.resolve();
-const inTurn = (/** @type {() => Promise<void>} */ step) => { turn = turn.then(step); };
+const inTurn = (/** @type {() => Promise<void>} */ step) => {
+  turn = turn.then(step).catch(fault => tell(messageOf(fault), true));
+};
 /** Has the page show what the server and the desks say of the net. */
 function applySettings() {
   if (!net) return;
