@@ -6,7 +6,6 @@ more to go by, since it reads logs.
 """
 import collections
 import itertools
-import statistics
 from typing import (
     Counter, DefaultDict, Dict, Iterable, Iterator, List, NamedTuple, Optional, Sequence, Tuple)
 
@@ -93,7 +92,7 @@ class Pairs:
                 ahead[it.one].append(it.ahead)
             elif it.one in right and it.other not in right:
                 ahead[it.other].append(-it.ahead)
-        return {name: statistics.median(of) for name, of in sorted(ahead.items())}
+        return {name: sorted(of)[len(of) // 2] for name, of in sorted(ahead.items())}
 
 
 def median_of(values: Sequence[int], zeros: int) -> float:
