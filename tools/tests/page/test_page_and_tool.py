@@ -267,7 +267,7 @@ def test_kml(both: List[Any]) -> None:
 def test_roster(both: List[Any]) -> None:
     for case, said in both:
         roster = read_roster(case.roster)
-        stations = heard_of(table.fields(Row, case.rows_text.splitlines(), COLUMNS))
+        stations = heard_of(table.tuples(Row, case.rows_text.splitlines(), COLUMNS))
         told = [
             [it.call, it.name, it.group, it.bib, line_of(it, last_of(it, stations))[0]]
             for it in roster.expected

@@ -29,27 +29,30 @@ class Pair(NamedTuple):
 
 
 class Pairs:
-    """What each two receivers heard, row by row in the order of a book."""
+    """What each two receivers heard, row by row in the order of a book. `together`, which whoever
+    reads the rows counts, is the rows of each list of receivers."""
 
     def __init__(self) -> None:
         self.apart: DefaultDict[Tuple[str, str], List[int]] = collections.defaultdict(list)
-        self.together: Counter[str] = collections.Counter()  # rows of each list of receivers
+        self.together: Counter[str] = collections.Counter()
 
-    def noted(self, rows: Iterable[List[str]], names: Sequence[str]) -> Iterator[List[str]]:
+    def noted(self, rows: Iterable[Tuple[str, ...]], names: Sequence[str]
+              ) -> Iterator[Tuple[str, ...]]:
         """The rows as they come, which have these columns."""
         first, receivers, source, destination, text = map(names.index, COLUMNS)
-        together, before = self.together, [""] * len(names)
         group: List[Tuple[str, str]] = []
+        before: Tuple[str, ...] = ("",) * len(names)
+        said = ""
         for row in rows:
-            together[row[receivers]] += 1
-            if row[text] != before[text] or row[source] != before[source] \
-                    or row[destination] != before[destination]:
-                if len(group) > 1:
-                    self.compare(group)
+            if row[text] == said and row[source] == before[source] \
+                    and row[destination] == before[destination]:
+                group = group or [(before[first], before[receivers])]
+                if len(group) <= MOST:
+                    group.append((row[first], row[receivers]))
+            elif group:
+                self.compare(group)
                 group = []
-            before = row
-            if len(group) <= MOST:
-                group.append((row[first], row[receivers]))
+            before, said = row, row[text]
             yield row
         self.compare(group)
 
@@ -116,8 +119,9 @@ def moment_of(last: str, receivers: str, receiver: str, ahead: Dict[str, float])
 def of_book(book: str, gap: Optional[int]) -> Dict[str, float]:
     """The receivers of a book whose clocks are wrong, and by how much, which is said."""
     pairs = Pairs()
-    rows = table.fields(Row, table.lines_of(Row, [book], gap), COLUMNS)
-    collections.deque(pairs.noted(rows, COLUMNS), 0)
+    rows = table.tuples(Row, table.lines_of(Row, [book], gap), COLUMNS)
+    receivers = COLUMNS.index("receivers")
+    pairs.together.update(row[receivers] for row in pairs.noted(rows, COLUMNS))
     return told(pairs.wrong(gap or book_file.GAP))
 
 
