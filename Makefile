@@ -57,6 +57,7 @@ words:
 	tests/documents/version.sh
 	tests/documents/words.sh
 	tests/documents/sentences.py
+	tests/documents/links.py
 	tests/documents/outside.py
 	build/limits.py --check
 	tests/documents/every_byte.py
@@ -144,7 +145,7 @@ cookbook: build
 	@$(MAKE) --no-print-directory elsewhere
 	@$(tries) $(call passes,examples/cookbook.sh $(PROGRAM)) true
 	tests/sources/tools.sh --all $(PROGRAM)
-	$(MAKE) --no-print-directory clib page
+	$(MAKE) --no-print-directory clib wasm page
 	tests/library/clib.sh $(PROGRAM)
 	tests/module/module.sh $(PROGRAM)
 	tests/module/command.sh $(PROGRAM)
@@ -175,14 +176,11 @@ event-page-here:
 	else echo 'left out: the page of an event is that of the release (no esbuild is there)'; fi
 
 # the page that reads logs, out/aprsbook.html, and the command for Node, out/aprsbook.mjs, both with the
-# module in them; the command has the programs' texts of help. Beside each page is a readable one.
+# module that `make wasm` built of these sources, or else that of the release, so that the page is tried
+# without a proof; the command has the programs' texts of help. Beside the page is a readable one.
 .PHONY: page
-page: event-page wasm build
-	build/page.py reader out/aprsbook.wasm out/aprsbook.html out/aprsbook.readable.html
-	rm -rf out/named && mkdir -p out/named
-	$(foreach it,$(PROGRAMS),ln -s '$(CURDIR)/crates/$(call crate,$(it))/out/$(call crate,$(it))' out/named/$(it) && ) true
-	build/command.py out/aprsbook.wasm out/named > out/aprsbook.mjs.new
-	mv out/aprsbook.mjs.new out/aprsbook.mjs
+page: event-page
+	build/page.sh
 
 # the recipes of tracks, a page and a net that runs, each where its tools are there
 .PHONY: net
@@ -272,6 +270,7 @@ tarball:
 PAGES = out/aprsbook.html out/aprsbook.wasm out/aprsbook.mjs $(EVENT_PAGE)
 release:
 	@for it in $(PAGES); do [ -f $$it ] || { echo "there is no $$it yet: make page" >&2; exit 1; }; done
+	build/module.py out/aprsbook.html
 	rm -rf out/release
 	export SOURCE_DATE_EPOCH=$$(packaging/version --epoch) && for arch in amd64 arm64; do \
 	    $(MAKE) --no-print-directory deb tarball ARCH=$$arch OUT=out/release || exit 1; done && \

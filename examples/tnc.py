@@ -16,7 +16,6 @@ sys.path.append(str(pathlib.Path(__file__).resolve().parent.parent / "tools/src"
 from aprsbook_tools.formats import log_file  # noqa: E402 (it lies there)
 
 FASTER = 60  # a minute in a second
-Line = log_file.Line
 
 
 class Tnc:
@@ -25,7 +24,7 @@ class Tnc:
     def __init__(self, path: str) -> None:
         with open(path, "rb") as file:
             found = [log_file.read_whole(line) for line in file]
-        self.lines: List[Line] = [it for it in found if it is not None]
+        self.lines: List[log_file.Line] = [it for it in found if it is not None]
         self.listeners: List[asyncio.StreamWriter] = []
         self.is_heard = asyncio.Event()
 

@@ -5,9 +5,11 @@
 import { bring, takeAway } from "../app/add-layer.js";
 import { alive, tick } from "../app/live.js";
 import { drawNetPanel, nowOf } from "../app/net-panel.js";
+import { drawMarks } from "../app/render.js";
 import { page } from "../app/state.js";
 import { Journal } from "../desks/journal.js";
 import { goneOn, Stream } from "../desks/stream.js";
+import { storeOf } from "../ics309/own-lines.js";
 import { byId } from "../util/dom.js";
 import { files } from "./file-table.js";
 import { drawServed } from "./served-tiles.js";
@@ -158,7 +160,7 @@ function bringFirst(name, text) {
 /** What a desk has written is new: the form, the names and the panel have it. */
 function journalChanged() {
   applySettings();
-  page.widgets?.form.draw();
+  drawMarks();
   drawPanel();
 }
 const drawPanel = () => net && drawNetPanel({ net, journal: page.journal, isThere: told.now });
@@ -167,7 +169,7 @@ const drawPanel = () => net && drawNetPanel({ net, journal: page.journal, isTher
 
 /** Has the operator's lines go to the journal, and those of other desks stand beside them. */
 function share(/** @type {Journal} */ journal) {
-  page.journal = journal;
+  page.journal = page.marks = journal;
   page.own.shared = journal;
   journal.onChange = journalChanged;
 }
@@ -197,12 +199,4 @@ export async function beginServed() {
   page.follows = true;
   byId("follow").value ||= "logs.txt"; // so that it is asked where no stream comes through
   stream.begin();
-}
-/** This browser's store, where it has one. */
-function storeOf() {
-  try {
-    return globalThis.localStorage || null;
-  } catch {
-    return null; // it is forbidden here
-  }
 }
