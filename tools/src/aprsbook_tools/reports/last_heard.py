@@ -70,7 +70,7 @@ def counts_of(rows: Iterable[Tuple[str, ...]]) -> Counts:
 def station_of(call: str, counts: Dict[str, Count], ahead: Dict[str, float]) -> Heard:
     """A station of these counts, where some receivers' clocks are so wrong."""
     own = [Heard(call, 0, it.last, it.receiver, 0,
-                 receiver_clocks.moment_of(it.last, receivers, it.receiver, ahead))
+                 receiver_clocks.moment_of(it.last, receivers, ahead))
            for receivers, it in counts.items()]
     last = max(own, key=lambda it: it.order)
     return dataclasses.replace(last, transmissions=sum(it.sent for it in counts.values()),
@@ -105,10 +105,10 @@ def rows_of(files: Sequence[str], gap: Optional[int]) -> Iterator[Tuple[str, ...
 def of_time(book: str, gap: Optional[int], time: Time) -> List[Heard]:
     """The stations of those rows of a book that are of a time by clocks that are right."""
     ahead = receiver_clocks.of_book(book, gap)
-    first, _, receivers, receiver, *_ = range(len(COLUMNS))
+    first, _, receivers, *_ = range(len(COLUMNS))
 
     def is_within(row: Tuple[str, ...]) -> bool:
-        moment = receiver_clocks.moment_of(row[first], row[receivers], row[receiver], ahead)
+        moment = receiver_clocks.moment_of(row[first], row[receivers], ahead)
         return time.since <= moment < time.until
     return stations_of(counts_of(filter(is_within, rows_of([book], gap))), ahead)
 

@@ -107,12 +107,15 @@ def median_of(values: Sequence[int], zeros: int) -> float:
     return sorted(values)[middle if middle < below else middle - zeros]
 
 
-def moment_of(last: str, receivers: str, receiver: str, ahead: Dict[str, float]) -> str:
-    """When a row was heard by clocks that are right: its last moment, or, where wrong clocks alone
-    heard it, so much earlier or later as that of its receiver is wrong."""
-    if not ahead or any(it not in ahead for it in receivers.split(",")):
-        return last
-    moment = moments.milliseconds(last) - round(1000 * ahead[receiver])
+def moment_of(moment_: str, receivers: str, ahead: Dict[str, float]) -> str:
+    """A moment of a row by clocks that are right: where wrong ones alone heard it, it is so much
+    earlier or later as the least wrong of them is."""
+    if not ahead:
+        return moment_
+    seconds = min((ahead.get(it, 0) for it in receivers.split(",")), key=abs)
+    if not seconds:
+        return moment_
+    moment = moments.milliseconds(moment_) - round(1000 * seconds)
     return moments.text_of(min(max(0, moment), moments.END - 1))
 
 
