@@ -45,11 +45,14 @@ def tried(*arguments: object, given: bytes = b"", status: int = 0,
     return done
 
 
-def started(*arguments: object, **keywords: Any) -> "subprocess.Popen[bytes]":
-    """aprs-net, which runs on."""
+def started(*arguments: object, rate: float = 1, **keywords: Any) -> "subprocess.Popen[bytes]":
+    """aprs-net, which runs on, by a clock that runs so many times as fast."""
     keywords.setdefault("env", environment())
     keywords.setdefault("stderr", subprocess.PIPE)
-    return subprocess.Popen(command(*arguments), **keywords)
+    words = command(*arguments)
+    if rate != 1:
+        words[1:3] = [str(HERE / "hurried.py"), str(rate)]
+    return subprocess.Popen(words, **keywords)
 
 
 def named(text: str) -> List[Dict[str, str]]:
