@@ -249,3 +249,12 @@ test("a course that an entry can't carry is thinned, and its ends stay", () => {
   const many = { type: "MultiPoint", coordinates: Array.from({ length: 60000 }, () => [1, 2]) };
   assert.throws(() => courseFor(JSON.stringify(many)), /too many points/);
 });
+test("half a letter, as a text may have that was cut, doesn't keep a line from the server", () => {
+  const it = new Journal("A", async () => 0, null);
+  it.addLine({ ...LINE, text: "so\ud83d", from: "\ude00B" });
+  assert.deepEqual(it.lines.map(of => [of.from, of.text]), [["\ufffdB", "so\ufffd"]]);
+  assert.ok(LINE.text.includes("\u{1f600}"));
+  it.addLine(LINE);
+  assert.equal(it.lines.length, 2);
+  assert.ok(it.lines.some(of => of.text === LINE.text));
+});
