@@ -84,8 +84,9 @@ class Link:
 
     def run(self) -> None:
         with selectors.DefaultSelector() as waits:
-            for it in (*self.to, sys.stdin):
+            for it in self.to:
                 waits.register(it, selectors.EVENT_READ)
+            waits.register(sys.stdin, selectors.EVENT_READ)
             while True:
                 rest = self.waiting[0][0] - time.monotonic() if self.waiting else None
                 for key, _ in waits.select(rest if rest is None else max(0, rest)):

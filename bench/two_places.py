@@ -280,9 +280,9 @@ def main() -> None:
             print(len(evening.octets(evening.site)), len(evening.octets(evening.logs)), evening.number)
             raise
         else:
-            for it, place in zip(evening.desks, ("base", "site")):
+            for desk, place in zip(evening.desks, ("base", "site")):
                 if args.pictures:
-                    it.js(f"picture {args.pictures / f'desk-{place}.png'}")
+                    desk.js(f"picture {args.pictures / f'desk-{place}.png'}")
         finally:
             evening.end()
     return None

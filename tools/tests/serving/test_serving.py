@@ -270,7 +270,8 @@ def test_an_answer_of_somebody_else_is_not_believed(net: Served, tmp_path: pathl
     its.token = net.tokens["HILL"] + "x"
     with pytest.raises(Away, match="isn't of a server"):
         # what was repeated stands in for an answer of http.client
-        its.read(Repeated(), json.dumps(says).encode(), mark_of(its.token))  # type: ignore[arg-type]
+        mark = mark_of(its.token)
+        its.read(Repeated(), json.dumps(says).encode(), mark)  # type: ignore[arg-type]
 
 
 class Repeated:
