@@ -5,10 +5,10 @@ packets, as `tc netem` does where the kernel has it.
 usage: bench/slow_link.py plain DEVICE..
        bench/slow_link.py link DEVICE DEVICE
 
-plain: a device gives packets their sums itself, and cuts them, since a link carries them as they are.
-link: carries packets. A line of standard input says how, from then on: by how many milliseconds they
-are late, by how many more at most, what part of them is lost, and what part comes twice. `0 0 1 0`
-cuts the link. Needs root and Linux.
+plain: a device gives packets their sums itself, and cuts them, since a link carries them as they
+are. link: carries packets. A line of standard input says how, from then on: by how many
+milliseconds they are late, by how many more at most, what part of them is lost, and what part comes
+twice. `0 0 1 0` cuts the link. Needs root and Linux.
 """
 import array
 import fcntl

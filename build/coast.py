@@ -5,15 +5,17 @@ usage: build/coast.py [FOLDER] > page/assets/coast.txt
        FOLDER has Rdata.rdx and Rdata.rdb of Debian's
                                                    package r-cran-rnaturalearthdata, once unpacked
 
-The data are Natural Earth's coastline at 1:50 million, which is in the public domain. The text is
-base85 (RFC 1924) of a zlib stream of rings, each of them closed: how many places it has, then the steps from
-one place to the next, east and north in hundredths of a degree, as numbers of seven bits a byte,
-lower ones first, twice as large and one less where they are negative.
+The data are Natural Earth's coastline at 1:50 million, which is in the public domain. Of each ring
+those places are left out by which the line between the others passes within TOLERANCE. The text
+is base85 (RFC 1924) of a zlib stream of rings, each of them closed: how many places it has, then
+the steps from one place to the next, east and north in hundredths of a degree, as numbers of seven
+bits a byte, lower ones first, twice as large and one less where they are negative.
 """
 import base64
 import bz2
 import gzip
 import lzma
+import math
 import struct
 import sys
 import zlib
@@ -23,6 +25,7 @@ FOLDER = "/usr/lib/R/site-library/rnaturalearthdata/data"
 LZMA = [{"id": lzma.FILTER_LZMA2, "preset": 6}]
 
 
+TOLERANCE = 1.5  # hundredths of a degree, some 1.7 km; the data aren't finer
 Place = Tuple[int, int]  # hundredths of a degree, east and north
 Line = List[Place]
 
@@ -152,6 +155,41 @@ def rings(lines: Iterable[Iterable[Tuple[float, float]]]) -> Iterator[Line]:
             yield ring
 
 
+def step(a: Place, b: Place) -> Place:
+    """From one place to another, east and north, the shorter way round."""
+    return (b[0] - a[0] + 18000) % 36000 - 18000, b[1] - a[1]
+
+
+def distance(place: Place, a: Place, b: Place) -> float:
+    """How far a place is from the way between two others."""
+    (east, north), (x, y) = step(a, b), step(a, place)
+    length = east * east + north * north
+    part = max(0.0, min(1.0, (x * east + y * north) / length)) if length else 0.0
+    return math.hypot(x - part * east, y - part * north)
+
+
+def simplified(line: Line) -> Line:
+    """A line with its ends and those places by which it would otherwise pass further away than
+    TOLERANCE (Douglas and Peucker, 1973)."""
+    kept, waiting = {0, len(line) - 1}, [(0, len(line) - 1)]
+    while waiting:
+        first, last = waiting.pop()
+        between = range(first + 1, last)
+        at = max(between, key=lambda it: distance(line[it], line[first], line[last]), default=first)
+        if distance(line[at], line[first], line[last]) > TOLERANCE:
+            kept.add(at)
+            waiting += [(first, at), (at, last)]
+    return [line[it] for it in sorted(kept)]
+
+
+def simplified_ring(ring: Line) -> Line:
+    """A ring likewise, half by half; where less than a triangle would be left it stays as it is."""
+    half = max(range(len(ring)), key=lambda it: math.hypot(*step(ring[0], ring[it])))
+    halves = simplified(ring[:half + 1]), simplified(ring[half:] + ring[:1])
+    found = halves[0][:-1] + halves[1][:-1]
+    return found if len(found) > 2 else ring
+
+
 def number(value: int) -> bytes:
     value = 2 * value if value >= 0 else -2 * value - 1
     written = bytearray()
@@ -165,11 +203,10 @@ def packed(all_rings: Iterable[Line]) -> bytes:
     written = bytearray()
     for ring in all_rings:
         written += number(len(ring))
-        east = north = 0
+        before = (0, 0)
         for place in ring:
-            step = (place[0] - east + 18000) % 36000 - 18000
-            written += number(step) + number(place[1] - north)
-            east, north = place
+            written += b"".join(map(number, step(before, place)))
+            before = place
     return bytes(written)
 
 
@@ -184,6 +221,6 @@ def deflated(written: bytes) -> bytes:
 
 if __name__ == "__main__":
     folder = sys.argv[1] if len(sys.argv) > 1 else FOLDER
-    found = sorted(rings(read_lines(folder, "coastline50")))
+    found = sorted(map(simplified_ring, rings(read_lines(folder, "coastline50"))))
     print(base64.b85encode(deflated(packed(found))).decode())
     print(f"{len(found)} rings of {sum(map(len, found))} places", file=sys.stderr)

@@ -15,7 +15,9 @@ COLUMNS = (
     "longitude ambiguity compressed symbol stamp course speed_knots altitude_m wind_from wind_mph "
     "gust_mph temperature_f rain_hour rain_day rain_midnight humidity pressure_tenths luminosity "
     "telemetry_sequence a1 a2 a3 a4 a5 bits says text").split()
-MESSAGE_COLUMNS = "source addressee id text state first last answer answer_source reply_ack".split()
+MESSAGE_COLUMNS = (
+    "source addressee id text state first last answer answer_source reply_ack reply_answer gate "
+    "class number outcome outcome_moment").split()
 
 
 def moment(minute: float) -> str:
@@ -51,9 +53,12 @@ def message(source: str, addressee: str, text: str, state: str, first: float,
             last: Optional[float] = None, **fields: object) -> str:
     """A row of the table of messages."""
     last = first if last is None else last
+    kind = "bulletin" if addressee.startswith("BLN") else "message"
+    came = {"class": kind, "number": fields.get("id", ""), "outcome": state,
+            "outcome_moment": fields.get("answer", "")}
     return line(MESSAGE_COLUMNS, {"source": source, "addressee": addressee, "text": text,
                                   "state": state, "first": moment(first), "last": moment(last),
-                                  **fields})
+                                  **came, **fields})
 
 
 def tables(rows: str, messages: str = "") -> Dict[str, str]:

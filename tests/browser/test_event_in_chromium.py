@@ -273,8 +273,8 @@ def test_times(page: Chromium, folder: pathlib.Path) -> None:
 
 def test_messages(page: Chromium, folder: pathlib.Path) -> None:
     """The states are the table's; bulletins stand apart; Mic-E has its places."""
-    messages = (message("Q1A", "Q1B", "help needed{01}", "unnumbered", 1, reply_ack="unanswered") +
-                message("Q1A", "Q1B", "on my way{02}AA", "unnumbered", 2, reply_ack="acknowledged",
+    messages = (message("Q1A", "Q1B", "help needed{01}", "unnumbered", 1, outcome="unanswered") +
+                message("Q1A", "Q1B", "on my way{02}AA", "unnumbered", 2, outcome="acknowledged",
                         answer=moment(3), answer_source="Q1B") +
                 message("Q1A", "Q1B", "a set {} of braces", "unnumbered", 3) +
                 message("Q1A", "Q1B", "no room", "rejected", 3, id=6) +

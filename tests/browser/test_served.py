@@ -24,7 +24,7 @@ sys.path.append(str(REPOSITORY / "tools/src"))
 from aprsbook_tools.serving import tokens  # noqa: E402 (it lies there)
 
 pytest.importorskip("tornado", reason="needs Debian's python3-tornado")
-pytestmark = pytest.mark.browsers("Chromium")
+pytestmark = pytest.mark.browsers("Chromium", "Firefox")
 
 DAY = "2024-06-21"
 ROWS = "aprsbook.all.rows.length"
@@ -183,6 +183,26 @@ def test_desks_share_what_they_write(page: Browser, live: Live) -> None:
     assert live.journal()[-1]["of"] == f"{1:032x}"
     picture(page, "served-ics-309")
     page.js("document.getElementById('ics-close').click()")
+
+
+def test_a_saved_page_carries_what_desks_wrote(page: Browser, live: Live) -> None:
+    live.push(line(1))
+    enter(page, live)
+    page.wait(f"{ROWS} === 1")
+    live.write(1, "line", time=str(1_718_992_800_000), number="1", text="first runner", **{
+        "from": "Gate 1", "to": "NET"})
+    live.write(2, "dealt", alarm="silent Q1A", note="car is on its way")
+    live.write(3, "name", call="Q1A", name="Leader")
+    page.wait(f"{LINES} === 'first runner'")
+    page.wait("aprsbook.page.journal.entries.size === 3")
+    saved = live.folder / "saved.html"
+    saved.write_text(page.js("aprsfiles.eventPage()"), encoding="utf-8")
+    page.open(saved.as_uri())
+    page.wait(f"{ROWS} === 1 && {LINES} === 'first runner'")
+    assert page.js("aprsbook.page.own.lines[0].desk") == "GATE"
+    assert page.js("aprsbook.page.marks.dealtWith('silent Q1A').map(it => it.desk + it.note)"
+                   ) == ["GATEcar is on its way"]
+    assert "Leader" in page.js(f"{TEXTS % '#things-box td, #things-box th'}.join()")
 
 
 def test_what_a_desk_sets_all_pages_show(page: Browser, live: Live) -> None:

@@ -24,6 +24,13 @@ settings.register_profile("net", deadline=None, max_examples=100)
 settings.load_profile("net")
 
 
+def pytest_collection_modifyitems(items: List[pytest.Item]) -> None:
+    """Tests that share a server or a cluster are all done by one process of pytest-xdist."""
+    for it in items:
+        if it.path.stem in ("test_cluster", "test_hostile", "test_serving"):
+            it.add_marker(pytest.mark.xdist_group(it.path.stem))
+
+
 def environment(**more: str) -> Dict[str, str]:
     """The environment in which the command runs from its sources, buffered as a user's is."""
     own = {name: it for name, it in os.environ.items() if name != "PYTHONUNBUFFERED"}

@@ -8,6 +8,7 @@ import resource
 import signal
 import socket
 import subprocess
+import termios
 import time
 from typing import Any, Dict, List, Optional
 
@@ -367,6 +368,11 @@ def moments_of(folder: pathlib.Path) -> List[int]:
     return [it.moment for it in lines if it]
 
 
+def is_read(pipe: int) -> bool:
+    """Whether all that was written into a pipe was read."""
+    return fcntl.ioctl(pipe, termios.FIONREAD, bytes(4)) == bytes(4)
+
+
 def test_frames_have_the_moments_at_which_they_came(tmp_path: pathlib.Path) -> None:
     """Also where another program holds the log's lock, as a backup does."""
     files = lay(tmp_path)
@@ -375,20 +381,24 @@ def test_frames_have_the_moments_at_which_they_came(tmp_path: pathlib.Path) -> N
         fcntl.flock(it, fcntl.LOCK_EX)
     process = started("log", "RX1", tmp_path, stdin=subprocess.PIPE)
     assert process.stdin and process.stderr
-    sent = []
+    pipe = process.stdin.fileno()
+    marks = []  # each before a frame is sent, and long after the one before was read
     for _ in range(3):
+        marks.append(int(time.time() * 1000))
         process.stdin.write(FRAME)
         process.stdin.flush()
-        sent.append(time.time() * 1000)
+        wait_for(lambda: is_read(pipe), "a reader")
         time.sleep(0.4)
     assert b"another program holds its lock" in process.stderr.readline()
+    marks.append(int(time.time() * 1000))
     for it in locks:
         it.close()
     wait_for(lambda: count(tmp_path) == 3)
     process.terminate()
     assert process.wait() == 0
     found = moments_of(tmp_path)
-    assert all(abs(one - other) < 300 for one, other in zip(found[1:], sent[1:])), (found, sent)
+    between = [*zip(marks, found, marks[1:])]
+    assert len(between) == 3 and all(begin <= it <= end for begin, it, end in between), between
 
 
 def test_a_signal_ends_what_waits_for_a_lock(tmp_path: pathlib.Path) -> None:

@@ -7,7 +7,7 @@ import shutil
 import ssl
 import subprocess
 import time
-from typing import Dict, Iterator, List
+from typing import Any, Dict, Iterator, List
 
 import pytest
 
@@ -113,13 +113,13 @@ def is_there(it: Behind) -> bool:
 def test_the_net_behind_a_proxy(behind: Behind) -> None:
     net = behind.net
     token = {"Authorization": f"Bearer {net.tokens['GUEST']}"}
-    form: Dict[str, str] = {"Content_Type": "application/x-www-form-urlencoded",
+    form: Dict[str, Any] = {"Content_Type": "application/x-www-form-urlencoded",
                             "Origin": behind.origin, "Sec_Fetch_Site": "same-origin"}
     entered = behind.ask("POST", "/login", b"token=" + net.tokens["GATE"].encode(), **form)
     assert entered.status == 303 and "; Secure" in str(entered.getheader("Set-Cookie"))
     form["Origin"] = "https://evil.example"
     assert behind.ask("POST", "/login", b"token=x", **form).status == 403
-    strange = behind.ask("GET", "/who", Host="evil.example", **token)
+    strange = behind.ask("GET", "/who", b"", Host="evil.example", **token)
     assert strange.status == 421 or strange.read() == b""  # Caddy answers what it has no site for
     # each line comes at once, through a stream that stays open
     connection = behind.connection()

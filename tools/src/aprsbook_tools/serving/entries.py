@@ -136,6 +136,11 @@ class Journals:
         return {it.says[of]: it.says[value] for it in self.of_kind(kind)}
 
     @property
+    def text(self) -> str:
+        """All entries, a line each, as a page carries them."""
+        return "\n".join(it.spelled.decode("ascii") for it in self.entries)
+
+    @property
     def names(self) -> Dict[str, str]:
         """The tactical names by calls."""
         return {call: name for call, name in self.last("name", "call", "name").items() if name}
