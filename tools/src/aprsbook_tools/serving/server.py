@@ -33,7 +33,7 @@ class Server(tornado.httpserver.HTTPServer):
     """Holds so many connections at most, of all and of an address. For one more, the oldest that
     has shown no token goes, and where each has, the new one."""
 
-    def initialize(  # type: ignore[override]
+    def initialize(  # type: ignore[override] # as Tornado has it made, with more words
             self, *args: Any, most: int, each: int, **named: Any) -> None:
         super().initialize(*args, **named)
         self.most, self.each = most, each
