@@ -164,14 +164,14 @@ def drop(page: Chromium, *paths: Place) -> None:
 
 @pytest.mark.browsers("Chromium")
 def test_folders(page: Chromium, folder: pathlib.Path) -> None:
-    """Files in dropped folders are read, and squares of a web map are drawn below all else."""
+    """Files in dropped folders are read, and tiles of a web map are drawn below all else."""
     (folder / "logs/day").mkdir(parents=True)
     (folder / "logs/a.log").write_text(log(3))
     (folder / "logs/day/b.log").write_text(log(4, "RX2"))
     for x in range(2002, 2012):
         (folder / f"tiles/12/{x}").mkdir(parents=True)
         for y in range(1280, 1320):
-            (folder / f"tiles/12/{x}/{y}.png").write_bytes(SQUARE)
+            (folder / f"tiles/12/{x}/{y}.png").write_bytes(TILE)
     # a browser lets no page on a disk read a folder that is dropped
     fresh(page, folder)
     for _ in range(2):
@@ -188,16 +188,16 @@ def test_folders(page: Chromium, folder: pathlib.Path) -> None:
         is_(sorted(page.js(TOLD)), ["a.log", "b.log"])
         drop(page, folder / "tiles")
         page.wait("aprsbook.layers.tiles.size === 400")
-        squares(page)
+        red_tiles(page)
         carries(page, folder)
 
 
-def squares(page: Browser) -> None:
-    """A red square lies below the middle of the map."""
+def red_tiles(page: Browser) -> None:
+    """A red tile lies below the middle of the map."""
     page.js("(aprsbook.map.look('54.65,-3.5,20'), aprsbook.map.paint())")
     page.wait("[...aprsbook.layers.tiles.made.values()].some(Boolean)")
     page.wait(f"{BESIDE_MIDDLE} === '200,30,30'")
-    assert "400 squares" in page.js("document.getElementById('own-map').textContent")
+    assert "400 tiles" in page.js("document.getElementById('own-map').textContent")
     # no seam between two of them, where they are drawn smaller and larger than they are
     for where in "54.65,-3.5,20", "54.65,-3.5,33.3", "54.6,-3.52,71":
         page.js(f"(aprsbook.map.look('{where}'), aprsbook.map.paint())")
@@ -208,7 +208,7 @@ def squares(page: Browser) -> None:
 
 
 def carries(page: Browser, folder: pathlib.Path) -> None:
-    """The saved page has the squares around the places, as far as they may be."""
+    """The saved page has the tiles around the places, as far as they may be."""
     path = page.saves_in(folder) / "event.html"
     page.js("(saves.open = true, 1)")
     page.wait("most.checkVisibility()")
@@ -219,7 +219,7 @@ def carries(page: Browser, folder: pathlib.Path) -> None:
                 break
             time.sleep(0.05)
         else:
-            raise AssertionError(f"squares of {most} MB")
+            raise AssertionError(f"tiles of {most} MB")
     assert page.js("document.getElementById('status').textContent").startswith("event.html has ")
     page.open(path.as_uri())
     page.wait("aprsbook.net !== null")
@@ -228,13 +228,13 @@ def carries(page: Browser, folder: pathlib.Path) -> None:
 
 
 def mbtiles(path: pathlib.Path) -> None:
-    """An MBTiles file of red squares of level 12."""
+    """An MBTiles file of red tiles of level 12."""
     with contextlib.closing(sqlite3.connect(path)) as base:
         base.execute("CREATE TABLE tiles (zoom_level, tile_column, tile_row, tile_data)")
         base.execute("CREATE INDEX it ON tiles (zoom_level, tile_column, tile_row)")
         for x in range(2002, 2012):
             for y in range(1280, 1320):
-                base.execute("INSERT INTO tiles VALUES (12, ?, ?, ?)", (x, 4095 - y, SQUARE))
+                base.execute("INSERT INTO tiles VALUES (12, ?, ?, ?)", (x, 4095 - y, TILE))
         base.commit()
 
 
@@ -270,7 +270,7 @@ def test_sheet(page: Browser, folder: pathlib.Path) -> None:
     """A picture lies where three of its corners are, which are asked for or come in a file."""
     fresh(page, folder)
     (folder / "a.log").write_text(log(3))
-    (folder / "sheet.png").write_bytes(SQUARE)
+    (folder / "sheet.png").write_bytes(TILE)
     # degrees for a pixel, and the middle of the first: 55 N 4 W, and a degree wide and high
     size = 1 / 256
     (folder / "sheet.pgw").write_text(f"{size}\n0\n0\n-{size}\n{-4 + size / 2}\n{55 - size / 2}\n")
@@ -856,7 +856,7 @@ def test_begun_anew(page: Browser, folder: pathlib.Path) -> None:
     server.server_close()
 
 
-def square() -> bytes:
+def tile() -> bytes:
     """A red picture of 256 by 256."""
     import struct
     import zlib
@@ -870,4 +870,4 @@ def square() -> bytes:
             part(b"IDAT", zlib.compress(rows)) + part(b"IEND", b""))
 
 
-SQUARE = square()
+TILE = tile()

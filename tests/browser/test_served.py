@@ -25,7 +25,7 @@ sys.path.append(str(REPOSITORY / "tools/src"))
 from aprsbook_tools.serving import tokens  # noqa: E402 (it lies there)
 
 pytest.importorskip("tornado", reason="needs Debian's python3-tornado")
-pytestmark = pytest.mark.browsers("Chromium")
+pytestmark = pytest.mark.browsers("Chromium", "Firefox")
 
 DAY = "2024-06-21"
 ROWS = "aprsbook.all.rows.length"
@@ -210,6 +210,26 @@ def test_what_one_desk_deals_with_is_dealt_with_at_all(page: Browser, live: Live
     gone, dealt = live.journal()
     assert gone["of"] == f"{1:032x}" and dealt["kind"] == "dealt"
     assert re.fullmatch("silent Q1A [0-9-]+T[0-9:.]+Z", dealt["alarm"])
+
+
+def test_a_saved_page_carries_what_desks_wrote(page: Browser, live: Live) -> None:
+    live.push(line(1))
+    enter(page, live)
+    page.wait(f"{ROWS} === 1")
+    live.write(1, "line", time=str(1_718_992_800_000), number="1", text="first runner", **{
+        "from": "Gate 1", "to": "NET"})
+    live.write(2, "dealt", alarm="silent Q1A", note="car is on its way")
+    live.write(3, "name", call="Q1A", name="Leader")
+    page.wait(f"{LINES} === 'first runner'")
+    page.wait("aprsbook.page.journal.entries.size === 3")
+    saved = live.folder / "saved.html"
+    saved.write_text(page.js("aprsfiles.eventPage()"), encoding="utf-8")
+    page.open(saved.as_uri())
+    page.wait(f"{ROWS} === 1 && {LINES} === 'first runner'")
+    assert page.js("aprsbook.page.own.lines[0].desk") == "GATE"
+    assert page.js("aprsbook.page.marks.dealtWith('silent Q1A').map(it => it.desk + it.note)"
+                   ) == ["GATEcar is on its way"]
+    assert "Leader" in page.js(f"{TEXTS % '#things-box td, #things-box th'}.join()")
 
 
 def test_what_a_desk_sets_all_pages_show(page: Browser, live: Live) -> None:

@@ -71,7 +71,8 @@ import { byId } from "../util/dom.js";
  */
 /**
  * `shown` and `widgets` are null until something is drawn, and until the page has begun. `next` is
- * what is drawn, or was drawn last; `turn` is its drawing, and `drawn` ends with it.
+ * what is drawn, or was drawn last; `turn` is its drawing, and `drawn` ends with it. The page
+ * `follows` logs, or `grows` where one was given again.
  * @typedef {{ settings: import("../net/settings.js").Settings, choices: Choices,
  *   shown: Shown | null, widgets: Widgets | null, next: Next | null,
  *   drawn: Promise<void> | undefined, turn: object | null, roster: Roster, points: Checkpoint[],
@@ -79,7 +80,7 @@ import { byId } from "../util/dom.js";
  *   brought: Brought[], playing: ReturnType<typeof setInterval> | undefined,
  *   typing: ReturnType<typeof setTimeout> | undefined, alarm: Alarm,
  *   clockOf: import("../lists/stations.js").ClockOf | null, own: OwnLines, looked: Looked,
- *   turned: boolean, follows: boolean, picked: string | null, from: string | null,
+ *   turned: boolean, follows: boolean, grows: boolean, picked: string | null, from: string | null,
  *   journal: Journal | null, marks: Journal | null }} Page what desks share is in a journal, which
  *   has the marks too; those of a page by itself have one of their own
  */
@@ -100,8 +101,8 @@ export const page = { settings: settingsOf(), choices: noChoices(), shown: null,
   next: null, drawn: undefined, turn: null, roster: { list: [], faults: [] }, points: [],
   found: [],
   brought: [], playing: undefined, typing: undefined, alarm: new Alarm(), clockOf: null,
-  own: new OwnLines(), looked: new Looked(), turned: false, follows: false, picked: null,
-  from: null, journal: null, marks: null };
+  own: new OwnLines(), looked: new Looked(), turned: false, follows: false, grows: false,
+  picked: null, from: null, journal: null, marks: null };
 /** What is drawn; it is a fault to ask for it before that. */
 export function shownNow() {
   if (!page.shown) throw new Error("nothing is drawn yet");

@@ -27,7 +27,7 @@ const MEGABYTE = 1e6;
 export async function tilesWithin(most) {
   const { tiles } = widgets().layers;
   const box = boxAround(nearIn(shownNow().net.placed.map(it => it.track)));
-  if (tiles.least > tiles.most || !most || !box) return { squares: {}, leftOut: null };
+  if (tiles.least > tiles.most || !most || !box) return { tiles: {}, leftOut: null };
   return carriedIn(tiles, box, most * MEGABYTE);
 }
 /** The data of the page, with the maps, the roster and the lines that the reader brought. */
