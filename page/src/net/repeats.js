@@ -35,11 +35,12 @@ export function* repeatsIn(bytes) {
     if (!path.includes("*") || lines.has(gate)) continue;
     let before = lines.field(source);
     for (const it of digipeatersOf(path.split(","))) {
-      const key = `${it}\t${before}`, by = counts.get(key) || new Map();
+      const key = [it, before].join("\t"), by = counts.get(key) || new Map();
       const name = lines.field(receiver);
       counts.set(key, by.set(name, (by.get(name) || 0) + 1));
       before = it;
     }
   }
-  return [...counts].map(([key, by]) => `${key}\t${Math.max(...by.values())}\n`).sort().join("");
+  return [...counts].map(([key, by]) => [key, Math.max(...by.values())].join("\t") + "\n")
+    .sort().join("");
 }
