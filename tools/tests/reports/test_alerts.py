@@ -278,3 +278,9 @@ def test_a_folder_without_logs_is_said(net: Programs) -> None:
     os.rename(net.folder / "logs", net.folder / "other")
     net.run(*WORDS, "logs", status=1)
     assert "in logs is no log of 2024-06-21" in net.said
+
+
+def test_a_log_is_no_folder_of_logs(programs: Programs) -> None:
+    """It said that no log of today is in it."""
+    programs.run("watch", "--silent", "20", "net.log", status=2)
+    assert "net.log is no folder" in programs.said

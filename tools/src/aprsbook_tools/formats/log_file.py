@@ -203,6 +203,7 @@ class Logs:
         self.unsynced: Dict[str, None] = {}  # logs, in the order of their first lines
         self.folders: Set[str] = set()  # with new names
         self.since = 0.0  # when the first of these was written
+        self.mount = disk.mount_of(folder)
         self.told = ("", 0)  # why frames are held, and how many hundreds
 
     def put(self, name: str, line: Line, kind: str = "log") -> None:
@@ -221,6 +222,7 @@ class Logs:
         try:
             while self.held:
                 path, line = self.held[0]
+                self.check_mount()
                 self.note(path, append(path, line, self.say, sync=not self.seconds))
                 self.held.popleft()
                 self.on_write(path)
@@ -231,6 +233,13 @@ class Logs:
                 self.say(f"written, of those that were held: {waited}")
             self.told = ("", 0)
         self.sync(self.seconds)
+
+    def check_mount(self) -> None:
+        """OSError where the disk of the logs, as a stick, was taken away: what is written below its
+        folder then lies on another disk, and is hidden once it is back."""
+        if not os.path.ismount(self.mount):
+            raise OSError(errno.ENODEV, "the disk isn't mounted any more", self.mount)
+        self.mount = disk.mount_of(self.folder)
 
     def tell(self, why: str) -> None:
         """Says that frames are held: once, and then by the hundred."""
