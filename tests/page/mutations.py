@@ -137,7 +137,8 @@ def survives(change: Change, browser: bool) -> bool:
                 return False
         if not passes(["tsc", "-p", "page"], copy):
             return False
-        tried = [f"tests/browser/{it}.py" for it in ("test_event_in_chromium", "test_page_alone")]
+        tried = [f"tests/browser/test_{it}.py"
+                 for it in ("layers", "event_in_chromium", "page_alone")]
         pytest = ["/usr/bin/python3", "-m", "pytest", "-q", "-x", "-p", "no:cacheprovider"]
         return not browser or passes([*pytest, *tried], copy)
 
