@@ -14,6 +14,7 @@ import { pairList, shareText } from "../lists/stations.js";
 import { timelineList } from "../lists/timeline.js";
 import { Colouring, wayFor } from "../map/colours.js";
 import { passedOf } from "../net/checkpoints.js";
+import { MOST_COMPARED } from "../net/clock-offsets.js";
 import { messagesOf } from "../net/message-table.js";
 import { allOf, hearings, netOf, repeatsOf } from "../net/net.js";
 import { expectedOf, Names } from "../net/roster.js";
@@ -169,6 +170,8 @@ function drawLists() {
   byId("passes").hidden = !page.points.length;
   if (page.points.length) later("passed", drawPassed(net));
   later("receivers", once(() => lists.receivers.show(net.receivers, true)));
+  write("compared", net.receivers.length > MOST_COMPARED
+    ? `Those of the ${MOST_COMPARED} that heard most are compared.` : "");
   later("pairs", drawPairs(all, net));
   later("find", madeHays(net.things));
 }
