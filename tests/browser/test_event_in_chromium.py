@@ -232,6 +232,7 @@ def mouse(page: Chromium) -> None:
 def test_names(page: Chromium, folder: pathlib.Path) -> None:
     page.open(event_page(folder / "evening.html", "--live", "600", *EVENING))
     page.wait("document.querySelectorAll('#timeline tbody tr').length > 10")
+    page.js("(looks.open = true, 1)")  # a menu, as saves and adds
     nodes = page.call("Accessibility.getFullAXTree")["nodes"]
     controls = [it for it in nodes if not it["ignored"] and it["role"]["value"] in CONTROLS]
     assert len(controls) > 50
@@ -242,8 +243,8 @@ def test_names(page: Chromium, folder: pathlib.Path) -> None:
         page.key("Tab")
         reached.add(page.js("document.activeElement.id || document.activeElement.className "
                             "|| document.activeElement.parentNode.id"))
-    wanted = ("in out fit fill sound play clock colours map find kind live since local saves adds "
-              "ics-open").split()
+    wanted = ("in out fit fill sound play clock colours map find kind live since looks local saves "
+              "adds ics-open").split()
     assert reached >= {*wanted, "pick station"}, reached
     page.js("document.querySelector('.pick').focus()")
     page.key("ArrowDown")
@@ -442,7 +443,7 @@ def test_brought(page: Chromium, folder: pathlib.Path) -> None:
                 "[it.lines.length, it.points.map(one => one.name)])"),
         [[1, ["pier"]], [1, [hostile.TEXTS[0]]]])
     is_(page.js(texts % "#expected tbody th"), ["Q1RUN-*", "Q1NINE-9", "Q1MED-7"])
-    is_(page.js(texts % "#expected .time"), ["20:02:14", "not heard", "19:44:12"])
+    is_(page.js(texts % "#expected .time"), ["20:02:14", "not heard isn\u2019t coming", "19:44:12"])
     assert ("2 of 3 expected not heard for 30 min: not here (Q1NINE-9), =1+1 (Q1MED-7)"
             in page.js(BADGES)), page.js(BADGES)
     # who was heard is shown on the map at a click

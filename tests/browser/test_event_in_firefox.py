@@ -102,7 +102,7 @@ def test_roster(page: Browser, folder: pathlib.Path) -> None:
     page.open(event_page(folder / "roster.html", *EVENING))
     page.give("#bring", folder / "roster.txt")
     page.wait("told.textContent === 'roster.txt: 3 calls'")
-    is_(page.js(texts % "#expected .time"), ["20:02:14", "19:44:12", "not heard"])
+    is_(page.js(texts % "#expected .time"), ["20:02:14", "19:44:12", "not heard isn\u2019t coming"])
     assert ("2 of 3 expected not heard for 30 min: at the second post (Q1MED-7), Q1NINE"
             in page.js(texts % "#news > *"))
 
