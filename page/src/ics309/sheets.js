@@ -63,7 +63,8 @@ function rowOf(it, { settings, onRemove }) {
   const remove = own && make("button", { type: "button", className: "no-print",
     textContent: "take away", aria: { "aria-label": `take line ${it.number} away` },
     onclick: () => onRemove(own) });
-  return make("tr", { className: own ? "own" : "" }, cell("num", String(it.number)),
+  const className = !own ? "" : own.desk ? "own of-desk" : "own";
+  return make("tr", { className }, cell("num", String(it.number)),
     cell("num time", momentOf(it.at, settings)), cell("call", callIn(name(it.from))),
     cell("id", own ? letters(printable(it.id)) : it.id),
     cell("call", callIn(name(it.to))),
