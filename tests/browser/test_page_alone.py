@@ -169,11 +169,11 @@ def test_first_view(page: Chromium, folder: pathlib.Path, width: int, height: in
     page.wait(MADE)
     top = page.js("document.getElementById('map').getBoundingClientRect().top")
     assert top <= most, top
-    is_(page.js("[fold.open, document.getElementById('fold-text').textContent]"), [False, "4 files"])
+    said = "[fold.open, document.getElementById('fold-text').textContent]"
+    is_(page.js(said), [False, "4 files"])
     give(page, folder, {"torn.log": log(5, "RX5") + "no line\n"})
     page.wait(f"{MADE} && aprsfiles.files.length === 5")
-    is_(page.js("[fold.open, document.getElementById('fold-text').textContent]"),
-        [True, "5 files, 1 of them not read"])
+    is_(page.js(said), [True, "5 files, 1 of them not read"])
 
 
 @pytest.mark.browsers("Chromium")
