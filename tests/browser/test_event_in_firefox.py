@@ -56,7 +56,7 @@ def test_evening(page: Browser, folder: pathlib.Path) -> None:
     page.js("(() => { const it = document.getElementById('find'); it.value = 'q1med'; "
             "it.dispatchEvent(new Event('input')) })()")
     is_(page.js(texts % "#things tbody th"), ["Q1MED-7"])
-    page.js("document.querySelector('.pick').click()")
+    page.js("document.querySelector('#things .pick').click()")
     is_(page.js("document.getElementById('one-name').textContent"), "Q1MED-7 station")
     picture(page, "evening", whole=True)
     is_(page.requests(), [])
@@ -79,7 +79,8 @@ def test_hostile(page: Browser, folder: pathlib.Path) -> None:
 def test_keys(page: Browser, folder: pathlib.Path) -> None:
     page.open(event_page(folder / "keys.html", *EVENING))
     page.wait("document.querySelectorAll('#timeline tbody tr').length > 10")
-    left = set("in out fit fill sound play clock colours map find kind since local saves adds "
+    page.js("(looks.open = true, 1)")  # a menu, as saves and adds
+    left = set("in out fit fill sound play clock colours map find kind since looks local saves adds "
                "ics-open".split())
     left |= {"pick station", "miles", "place-form", "measure", "edge"}
     for _ in range(60):  # more would leave the page

@@ -68,7 +68,8 @@ COURSE = ('<gpx><wpt lat="54.51" lon="-3.52"><name>Summit</name></wpt><rte>'
           '<rtept lat="54.49" lon="-3.45"/></rte></gpx>')
 NEAR = "54.5,-3.5,14"
 CASES = {
-    "coast": ("[all[0]]", "54.5,-3.5,0.4"), "globe": ("[all[0]]", "20,10,0.01"),
+    "coast": ("[all[0]]", "54.5,-3.5,0.4"), "bay": ("[all[0]]", "54.1,-3,2.5"),
+    "globe": ("[all[0]]", "20,10,0.01"),
     "tiles": ("[all[1]]", NEAR), "image": ("[all[2]]", NEAR), "grid": ("[all[3]]", NEAR),
     "course": ("[all[4]]", NEAR), "stations": ("[all[5]]", NEAR), "measure": ("[all[6]]", NEAR),
     "degrees": ("[all[7]]", NEAR), "scale": ("[all[8]]", NEAR)}

@@ -32,7 +32,7 @@ MADE = "aprsfiles.made() !== null"
 ROWS = "aprsbook.all.rows.length"
 # the colour of the map beside its middle
 BESIDE_MIDDLE = ("(() => { const { map } = aprsbook, { width, height } = map.canvas; "
-                 "map.paint(); return map.pen.getImageData(width / 3, height / 3, 1, 1)"
+                 "map.paint(); return map.pen.getImageData(0.4 * width, 0.42 * height, 1, 1)"
                  ".data.slice(0, 3).join() })()")
 # how many pixels of the middle of a red map, without lines of degrees, aren't red
 OTHERS = """(() => { const { map, layers } = aprsbook, { line } = map.colours;
@@ -510,8 +510,10 @@ def test_large_file(page: Browser, folder: pathlib.Path) -> None:
     (folder / "big.log").unlink()
     (folder / "more.log").write_text(log(4, "RX3"))
     page.give("#choose", folder / "more.log")
-    said = "document.getElementById('status').textContent"
-    page.wait(f"{said} === \"big.log: can't be read any more: it has changed, or is gone\"")
+    # what was read of it stays, as long as it needn't be read again
+    page.wait(f"{MADE} && {ROWS} === 904")
+    page.js("(gap.value = '31', gap.dispatchEvent(new Event('change')), 1)")
+    page.wait(f"{TOLD}['big.log'] === \"can't be read any more: it has changed, or is gone\"")
     page.js("[...document.querySelectorAll('#files button')].find(it => "
             "it.ariaLabel === 'take big.log away').click()")
     page.wait(f"{MADE} && {ROWS} === 4")

@@ -49,6 +49,8 @@ test("another drawing leaves in view what is, and the keyboard in its row", () =
     list.show(names(many));
     runAllWaiting();
     assert.equal(body.children.length, 26);
+    // all rows, and the head
+    assert.equal(list.table.getAttribute("aria-rowcount"), String(many + 1));
     scroll(box, 900);
     list.build(44);
     pickOf(list, "Q1A-69").focus();

@@ -8,7 +8,8 @@ import { waysFor } from "../../page/src/lists/stations.js";
 import { Alarm } from "../../page/src/app/alarm.js";
 import { atOnce } from "../../page/src/util/tasks.js";
 import {
-  message, moment, netOfLines, place, row, rowsOf, SETTINGS, settingsFor, thing,
+  message, messageTable, moment, netOfLines, place, readMessages, row, rowsOf, SETTINGS,
+  settingsFor, thing,
 } from "./tables.js";
 
 const OF = { gap: 30, silent: 30, isLongAgo: () => false, isSilent: () => false, missing: [],
@@ -231,4 +232,14 @@ test("a kill at 0, 0 is a kill, where the thing was", () => {
   assert.deepEqual([it.unfixed, thing(net, "Y").unfixed, thing(net, "Y").now], [0, 1, null]);
   assert.equal(it.at(lines.length ? it.first + 1 : 0).state, "live");
   assert.deepEqual([again.killed, again.placedBy.map(k => again.rows.north[k])], [false, [5, 5, 7]]);
+});
+test("a message has its first and its last moment, and an item its own place", () => {
+  const [it] = readMessages(messageTable([message("Q1A", "Q1B", "?", "unanswered", 0,
+    { last: moment(90) })]));
+  assert.equal(it.last - it.first, 90);
+  const net = netOfLines([place(0, "Q1NET", 54, -3), row("item", 60, "Q1NET", { name: "Water",
+    state: "live", latitude: "54.5000000", longitude: "-3.5000000", ambiguity: 0,
+    compressed: "no", symbol: "/>" })]);
+  assert.deepEqual(net.placed.map(one => [one.kind, one.name, one.now.north]),
+    [["station", "Q1NET", 54], ["item", "Water", 54.5]]);
 });

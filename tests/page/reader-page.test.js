@@ -96,10 +96,15 @@ test("a log that has grown takes its older one's place, and what is new is marke
     const [row] = rows();
     await aprsfiles.add([fileOf("hill.log", first + more)]);
     assert.deepEqual(verdicts(), { "hill.log": "heard 2 passed 0" });
-    assert.equal(rows()[0], row);
+    assert.deepEqual([rows()[0] === row, rows().length, aprsfiles.files.length], [true, 1, 1]);
     assert.match(byId("looked").textContent, /^1 new since .*: mark as seen$/);
     // ages still count to the last transmission: nobody says that the net goes on
     assert.equal(aprsbook.page.follows, false);
+    // and it stays new in another drawing, until the reader says that it is seen
+    await aprsbook.refresh();
+    assert.match(byId("looked").textContent, /^1 new since/);
+    byId("looked").click();
+    assert.equal(byId("looked").hidden, true);
   });
 test("a log whose handle the browser gave is read again as it grows", { skip }, async () => {
   const { reread } = await import("../../page/src/intake/reread.js");

@@ -65,6 +65,12 @@ test("a fine coast is drawn by how close one looks, and says so as all of the ma
     return [shore.paint(pen, view, COLOURS), of("fill").length, of("stroke").length];
   };
   assert.deepEqual(tried(viewOf(54.5, -3.5, 50)), ["", 2, 1]);
+  // each side of a ring that is a coast has its line: one, and the three of the lake
+  const { pen, told } = recorder();
+  shore.paint(pen, viewOf(54.5, -3.5, 500), COLOURS);
+  const strokes = told.slice(told.findLastIndex(it => it[0] === "beginPath"));
+  assert.deepEqual(["moveTo", "lineTo"].map(name => strokes.filter(it => it[0] === name).length),
+    [4, 4]);
   assert.deepEqual(tried(viewOf(54.5, -3.5, 9.9)), ["rough coast", 1, 1]);
   assert.deepEqual(tried(viewOf(54.5, -3.5, 1.9)), ["", 1, 0]);
   // one that may be off by 200 m is rough sooner
