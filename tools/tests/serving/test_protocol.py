@@ -260,3 +260,15 @@ def test_a_server_that_has_lost_lines_is_not_believed(
     else:
         with pytest.raises(Away, match="lost lines"):
             it.place_of(before, piece, sent, says, log)
+
+
+def test_what_somebody_else_adds_does_not_end_a_push(tmp_path: pathlib.Path) -> None:
+    """Or `push --once` would leave the rest behind."""
+    base = Base(tmp_path / "base")
+    site = Site(tmp_path / "one", Way(base, random.Random(1), 0), 0)
+    site.path.write_bytes(line(1) + b"\n")
+    site.pusher.push()
+    base.ask("POST", f"/push/HILL/{DAY}", line(9) + b"\n", None)
+    site.path.write_bytes(line(1) + b"\n" + line(2) + b"\n")
+    site.pusher.push()
+    assert base.lines() == [line(1), line(9), line(2)]
