@@ -1,10 +1,10 @@
 """How far long work is, on standard error where that is a terminal, and nothing elsewhere."""
 import sys
 import threading
-import time
 from typing import Callable, Iterable, Iterator, Optional, TypeVar
 
 from aprsbook_tools.stderr import show
+from aprsbook_tools.system.clock import CLOCK
 
 T = TypeVar("T")
 STEP = 0.2  # seconds between two counts
@@ -27,7 +27,7 @@ def counted(items: Iterable[T], words: str, total: Optional[int] = None,
     try:
         for item in items:
             number += size(item)
-            now = time.monotonic()
+            now = CLOCK.seconds()
             if now - shown >= STEP:
                 shown = now
                 show(f"\r{words}: {number}{of}\x1b[K")
