@@ -18,7 +18,7 @@ import shutil
 import subprocess
 import sys
 import tempfile
-from typing import Dict, Iterator, List, NamedTuple, Optional, Tuple
+from typing import Callable, Dict, Iterator, List, NamedTuple, Optional, Tuple
 
 REPOSITORY = pathlib.Path(__file__).resolve().parents[2]
 SOURCES = pathlib.Path("tools/src/aprsbook_tools")
@@ -69,10 +69,8 @@ def replaced(text: str, node: ast.expr, new: str) -> str:
     return (octets[:begin] + new.encode() + octets[end:]).decode()
 
 
-def other_of(text: str, node: ast.AST) -> Optional[str]:
-    """What may stand for an expression, with another meaning."""
-    def said(it: ast.AST) -> str:
-        return f"({ast.get_source_segment(text, it)})"
+def other_of(node: ast.AST, said: Callable[[ast.expr], str]) -> Optional[str]:
+    """What may stand for an expression, with another meaning; `said` is what a part of it says."""
     if isinstance(node, ast.Compare) and len(node.ops) == 1:
         sign = COMPARED[type(node.ops[0])]
         return f"{said(node.left)} {sign} {said(node.comparators[0])}"
@@ -90,28 +88,35 @@ def other_of(text: str, node: ast.AST) -> Optional[str]:
     return None
 
 
-def changes_of(path: pathlib.Path) -> Iterator[Change]:
-    """Each change of a file, but those within a text with fields, whose places Python doesn't say
+def nodes_of(path: pathlib.Path) -> Iterator[ast.expr]:
+    """What can be changed in a file, but within a text with fields, whose places Python doesn't say
     before 3.12."""
-    text = path.read_text(encoding="utf-8")
-    tree = ast.parse(text)
+    tree = ast.parse(path.read_text(encoding="utf-8"))
     within = {id(it) for whole in ast.walk(tree) if isinstance(whole, ast.JoinedStr)
               for it in ast.walk(whole)}
     for node in ast.walk(tree):
-        other = other_of(text, node) if id(node) not in within else None
-        if other is not None and isinstance(node, ast.expr):
-            before = ast.get_source_segment(text, node)
-            yield Change(path, node.lineno, f"{before} -> {other}", replaced(text, node, other))
+        if isinstance(node, ast.expr) and id(node) not in within:
+            if other_of(node, lambda _: "") is not None:
+                yield node
+
+
+def change_of(path: pathlib.Path, node: ast.expr) -> Change:
+    """The change of an expression."""
+    text = path.read_text(encoding="utf-8")
+    before = ast.get_source_segment(text, node)
+    other = other_of(node, lambda it: f"({ast.get_source_segment(text, it)})") or ""
+    return Change(path, node.lineno, f"{before} -> {other}", replaced(text, node, other))
 
 
 def by_lot(count: int, seed: int) -> List[Change]:
     """Changes of so many lines, each drawn with the same chance."""
-    lines: Dict[str, List[Change]] = {}
+    lines: Dict[Tuple[pathlib.Path, int], List[ast.expr]] = {}
     for path in sorted((REPOSITORY / SOURCES).rglob("*.py")):
-        for it in changes_of(path):
-            lines.setdefault(f"{path}:{it.line}", []).append(it)
+        for node in nodes_of(path):
+            lines.setdefault((path, node.lineno), []).append(node)
     draw = random.Random(seed)
-    return [draw.choice(lines[it]) for it in draw.sample(sorted(lines), min(count, len(lines)))]
+    drawn = draw.sample(sorted(lines), min(count, len(lines)))
+    return [change_of(it[0], draw.choice(lines[it])) for it in drawn]
 
 
 def survives(change: Change, folders: List[str]) -> bool:
