@@ -50,7 +50,8 @@ def bundle(entry: str, minify: bool = True, source: pathlib.Path = PAGE / "src")
     text = esbuild(str(source / f"{entry}.js"), "--bundle", "--format=iife", *options).decode()
     if re.search("</?script", text, re.I):
         raise SystemExit(f"build/page.py: {entry}: a script that would end its own element")
-    return text
+    # a page has no control characters; in a minified script tabs stand in strings alone
+    return text.replace("\t", "\\t") if minify else text
 
 
 def asset(name: str) -> str:

@@ -142,10 +142,10 @@ def test_contrast() -> None:
         return 0.2126 * parts[0] + 0.7152 * parts[1] + 0.0722 * parts[2]
 
     style = INSIDE.findall(read(event_page(LOGS[0]))[0])[0][1]
-    blocks = re.findall(r":root(?:\.printed)? \{([^}]*)\}", style)
+    blocks = re.findall(r":root(?:\.printed)? ?\{([^}]*)\}", style)
     assert len(blocks) == 3
     for block in blocks:
-        colours = dict(re.findall(r"--(\w+): (#\w+)", block))
+        colours = dict(re.findall(r"--(\w+): ?(#\w+)", block))
         tracks = [name for name in colours if re.fullmatch("t[0-9]", name)]
         for ink in "ink soft station object item bad good warn".split() + tracks:
             for below in "paper", "sheet":

@@ -146,6 +146,8 @@ test("whose lines there are is said, and they go at once after a question", { sk
   page.widgets.form.draw();
   button("#own-desks", "take them").click();
   assert.equal(desks().length, 3);
+  assert.deepEqual([...document.querySelectorAll("#ics-sheets .own")].map(it => it.className)
+    .sort(), ["own", "own of-desk", "own of-desk"]);
   const last = byId("own-desks").lastChild;
   assert.match(last.textContent, /this page/);
   last.querySelector("button").click();

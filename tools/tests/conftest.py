@@ -19,16 +19,19 @@ SOURCES = HERE.parent / "src"
 SAMPLES = HERE / "samples"  # what other programs wrote themselves
 EXAMPLES = HERE.parent.parent / "examples"
 EVENING = sorted(str(it) for it in EXAMPLES.glob("evening/*.log"))
+SHARING = {"test_cluster": 2, "test_hostile": 1, "test_serving": 1}
 
 settings.register_profile("net", deadline=None, max_examples=100)
 settings.load_profile("net")
 
 
 def pytest_collection_modifyitems(items: List[pytest.Item]) -> None:
-    """Tests that share a server or a cluster are all done by one process of pytest-xdist."""
-    for it in items:
-        if it.path.stem in ("test_cluster", "test_hostile", "test_serving"):
-            it.add_marker(pytest.mark.xdist_group(it.path.stem))
+    """Tests that share a server or a cluster are done by so many processes of pytest-xdist, each of
+    which begins its own."""
+    for stem, count in SHARING.items():
+        own = [it for it in items if it.path.stem == stem]
+        for number, it in enumerate(own):
+            it.add_marker(pytest.mark.xdist_group(f"{stem} {number * count // len(own)}"))
 
 
 def environment(**more: str) -> Dict[str, str]:

@@ -52,8 +52,8 @@ export function sheetsOf(entries, names) {
   return sheets;
 }
 
-/** So many sheets at most are printed. */
-const MOST = 200;
+/** So many sheets at most are printed, and filled at once. */
+const MOST = 200, AT_ONCE = 12;
 /** How all is written, and what takes a line away. */
 /** @typedef {{ settings: Settings, onRemove: (line: Line) => void }} Writing */
 /** @param {Entry} it @param {Writing} writing */
@@ -63,7 +63,8 @@ function rowOf(it, { settings, onRemove }) {
   const remove = own && make("button", { type: "button", className: "no-print",
     textContent: "take away", aria: { "aria-label": `take line ${it.number} away` },
     onclick: () => onRemove(own) });
-  return make("tr", { className: own ? "own" : "" }, cell("num", String(it.number)),
+  const className = !own ? "" : own.desk ? "own of-desk" : "own";
+  return make("tr", { className }, cell("num", String(it.number)),
     cell("num time", momentOf(it.at, settings)), cell("call", callIn(name(it.from))),
     cell("id", own ? letters(printable(it.id)) : it.id),
     cell("call", callIn(name(it.to))),
@@ -110,13 +111,18 @@ class Sheets {
         this.turn(/** @type {HTMLElement} */ (target), isIntersecting);
     }, { rootMargin: "1500px" });
     byId("ics-rest").textContent = "";
-    byId("ics-sheets").replaceChildren(...all.map((entries, n) => {
+    const box = byId("ics-sheets"), before = [...box.children].filter(it => it.firstChild)
+      .map(it => Number(/** @type {HTMLElement} */ (it).dataset.n));
+    box.replaceChildren(...all.map((entries, n) => {
       const node = make("div", { className: "sheet", data: { n } });
       const high = entries.reduce((sum, it) => sum + heightOf(it, writing.settings.names), 0);
       node.style.minHeight = `${Math.round(high)}pt`;
       return node;
     }));
-    for (const it of byId("ics-sheets").children) this.observer.observe(it);
+    const nodes = /** @type {HTMLElement[]} */ ([...box.children]);
+    // what is in view is there at once, and the rest once it is seen that it is
+    for (const n of [0, ...before].slice(0, AT_ONCE)) if (nodes[n]) this.turn(nodes[n], true);
+    for (const it of nodes) this.observer.observe(it);
   }
   /**
    * Fills a sheet that comes into view, and empties one that leaves it, which stays as high.

@@ -3,7 +3,7 @@
 
 import { cell, List, number } from "./table-view.js";
 import { far } from "../geo/units.js";
-import { letters, make } from "../util/dom.js";
+import { callIn, letters, make } from "../util/dom.js";
 import { count, printable } from "../util/text.js";
 import { timeText } from "../util/time.js";
 
@@ -51,7 +51,7 @@ export function passedList(box, visits, { points, settings }, onPick) {
   const row = (/** @type {Line} */ it) => make("tr", { data: { key: it.key } },
     cell("num", letters(printable(it.bib))), make("th", { scope: "row" },
       make("button", { type: "button", className: "pick", title: "show on the map",
-        onclick: () => onPick(it.key) }, it.name)),
+        onclick: () => onPick(it.key) }, callIn(it.name))),
     ...columns.map(key => {
       const visit = it.by.get(key);
       return cell("num time", visit ? cameText(visit, settings) : "");
@@ -72,7 +72,7 @@ export function passedList(box, visits, { points, settings }, onPick) {
 export function visitList(box, { points, settings }) {
   const row = (/** @type {Visit & { turn: number }} */ it) => make("tr", {},
     make("th", { scope: "row" }, letters(printable(points[it.checkpoint].name))), number(it.turn),
-    cell("call", letters(it.thing.label)), cell("num time", cameText(it, settings)),
+    cell("call", callIn(it.thing.label)), cell("num time", cameText(it, settings)),
     cell("num time", timeText(it.went, settings)), number(it.lap),
     cell("num", far(it.metres, settings)), cell("kind", it.isHeard ? "heard" : "between"));
   return new List(box, { id: "visits", caption: "visits", row, none: "no visit", columns: [

@@ -189,7 +189,7 @@ def test_a_fault_of_this_machine_is_no_fault_of_a_book(club: Club) -> None:
     program = club.bin / "aprsbook-fold"
     program.write_text("#!/bin/sh\necho 'aprsbook-fold: cannot write' >&2\nexit 3\n")
     said = club.book("--pass-over", "own.book", "in", status=3)
-    assert said == "aprsbook-fold: cannot write\n"
+    assert said == f"aprsbook-fold: cannot write in {club.folder}\n"
 
 
 def test_a_program_that_is_missing_is_no_fault_of_an_input(club: Club) -> None:

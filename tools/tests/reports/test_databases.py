@@ -11,7 +11,7 @@ from standing import Programs, at, message, place, put, row, station
 
 from aprsbook_tools.errors import Fault
 from aprsbook_tools.formats.spreadsheet import read_csv
-from aprsbook_tools.reports import databases
+from aprsbook_tools.reports import databases, table_files
 from aprsbook_tools.reports.roster import Roster
 
 
@@ -231,3 +231,18 @@ def test_csv_of_fields(programs: Programs) -> None:
     assert programs.run("csv", "--table", "fields", "fields") == (
         'call,said\nQ1A,\'=1+1\nQ1B,"a, b"\nQ1C,Käppeli \\xe9\n'
     )
+
+
+@pytest.mark.parametrize("shown", [
+    "54.5108333", "-3.6156667", "0.1", "10.5", "0.0000167", "-0.0001", "304.8", "0", "7", "12.0",
+    "-0.5", "54.5000000", "0.00012", "99999.123456789", "100000.5", "007.5", ""])
+def test_a_number_is_written_as_python_writes_it(shown: str) -> None:
+    """Those that stand as they are are told by their look."""
+    wanted = table_files.csv_field(float(shown)) if shown else ""
+    assert table_files.decimals(table_files.csv_field)([shown, "1"]) == [wanted, "1"]
+
+
+def test_columns_that_are_empty_are_one() -> None:
+    columns = [["a", "b"], ["", ""], ["", ""], ["", "c"], ["", ""]]
+    rows = [",".join(it) for it in zip(*table_files.without_empty(columns, ","))]
+    assert rows == [",".join(it) for it in zip(*columns)] == ["a,,,,", "b,,,c,"]

@@ -244,3 +244,31 @@ def test_answers_that_are_none(tmp_path: pathlib.Path) -> None:
         with pytest.raises(Away):
             site.pusher.push()
     assert state_in("0-" + 32 * "0") == State()
+
+
+@pytest.mark.parametrize("count, is_whole", [(7, True), (6, False)])
+def test_a_server_that_has_lost_lines_is_not_believed(
+        tmp_path: pathlib.Path, count: int, is_whole: bool) -> None:
+    """It had five lines, and says that it has added two."""
+    it = pusher_of(Way(Base(tmp_path), random.Random(1), 0), tmp_path)
+    log, sent = pushing.Log(str(tmp_path / "HILL.log"), DAY, "HILL"), [line(1), line(2)]
+    before, piece = pushing.Place(0, State(5), True), pushing.Piece(sent, 2 * len(line(1)) + 2)
+    says = {"state": State(count).text, "added": 2, "known": 0, "judged": 2, "refused": []}
+    if is_whole:
+        assert it.place_of(before, piece, sent, says, log) == pushing.Place(
+            piece.end, State(count), True, (*sent,))
+    else:
+        with pytest.raises(Away, match="lost lines"):
+            it.place_of(before, piece, sent, says, log)
+
+
+def test_what_somebody_else_adds_does_not_end_a_push(tmp_path: pathlib.Path) -> None:
+    """Or `push --once` would leave the rest behind."""
+    base = Base(tmp_path / "base")
+    site = Site(tmp_path / "one", Way(base, random.Random(1), 0), 0)
+    site.path.write_bytes(line(1) + b"\n")
+    site.pusher.push()
+    base.ask("POST", f"/push/HILL/{DAY}", line(9) + b"\n", None)
+    site.path.write_bytes(line(1) + b"\n" + line(2) + b"\n")
+    site.pusher.push()
+    assert base.lines() == [line(1), line(9), line(2)]

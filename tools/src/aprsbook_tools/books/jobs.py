@@ -16,7 +16,7 @@ from aprsbook_tools import VERSION
 from aprsbook_tools.books import chunks, inputs
 from aprsbook_tools.books.inputs import look_at
 from aprsbook_tools.errors import ExitStatus, Fault, said
-from aprsbook_tools.system import atomic, programs
+from aprsbook_tools.system import atomic, disk, programs
 
 SUM, JOB = ".sum", ".job"  # endings of names beside a file: its checksum, and how it is made
 
@@ -142,7 +142,7 @@ def read(path: str) -> Job:
 @contextlib.contextmanager
 def folder_beside(path: str) -> Iterator[str]:
     """A folder that goes away, beside a file."""
-    with tempfile.TemporaryDirectory(atomic.WORK, f".{os.path.basename(path)}.",
+    with tempfile.TemporaryDirectory(disk.WORK, f".{os.path.basename(path)}.",
                                      os.path.dirname(path)) as folder:
         yield folder
 

@@ -4,7 +4,7 @@ import dataclasses
 import os
 import sqlite3
 from typing import (
-    Any, Callable, Dict, Iterable, Iterator, Mapping, Optional, Sequence, Tuple, Type,
+    Any, Callable, Dict, Iterable, Iterator, Mapping, Optional, Sequence, Type,
     get_type_hints)
 
 from aprsbook_tools.errors import ExitStatus, Fault
@@ -71,19 +71,29 @@ def columns_of(kind: Type[Any]) -> Dict[str, str]:
 
 
 def converter_of(name: str, read: Callable[[str], Any]) -> table_files.ConvertColumn:
-    """What makes the values of a column of what is shown there: what isn't known is null, or an
-    empty text."""
+    """What makes the values of a column of what is shown there; nothing stays an empty text."""
     if name in SENT:
-        return lambda values: [it or None for it in values]
-    empty = table_files.cell_of(read(""))
-    return table_files.converter(read, lambda cell: cell, empty, table_files.is_escaped)
+        return lambda values: values
+    return table_files.converter(read, lambda cell: cell, "", table_files.is_escaped)
 
 
-def values_of(kind: Type[Any], tables: Iterable[Columns], count: int) -> Iterator[Tuple[Any, ...]]:
-    """Rows as the database takes them, with so many columns of names."""
-    own = [converter_of(name, read) for name, read in table.readers_of(kind).items()]
-    for rows in table_files.converted(tables, [*own, *[converter_of("", str)] * count]):
-        yield from rows
+def is_null(name: str, read: Callable[[str], Any]) -> bool:
+    """Whether what isn't known is null in a column, and no empty text."""
+    return name in SENT or table_files.cell_of(read("")) is None
+
+
+def insert(base: sqlite3.Connection, name: str, tables: Iterable[Columns], count: int) -> None:
+    """Puts columns, of which so many are of names, into a table. Nulls and columns without a value
+    stand in the statement, since to bind a null costs most of all."""
+    readers = table.readers_of(TABLES[name])
+    converters = [converter_of(*it) for it in readers.items()] + [converter_of("", str)] * count
+    nulls = [is_null(*it) for it in readers.items()] + [False] * count
+    for columns in tables:
+        full = [any(it) for it in columns]
+        values = [("nullif(?, '')" if null else "?") if any_ else "null" if null else "''"
+                  for any_, null in zip(full, nulls)]
+        bound = [convert(it) for convert, it, any_ in zip(converters, columns, full) if any_]
+        base.executemany(f"insert into {name} values ({', '.join(values)})", zip(*bound))
 
 
 def check(path: str, inputs: Sequence[str]) -> str:
@@ -139,9 +149,7 @@ def fill(base: sqlite3.Connection, name: str, tables: Iterable[Columns], roster:
     drop(base, name)
     types = [f"{it} {of}" for it, of in columns.items()] + [f"{it} text" for it in names]
     base.execute(f"create table {name} ({', '.join(types)})")
-    base.executemany(
-        f"insert into {name} values ({', '.join('?' * len(types))})",
-        values_of(kind, tactical.named(kind, roster, tables), len(names)))
+    insert(base, name, tactical.named(kind, roster, tables), len(names))
 
 
 def write(path: str, tables: Mapping[str, Iterable[Columns]], inputs: Sequence[str],

@@ -1,6 +1,7 @@
 """A table of a book whole, in each format. Many rows are converted at once, column by column: most
 columns are empty there, or stand as they are, and what is alike is converted once."""
 import argparse
+import itertools
 import re
 from typing import Any, Callable, Dict, Iterable, Iterator, List, Sequence, Tuple, Type
 
@@ -15,6 +16,7 @@ Convert = Callable[[Any], Any]
 ConvertColumn = Callable[[Sequence[str]], Sequence[Any]]
 Changes = Callable[[str], bool]  # says of the lines of a column whether one has to be written anew
 TEXTS = (table.text_of, table.names, table.yes)  # what reads texts
+SAME = re.compile(r"-?(?:[1-9][0-9]{0,4}\.|0\.(?!000))[0-9]{0,9}[1-9]")
 BEGIN = re.compile(r"\n[^0-9A-Za-z\n]")  # of what begins no word and no number
 
 
@@ -54,6 +56,16 @@ def converter(read: Convert, write: Convert, empty: Any, changes: Changes) -> Co
     return convert
 
 
+def decimals(write: Callable[[Cell], str]) -> ConvertColumn:
+    """What converts a column of degrees and the like into texts, most of which stand as they are:
+    those that Python writes so too."""
+    def text_of(shown: str) -> str:
+        if SAME.fullmatch(shown):
+            return shown
+        return write(float(shown)) if shown else ""
+    return lambda values: [text_of(it) for it in values] if any(values) else values
+
+
 def converters(kind: Type[Any], names: Sequence[str], write: Convert, changes: Changes,
                empty: Convert) -> List[ConvertColumn]:
     """What converts the columns of a kind, and those of names, which are texts."""
@@ -81,12 +93,28 @@ def lines_of(form: str, kind: Type[Any], tables: Iterable[Columns], names: Seque
     if form in WRITERS:
         write, between, changes = WRITERS[form]
         yield between.join(map(write, head)) + "\n"
-        for rows in converted(tables, converters(kind, names, write, changes, write)):
+        own = converters(kind, names, write, changes, write)
+        for at, read in enumerate(table.readers_of(kind).values()):
+            if read is table.decimal:
+                own[at] = decimals(write)
+        for columns in tables:
+            texts = [convert(it) for convert, it in zip(own, columns)]
+            rows = zip(*without_empty(texts, between))
             yield "".join([between.join(row) + "\n" for row in rows])
     else:
         own = converters(kind, names, lambda cell: cell, is_escaped, lambda cell: cell)
         rows_ = (row for rows in converted(tables, own) for row in rows)
         yield from table_output.lines_of(form, head, rows_)
+
+
+def without_empty(columns: Sequence[Sequence[str]], between: str) -> List[Sequence[str]]:
+    """The columns, in which those that are empty, one behind another, are one that has what stands
+    between them."""
+    result: List[Sequence[str]] = []
+    for is_full, group in itertools.groupby(columns, any):
+        own = [*group]
+        result += own if is_full else [[between * (len(own) - 1)] * len(own[0])]
+    return result
 
 
 def put(args: argparse.Namespace, kind: Type[Any], roster: Roster) -> None:

@@ -29,7 +29,6 @@ except ImportError:  # not on Windows
     fcntl = None  # type: ignore[assignment]
 
 SUFFIX = ".aprs-net-new"
-WORK = ".aprs-net-work"  # with which the name of a folder ends that goes away
 LOCK = "lock"  # a file in it, which is locked while it is in use
 DAY = 86_400  # seconds
 ASKING = threading.Lock()
@@ -107,7 +106,8 @@ def remove_leftovers(folder: str, name: str = "") -> None:
     """Takes away what runs that were killed have left of a file, or of all of a folder: folders
     that nobody uses at once, and others, and files, after a day."""
     of = re.escape(name) if name else ".+"
-    form = re.compile(rf"\.{of}\.[a-z0-9_]{{8}}({re.escape(SUFFIX)}|{re.escape(WORK)})", re.DOTALL)
+    endings = "|".join(map(re.escape, (SUFFIX, disk.WORK)))
+    form = re.compile(rf"\.{of}\.[a-z0-9_]{{8}}({endings})", re.DOTALL)
     with contextlib.suppress(OSError):
         for it in os.scandir(folder):
             found = form.fullmatch(it.name)
@@ -143,7 +143,7 @@ def work_folder(real: str) -> Iterator[str]:
     """A folder beside a file that goes away; if this run is killed, at the next one."""
     folder, name = os.path.split(real)
     remove_leftovers(folder, name)
-    work, file = tempfile.mkdtemp(WORK, f".{name}.", folder), -1
+    work, file = tempfile.mkdtemp(disk.WORK, f".{name}.", folder), -1
     try:
         if fcntl is not None:
             # it gets its name once it is locked: nobody takes the folder before

@@ -5,6 +5,7 @@ import os
 import stat
 
 NO_LINK = getattr(os, "O_NOFOLLOW", 0)
+WORK = ".aprs-net-work"  # with which the name of a folder ends that goes away
 AT_ONCE = getattr(os, "O_NONBLOCK", 0)  # a pipe is opened without a wait, and refused then
 
 

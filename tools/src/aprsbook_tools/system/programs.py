@@ -121,7 +121,10 @@ def run(*command: str, given: Given = b"", into: Optional[IO[bytes]] = None) -> 
 
 def folder_of(file: IO[bytes]) -> str:
     """The folder of a file that is written, or the one for temporary files."""
-    return os.path.dirname(file.name) if isinstance(file.name, str) else tempfile.gettempdir()
+    if not isinstance(file.name, str):
+        return tempfile.gettempdir()
+    folder = os.path.dirname(file.name)
+    return os.path.dirname(folder) if folder.endswith(disk.WORK) else folder  # which goes away
 
 
 def write_book(into: IO[bytes], *command: str, given: Given = b"") -> None:
