@@ -239,7 +239,7 @@ def test_names(page: Chromium, folder: pathlib.Path) -> None:
     is_([it["role"] for it in controls if not it.get("name", {}).get("value")], [])
     # all are reached with the tab key, the rows of a table by one stop and then the arrow keys
     reached = set()
-    for _ in range(70):
+    for _ in range(110):
         page.key("Tab")
         reached.add(page.js("document.activeElement.id || document.activeElement.className "
                             "|| document.activeElement.parentNode.id"))
