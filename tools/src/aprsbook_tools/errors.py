@@ -41,22 +41,22 @@ class Fault(Exception):
         return f"{self.by}: {self.words}"
 
 
-def words_of(fault: Union[Fault, OSError]) -> str:
-    """What a command says of what ended it."""
-    return str(fault) if isinstance(fault, Fault) else f"aprs-net: {said(fault)}"
-
-
 NO_ROOM = (errno.ENOSPC, errno.EDQUOT)
 
 
-def said(fault: OSError) -> str:
-    """A system's fault in words: the file, where there is one, and what is wrong. Files without a
-    name are temporary ones."""
-    words = fault.strerror or str(fault)
-    if fault.filename is not None:
-        return f"{fault.filename}: {words}"
-    if fault.errno not in NO_ROOM:
-        return words
+def words_of(fault: Union[Fault, OSError]) -> str:
+    """What a command says of what ended it. Files without a name are temporary ones."""
+    if isinstance(fault, Fault):
+        return str(fault)
+    if fault.filename is not None or fault.errno not in NO_ROOM:
+        return f"aprs-net: {said(fault)}"
     import tempfile  # only where something is wrong
 
-    return f"{tempfile.gettempdir()}: {words} (TMPDIR names another folder for temporary files)"
+    return (f"aprs-net: {tempfile.gettempdir()}: {said(fault)} (TMPDIR names another folder for "
+            "temporary files)")
+
+
+def said(fault: OSError) -> str:
+    """A system's fault in words: the file, where there is one, and what is wrong."""
+    words = fault.strerror or str(fault)
+    return f"{fault.filename}: {words}" if fault.filename is not None else words
