@@ -3,7 +3,7 @@ use Rattle.std.specs.Prelude.{ℕ, Bool, true, false, List, [], Option, None, co
 use Rattle.aprs_log.specs.Reception.{Received}
 use Rattle.aprs_laws.specs.Examples.{n0call, reception_at, rx1}
 use Rattle.aprs_messages.specs.Answers.{Reply}
-use Rattle.aprs_messages.specs.Copies.{Message}
+use Rattle.aprs_summary.specs.Messages.{Message}
 use Rattle.aprs_messages.specs.Runs.{Sent}
 
 -- What N0CALL-7 sends to an addressee, with an id or none.

@@ -1,5 +1,5 @@
 use Rattle.aprs_lists.proofs.Common.{PutSoFar-broken, PutSoFar-more, PutSoFar-none}
-use Rattle.aprs_lists.proofs.stations.StationWalkLines.put_lines.Goals as goal
+use Rattle.aprs_lists.proofs.stations.put_stations.Goals as goal
 
 pub loop-station-init : goal.loop-station-init
 loop-station-init g c = PutSoFar-none _ _
