@@ -18,7 +18,7 @@ use Rattle.aprs_rows.proofs.Cases.{by_order}
 use Rattle.aprs_summary.proofs.Collected.{Adds, SoFar}
 use Rattle.aprs_summary.specs.Reports.{has_source}
 use Rattle.aprs_summary.specs.StationRows.{source_of}
-use Rattle.aprs_lists.specs.Activity.{AreActivities, frames_passed, heard_by, heard_last, kept_of, later, latest, passed_by, passes_on, rows_from, with_row}
+use Rattle.aprs_lists.specs.Activity.{AreActivities, frames_passed, heard_kept, heard_last, kept_of, later, latest, passed_kept, passes_on, rows_from, with_row}
 use Rattle.aprs_lists.specs.declared.activity.Activity.{Activity}
 
 -- ---- one moment more
@@ -43,8 +43,8 @@ module _ (rows : List Row) (x : Row) (call : Call) where
       ∙ ap (λ (c : Bool). rows_from call rows ++ cond c (x ∷ []) []) h
 
   heard_more : has_source call (row_key x) ≡ true → (known : Option Activity)
-      → heard_by known ≡ heard_last call rows
-      → heard_last call (rows ++ x ∷ []) ≡ heard_by (Some (with_row known (last_moment x) (passes_on x)))
+      → heard_kept known ≡ heard_last call rows
+      → heard_last call (rows ++ x ∷ []) ≡ heard_kept (Some (with_row known (last_moment x) (passes_on x)))
   heard_more h known e =
       ap (λ (l : List Row). latest (map last_moment l)) (rows_more true h)
       ∙ ap latest (map-append last_moment (rows_from call rows) (x ∷ []))
@@ -52,15 +52,15 @@ module _ (rows : List Row) (x : Row) (call : Call) where
       ∙ ap (λ o. Some (later (last_moment x) o)) (sym e)
 
   passed_more : has_source call (row_key x) ≡ true → (known : Option Activity)
-      → passed_by known ≡ frames_passed call rows
+      → passed_kept known ≡ frames_passed call rows
       → frames_passed call (rows ++ x ∷ [])
-      ≡ passed_by (Some (with_row known (last_moment x) (passes_on x)))
+      ≡ passed_kept (Some (with_row known (last_moment x) (passes_on x)))
   passed_more h known e =
       ap (count_by passes_on) (rows_more true h)
       ∙ sum_by-append (λ (r : Row). cond (passes_on r) 1 0) (rows_from call rows) (x ∷ [])
       ∙ one (passes_on x) where
         one : (b : Bool) → frames_passed call rows + (cond b 1 0 + 0)
-            ≡ passed_by known + (if b then 1 else 0)
+            ≡ passed_kept known + (if b then 1 else 0)
         one true = omega (arith, e)
         one false = omega (arith, e)
 
@@ -133,25 +133,25 @@ module _ (rows : List Row) (es : List (Call × Activity)) (all : AreActivities r
   abbrev entries : List (Call × Activity)
   entries = insert_entry call_cmp es (source_of x) after
 
-  heard_after : (call : Call) → heard_by (kept_of call entries) ≡ heard_last call (rows ++ x ∷ [])
+  heard_after : (call : Call) → heard_kept (kept_of call entries) ≡ heard_last call (rows ++ x ∷ [])
   heard_after call = by_test (is_eq (call_cmp (source_of x) call))
-      (λ t. subst (λ (c : Call). heard_by (kept_of c entries) ≡ heard_last c (rows ++ x ∷ []))
+      (λ t. subst (λ (c : Call). heard_kept (kept_of c entries) ≡ heard_last c (rows ++ x ∷ []))
       (same_call (source_of x) call t)
-      (ap heard_by (put_own (source_of x) es after)
+      (ap heard_kept (put_own (source_of x) es after)
       ∙ sym (heard_more rows x (source_of x) own_row (kept_of (source_of x) es)
       (all.heard (source_of x)))))
-      (λ t. ap heard_by (put_other (source_of x) call es after t) ∙ all.heard call
+      (λ t. ap heard_kept (put_other (source_of x) call es after t) ∙ all.heard call
       ∙ sym (heard_same rows x call t))
 
   passed_after : (call : Call)
-      → passed_by (kept_of call entries) ≡ frames_passed call (rows ++ x ∷ [])
+      → passed_kept (kept_of call entries) ≡ frames_passed call (rows ++ x ∷ [])
   passed_after call = by_test (is_eq (call_cmp (source_of x) call))
-      (λ t. subst (λ (c : Call). passed_by (kept_of c entries) ≡ frames_passed c (rows ++ x ∷ []))
+      (λ t. subst (λ (c : Call). passed_kept (kept_of c entries) ≡ frames_passed c (rows ++ x ∷ []))
       (same_call (source_of x) call t)
-      (ap passed_by (put_own (source_of x) es after)
+      (ap passed_kept (put_own (source_of x) es after)
       ∙ sym (passed_more rows x (source_of x) own_row (kept_of (source_of x) es)
       (all.passed (source_of x)))))
-      (λ t. ap passed_by (put_other (source_of x) call es after t) ∙ all.passed call
+      (λ t. ap passed_kept (put_other (source_of x) call es after t) ∙ all.passed call
       ∙ sym (passed_same rows x call t))
 
   pub one_row_more : (new : List (Call × Activity)) → new ≡ entries
@@ -168,7 +168,7 @@ length_filter p (x ∷ xs) = by_test (p x)
 
 pub room_for_one : (all rest later : List Row) (x : Row) (es : List (Call × Activity)) (call : Call)
     → SoFar (λ (done : List Row). AreActivities done es) all rest → rest ≡ x ∷ later
-    → passed_by (kept_of call es) < length all
+    → passed_kept (kept_of call es) < length all
 room_for_one all rest later x es call s e =
     let same = s.holds.passed call in
     let few = count_by-le-length passes_on (rows_from call s.done) in

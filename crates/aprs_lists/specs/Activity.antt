@@ -39,13 +39,13 @@ frames_passed call rows = count_by passes_on (rows_from call rows)
 -- ---- in the code
 
 -- When a station was heard last, by what is kept of it.
-abbrev pub heard_by : Option Activity → Option ℕ
-heard_by known = option_map (λ (a : Activity). a.heard) known
+abbrev pub heard_kept : Option Activity → Option ℕ
+heard_kept known = option_map (λ (a : Activity). a.heard) known
 
 -- How many frames of others it passed on, by what is kept of it.
-abbrev pub passed_by : Option Activity → ℕ
-passed_by None = 0
-passed_by (Some a) = a.passed
+abbrev pub passed_kept : Option Activity → ℕ
+passed_kept None = 0
+passed_kept (Some a) = a.passed
 
 -- What is kept of a station among these entries, if anything is.
 abbrev pub kept_of : Call → List (Call × Activity) → Option Activity
@@ -54,11 +54,11 @@ kept_of call es = lookup (is_at (call_cmp call)) es
 -- What is kept of a station after one more row of this last moment.
 abbrev pub with_row : Option Activity → ℕ → Bool → Activity
 with_row known moment passes = record {
-  heard = later moment (heard_by known);
-  passed = passed_by known + (if passes then 1 else 0);
+  heard = later moment (heard_kept known);
+  passed = passed_kept known + (if passes then 1 else 0);
 }
 
 -- The entries say of each station how active it was in these rows.
 pub record AreActivities (rows : List Row) (es : List (Call × Activity)) : Type 0 where
-  pub heard : (call : Call) → heard_by (kept_of call es) ≡ heard_last call rows
-  pub passed : (call : Call) → passed_by (kept_of call es) ≡ frames_passed call rows
+  pub heard : (call : Call) → heard_kept (kept_of call es) ≡ heard_last call rows
+  pub passed : (call : Call) → passed_kept (kept_of call es) ≡ frames_passed call rows

@@ -15,7 +15,7 @@ use Rattle.aprs_summary.specs.Reports.{report_of}
 use Rattle.aprs_summary.specs.Stations.{ReportsStations}
 use Rattle.aprs_summary.specs.declared.lists.station.Station.{Station}
 use Rattle.aprs_table.specs.Cells.{stamp_field}
-use Rattle.aprs_lists.specs.Activity.{frames_passed, heard_by, heard_last, kept_of, passed_by}
+use Rattle.aprs_lists.specs.Activity.{frames_passed, heard_kept, heard_last, kept_of, passed_kept}
 use Rattle.aprs_lists.specs.Lines.{tabbed_line}
 use Rattle.aprs_lists.specs.Things.{placed_fields}
 use Rattle.aprs_lists.specs.Told.{moment_or_nothing}
@@ -99,7 +99,7 @@ pub record IsStationsTable (book : BookValue) (text : List ℕ) : Type 0 where
 
 -- The line of a station, by what is kept of how active it was.
 abbrev pub station_line_by : Station → Option Activity → List ℕ
-station_line_by x known = tabbed_line (station_fields x (heard_by known) (passed_by known))
+station_line_by x known = tabbed_line (station_fields x (heard_kept known) (passed_kept known))
 
 -- The line of a station, with what is kept of it among these entries.
 abbrev pub station_line_in : List (Call × Activity) → Station → List ℕ

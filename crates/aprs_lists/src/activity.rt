@@ -47,7 +47,7 @@ fn take_row<A: Allocator + Copy>(
     map: &mut BTreeMap<Callsign, Activity, A>,
     row: &RowView<'_>,
 ) -> Result<(), Memory>
-    requires { Spec.passed_by (Spec.kept_of (source_of row.now) map.old.entries)
+    requires { Spec.passed_kept (Spec.kept_of (source_of row.now) map.old.entries)
         < 18446744073709551615 }
     ensures { OnOk result (map.new.entries ≡ insert_entry call_cmp map.old.entries
         (source_of row.now) (Spec.with_row (Spec.kept_of (source_of row.now) map.old.entries)
@@ -63,7 +63,7 @@ fn take_row<A: Allocator + Copy>(
 
 /// What is kept of a station after one more row that was heard last at this moment.
 fn with_row(known: Option<&Activity>, moment: Moment, passes: bool) -> Activity
-    requires { Spec.passed_by (option_copied known) < 18446744073709551615 }
+    requires { Spec.passed_kept (option_copied known) < 18446744073709551615 }
     ensures { result ≡ Spec.with_row (option_copied known.entry) moment passes }
 {
     let more = if passes { 1 } else { 0 };

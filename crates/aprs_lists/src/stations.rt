@@ -8,7 +8,7 @@ ghost use Rattle.aprs_laws.specs.Gap.{millis_of};
 ghost use Rattle.aprs_summary.specs.Stations.{ReportsStations};
 ghost use Rattle.aprs_summary.specs.declared.lists.station.Station.{Station};
 ghost use Rattle.aprs_table.specs.Cells.{cell_text};
-ghost use Rattle.aprs_lists.specs.Activity.{heard_by, passed_by};
+ghost use Rattle.aprs_lists.specs.Activity.{heard_kept, passed_kept};
 ghost use Rattle.aprs_lists.specs.Stations as Spec;
 ghost use Rattle.aprs_lists.specs.Told.{moment_or_nothing};
 
@@ -176,8 +176,8 @@ fn put_station<W: Write>(
 /// When a station was heard last, and how many frames of others it passed on; never, and none,
 /// where nothing is kept of it.
 fn heard_and_passed(activity: Option<&Activity>) -> (Option<Moment>, u64)
-    ensures heard { result.0 ≡ heard_by (option_copied activity.entry) }
-    ensures passed { result.1 ≡ passed_by (option_copied activity.entry) }
+    ensures heard { result.0 ≡ heard_kept (option_copied activity.entry) }
+    ensures passed { result.1 ≡ passed_kept (option_copied activity.entry) }
 {
     match activity {
         Some(activity) => (Some(activity.heard), activity.passed),
