@@ -6,6 +6,7 @@ import path from "node:path";
 import { test } from "node:test";
 import zlib from "node:zlib";
 import { boxAround, carriedIn } from "../../page/src/intake/embedded-tiles.js";
+import { patience, ServedFile } from "../../page/src/intake/served-tiles.js";
 import { openMbtiles } from "../../page/src/formats/mbtiles.js";
 import { entriesOf, numberOf, openPmtiles } from "../../page/src/formats/pmtiles.js";
 import { openSqlite } from "../../page/src/formats/sqlite.js";
@@ -117,6 +118,33 @@ test("the squares of an archive are read by slices", async () => {
       }
     }
     assert.equal(await it.read(4, 0, 0), null);
+  }
+});
+test("an archive of a server is asked for by slices, again where it was away", async () => {
+  const blob = archive(), asked = [], own = globalThis.fetch;
+  patience.again = 1;
+  let away = 1, isOther = false;
+  globalThis.fetch = async (url, { headers }) => {
+    const [, begin, last] = /^bytes=(\d+)-(\d+)$/.exec(headers.Range).map(Number);
+    asked.push([begin, last]);
+    if (away-- > 0) throw new TypeError("away");
+    return new Response(isOther ? "x" : blob.slice(begin, last + 1), { status: 206 });
+  };
+  try {
+    const it = await openPmtiles(new ServedFile("http://base/tiles/lakes.pmtiles", blob.size));
+    assert.deepEqual(asked.slice(0, 2), [[0, 126], [0, 126]]);
+    for (const [z, x, y] of squares(2, 4)) {
+      const found = await it.read(z, x, y);
+      assert.deepEqual([...new Uint8Array(await found.arrayBuffer())],
+        [...PNG, numberOf(z, x, y)]);
+    }
+    assert.ok(asked.every(([begin, last]) => last - begin < 1000));
+    away = patience.tries;
+    await assert.rejects(it.read(0, 0, 0), /away/);
+    isOther = true;
+    await assert.rejects(it.read(0, 0, 0), /something else/);
+  } finally {
+    globalThis.fetch = own;
   }
 });
 test("an archive that can't be drawn says why", async () => {

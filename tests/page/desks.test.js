@@ -2,9 +2,11 @@
 
 import assert from "node:assert/strict";
 import { test } from "node:test";
-import { connectionWords, siteWords } from "../../page/src/app/net-panel.js";
+import { connectionWords, nowOf, siteWords } from "../../page/src/app/net-panel.js";
+import { courseFor, most } from "../../page/src/desks/course.js";
 import { Journal, spelling } from "../../page/src/desks/journal.js";
 import { eventsIn, goneOn, patience, Stream, toldBy } from "../../page/src/desks/stream.js";
+import { readBase } from "../../page/src/formats/read-vector.js";
 import { OwnLines } from "../../page/src/ics309/own-lines.js";
 
 const bytes = text => new TextEncoder().encode(text);
@@ -112,11 +114,11 @@ test("desks that were away have the same lines, in whatever order they hear of t
   assert.deepEqual([server.size, one.waiting.size], [0, 1]);
   // the browser was closed, and its lines are there
   const again = new Journal("ONE", send, store);
-  assert.deepEqual(again.lines, [LINE]);
+  assert.deepEqual(again.lines, [{ ...LINE, desk: "ONE" }]);
   isThere = true;
   await again.sendAll();
   await two.sendAll();
-  two.removeLine({ ...LINE, text: "wrong" });
+  two.removeLines([{ ...LINE, text: "wrong" }]);
   await two.sendAll();
   const journal = [...server];
   again.hear(journal.join("\n"));
@@ -211,8 +213,39 @@ test("the page says how it is connected, and how its sites are", () => {
   assert.deepEqual(connectionWords({ net: {}, journal: null, isThere: true }),
     ["connected, to read"]);
   const site = { clock: 0, refused: 0, day: "" };
-  assert.deepEqual(siteWords({ sites: { A: site, B: { ...site, clock: 7200 },
-    C: { ...site, refused: 2, day: "2099-01-01" } } }),
+  assert.deepEqual(siteWords({ days: ["2024-06-20", "2024-06-21", "2024-06-22"],
+    sites: { A: site, B: { ...site, clock: 7200 },
+      C: { ...site, refused: 2, day: "2099-01-01" }, D: { ...site, day: "1970-01-01" } } }),
   ["the clock of B is 2 h ahead", "C has lines of 2099-01-01, which is to come",
-    "2 lines of C refused"]);
+    "2 lines of C refused", "D has lines of 1970-01-01, which is today by its clock"]);
+});
+test("what a desk has set counts before what the server was begun with, also nothing", () => {
+  const net = { title: "Race", silent: 30, roster: "Q0A Sweep", courses: ["{}", "{}"],
+    tiles: ["lakes.pmtiles", "hills.mbtiles"], days: [], sites: {} };
+  assert.deepEqual(nowOf(net, new Map()), { title: "Race", silent: "30", roster: "Q0A Sweep",
+    courses: ["{}", "{}"], tiles: "lakes.pmtiles" });
+  assert.deepEqual(nowOf(net, new Map([["title", "Day 2"], ["silent", "5"], ["roster", ""],
+    ["course", ""], ["tiles", ""]])), { title: "Day 2", silent: "5", roster: "", courses: [""],
+    tiles: "" });
+  assert.equal(nowOf({ ...net, tiles: [] }, new Map()).tiles, "");
+});
+test("a course that an entry can't carry is thinned, and its ends stay", () => {
+  const courseOf = n => JSON.stringify({ type: "FeatureCollection", features: [
+    { type: "Feature", properties: { name: "finish" },
+      geometry: { type: "Point", coordinates: [-3.5, 54.5] } },
+    { type: "Feature", properties: {}, geometry: { type: "LineString", coordinates:
+      Array.from({ length: n }, (_, k) => [-3.5 + k / 123456.7, 54.5 + k / 98765.4]) } }] });
+  assert.equal(courseFor(courseOf(10)), courseOf(10));
+  const long = courseOf(60000), text = courseFor(long), base = readBase(text);
+  assert.ok(text.length <= most.letters && long.length > 1e6);
+  assert.deepEqual([base.points.length, base.points[0].name, base.lines.length], [1, "finish", 1]);
+  const [[line], [whole]] = [base.lines, readBase(long).lines];
+  assert.ok(line.length / 3 > 4000);
+  for (const k of [0, 1, 2]) {
+    assert.ok(Math.abs(line[k] - whole[k]) < 1e-6);
+    assert.ok(Math.abs(line.at(k - 3) - whole.at(k - 3)) < 1e-6);
+  }
+  assert.throws(() => courseFor("Q0A Sweep"));
+  const many = { type: "MultiPoint", coordinates: Array.from({ length: 60000 }, () => [1, 2]) };
+  assert.throws(() => courseFor(JSON.stringify(many)), /too many points/);
 });

@@ -40,6 +40,15 @@ export function bring(name, text, spelling = "") {
   readBrought();
   refresh();
 }
+/**
+ * Takes away what was brought by names of this form.
+ * @param {RegExp} form
+ */
+export function takeAway(form) {
+  page.brought = page.brought.filter(it => !form.test(it.name));
+  readBrought();
+  refresh();
+}
 const isBad = (/** @type {Brought} */ { fault, roster }) =>
   fault !== "" || roster !== null && roster.faults.length > 0;
 /**
@@ -82,14 +91,14 @@ export function takeAllAway() {
   refresh();
 }
 /**
- * Takes the operator's own lines of the pages of events.
+ * Has the lines of operators in the pages of events asked for.
  * @param {{ name: string, lines: import("../ics309/own-lines.js").Line[] }[]} pages
  */
 export function bringLines(pages) {
-  const lines = pages.flatMap(it => it.lines);
-  const { form } = widgets();
-  form.tell(page.own.bring(lines));
-  tell(pages.map(it =>
-    `${printable(it.name)}: ${count(it.lines.length, "line")} of your own for ICS-309`).join("; "));
-  form.draw();
+  const some = pages.filter(it => it.lines.length);
+  for (const { name, lines } of some) page.own.offer(name, lines);
+  tell(pages.map(({ name, lines }) => `${printable(name)}: ${lines.length
+    ? `${count(lines.length, "line")} of another desk, which the form ICS-309 offers`
+    : "no lines for ICS-309"}`).join("; "));
+  widgets().form.draw();
 }

@@ -1,6 +1,7 @@
 // @ts-check
 // The maps and the roster that a page has, its own and those that the reader brought.
 
+import { callsBefore } from "./dealt.js";
 import { page, shownNow, tell, widgets } from "./state.js";
 import { readBase } from "../formats/read-vector.js";
 import { joined, Names, readRoster } from "../net/roster.js";
@@ -26,7 +27,7 @@ export function readBrought() {
     else if (it.roster) rosters.push(it.roster);
   }
   page.roster = { list: joined(rosters), faults: rosters[0].faults };
-  page.settings.names = new Names(page.roster.list);
+  page.settings.names = new Names(page.roster.list, callsBefore());
   layers.vectors.all = bases;
   readShore(data.coast || "");
   layers.tiles.carry(data.tiles || NO_TILES);

@@ -87,7 +87,7 @@ export class Mbtiles {
 }
 /**
  * Opens a file of MBTiles; says why where its tiles can't be drawn.
- * @param {Blob} file
+ * @param {import("./sliced.js").Sliced} file
  */
 export async function openMbtiles(file) {
   const tiles = new Mbtiles(await openSqlite(file));

@@ -1,6 +1,7 @@
 // @ts-check
 // The page of the event that is saved, the same that `aprs-net page` makes of these files.
 
+import { marksText } from "../app/dealt.js";
 import { page, shownNow, widgets } from "../app/state.js";
 import { unpacked } from "../formats/gunzip.js";
 import { contents } from "./bundle.js";
@@ -36,7 +37,8 @@ export function dataOf() {
   data.maps = [...data.maps, ...bases.map(it => it.text)];
   if (rosters.length + (data.roster ? 1 : 0) > 1) data.roster = rosterText(page.roster.list);
   else if (rosters.length) data.roster = rosters[0].text;
-  if (page.own.lines.length) data.lines = page.own.lines;
+  if (page.own.lines.length) data.lines = page.own.carried;
+  if (page.marks?.entries.size) data.marks = marksText();
   return data;
 }
 /**

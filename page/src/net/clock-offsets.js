@@ -14,6 +14,12 @@ import { byLetters } from "../util/text.js";
  * transmissions; or, where no two agree, how far from each other one.
  * @typedef {{ by: number, of: number, from: Pair[] }} Clock
  */
+/**
+ * Whether a clock is known to be wrong, and by how much.
+ * @param {Clock | null} clock @param {number} gap
+ * @returns {clock is Clock}
+ */
+export const isOff = (clock, gap) => clock !== null && Math.abs(clock.by) > gap;
 /** Fewer transmissions than these say nothing of a clock. */
 export const FEWEST = 2;
 

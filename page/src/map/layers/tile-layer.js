@@ -110,6 +110,12 @@ export class TileLayer {
     this.made.clear();
     this.levels();
   }
+  /** @param {string} name */
+  close(name) {
+    this.archives.delete(name);
+    this.made.clear();
+    this.levels();
+  }
   /** @param {number} least @param {number} most */
   widen(least, most) {
     this.least = Math.min(this.least, least);

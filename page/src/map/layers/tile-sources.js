@@ -39,17 +39,35 @@ export class TileSources {
    * @param {File} file
    */
   async take(file) {
+    if (await this.open(file.name, file)) return true;
+    const head = new Uint8Array(await file.slice(0, 16).arrayBuffer());
+    if (isPicture(head)) return this.wait(file);
+    if (!WORLD.test(file.name)) return false;
+    this.takeWorld(stemOf(file.name), await file.slice(0, 1000).text());
+    this.show();
+    return true;
+  }
+  /**
+   * Opens an archive of tiles; says whether it is one.
+   * @param {string} name
+   * @param {import("../../formats/sliced.js").Sliced} file
+   */
+  async open(name, file) {
     const head = new Uint8Array(await file.slice(0, 16).arrayBuffer());
     const begin = String.fromCharCode(...head);
-    if (begin.startsWith("PMTiles")) this.tiles.open(file.name, await openPmtiles(file));
-    else if (begin.startsWith("SQLite format 3"))
-      this.tiles.open(file.name, await openMbtiles(file));
-    else if (isPicture(head)) return this.wait(file);
-    else if (WORLD.test(file.name))
-      this.takeWorld(stemOf(file.name), await file.slice(0, 1000).text());
+    if (begin.startsWith("PMTiles")) this.tiles.open(name, await openPmtiles(file));
+    else if (begin.startsWith("SQLite format 3")) this.tiles.open(name, await openMbtiles(file));
     else return false;
     this.show();
     return true;
+  }
+  /**
+   * Takes an archive away.
+   * @param {string} name
+   */
+  close(name) {
+    this.tiles.close(name);
+    this.show();
   }
   /**
    * Takes a picture, whose corners its world file has, or which are asked for; says whether it is

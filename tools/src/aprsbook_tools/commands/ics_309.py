@@ -7,7 +7,6 @@ from typing import Iterable, Iterator, List, Sequence, Tuple
 from aprsbook_tools import arguments, stderr, table_output
 from aprsbook_tools.formats import moments
 from aprsbook_tools.formats.spreadsheet import Cell
-from aprsbook_tools.reports.alerts import state_of
 from aprsbook_tools.reports.roster import Expected, Roster, call_of, roster_of
 from aprsbook_tools.reports.table import Message
 from aprsbook_tools.serving import entries
@@ -36,7 +35,9 @@ def station_of(text: str) -> Expected:
 DESCRIPTION = """\
 A line for each message at the moment when it was first heard (UTC): from whom, its number, to whom,
 whether it was acknowledged (ack), rejected (rej) or not answered (no ack), and its text. A message
-that was sent again under its number is one line. Without a format it is the form on paper."""
+that was sent again under its number within half an hour is one line. Messages and answers count
+that a gate passed to the air. Queries and definitions of telemetry are left out. Without a format
+it is the form on paper."""
 EXAMPLES = [
     ("the form of an evening", "aprs-net ics-309 --net 'Fell race' --from 18:00 logs"),
     ("what a station sent or got, for a spreadsheet",
@@ -75,11 +76,12 @@ def named_by(journals: Journals, roster: Roster) -> Roster:
 
 
 def chosen(messages: Sequence[Message], args: argparse.Namespace) -> List[Message]:
-    """The messages of a station, by their first moment."""
+    """The traffic of a station, by its first moment."""
 
     def is_asked(it: Message) -> bool:
         station = args.station
-        return station is None or station.is_of(it.source) or station.is_of(it.addressee)
+        return it.is_traffic and (
+            station is None or station.is_of(it.source) or station.is_of(it.addressee))
 
     return in_order(filter(is_asked, messages))
 
@@ -93,7 +95,8 @@ def table_of(messages: Sequence[Message], roster: Roster, has_desks: bool = Fals
              ) -> Tuple[List[str], List[List[Cell]]]:
     """The log as a table, with the state as the table has it, with desks and tactical names."""
     rows: List[List[Cell]] = [
-        [it.first, it.source, it.id, it.addressee, it.text, state_of(it)] for it in messages]
+        [it.first, it.source, it.said_number, it.addressee, it.text, it.final_state]
+        for it in messages]
     for row, it in zip(rows, messages):
         row += [getattr(it, DESK, "")] if has_desks else []
         row += [roster.name_of(of) for of in (it.source, it.addressee) if roster.has_names]
@@ -109,9 +112,9 @@ def form_of(messages: Sequence[Message], roster: Roster, net: str) -> str:
             [
                 time,
                 roster.said(it.source),
-                it.id,
+                it.said_number,
                 roster.said(it.addressee),
-                ANSWERS.get(state_of(it), ""),
+                ANSWERS.get(it.final_state, ""),
                 it.text,
             ]
         )

@@ -24,7 +24,7 @@ KINDS: Dict[str, Dict[str, int]] = {
     "note": {"call": 9, "text": 2000},  # what desks should know of a station
     "setting": {"name": 20, "value": 200_000},  # of the net, for all its pages
 }
-SETTINGS = ("title", "roster", "course", "silent")  # the names of settings
+SETTINGS = ("title", "roster", "course", "silent", "tiles")  # the names of settings
 
 
 def spelling(entry: Any) -> bytes:
