@@ -1,5 +1,5 @@
 -- What is kept of stations says how active they were in the rows so far.
-use Rattle.aprs_lists.proofs.Common.{◌≡◌, ◌∙◌, ◌++◌, ◌∷◌, [], ℕ, Bool, List, None, Option, Some, ap, arith, length, map, refl, subst, sym, call_total, Row}
+use Rattle.aprs_lists.proofs.Common.{◌≡◌, ◌∙◌, ◌++◌, ◌∷◌, [], ℕ, Bool, List, None, Option, Some, ap, append-nil, arith, length, map, refl, subst, sym, call_total, Row}
 use Rattle.std.proofs.Common.{◌+◌, ◌<◌, ◌≤◌, cond, false, max, true, if◌then◌else◌, length-append}
 use Rattle.std.proofs.lemmas.Cmp.{tied_itself}
 use Rattle.std.proofs.lemmas.List.{map-append}
@@ -59,7 +59,7 @@ module _ (rows : List Row) (x : Row) (call : Call) where
       ap (count_by passes_on) (rows_more true h)
       ∙ sum_by-append (λ (r : Row). cond (passes_on r) 1 0) (rows_from call rows) (x ∷ [])
       ∙ one (passes_on x) where
-        one : (b : Bool) → frames_passed call rows + (cond b 1 0 + 0)
+        one : (b : Bool) → frames_passed call rows + (0 + cond b 1 0)
             ≡ passed_kept known + (if b then 1 else 0)
         one true = omega (arith, e)
         one false = omega (arith, e)
@@ -110,7 +110,7 @@ put_other call other (e ∷ es) a n = by_order (call_cmp call e.0)
     (λ o. rw (o, turned_call call other ∙ n) refl)
     (λ o. (let far : is_eq (call_cmp other e.0) ≡ false =
         turned_call e.0 other ∙ (ap (λ (c : Call). is_eq (call_cmp c other)) (sym (call_exact call e.0 o)) ∙ n) in
-        rw (o, turned_call call other ∙ n, far) refl))
+        rw (o, far) refl))
     (λ o. by_test (is_eq (call_cmp other e.0))
     (λ t. rw (o, t) refl)
     (λ t. rw (o, t) (put_other call other es a n)))

@@ -247,13 +247,13 @@ station_line rows x call p s =
     let passed = frames_passed x.call rows in
     let status = status_fields x.status ++ activity_fields heard passed in
     record {
-      fields = station_fields x heard passed;
+      fields = station_fields x (activity_fields heard passed);
       count = ap (λ (n : ℕ). suc (suc n))
           (length-append (position_fields x.position) status
           ∙ ap₂ (λ (m n : ℕ). m + n) at.count
           (length-append (status_fields x.status) (activity_fields heard passed)
           ∙ ap (λ (n : ℕ). n + 2) of.count));
-      are_fields = are_fields (station_fields x heard passed) (
+      are_fields = are_fields (station_fields x (activity_fields heard passed)) (
         free_call x.call call,
         (
           free_decimal x.transmissions,

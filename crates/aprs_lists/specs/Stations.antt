@@ -74,15 +74,19 @@ abbrev pub activity_fields : Option ℕ → ℕ → List (List ℕ)
 activity_fields heard passed = moment_or_nothing heard ∷ decimal passed ∷ []
 
 -- The callsign of a station, the number of its transmissions, its last known position and status,
--- and how active it was.
-abbrev pub station_fields : Station → Option ℕ → ℕ → List (List ℕ)
-station_fields x heard passed = call_text x.call ∷ decimal x.transmissions
-    ∷ position_fields x.position ++ (status_fields x.status ++ activity_fields heard passed)
+-- and these fields of how active it was.
+abbrev pub station_fields : Station → List (List ℕ) → List (List ℕ)
+station_fields x activity = call_text x.call ∷ decimal x.transmissions
+    ∷ position_fields x.position ++ (status_fields x.status ++ activity)
+
+-- The line of a station, with these fields of how active it was.
+abbrev pub station_line_with : Station → List (List ℕ) → List ℕ
+station_line_with x activity = tabbed_line (station_fields x activity)
 
 -- The line of a station of these rows.
 abbrev pub station_table_line : List Row → Station → List ℕ
 station_table_line rows x =
-    tabbed_line (station_fields x (heard_last x.call rows) (frames_passed x.call rows))
+    station_line_with x (activity_fields (heard_last x.call rows) (frames_passed x.call rows))
 
 -- The names of the columns, and one line for each station of these rows, in their order.
 abbrev pub stations_table : List Row → List Station → List ℕ
@@ -99,7 +103,8 @@ pub record IsStationsTable (book : BookValue) (text : List ℕ) : Type 0 where
 
 -- The line of a station, by what is kept of how active it was.
 abbrev pub station_line_by : Station → Option Activity → List ℕ
-station_line_by x known = tabbed_line (station_fields x (heard_kept known) (passed_kept known))
+station_line_by x known =
+    station_line_with x (activity_fields (heard_kept known) (passed_kept known))
 
 -- The line of a station, with what is kept of it among these entries.
 abbrev pub station_line_in : List (Call × Activity) → Station → List ℕ

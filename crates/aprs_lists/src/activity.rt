@@ -35,7 +35,7 @@ pub(crate) fn activities_of<A: Allocator + Copy>(
 {
     let mut map = BTreeMap::new(alloc);
     for row in rows {
-        take_row(&mut map, &row)?;
+        count_row(&mut map, &row)?;
     }
     Ok(map)
 }
@@ -43,7 +43,7 @@ pub(crate) fn activities_of<A: Allocator + Copy>(
 /// Adds one more row to what is kept of its station, which has to have passed on fewer than
 /// 2^64 - 1 frames so far.
 #[tactic(auto, unfolding(aprs_laws::specs::Key::key_of))]
-fn take_row<A: Allocator + Copy>(
+fn count_row<A: Allocator + Copy>(
     map: &mut BTreeMap<Callsign, Activity, A>,
     row: &RowView<'_>,
 ) -> Result<(), Memory>

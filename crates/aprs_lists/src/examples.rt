@@ -149,7 +149,7 @@ pub fn stations_are_told()
 {}
 
 /// A station was heard last at the latest of its rows' last moments, whatever they say.
-#[tactic(auto, unfolding(aprs_laws::specs::Key::key_of, aprs_details::specs::ThirdParty::passed_of))]
+#[tactic(auto, unfolding(aprs_laws::specs::Key::key_of))]
 pub fn stations_are_heard_last()
     ensures none { latest [] ≡ None }
     ensures in_the_middle { latest (5 ∷ 9 ∷ 7 ∷ []) ≡ Some 9 }
@@ -160,7 +160,6 @@ pub fn stations_are_heard_last()
 {}
 
 /// A station passed on each frame that begins as a third-party frame, whoever its source is.
-#[tactic(auto, unfolding(aprs_laws::specs::Key::key_of, aprs_details::specs::ThirdParty::passed_of))]
 pub fn stations_pass_on_frames()
     ensures one_of_two { frames_passed (n0call 8) active_rows ≡ 1 }
     ensures none { frames_passed (n0call 7) active_rows ≡ 0 }

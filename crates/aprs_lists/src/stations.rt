@@ -13,7 +13,7 @@ ghost use Rattle.aprs_lists.specs.Stations as Spec;
 ghost use Rattle.aprs_lists.specs.Told.{moment_or_nothing};
 
 use crate::activity::{Activity, activities_of};
-use crate::line::put_line;
+use crate::line::put_long_line;
 use crate::table::{Lines, write_table};
 use crate::told::moment_cell;
 use aprs_ax25::Callsign;
@@ -164,13 +164,34 @@ fn put_station<W: Write>(
         (Spec.station_line_by station.now (option_copied activity.entry)) }
 {
     let (heard, passed) = heard_and_passed(activity);
-    let (mut buffer, mut passed_buffer) = (Buffer::new(), Buffer::new());
+    let mut buffer = Buffer::new();
+    let passed = buffer.format(passed).as_bytes();
+    let activity = activity_cells(heard, passed);
+    put_known(out, station, &activity)
+}
+
+/// When a station was heard last, and the number of frames of others that it passed on.
+fn activity_cells<'a>(heard: Option<Moment>, passed: &'a [u8]) -> [Cell<'a>; 2]
+    ensures { map cell_text result ≡ moment_or_nothing heard ∷ passed.now ∷ [] }
+{
+    [moment_cell(heard), Cell::Plain(passed)]
+}
+
+/// Puts the line of a station, with these last fields. Fails where the output is refused.
+fn put_known<W: Write>(
+    out: &mut Outlet<'_, W>,
+    station: &Station<'_>,
+    activity: &[Cell<'_>],
+) -> Result<(), WriteFault>
+    ensures { Puts W.contents result out.old out.new
+        (Spec.station_line_with station.now (map cell_text activity.now)) }
+{
+    let mut buffer = Buffer::new();
     let transmissions = buffer.format(station.transmissions).as_bytes();
-    let passed = passed_buffer.format(passed).as_bytes();
     let source = Cell::Call(station.call.copy());
     let position = position_cells(transmissions, &station.position);
-    let status = status_cells(&station.status, heard, passed);
-    put_line(out, &source, &position, &status)
+    let status = status_cells(&station.status);
+    put_long_line(out, &source, &position, &status, activity)
 }
 
 /// When a station was heard last, and how many frames of others it passed on; never, and none,
@@ -242,56 +263,39 @@ fn heard_position<'a>(transmissions: &'a [u8], heard: &Heard<'a>) -> [Cell<'a>; 
     }
 }
 
-/// The last known status of a station, or nothing of it where none is known; when it was heard
-/// last, and how many frames of others it passed on.
-fn status_cells<'a>(
-    known: &Option<Heard<'a>>,
-    heard: Option<Moment>,
-    passed: &'a [u8],
-) -> [Cell<'a>; 6]
-    ensures { map cell_text result
-        ≡ Spec.status_fields known.now ++ (moment_or_nothing heard ∷ passed.now ∷ []) }
+/// The last known status of a station; nothing of it where none is known.
+fn status_cells<'a>(known: &Option<Heard<'a>>) -> [Cell<'a>; 4]
+    ensures { map cell_text result ≡ Spec.status_fields known.now }
 {
     match known {
-        Some(status) => heard_status(status, heard, passed),
-        None => no_status(heard, passed),
+        Some(heard) => heard_status(heard),
+        None => no_status(),
     }
 }
 
-/// Nothing of a status, where none is known, and how active a station was.
-fn no_status<'a>(heard: Option<Moment>, passed: &'a [u8]) -> [Cell<'a>; 6]
-    ensures { map cell_text result
-        ≡ Spec.no_status ++ (moment_or_nothing heard ∷ passed.now ∷ []) }
+/// Four empty fields, where no status is known.
+fn no_status<'a>() -> [Cell<'a>; 4]
+    ensures { map cell_text result ≡ Spec.no_status }
 {
     [
         Cell::Plain(b""),
         Cell::Plain(b""),
         Cell::Plain(b""),
         Cell::Plain(b""),
-        moment_cell(heard),
-        Cell::Plain(passed),
     ]
 }
 
-/// The status that was heard, and how active its station was. Where another report was heard, the
-/// fields of a status are empty.
-fn heard_status<'a>(
-    status: &Heard<'a>,
-    heard: Option<Moment>,
-    passed: &'a [u8],
-) -> [Cell<'a>; 6]
-    ensures { map cell_text result
-        ≡ Spec.heard_status status.now ++ (moment_or_nothing heard ∷ passed.now ∷ []) }
+/// The status that was heard; four empty fields where another report was heard.
+fn heard_status<'a>(heard: &Heard<'a>) -> [Cell<'a>; 4]
+    ensures { map cell_text result ≡ Spec.heard_status heard.now }
 {
-    match status.report {
+    match heard.report {
         Report::Status { stamp, text } => [
-            Cell::Moment(status.moment),
-            Cell::Plain(status.receiver.as_bytes()),
+            Cell::Moment(heard.moment),
+            Cell::Plain(heard.receiver.as_bytes()),
             Cell::Stamp(stamp),
             Cell::Shown(text),
-            moment_cell(heard),
-            Cell::Plain(passed),
         ],
-        _ => no_status(heard, passed),
+        _ => no_status(),
     }
 }
