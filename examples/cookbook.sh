@@ -1,6 +1,7 @@
 #!/usr/bin/env bash
-# Runs the recipes of docs/cookbook.md, and then the commands of docs/evening.md, in order, on the logs
-# of examples/evening. It says which it left out because a tool isn't there.
+# Runs the recipes of docs/cookbook.md, the commands in the table of docs/club.md, and then those of
+# docs/evening.md, in order, on the logs of examples/evening. It says which it left out because a tool
+# isn't there.
 # usage: examples/cookbook.sh [--posix] PROGRAM [FOLDER]
 #        --posix runs those alone that need no tool beyond a POSIX system, and passes over the others
 #        FOLDER, a new one, keeps what they make, and in output/ what they print; without it that is
@@ -75,6 +76,17 @@ blocks() {
         open { print > file }
     ' "$1"
 }
+# rows PAGE FOLDER: each command in the second column of its table, but those that need a TNC or go on
+rows() {
+    mkdir "$2"
+    awk -v to="$2/" -F '[|]' '
+        /^[|] .* [|] `aprs-net / && !/--connect|serve|direwolf/ {
+            gsub(/^ | $/, "", $2)
+            gsub(/^ `|` $/, "", $3)
+            print $2 "\npython3 aprsbook-table\n" $3 > sprintf("%s9%02d", to, ++n)
+        }
+    ' "$1"
+}
 # is_there TOOL: a program, or a module of Python by the name of Debian's package
 is_there() {
     case $1 in
@@ -129,13 +141,14 @@ run_block() {
     echo "ran: $heading"
     ran=$((ran + 1))
 }
-# run_page NAME FOLDER: the blocks of a page, in this folder
+# run_page NAME FOLDER [rows]: the blocks of a page, or the commands of its table, in this folder
 run_page() {
-    blocks "$here/../docs/$1.md" "$scratch/$1"
+    "${3:-blocks}" "$here/../docs/$1.md" "$scratch/$1"
     cd "$2"
     for block in "$scratch/$1"/???; do run_block "$block"; done
     end_terminals
 }
 run_page cookbook "$work"
+run_page club "$work" rows
 run_page evening "$work/evening"
 echo "$ran ran, $left left out"

@@ -6,6 +6,7 @@ import http.client
 import json
 import os
 import pathlib
+import re
 import signal
 import socket
 import sqlite3
@@ -24,7 +25,7 @@ sys.path.append(str(REPOSITORY / "tools/src"))
 from aprsbook_tools.serving import tokens  # noqa: E402 (it lies there)
 
 pytest.importorskip("tornado", reason="needs Debian's python3-tornado")
-pytestmark = pytest.mark.browsers("Chromium")
+pytestmark = pytest.mark.browsers("Chromium", "Firefox")
 
 DAY = "2024-06-21"
 ROWS = "aprsbook.all.rows.length"
@@ -183,6 +184,52 @@ def test_desks_share_what_they_write(page: Browser, live: Live) -> None:
     assert live.journal()[-1]["of"] == f"{1:032x}"
     picture(page, "served-ics-309")
     page.js("document.getElementById('ics-close').click()")
+
+
+def test_a_saved_page_carries_what_desks_wrote(page: Browser, live: Live) -> None:
+    live.push(line(1))
+    enter(page, live)
+    page.wait(f"{ROWS} === 1")
+    live.write(1, "line", time=str(1_718_992_800_000), number="1", text="first runner", **{
+        "from": "Gate 1", "to": "NET"})
+    live.write(2, "dealt", alarm="silent Q1A", note="car is on its way")
+    live.write(3, "name", call="Q1A", name="Leader")
+    page.wait(f"{LINES} === 'first runner'")
+    page.wait("aprsbook.page.journal.entries.size === 3")
+    saved = live.folder / "saved.html"
+    saved.write_text(page.js("aprsfiles.eventPage()"), encoding="utf-8")
+    page.open(saved.as_uri())
+    page.wait(f"{ROWS} === 1 && {LINES} === 'first runner'")
+    assert page.js("aprsbook.page.own.lines[0].desk") == "GATE"
+    assert page.js("aprsbook.page.marks.dealtWith('silent Q1A').map(it => it.desk + it.note)"
+                   ) == ["GATEcar is on its way"]
+    assert "Leader" in page.js(f"{TEXTS % '#things-box td, #things-box th'}.join()")
+
+
+def test_what_one_desk_deals_with_is_dealt_with_at_all(page: Browser, live: Live) -> None:
+    live.push(line(1))
+    enter(page, live)
+    page.wait(f"{ROWS} === 1")
+    silent = f"{TEXTS % '#news > *'}.find(it => / silent for /.test(it)).split(' ')[0]"
+    page.wait(f"{silent} === '1'")
+    live.write(1, "dealt", alarm="home Q1A", note="went home")
+    page.wait(f"{silent} === '0'")
+    # who and when is said where the station is picked, and it is taken back here
+    page.js("document.querySelector('#things .pick').click()")
+    page.wait("document.getElementById('one-about').textContent.includes('went home (GATE, ')")
+    page.js("[...document.querySelectorAll('#one-about button')]"
+            ".find(it => it.textContent === 'take back').click()")
+    page.wait(f"{silent} === '1'")
+    page.js("[...document.querySelectorAll('#one-about button')]"
+            ".find(it => it.textContent === 'dealt with').click()")
+    page.wait(f"{silent} === '0'")
+    for _ in range(200):
+        if len(live.journal()) == 2:
+            break
+        time.sleep(.05)
+    gone, dealt = live.journal()
+    assert gone["of"] == f"{1:032x}" and dealt["kind"] == "dealt"
+    assert re.fullmatch("silent Q1A [0-9-]+T[0-9:.]+Z", dealt["alarm"])
 
 
 def test_what_a_desk_sets_all_pages_show(page: Browser, live: Live) -> None:

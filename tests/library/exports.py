@@ -6,6 +6,7 @@ usage: tests/library/exports.py LIBRARY     LIBRARY is such as out/libaprsbook.s
 """
 import ctypes
 import sys
+from typing import Any, List, Sequence, Set, Tuple, Union
 
 FRAME = "82a0a4a64040e09c60868298986f03f03e4869"
 KISS = bytes.fromhex(f"c000{FRAME}c0")
@@ -16,7 +17,7 @@ LOG = f"{FIRST}.000Z RX1 c000{FRAME}c0\n".encode()
 TWICE = HERE + b"x\n"
 
 
-def book(gap, rows):
+def book(gap: int, rows: List[str]) -> bytes:
     lines = [f"APRSBOOK 3 {gap}", *(f"T {row} {FRAME}" for row in rows), f"END {len(rows)}"]
     return "".join(line + "\n" for line in lines).encode()
 
@@ -37,6 +38,9 @@ SIZE = ctypes.c_size_t
 PLENTY = 65536
 BEFORE = 0xA5
 
+Argument = Union[int, bytes, List[int]]  # a word, a text, or lengths
+Numbers = Tuple[int, ...]  # of an answer: status, input, line, written, named
+
 
 class Region(ctypes.Structure):
     _fields_ = [("start", ctypes.c_void_p), ("units", SIZE)]
@@ -52,14 +56,15 @@ START = ctypes.addressof(MEMORY) + -ctypes.addressof(MEMORY) % 16
 faults = 0
 
 
-def expect(is_so, *words):
+def expect(is_so: bool, *words: object) -> None:
     global faults
     if not is_so:
         print("tests/library/exports.py:", *words, file=sys.stderr)
         faults += 1
 
 
-def call(function, arguments, units=PLENTY, room=4096, name_room=16):
+def call(function: str, arguments: Sequence[Argument], units: int = PLENTY, room: int = 4096,
+         name_room: int = 16) -> Tuple[Numbers, bytes, bytes]:
     """(status, input, line, written, named), the output's room and the name's after the call."""
     run = getattr(LIBRARY, function)
     run.restype = Answer
@@ -68,27 +73,28 @@ def call(function, arguments, units=PLENTY, room=4096, name_room=16):
     ctypes.memset(START + 16 * units, BEFORE, 32)
     output = ctypes.create_string_buffer(bytes([BEFORE]) * (room + 16), room + 16)
     name = ctypes.create_string_buffer(bytes([BEFORE]) * (name_room + 16), name_room + 16)
-    given = [Region(START, units)]
-    for it in arguments:
-        if isinstance(it, int):
-            given.append(WORD(it))
-        elif isinstance(it, list):
-            given += [(SIZE * max(len(it), 1))(*it), SIZE(len(it))]
+    given: List[Any] = [Region(START, units)]
+    for argument in arguments:
+        if isinstance(argument, int):
+            given.append(WORD(argument))
+        elif isinstance(argument, list):
+            given += [(SIZE * max(len(argument), 1))(*argument), SIZE(len(argument))]
         else:
-            given += [it, SIZE(len(it))]
+            given += [argument, SIZE(len(argument))]
     it = run(*given, output, SIZE(room), name, SIZE(name_room))
     behind = ctypes.string_at(START + 16 * units, 32)
     expect(behind == bytes([BEFORE]) * 32, function, "wrote behind a region of", units)
     return (it.status, it.input, it.line, it.written, it.named), output.raw, name.raw
 
 
-def stands(raw, room, text, what):
+def stands(raw: bytes, room: int, text: bytes, what: str) -> None:
     """The text stands first in the room and nothing else was written, or it has no room."""
     kept = text if len(text) <= room else b""
     expect(raw == kept + bytes([BEFORE]) * (room + 16 - len(kept)), what, "room", room)
 
 
-def try_rooms(function, arguments, wanted, place=(0, 0, 0), fault=b""):
+def try_rooms(function: str, arguments: Sequence[Argument], wanted: bytes, place: Numbers = (0,
+              0, 0), fault: bytes = b"") -> None:
     """A run with room for all of it, and with every smaller room."""
     told = (*place, len(wanted), len(fault))
     for room in [4096, *range(len(wanted) + 2)]:
@@ -102,9 +108,9 @@ def try_rooms(function, arguments, wanted, place=(0, 0, 0), fault=b""):
         stands(name, room, fault, function)
 
 
-def try_memory(function, arguments, wanted):
+def try_memory(function: str, arguments: Sequence[Argument], wanted: bytes) -> Tuple[int, Set[int]]:
     """Each size of the region up to one in which the run goes well, which refuses each growth."""
-    seen = set()
+    seen: Set[int] = set()
     for units in range(PLENTY):
         answer, output, name = call(function, arguments, units)
         status, written = answer[0], answer[3]
@@ -125,19 +131,19 @@ def try_memory(function, arguments, wanted):
     return units, seen
 
 
-def no_run(function, arguments):
+def no_run(function: str, arguments: Sequence[Argument]) -> None:
     answer, output, name = call(function, arguments)
     expect(answer == (2, 0, 0, 0, 0), function, "answers", answer, "where no run is asked for")
     stands(output, 4096, b"", function)
     stands(name, 16, b"", function)
 
 
-def one(function, arguments, wanted):
+def one(function: str, arguments: Sequence[Argument], wanted: bytes) -> Tuple[int, Set[int]]:
     try_rooms(function, arguments, wanted)
     return try_memory(function, arguments, wanted)
 
 
-def try_conversions():
+def try_conversions() -> None:
     one("aprs_check", [HERE], b"heard 1 passed 0\n")
     one("aprs_text", [HERE], b"N0CALL-7>APRS:>Hi\n")
     one("aprs_kind", [HERE], b"status N0CALL-7>APRS:>Hi\n")
@@ -154,21 +160,20 @@ def try_conversions():
         no_run("aprs_capture", [receiver, moment, KISS])
 
 
-def gathered(gap, *inputs, words=()):
+def gathered(gap: int, *inputs: bytes, words: Sequence[bytes] = ()) -> List[Argument]:
     return [gap, *words, b"".join(inputs), [len(it) for it in inputs]]
 
 
-def try_gathering():
+def try_gathering() -> None:
     # a later version may have more columns at the end
     columns = call("aprs_table", gathered(30, words=[b"rows"]))[1].split(b"\n")[0].decode().split("\t")
     expect(columns[:len(COLUMNS)] == COLUMNS, "aprs_table has the columns", columns)
     header = ("\t".join(columns) + "\n").encode()
     row = ("\t".join(ROW.get(it, "") for it in columns) + "\n").encode()
-    for function, words, both, none in (
-            ("aprs_merge", [], book(30, [HEARD_BY_BOTH]), book(30, [])),
-            ("aprs_show", [], LISTING, b""), ("aprs_history", [], HISTORY, b""),
-            ("aprs_table", [b"rows"], header + row, header)):
-        try_gathering_to(function, words, both, none)
+    try_gathering_to("aprs_merge", [], book(30, [HEARD_BY_BOTH]), book(30, []))
+    try_gathering_to("aprs_show", [], LISTING, b"")
+    try_gathering_to("aprs_history", [], HISTORY, b"")
+    try_gathering_to("aprs_table", [b"rows"], header + row, header)
     for count in range(4, 101):
         try_many(count, columns)
     for name in b"", b"row", b"rowss", b"Rows", b"rows\0":
@@ -178,8 +183,8 @@ def try_gathering():
     try_rooms("aprs_merge", gathered(3600, HERE, THERE), book(3600, [HEARD_BY_BOTH]))
 
 
-def try_gathering_to(function, words, both, none):
-    def given(gap, *inputs):
+def try_gathering_to(function: str, words: List[bytes], both: bytes, none: bytes) -> None:
+    def given(gap: int, *inputs: bytes) -> List[Argument]:
         return gathered(gap, *inputs, words=words)
 
     one(function, given(30, HERE, THERE), both)
@@ -194,28 +199,31 @@ def try_gathering_to(function, words, both, none):
     try_rooms(function, [30, *words, HERE + THERE, [len(HERE) - 1, len(THERE) + 1]], b"", (1, 0, 1),
               b"NoNewline")
     every = HERE + THERE
-    for lengths in ([], [len(HERE)], [len(every) - 1], [len(every) + 1], [len(HERE)] * 3,
-                    [2 ** 64 - 1, len(every) + 1], [len(every), 2 ** 64 - 1, 1]):
+    wrong: List[List[int]] = [
+        [], [len(HERE)], [len(every) - 1], [len(every) + 1], [len(HERE)] * 3,
+        [2 ** 64 - 1, len(every) + 1], [len(every), 2 ** 64 - 1, 1]]
+    for lengths in wrong:
         no_run(function, [30, *words, every, lengths])
     no_run(function, [30, *words, b"", [1]])
     for gap in (0, 3601, 2 ** 64 - 1):
         no_run(function, given(gap, HERE, THERE))
 
 
-def try_many(count, columns):
+def try_many(count: int, columns: List[str]) -> None:
     """So many inputs, each of a receiver of its own: none is left out, and there is memory."""
     names = [f"RX{it:03}" for it in range(count)]
     logs = [HERE.replace(b"RX1", name.encode()) for name in names]
     all_names, last = ",".join(names), names[-1]
     cells = {**ROW, "last": f"{FIRST}.000Z", "receivers": all_names, "receiver": last}
-    for function, words, wanted in (
-            ("aprs_merge", [], book(30, [f"{FIRST}.000Z {FIRST}.000Z {all_names} {last}"])),
-            ("aprs_show", [], f"station N0CALL-7 1\nstatus {FIRST}.000Z {last} -:Hi\n".encode()),
-            ("aprs_history", [],
-             f"status {FIRST}.000Z {FIRST}.000Z {all_names} N0CALL-7 - -:Hi\n".encode()),
-            ("aprs_table", [b"rows"], "".join(
-                "\t".join(line) + "\n"
-                for line in (columns, [cells.get(it, "") for it in columns])).encode())):
+    table = "".join("\t".join(line) + "\n"
+                    for line in (columns, [cells.get(it, "") for it in columns]))
+    runs: List[Tuple[str, List[bytes], bytes]] = [
+        ("aprs_merge", [], book(30, [f"{FIRST}.000Z {FIRST}.000Z {all_names} {last}"])),
+        ("aprs_show", [], f"station N0CALL-7 1\nstatus {FIRST}.000Z {last} -:Hi\n".encode()),
+        ("aprs_history", [],
+         f"status {FIRST}.000Z {FIRST}.000Z {all_names} N0CALL-7 - -:Hi\n".encode()),
+        ("aprs_table", [b"rows"], table.encode())]
+    for function, words, wanted in runs:
         for inputs, answer, text, fault in (
                 (logs, (0, 0, 0), wanted, b""),
                 ([*logs[:-1], TWICE], (1, count - 1, 2), b"", b"Moment")):
@@ -225,7 +233,7 @@ def try_many(count, columns):
             stands(name, 16, fault, function)
 
 
-def try_widening():
+def try_widening() -> None:
     one("aprs_widen", [60, HERE + THERE], book(60, [HEARD_BY_BOTH]))
     one("aprs_widen", [30, book(1, [HEARD_HERE, HEARD_THERE])], book(30, [HEARD_BY_BOTH]))
     try_rooms("aprs_widen", [30, b""], book(30, []))

@@ -113,7 +113,8 @@ test("a mark is taken back, and the first of two desks has it", () => {
 test("messages that wait are counted but for those with which somebody deals", () => {
   const ask = (text, second, fields) => message("Q1A", "Q1NET", text, "unanswered", second,
     { id: second, ...fields });
-  const messages = [ask("a", 1), ask("b", 2), message("Q1B", "Q1C", "c", "unanswered", 3, { id: 3 }),
+  const messages = [ask("a", 1), ask("b", 2),
+    message("Q1B", "Q1C", "c", "unanswered", 3, { id: 3 }),
     message("Q1NET", "Q1A", "d", "rejected", 4, { id: 4 })];
   const net = netOfLines([], messages), journal = journalOf();
   const texts = () => newsOf(net, known(journal, { ownCall: "Q1NET" })).map(it => it.text)
@@ -127,7 +128,7 @@ test("messages that wait are counted but for those with which somebody deals", (
   const later = netOfLines([], [ask("a", 7201, { id: 1 })]);
   assert.equal(journal.dealtWith(unansweredOf(later.messages[0])).length, 0);
 });
-test("what waits for one's own call stands first, and what is dealt with last of what waits", () => {
+test("what waits for one's own call stands first, and what is dealt with last", () => {
   const of = (source, addressee, text, state, second) =>
     message(source, addressee, text, state, second, { id: second });
   const net = netOfLines([], [of("Q1A", "Q1B", "other", "unanswered", 9),
@@ -164,7 +165,7 @@ test("telemetry's names, queries and answers are no traffic, and bulletins go to
   assert.deepEqual(texts(entriesOf(net)),
     ["message", "bulletin", "announcement", "weather-bulletin"]);
 });
-test("who repeated whom leaves out aliases and gates, and has digipeaters after digipeaters", () => {
+test("who repeated whom leaves out aliases and gates, and has digipeaters too", () => {
   const via = (text, second, fields = {}) => place(second, "Q1A", 54, -3, { via: text, ...fields });
   const { repeated } = atOnce(hearings(rowsOf([via("DB0HIL*,WIDE1*,DB0TOP*,WIDE2-1", 0),
     via("DB0HIL*,WIDE1*", 40), via("WIDE1*", 80), via("DB0HIL,WIDE1-1", 120), via("", 160),

@@ -41,7 +41,8 @@ test("no module stands twice with a state of its own", { skip }, () => {
   assert.deepEqual(stateOf("worker/pool.js"), ["hands", "asked", "queue", "last"]);
 });
 test("the scripts are within their budgets", { skip }, () => {
-  const budgets = { "main-event": 150_000, "main-reader": 185_000, "main-worker": 13_000 };
+  // with coast, style and data the page of the evening stays below 300,000
+  const budgets = { "main-event": 172_000, "main-reader": 212_000, "main-worker": 13_000 };
   for (const [entry, most] of Object.entries(budgets)) {
     const { length } = bundled(entry).text;
     assert.ok(length <= most, `${entry} has ${length} bytes`);

@@ -26,7 +26,7 @@ const button = (box, words) => [...document.querySelectorAll(`${box} button`)]
   .find(it => it.textContent === words);
 const newsOf = word => textsOf("#news > *").find(it => it.includes(word));
 
-test("a count of silent stations leads to these, and who went home is taken off", { skip }, async () => {
+test("silent stations are led to, and who went home is taken off", { skip }, async () => {
   assert.ok(newsOf("2 stations silent"));
   [...document.querySelectorAll("#news > *")].find(it => /silent/.test(it.textContent)).click();
   await until(() => byId("kind").value === "silent");
@@ -43,7 +43,7 @@ test("a count of silent stations leads to these, and who went home is taken off"
   byId("one-close").click();
   enter("kind", "");
 });
-test("a call in a message leads to its place, and one that was never heard is text", { skip }, async () => {
+test("a call in a message leads to its place", { skip }, async () => {
   const [first] = document.querySelectorAll("#messages tbody tr");
   assert.equal(first.querySelector(".from").textContent, "Q1OLD by Q1GATE");
   first.querySelector(".from .pick").click();
@@ -56,7 +56,7 @@ test("a message is marked as dealt with, by all its lists", { skip }, () => {
   assert.ok(newsOf("0 messages unanswered"));
   const rows = [...document.querySelectorAll("#messages tbody tr")];
   assert.deepEqual(rows.map(it => it.className), ["rejected", "dealt"]);
-  assert.match(rows[1].querySelector(".state").textContent, /^unanswered dealt with \(.+\)/);
+  assert.match(rows[1].querySelector(".text").textContent, /^ride 7 down dealt with \(.+\)/);
   button("#messages", "take back").click();
   assert.ok(newsOf("1 message unanswered"));
 });
@@ -64,7 +64,7 @@ test("one's own call stands first", { skip }, () => {
   enter("call", " q1old ");
   assert.deepEqual([byId("call").value, newsOf("unanswered")],
     ["Q1OLD", "1 message unanswered, 1 of Q1OLD"]);
-  assert.deepEqual(textsOf("#messages tbody .text"), ["medics", "ride 7 down"]);
+  assert.deepEqual(textsOf("#messages tbody .text bdi"), ["medics", "ride 7 down"]);
   enter("call", "");
 });
 test("distances are told from a fixed place, or from what was heard", { skip }, () => {
@@ -89,7 +89,21 @@ test("a station goes on under another call, and is silent no more", { skip }, ()
   button("#one-about", "take back").click();
   byId("one-close").click();
 });
-test("an emergency that comes while the form is open stands above it, and is told", { skip }, async () => {
+test("checkpoints that are brought have passing times, and go along", { skip }, async () => {
+  const { bring, takeAllAway } = await import("../../page/src/app/add-layer.js");
+  bring("points.txt", "Finish 54.6 -3.5 100\nTop 10 10 10\n");
+  assert.equal(byId("told").textContent, "points.txt: 2 checkpoints");
+  await until(() => document.querySelector("#passed tbody tr"));
+  assert.deepEqual([byId("passes").hidden, textsOf("#passed thead th"), textsOf("#passed tbody th"),
+    textsOf("#visits tbody th")],
+  [false, ["no.", "name", "Finish", "Top"], ["Q1NET"], ["Finish"]]);
+  assert.match(byId("passed-told").textContent, /^Nobody passed Top: /);
+  bring("bad.txt", "Finish 54.6 -3.5 100\nTop 10 x 10\n");
+  assert.match(byId("told").textContent, /^bad\.txt: line 2 is no checkpoint, such as/);
+  takeAllAway();
+  assert.equal(byId("passes").hidden, true);
+});
+test("an emergency that comes while the form is open stands above it", { skip }, async () => {
   byId("ics-open").click();
   assert.deepEqual([byId("urgent").hidden, byId("needs").textContent], [true, ""]);
   await show(dataIn(JSON.stringify({ ...DATA, rows: rowsFor([sos(7210)]) })));
@@ -143,7 +157,7 @@ test("whose lines there are is said, and they go at once after a question", { sk
   assert.deepEqual(desks(),
     ["1 line of your own take all away", "1 line of 27.html take all away"]);
 });
-test("of thousands of lines those sheets are there that are in view, and more on paper", { skip }, () => {
+test("of thousands of lines those are there that are in view, or on paper", { skip }, () => {
   const lines = Array.from({ length: 30000 }, (_, k) =>
     ({ at: at(k % 7000) + 1.7e9, from: "a", to: "b", id: "", text: `no. ${k}` }));
   page.own.offer("many.html", lines);

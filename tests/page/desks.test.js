@@ -249,3 +249,91 @@ test("a course that an entry can't carry is thinned, and its ends stay", () => {
   const many = { type: "MultiPoint", coordinates: Array.from({ length: 60000 }, () => [1, 2]) };
   assert.throws(() => courseFor(JSON.stringify(many)), /too many points/);
 });
+test("half a letter, as a text may have that was cut, doesn't keep a line from the server", () => {
+  const it = new Journal("A", async () => 0, null);
+  it.addLine({ ...LINE, text: "so\ud83d", from: "\ude00B" });
+  assert.deepEqual(it.lines.map(of => [of.from, of.text]), [["\ufffdB", "so\ufffd"]]);
+  assert.ok(LINE.text.includes("\u{1f600}"));
+  it.addLine(LINE);
+  assert.equal(it.lines.length, 2);
+  assert.ok(it.lines.some(of => of.text === LINE.text));
+});
+
+// ---- a model: what is sent is lost, comes twice and late, and desks and the server begin again
+
+/** Numbers from 0 to below 1, the same for each seed. */
+function lot(seed) {
+  let n = seed + 1;
+  return () => {
+    n = Math.imul(n ^ n >>> 15, 0x2c1b3c6d) + 0x9e3779b9 | 0;
+    return (Math.imul(n ^ n >>> 12, 0x297a2d39) >>> 0) / 2 ** 32;
+  };
+}
+/** A server that is a set of lines for each desk, as files that only grow. */
+class Base {
+  constructor(chance) {
+    this.chance = chance;
+    this.trouble = 0.3;
+    this.files = new Map();
+    this.late = [];
+  }
+  take(desk, all) {
+    const lines = this.files.get(desk) || [];
+    this.files.set(desk, [...lines, ...all.split("\n").filter(it => it && !lines.includes(it))]);
+  }
+  /** Takes what a desk sends, unless it is lost; the answer may be lost too. */
+  async send(desk, all) {
+    const { chance, trouble } = this;
+    if (chance() < trouble) this.late.push([desk, all]);
+    if (chance() < trouble) return null;
+    this.take(desk, all);
+    for (const it of this.late.splice(0, Math.floor(chance() * 2))) this.take(...it);
+    return chance() < trouble ? null : 0;
+  }
+  /** What a desk is told: a part of a file from some place on, which it may have had. */
+  tell(journal) {
+    for (const lines of this.files.values()) {
+      const begin = Math.floor(this.chance() * (lines.length + 1));
+      journal.hear(lines.slice(begin, begin + 1 + Math.floor(this.chance() * 9)).join("\n"));
+    }
+  }
+}
+test("desks and their server have the same in the end, whatever is lost or late", async () => {
+  for (let seed = 0; seed < 150; seed++) {
+    const chance = lot(seed), base = new Base(chance), stores = ["A", "B", "C"].map(storeOf);
+    let now = 0;
+    const open = k => new Journal("ABC"[k], (desk, all) => base.send(desk, all), stores[k],
+      () => now++);
+    const desks = stores.map((_, k) => open(k)), texts = new Set();
+    for (let step = 0; step < 60; step++) {
+      const k = Math.floor(chance() * 3), desk = desks[k], what = Math.floor(chance() * 6);
+      if (what === 0) {
+        texts.add(`line ${step}`);
+        desk.addLine({ ...LINE, text: `line ${step}` });
+      } else if (what === 1 && desk.lines.length) {
+        const line = desk.lines[Math.floor(chance() * desk.lines.length)];
+        desk.removeLines([line]);
+        texts.delete(line.text);
+      } else if (what === 2) desk.add("setting", { name: "title", value: `title ${step}` });
+      else if (what === 3) desks[k] = open(k); // its browser was closed
+      else base.tell(desk);
+      await desk.sendAll();
+    }
+    base.trouble = 0;
+    for (const it of [...base.late, ...base.late]) base.take(...it);
+    for (let turn = 0; turn < 2; turn++)
+      for (const it of desks) {
+        await it.sendAll();
+        await new Promise(setImmediate);
+        for (const lines of base.files.values()) it.hear(lines.join("\n"));
+      }
+    const all = [...base.files.values()].flat();
+    assert.equal(new Set(all).size, all.length);
+    for (const it of desks) {
+      assert.deepEqual([...it.entries.keys()].sort(), [...all].sort(), `seed ${seed}`);
+      assert.deepEqual(it.lines.map(of => of.text).sort(), [...texts].sort(), `seed ${seed}`);
+      assert.equal(it.settings.get("title"), desks[0].settings.get("title"));
+      assert.equal(it.waiting.size, 0);
+    }
+  }
+});

@@ -55,7 +55,7 @@ test("what stands above all says when, of how many, by whom, and what to do", { 
 });
 test("the lists have what the tables say", { skip }, () => {
   assert.deepEqual(cells("messages", 7), [
-    ["unanswered dealt with", "Leader (Q1RUN-7)", "Q1BASE", "at CP 2", "2", "18:23:20",
+    ["unanswered", "Leader (Q1RUN-7)", "Q1BASE", "at CP 2 dealt with", "2", "18:23:20",
       "18:23:20"],
     ["acknowledged", "Q1BASE", "Leader (Q1RUN-7)", "where are you?", "1", "18:21:40", "18:21:40"]]);
   assert.deepEqual([...document.querySelectorAll("#messages .state")].map(it => it.title),

@@ -58,7 +58,8 @@ test("what wants doing stays in sight where a part of the time alone is shown", 
   assert.deepEqual(net.things.map(it => it.name), ["Q1B"]);
   const isLongAgo = last => Date.parse(moment(9000)) / 1000 - last > 1800;
   const isSilent = it => isLongAgo(it.heardAt);
-  assert.deepEqual(newsOf(net, { ...OF, isLongAgo, isSilent }).map(it => [it.grade, it.text, it.isEarlier]), [
+  const news = newsOf(net, { ...OF, isLongAgo, isSilent });
+  assert.deepEqual(news.map(it => [it.grade, it.text, it.isEarlier]), [
     ["alarm", "EMERGENCY: Q1A, 18:00:00", undefined],
     ["bad", "2 messages unanswered (1 earlier than is shown)", true],
     ["warn", "2 stations silent for over 30 min (2 earlier than is shown)", true],
@@ -205,7 +206,8 @@ test("a net is the same in whatever order its table stands, also since a moment"
 });
 test("a name of the roster stands wherever a station is in need", () => {
   const net = netOfLines([micE(0, "Q1A-7", "emergency")]), settings = settingsFor(LEADER);
-  assert.equal(needsOf(net.things, { ...OF, settings })[0].text, "EMERGENCY: Leader (Q1A-7), 18:00:00");
+  assert.equal(needsOf(net.things, { ...OF, settings })[0].text,
+    "EMERGENCY: Leader (Q1A-7), 18:00:00");
   const missingText = missing => newsOf(net, { ...OF, missing, expected: 5, settings })
     .map(it => it.text).find(it => / expected /.test(it));
   assert.equal(missingText([]), "0 of 5 expected not heard");

@@ -21,13 +21,13 @@ FIELDS = [
 ]
 
 
-def address(numbers, last):
+def address(numbers: random.Random, last: int) -> bytes:
     call = numbers.choice(CALLS)
     flags = numbers.choice([0x60, 0xE0])
     return bytes(2 * b for b in call.ljust(6).encode()) + bytes([flags | numbers.randrange(16) << 1 | last])
 
 
-def frame(numbers):
+def frame(numbers: random.Random) -> bytes:
     hops = numbers.choice([0, 0, 1, 2, 8])
     octets = b"".join(address(numbers, int(i == hops + 1)) for i in range(hops + 2))
     octets += b"\x03\xf0" + numbers.choice(FIELDS)
@@ -36,7 +36,7 @@ def frame(numbers):
     return octets
 
 
-def log(numbers):
+def log(numbers: random.Random) -> bytes:
     lines, seconds = [], numbers.randrange(80000)
     for _ in range(numbers.randrange(1, 40)):
         seconds = min(86399, seconds + numbers.choice([0, 1, 2, 29, 30, 31, 400]))
@@ -47,7 +47,7 @@ def log(numbers):
     return "".join(lines).encode()
 
 
-def damaged(numbers, octets):
+def damaged(numbers: random.Random, octets: bytes) -> bytes:
     made = bytearray(octets)
     for _ in range(numbers.choice([1, 1, 2, 5])):
         at = numbers.randrange(len(made) or 1)
@@ -65,7 +65,7 @@ def damaged(numbers, octets):
     return bytes(made)
 
 
-def main():
+def main() -> None:
     count, folder, program = int(sys.argv[1]), sys.argv[2], sys.argv[3:4]
     numbers = random.Random(17)
     for i in range(count):

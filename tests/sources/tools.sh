@@ -1,14 +1,19 @@
 #!/bin/sh
-# Checks the types of tools, and that nothing there is unused, where Debian's mypy and pyflakes3 are.
-# usage: tests/sources/tools.sh [--all [PROGRAM]]    with --all, also runs its tests, by a Python 3 that has
-# pytest and hypothesis (Debian: python3-pytest, python3-hypothesis); PROGRAM is aprsbook, beside which
-# the crates of the others lie. Says what it leaves out.
+# Checks the types of all Python here, and that nothing of it is unused, where Debian's mypy and pyflakes3
+# are. With --all, also runs the tests of aprs-net, by a Python 3 that has pytest and hypothesis (Debian:
+# python3-pytest, python3-hypothesis); PROGRAM is aprsbook, beside which the crates of the others lie.
+# Says what it leaves out.
+# usage: tests/sources/tools.sh [--all [PROGRAM]]
 set -eu
 cd "$(dirname "$0")/../.."
 repository=$PWD
 all=${1-} program=${2-}
-cd tools
 export PYTHONDONTWRITEBYTECODE=1
+# all Python but that of tools, which has its own settings; a module's name is that in its folder
+# where others import it, and else that from here on
+others=$(git ls-files '*.py' 2> /dev/null | grep -v '^tools/') ||
+    others=$(find bench build examples tests -name '*.py')
+by_name=build:tests/programs:tests/browser:tools/src
 # python_with MODULES: the first Python 3 that has them
 python_with() {
     for python in python3 /usr/bin/python3; do
@@ -19,15 +24,20 @@ python_with() {
     done
 }
 if command -v mypy > /dev/null; then
-    mypy --strict --no-incremental --cache-dir=/dev/null src tests make_pages.py
+    # shellcheck disable=SC2086 # no name has a blank
+    MYPYPATH=$by_name mypy --strict --python-version 3.9 --explicit-package-bases --no-incremental \
+        --cache-dir=/dev/null $others
+    (cd tools && mypy --strict --no-incremental --cache-dir=/dev/null src tests make_pages.py)
 else
-    echo 'left out: types of tools (Debian: apt install mypy)'
+    echo 'left out: types of Python (Debian: apt install mypy)'
 fi
 if command -v pyflakes3 > /dev/null; then
-    pyflakes3 src tests make_pages.py
+    # shellcheck disable=SC2086 # no name has a blank
+    pyflakes3 $others tools/src tools/tests tools/make_pages.py
 else
-    echo 'left out: names of tools (Debian: apt install pyflakes3)'
+    echo 'left out: names of Python (Debian: apt install pyflakes3)'
 fi
+cd tools
 # what is made of the parsers, by their readers; no line of Python is longer than 100
 work=$(mktemp -d)
 trap 'rm -r "$work"' EXIT

@@ -49,9 +49,15 @@ export function drawPart() {
   write("part", partText({ hours, until, found: found.length, all: net.things.length,
     clock: settings }));
 }
+/** From now on what is new is marked, as in a page that goes on. */
+export function goOnFromHere() {
+  page.grows = true;
+  if (page.shown && !page.looked.seen) page.looked.look(page.shown.net, Date.now() / 1000);
+}
 /** Says what is new since the reader looked, where the page goes on. */
 export function drawLooked() {
-  const { net, data } = shownNow(), { looked } = page, goesOn = Boolean(data.live || page.follows);
+  const { net, data } = shownNow(), { looked } = page;
+  const goesOn = Boolean(data.live || page.follows || page.grows);
   if (!goesOn) looked.forget();
   else if (!looked.seen && net.rows.length) looked.look(net, Date.now() / 1000);
   if (page.turned) looked.reveal(net);

@@ -6,18 +6,21 @@ import { callsBefore, openMarks } from "./dealt.js";
 import { drawAbout, drawLooked, drawNews } from "./header.js";
 import { holdClock } from "./playback.js";
 import { madeHays, sift } from "./search.js";
-import { drawOne } from "./selection.js";
+import { drawOne, pick } from "./selection.js";
 import { page, presentOf, shownNow, view, widgets } from "./state.js";
 import { inOrder } from "../lists/messages.js";
+import { linesOf, passedList, passedWords, turnsOf, visitList } from "../lists/passed.js";
 import { pairList, shareText } from "../lists/stations.js";
 import { timelineList } from "../lists/timeline.js";
 import { Colouring, wayFor } from "../map/colours.js";
+import { passedOf } from "../net/checkpoints.js";
+import { MOST_COMPARED } from "../net/clock-offsets.js";
 import { messagesOf } from "../net/message-table.js";
 import { allOf, hearings, netOf } from "../net/net.js";
 import { expectedOf, Names } from "../net/roster.js";
 import { Rows } from "../net/rows.js";
 import { columnsOf } from "../net/table-reader.js";
-import { byId, make } from "../util/dom.js";
+import { byId, make, write } from "../util/dom.js";
 import { later } from "../util/task-queue.js";
 import { atOnce, inSlices, once } from "../util/tasks.js";
 import { datedBy } from "../util/time.js";
@@ -159,9 +162,27 @@ function drawLists() {
   lists.bulletins.show([...net.bulletins].sort((a, b) => b.last - a.last), true);
   byId("roster").hidden = !page.roster.list.length;
   drawRoster();
+  byId("passes").hidden = !page.points.length;
+  if (page.points.length) later("passed", drawPassed(net));
   later("receivers", once(() => lists.receivers.show(net.receivers, true)));
+  write("compared", net.receivers.length > MOST_COMPARED
+    ? `Those of the ${MOST_COMPARED} that heard most are compared.` : "");
   later("pairs", drawPairs(all, net));
   later("find", madeHays(net.things));
+}
+/**
+ * Draws who passed each checkpoint.
+ * @param {Net} net
+ * @returns {Steps<void>}
+ */
+function* drawPassed(net) {
+  const { points, settings } = page, of = { points, settings }, { lists } = widgets();
+  const passed = yield* passedOf(net.placed, points), { visits } = passed;
+  lists.passed = passedList(byId("passed-box"), visits, of, key => pick(key));
+  lists.passed.show(linesOf(visits, settings));
+  lists.visits = visitList(byId("visits-box"), of);
+  lists.visits.show(turnsOf(visits));
+  write("passed-told", passedWords(passed, of));
 }
 /**
  * Draws who heard and who repeated whom, and after them when, which has the same sums.

@@ -27,6 +27,15 @@ const SOME = 100;
 export const spelling = entry => JSON.stringify(Object.fromEntries(Object.entries(entry)
   .sort(([a], [b]) => a < b ? -1 : 1)))
   .replace(/[\x7f-\uffff]/g, it => "\\u" + it.charCodeAt(0).toString(16).padStart(4, "0"));
+/** Half of a letter in UTF-16, as a text may have that was cut, and no server takes. */
+const HALF = /\p{Surrogate}/gu;
+/**
+ * What an entry says, with a mark in place of each half of a letter.
+ * @param {Record<string, string>} says
+ * @returns {Record<string, string>}
+ */
+const wholeLetters = says => Object.fromEntries(Object.entries(says)
+  .map(([name, it]) => [name, it.replace(HALF, "\ufffd")]));
 /** An id that nobody else makes. */
 const newId = () => [...crypto.getRandomValues(new Uint8Array(16))]
   .map(it => it.toString(16).padStart(2, "0")).join("");
@@ -131,7 +140,7 @@ export class Journal {
    */
   addAll(kind, all) {
     const added = all.map(says =>
-      ({ ...says, kind, desk: this.desk, at: this.now(), id: newId() }));
+      ({ ...wholeLetters(says), kind, desk: this.desk, at: this.now(), id: newId() }));
     for (const text of added.map(spelling)) {
       this.put(text);
       this.waiting.add(text);

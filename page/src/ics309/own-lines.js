@@ -50,7 +50,8 @@ export function storeOf() {
 
 /**
  * The lines of all desks, those that one of them took away, and what adds to both.
- * @typedef {{ desk: string, lines: Line[], linesGone: Line[], isStored: boolean,
+ * @typedef {{ desk: string, entries: { size: number }, lines: Line[], linesGone: Line[],
+ *   isStored: boolean,
  *   addLine: (line: Line) => unknown,
  *   removeLines: (lines: Line[]) => void }} Shared
  */
@@ -76,6 +77,8 @@ export class OwnLines {
     this.here = new Set();
     /** @type {Shared | null} those of all desks of a net that is served */
     this.shared = null;
+    /** All lines as they were made of these parts, none of which is changed in its place. */
+    this.made = { of: /** @type {unknown[]} */ ([]), all: /** @type {Line[]} */ ([]) };
   }
   /** Those of this net, by time. */
   get lines() {
@@ -110,6 +113,12 @@ export class OwnLines {
   }
   /** All of them, by time. */
   get all() {
+    const of = [this.given, this.kept, this.shared, this.shared?.entries.size];
+    if (of.some((it, n) => it !== this.made.of[n])) this.made = { of, all: this.united() };
+    return this.made.all;
+  }
+  /** The lines of the page, of this browser and of all desks, each once. */
+  united() {
     const { lines: shared, linesGone } = this.shared || { lines: [], linesGone: [] };
     const gone = new Set([...this.kept.gone, ...linesGone.map(keyOf)]);
     // what a desk adds again is there again, also where it was taken away before

@@ -50,8 +50,8 @@ function answerOf(it, settings) {
     fullText(it.answered, settings);
 }
 /** A text, of which the style shows so many lines; one of octets alone would hide other rows. */
-const textCell = (/** @type {string} */ text) =>
-  make("td", { className: "text", title: said(text) }, air(text));
+const textCell = (/** @type {string} */ text, /** @type {(Node | string)[]} */ ...rest) =>
+  make("td", { className: "text", title: said(text) }, air(text), ...rest);
 /**
  * Who sent a message, or to whom: a way to its place, where it was heard itself.
  * @param {string} call @param {View} view @param {OnPick} onPick
@@ -69,10 +69,11 @@ function messageRow(it, view, onPick) {
   if (isMine(it, ownCall)) marks.push("mine");
   return make("tr", { className: marks.join(" ") },
     make("td", { className: "state", textContent: it.state, title: answerOf(it, settings) },
-      ...newMark(isNewMessage(it)), ...waits ? dealtNodes(unansweredOf(it), view) : []),
+      ...newMark(isNewMessage(it))),
     cell("call from", whoOf(it.source, view, onPick),
       it.gate ? make("small", { textContent: ` by ${it.gate}` }) : null),
-    cell("call to", whoOf(it.addressee, view, onPick)), textCell(it.text),
+    cell("call to", whoOf(it.addressee, view, onPick)),
+    textCell(it.text, ...waits ? dealtNodes(unansweredOf(it), view) : []),
     cell("id", it.id), timeCell(it.first, settings), timeCell(it.last, settings));
 }
 /** @param {HTMLElement} box @param {View} view @param {OnPick} onPick */

@@ -25,6 +25,7 @@ export class TileSources {
    */
   constructor({ tiles, images }, { tell, paintSoon }) {
     this.tiles = tiles;
+    tiles.onDamage = () => this.show();
     this.images = images;
     this.tell = tell;
     this.paintSoon = paintSoon;
@@ -70,13 +71,13 @@ export class TileSources {
     this.show();
   }
   /**
-   * Takes a picture, whose corners its world file has, or which are asked for; says whether it is
-   * one that can be drawn.
+   * Takes a picture, whose corners its world file has, or which are asked for.
    * @param {File} file
    */
   async wait(file) {
-    const picture = await createImageBitmap(file).catch(() => null);
-    if (!picture) return false;
+    const picture = await createImageBitmap(file).catch(() => {
+      throw new Error("this browser can\u2019t unpack it, which is damaged or too large");
+    });
     const stem = stemOf(file.name), world = this.worlds.get(stem);
     this.worlds.delete(stem);
     this.ask({ name: printable(file.name), stem, picture });
@@ -149,8 +150,10 @@ export class TileSources {
   show() {
     const { tiles, images } = this;
     const names = [...tiles.archives.keys(), ...images.all.map(it => it.name)].map(printable);
-    if (tiles.size) names.push(count(tiles.size, "square"));
-    byId("own-map").textContent = names.length ? `Own map: ${names.join(", ")}.` : "";
+    if (tiles.size) names.push(count(tiles.size, "tile"));
+    const own = names.length ? `Own map: ${names.join(", ")}.` : "", { size } = tiles.damaged;
+    byId("own-map").textContent = size && own
+      ? `${own} ${count(size, "tile")} of it can\u2019t be drawn, being no picture.` : own;
     this.paintSoon();
   }
 }

@@ -4,12 +4,12 @@ import re
 from dataclasses import dataclass
 from typing import Iterable, Iterator, List, Sequence, Tuple
 
-from aprsbook_tools import arguments, stderr, table_output
+from aprsbook_tools import arguments, table_output
 from aprsbook_tools.formats import moments
 from aprsbook_tools.formats.spreadsheet import Cell
 from aprsbook_tools.reports.roster import Expected, Roster, call_of, roster_of
 from aprsbook_tools.reports.table import Message
-from aprsbook_tools.serving import entries
+from aprsbook_tools.serving import desk_options
 from aprsbook_tools.serving.entries import Journals
 
 HEAD = ["time", "from", "number", "to", "message", "state"]
@@ -50,12 +50,7 @@ def add_arguments(parser: argparse.ArgumentParser) -> None:
         "--station", type=station_of, metavar="CALL", help="those that this station sent or got"
     )
     parser.add_argument("--net", default="", metavar="NAME", help="the net's name, for the form")
-    parser.add_argument(
-        "--desks",
-        metavar="LOGS",
-        help="also what the desks of `aprs-net serve` have written down: voice traffic, and "
-        "tactical names",
-    )
+    desk_options.add_desks(parser, "voice traffic, and tactical names")
     table_output.add_arguments(parser)
 
 
@@ -66,13 +61,6 @@ def spoken(journals: Journals, args: argparse.Namespace) -> Iterator[Message]:
             first, text = moments.text_of(it.moment), " ".join(it.text.split())
             yield Spoken(first=first, source=it.sender, addressee=it.addressee, id=it.number,
                          text=text, desk=it.desk)
-
-
-def named_by(journals: Journals, roster: Roster) -> Roster:
-    """A roster with the tactical names that desks gave."""
-    names = journals.names
-    others = [it for it in roster.expected if it.call not in names]
-    return Roster([*others, *(Expected(call, name) for call, name in names.items())])
 
 
 def chosen(messages: Sequence[Message], args: argparse.Namespace) -> List[Message]:
@@ -140,11 +128,9 @@ def run(args: argparse.Namespace) -> int:
     roster = roster_of(args.roster)
     messages = [*table_output.items_of(Message, args)]
     if args.desks is not None:
-        journals, others = entries.read(args.desks)
-        if others:
-            stderr.warn(f"{args.desks}: lines of desks that are no entries: {others}")
+        journals = desk_options.read(args.desks)
         messages += spoken(journals, args)
-        roster = named_by(journals, roster)
+        roster = desk_options.named_by(journals, roster)
     messages = chosen(messages, args)
     if args.format in (None, "text"):
         table_output.put_lines(args, [form_of(messages, roster, args.net)])
