@@ -41,30 +41,6 @@ complains 1 'aprsbook: second: cannot open' aprsbook merge bad.log second third
 complains 1 'aprsbook-history: second: cannot open' aprsbook-history bad.log second third
 complains 1 'aprsbook-table: second: cannot open' aprsbook-table bad.log second third
 
-# an input that is the output is neither read nor written, by whatever name
-cp good.book both.book
-ln -s both.book link.book
-for command in 'aprsbook merge' 'aprsbook convert log' 'aprsbook show' aprsbook-history aprsbook-table \
-    aprsbook-fold 'aprsbook-fold --new-to good.book'; do
-    complains 1 "${command%% *}: both.book: is the output" sh -c "$command both.book >> both.book"
-    complains 1 "${command%% *}: link.book: is the output" sh -c "$command link.book >> both.book"
-done
-for command in 'aprsbook merge' aprsbook-table aprsbook-fold; do
-    complains 1 "${command%% *}: standard input: is the output" sh -c "$command < both.book >> both.book"
-done
-cmp both.book good.book || fail 'a refused output was changed'
-complains 0 '' sh -c 'aprsbook merge good.book > other.book'
-complains 0 '' sh -c 'aprsbook merge /dev/null > /dev/null'
-
-# of several inputs one with the name of a book and no byte is noted
-: > zero.book
-: > zero.log
-complains 0 'aprsbook: zero.book: empty' aprsbook merge good.book zero.book
-cmp written good.book || fail 'an input without a byte changes the book of another'
-complains 0 'aprsbook-table: zero.book: empty' aprsbook-table zero.book good.log
-complains 0 '' aprsbook merge zero.book
-complains 0 '' aprsbook merge good.book zero.log
-
 for command in check 'convert text' merge show 'widen 60'; do
     # shellcheck disable=SC2086
     complains 1 'aprsbook: bad.log: line 3: Hex' aprsbook $command bad.log

@@ -19,8 +19,6 @@ abbrev pub words_of : Complaint → List ℕ
 words_of why.NotUtf8 = codes "invalid UTF-8 was detected in one or more arguments"
 words_of why.BadCaptureOptions = codes "bad capture options"
 words_of (why.CannotOpen path) = path.now ++ codes ": cannot open"
-words_of (why.IsOutput path) = path.now ++ codes ": is the output"
-words_of (why.EmptyBook path) = path.now ++ codes ": empty"
 words_of (why.Line place line cause) =
     place.now ++ (codes ": line " ++ (decimal line ++ (codes ": " ++ cause.now)))
 words_of (why.OtherGap place) = place.now ++ codes ": other gap"
@@ -38,10 +36,8 @@ abbrev pub complaint_text : List ℕ → Complaint → List ℕ
 complaint_text program complaint =
     speaker program complaint ++ (codes ": " ++ (words_of complaint ++ 10 ∷ []))
 
--- The exit status: 0 for a note, 1 for an input, 2 for the arguments, 3 for the output, 4 for
--- memory.
+-- The exit status: 1 for an input, 2 for the arguments, 3 for the output, 4 for memory.
 abbrev pub status : Complaint → ℕ
-status (why.EmptyBook path) = 0
 status why.NotUtf8 = 2
 status why.BadCaptureOptions = 2
 status why.CannotWrite = 3

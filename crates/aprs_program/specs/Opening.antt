@@ -42,7 +42,6 @@ opened paths = map (λ path. (string_bytes path, None)) paths
 -- What is complained of where the input of this path can't be opened.
 abbrev pub complaint_at : Bor (List ℕ) → OpenFault → Complaint
 complaint_at path fault.Refused = why.CannotOpen path
-complaint_at path fault.IsOutput = why.IsOutput path
 complaint_at path fault.Memory = why.OutOfMemory
 
 -- What is complained of after this answer for this path: that its input can't be opened, and why;

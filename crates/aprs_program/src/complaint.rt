@@ -17,8 +17,6 @@ use std::io::{self, ErrorKind, Write};
 
 /// What is said of an argument that isn't UTF-8.
 const NOT_UTF8: &[u8] = b"invalid UTF-8 was detected in one or more arguments";
-/// The exit status where nothing went wrong.
-const EXIT_DONE: u8 = 0;
 /// The exit status where an input can't be opened or is refused.
 const EXIT_INPUT: u8 = 1;
 /// The exit status where the arguments ask for no job.
@@ -37,10 +35,6 @@ pub enum Complaint<'a> {
     BadCaptureOptions,
     /// The input of this path can't be opened.
     CannotOpen(&'a [u8]),
-    /// The input of this path is the file that the output goes to.
-    IsOutput(&'a [u8]),
-    /// The input of this path has the name of a book and no byte. That is only noted.
-    EmptyBook(&'a [u8]),
     /// A line of an input, counted from 1, and the name of what is wrong with it. The line is 0
     /// for a KISS stream.
     Line {
@@ -58,18 +52,16 @@ pub enum Complaint<'a> {
     OutOfMemory,
 }
 
-/// The exit status for a complaint: 0 for a note, 1 for an input, 2 for the arguments, 3 for the
-/// output, 4 for memory. Takes no memory.
+/// The exit status for a complaint: 1 for an input, 2 for the arguments, 3 for the output, 4 for
+/// memory. Takes no memory.
 pub fn complaint_status(complaint: &Complaint<'_>) -> u8
     ensures { result ≡ Spec.status complaint.now }
 {
     match complaint {
-        Complaint::EmptyBook(_) => EXIT_DONE,
         Complaint::NotUtf8 | Complaint::BadCaptureOptions => EXIT_USAGE,
         Complaint::CannotWrite => EXIT_OUTPUT,
         Complaint::OutOfMemory => EXIT_MEMORY,
         Complaint::CannotOpen(_)
-        | Complaint::IsOutput(_)
         | Complaint::Line { .. }
         | Complaint::OtherGap(_)
         | Complaint::Narrower(_) => EXIT_INPUT,
@@ -125,8 +117,6 @@ fn put_words<W: Write>(out: &mut Outlet<'_, W>, complaint: Complaint<'_>) -> Res
         Complaint::NotUtf8 => out.put(NOT_UTF8),
         Complaint::BadCaptureOptions => out.put(b"bad capture options"),
         Complaint::CannotOpen(path) => put_two(out, path, b": cannot open"),
-        Complaint::IsOutput(path) => put_two(out, path, b": is the output"),
-        Complaint::EmptyBook(path) => put_two(out, path, b": empty"),
         Complaint::Line { place, line, cause } => put_line(out, place, line, cause),
         Complaint::OtherGap(place) => put_two(out, place, b": other gap"),
         Complaint::Narrower(place) => put_two(out, place, b": narrower"),

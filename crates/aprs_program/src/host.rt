@@ -3,7 +3,7 @@ use crate::complaint::{
     Complaint, EXIT_USAGE, complain, complaint_of, complaint_of_arguments, complaint_status,
 };
 use crate::ending::{complaint_after, input_name};
-use crate::opening::{OpenFault, Opener};
+use crate::opening::{OpenFault, Opener, open_inputs};
 use crate::retried::Retried;
 use crate::work::{Work, run_work};
 use aprs_command::{FoldJob, JobFault};
@@ -69,7 +69,6 @@ impl Opener for Program<'_> {
 
     fn open(&mut self, path: &str) -> Result<HostInput, OpenFault> {
         match File::open(self.rt, path) {
-            Ok(file) if self.is_written(&file) => Err(OpenFault::IsOutput),
             Ok(file) => Ok(HostInput::File(file)),
             Err(error) => Err(OpenFault::of(&error)),
         }
@@ -100,15 +99,14 @@ impl<'a> Program<'a> {
 
     /// Does the work over inputs of these paths, or over standard input where there are none, and
     /// reports a fault to standard error. A run over one input reads the first alone. Where an
-    /// input can't be opened or is the output, none is read. Books without a byte are noted. The
-    /// output is flushed, also after a run's fault. Returns the exit status.
+    /// input can't be opened, none is read. The output is flushed, also after a run's fault.
+    /// Returns the exit status.
     pub fn do_work(&mut self, work: Work, paths: &[String]) -> ExitCode {
         let alloc = self.rt.alloc();
-        let mut inputs = match self.open_unwritten(paths) {
+        let mut inputs = match open_inputs(self, alloc, paths) {
             Ok(inputs) => inputs,
             Err(complaint) => return self.report(complaint),
         };
-        self.note_empty_books(paths);
         let output = match BufWriter::new(alloc, Retried::new(self.rt.stdout())) {
             Ok(output) => output,
             Err(_) => return self.report(Complaint::OutOfMemory),
@@ -123,8 +121,8 @@ impl<'a> Program<'a> {
     }
 
     /// Folds the book files of a job, or standard input where it has none, and reports a fault to
-    /// standard error. Where a file can't be opened or is the output, none is read and nothing is
-    /// written. Where the job has a range, its rows alone are read of a file in which bisection finds them. The output
+    /// standard error. Where a file can't be opened, none is read and nothing is written. Where the
+    /// job has a range, its rows alone are read of a file in which bisection finds them. The output
     /// has no buffer of its own, so that its header is there as soon as the fold sends it. Where
     /// the books are only checked, they are read whole, and nothing is written. Returns the exit
     /// status. Where the job has an old book, it does as `do_news` says.
@@ -142,7 +140,7 @@ impl<'a> Program<'a> {
             return self.do_news(gap, &range, old, inputs, is_check);
         }
         let paths = inputs.as_slice();
-        let mut inputs = match self.open_unwritten(paths) {
+        let mut inputs = match open_inputs(self, self.rt.alloc(), paths) {
             Ok(inputs) => inputs,
             Err(complaint) => return self.report(complaint),
         };

@@ -8,7 +8,6 @@ mod ending;
 mod host;
 mod news;
 mod opening;
-mod output_file;
 mod retried;
 mod texts;
 mod work;

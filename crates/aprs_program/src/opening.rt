@@ -14,8 +14,6 @@ use std::io::{self, ErrorKind, Read};
 pub enum OpenFault {
     /// The system refuses it.
     Refused,
-    /// It is the file that the output goes to.
-    IsOutput,
     /// An allocation failed.
     Memory,
 }
@@ -121,7 +119,6 @@ pub(crate) fn complaint_of_open<'t>(path: &'t [u8], fault: OpenFault) -> Complai
 {
     match fault {
         OpenFault::Refused => Complaint::CannotOpen(path),
-        OpenFault::IsOutput => Complaint::IsOutput(path),
         OpenFault::Memory => Complaint::OutOfMemory,
     }
 }

@@ -18,11 +18,3 @@ returns-in-NotUtf8 g c = Puts-is c.put.ensures
 pub returns-in-BadCaptureOptions : goal.returns-in-BadCaptureOptions
 returns-in-BadCaptureOptions g c = Puts-is c.put-in-BadCaptureOptions.ensures
     (sym (ap (λ (x : Complaint). words_of x) c.in-BadCaptureOptions.is))
-
-pub returns-in-IsOutput : goal.returns-in-IsOutput
-returns-in-IsOutput g c = Puts-is c.put_two-in-IsOutput.ensures
-    (sym (ap (λ (x : Complaint). words_of x) c.in-IsOutput.is))
-
-pub returns-in-EmptyBook : goal.returns-in-EmptyBook
-returns-in-EmptyBook g c = Puts-is c.put_two-in-EmptyBook.ensures
-    (sym (ap (λ (x : Complaint). words_of x) c.in-EmptyBook.is))
