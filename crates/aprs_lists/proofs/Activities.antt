@@ -109,8 +109,8 @@ put_other call other [] a n = rw (turned_call call other ∙ n) refl
 put_other call other (e ∷ es) a n = by_order (call_cmp call e.0)
     (λ o. rw (o, turned_call call other ∙ n) refl)
     (λ o. (let far : is_eq (call_cmp other e.0) ≡ false =
-        turned_call e.0 other ∙ (ap (λ (c : Call). is_eq (call_cmp c other)) (sym (call_exact call e.0 o)) ∙ n) in
-        rw (o, far) refl))
+    turned_call e.0 other ∙ (ap (λ (c : Call). is_eq (call_cmp c other)) (sym (call_exact call e.0 o)) ∙ n) in
+    rw (o, far) refl))
     (λ o. by_test (is_eq (call_cmp other e.0))
     (λ t. rw (o, t) refl)
     (λ t. rw (o, t) (put_other call other es a n)))
