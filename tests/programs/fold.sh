@@ -203,5 +203,6 @@ aprsbook-fold --version | grep -q '^aprsbook-fold [0-9]' || fail 'the version'
 if command -v python3 > /dev/null; then
     "$repository/tests/programs/folds.py" "$program" "$scratch/bin/aprsbook-fold" 40 > said || fail "$(cat said)"
     "$repository/tests/programs/news.py" "$program" "$scratch/bin/aprsbook-fold" 40 > said || fail "$(cat said)"
+    "$repository/tests/programs/range.py" "$scratch/bin/aprsbook-fold" > said || fail "$(cat said)"
 fi
 echo 'folds are as merges are'
