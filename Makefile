@@ -54,24 +54,26 @@ clib:
 # by the same numbers, no source makes up a want of memory, the reading list is that of the sources, the
 # version is one, each edit applies, and the scripts, the gate and packaging/system.c are in order
 words:
-	tests/version.sh
-	tests/words.sh
-	tests/sentences.py
-	tests/outside.py
+	tests/documents/version.sh
+	tests/documents/words.sh
+	tests/documents/sentences.py
+	tests/documents/links.py
+	tests/documents/outside.py
 	build/limits.py --check
-	tests/every_byte.py
-	tests/names.sh
-	tests/numbers.sh
-	tests/memory.sh
-	tests/edits.py
-	tests/map.sh
-	tests/unused.py
-	tests/reading.sh
-	tests/library.sh
-	tests/completions.sh
-	tests/scripts.sh
-	tests/gate.py
-	tests/system_c.sh
+	tests/documents/every_byte.py
+	tests/documents/names.sh
+	tests/documents/numbers.sh
+	tests/sources/memory.sh
+	tests/sources/edits.py
+	tests/sources/wrong_bodies.py
+	tests/documents/map.sh
+	tests/sources/unused.py
+	tests/documents/reading.sh
+	tests/documents/library.sh
+	tests/documents/completions.sh
+	tests/sources/scripts.sh
+	tests/sources/gate.py
+	tests/sources/system_c.sh
 
 # the parts of the page that need no browser, and their types, each where its tool is there
 page-tests:
@@ -85,7 +87,7 @@ page-tests:
 # the tests of the command aprs-net, in tools, with the programs where they are built
 .PHONY: tools
 tools:
-	@programs=$$(build/programs.sh) || programs=; set -- $$programs; tests/tools.sh --all $$1
+	@programs=$$(build/programs.sh) || programs=; set -- $$programs; tests/sources/tools.sh --all $$1
 
 # the completions, and the synopsis and the options of the manual pages, written anew of
 # completions/programs.txt
@@ -110,11 +112,15 @@ reading:
 # from its top, the old club's book, gaps, outputs that take nothing, what happens to books, folds, the
 # units, and each awk; and with all programs: what they complain of, the history, the tables, the version,
 # the packages, and the same on other machines
-TRIED = readme old_book gaps full_output books fold units awks
-TRIED_ALL = complaints history table version packages everywhere
+of_programs = $(1:%=programs/%)
+TRIED = documents/readme $(call of_programs,old_book gaps full_output books fold) packages/units \
+    programs/awks
+TRIED_ALL = $(call of_programs,complaints history table) documents/version packages/packages \
+    programs/everywhere
 passes = { $(1) || { echo 'failed: $(1)' >&2; exit 1; }; } &&
-tries = $(call passes,tests/arguments.py $(PROGRAM)) $(call passes,tests/ample.py $(PROGRAM)) \
-    $(call passes,tests/table.py $(TABLE) 100) \
+tries = $(call passes,tests/programs/arguments.py $(PROGRAM)) \
+    $(call passes,tests/programs/ample.py $(PROGRAM)) \
+    $(call passes,tests/programs/table.py $(TABLE) 100) \
     $(foreach it,$(TRIED),$(call passes,tests/$(it).sh $(PROGRAM))) \
     $(foreach it,$(TRIED_ALL),$(call passes,tests/$(it).sh $(PROGRAM) $(HISTORY) $(TABLE)))
 
@@ -138,11 +144,11 @@ recipes:
 cookbook: build
 	@$(MAKE) --no-print-directory elsewhere
 	@$(tries) $(call passes,examples/cookbook.sh $(PROGRAM)) true
-	tests/tools.sh --all $(PROGRAM)
-	$(MAKE) --no-print-directory clib page
-	tests/clib.sh $(PROGRAM)
-	tests/module.sh $(PROGRAM)
-	tests/command.sh $(PROGRAM)
+	tests/sources/tools.sh --all $(PROGRAM)
+	$(MAKE) --no-print-directory clib wasm page
+	tests/library/clib.sh $(PROGRAM)
+	tests/module/module.sh $(PROGRAM)
+	tests/module/command.sh $(PROGRAM)
 
 bench: build
 	bench/run.sh $(PROGRAM)
@@ -150,6 +156,11 @@ bench: build
 	bench/library.sh
 	bench/history.sh $(PROGRAM) $(HISTORY)
 	bench/tables.sh $(PROGRAM) $(TABLE)
+
+# instructions of each run, beside those that are written in bench/counts.txt
+.PHONY: bench-counts
+bench-counts:
+	programs=$$(build/programs.sh) && set -- $$programs && bench/counts.py $$1 $$2 $$3 $$4
 
 # the page of an event, which aprs-net fills: no proof is needed for it, but esbuild
 .PHONY: event-page
@@ -165,14 +176,11 @@ event-page-here:
 	else echo 'left out: the page of an event is that of the release (no esbuild is there)'; fi
 
 # the page that reads logs, out/aprsbook.html, and the command for Node, out/aprsbook.mjs, both with the
-# module in them; the command has the programs' texts of help. Beside each page is a readable one.
+# module that `make wasm` built of these sources, or else that of the release, so that the page is tried
+# without a proof; the command has the programs' texts of help. Beside the page is a readable one.
 .PHONY: page
-page: event-page wasm build
-	build/page.py reader out/aprsbook.wasm out/aprsbook.html out/aprsbook.readable.html
-	rm -rf out/named && mkdir -p out/named
-	$(foreach it,$(PROGRAMS),ln -s '$(CURDIR)/crates/$(call crate,$(it))/out/$(call crate,$(it))' out/named/$(it) && ) true
-	build/command.py out/aprsbook.wasm out/named > out/aprsbook.mjs.new
-	mv out/aprsbook.mjs.new out/aprsbook.mjs
+page: event-page
+	build/page.sh
 
 # the recipes of tracks, a page and a net that runs, each where its tools are there
 .PHONY: net
@@ -262,6 +270,7 @@ tarball:
 PAGES = out/aprsbook.html out/aprsbook.wasm out/aprsbook.mjs $(EVENT_PAGE)
 release:
 	@for it in $(PAGES); do [ -f $$it ] || { echo "there is no $$it yet: make page" >&2; exit 1; }; done
+	build/module.py out/aprsbook.html
 	rm -rf out/release
 	export SOURCE_DATE_EPOCH=$$(packaging/version --epoch) && for arch in amd64 arm64; do \
 	    $(MAKE) --no-print-directory deb tarball ARCH=$$arch OUT=out/release || exit 1; done && \

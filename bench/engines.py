@@ -16,6 +16,7 @@ import subprocess
 import sys
 import tempfile
 import time
+from typing import List, Union
 
 HERE = pathlib.Path(__file__).resolve().parent
 DAYS = 16
@@ -23,7 +24,7 @@ SCHEDULER = "127.0.0.1:8799"
 NAMES = "aprsbook", "aprsbook-table", "aprsbook-fold"
 
 
-def moved_by(process):
+def moved_by(process: int) -> int:
     """How many bytes the process read and wrote, with those that it started and waited for."""
     lines = pathlib.Path(f"/proc/{process}/io").read_text().splitlines()
     counts = dict(line.split(": ") for line in lines)
@@ -34,35 +35,36 @@ class Run:
     """A process: the seconds that it took, those of processors, MiB of the greatest process that it
     started, and the bytes that all of them read and wrote."""
 
-    def __init__(self, *command, to=os.devnull):
+    def __init__(self, *command: object, to: Union[str, pathlib.Path] = os.devnull) -> None:
         self.begin = time.monotonic()
         with open(to, "wb") as out:
             # held, since what nobody holds is waited for by itself
-            self.started = subprocess.Popen(list(map(str, command)), stdout=out)
+            self.words = [*map(str, command)]
+            self.started = subprocess.Popen(self.words, stdout=out)
 
-    def wait(self, may_fail=False):
+    def wait(self, may_fail: bool = False) -> "Run":
         os.waitid(os.P_PID, self.started.pid, os.WEXITED | os.WNOWAIT)
         self.moved = moved_by(self.started.pid)
         _, status, used = os.wait4(self.started.pid, 0)
         self.started.returncode = status
         if status and not may_fail:
-            sys.exit(f"engines.py: {self.started.args[:4]} failed")
+            sys.exit(f"engines.py: {self.words[:4]} failed")
         self.took = time.monotonic() - self.begin
         self.used = used.ru_utime + used.ru_stime
         self.most = used.ru_maxrss / 1024
         return self
 
-    def __str__(self):
+    def __str__(self) -> str:
         return said(self.took, [self])
 
 
-def said(took, runs):
+def said(took: float, runs: List[Run]) -> str:
     """So many seconds, and what these runs took together."""
     return (f"{took:.1f} s, {sum(it.used for it in runs):.1f} of processors, "
             f"{max(it.most for it in runs):.0f} MiB, {sum(it.moved for it in runs) / 1e9:.2f} GB")
 
 
-def days_of(folder, lines):
+def days_of(folder: pathlib.Path, lines: int) -> None:
     """Logs of three receivers, in DAYS folders: what they heard of one day, in as many years."""
     subprocess.run([sys.executable, HERE / "make_log.py", str(lines // DAYS), folder], check=True)
     for log in sorted(folder.glob("*.log")):
@@ -74,7 +76,7 @@ def days_of(folder, lines):
         log.unlink()
 
 
-def make_inputs(folder, lines):
+def make_inputs(folder: pathlib.Path, lines: int) -> None:
     if folder.is_dir():
         return
     new = folder.with_name(folder.name + ".new")
@@ -87,12 +89,12 @@ def make_inputs(folder, lines):
     new.rename(folder)
 
 
-def same(folder, path):
+def same(folder: pathlib.Path, path: pathlib.Path) -> None:
     # not read here: a process begins with the memory of the one that starts it
     subprocess.run(["cmp", folder / "one", path], check=True)
 
 
-def measure(folder, lines):
+def measure(folder: pathlib.Path, lines: int) -> None:
     for kind in "logs", "books":
         inputs = sorted(path for path in (folder / kind).rglob("*") if path.is_file())
         one = Run("aprsbook", "merge", *inputs, to=folder / "one").wait()
@@ -110,7 +112,7 @@ def measure(folder, lines):
             print(f"    places: {Run('aprs-net', 'places', *inputs).wait()}", flush=True)
 
 
-def measure_cluster(folder):
+def measure_cluster(folder: pathlib.Path) -> None:
     """The book by workers of this machine; their sums are those of all that they started."""
     for n in 1, 2, 4:
         with tempfile.TemporaryDirectory(dir=folder) as work:
@@ -132,7 +134,7 @@ def measure_cluster(folder):
             print(f"    {n} workers: {said(client.took, [client, *hosts])}", flush=True)
 
 
-def main():
+def main() -> None:
     made_alone = sys.argv[1] == "--inputs"
     program, folder = map(pathlib.Path, sys.argv[2:4] if made_alone else sys.argv[1:3])
     program = program.resolve()

@@ -1,15 +1,16 @@
 #!/usr/bin/env python3
 """Measures a live net, with real processes of this machine, and prints a line for each thing.
 
-usage: bench/live_net.py [--seconds N] [--sites N] [--pages N] [latency] [catch-up] [idle]
+usage: bench/live_net.py [--seconds N] [--sites N] [--pages N] [latency] [catch-up] [idle] [harm]
 
 latency: sites with 10 lines a second each, and pages that listen: from a line's own moment to the
 page's end. catch-up: a site that was off for 100,000 lines. idle: 1,000 connections that do nothing
-and one that reads nothing, while others ask. Needs Python 3.9, Debian's python3-tornado and aprsbook
-in the PATH.
+and one that reads nothing, while others ask. harm: bodies of 10 MB and wrong tokens, while others
+ask. Needs Python 3.9, Debian's python3-tornado and aprsbook in the PATH.
 """
 import argparse
 import asyncio
+import collections
 import contextlib
 import http.client
 import os
@@ -18,12 +19,14 @@ import socket
 import subprocess
 import sys
 import tempfile
+import threading
 import time
-from typing import Dict, Iterator, List, Tuple
+from typing import Iterator, List, Tuple
 
 SOURCES = pathlib.Path(__file__).resolve().parent.parent / "tools/src"
 sys.path.append(str(SOURCES))
 from aprsbook_tools.formats import ax25, kiss, log_file  # noqa: E402 (they lie there)
+from aprsbook_tools.serving import tokens  # noqa: E402
 
 DAY = time.strftime("%Y-%m-%d", time.gmtime())
 RATE = 10  # lines a second and site
@@ -82,14 +85,14 @@ class Net:
     def log(self, name: str, of: str) -> pathlib.Path:
         return (self.logs if of == "base" else self.sources) / DAY / f"{name}.log"
 
-    def ask(self, path: str) -> Tuple[float, bytes]:
-        """In how many seconds it is answered, and what."""
+    def ask(self, path: str, token: str = "") -> Tuple[float, int]:
+        """In how many seconds it is answered, and with what status."""
         begun, connection = time.monotonic(), http.client.HTTPConnection(
             "127.0.0.1", self.port, timeout=60)
-        connection.request("GET", path)
-        octets = connection.getresponse().read()
+        connection.request("GET", path, headers={"Authorization": f"Bearer {token}"})
+        status = connection.getresponse().status
         connection.close()
-        return time.monotonic() - begun, octets
+        return time.monotonic() - begun, status
 
     def end(self) -> None:
         for it in [*self.pushers, self.server]:
@@ -216,26 +219,83 @@ def idle(net: Net) -> None:
     slow.close()
 
 
+class Harm:
+    """Who sends bodies of 10 MB, and who tries tokens, each in a thread, until it ends."""
+
+    def __init__(self, net: Net) -> None:
+        self.net, self.has_ended = net, False
+        self.statuses: "collections.Counter[int]" = collections.Counter()
+        self.threads = [threading.Thread(target=it) for it in (self.send, self.guess) * 4]
+        for it in self.threads:
+            it.start()
+
+    def send(self) -> None:
+        head = (f"POST /push/HILL/{DAY} HTTP/1.1\r\nHost: 127.0.0.1:{self.net.port}\r\n"
+                f"Content-Length: {10 << 20}\r\n\r\n").encode()
+        while not self.has_ended:
+            with contextlib.suppress(OSError), self.net.connection() as it:
+                it.sendall(head)
+                it.sendall(bytes(10 << 20))
+
+    def guess(self) -> None:
+        while not self.has_ended:
+            with contextlib.suppress(OSError, http.client.HTTPException):
+                self.statuses[self.net.ask("/who", "x" * 32)[1]] += 1
+
+    def end(self) -> None:
+        self.has_ended = True
+        for it in self.threads:
+            it.join()
+
+
+def harm(net: Net, token: str, seconds: float = 10) -> None:
+    before, times = usage(net.server), []  # type: Tuple[float, float, float], List[float]
+    others, end = Harm(net), time.monotonic() + seconds
+    while time.monotonic() < end:
+        took, status = net.ask("/who", token)
+        assert status == 200
+        times.append(took)
+        time.sleep(.02)
+    others.end()
+    times.sort()
+    after = usage(net.server)
+    print(f"harm: with bodies of 10 MB and wrong tokens ({dict(others.statuses)}) another one is "
+          f"answered in {1000 * times[len(times) // 2]:.0f} ms, at most {1000 * times[-1]:.0f} ms; "
+          f"+{after[1] - before[1]:.0f} MiB; load {os.getloadavg()[0]:.0f}")
+
+
+def measure(what: str, args: argparse.Namespace) -> None:
+    """Measures one thing with a net of its own."""
+    with tempfile.TemporaryDirectory() as name:
+        folder, options, token = pathlib.Path(name), [], ""  # type: pathlib.Path, List[str], str
+        if what == "idle":
+            options = ["--connections", "2000", "--each", "2000"]
+        if what == "harm":
+            token = tokens.add(str(folder / "tokens"), "read", "PAGE")
+            options = ["--tokens", str(folder / "tokens")]
+        net = Net(folder, *options)
+        try:
+            if what == "latency":
+                asyncio.run(latency(net, args.sites, args.pages, args.seconds))
+            elif what == "catch-up":
+                catch_up(net)
+            elif what == "idle":
+                idle(net)
+            else:
+                harm(net, token)
+        finally:
+            net.end()
+
+
 def main() -> None:
     parser = argparse.ArgumentParser(description=(__doc__ or "").split("\n", 1)[0])
     parser.add_argument("--seconds", type=float, default=60)
     parser.add_argument("--sites", type=int, default=20)
     parser.add_argument("--pages", type=int, default=50)
-    parser.add_argument("what", nargs="*", default=["latency", "catch-up", "idle"])
+    parser.add_argument("what", nargs="*", default=["latency", "catch-up", "idle", "harm"])
     args = parser.parse_args()
-    many: Dict[str, List[str]] = {"idle": ["--connections", "2000", "--each", "2000"]}
     for what in args.what:
-        with tempfile.TemporaryDirectory() as folder:
-            net = Net(pathlib.Path(folder), *many.get(what, []))
-            try:
-                if what == "latency":
-                    asyncio.run(latency(net, args.sites, args.pages, args.seconds))
-                elif what == "catch-up":
-                    catch_up(net)
-                else:
-                    idle(net)
-            finally:
-                net.end()
+        measure(what, args)
 
 
 if __name__ == "__main__":

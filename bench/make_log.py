@@ -16,22 +16,24 @@ usage: make_log.py LINES               one log of so many lines, to standard out
 import datetime
 import random
 import sys
+from typing import BinaryIO, Callable, Dict, Iterator, List, Tuple
 
 START = datetime.datetime(2024, 5, 1)
 STATIONS = [("N%d%s" % (i % 10, chr(65 + i % 26) + chr(65 + i // 26) + "X"), i % 16) for i in range(300)]
-PATHS = [[], [("WIDE1", 1, 7)], [("WIDE1", 1, 7), ("WIDE2", 1, 3)]]
+Hop = Tuple[str, int, int]  # its call, SSID and flags
+PATHS: List[List[Hop]] = [[], [("WIDE1", 1, 7)], [("WIDE1", 1, 7), ("WIDE2", 1, 3)]]
 # what is sent by turns
 KINDS = ["position", "object", "message", "status", "raw"]
 # what share of the transmissions one receiver hears, in the logs of three
 HEARD = 0.9
 
 
-def address(call, ssid, flags, last):
+def address(call: str, ssid: int, flags: int, last: int) -> bytes:
     letters = call.ljust(6).encode()
     return bytes(2 * b for b in letters) + bytes([32 * flags + 2 * ssid + last])
 
 
-def frame(source, ssid, hops, information):
+def frame(source: str, ssid: int, hops: List[Hop], information: bytes) -> bytes:
     addresses = [("APRS", 0, 7), (source, ssid, 3)] + hops
     field = b"".join(
         address(call, number, flags, int(i + 1 == len(addresses)))
@@ -40,7 +42,7 @@ def frame(source, ssid, hops, information):
     return field + b"\x03\xf0" + information
 
 
-def information(kind, numbers):
+def information(kind: int, numbers: random.Random) -> bytes:
     minute = numbers.randrange(6000)
     place = b"49%02d.%02dN/072%02d.%02dW>" % (minute // 100, minute % 100, minute // 100, minute % 100)
     if kind == 0:
@@ -54,43 +56,43 @@ def information(kind, numbers):
     return b"T#%03d,199,000,255,073,123,01101001" % (minute % 1000)
 
 
-def framed(heard):
+def framed(heard: bytes) -> str:
     escaped = heard.replace(b"\xdb", b"\xdb\xdd").replace(b"\xc0", b"\xdb\xdc")
     return f"c000{escaped.hex()}c0"
 
 
-def line(seconds, receiver, heard):
+def line(seconds: float, receiver: str, heard: bytes) -> bytes:
     at = START + datetime.timedelta(seconds=seconds)
     moment = at.isoformat(timespec="milliseconds" if at.microsecond else "seconds") + "Z"
     return f"{moment} {receiver} {framed(heard)}\n".encode()
 
 
-def frames(count):
+def frames(count: int) -> Iterator[bytes]:
     numbers = random.Random(1)
     for i in range(count):
         source, ssid = numbers.choice(STATIONS)
         yield frame(source, ssid, numbers.choice(PATHS), information(i % len(KINDS), numbers))
 
 
-def write_one_log(count, out):
+def write_one_log(count: int, out: BinaryIO) -> None:
     for i, heard in enumerate(frames(count)):
         out.write(line(i // 2, "RX%d" % (i % 3 + 1), heard))
 
 
-def write_hexadecimal(count, out):
+def write_hexadecimal(count: int, out: BinaryIO) -> None:
     out.writelines(f"{framed(heard)}\n".encode() for heard in frames(count))
 
 
-def write_kinds(count, out):
+def write_kinds(count: int, out: BinaryIO) -> None:
     out.writelines(f"{KINDS[i % len(KINDS)]}\n".encode() for i in range(count))
 
 
-def write_three_logs(count, folder):
+def write_three_logs(count: int, folder: str) -> None:
     """A third of the stations always sends the same, as a station at home does. A receiver's copy comes
     some seconds later than another's, over a path of its own."""
     numbers = random.Random(2)
     same = [information(i % len(KINDS), numbers) for i in range(len(STATIONS) // 3)]
-    logs = {"a": [], "b": [], "c": []}
+    logs: Dict[str, List[Tuple[int, str, bytes]]] = {"a": [], "b": [], "c": []}
     left, sent = count, 0
     while left > 0:
         station = numbers.randrange(len(STATIONS))
@@ -108,13 +110,13 @@ def write_three_logs(count, folder):
             out.writelines(line(*reception) for reception in log)
 
 
-def write_one_key(rows, out):
+def write_one_key(rows: int, out: BinaryIO) -> None:
     heard = frame("N0CALL", 7, [], b">Hi")
     for row in range(rows):
         out.write(line(31 * row, "RX1", heard))
 
 
-def write_receivers(count, lines, apart, out):
+def write_receivers(count: int, lines: int, apart: bool, out: BinaryIO) -> None:
     numbers = random.Random(3)
     names = ["RX%07d" % i for i in range(count)]
     numbers.shuffle(names)
@@ -124,8 +126,9 @@ def write_receivers(count, lines, apart, out):
         out.write(line(seconds, names[i % count], heard))
 
 
-def main():
-    writers = {"one-key": write_one_key, "hexadecimal": write_hexadecimal, "kinds": write_kinds}
+def main() -> None:
+    writers: Dict[str, Callable[[int, BinaryIO], None]] = {
+        "one-key": write_one_key, "hexadecimal": write_hexadecimal, "kinds": write_kinds}
     if len(sys.argv) == 3 and sys.argv[1] in writers:
         writers[sys.argv[1]](int(sys.argv[2]), sys.stdout.buffer)
     elif len(sys.argv) == 4 and sys.argv[1] in ("receivers", "apart"):

@@ -3,17 +3,20 @@
 
 usage: build/crates.py --sum      a checksum over all that the crates are made of
        build/crates.py --below NAME   the crates of this repository below one, lowest first
+       build/crates.py --sum-of NAME  the same over one and those below it
 """
 import hashlib
 import os
 import pathlib
+import re
 import shutil
 import sys
-from typing import Dict, List, NamedTuple, Sequence
+from typing import Callable, Dict, List, NamedTuple, Sequence
 
 TOP = pathlib.Path(__file__).resolve().parent.parent
 # what a check reads of a crate
 PARTS = ("src", "specs", "proofs")
+COMMENT = re.compile(rb"^[ \t]*(?://|--)[^\n]*\n", re.M)
 
 
 class Row(NamedTuple):
@@ -51,15 +54,26 @@ def files_of(crate: str) -> List[pathlib.Path]:
     return sorted(it for part in PARTS for it in (folder / part).rglob("*") if it.is_file())
 
 
-def sum_of(crates: Sequence[str]) -> str:
-    """A checksum over the rows and the files of these crates."""
+def sum_of(crates: Sequence[str], of: Callable[[bytes], bytes] = bytes) -> str:
+    """A checksum over the rows of these crates, and over what is read of each of their files."""
     every, found = rows(), hashlib.sha256()
     for crate in crates:
         found.update(every[crate].line.encode())
         for path in files_of(crate):
-            content = hashlib.sha256(path.read_bytes()).hexdigest()
+            content = hashlib.sha256(of(path.read_bytes())).hexdigest()
             found.update(f"{path.relative_to(TOP)} {content}\n".encode())
     return found.hexdigest()
+
+
+def without_comments(text: bytes) -> bytes:
+    """A file of Rattle or antt without the lines that are comments alone."""
+    return COMMENT.sub(b"", text)
+
+
+def is_proved(crate: str) -> bool:
+    """Whether build/prove.sh noted that it proved a crate as it and those below it stand."""
+    path = TOP / "out" / "proved" / crate
+    return path.is_file() and path.read_text().strip() == sum_of([*below(crate), crate])
 
 
 def linked(folder: pathlib.Path, to: pathlib.Path) -> None:
@@ -74,6 +88,8 @@ def main(words: List[str]) -> int:
         print(sum_of(list(rows())))
     elif words[:1] == ["--below"] and words[1:2]:
         print("\n".join(below(words[1])))
+    elif words[:1] == ["--sum-of"] and words[1:2]:
+        print(sum_of([*below(words[1]), words[1]]))
     else:
         print(__doc__, file=sys.stderr)
         return 2

@@ -29,7 +29,7 @@ TOP = crates.TOP
 ASIDE = TOP / "out" / "before"
 # how long a job takes, in lines that are proved: an edit, the link of a program, and a make of tests;
 # what a line of a test takes
-EDIT, LINK, TEST, LINE_OF_TEST = 160, 2_500, 4_000, 7
+EDIT, LINK, TEST, LINE_OF_TEST = 160, 2_500, 4_000, 3
 # the target that makes the page of an event, where that can be done
 PAGE = "event-page-here"
 
@@ -45,6 +45,12 @@ def size_of(crate: str) -> int:
 def is_of_tests(crate: str) -> bool:
     """Whether a crate has only tests."""
     return crate.endswith("_tests")
+
+
+def is_tried(crate: str) -> bool:
+    """Whether a crate's tests run without a proof, which none of their clauses needs. With checks of
+    each access those of aprs_long_tests would take minutes, so they are proved."""
+    return is_of_tests(crate) and crate != "aprs_long_tests"
 
 
 def is_program(crate: str) -> bool:
@@ -93,13 +99,10 @@ def tests_of_sources() -> Iterator[Job]:
     yield make("page-tests")
 
 
-def tests_without_proof() -> Iterator[Job]:
-    """The tests of the crates, built with checks of each access in place of a proof. So those of
-    aprs_long_tests would take minutes."""
-    for name in crates.rows():
-        if is_of_tests(name) and name != "aprs_long_tests":
-            command = ["build/try.sh", name]
-            yield Job(f"tests of {name}", command, frozenset(), size_of(name))
+def tests_of_crates() -> Iterator[Job]:
+    """The tests of the crates, built with checks of each access in place of a proof."""
+    for name in filter(is_tried, crates.rows()):
+        yield Job(f"tests of {name}", ["build/try.sh", name], frozenset(), size_of(name))
 
 
 def build() -> List[Job]:
@@ -111,13 +114,14 @@ def build() -> List[Job]:
 
 def prove() -> List[Job]:
     """The gate."""
-    every = list(crates.rows())
+    every = [it for it in crates.rows() if not is_tried(it)]
     programs = [it for it in every if is_program(it)]
     release = Job("release", ["build/objects.sh", "--compare"], frozenset(programs))
     # of aprs-net the types alone: its tests wait for clocks and servers, and are those of `make test`
-    tools = Job("types of tools", ["tests/tools.sh"], frozenset(), TEST)
+    tools = Job("types of tools", ["tests/sources/tools.sh"], frozenset(), TEST)
     of_programs = [make("tried", *programs, PAGE), release]
-    return [*proofs(every), *trials(), *tests_of_sources(), tools, *of_programs]
+    of_sources = [*tests_of_crates(), *tests_of_sources(), tools]
+    return [*proofs(every), *trials(), *of_sources, *of_programs]
 
 
 def test() -> List[Job]:
@@ -129,7 +133,7 @@ def test() -> List[Job]:
     if found.returncode:
         print(f"left out: the tests of programs ({found.stderr.decode().strip()})", flush=True)
     of_programs = [make("tools", PAGE)] if found.returncode else list(tests_of_programs([]))
-    of_crates = list(tests_without_proof()) if has_kit else []
+    of_crates = list(tests_of_crates()) if has_kit else []
     return [*of_crates, *tests_of_sources(), *of_programs]
 
 
@@ -139,6 +143,7 @@ def from_nothing() -> Iterator[None]:
     names = list(crates.rows())
     # what a killed run set aside
     put_back(names)
+    shutil.rmtree(TOP / "out" / "proved", ignore_errors=True)
     for name in names:
         folder = TOP / "crates" / name / "out"
         if folder.is_dir():

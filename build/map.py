@@ -6,6 +6,7 @@ Python 3.
 import os
 import re
 import sys
+from typing import Dict, List, Set, Tuple
 
 sys.dont_write_bytecode = True
 from rattle_text import read, sentences
@@ -21,19 +22,20 @@ also names crates of the kit. A crate that others call has a page with a caller 
 """
 
 
-def under_each():
+def under_each() -> Dict[str, Set[str]]:
     """The crates under each, lowest crates first."""
-    under = {}
+    under: Dict[str, Set[str]] = {}
     for crate, listed in re.findall(r"^([a-z]\w*)[a-z ]*:(.*)", read("crates.txt"), re.M):
         direct = [it for it in under if it in listed.split()]
         under[crate] = set(direct).union(*(under[it] for it in direct))
     return under
 
 
-def floors():
+def floors() -> List[Tuple[int, str, List[str]]]:
     """The floors, from above: each with its crates, right above the highest that they call."""
-    names = re.search(r"^# floors of the map, from below: (.*)", read("crates.txt"), re.M)
-    named, up = names.group(1).split("; "), {}
+    [names] = re.findall(r"^# floors of the map, from below: (.*)", read("crates.txt"), re.M)
+    named = names.split("; ")
+    up: Dict[str, int] = {}
     for crate, below in under_each().items():
         up[crate] = 1 + max((up[it] for it in below), default=-1)
     if len(named) != max(up.values()) + 1:
@@ -42,7 +44,7 @@ def floors():
     return found[::-1]
 
 
-def drawn():
+def drawn() -> List[str]:
     """The lines of the map."""
     lines = ["```text"]
     for n, name, here in floors():
@@ -50,7 +52,7 @@ def drawn():
     return lines + ["```"]
 
 
-def index():
+def index() -> str:
     """The page that says what each crate is."""
     under, says = under_each(), sentences()
     rows = ["| crate | is | stands on |", "|---|---|---|"]

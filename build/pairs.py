@@ -73,7 +73,7 @@ def changes_of(path: str) -> Iterator[Change]:
     def with_lines(changed: List[str], said: str) -> Change:
         return Change(f"{os.path.basename(path)}: {said}", [(path, before, "\n".join(changed))])
 
-    # numbers of faults and their names are held to docs/formats.md by tests/numbers.sh
+    # numbers of faults and their names are held to docs/formats.md by tests/documents/numbers.sh
     numbered = re.findall(r"^(\w+)_number ", before, re.M)
     for at, line in enumerate(lines):
         if any(line.startswith((f"{it}_number ", f"{it}_name ")) for it in numbered):

@@ -22,6 +22,8 @@ for it in $(printf '%s\n' $lower "$crate" | sort); do
     if [ "$it" = "$crate" ]; then flock "$held"; else flock -s "$held"; fi
 done
 
+# what is noted, once these files are proved
+sum=$(build/crates.py --sum-of "$crate")
 rm -rf "$view"
 put_back() {
     if [ -d "$view/crates/$crate/out" ]; then mv "$view/crates/$crate/out" "crates/$crate/out"; fi
@@ -52,3 +54,5 @@ if [ -f "crates/$crate/src/main.rt" ]; then
     given=$PWD/crates/$crate/stdin
 fi
 (cd "$view/crates/$crate" && "${command[@]}" 2>&1 < "$given") | sed -u "s/^/$crate: /"
+mkdir -p out/proved
+printf '%s\n' "$sum" > "out/proved/$crate"

@@ -28,10 +28,11 @@ import os
 import re
 import subprocess
 import sys
+from typing import Callable, Dict, Iterable, List, Match, Set, Tuple
 
 sys.dont_write_bytecode = True
-import statement
-from rattle_text import clauses_after, closing, dedented, masked, read
+from rattle_text import Key, clauses_after, closing, dedented, masked, read
+from statement import Call, Place, Statement
 
 # the library calls of the first rank; the runs of the program are found
 LIBRARY = (
@@ -56,20 +57,24 @@ CALLERS = {
 }
 
 
+Home = Dict[Tuple[str, ...], str]  # the page on which a definition or a type stands
+Printed = Set[Tuple[str, ...]]
+
+
 class Part:
     """What one clause needs that stands nowhere before: types of the code, and definitions.
 
     The part of no clause has the types in the head of the call.
     """
 
-    def __init__(self, clause, needed, items, keys):
+    def __init__(self, clause: str, needed: List[Key], items: List[Place], keys: List[Key]) -> None:
         self.clause, self.needed, self.items, self.keys = clause, needed, items, keys
 
 
 class Page:
     """A call with its parts; `needed` are all definitions that it needs, lowest first."""
 
-    def __init__(self, call, parts, needed):
+    def __init__(self, call: Call, parts: List[Part], needed: List[Key]) -> None:
         self.call, self.parts, self.needed = call, parts, needed
         self.clauses = [part for part in parts if part.clause]
         self.file = call.name.replace("::", ".") + ".md"
@@ -78,14 +83,14 @@ class Page:
 # ---- what stands on which page
 
 
-def calls(facts):
+def calls(facts: Statement) -> List[Call]:
     """The runs of the program and the library calls of the first rank, in the pages' order."""
     given = {name for _, name in facts.given["aprs_tool"] if name.endswith("_run")}
     runs = [name for name in RUNS if name in given] + sorted(given - set(RUNS))
     return [facts.call(name) for name in runs + LIBRARY]
 
 
-def parts_of(facts, call, printed):
+def parts_of(facts: Statement, call: Call, printed: Printed) -> List[Part]:
     """The call's parts: for each clause what neither pages before it nor clauses before it have."""
     head = facts.items_of([], facts.items_of_call(call))
     parts = [Part("", [], [item for item in head if item not in printed], [])]
@@ -95,18 +100,20 @@ def parts_of(facts, call, printed):
         needed = facts.closure(facts.roots(clauses, call.scope))
         items = [item for item in facts.items_of(needed) if item not in printed]
         keys = [key for key in needed if key not in printed]
-        printed.update(items + keys)
+        printed.update(items, keys)
         parts.append(Part(name, needed, items, keys))
     return parts
 
 
-def pages_of(facts, wanted):
+def pages_of(facts: Statement, wanted: Iterable[Call]) -> Tuple[List[Page], Home]:
     """The pages of calls, in order, and on which page a definition or a type stands."""
-    pages, home, printed = [], {}, set()
+    pages: List[Page] = []
+    home: Home = {}
+    printed: Printed = set()
     for call in wanted:
         parts = parts_of(facts, call, printed)
         page = Page(call, parts, facts.closure(facts.roots(call.clauses, call.scope)))
-        home.update({it: page.file for part in parts for it in part.items + part.keys})
+        home.update({it: page.file for part in parts for it in (*part.items, *part.keys)})
         pages.append(page)
     return pages, home
 
@@ -114,25 +121,27 @@ def pages_of(facts, wanted):
 # ---- how it is written
 
 
-def number(n):
+def number(n: int) -> str:
     """A number as documents have it."""
     return f"{n:,}"
 
 
-def anchor(key):
+def anchor(key: Tuple[str, ...]) -> str:
     """The anchor of a definition or a type: letters, digits and hyphens alone, but for primes."""
-    plain = lambda c: c if c.isascii() and (c.isalnum() or c in "_-") else f"-{ord(c):x}-"
+    def plain(c: str) -> str:
+        return c if c.isascii() and (c.isalnum() or c in "_-") else f"-{ord(c):x}-"
+
     return "-".join("".join(map(plain, word)) for word in key)
 
 
-def link(key, home, file):
+def link(key: Tuple[str, ...], home: Home, file: str) -> str:
     """A link to a definition or a type, from the page `file`."""
     name = key[-1].replace("|", "\\|")
     page = "" if home[key] == file else home[key]
     return f"[`{name}`]({page}#{anchor(key)})"
 
 
-def prose(lines):
+def prose(lines: Iterable[str]) -> str:
     """Lines of a comment, so that Markdown shows them as they are; spans of code stay."""
     spans = " ".join(lines).split("`")
     for i in range(0, len(spans), 2):
@@ -140,39 +149,39 @@ def prose(lines):
     return re.sub(r"^([-+]|\d+[.)]) ", r"\\\1 ", "`".join(spans))
 
 
-def fenced(language, lines):
+def fenced(language: str, lines: List[str]) -> List[str]:
     """A block of code."""
     return [f"```{language}"] + lines + ["```", ""]
 
 
-def table(heads, rows):
+def table(heads: List[str], rows: List[List[str]]) -> List[str]:
     """A table: a column of words is aligned left, one of numbers right."""
     marks = ["---:" if re.match(r"[\d,]+$", cell) else "---" for cell in rows[0]]
     return ["| " + " | ".join(row) + " |" for row in [heads, marks] + rows] + [""]
 
 
-def by_module(keys):
+def by_module(keys: Iterable[Key]) -> Dict[Place, List[Key]]:
     """Definitions by module, in order."""
-    found = collections.defaultdict(list)
+    found: Dict[Place, List[Key]] = collections.defaultdict(list)
     for key in keys:
         found[key[:2]].append(key)
     return found
 
 
-def spread(facts, keys):
+def spread(facts: Statement, keys: List[Key]) -> List[str]:
     """Lines and definitions, as cells."""
     return [number(facts.size(keys)), number(len(keys))]
 
 
-def sums_by_crate(facts, keys):
+def sums_by_crate(facts: Statement, keys: Iterable[Key]) -> str:
     """How many lines each crate has of them, in a sentence."""
-    crates = collections.defaultdict(list)
+    crates: Dict[str, List[Key]] = collections.defaultdict(list)
     for key in keys:
         crates[key.crate].append(key)
     return ", ".join(f"`{crate}` {number(facts.size(crates[crate]))}" for crate in crates)
 
 
-def clause_table(facts, page):
+def clause_table(facts: Statement, page: Page) -> List[str]:
     """A row for each clause: what it needs, and what of that is new at that place of the page."""
     rows = []
     for part in page.clauses:
@@ -181,7 +190,7 @@ def clause_table(facts, page):
     return table(["clause", "lines", "definitions", "new here: lines", "definitions"], rows)
 
 
-def reading_order(facts, page, home):
+def reading_order(facts: Statement, page: Page, home: Home) -> List[str]:
     """The definitions that a call needs, by module, each with a link to where it stands."""
     rows = []
     for module, keys in by_module(page.needed).items():
@@ -190,7 +199,7 @@ def reading_order(facts, page, home):
     return table(["module", "lines", "definitions, in the order of reading"], rows)
 
 
-def other_words(facts, page, home):
+def other_words(facts: Statement, page: Page, home: Home) -> List[str]:
     """What a call's definitions name beside each other: types of the code, and words of the kit."""
     items = facts.items_of(page.needed, facts.items_of_call(page.call))
     links = " ".join(link(key, home, page.file) for key in items)
@@ -199,9 +208,9 @@ def other_words(facts, page, home):
     return lines + kit_words(facts, page.needed)
 
 
-def kit_words(facts, keys):
+def kit_words(facts: Statement, keys: Iterable[Key]) -> List[str]:
     """The words of the kit that definitions name, by module."""
-    found = collections.defaultdict(set)
+    found: Dict[str, Set[str]] = collections.defaultdict(set)
     for key in keys:
         for word in facts.kit_words(key):
             module = re.sub(r"^declared\.|\.TheVariants$", "", word.module)
@@ -213,19 +222,19 @@ def kit_words(facts, keys):
     return lines + [""]
 
 
-def item_lines(facts, key, home, file):
+def item_lines(facts: Statement, key: Place, home: Home, file: str) -> List[str]:
     """A type or a constant of the code, with its doc comment and what contracts see of it."""
     item = facts.items[key]
     lines = [f'<a id="{anchor(key)}"></a>', f"`{key[1]}` of `{item.path}`. " + prose(item.doc), ""]
     if item.value:
         words = sorted(facts.roots([("Value", item.value)], item.scope))
-        seen = {key.name: link(key, home, file) for key in words if key in home}
+        seen = {it.name: link(it, home, file) for it in words if it in home}
         value = seen.pop(item.value, f"`{item.value}`")
         return lines + [f"In contracts it is of type {' '.join([value, *seen.values()])}.", ""]
     return lines + fenced("rust", item.text)
 
 
-def definition_lines(facts, key):
+def definition_lines(facts: Statement, key: Key) -> List[str]:
     """A definition: its anchor, its sentence, of which type its variants are, and its text."""
     it = facts.definitions[key]
     scope, text = facts.modules[key[:2]].scope, "\n".join(it.text)
@@ -236,7 +245,7 @@ def definition_lines(facts, key):
     return lines + ([", ".join(notes) + ".", ""] if notes else []) + fenced("text", it.text)
 
 
-def part_lines(facts, page, part, home, told):
+def part_lines(facts: Statement, page: Page, part: Part, home: Home, told: Set[Place]) -> List[str]:
     """A clause's part of a page: the types first, then the definitions by module."""
     if not part.keys and not part.items:
         return []
@@ -247,8 +256,8 @@ def part_lines(facts, page, part, home, told):
             sizes += f", {number(facts.size(part.keys))} of them here"
         lines = [f"## `{page.call.name}.{part.clause}`: {sizes}", ""]
         lines += ["### Types and constants of the code", ""] if part.items else []
-    for key in part.items:
-        lines += item_lines(facts, key, home, page.file)
+    for item in part.items:
+        lines += item_lines(facts, item, home, page.file)
     for module, keys in by_module(part.keys).items():
         lines += [f"### {'/'.join(module)}" + (", more" if module in told else ""), ""]
         if module not in told:
@@ -259,7 +268,7 @@ def part_lines(facts, page, part, home, told):
     return lines
 
 
-def page_text(facts, page, home, told):
+def page_text(facts: Statement, page: Page, home: Home, told: Set[Place]) -> str:
     """The page of a call."""
     call = page.call
     new = sum(len(part.keys) for part in page.parts)
@@ -280,12 +289,12 @@ def page_text(facts, page, home, told):
 # ---- a page for each crate that others call
 
 
-def first_sentence(doc):
+def first_sentence(doc: List[str]) -> str:
     """The first sentence of a comment."""
     return re.split(r"(?<=\.) ", " ".join(doc))[0]
 
 
-def caller_lines(crate):
+def caller_lines(crate: str) -> Tuple[str, List[str]]:
     """A proved caller of a crate: the imports that name the crate, and the function."""
     path, name = CALLERS[crate]
     text = read(path)
@@ -298,7 +307,7 @@ def caller_lines(crate):
     return path, uses + [""] + text[head.start() : end].split("\n")
 
 
-def does_nothing(call):
+def does_nothing(call: Call) -> bool:
     """Whether the body of a function is empty, as that of a law and of an example."""
     text = read(call.path)
     code = masked(text)
@@ -309,27 +318,27 @@ def does_nothing(call):
     return False
 
 
-def calls_of(facts, crate):
+def calls_of(facts: Statement, crate: str) -> List[Call]:
     """The public functions that a crate has, and then those of lower crates that it gives on."""
     found = [call for call in facts.calls if call.text and call.clauses]
-    given = facts.given.get(crate, ())
+    given = facts.given.get(crate, set())
     own = [call for call in found if call.crate == crate]
     return own + [call for call in found if (call.crate, call.name.split("::")[0]) in given]
 
 
-def types_table(facts, crate):
+def types_table(facts: Statement, crate: str) -> List[str]:
     """The public types of a crate, those of lower crates that it gives on among them, each with the
     first sentence of its comment."""
     names = {name for _, name in facts.given[crate]}
-    keys = {facts.item(crate, name) for name in names} - {None}
+    keys = {it for it in (facts.item(crate, name) for name in names) if it}
     own = [(name, facts.items[of, name]) for of, name in keys]
     rows = [[f"`{name}`", prose([first_sentence(item.doc)])] for name, item in own]
     return table(["type or constant", "is"], sorted(rows)) if rows else []
 
 
-def crate_text(facts, crate, home):
+def crate_text(facts: Statement, crate: str, home: Dict[str, str]) -> str:
     """The page of a crate: what it is, a caller, and each public function with its clauses."""
-    about = re.match(r"(?://!.*\n)+", read(f"crates/{crate}/src/lib.rt")).group()
+    [about] = re.findall(r"\A(?://!.*\n)+", read(f"crates/{crate}/src/lib.rt"))
     path, caller = caller_lines(crate)
     lines = [f"# `{crate}`", "", MADE]
     lines += [prose(line[3:].strip() for line in about.splitlines()), ""]
@@ -351,14 +360,14 @@ def crate_text(facts, crate, home):
 # ---- the sums in docs/proved.md
 
 
-def counted(facts, what):
+def counted(facts: Statement, what: str) -> List[Key]:
     """The definitions that a sum is of: of calls, of all public clauses (`all`), or `specs`."""
     if what == "specs":
         return list(facts.definitions)
     return facts.public() if what == "all" else facts.of(what.replace(",", " ").split())
 
 
-def with_sums(facts, text):
+def with_sums(facts: Statement, text: str) -> str:
     """A document with its sums as they are now.
 
     A number right before `<!-- lines: CALL.. -->`, `<!-- definitions: CALL.. -->`, `<!-- names -->`
@@ -366,7 +375,7 @@ def with_sums(facts, text):
     in the second cell, below a heading `| .. | read | lines | definitions |`.
     """
 
-    def sum_of(match):
+    def sum_of(match: Match[str]) -> str:
         mark, what = match.group(1), match.group(2)
         if mark == "names":
             value = len(ambiguous(facts))
@@ -390,17 +399,18 @@ def with_sums(facts, text):
     return "\n".join(rows)
 
 
-def write(path, text):
+def write(path: str, text: str) -> None:
     """Writes a file whose folder may not be there yet."""
     os.makedirs(os.path.dirname(path), exist_ok=True)
     with open(path, "w", encoding="utf8") as file:
         file.write(text)
 
 
-def write_all(facts, folder):
+def write_all(facts: Statement, folder: str) -> None:
     """Writes all pages below a folder, and takes away those that are no longer made."""
     pages, home = pages_of(facts, calls(facts))
-    told, inner, called = set(), os.path.join(folder, "reading"), os.path.join(folder, "calls")
+    told: Set[Place] = set()
+    inner, called = os.path.join(folder, "reading"), os.path.join(folder, "calls")
     for there in (inner, called):
         for file in os.listdir(there) if os.path.isdir(there) else []:
             os.remove(os.path.join(there, file))
@@ -412,7 +422,7 @@ def write_all(facts, folder):
     listed = subprocess.run(["build/map.py", "--index"], capture_output=True, text=True, check=True)
     write(os.path.join(called, "README.md"), listed.stdout)
     try:
-        sums = with_sums(facts, statement.read(PROVED))
+        sums = with_sums(facts, read(PROVED))
     except LookupError as said:
         raise LookupError(f"{PROVED}: {said}") from said
     for page in pages:
@@ -424,7 +434,7 @@ def write_all(facts, folder):
 # ---- other answers
 
 
-def print_list(facts, words):
+def print_list(facts: Statement, words: Iterable[str]) -> None:
     """The definitions of calls by name, with their lines, and the sums."""
     keys = facts.of(words)
     for key in keys:
@@ -433,13 +443,13 @@ def print_list(facts, words):
     print(sums_by_crate(facts, keys).replace("`", ""))
 
 
-def print_page(facts, words):
+def print_page(facts: Statement, words: str) -> None:
     """The page of a call as if no other were there."""
     pages, home = pages_of(facts, [facts.call(words)])
     print(page_text(facts, pages[0], home, set()), end="")
 
 
-def print_calls(facts, crate):
+def print_calls(facts: Statement, crate: str) -> None:
     """The public functions of a crate, each with the first sentence of its comment and its clauses."""
     found = calls_of(facts, crate)
     if not found:
@@ -449,23 +459,23 @@ def print_calls(facts, crate):
         print("    " + ", ".join(dict.fromkeys(name for name, _ in call.clauses)))
 
 
-def ambiguous(facts):
+def ambiguous(facts: Statement) -> Dict[str, List[str]]:
     """The names that more than one of the cited definitions has."""
-    found = collections.defaultdict(list)
+    found: Dict[str, List[str]] = collections.defaultdict(list)
     for key in facts.public():
         found[key.name].append(f"{key.crate}/{key.module}")
     return {name: places for name, places in sorted(found.items()) if len(places) > 1}
 
 
-def print_names(facts):
+def print_names(facts: Statement) -> None:
     """Names with more than one meaning."""
     for name, places in ambiguous(facts).items():
         print(f"{name}: {' '.join(sorted(places))}")
 
 
-def print_twice(facts):
+def print_twice(facts: Statement) -> None:
     """Definitions that are the same but for their names."""
-    found = collections.defaultdict(list)
+    found: Dict[str, List[str]] = collections.defaultdict(list)
     for key in facts.public():
         text = " ".join(" ".join(facts.definitions[key].text).split())
         found[text.replace(key.name, "IT")].append("/".join(key))
@@ -473,7 +483,7 @@ def print_twice(facts):
         print(" ".join(sorted(places)))
 
 
-def print_private(facts):
+def print_private(facts: Statement) -> None:
     """Modules that no public clause cites, and of the others the definitions that none cites."""
     public = set(facts.public())
     for (crate, name), module in sorted(facts.modules.items()):
@@ -483,7 +493,7 @@ def print_private(facts):
             print(f"{facts.size(free):4} crates/{crate}/specs/{name}.antt{rest}")
 
 
-def print_cited(facts):
+def print_cited(facts: Statement) -> None:
     """Modules whose head says that no public clause cites them, and which one does cite."""
     said = re.compile(r"\bno public clause cites this module\b", re.I)
     for module, keys in by_module(facts.public()).items():
@@ -492,7 +502,7 @@ def print_cited(facts):
             print(f"crates/{module[0]}/specs/{module[1]}.antt: {names}")
 
 
-ANSWERS = {
+ANSWERS: Dict[str, Callable[[Statement], None]] = {
     "names": print_names,
     "twice": print_twice,
     "private": print_private,
@@ -500,9 +510,9 @@ ANSWERS = {
 }
 
 
-def words_given():
+def words_given() -> argparse.Namespace:
     """The words on the command line."""
-    usage = __doc__.split("usage: ")[1].split("\n\n")[0]
+    usage = (__doc__ or "").split("usage: ")[1].split("\n\n")[0]
     words = argparse.ArgumentParser(usage=usage)
     words.add_argument("--into", default="docs")
     words.add_argument("--of", nargs="+")
@@ -513,11 +523,11 @@ def words_given():
     return words.parse_args()
 
 
-def main():
+def main() -> None:
     """Answers what the words on the command line ask for."""
     words = words_given()
     os.chdir(os.path.join(os.path.dirname(os.path.abspath(__file__)), ".."))
-    facts = statement.Statement()
+    facts = Statement()
     asked = [answer for name, answer in ANSWERS.items() if getattr(words, name)]
     if words.of:
         print_list(facts, words.of)

@@ -4,13 +4,18 @@ can share one check. build/edits.py tries them. Nothing is run here.
 """
 import pathlib
 import re
-from typing import Dict, FrozenSet, Iterable, Iterator, List, NamedTuple, Optional, Sequence, Tuple
+from typing import (
+    Dict, FrozenSet, Iterable, Iterator, List, Mapping, NamedTuple, Optional, Sequence,
+)
 
 import rattle_text
 
 FUNCTION = re.compile(
     r"^ *(?:pub(?:\([a-z ]+\))? )?(?:const )?(?:final )?(?:unsafe )?(?:extern .{3} )?fn (\w+)", re.M
 )
+
+
+CONSTANT = re.compile(r"^ *(?:pub(?:\([a-z ]+\))? )?(?:const|static) (\w+):", re.M)
 
 
 class Function(NamedTuple):
@@ -24,7 +29,7 @@ class Function(NamedTuple):
 
 
 class Pair(NamedTuple):
-    """A text of a file, and what stands in its place."""
+    """A text of a file, and what stands in its place. Neither has more than a line."""
 
     file: str
     old: str
@@ -32,12 +37,13 @@ class Pair(NamedTuple):
 
 
 class Edit(NamedTuple):
-    """An edit that must fail: its file's name, its pairs, and the functions that it changes. It is
-    alone in its check where it changes what isn't a function's, as a constant."""
+    """An edit that must fail: its file's name, the lines that it changes by their numbers, file by
+    file, and the functions that it changes. It is alone in its check where it changes more than
+    functions and constants that these name."""
 
     name: str
     text: str
-    pairs: Tuple[Pair, ...]
+    lines: Mapping[str, Mapping[int, str]]
     changed: FrozenSet[Function]
     is_alone: bool
 
@@ -83,31 +89,84 @@ def pairs_of(text: str) -> Iterator[Pair]:
             yield Pair(file, old, rest[1:])
 
 
+def constant_at(code: str, line: int) -> str:
+    """The name of the constant whose item has this line, or no text."""
+    for head in CONSTANT.finditer(code):
+        end = head.end()
+        while code[end] != ";":
+            end = rattle_text.closing(code, end) + 1 if code[end] in "([{" else end + 1
+        if code.count("\n", 0, head.start(1)) < line <= code.count("\n", 0, end) + 1:
+            return head.group(1)
+    return ""
+
+
+def users_of(constant: str, crate: pathlib.Path) -> Optional[FrozenSet[Function]]:
+    """The functions of a crate that name a constant, themselves or by another one; none where more
+    than functions name it, as the type of an array does."""
+    found: FrozenSet[Function] = frozenset()
+    for path in sorted((crate / "src").rglob("*.rt")):
+        file, text = str(path.relative_to(crate)), path.read_text(encoding="utf-8")
+        code = rattle_text.masked(text)
+        lines = [it.group() for it in re.finditer(r"[^\n]*\n?", code)]
+        functions = functions_of(file, text) if re.search(rf"\b{constant}\b", code) else []
+        for number, line in enumerate(lines, 1):
+            if not re.search(rf"\b{constant}\b", line) or re.match(r"\s*(pub )?use ", line):
+                continue
+            function, other = function_at(functions, number), constant_at(code, number)
+            if function:
+                found |= {function}
+            elif other != constant:
+                more = users_of(other, crate) if other else None
+                if more is None:
+                    return None
+                found |= more
+    return found
+
+
 def edit_of(path: pathlib.Path, crate: pathlib.Path) -> Edit:
     """The edit in this file, for the crate in this folder."""
     text = path.read_text(encoding="utf-8")
     pairs = tuple(pairs_of(text))
     if not pairs:
         raise Unfit("it has no text that it changes")
-    texts: Dict[str, str] = {}
-    changed, is_alone = set(), False
+    before: Dict[str, str] = {}
+    after: Dict[str, str] = {}
     for file, old, new in pairs:
         if not (crate / file).is_file():
             raise Unfit(f"there is no {file}")
-        whole = (crate / file).read_text(encoding="utf-8")
-        now = texts.setdefault(file, whole)
-        if now.count(old) != 1:
-            raise Unfit(f"stands {now.count(old)} times in {file}: {old.strip()}")
-        line = now.count("\n", 0, now.index(old)) + 1
-        function = function_at(functions_of(file, now), line)
-        if function:
-            changed.add(function)
-        # another's text, or one that an earlier pair makes
-        is_import = re.match(r"\s*use ", now.split("\n")[line - 1])
-        is_alone |= not function and not is_import or whole.count(old) != 1
-        is_alone |= not file.startswith("src/")
-        texts[file] = now.replace(old, new)
-    return Edit(path.name, text, pairs, frozenset(changed), is_alone or not changed)
+        if file not in before:
+            before[file] = after[file] = (crate / file).read_text(encoding="utf-8")
+        if after[file].count(old) != 1:
+            raise Unfit(f"stands {after[file].count(old)} times in {file}: {old.strip()}")
+        after[file] = after[file].replace(old, new)
+    lines = {file: changed_lines(it, after[file]) for file, it in before.items()}
+    changed: Optional[FrozenSet[Function]] = frozenset()
+    for file, numbers in lines.items():
+        for number in numbers:
+            more = changed_at(file, before[file], number, crate)
+            changed = None if changed is None or more is None else changed | more
+    return Edit(path.name, text, lines, changed or frozenset(), not changed)
+
+
+def changed_lines(before: str, after: str) -> Mapping[int, str]:
+    """The lines that are other ones in the second text, by their numbers."""
+    both = zip(before.split("\n"), after.split("\n"))
+    return {number: new for number, (old, new) in enumerate(both, 1) if old != new}
+
+
+def changed_at(
+    file: str, text: str, line: int, crate: pathlib.Path
+) -> Optional[FrozenSet[Function]]:
+    """The functions that another text in this line changes; none where it changes more."""
+    if not file.startswith("src/"):
+        return None
+    function = function_at(functions_of(file, text), line)
+    if function:
+        return frozenset([function])
+    if re.match(r"\s*use ", text.split("\n")[line - 1]):
+        return frozenset()
+    constant = constant_at(rattle_text.masked(text), line)
+    return users_of(constant, crate) if constant else None
 
 
 def lots(edits: Iterable[Edit], most: int) -> List[List[Edit]]:
@@ -128,19 +187,13 @@ def lots(edits: Iterable[Edit], most: int) -> List[List[Edit]]:
     return found
 
 
-def with_edits(texts: Dict[str, str], edits: Sequence[Edit]) -> Dict[str, str]:
-    """The texts of the files that these edits change, changed by all of them. Of several edits each
-    text is found in the file as it stands, since another may write it again."""
-    made: Dict[str, str] = {}
-    if len(edits) == 1:
-        for file, old, new in edits[0].pairs:
-            made[file] = made.get(file, texts[file]).replace(old, new)
-        return made
-    for file in {pair.file for edit in edits for pair in edit.pairs}:
-        pairs = [pair for edit in edits for pair in edit.pairs if pair.file == file]
-        text = texts[file]
-        for _, old, new in sorted(pairs, key=lambda it: text.index(it.old), reverse=True):
-            at = texts[file].index(old)
-            text = text[:at] + new + text[at + len(old):]
-        made[file] = text
+def with_edits(texts: Mapping[str, str], edits: Sequence[Edit]) -> Dict[str, str]:
+    """The texts of the files that these edits change, changed by all of them."""
+    made = {}
+    for file in {it for edit in edits for it in edit.lines}:
+        lines = texts[file].split("\n")
+        for edit in edits:
+            for number, line in edit.lines.get(file, {}).items():
+                lines[number - 1] = line
+        made[file] = "\n".join(lines)
     return made

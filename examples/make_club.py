@@ -11,6 +11,7 @@ one transmission, or two. A few frames hold bytes that KISS escapes.
 import datetime
 import random
 import sys
+from typing import Iterator, List, Tuple
 
 START = datetime.datetime(2023, 11, 8, 18)
 MINUTES = 240
@@ -18,18 +19,19 @@ RECEIVERS = ["RX1", "RX2", "RX3"]
 STATIONS = [("Q2CLB", 0), ("Q2DIG", 1)] + [("Q2%c%c%c" % (65 + i, 75 + i, 90 - i), i) for i in range(10)]
 
 
-def address(call, ssid, flags, last):
+def address(call: str, ssid: int, flags: int, last: int) -> bytes:
     return bytes(2 * b for b in call.ljust(6).encode()) + bytes([32 * flags + 2 * ssid + last])
 
 
-def frame(source, hops, information):
+def frame(source: Tuple[str, int], hops: List[Tuple[str, int, bool]], information: bytes) -> bytes:
     """A UI frame; each hop is a callsign, an SSID and whether it has repeated the frame."""
     addresses = [("APRS", 0, 7), (*source, 3)] + [(call, ssid, 7 if h else 3) for call, ssid, h in hops]
     last = len(addresses) - 1
-    return b"".join(address(*a, int(i == last)) for i, a in enumerate(addresses)) + b"\x03\xf0" + information
+    octets = [address(*it, last=int(i == last)) for i, it in enumerate(addresses)]
+    return b"".join(octets) + b"\x03\xf0" + information
 
 
-def information(station, count, chance):
+def information(station: int, count: int, chance: random.Random) -> bytes:
     """What a station sends: at home always the same place, on the road another, or a status or message."""
     kind = chance.randrange(8)
     if kind == 0:
@@ -45,7 +47,7 @@ def information(station, count, chance):
     )
 
 
-def transmissions(chance):
+def transmissions(chance: random.Random) -> Iterator[Tuple[int, int, bytes]]:
     for station in range(len(STATIONS)):
         at, count = chance.randrange(300), 0
         while at < 60 * MINUTES:
@@ -58,7 +60,7 @@ def transmissions(chance):
             at += 360 + chance.randrange(480)
 
 
-def receptions(chance):
+def receptions(chance: random.Random) -> Iterator[Tuple[int, str, bytes]]:
     for at, station, sent in transmissions(chance):
         for number, receiver in enumerate(RECEIVERS):
             if chance.randrange(100) < 75 - 20 * number:
@@ -68,13 +70,13 @@ def receptions(chance):
                 yield later, receiver, frame(STATIONS[station], [("Q2DIG", 1, True)], sent)
 
 
-def line(at, receiver, heard):
+def line(at: int, receiver: str, heard: bytes) -> str:
     moment = START + datetime.timedelta(seconds=at)
     escaped = heard.replace(b"\xdb", b"\xdb\xdd").replace(b"\xc0", b"\xdb\xdc")
     return "%s %s c000%sc0\n" % (moment.strftime("%Y-%m-%dT%H:%M:%SZ"), receiver, escaped.hex())
 
 
-def main():
+def main() -> None:
     if len(sys.argv) != 2:
         sys.exit(__doc__)
     heard = sorted(receptions(random.Random(5)))

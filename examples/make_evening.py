@@ -13,27 +13,32 @@ import datetime
 import math
 import random
 import sys
+from typing import Callable, Dict, Iterator, List, Tuple, Union
 
 DAY = datetime.datetime(2024, 6, 21)
+Place = Tuple[float, float]  # degrees north and east
+Information = Union[str, bytes]
+Sent = Tuple[datetime.datetime, str, Information]  # at a moment, by a station
+Report = Callable[[datetime.datetime, float, float], str]
 
 # Which receivers hear a station directly, which digipeater repeats it, and which hear that.
-AIR = {
+AIR: Dict[str, Tuple[str, str, str]] = {
     "Q1NET": ("coast hill", "Q1DIG", "coast north"),
-    "Q1DIG": ("coast hill north", None, ""),
-    "Q1BAY": ("coast", None, ""),
+    "Q1DIG": ("coast hill north", "", ""),
+    "Q1BAY": ("coast", "", ""),
     "Q1RUN-7": ("hill", "Q1DIG", "coast hill north"),
     "Q1FEL-9": ("hill north", "Q1DIG", "north"),
     "Q1VAN-9": ("coast", "Q1DIG", "coast hill"),
     "Q1MED-7": ("hill", "Q1DIG", "coast"),
     "Q1SEA-8": ("coast", "Q1BAY", "coast hill"),
     "Q1MIC-9": ("north", "Q1DIG", "north hill"),
-    "Q1WX-13": ("north", None, ""),
+    "Q1WX-13": ("north", "", ""),
 }
 # Of a hundred transmissions, so many reach a receiver that can hear the station, or the digipeater.
 DIRECT, REPEATED = 80, 55
 
 
-def at(clock):
+def at(clock: str) -> datetime.datetime:
     """The moment of a time of that evening, such as 18:30:00 or 1830."""
     digits = clock.replace(":", "").ljust(6, "0")
     return DAY + datetime.timedelta(
@@ -41,10 +46,10 @@ def at(clock):
     )
 
 
-def plain(lat, lon, symbol, ambiguity=0):
+def plain(lat: float, lon: float, symbol: str, ambiguity: int = 0) -> str:
     """A position as degrees, minutes and hundredths; the last digits of the minutes may be left out."""
 
-    def part(value, width, marks):
+    def part(value: float, width: int, marks: str) -> str:
         hundredths = round(abs(value) * 6000)
         digits = "%0*d%02d.%02d" % (width, hundredths // 6000, hundredths // 100 % 60, hundredths % 100)
         shown = list(digits)
@@ -55,11 +60,11 @@ def plain(lat, lon, symbol, ambiguity=0):
     return part(lat, 2, "NS") + symbol[0] + part(lon, 3, "EW") + symbol[1]
 
 
-def base91(number):
+def base91(number: int) -> str:
     return "".join(chr(33 + number // 91**place % 91) for place in (3, 2, 1, 0))
 
 
-def compressed(lat, lon, symbol, course, knots):
+def compressed(lat: float, lon: float, symbol: str, course: int, knots: float) -> str:
     """A position in base 91, with course and speed, of a tracker with a fix."""
     speed = round(math.log(knots + 1) / math.log(1.08))
     return (
@@ -73,7 +78,7 @@ def compressed(lat, lon, symbol, course, knots):
     )
 
 
-def along(points, share):
+def along(points: List[Place], share: float) -> Place:
     """The place after a share of the way through points that are equally far apart in time."""
     place = share * (len(points) - 1)
     leg = min(int(place), len(points) - 2)
@@ -107,7 +112,7 @@ ITEMS = [
     ("18:23:30", "PARKING", "!", PARKING, "\\P", ""),
     ("20:10:20", "FIRST AID", "_", FIRST_AID, "/+", ""),
 ]
-SAID = [
+SAID: List[Tuple[str, str, Information]] = [
     ("18:03:00", "Q1NET", ">211803zFell race net opens, all welcome"),
     ("18:04:10", "Q1NET", ":BLN1RACE :Start 1830, cut-off at the summit 2000"),
     ("18:37:10", "Q1NET", ":Q1VAN-9  :Water is low at CP2{01"),
@@ -129,17 +134,18 @@ SAID = [
 ]
 
 
-def moving(sender, points, begin, end, minutes, report):
+def moving(sender: str, points: List[Place], begin: str, end: str, minutes: float,
+           report: Report) -> Iterator[Sent]:
     """A report of the place each few minutes."""
-    begin, end = at(begin), at(end)
-    now = begin
-    while now <= end:
-        lat, lon = along(points, (now - begin) / (end - begin))
+    first, last = at(begin), at(end)
+    now = first
+    while now <= last:
+        lat, lon = along(points, (now - first) / (last - first))
         yield now, sender, report(now, lat, lon)
         now += datetime.timedelta(minutes=minutes)
 
 
-def on_the_move():
+def on_the_move() -> Iterator[Sent]:
     """Runners, the van and the boat."""
     yield from moving(
         "Q1RUN-7", RACE, "18:30:11", "20:02:11", 11.5,
@@ -164,7 +170,7 @@ def on_the_move():
         yield at(clock), "Q1MIC-9", '`y4:n"O>/visiting'
 
 
-def at_home():
+def at_home() -> Iterator[Sent]:
     """Net control, the weather station and the digipeaters."""
     yield at("18:02:15"), "Q1NET", "=" + plain(54.5481, -3.5897, "/-") + "net control 145.500"
     for clock, wind in ("18:00:30", "220/004g009t061"), ("19:15:30", "231/009g017t055"):
@@ -176,7 +182,7 @@ def at_home():
         yield later, "Q1BAY", "!" + plain(54.5108, -3.6156, "1#") + "bay fill-in"
 
 
-def placed():
+def placed() -> Iterator[Sent]:
     """Objects of net control and items of the van: name, state and place."""
     for clock, name, state, place, about in OBJECTS:
         stamp = at(clock).strftime("%d%H%Mz")
@@ -185,29 +191,29 @@ def placed():
         yield at(clock), "Q1VAN-9", ")" + name + state + plain(*place, symbol) + about
 
 
-def said():
+def said() -> Iterator[Sent]:
     """Messages and statuses."""
     for clock, sender, information in SAID:
         yield at(clock), sender, information
 
 
-def evening():
+def evening() -> Iterator[Sent]:
     """All transmissions: moment, sender, information."""
     for part in on_the_move, at_home, placed, said:
         yield from part()
 
 
-def destination(sender):
+def destination(sender: str) -> str:
     return {"Q1MIC-9": "UT3XUP", "Q1NET": "APDW17"}.get(sender, "APRS")
 
 
-def address(text, flags, last):
+def address(text: str, flags: int, last: int) -> bytes:
     """Seven octets: six of the callsign, then the C or H bit, two reserved bits, the SSID, the end."""
     call, _, ssid = text.partition("-")
     return bytes(2 * b for b in call.ljust(6).encode()) + bytes([32 * flags + 2 * int(ssid or 0) + last])
 
 
-def frame(sender, hops, information):
+def frame(sender: str, hops: List[str], information: Information) -> bytes:
     """A UI frame; a hop with a star has repeated it."""
     addresses = [(destination(sender), 7), (sender, 3)]
     addresses += [(hop.rstrip("*"), 7 if hop.endswith("*") else 3) for hop in hops]
@@ -216,12 +222,12 @@ def frame(sender, hops, information):
     return field + b"\x03\xf0" + (information if isinstance(information, bytes) else information.encode())
 
 
-def line(moment, receiver, heard):
+def line(moment: datetime.datetime, receiver: str, heard: bytes) -> str:
     escaped = heard.replace(b"\xdb", b"\xdb\xdd").replace(b"\xc0", b"\xdb\xdc")
     return "%s %s c000%sc0\n" % (moment.strftime("%Y-%m-%dT%H:%M:%SZ"), receiver.upper(), escaped.hex())
 
 
-def receptions():
+def receptions() -> Iterator[Tuple[datetime.datetime, str, bytes]]:
     """What each receiver heard: moment, receiver, frame."""
     chance = random.Random(7)
     for moment, sender, information in sorted(evening(), key=lambda sent: sent[0]):
@@ -239,7 +245,7 @@ def receptions():
     yield at("19:17:43"), "hill", cut
 
 
-def main():
+def main() -> None:
     if len(sys.argv) != 2:
         sys.exit(__doc__)
     heard = sorted(receptions())

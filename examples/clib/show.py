@@ -4,6 +4,7 @@ usage: python3 examples/clib/show.py LIBRARY FILE..     LIBRARY is such as out/l
 """
 import ctypes
 import sys
+from typing import List, Tuple
 
 WORD = ctypes.c_uint64
 
@@ -16,7 +17,7 @@ class Answer(ctypes.Structure):
     _fields_ = [(field, WORD) for field in ("status", "input", "line", "written", "named")]
 
 
-def show(library, inputs, gap=30):
+def show(library: ctypes.CDLL, inputs: List[bytes], gap: int = 30) -> Tuple[Answer, bytes, str]:
     """The answer, what was written, and the name of the fault of an input."""
     library.aprs_show.restype = Answer
     every = b"".join(inputs)

@@ -6,6 +6,7 @@ import "./main-event.js";
 import { files } from "./intake/file-table.js";
 import { beginFollowing, pace } from "./intake/follow.js";
 import { add, beginReading, madeNow } from "./intake/reader-app.js";
+import { beginRereading } from "./intake/reread.js";
 import { eventPage } from "./intake/save-event-page.js";
 import { beginServed } from "./intake/served.js";
 import { run } from "./worker/pool.js";
@@ -15,6 +16,7 @@ beginReading().then(async can => {
   if (!can) return;
   await beginFollowing();
   await beginServed();
+  beginRereading();
 });
 // for tests
 globalThis.aprsfiles = Object.freeze({ files, made: madeNow, run, eventPage, add, pace, limits });

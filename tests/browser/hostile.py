@@ -3,6 +3,7 @@ aprs-net page."""
 import datetime
 import pathlib
 import sys
+from typing import List
 
 sys.path.append(str(pathlib.Path(__file__).resolve().parents[2] / "tools/src"))
 from aprsbook_tools.reports.table import is_readable  # noqa: E402
@@ -20,22 +21,23 @@ NAMES = ["<img src>", "\"'&<>`\\", "--><b>", "&lt;b&gt;", "'+alert+'", "</script
          "__proto__"]
 
 
-def address(call, flags, last=0):
+def address(call: str, flags: int, last: int = 0) -> bytes:
     name, _, ssid = call.partition("-")
     return bytes(2 * b for b in name.ljust(6).encode()) + bytes([flags + 2 * int(ssid or 0) + last])
 
 
-def line(moment, receiver, frame):
+def line(moment: str, receiver: str, frame: bytes) -> str:
     """A line of a log."""
     escaped = frame.replace(b"\xdb", b"\xdb\xdd").replace(b"\xc0", b"\xdb\xdc").hex()
     return f"{moment} {receiver} c000{escaped}c0\n"
 
 
-def log():
+def log() -> List[str]:
     """The lines of the log."""
-    start, lines = datetime.datetime(2024, 6, 21, 18), []
+    start = datetime.datetime(2024, 6, 21, 18)
+    lines: List[str] = []
 
-    def put(source, information, receiver="RX1"):
+    def put(source: str, information: bytes, receiver: str = "RX1") -> None:
         frame = address("APRS", 0xE0) + address(source, 0x60, 1) + b"\x03\xf0" + information
         moment = start + datetime.timedelta(seconds=61 * len(lines))
         lines.append(line(f"{moment:%Y-%m-%dT%H:%M:%S}Z", receiver, frame))
@@ -54,7 +56,7 @@ def log():
     return lines
 
 
-def course():
+def course() -> str:
     """A GPX file, with a name in it that is no markup there."""
     name = TEXTS[0].replace("&", "&amp;").replace("<", "&lt;")
     return ('<gpx xmlns="http://www.topografix.com/GPX/1/1">'
@@ -62,7 +64,7 @@ def course():
             '<trkpt lat="54.5" lon="-3.5"/><trkpt lat="54.6" lon="-3.4"/></trkseg></trk></gpx>')
 
 
-def shown(text):
+def shown(text: str) -> str:
     """How the page shows a text: what can't be read stays in hexadecimal, after a backslash."""
     return "".join(it if is_readable(it) else "".join(f"\\x{octet:02x}" for octet in it.encode())
                    for it in text)

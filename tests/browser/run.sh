@@ -6,8 +6,8 @@
 #        out/aprsbook.html; the words are for pytest, such as -k coast
 program=${1-} page=${2-}
 if [ $# -gt 2 ]; then shift 2; else shift $#; fi
-# shellcheck source=tests/program.sh
-find_programs() { . "$(dirname "$0")/../program.sh"; }
+# shellcheck source=tests/programs/program.sh
+find_programs() { . "$(dirname "$0")/../programs/program.sh"; }
 find_programs "$program"
 PAGE=${page:-$repository/out/aprsbook.html}
 export PAGE

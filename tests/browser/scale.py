@@ -1,7 +1,10 @@
 """Times of the page at scale, in ms until it is painted: of a net of 2,000 stations, and what is
 wanted. They are judged where the machine has little else to do, and else are only counted."""
+import pathlib
 import time
+from typing import Callable, Dict, List, Mapping
 
+from browser import Browser
 from by_hand import page_of, place
 
 # of the page as it opens, and as it is shown again; of a letter in "find", the middle one of six
@@ -35,9 +38,9 @@ TIMES = """(async () => {
 })()"""
 
 
-def is_quiet():
+def is_quiet() -> bool:
     """Whether the processors had nothing to do for most of a second."""
-    def spent():
+    def spent() -> List[int]:
         with open("/proc/stat") as stat:
             return list(map(int, stat.readline().split()[1:9]))
 
@@ -51,7 +54,7 @@ def is_quiet():
     return ticks[3] + ticks[4] > 0.8 * sum(ticks)
 
 
-def judged(measure, wanted, what):
+def judged(measure: Callable[[], Dict[str, float]], wanted: Mapping[str, float], what: str) -> None:
     """Prints times, and is sure of those wanted, by the third time at the latest, where it is quiet
     before and after."""
     for turn in range(3):
@@ -66,16 +69,18 @@ def judged(measure, wanted, what):
     raise AssertionError(f"{what}: too slow: {slow}")
 
 
-def judged_stations(page, folder, count=2000, wanted=WANTED):
+def judged_stations(page: Browser, folder: pathlib.Path, count: int = 2000,
+                    wanted: Mapping[str, float] = WANTED) -> None:
     """So many stations with three places each."""
     lines = [place(3 * n % 1400, f"Q{n:04}-{n % 15 + 1}", 54 + n % 50 / 25,
                    -4 + n % 61 / 20 + k / 100, f"mobile {n}")
              for n in range(count) for k in range(3)]
     url = page_of(folder / "many.html", "".join(lines))
 
-    def measure():
+    def measure() -> Dict[str, float]:
         page.open(url)
         page.wait("document.querySelectorAll('#timeline tbody tr').length > 10")
-        return page.js(TIMES)
+        times: Dict[str, float] = page.js(TIMES)
+        return times
 
     judged(measure, wanted, f"{count:,} stations in {page.name}")

@@ -4,13 +4,27 @@ import http.server
 import pathlib
 import re
 import threading
+from typing import Any, List
+
+
+class Web(http.server.ThreadingHTTPServer):
+    """What asked for a part, and whether it answers."""
+    daemon_threads = True
+
+    def __init__(self, *of: Any) -> None:
+        super().__init__(*of)
+        self.ranges: List[str] = []
+        self.answers = threading.Event()
+        self.answers.set()
 
 
 class Handler(http.server.SimpleHTTPRequestHandler):
-    def log_message(self, *_):
+    server: Web
+
+    def log_message(self, *_: Any) -> None:
         pass
 
-    def do_GET(self):
+    def do_GET(self) -> None:
         self.server.answers.wait()
         asked = re.fullmatch(r"bytes=(\d+)-", self.headers.get("Range", ""))
         path = pathlib.Path(self.translate_path(self.path))
@@ -25,21 +39,18 @@ class Handler(http.server.SimpleHTTPRequestHandler):
 
 
 class Server:
-    def __init__(self, folder, port=0):
+    def __init__(self, folder: pathlib.Path, port: int = 0) -> None:
         self.folder, self.port = folder, port
 
-    def __enter__(self):
-        self.server = http.server.ThreadingHTTPServer(
-            ("127.0.0.1", self.port), functools.partial(Handler, directory=self.folder))
-        self.server.daemon_threads = True
-        self.server.ranges = self.ranges = []
-        self.server.answers = self.answers = threading.Event()
-        self.answers.set()
-        self.port = self.server.server_address[1]
+    def __enter__(self) -> "Server":
+        self.server = Web(
+            ("127.0.0.1", self.port), functools.partial(Handler, directory=str(self.folder)))
+        self.ranges, self.answers = self.server.ranges, self.server.answers
+        self.port = self.server.server_port
         threading.Thread(target=self.server.serve_forever, daemon=True).start()
         return self
 
-    def __exit__(self, *_):
+    def __exit__(self, *_: Any) -> None:
         self.answers.set()
         self.server.shutdown()
         self.server.server_close()

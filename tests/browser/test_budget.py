@@ -1,5 +1,6 @@
 """The page of an event is small, and it is the same however aprs-net was put in place."""
 import os
+import pathlib
 import subprocess
 import sys
 import zipfile
@@ -12,13 +13,13 @@ MOST = 300_000  # bytes of the page of the evening, with the coast of the world
 
 
 @needs("aprsbook", "aprsbook-table", "aprs-net")
-def test_size(folder):
+def test_size(folder: pathlib.Path) -> None:
     event_page(folder / "evening.html", "--coast", "rough", *EVENING)
     assert os.path.getsize(folder / "evening.html") < MOST
 
 
 @needs("aprsbook", "aprsbook-table", "aprs-net")
-def test_the_same_by_a_wheel(folder):
+def test_the_same_by_a_wheel(folder: pathlib.Path) -> None:
     """A wheel has the page, and makes the same of the same book, byte for byte."""
     event_page(folder / "tree.html", *EVENING)
     made = subprocess.run(

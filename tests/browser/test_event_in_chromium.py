@@ -7,11 +7,13 @@ import shutil
 import subprocess
 import time
 import xml.etree.ElementTree
+from typing import List, Tuple
 
 import pytest
 
 import hostile
 import scale
+from browser import Chromium, Place
 from by_hand import message, moment, page_of, place, row
 from given import EVENING, PICTURES, TABLE, TEXTS as texts, event_page, is_, picture
 from serving import Server
@@ -29,7 +31,7 @@ PICK = "[...document.querySelectorAll('.pick')].find(it => it.textContent === %r
 
 
 
-def placed(*inputs):
+def placed(*inputs: Place) -> int:
     """How many things have a place, by the table of the inputs."""
     command = ["aprsbook-table", *inputs]
     table = subprocess.run(command, stdout=subprocess.PIPE, check=True).stdout.decode()
@@ -39,12 +41,12 @@ def placed(*inputs):
 
 
 
-def change(page, name, value, kind="change"):
+def change(page: Chromium, name: str, value: str, kind: str = "change") -> None:
     page.js(f"(() => {{ const it = document.getElementById({name!r}); it.value = {value!r}; "
             f"it.dispatchEvent(new Event({kind!r})) }})()")
 
 
-def test_hostile(page, folder):
+def test_hostile(page: Chromium, folder: pathlib.Path) -> None:
     (folder / "hostile.log").write_text("".join(hostile.log()))
     (folder / "hostile.gpx").write_text(hostile.course())
     url = event_page(folder / "hostile.html", "--title", hostile.TITLE,
@@ -81,7 +83,7 @@ def test_hostile(page, folder):
     is_([it for it in page.happened("Network.responseReceived") if "127.0.0.1" in str(it)], [])
 
 
-def test_contained(page, folder):
+def test_contained(page: Chromium, folder: pathlib.Path) -> None:
     """Marks that pile up and text that runs the other way stay in their cell."""
     zalgo = "a" + "\\xcc\\x83" * 60
     lines = [place(k, f"Q1A{k}", 54.5, -3.5 + k / 100, zalgo if k == 3 else "plain")
@@ -100,7 +102,7 @@ def test_contained(page, folder):
             (width, []))
 
 
-def test_edges(page, folder):
+def test_edges(page: Chromium, folder: pathlib.Path) -> None:
     """On a map that became another size all names are whole."""
     rows = "".join(place(k, f"Q1LONG-{k}", 54.5 + k / 100, -3.5 + k % 2 / 50) for k in range(8))
     url = page_of(folder / "edges.html", rows, roster="Q1LONG-* A long name of it\n")
@@ -117,7 +119,7 @@ def test_edges(page, folder):
         is_((width, [it for it in cut if "Q1" in it]), (width, []))
 
 
-def test_controls(page, folder):
+def test_controls(page: Chromium, folder: pathlib.Path) -> None:
     url = event_page(folder / "evening.html", "--title", "Fell race", *EVENING)
     page.open(url)
     is_(page.requests(), [url])
@@ -164,7 +166,7 @@ def test_controls(page, folder):
     is_(page.problems(), [])
 
 
-def mouse(page):
+def mouse(page: Chromium) -> None:
     """The wheel zooms, a drag moves, a click picks; replaying comes to the end and stops there."""
     corner = page.js("(() => { const it = map.getBoundingClientRect(); return [it.x, it.y] })()")
     x, y = corner[0] + 90, corner[1] + 90
@@ -191,7 +193,7 @@ def mouse(page):
     assert "from Q1RUN-7" in told and "6.7 km, 260\u00b0" in told, told
 
 
-def test_names(page, folder):
+def test_names(page: Chromium, folder: pathlib.Path) -> None:
     page.open(event_page(folder / "evening.html", "--live", "600", *EVENING))
     page.wait("document.querySelectorAll('#timeline tbody tr').length > 10")
     nodes = page.call("Accessibility.getFullAXTree")["nodes"]
@@ -214,7 +216,7 @@ def test_names(page, folder):
     is_(page.js("document.activeElement.textContent"), page.js(shown + ".at(-1)"))
 
 
-def test_widths(page, folder):
+def test_widths(page: Chromium, folder: pathlib.Path) -> None:
     url = event_page(folder / "evening.html", "--title", "Fell race, 21 June 2024", *EVENING)
     (folder / "hostile.log").write_text("".join(hostile.log()))
     long = event_page(folder / "hostile.html", "--title", "x" * 300, str(folder / "hostile.log"))
@@ -236,7 +238,7 @@ def test_widths(page, folder):
     is_(page.problems(), [])
 
 
-def test_times(page, folder):
+def test_times(page: Chromium, folder: pathlib.Path) -> None:
     """Dates where more than one day is shown, the last hours alone, and local time."""
     lines = [place(600, "Q1OLD", 54.5, -3.5), place(1390, "Q1MID", 54.6, -3.5),
              place(1445, "Q1NEW", 54.7, -3.5)]
@@ -269,10 +271,10 @@ def test_times(page, folder):
     is_(page.problems(), [])
 
 
-def test_messages(page, folder):
+def test_messages(page: Chromium, folder: pathlib.Path) -> None:
     """The states are the table's; bulletins stand apart; Mic-E has its places."""
-    messages = (message("Q1A", "Q1B", "help needed{01}", "unnumbered", 1, reply_ack="unanswered") +
-                message("Q1A", "Q1B", "on my way{02}AA", "unnumbered", 2, reply_ack="acknowledged",
+    messages = (message("Q1A", "Q1B", "help needed{01}", "unnumbered", 1, outcome="unanswered") +
+                message("Q1A", "Q1B", "on my way{02}AA", "unnumbered", 2, outcome="acknowledged",
                         answer=moment(3), answer_source="Q1B") +
                 message("Q1A", "Q1B", "a set {} of braces", "unnumbered", 3) +
                 message("Q1A", "Q1B", "no room", "rejected", 3, id=6) +
@@ -292,12 +294,12 @@ def test_messages(page, folder):
     is_(page.js("[...document.querySelectorAll('#messages td.state')].map(it => it.title)")[-1],
         "by Q1B, 2024-06-21 00:03:00 UTC")
     is_(page.js(texts % "#bulletins td.text"), ["open at 18"])
-    rows = {name: [where, about.strip()] for name, where, about in page.js(
+    things = {name: [where, about.strip()] for name, where, about in page.js(
         "[...document.querySelectorAll('#things tbody tr')]"
         ".map(it => ['th', '.where', '.about'].map(one => it.querySelector(one).textContent))")}
-    is_(rows["Q1MIC-9"], ["33.2600, -124.5000", "251\u00b0, 37 km/h, en route hello\\"])
-    is_(rows["Q1FIRE"][1], "here: it burns")
-    is_(rows["Q1SHED"][1], "x")
+    is_(things["Q1MIC-9"], ["33.2600, -124.5000", "251\u00b0, 37 km/h, en route hello\\"])
+    is_(things["Q1FIRE"][1], "here: it burns")
+    is_(things["Q1SHED"][1], "x")
     page.wait("!!document.querySelector('#repeated')")
     is_(page.js(texts % "#repeated thead th"), ["station", "Q1DIG", "sent"])
     # the form, and what it saves
@@ -309,14 +311,14 @@ def test_messages(page, folder):
     assert pdf.startswith(b"%PDF")
     if PICTURES:
         (pathlib.Path(PICTURES) / "ics-309.pdf").write_bytes(pdf)
-    rows = list(csv.reader(io.StringIO(page.js(
+    sheet = list(csv.reader(io.StringIO(page.js(
         "aprsbook.savedText('messages (CSV)')"))))
-    is_(rows[1], [moment(1), "Q1A", "", "Q1B", "help needed{01}", "unanswered"])
-    is_(len(rows), 7)
+    is_(sheet[1], [moment(1), "Q1A", "", "Q1B", "help needed{01}", "unanswered"])
+    is_(len(sheet), 7)
     is_(page.problems(), [])
 
 
-def test_links(page, folder):
+def test_links(page: Chromium, folder: pathlib.Path) -> None:
     """The news lead to what they tell of, out of the map too; the address keeps what was chosen."""
     said = message("Q1A", "Q1B", "hi", "unanswered", 2, id=2)
     page.open(page_of(folder / "links.html", place(0, "Q1A", 54.5, -3.5), said) + "#time=local",
@@ -329,7 +331,7 @@ def test_links(page, folder):
     assert page.js("said.contains(document.activeElement)")
 
 
-def test_rest(page, folder):
+def test_rest(page: Chromium, folder: pathlib.Path) -> None:
     """Rows that aren't printed are said."""
     said = "".join(message("Q1A", "Q1B", f"no. {k}", "unanswered", k / 60, id=k)
                    for k in range(5004))
@@ -342,7 +344,7 @@ def test_rest(page, folder):
     page.js("dispatchEvent(new Event('afterprint'))")
 
 
-def test_long_texts(page, folder):
+def test_long_texts(page: Chromium, folder: pathlib.Path) -> None:
     """A message of octets that are no letters doesn't push others out of sight."""
     said = (message("Q1A", "Q1B", "\\x00" * 67, "unanswered", 1, id=1) +
             message("Q1A", "Q1B", "hi", "unanswered", 2, id=2))
@@ -353,7 +355,7 @@ def test_long_texts(page, folder):
     assert high[1][1] < 170, high
 
 
-def test_world(page, folder):
+def test_world(page: Chromium, folder: pathlib.Path) -> None:
     """Over the date line and round the pole: short tracks, and no place off the earth."""
     ferry = "".join(place(k, "Q1FERRY", -17.5, (179.95 + k / 100 + 180) % 360 - 180)
                     for k in range(11))
@@ -384,7 +386,7 @@ def test_world(page, folder):
     is_(page.problems(), [])
 
 
-def test_brought(page, folder):
+def test_brought(page: Chromium, folder: pathlib.Path) -> None:
     """Base maps and a roster, dropped on the page and taken away; what isn't one is named."""
     (folder / "coast.geojson").write_text(json.dumps({"type": "FeatureCollection", "features": [
         {"type": "Feature", "properties": {"name": "pier"},
@@ -421,7 +423,7 @@ def test_brought(page, folder):
     is_(page.js(texts % "#expected tbody th"), ["Q1RUN-*", "Q1NINE-9", "Q1MED-7"])
 
 
-def test_clocks(page, folder):
+def test_clocks(page: Chromium, folder: pathlib.Path) -> None:
     """A receiver whose clock is two hours ahead is named; one that is right isn't."""
     lines = []
     for k in range(9):
@@ -433,7 +435,7 @@ def test_clocks(page, folder):
     assert "the clock of COAST is +2 h from the others" in page.js(BADGES)
 
 
-def test_needs(page, folder):
+def test_needs(page: Chromium, folder: pathlib.Path) -> None:
     """Who is in need comes first of all news, in words, and with a sound that is switched on."""
     where = {"latitude": "54.51", "longitude": "-3.47", "symbol": "/j"}
     rows = (place(1, "Q1A", 54.5, -3.5) + place(2, "Q1NUL", 0, 0) + row("beacon", 3, "Q1ODD") +
@@ -473,7 +475,7 @@ def test_needs(page, folder):
     is_(page.problems(), [])
 
 
-def test_mute(page, folder):
+def test_mute(page: Chromium, folder: pathlib.Path) -> None:
     """A page that was loaded again says that its sound isn't heard, until somebody clicks in it."""
     url = page_of(folder / "mute.html", place(0, "Q1A", 54.5, -3.5))
     page.open(url)
@@ -486,7 +488,7 @@ def test_mute(page, folder):
     is_(page.problems(), [])
 
 
-def test_shown(page, folder):
+def test_shown(page: Chromium, folder: pathlib.Path) -> None:
     """What is picked comes into view on the map, and its row is marked."""
     rows = "".join(place(k, f"Q{k:03}", 54.5 + k % 9 / 100, -3.5) for k in range(120))
     page.open(page_of(folder / "shown.html", rows), 1280, 700)
@@ -503,7 +505,7 @@ def test_shown(page, folder):
                 "return row.top >= box.top && row.bottom <= box.bottom })()"), True)
 
 
-def test_hidden(page, folder):
+def test_hidden(page: Chromium, folder: pathlib.Path) -> None:
     """What the news name is shown, also where the time, the words or the map's moment hide it."""
     where = {"latitude": "54.51", "longitude": "-3.47", "symbol": "/j"}
     rows = (row("mic-e", 10, "Q1MIC-9", says="emergency", **where) +
@@ -529,7 +531,7 @@ def test_hidden(page, folder):
     is_(page.problems(), [])
 
 
-def test_far(page, folder):
+def test_far(page: Chromium, folder: pathlib.Path) -> None:
     """The map opens on what is near most; the rest is said, and shown at a click."""
     rows = "".join(place(k, f"Q1A{k}", 54.5 + k / 500, -3.5) for k in range(9))
     rows += place(10, "Q1FAR", -20, 100) + "".join(place(k, f"Q1Z{k}", 0, 0) for k in range(5))
@@ -545,12 +547,12 @@ def test_far(page, folder):
     assert page.js(km) < 20
 
 
-def touch(page, kind, *spots):
+def touch(page: Chromium, kind: str, *spots: Tuple[float, float]) -> None:
     page.call("Input.dispatchTouchEvent", type=kind,
               touchPoints=[{"x": x, "y": y} for x, y in spots])
 
 
-def test_touch(page, folder):
+def test_touch(page: Chromium, folder: pathlib.Path) -> None:
     """On a telephone one finger on the map scrolls the page, and two move the map."""
     rows = "".join(place(k, f"Q1ABCD-{k}", 54.5 + k / 500, -3.5) for k in range(9))
     messages = message("Q1ABCD-10", "Q1EFGH-11", "are you there", "unanswered", 5, id=1)
@@ -585,7 +587,7 @@ def test_touch(page, folder):
     assert last <= box
 
 
-def test_keys(page, folder):
+def test_keys(page: Chromium, folder: pathlib.Path) -> None:
     """Escape closes a menu and leaves the map that fills the window; the clock says its time."""
     rows = place(1, "Q1A", 54.5, -3.5) + place(9, "Q1A", 54.6, -3.5)
     page.open(page_of(folder / "keys.html", rows))
@@ -615,7 +617,7 @@ STANDS = """(() => { const box = document.getElementById('things-box');
         document.activeElement.textContent.slice(0, 9)] })()"""
 
 
-def test_stays(page, folder):
+def test_stays(page: Chromium, folder: pathlib.Path) -> None:
     """Another drawing leaves a list where it is scrolled, and the keyboard in its row; a row that
     is picked says so."""
     rows = "".join(place(k % 60, f"Q1A{k:03}", 54.5, -3.5) for k in range(150))
@@ -637,7 +639,7 @@ TAP = """(() => { const { map, layers: { stations } } = aprsbook; map.paint();
     return [stations.fan.keys.length, aprsbook.page.picked] })()"""
 
 
-def test_marks(page, folder):
+def test_marks(page: Chromium, folder: pathlib.Path) -> None:
     """Marks in one place have a number and fan out; colours are said; thousands are density."""
     rows = "".join(place(k, f"Q1CLB-{k + 1}", 54.5, -3.5) for k in range(5))
     rows += "".join(place(k, "Q1A", 54.5 + k / 900, -3.4, receivers="RX2") for k in range(40))
@@ -668,7 +670,7 @@ def test_marks(page, folder):
     is_(page.problems(), [])
 
 
-def test_graphs(page, folder):
+def test_graphs(page: Chromium, folder: pathlib.Path) -> None:
     """What is picked has its transmissions, and graphs of what they say."""
     rows = "".join(place(5 * k, "Q1WX", 54.5, -3.5, symbol="/_", temperature_f=50 + k,
                          humidity=60 + k % 9, wind_mph=k, gust_mph=k + 3)
@@ -689,7 +691,7 @@ def test_graphs(page, folder):
     is_(page.problems(), [])
 
 
-def test_coast(page, folder):
+def test_coast(page: Chromium, folder: pathlib.Path) -> None:
     """Coasts below the map, also across the date line, and whose they are."""
     rows = place(1, "Q1A", 51.5, -0.1) + place(2, "Q1B", 40.7, -74) + place(3, "Q1C", -33.9, 151.2)
     page.open(page_of(folder / "coast.html", rows))
@@ -711,7 +713,7 @@ def test_coast(page, folder):
     picture(page, "coast")
 
 
-def test_shore(page, folder):
+def test_shore(page: Chromium, folder: pathlib.Path) -> None:
     """A fine coast around the evening, where GMT is there: St Bees Head and the sea off it."""
     if not shutil.which("gmt"):
         print("left out: a fine coast (no gmt is there)")
@@ -736,14 +738,14 @@ def test_shore(page, folder):
     picture(page, "shore")
 
 
-def test_saves(page, folder):
+def test_saves(page: Chromium, folder: pathlib.Path) -> None:
     """GPX, KML, GeoJSON and CSV have the places of tracks; no cell is a formula."""
     (folder / "all.log").write_text("".join(hostile.log()))
     page.open(event_page(folder / "saves.html", folder / "all.log"))
     saved = {name: page.js(f"aprsbook.savedText({name!r})")
              for name in page.js("Object.keys(aprsbook.SAVES)")}
     rows = list(csv.DictReader(io.StringIO(saved["places (CSV)"])))
-    command = ["aprsbook-history", folder / "all.log"]
+    command: List[Place] = ["aprsbook-history", folder / "all.log"]
     own = subprocess.run(command, stdout=subprocess.PIPE, check=True)
     count = sum(it.startswith((b"position", b"object", b"item")) for it in own.stdout.splitlines())
     is_(len(rows), count)
@@ -760,7 +762,7 @@ def test_saves(page, folder):
     is_(saved["table (TSV)"].count("\n") - 1, own.stdout.count(b"\n"))
 
 
-def test_scale(page, folder):
+def test_scale(page: Chromium, folder: pathlib.Path) -> None:
     """2,000 stations: the time to the first picture, for a letter in find, and for a move."""
     scale.judged_stations(page, folder)
     assert page.js("document.querySelectorAll('#things tbody tr').length") < 200
@@ -775,12 +777,12 @@ def test_scale(page, folder):
     picture(page, "many")
 
 
-def test_many(page, folder):
+def test_many(page: Chromium, folder: pathlib.Path) -> None:
     """10,000 stations are moved as smoothly as a wheel turns."""
     scale.judged_stations(page, folder, 10000, scale.MANY)
 
 
-def test_slices(page, folder):
+def test_slices(page: Chromium, folder: pathlib.Path) -> None:
     """A large net is drawn in slices: until then the one before stays, and a later one comes in
     its place."""
     lines = [place(n % 1400, f"Q{n % 300}", 54 + n % 50 / 25, -4 + n % 61 / 20, f"no. {n}")
@@ -799,11 +801,14 @@ def test_slices(page, folder):
     is_(page.problems(), [])
 
 
-def test_live(page, folder):
+def test_live(page: Chromium, folder: pathlib.Path) -> None:
     path = folder / "live.html"
     event_page(path, "--live", "1", EVENING[0])
     page.open(f"file://{path}#find=net&things=5d")
-    loads = lambda: len(page.happened("Page.loadEventFired"))
+
+    def loads() -> int:
+        return len(page.happened("Page.loadEventFired"))
+
     event_page(path, "--live", "1", *EVENING)
     # one question, since an answer is lost where the page loads itself anew meanwhile
     page.wait("document.querySelector('header p').textContent.includes('64 transmissions') && "
@@ -822,7 +827,7 @@ def test_live(page, folder):
     is_(page.problems(), [])
 
 
-def test_written(page, folder):
+def test_written(page: Chromium, folder: pathlib.Path) -> None:
     """What is written in the form isn't lost where a page on a disk loads itself again."""
     url = page_of(folder / "written.html", place(0, "Q1A", 54.5, -3.5), live=60)
     page.open(url)
@@ -844,14 +849,16 @@ def test_written(page, folder):
     is_(page.problems(), [])
 
 
-def test_asleep(page, folder):
+def test_asleep(page: Chromium, folder: pathlib.Path) -> None:
     """A page that goes on and wakes: receivers and expected stations are silent too, and it says
     how old it is, not that nothing was heard."""
     rows = place(0, "Q1A", 54.5, -3.5, receivers="RX1") + place(9, "Q1B", 54.6, -3.5,
                                                                 receivers="RX2")
     page.open(page_of(folder / "asleep.html", rows, live=60, roster="Q1A\nQ1B\n") + "#live=off")
-    at = lambda minute: page.js(f"(Date.now = () => Date.parse({moment(minute)!r}), "
-                                "aprsbook.tick(), 1)")
+
+    def at(minute: float) -> None:
+        page.js(f"(Date.now = () => Date.parse({moment(minute)!r}), aprsbook.tick(), 1)")
+
     silent = ("['receivers', 'roster', 'things'].map(it => document.querySelectorAll("
               "`#${it}-box tr.silent`).length)")
     at(10)
@@ -874,7 +881,7 @@ def test_asleep(page, folder):
     is_(page.problems(), [])
 
 
-def test_served(page, folder):
+def test_served(page: Chromium, folder: pathlib.Path) -> None:
     """From a server: the data alone are asked for again, and the page stays while that is away."""
     event_page(folder / "live.html", "--live", "1", EVENING[0])
     with Server(folder) as server:

@@ -1,6 +1,7 @@
 """The page of an event in headless Firefox: nothing runs, nothing is asked for, the map, tables and
 times are there, keys reach each control, and paper has what the page has."""
 import json
+import pathlib
 import shutil
 import subprocess
 
@@ -8,6 +9,7 @@ import pytest
 
 import hostile
 import scale
+from browser import Browser
 from given import EVENING, TEXTS as texts, event_page, is_, picture
 from serving import Server
 
@@ -43,7 +45,7 @@ KEYED = [
 
 
 
-def test_evening(page, folder):
+def test_evening(page: Browser, folder: pathlib.Path) -> None:
     page.open(event_page(folder / "evening.html", "--title", "Fell race", *EVENING))
     page.wait("document.querySelectorAll('#timeline tbody tr').length > 10")
     is_(page.js("(aprsbook.map.paint(), aprsbook.layers.stations.marks.length)"),
@@ -60,7 +62,7 @@ def test_evening(page, folder):
     is_(page.requests(), [])
 
 
-def test_hostile(page, folder):
+def test_hostile(page: Browser, folder: pathlib.Path) -> None:
     (folder / "hostile.log").write_text("".join(hostile.log()))
     (folder / "hostile.gpx").write_text(hostile.course())
     page.open(event_page(folder / "hostile.html", "--title", hostile.TITLE,
@@ -74,7 +76,7 @@ def test_hostile(page, folder):
     is_(page.requests(), [])
 
 
-def test_keys(page, folder):
+def test_keys(page: Browser, folder: pathlib.Path) -> None:
     page.open(event_page(folder / "keys.html", *EVENING))
     page.wait("document.querySelectorAll('#timeline tbody tr').length > 10")
     left = set("in out fit fill sound play clock colours map find kind since local saves adds "
@@ -94,7 +96,7 @@ def test_keys(page, folder):
         page.wait(f"({value}) === {json.dumps(wanted)}", 5)
 
 
-def test_roster(page, folder):
+def test_roster(page: Browser, folder: pathlib.Path) -> None:
     (folder / "roster.txt").write_text("Q1RUN-* leader\nQ1MED-7 at the second post\nQ1NINE\n")
     page.open(event_page(folder / "roster.html", *EVENING))
     page.give("#bring", folder / "roster.txt")
@@ -104,7 +106,7 @@ def test_roster(page, folder):
             in page.js(texts % "#news > *"))
 
 
-def test_paper(page, folder):
+def test_paper(page: Browser, folder: pathlib.Path) -> None:
     """The page and the form on paper; the map has the colours of paper meanwhile."""
     page.open(event_page(folder / "paper.html", "--title", "Fell race", *EVENING))
     page.wait("document.querySelectorAll('#timeline tbody tr').length > 10")
@@ -124,7 +126,7 @@ def test_paper(page, folder):
     is_(page.js("document.documentElement.classList.contains('printed')"), False)
 
 
-def test_served(page, folder):
+def test_served(page: Browser, folder: pathlib.Path) -> None:
     """A page that is served goes on while its server is away, and says so."""
     event_page(folder / "live.html", "--live", "1", EVENING[0])
     with Server(folder) as server:
@@ -138,6 +140,6 @@ def test_served(page, folder):
         page.wait("!stale.textContent.includes('away')")
 
 
-def test_scale(page, folder):
+def test_scale(page: Browser, folder: pathlib.Path) -> None:
     scale.judged_stations(page, folder)
 

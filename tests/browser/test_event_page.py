@@ -4,11 +4,14 @@ import hashlib
 import html
 import itertools
 import json
+import pathlib
 import re
 import resource
 import subprocess
+from typing import Any, Dict, List, Tuple
 
 import hostile
+from browser import Place
 from given import EXAMPLES, needs
 
 pytestmark = needs("aprsbook", "aprsbook-table", "aprs-net")
@@ -17,21 +20,21 @@ DATA = re.compile('<script type="application/json" id="data">(.*?)</script>', re
 INSIDE = re.compile(r"<(style|script)>(.*?)</\1>", re.S)
 
 
-def event_page(*arguments, **keywords):
-    command = ["aprs-net", "page", *arguments]
+def event_page(*arguments: Place, **keywords: Any) -> str:
+    command: List[Place] = ["aprs-net", "page", *arguments]
     done = subprocess.run(command, stdout=subprocess.PIPE, check=True, **keywords)
-    return done.stdout.decode("utf-8")
+    return str(done.stdout, "utf-8")
 
 
-def output(*command):
+def output(*command: Place) -> str:
     return subprocess.run(command, stdout=subprocess.PIPE, check=True).stdout.decode("ascii")
 
 
-def own(text):
+def own(text: str) -> str:
     return "'sha256-" + base64.b64encode(hashlib.sha256(text.encode()).digest()).decode() + "'"
 
 
-def read(text):
+def read(text: str) -> Tuple[str, Dict[str, Any]]:
     """The page's frame, without its data and its title, and the data, after what holds for each."""
     [data] = DATA.findall(text)
     assert not re.search("[<>&]", data)
@@ -48,7 +51,7 @@ def read(text):
     return frame.replace(asks, "", 1), value
 
 
-def test_order(folder):
+def test_order(folder: pathlib.Path) -> None:
     pages = {event_page(*order) for order in itertools.permutations(LOGS)}
     assert len(pages) == 1
     (folder / "net.book").write_text(output("aprsbook", "merge", *LOGS))
@@ -66,7 +69,7 @@ def test_order(folder):
     assert sorted(it.name for it in folder.iterdir()) == ["net.book", "page.html"]
 
 
-def test_hostile(folder):
+def test_hostile(folder: pathlib.Path) -> None:
     (folder / "hostile.log").write_text("".join(hostile.log()))
     (folder / "hostile.gpx").write_text(hostile.course())
     (folder / "-x.log").write_text("".join(hostile.log()))
@@ -79,19 +82,19 @@ def test_hostile(folder):
     assert other["rows"] == data["rows"] and other["gap"] == 60
 
 
-def test_nothing(folder):
+def test_nothing(folder: pathlib.Path) -> None:
     (folder / "empty.log").write_text("")
     assert read(event_page(folder / "empty.log"))[1]["rows"].count("\n") == 1
 
 
-def refused(folder, *arguments, status=1, **keywords):
+def refused(folder: pathlib.Path, *arguments: Place, status: int = 1, **keywords: Any) -> str:
     (folder / "page.html").write_text("before")
     done = subprocess.run(["aprs-net", "page", "-o", folder / "page.html", *arguments],
                           stdout=subprocess.PIPE, stderr=subprocess.PIPE, **keywords)
     assert done.returncode == status and done.stdout == b"", done
     assert (folder / "page.html").read_text() == "before"
     assert not list(folder.glob("*.new*"))
-    return done.stderr.decode()
+    return str(done.stderr, "utf-8")
 
 
 BAD_MAPS = [
@@ -103,7 +106,7 @@ BAD_MAPS = [
 ]
 
 
-def test_refused(folder):
+def test_refused(folder: pathlib.Path) -> None:
     (folder / "torn.log").write_text("2024-06-21T18:00")
     assert "torn.log" in refused(folder, folder / "torn.log")
     for text in BAD_MAPS:
@@ -114,16 +117,16 @@ def test_refused(folder):
     assert "nowhere" in refused(folder, "--roster", folder / "nowhere.txt", LOGS[0])
 
     # a disk that is full
-    def limit():
+    def limit() -> None:
         resource.setrlimit(resource.RLIMIT_FSIZE, (20000, 20000))
 
     assert refused(folder, *LOGS, status=3, preexec_fn=limit)
 
 
-def test_two(folder):
+def test_two(folder: pathlib.Path) -> None:
     """Two at once write one page or the other, whole."""
-    commands = [["aprs-net", "page", "-o", folder / "page.html", "--title", title, *LOGS]
-                for title in "ab"]
+    commands: List[List[Place]] = [
+        ["aprs-net", "page", "-o", folder / "page.html", "--title", title, *LOGS] for title in "ab"]
     for _ in range(3):
         for one in [subprocess.Popen(command) for command in commands]:
             assert one.wait() == 0
@@ -131,8 +134,8 @@ def test_two(folder):
     assert [it.name for it in folder.iterdir()] == ["page.html"]
 
 
-def test_contrast():
-    def light(colour):
+def test_contrast() -> None:
+    def light(colour: str) -> float:
         digits = colour[1:] if len(colour) == 7 else "".join(2 * digit for digit in colour[1:])
         parts = [int(digits[n:n + 2], 16) / 255 for n in (0, 2, 4)]
         parts = [it / 12.92 if it <= 0.04045 else ((it + 0.055) / 1.055) ** 2.4 for it in parts]

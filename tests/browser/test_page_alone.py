@@ -4,6 +4,7 @@ import contextlib
 import functools
 import gzip
 import http.server
+import io
 import json
 import pathlib
 import shutil
@@ -11,12 +12,14 @@ import sqlite3
 import tempfile
 import threading
 import time
+from typing import Any, BinaryIO, Dict, Mapping, Optional, Set, Union
 
 import pytest
 
 import by_hand
 import hostile
 import scale
+from browser import Browser, Chromium, Place
 from given import REPOSITORY, TABLE, is_, picture
 from serving import Server
 
@@ -47,38 +50,39 @@ EMPTY_MODULE = b"\0asm\1\0\0\0"
 
 
 @functools.lru_cache(maxsize=None)
-def page_text():
+def page_text() -> str:
     """The page with the stand-in in place of the module and its host."""
     with tempfile.TemporaryDirectory() as name:
         source = pathlib.Path(name, "src")
         shutil.copytree(REPOSITORY / "page/src", source)
         shutil.copyfile(HERE / "stand_in.js", source / "worker/wasm-host.js")
-        return by_hand.build.reader(EMPTY_MODULE, source=source)
+        return by_hand.reader(EMPTY_MODULE, source)
 
 
-def line(second, source, text, receiver="RX1"):
+def line(second: int, source: str, text: str, receiver: str = "RX1") -> str:
     frame = hostile.address("APRS", 0xE0) + hostile.address(source, 0x60, 1) + b"\x03\xf0"
     clock = f"2024-06-21T{18 + second // 3600:02}:{second // 60 % 60:02}:{second % 60:02}Z"
     return hostile.line(clock, receiver, frame + text.encode())
 
 
-def place(second, source, minutes=30.0, receiver="RX1", text=""):
+def place(second: int, source: str, minutes: float = 30.0, receiver: str = "RX1",
+          text: str = "") -> str:
     return line(second, source, f"!54{minutes:05.2f}N/00330.00W>{text}", receiver)
 
 
-def log(count, receiver="RX1"):
+def log(count: int, receiver: str = "RX1") -> str:
     return "".join(place(100 * k, f"Q1A-{k % 15 + 1}", 30 + k % 20, receiver, f"no. {k}")
                    for k in range(count))
 
 
-def fresh(page, folder, url=None):
+def fresh(page: Browser, folder: pathlib.Path, url: Optional[str] = None) -> None:
     path = folder / "page.html"
     path.write_text(page_text(), encoding="utf-8")
     page.open(url or path.as_uri(), 1280, 1100)
     page.wait("!document.getElementById('choose').disabled")
 
 
-def give(page, folder, files):
+def give(page: Browser, folder: pathlib.Path, files: Mapping[str, Union[str, bytes]]) -> None:
     for name, text in files.items():
         (folder / name).write_bytes(text if isinstance(text, bytes) else text.encode())
     page.give("#choose", *[folder / name for name in files])
@@ -86,7 +90,7 @@ def give(page, folder, files):
     page.wait("document.getElementById('progress').hidden")
 
 
-def test_damaged(page, folder):
+def test_damaged(page: Browser, folder: pathlib.Path) -> None:
     """All damaged lines are shown, and left out at a click; the rest is read."""
     lines = log(20).splitlines(True)
     lines[3] = lines[3].replace("c000", "c0zz", 1)
@@ -108,7 +112,7 @@ def test_damaged(page, folder):
     is_(page.problems(), [])
 
 
-def test_strangers(page, folder):
+def test_strangers(page: Browser, folder: pathlib.Path) -> None:
     """What is no log is named as what it is, and no more of it is read than its beginning."""
     fresh(page, folder)
     give(page, folder, {"photo.log": b"\x89PNG\r\n\x1a\n" + bytes(2000), "a.log": log(3),
@@ -128,7 +132,7 @@ def test_strangers(page, folder):
         ["and 7 more"])
 
 
-def test_windows(page, folder):
+def test_windows(page: Browser, folder: pathlib.Path) -> None:
     """Logs as Windows writes them are read, and that is said."""
     text = log(5).replace("\n", "\r\n")
     fresh(page, folder)
@@ -143,7 +147,7 @@ def test_windows(page, folder):
     is_(page.js(ROWS), 5)
 
 
-def test_names(page, folder):
+def test_names(page: Browser, folder: pathlib.Path) -> None:
     """No name turns what stands beside it."""
     name = "log\u202egnp.log"
     fresh(page, folder)
@@ -152,22 +156,22 @@ def test_names(page, folder):
         "log\\xe2\\x80\\xaegnp.log")
 
 
-def drop(page, *paths):
+def drop(page: Chromium, *paths: Place) -> None:
     data = {"items": [], "files": list(map(str, paths)), "dragOperationsMask": 1}
     for kind in "dragEnter", "dragOver", "drop":
         page.call("Input.dispatchDragEvent", type=kind, x=300, y=130, data=data)
 
 
 @pytest.mark.browsers("Chromium")
-def test_folders(page, folder):
-    """Files in dropped folders are read, and squares of a web map are drawn below all else."""
+def test_folders(page: Chromium, folder: pathlib.Path) -> None:
+    """Files in dropped folders are read, and tiles of a web map are drawn below all else."""
     (folder / "logs/day").mkdir(parents=True)
     (folder / "logs/a.log").write_text(log(3))
     (folder / "logs/day/b.log").write_text(log(4, "RX2"))
     for x in range(2002, 2012):
         (folder / f"tiles/12/{x}").mkdir(parents=True)
         for y in range(1280, 1320):
-            (folder / f"tiles/12/{x}/{y}.png").write_bytes(SQUARE)
+            (folder / f"tiles/12/{x}/{y}.png").write_bytes(TILE)
     # a browser lets no page on a disk read a folder that is dropped
     fresh(page, folder)
     for _ in range(2):
@@ -184,16 +188,16 @@ def test_folders(page, folder):
         is_(sorted(page.js(TOLD)), ["a.log", "b.log"])
         drop(page, folder / "tiles")
         page.wait("aprsbook.layers.tiles.size === 400")
-        squares(page)
+        red_tiles(page)
         carries(page, folder)
 
 
-def squares(page):
-    """A red square lies below the middle of the map."""
+def red_tiles(page: Browser) -> None:
+    """A red tile lies below the middle of the map."""
     page.js("(aprsbook.map.look('54.65,-3.5,20'), aprsbook.map.paint())")
     page.wait("[...aprsbook.layers.tiles.made.values()].some(Boolean)")
     page.wait(f"{BESIDE_MIDDLE} === '200,30,30'")
-    assert "400 squares" in page.js("document.getElementById('own-map').textContent")
+    assert "400 tiles" in page.js("document.getElementById('own-map').textContent")
     # no seam between two of them, where they are drawn smaller and larger than they are
     for where in "54.65,-3.5,20", "54.65,-3.5,33.3", "54.6,-3.52,71":
         page.js(f"(aprsbook.map.look('{where}'), aprsbook.map.paint())")
@@ -203,8 +207,8 @@ def squares(page):
     picture(page, "tiles")
 
 
-def carries(page, folder):
-    """The saved page has the squares around the places, as far as they may be."""
+def carries(page: Browser, folder: pathlib.Path) -> None:
+    """The saved page has the tiles around the places, as far as they may be."""
     path = page.saves_in(folder) / "event.html"
     page.js("(saves.open = true, 1)")
     page.wait("most.checkVisibility()")
@@ -215,7 +219,7 @@ def carries(page, folder):
                 break
             time.sleep(0.05)
         else:
-            raise AssertionError(f"squares of {most} MB")
+            raise AssertionError(f"tiles of {most} MB")
     assert page.js("document.getElementById('status').textContent").startswith("event.html has ")
     page.open(path.as_uri())
     page.wait("aprsbook.net !== null")
@@ -223,29 +227,29 @@ def carries(page, folder):
     is_(page.problems(), [])
 
 
-def mbtiles(path):
-    """An MBTiles file of red squares of level 12."""
+def mbtiles(path: pathlib.Path) -> None:
+    """An MBTiles file of red tiles of level 12."""
     with contextlib.closing(sqlite3.connect(path)) as base:
         base.execute("CREATE TABLE tiles (zoom_level, tile_column, tile_row, tile_data)")
         base.execute("CREATE INDEX it ON tiles (zoom_level, tile_column, tile_row)")
         for x in range(2002, 2012):
             for y in range(1280, 1320):
-                base.execute("INSERT INTO tiles VALUES (12, ?, ?, ?)", (x, 4095 - y, SQUARE))
+                base.execute("INSERT INTO tiles VALUES (12, ?, ?, ?)", (x, 4095 - y, TILE))
         base.commit()
 
 
-def own_map(page):
-    return page.js("document.getElementById('own-map').textContent")
+def own_map(page: Browser) -> str:
+    return str(page.js("document.getElementById('own-map').textContent"))
 
 
-def is_red(page, words, where="54.65,-3.5,20"):
+def is_red(page: Browser, words: str, where: str = "54.65,-3.5,20") -> None:
     """The map is red beside its middle, and says of what."""
     page.js(f"(aprsbook.map.look('{where}'), aprsbook.map.paint())")
     page.wait(f"{BESIDE_MIDDLE} === '200,30,30'")
     is_(own_map(page), words)
 
 
-def test_archives(page, folder):
+def test_archives(page: Browser, folder: pathlib.Path) -> None:
     """Squares in a database are drawn by slices; a database of something else is named."""
     fresh(page, folder)
     mbtiles(folder / "map.mbtiles")
@@ -262,11 +266,11 @@ def test_archives(page, folder):
     is_(own_map(page), "")
 
 
-def test_sheet(page, folder):
+def test_sheet(page: Browser, folder: pathlib.Path) -> None:
     """A picture lies where three of its corners are, which are asked for or come in a file."""
     fresh(page, folder)
     (folder / "a.log").write_text(log(3))
-    (folder / "sheet.png").write_bytes(SQUARE)
+    (folder / "sheet.png").write_bytes(TILE)
     # degrees for a pixel, and the middle of the first: 55 N 4 W, and a degree wide and high
     size = 1 / 256
     (folder / "sheet.pgw").write_text(f"{size}\n0\n0\n-{size}\n{-4 + size / 2}\n{55 - size / 2}\n")
@@ -287,20 +291,20 @@ def test_sheet(page, folder):
     is_red(page, "Own map: sheet.png.")
 
 
-def choose(page, name, value):
+def choose(page: Browser, name: str, value: Union[str, bool]) -> None:
     page.js(f"(() => {{ const it = document.getElementById('{name}'); "
             f"if (it.type === 'checkbox') it.checked = {json.dumps(value)}; "
             f"else it.value = {json.dumps(value)}; it.dispatchEvent(new Event('change')) }})()")
 
 
-def click(page, x, y, kind="mouse"):
+def click(page: Chromium, x: float, y: float, kind: str = "mouse") -> None:
     for name in "Moved", "Pressed", "Released":
         page.call("Input.dispatchMouseEvent", type="mouse" + name, x=x, y=y, button="left",
                   clickCount=1, pointerType=kind)
 
 
 @pytest.mark.browsers("Chromium")
-def test_units(page, folder):
+def test_units(page: Chromium, folder: pathlib.Path) -> None:
     """Miles and the form of places are kept by the browser; a line is measured by clicks."""
     text = "/036/A=001000"
     fresh(page, folder)
@@ -331,7 +335,7 @@ def test_units(page, folder):
 
 
 @pytest.mark.browsers("Chromium")
-def test_edge(page, folder):
+def test_edge(page: Chromium, folder: pathlib.Path) -> None:
     """The edge of the map is dragged, by keys too; on a wide screen lists stand beside."""
     fresh(page, folder)
     give(page, folder, {"a.log": log(3)})
@@ -368,7 +372,7 @@ def test_edge(page, folder):
     assert "high=" in page.js("location.hash")
 
 
-def test_turns(page, folder):
+def test_turns(page: Browser, folder: pathlib.Path) -> None:
     """What an older turn has to say of its progress isn't said once another has come."""
     fresh(page, folder)
     slow = place(0, "Q1A", 30, "SLOW900")
@@ -384,7 +388,7 @@ def test_turns(page, folder):
     assert "merging" not in page.js("document.getElementById('status').textContent")
 
 
-def test_twice(page, folder):
+def test_twice(page: Browser, folder: pathlib.Path) -> None:
     """A log that is dropped twice stands there once; another one of its name stands beside it."""
     (folder / "day").mkdir()
     for name, text in {"a.log": log(3), "day/a.log": log(4), "b.png": "%PDF-1.7"}.items():
@@ -398,7 +402,7 @@ def test_twice(page, folder):
         is_(page.js(f"[{ROWS}, aprsfiles.files.length]"), [4, 3])
 
 
-def test_taken(page, folder):
+def test_taken(page: Browser, folder: pathlib.Path) -> None:
     """A file that is taken away just before its book is drawn isn't drawn."""
     fresh(page, folder)
     (folder / "a.log").write_text(log(3))
@@ -416,7 +420,7 @@ def test_taken(page, folder):
     is_(page.problems(), [])
 
 
-def test_huge(page, folder):
+def test_huge(page: Browser, folder: pathlib.Path) -> None:
     """What is larger than an input may be isn't read, packed or not."""
     fresh(page, folder)
     for name in ("huge.log", "huge.log.gz"):
@@ -436,7 +440,7 @@ def test_huge(page, folder):
     assert max(page.js("read")) <= 65536, page.js("read")
 
 
-def test_large_file(page, folder):
+def test_large_file(page: Browser, folder: pathlib.Path) -> None:
     """A large file isn't kept in memory but read when it is needed; one that is gone meanwhile is
     named, and one with a damaged line is put right as others are."""
     fresh(page, folder)
@@ -470,7 +474,7 @@ def test_large_file(page, folder):
     is_(page.problems(), [])
 
 
-def test_fault(page, folder):
+def test_fault(page: Browser, folder: pathlib.Path) -> None:
     """A fault that nobody thought of is said, and nothing waits for ever."""
     fresh(page, folder)
     page.js("(aprsbook.layers.tiles.take = () => { throw new Error('no room') }, 1)")
@@ -480,7 +484,7 @@ def test_fault(page, folder):
                 "document.getElementById('progress').hidden]"), [True, True])
 
 
-def test_stopped(page, folder):
+def test_stopped(page: Browser, folder: pathlib.Path) -> None:
     """A worker that stops takes its own file along alone, and another one takes its place."""
     fresh(page, folder)
     for turn in range(4):
@@ -491,7 +495,7 @@ def test_stopped(page, folder):
     page.wait(f"{MADE} && {ROWS} === 3")
 
 
-def test_skipped(page, folder):
+def test_skipped(page: Browser, folder: pathlib.Path) -> None:
     """By keys one is past many files at once."""
     fresh(page, folder)
     give(page, folder, {f"{k:02}.log": log(1, f"RX{k}") for k in range(30)})
@@ -504,7 +508,7 @@ def test_skipped(page, folder):
     is_(page.js("document.activeElement.id"), "in")
 
 
-def test_brought(page, folder):
+def test_brought(page: Browser, folder: pathlib.Path) -> None:
     """A roster of a spreadsheet and a KML beside a log; faults of the roster have their lines."""
     kml = ("<?xml version='1.0'?><kml xmlns='http://www.opengis.net/kml/2.2'><Document><Placemark>"
            "<name>pier</name><Point><coordinates>-3.5,54.5,0</coordinates></Point></Placemark>"
@@ -524,7 +528,7 @@ def test_brought(page, folder):
               "it.textContent === 'The; leader (Q1A-2)')")
 
 
-def test_clock(page, folder):
+def test_clock(page: Browser, folder: pathlib.Path) -> None:
     """A clock that is off is put right, which is said and saved, and left as it was."""
     fresh(page, folder)
     late = "".join(place(100 * k + 3600, f"Q1A-{k % 15 + 1}", 30 + k % 20, "COAST", f"no. {k}")
@@ -560,7 +564,7 @@ def test_clock(page, folder):
     is_(page.js("aprsbook.data.notes"), [])
 
 
-def test_two_clocks(page, folder):
+def test_two_clocks(page: Browser, folder: pathlib.Path) -> None:
     """Where two clocks are apart and none is known to be right, each is put right by the other."""
     fresh(page, folder)
     late = "".join(place(100 * k + 3600, f"Q1A-{k % 15 + 1}", 30 + k % 20, "COAST", f"no. {k}")
@@ -576,7 +580,7 @@ def test_two_clocks(page, folder):
     is_(page.js("aprsbook.data.notes"), ["the clock of COAST was put 60 min back here"])
 
 
-def own_line(page, text, at="2024-06-21T18:05:00"):
+def own_line(page: Browser, text: str, at: str = "2024-06-21T18:05:00") -> None:
     """Adds a line of the operator's own to the form."""
     for name, value in (("at", at), ("from", "CP1"), ("to", "Net"), ("text", text)):
         page.js(f"(document.getElementById('own-{name}').value = {value!r}, 1)")
@@ -587,7 +591,7 @@ LOGGED = ("[...document.querySelectorAll('#ics-sheets tbody tr.own')]"
           ".map(it => it.querySelector('.text bdi').textContent)")
 
 
-def test_example(page, folder):
+def test_example(page: Browser, folder: pathlib.Path) -> None:
     """A first page that shows what a log looks like, and tries one."""
     fresh(page, folder)
     shown = "document.getElementById('first').checkVisibility()"
@@ -605,7 +609,7 @@ def test_example(page, folder):
     picture(page, "example")
 
 
-def test_own_lines(page, folder):
+def test_own_lines(page: Browser, folder: pathlib.Path) -> None:
     """The operator's own lines are kept, saved with the event, and read back of its page."""
     # a page of its own origin keeps them; one on a disk may not
     with Server(folder) as server:
@@ -648,7 +652,7 @@ def test_own_lines(page, folder):
     page.js("(localStorage.clear(), 1)")
 
 
-def test_other_days(page, folder):
+def test_other_days(page: Browser, folder: pathlib.Path) -> None:
     """Lines that the browser keeps of another day are left out, which is said."""
     with Server(folder) as server:
         fresh(page, folder, f"http://127.0.0.1:{server.port}/page.html")
@@ -666,7 +670,7 @@ def test_other_days(page, folder):
 
 
 @pytest.mark.browsers("Chromium")
-def test_denied(page, folder):
+def test_denied(page: Chromium, folder: pathlib.Path) -> None:
     """Where a browser keeps nothing, the page works, and says that it keeps no lines."""
     denied = ("Object.defineProperty(window, 'localStorage', "
               "{ get() { throw new DOMException('denied', 'SecurityError') } })")
@@ -692,7 +696,7 @@ LONGEST = """(() => { window.task = 0;
 
 
 @pytest.mark.browsers("Chromium")
-def test_saves(page, folder):
+def test_saves(page: Browser, folder: pathlib.Path) -> None:
     """No save of a large net stops the page, and the page of the event is whole."""
     fresh(page, folder)
     give(page, folder, {"a.log": log(3)})
@@ -706,7 +710,7 @@ def test_saves(page, folder):
     names = {"event": "event.html", "places and tracks (GPX)": "net.gpx",
              "places and tracks (GeoJSON)": "net.geojson", "table (TSV)": "table.tsv"}
 
-    def measure():
+    def measure() -> Dict[str, float]:
         page.js(LONGEST)
         tasks = {}
         for name, file in names.items():
@@ -728,7 +732,7 @@ def test_saves(page, folder):
     is_(page.js("aprsfiles.eventPage().then(it => it.length)"), len(saved))
 
 
-def test_new(page, folder):
+def test_new(page: Browser, folder: pathlib.Path) -> None:
     """What is new since one looked is marked and counted, where logs are followed."""
     server = serve(folder, set(), {})
     (folder / "logs.txt").write_text("a.log")
@@ -758,15 +762,15 @@ class Hanging(http.server.ThreadingHTTPServer):
     daemon_threads = True
 
 
-def serve(folder, hang, fail):
+def serve(folder: pathlib.Path, hang: Set[str], fail: Dict[str, int]) -> Hanging:
     class Handler(http.server.SimpleHTTPRequestHandler):
-        def __init__(self, *of):
+        def __init__(self, *of: Any) -> None:
             super().__init__(*of, directory=str(folder))
 
-        def log_message(self, *_):
+        def log_message(self, *_: Any) -> None:
             pass
 
-        def send_head(self):
+        def send_head(self) -> Union[io.BytesIO, BinaryIO, None]:
             name = self.path.rpartition("/")[2]
             if name in hang:
                 time.sleep(8)
@@ -780,7 +784,7 @@ def serve(folder, hang, fail):
     return server
 
 
-def follow_until(page, condition):
+def follow_until(page: Browser, condition: str) -> None:
     """Asks for all logs, again and again, until something holds."""
     for _ in range(30):
         page.js(FOLLOW)
@@ -791,10 +795,11 @@ def follow_until(page, condition):
     raise AssertionError("never came true: " + condition)
 
 
-def test_followed(page, folder):
+def test_followed(page: Browser, folder: pathlib.Path) -> None:
     """Each log by itself: one that hangs, fails, is damaged or is taken off the list is said, and
     what was read of it stays."""
-    hang, fail = set(), {}
+    hang: Set[str] = set()
+    fail: Dict[str, int] = {}
     server = serve(folder, hang, fail)
     names = ["a.log", "b.log", "c.log", "d.log"]
     for k, name in enumerate(names):
@@ -830,7 +835,7 @@ def test_followed(page, folder):
     server.server_close()
 
 
-def test_begun_anew(page, folder):
+def test_begun_anew(page: Browser, folder: pathlib.Path) -> None:
     """What was read of a log that begins anew, or is emptied, stays, and is named."""
     server = serve(folder, set(), {})
     (folder / "logs.txt").write_text("a.log")
@@ -851,12 +856,12 @@ def test_begun_anew(page, folder):
     server.server_close()
 
 
-def square():
+def tile() -> bytes:
     """A red picture of 256 by 256."""
     import struct
     import zlib
 
-    def part(kind, data):
+    def part(kind: bytes, data: bytes) -> bytes:
         return (struct.pack(">I", len(data)) + kind + data +
                 struct.pack(">I", zlib.crc32(kind + data)))
 
@@ -865,4 +870,4 @@ def square():
             part(b"IDAT", zlib.compress(rows)) + part(b"IEND", b""))
 
 
-SQUARE = square()
+TILE = tile()

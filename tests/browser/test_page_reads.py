@@ -7,16 +7,19 @@ import gzip
 import hashlib
 import json
 import os
+import pathlib
 import random
 import shutil
 import subprocess
 import sys
 import time
+from typing import Counter, Dict, List, Optional, Sequence, Union
 
 import pytest
 
 import hostile
 import scale
+from browser import Browser, Chromium, Place
 from given import EVENING, EXAMPLES, PAGE, RUNS, TABLE, is_, needs, picture
 from serving import Server
 
@@ -39,7 +42,8 @@ COMMANDS = ["check", "convert text", "convert kind", "convert kiss", "convert lo
             "convert capture", "merge", "merge", "show", "show", "history", "widen"]
 
 
-def program(words, files=(), given=None):
+def program(words: List[str], files: Sequence[Place] = (),
+            given: Optional[bytes] = None) -> "subprocess.CompletedProcess[bytes]":
     if words[0] == "history":
         words = ["aprsbook-history", *words[1:]]
     elif words[0] in ("rows", "messages"):
@@ -54,22 +58,22 @@ def program(words, files=(), given=None):
 EVENT_PAGE = ["aprs-net", "page", "--coast", "rough"]
 
 
-def checked(path):
+def checked(path: pathlib.Path) -> str:
     """How many lines a log has, as check says."""
     return program(["check"], [path]).stdout.decode().splitlines()[-1]
 
 
-def same_page(page, own):
+def same_page(page: Browser, own: bytes) -> bool:
     """Whether the page of an event that the page makes is that of aprs-net page."""
-    return page.js("aprsfiles.eventPage()") == own.decode()
+    return bool(page.js("aprsfiles.eventPage()") == own.decode())
 
 
-def base64_of(text):
+def base64_of(text: bytes) -> str:
     return base64.b64encode(text).decode()
 
 
 
-def fresh(page, url=None):
+def fresh(page: Browser, url: Optional[str] = None) -> None:
     page.open(url or PAGE.as_uri(), 1280, 1400)
     page.wait("!document.getElementById('choose').disabled")
 
@@ -86,13 +90,13 @@ HEAR_RUNS = """(() => {
     return 1; })()"""
 
 
-def quiet(page):
+def quiet(page: Browser) -> None:
     """Nothing was asked of any server, and no message was written, where the browser says so."""
     is_([it for it in page.requests() if not it.startswith(("blob:", "file:"))], [])
     is_(page.problems(), [])
 
 
-def test_same(page):
+def test_same(page: Browser) -> None:
     fresh(page)
     page.js(HEAR_RUNS)
     page.give("#choose", *EVENING)
@@ -116,7 +120,7 @@ def test_same(page):
     quiet(page)
 
 
-def test_saves(page, folder):
+def test_saves(page: Browser, folder: pathlib.Path) -> None:
     """What a click saves is what the programs and aprs-net page write."""
     folder = page.saves_in(folder)
     fresh(page)
@@ -140,7 +144,7 @@ def test_saves(page, folder):
             raise AssertionError(f"{name} is another")
 
 
-def test_minute(page, folder):
+def test_minute(page: Browser, folder: pathlib.Path) -> None:
     """From the page and three logs to book, map and a printed ICS-309 within a minute."""
     began, path = time.monotonic(), page.saves_in(folder) / "net.book"
     fresh(page)
@@ -161,7 +165,7 @@ def test_minute(page, folder):
     print(f"{page.name}: book, map and a printed form after {time.monotonic() - began:.1f} s")
 
 
-def test_faults(page, folder):
+def test_faults(page: Browser, folder: pathlib.Path) -> None:
     log = EVENING[0].read_bytes()
     book = program(["merge"], EVENING).stdout
     files = {
@@ -213,21 +217,23 @@ def test_faults(page, folder):
     quiet(page)
 
 
-def drop(page, *paths, items=()):
+def drop(page: Browser, *paths: pathlib.Path, items: Sequence[Dict[str, str]] = ()) -> None:
     """Drops files, or other items; Firefox has no such call, and chooses the files."""
-    if page.name != "Chromium":
-        return paths and page.give("#choose", *[it for it in paths if it.is_file()])
+    if not isinstance(page, Chromium):
+        if paths:
+            page.give("#choose", *[it for it in paths if it.is_file()])
+        return
     data = {"items": items, "files": list(map(str, paths)), "dragOperationsMask": 1}
     for kind in "dragEnter", "dragOver", "drop":
         page.call("Input.dispatchDragEvent", type=kind, x=300, y=130, data=data)
 
 
-def change(page, name, value):
+def change(page: Browser, name: str, value: str) -> None:
     page.js(f"(() => {{ const it = document.getElementById({name!r}); it.value = {value!r}; "
             "it.dispatchEvent(new Event('change')); return 1 })()")
 
 
-def test_names(page, folder):
+def test_names(page: Browser, folder: pathlib.Path) -> None:
     """Any name, and one name twice; a file can be chosen again."""
     paths = [folder / "my log (1) [x].log", folder / "\u0433\u043e\u0440\u0430.log",
              folder / "day/my log (1) [x].log"]
@@ -252,7 +258,7 @@ def test_names(page, folder):
     quiet(page)
 
 
-def test_unread(page, folder):
+def test_unread(page: Browser, folder: pathlib.Path) -> None:
     """A folder, an empty book and a file that is cut off are named, with others or alone."""
     (folder / "logs").mkdir()
     (folder / "net.book").write_bytes(b"")
@@ -261,7 +267,8 @@ def test_unread(page, folder):
            "torn.log.gz": "can't be read: gzip can't unpack it"}
     if page.name == "Chromium":
         bad["logs"] = "drop the files in it, or choose it as a folder"
-    for good in [], EVENING:
+    goods: List[List[pathlib.Path]] = [[], EVENING]
+    for good in goods:
         fresh(page)
         drop(page, folder / "logs", *[folder / name for name in bad if name != "logs"], *good)
         page.wait(MADE if good else f"{STATUS} === 'no file can be read'")
@@ -291,7 +298,7 @@ def test_unread(page, folder):
     quiet(page)
 
 
-def test_options(page):
+def test_options(page: Browser) -> None:
     """A gap that is none is named, and the page keeps what it shows; a title is shown at once."""
     fresh(page)
     page.give("#choose", *EVENING)
@@ -315,7 +322,7 @@ def test_options(page):
     quiet(page)
 
 
-def test_brought(page, folder):
+def test_brought(page: Browser, folder: pathlib.Path) -> None:
     """Rosters as Windows writes them, one of which is put right, beside a map that is none."""
     files = {"ours.csv": b"\xef\xbb\xbfQ1RUN-*;leader\r\nQ1MED-7;second post\r\n",
              "their.txt": b"Q1NINE\r\nQ1TEN", "course.gpx": b"<gpx><wpt lat='91' lon='0'/></gpx>"}
@@ -341,7 +348,7 @@ def test_brought(page, folder):
     quiet(page)
 
 
-def test_first_minutes(page, folder):
+def test_first_minutes(page: Browser, folder: pathlib.Path) -> None:
     """A net is led with the page alone: an emergency, a silent runner, an unanswered message, a
     wrong clock and a damaged log are seen without a click."""
     frame = hostile.address("543PPP", 0xE0) + hostile.address("Q1SOS-9", 0x60, 1) + b"\x03\xf0"
@@ -374,7 +381,7 @@ def test_first_minutes(page, folder):
     quiet(page)
 
 
-def test_narrow(page, folder):
+def test_narrow(page: Browser, folder: pathlib.Path) -> None:
     """On a telephone names of files stay whole, and no table runs past its box."""
     if page.name != "Chromium":
         return  # Firefox keeps its width
@@ -393,7 +400,7 @@ def test_narrow(page, folder):
     picture(page, "narrow")
 
 
-def test_hostile(page, folder):
+def test_hostile(page: Browser, folder: pathlib.Path) -> None:
     bad = folder / "<img src=x onerror='window.ran=1'>.log"
     bad.write_text("".join(hostile.log()))
     worse = folder / "<b>.log"
@@ -419,7 +426,7 @@ GO = """window.go = async (command, options, inputs) => {
 class Inputs:
     """Inputs at random: parts of logs, books and streams, damaged ones among them."""
 
-    def __init__(self, seed):
+    def __init__(self, seed: int) -> None:
         self.random = random.Random(seed)
         paths = [*EVENING, EXAMPLES / "sample.log", EXAMPLES / "millis.log"]
         logs = [it.read_bytes() for it in paths]
@@ -428,7 +435,7 @@ class Inputs:
         self.texts = logs + books
         self.streams = [program(["convert", "kiss"], given=it).stdout for it in logs]
 
-    def one(self, command):
+    def one(self, command: str) -> bytes:
         some = self.random
         text = some.choice(self.streams if command == "convert capture" else self.texts)
         it = bytearray(text)
@@ -447,24 +454,26 @@ class Inputs:
         return bytes(it)
 
 
-def test_random(page, folder):
+def test_random(page: Browser, folder: pathlib.Path) -> None:
     fresh(page)
     page.js(f"({GO}, 1)")
-    inputs, by = Inputs(3), collections.Counter()
+    inputs = Inputs(3)
+    by: Counter[int] = collections.Counter()
     for _ in range(RUNS):
         command = inputs.random.choice(COMMANDS)
         several = command in ("merge", "show", "history")
         many = inputs.random.randrange(1, 5) if several else 1
         given = [inputs.one(command) for _ in range(many)]
         gap = inputs.random.choice([30, 30, 30, 60, 1, 3600])
-        options, words = gap, command.split()
+        options: Union[int, List[str]] = gap
+        words = command.split()
         if several:
             words += ["--gap", str(gap)]
         elif command == "widen":
             words += [str(gap)]
         elif command == "convert capture":
-            options = ["RX1", "2024-05-01T12:00:00.250Z"]
-            words += ["--receiver", options[0], "--moment", options[1]]
+            receiver, moment = options = ["RX1", "2024-05-01T12:00:00.250Z"]
+            words += ["--receiver", receiver, "--moment", moment]
         names = [folder / str(k) for k in range(len(given))]
         for name, text in zip(names, given):
             name.write_bytes(text)
@@ -481,7 +490,7 @@ def test_random(page, folder):
     quiet(page)
 
 
-def test_follow(page, folder):
+def test_follow(page: Browser, folder: pathlib.Path) -> None:
     """Served beside logs: what has grown is merged, and a server that goes away is missed alone."""
     shutil.copy(PAGE, folder / "net.html")
     (folder / "logs.txt").write_text("# receivers\ncoast.log\nhill.log\n")
@@ -508,7 +517,7 @@ def test_follow(page, folder):
     is_([it for it in page.requests() if not it.startswith(("blob:", "http://127.0.0.1:"))], [])
 
 
-def test_missed(page, folder):
+def test_missed(page: Browser, folder: pathlib.Path) -> None:
     """A followed log that isn't there holds back no other; one that is taken away stays away, and
     one that was dropped is another, by the same name."""
     shutil.copy(PAGE, folder / "net.html")
@@ -577,30 +586,32 @@ DIGEST = """Promise.all(
     .then(them => them.map(it => [...new Uint8Array(it)]))"""
 
 
-def dropped(page, what, logs, wanted, limits="{}"):
+def dropped(page: Browser, what: str, logs: Sequence[pathlib.Path], wanted: Dict[str, float],
+            limits: str = "{}") -> None:
     """Gives logs to the page, and prints how long it takes until they are shown."""
-    def measure():
+    def measure() -> Dict[str, float]:
         fresh(page)
         page.js(f"(Object.assign(aprsfiles.limits, {limits}), 1)")
         page.js(WATCH)
         page.js(HEAR_RUNS)
         page.give("#choose", *logs)
         page.wait("window.came > 0", 120)
-        return page.js("({ shown: came - went, still, task })")
+        times: Dict[str, float] = page.js("({ shown: came - went, still, task })")
+        return times
 
     scale.judged(measure, wanted, f"{what} dropped in {page.name}")
     own = [program([command], logs).stdout for command in ("merge", "rows", "messages")]
     is_(page.js(DIGEST), [list(hashlib.sha256(it).digest()) for it in own])
 
 
-def test_large(page, folder):
+def test_large(page: Browser, folder: pathlib.Path) -> None:
     """200,000 lines of three receivers: how long until they are shown, and the page goes on."""
     make_log = EXAMPLES.parent / "bench/make_log.py"
     subprocess.run([sys.executable, make_log, "200000", folder], check=True)
     dropped(page, "200,000 lines", sorted(folder.glob("*.log")), {"shown": 3000, "task": 100})
 
 
-def test_larger(page, folder):
+def test_larger(page: Browser, folder: pathlib.Path) -> None:
     """More than 64 MB: the evening on each of 320 days, its lines ten times. The rows are the
     book's then, and aren't made of all the files; files and book may go to and fro, and files may
     be merged in parts."""

@@ -1,5 +1,6 @@
 """The page of a net that `aprs-net serve` hands out: it is told at once what is new, and desks share
 what they write down."""
+import base64
 import contextlib
 import http.client
 import json
@@ -7,6 +8,7 @@ import os
 import pathlib
 import signal
 import socket
+import sqlite3
 import subprocess
 import sys
 import time
@@ -22,14 +24,30 @@ sys.path.append(str(REPOSITORY / "tools/src"))
 from aprsbook_tools.serving import tokens  # noqa: E402 (it lies there)
 
 pytest.importorskip("tornado", reason="needs Debian's python3-tornado")
-pytestmark = pytest.mark.browsers("Chromium")
+pytestmark = pytest.mark.browsers("Chromium", "Firefox")
 
 DAY = "2024-06-21"
-ROWS = "aprsbook.page.all.rows.length"
+ROWS = "aprsbook.all.rows.length"
 LINES = "aprsbook.page.own.lines.map(it => it.text).sort().join('|')"
 CONNECTION = "document.getElementById('connection').textContent"
 # `aprsbook check` takes every line, where no program is built
 CHECK = "#!/bin/sh\ncat > /dev/null\necho heard 0 passed 0\n"
+
+
+# a picture of one pixel
+PIXEL = base64.b64decode("iVBORw0KGgoAAAANSUhEUgAAAAEAAAABCAYAAAAfFcSJAAAADUlEQVR42mNkYPhf"
+                         "DwAChwGA60e6kgAAAABJRU5ErkJggg==")
+
+
+def make_tiles(path: pathlib.Path) -> None:
+    """A map of tiles, of levels 0 to 6."""
+    with contextlib.closing(sqlite3.connect(path)) as base, base:
+        base.execute("create table tiles (zoom_level int, tile_column int, tile_row int, "
+                     "tile_data blob)")
+        base.execute("create unique index tile_index on tiles "
+                     "(zoom_level, tile_column, tile_row)")
+        base.executemany("insert into tiles values (?, ?, ?, ?)", (
+            (z, x, y, PIXEL) for z in range(7) for x in range(2 ** z) for y in range(2 ** z)))
 
 
 class Live:
@@ -39,6 +57,8 @@ class Live:
         self.folder, self.logs = folder, folder / "logs"
         (self.logs / DAY).mkdir(parents=True)
         (folder / "page.html").write_text(page_text(), encoding="utf-8")
+        for name in ("lakes", "hills"):
+            make_tiles(folder / f"{name}.mbtiles")
         self.tokens = {name: tokens.add(str(folder / "tokens"), kind, name) for kind, name in
                        [("receiver", "HILL"), ("desk", "BASE"), ("desk", "GATE")]}
         (folder / "aprsbook").write_text(CHECK)
@@ -57,6 +77,7 @@ class Live:
         self.process = subprocess.Popen(
             [sys.executable, "-m", "aprsbook_tools", "serve", "--listen", f"127.0.0.1:{self.port}",
              "--page", self.folder / "page.html", "--tokens", self.folder / "tokens", "--day", DAY,
+             "--tiles", self.folder / "lakes.mbtiles", "--tiles", self.folder / "hills.mbtiles",
              "--title", "Fell race", self.logs], env=env, stderr=subprocess.DEVNULL)
         for _ in range(600):
             with contextlib.suppress(OSError):
@@ -164,6 +185,26 @@ def test_desks_share_what_they_write(page: Browser, live: Live) -> None:
     page.js("document.getElementById('ics-close').click()")
 
 
+def test_a_saved_page_carries_what_desks_wrote(page: Browser, live: Live) -> None:
+    live.push(line(1))
+    enter(page, live)
+    page.wait(f"{ROWS} === 1")
+    live.write(1, "line", time=str(1_718_992_800_000), number="1", text="first runner", **{
+        "from": "Gate 1", "to": "NET"})
+    live.write(2, "dealt", alarm="silent Q1A", note="car is on its way")
+    live.write(3, "name", call="Q1A", name="Leader")
+    page.wait(f"{LINES} === 'first runner'")
+    page.wait("aprsbook.page.journal.entries.size === 3")
+    saved = live.folder / "saved.html"
+    saved.write_text(page.js("aprsfiles.eventPage()"), encoding="utf-8")
+    page.open(saved.as_uri())
+    page.wait(f"{ROWS} === 1 && {LINES} === 'first runner'")
+    assert page.js("aprsbook.page.own.lines[0].desk") == "GATE"
+    assert page.js("aprsbook.page.marks.dealtWith('silent Q1A').map(it => it.desk + it.note)"
+                   ) == ["GATEcar is on its way"]
+    assert "Leader" in page.js(f"{TEXTS % '#things-box td, #things-box th'}.join()")
+
+
 def test_what_a_desk_sets_all_pages_show(page: Browser, live: Live) -> None:
     live.push(line(1))
     enter(page, live)
@@ -182,6 +223,46 @@ def test_what_a_desk_sets_all_pages_show(page: Browser, live: Live) -> None:
     page.js("document.querySelector('#desk input').value = 'Third day'")
     page.js("document.querySelector('#desk button').click()")
     page.wait("document.getElementById('title').textContent === 'Third day'")
+
+
+OWN_MAP = "document.getElementById('own-map').textContent"
+BROUGHT = "aprsbook.page.brought.map(it => it.name).sort().join('|')"
+
+
+def set_for_all(page: Browser, words: str, change: str) -> None:
+    """Changes a field beside a button with these words, and presses it."""
+    page.js("(() => { const button = [...document.querySelectorAll('#desk button')]"
+            f".find(it => it.textContent.startsWith({words!r})); const field = button.parentNode"
+            f".querySelector('select, textarea, input'); {change}; button.click(); }})()")
+
+
+def test_the_map_the_course_and_the_roster_are_one_for_all(page: Browser, live: Live) -> None:
+    live.push(line(1))
+    enter(page, live)
+    page.wait(f"{OWN_MAP} === 'Own map: lakes.mbtiles.'")
+    page.wait("aprsbook.layers.tiles.most === 6")
+    assert page.js("aprsbook.layers.tiles.find('6/31/20').then(it => it.size)") == len(PIXEL)
+    live.write(1, "setting", name="tiles", value="hills.mbtiles")
+    page.wait(f"{OWN_MAP} === 'Own map: hills.mbtiles.'")
+    set_for_all(page, "set the map", "field.value = ''")
+    page.wait(f"{OWN_MAP} === ''")
+    assert [it["value"] for it in live.journal() if it.get("name") == "tiles"] == [""]
+    # a course of 150 kB, which the other desk sets, and then none
+    places = ",".join(f"[{-3.5 + k / 1e4:.6f},{54.5 + k / 1e4:.6f}]" for k in range(7000))
+    course = '{"type":"LineString","coordinates":[%s]}' % places
+    live.write(2, "setting", name="course", value=course)
+    page.wait("aprsbook.layers.vectors.all.length === 1")
+    assert page.js("aprsbook.layers.vectors.all[0].lines[0].length") == 21_000
+    live.write(3, "setting", name="course", value="")
+    page.wait("aprsbook.layers.vectors.all.length === 0")
+    # a desk changes the roster that is there
+    live.write(4, "setting", name="roster", value="Q1B Sweep\n")
+    page.wait("document.querySelector('#desk textarea').value === 'Q1B Sweep\\n'")
+    set_for_all(page, "set the roster", "field.value += 'Q1C Lead\\n'")
+    page.wait(f"{TEXTS % '#roster-box td, #roster-box th'}.join().includes('Lead')")
+    assert page.js(f"{TEXTS % '#roster-box td, #roster-box th'}.join()").count("Sweep") == 1
+    set_for_all(page, "set the roster", "field.value = ''")
+    page.wait(f"{BROUGHT} === ''")
 
 
 def test_while_the_server_is_away(page: Browser, live: Live) -> None:

@@ -30,4 +30,4 @@ if [ -n "$kit" ]; then
     ln -s "$kit/bin/rt" "$debian/usr/local/bin/rt"
 fi
 git clone -q "$repository" "$debian/root/aprsbook"
-in_it /root/aprsbook/tests/readme.sh "$option"
+in_it /root/aprsbook/tests/documents/readme.sh "$option"

@@ -6,13 +6,14 @@ import path from "node:path";
 import { test } from "node:test";
 import zlib from "node:zlib";
 import { boxAround, carriedIn } from "../../page/src/intake/embedded-tiles.js";
+import { patience, ServedFile } from "../../page/src/intake/served-tiles.js";
 import { openMbtiles } from "../../page/src/formats/mbtiles.js";
 import { entriesOf, numberOf, openPmtiles } from "../../page/src/formats/pmtiles.js";
 import { openSqlite } from "../../page/src/formats/sqlite.js";
 import { tilesOf } from "../../page/src/map/layers/tile-layer.js";
 
 const PNG = [0x89, 0x50, 0x4e, 0x47, 13, 10, 26, 10];
-const squares = (z, wide) => Array.from({ length: wide * wide }, (_, k) =>
+const tilesAt = (z, wide) => Array.from({ length: wide * wide }, (_, k) =>
   [z, k % wide, Math.floor(k / wide)]);
 
 // ---- what a saved page carries
@@ -30,24 +31,24 @@ test("a saved page carries whole levels around the places, in so many bytes", as
   const all = tilesOf(box, 9, 99), tiles = { least: 8, most: 10,
     find: async key => key.startsWith("10/") || key === all[0] ? null : new Blob([picture]) };
   const sizes = [8, 9].map(z => tilesOf(box, z, 99).length), before = one * sizes[0];
-  const { squares, leftOut } = await carriedIn(tiles, box, before + one * (sizes[1] - 1));
+  const { tiles: carried, leftOut } = await carriedIn(tiles, box, before + one * (sizes[1] - 1));
   assert.equal(leftOut, null);
-  assert.equal(Object.keys(squares).length, sizes[0] + sizes[1] - 1);
-  assert.deepEqual([...Buffer.from(squares[all[1]], "base64")], [...picture]);
+  assert.equal(Object.keys(carried).length, sizes[0] + sizes[1] - 1);
+  assert.deepEqual([...Buffer.from(carried[all[1]], "base64")], [...picture]);
   const less = await carriedIn(tiles, box, before + one * (sizes[1] - 1) - 1);
-  assert.deepEqual([Object.keys(less.squares).length, less.leftOut], [sizes[0], 9]);
+  assert.deepEqual([Object.keys(less.tiles).length, less.leftOut], [sizes[0], 9]);
   // what is no picture isn't carried
   const bad = await carriedIn({ ...tiles, find: async () => new Blob(["text"]) }, box, 1e6);
-  assert.deepEqual(bad, { squares: {}, leftOut: null });
+  assert.deepEqual(bad, { tiles: {}, leftOut: null });
 });
 
 // ---- PMTiles (github.com/protomaps/PMTiles, spec/v3)
 
-test("squares are numbered as the specification has them", () => {
+test("tiles are numbered as the specification has them", () => {
   for (const [z, x, y, number] of [[0, 0, 0, 0], [1, 0, 0, 1], [1, 0, 1, 2], [1, 1, 1, 3],
     [1, 1, 0, 4], [2, 0, 0, 5], [12, 3423, 1763, 19078479]])
     assert.equal(numberOf(z, x, y), number);
-  const all = [...squares(0, 1), ...squares(1, 2), ...squares(2, 4), ...squares(3, 8)];
+  const all = [...tilesAt(0, 1), ...tilesAt(1, 2), ...tilesAt(2, 4), ...tilesAt(3, 8)];
   assert.deepEqual(all.map(it => numberOf(...it)).sort((a, b) => a - b), all.map((_, k) => k));
   assert.equal(numberOf(22, 2 ** 22 - 1, 0), (4 ** 23 - 1) / 3 - 1);
 });
@@ -76,7 +77,7 @@ test("directories are read as they are written", () => {
 });
 /** An archive of pictures of levels 0 to 3 with leaves of ten, and a run of three equal ones. */
 function archive({ type = 2, version = 3, packing = 2, packed = 1 } = {}) {
-  const all = [0, 1, 2, 3].flatMap(z => squares(z, 2 ** z)).map(it => numberOf(...it))
+  const all = [0, 1, 2, 3].flatMap(z => tilesAt(z, 2 ** z)).map(it => numberOf(...it))
     .sort((a, b) => a - b).filter(it => it !== 84); // the last one isn't there
   const data = [];
   const entries = all.filter(it => it !== 21 && it !== 22).map(id => {
@@ -103,11 +104,11 @@ function archive({ type = 2, version = 3, packing = 2, packed = 1 } = {}) {
   [1, packing, packed, type, 0, 3].forEach((it, k) => head.setUint8(96 + k, it));
   return new Blob([head.buffer, rootBytes, Uint8Array.from(leaves), Uint8Array.from(data)]);
 }
-test("the squares of an archive are read by slices", async () => {
+test("the tiles of an archive are read by slices", async () => {
   for (const packing of [1, 2]) {
     const it = await openPmtiles(archive({ packing }));
     assert.deepEqual([it.least, it.most], [0, 3]);
-    for (const [z, x, y] of [0, 1, 2, 3].flatMap(level => squares(level, 2 ** level))) {
+    for (const [z, x, y] of [0, 1, 2, 3].flatMap(level => tilesAt(level, 2 ** level))) {
       const blob = await it.read(z, x, y), id = numberOf(z, x, y);
       if (id === 84) assert.equal(blob, null);
       else {
@@ -117,6 +118,33 @@ test("the squares of an archive are read by slices", async () => {
       }
     }
     assert.equal(await it.read(4, 0, 0), null);
+  }
+});
+test("an archive of a server is asked for by slices, again where it was away", async () => {
+  const blob = archive(), asked = [], own = globalThis.fetch;
+  patience.again = 1;
+  let away = 1, isOther = false;
+  globalThis.fetch = async (url, { headers }) => {
+    const [, begin, last] = /^bytes=(\d+)-(\d+)$/.exec(headers.Range).map(Number);
+    asked.push([begin, last]);
+    if (away-- > 0) throw new TypeError("away");
+    return new Response(isOther ? "x" : blob.slice(begin, last + 1), { status: 206 });
+  };
+  try {
+    const it = await openPmtiles(new ServedFile("http://base/tiles/lakes.pmtiles", blob.size));
+    assert.deepEqual(asked.slice(0, 2), [[0, 126], [0, 126]]);
+    for (const [z, x, y] of squares(2, 4)) {
+      const found = await it.read(z, x, y);
+      assert.deepEqual([...new Uint8Array(await found.arrayBuffer())],
+        [...PNG, numberOf(z, x, y)]);
+    }
+    assert.ok(asked.every(([begin, last]) => last - begin < 1000));
+    away = patience.tries;
+    await assert.rejects(it.read(0, 0, 0), /away/);
+    isOther = true;
+    await assert.rejects(it.read(0, 0, 0), /something else/);
+  } finally {
+    globalThis.fetch = own;
   }
 });
 test("an archive that can't be drawn says why", async () => {
@@ -154,9 +182,10 @@ if form == "map":
         base.execute("INSERT INTO images VALUES (?, ?)", (picture(z, x, y), name))
 else:
     words = {"key": ", PRIMARY KEY (zoom_level, tile_column, tile_row)"}.get(form, "")
-    base.execute("CREATE TABLE tiles (zoom_level integer, tile_column integer, tile_row integer, "
+    name = "Tiles" if form == "capital" else "tiles"
+    base.execute(f'CREATE TABLE "{name}" (zoom_level integer, tile_column integer, tile_row integer, '
                  "tile_data blob" + words + ")")
-    if form in ("index", "vector"):
+    if form in ("index", "vector", "capital"):
         base.execute("CREATE UNIQUE INDEX tile_index on tiles (zoom_level, tile_column, tile_row)")
     for z, x, y in all if form != "empty" else []:
         base.execute("INSERT INTO tiles VALUES (?, ?, ?, ?)", (z, x, 2 ** z - 1 - y, picture(z, x, y)))
@@ -170,11 +199,12 @@ function made(form, size = 4096) {
   fs.rmSync(folder, { recursive: true });
   return blob;
 }
-for (const [form, size] of [["index", 4096], ["key", 512], ["map", 1024], ["index", 65536]])
-  test(`squares of MBTiles, ${form} in pages of ${size}`, { skip: !hasPython }, async () => {
+for (const [form, size] of [["index", 4096], ["key", 512], ["map", 1024], ["index", 65536],
+  ["capital", 4096]])
+  test(`tiles of MBTiles, ${form} in pages of ${size}`, { skip: !hasPython }, async () => {
     const it = await openMbtiles(made(form, size));
     assert.deepEqual([it.least, it.most], [2, 5]);
-    for (const [z, x, y] of [2, 3, 4, 5].flatMap(level => squares(level, 2 ** level))) {
+    for (const [z, x, y] of [2, 3, 4, 5].flatMap(level => tilesAt(level, 2 ** level))) {
       const blob = await it.read(z, x, y);
       if (!x && !y) assert.equal(blob, null);
       else {

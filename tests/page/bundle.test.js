@@ -7,6 +7,7 @@ import { test } from "node:test";
 import { fileURLToPath } from "node:url";
 
 const SOURCES = fileURLToPath(new URL("../../page/src", import.meta.url));
+const TOP = fileURLToPath(new URL("../..", import.meta.url));
 const isThere = spawnSync("esbuild", ["--version"]).status === 0;
 const skip = isThere ? false : "needs esbuild";
 /** The modules that are joined to the script of an entry, and its size. */
@@ -40,9 +41,22 @@ test("no module stands twice with a state of its own", { skip }, () => {
   assert.deepEqual(stateOf("worker/pool.js"), ["hands", "asked", "queue", "last"]);
 });
 test("the scripts are within their budgets", { skip }, () => {
-  const budgets = { "main-event": 150_000, "main-reader": 185_000, "main-worker": 13_000 };
+  // with coast, style and data the page of the evening stays below 300,000
+  const budgets = { "main-event": 172_000, "main-reader": 212_000, "main-worker": 13_000 };
   for (const [entry, most] of Object.entries(budgets)) {
     const { length } = bundled(entry).text;
     assert.ok(length <= most, `${entry} has ${length} bytes`);
   }
+});
+test("the module is at hand without a proof, of the release", () => {
+  const done = spawnSync("build/module.py", { cwd: TOP, encoding: "utf8" });
+  if (!fs.existsSync(path.join(TOP, "release"))) return;
+  assert.equal(done.status, 0, done.stderr);
+  const module = fs.readFileSync(path.join(TOP, done.stdout.trim()));
+  assert.deepEqual([...module.subarray(0, 4)], [0, ...Buffer.from("asm")]);
+  // a release is made of what was built alone
+  const page = path.join(fs.mkdtempSync(path.join(os.tmpdir(), "page-")), "page.html");
+  fs.writeFileSync(page,
+    '<script type="application/json" id="parts">{"module":"AGFzbQ=="}</script>');
+  assert.equal(spawnSync("build/module.py", [page], { cwd: TOP }).status, 1);
 });

@@ -1,6 +1,8 @@
 import assert from "node:assert/strict";
 import { test } from "node:test";
-import { clocksOf, FEWEST, medianOf, pairsOf } from "../../page/src/net/clock-offsets.js";
+import {
+  clocksOf, comparedIn, FEWEST, medianOf, MOST_COMPARED, pairsOf,
+} from "../../page/src/net/clock-offsets.js";
 import { hashOf, isSamePart, Parts, textIn, viewOf, Words } from "../../page/src/net/interning.js";
 import { tableOf } from "../../page/src/net/table-lines.js";
 import { atOnce } from "../../page/src/util/tasks.js";
@@ -44,4 +46,18 @@ test("clocks that differ are found by what both receivers heard", () => {
   const clocks = clocksOf(atOnce(pairsOf(rows, -Infinity, heard)), 30);
   assert.equal(Math.round(clocks.get("C").by), 3600);
   assert.ok(Math.abs(clocks.get("A")?.by ?? 0) < 5 && FEWEST === 2);
+});
+test("of many receivers those that heard most are compared, in steps", () => {
+  const names = Array.from({ length: 2000 }, (_, k) => `R${String(k).padStart(4, "0")}`);
+  const heard = [{ names, heard: 20 }, { names: ["R1999", "R0007"], heard: 1 }];
+  const compared = comparedIn(heard);
+  assert.equal(compared.size, MOST_COMPARED);
+  assert.ok(["R1999", "R0007", "R0000"].every(it => compared.has(it)) && !compared.has("R1998"));
+  const rows = rowsOf([row("position", 0, "Q1A",
+    { receivers: names.join(), latitude: 54, longitude: -3 })]);
+  const began = performance.now(), pairs = atOnce(pairsOf(rows, -Infinity, heard));
+  assert.equal(pairs.length, MOST_COMPARED * (MOST_COMPARED - 1) / 2);
+  assert.ok(performance.now() - began < 20000);
+  // of few receivers all are compared
+  assert.deepEqual([...comparedIn([{ names: ["B", "A"], heard: 1 }])].sort(), ["A", "B"]);
 });

@@ -2,9 +2,11 @@
 
 import assert from "node:assert/strict";
 import { test } from "node:test";
-import { connectionWords, siteWords } from "../../page/src/app/net-panel.js";
+import { connectionWords, nowOf, siteWords } from "../../page/src/app/net-panel.js";
+import { courseFor, most } from "../../page/src/desks/course.js";
 import { Journal, spelling } from "../../page/src/desks/journal.js";
 import { eventsIn, goneOn, patience, Stream, toldBy } from "../../page/src/desks/stream.js";
+import { readBase } from "../../page/src/formats/read-vector.js";
 import { OwnLines } from "../../page/src/ics309/own-lines.js";
 
 const bytes = text => new TextEncoder().encode(text);
@@ -112,11 +114,11 @@ test("desks that were away have the same lines, in whatever order they hear of t
   assert.deepEqual([server.size, one.waiting.size], [0, 1]);
   // the browser was closed, and its lines are there
   const again = new Journal("ONE", send, store);
-  assert.deepEqual(again.lines, [LINE]);
+  assert.deepEqual(again.lines, [{ ...LINE, desk: "ONE" }]);
   isThere = true;
   await again.sendAll();
   await two.sendAll();
-  two.removeLine({ ...LINE, text: "wrong" });
+  two.removeLines([{ ...LINE, text: "wrong" }]);
   await two.sendAll();
   const journal = [...server];
   again.hear(journal.join("\n"));
@@ -211,8 +213,127 @@ test("the page says how it is connected, and how its sites are", () => {
   assert.deepEqual(connectionWords({ net: {}, journal: null, isThere: true }),
     ["connected, to read"]);
   const site = { clock: 0, refused: 0, day: "" };
-  assert.deepEqual(siteWords({ sites: { A: site, B: { ...site, clock: 7200 },
-    C: { ...site, refused: 2, day: "2099-01-01" } } }),
+  assert.deepEqual(siteWords({ days: ["2024-06-20", "2024-06-21", "2024-06-22"],
+    sites: { A: site, B: { ...site, clock: 7200 },
+      C: { ...site, refused: 2, day: "2099-01-01" }, D: { ...site, day: "1970-01-01" } } }),
   ["the clock of B is 2 h ahead", "C has lines of 2099-01-01, which is to come",
-    "2 lines of C refused"]);
+    "2 lines of C refused", "D has lines of 1970-01-01, which is today by its clock"]);
+});
+test("what a desk has set counts before what the server was begun with, also nothing", () => {
+  const net = { title: "Race", silent: 30, roster: "Q0A Sweep", courses: ["{}", "{}"],
+    tiles: ["lakes.pmtiles", "hills.mbtiles"], days: [], sites: {} };
+  assert.deepEqual(nowOf(net, new Map()), { title: "Race", silent: "30", roster: "Q0A Sweep",
+    courses: ["{}", "{}"], tiles: "lakes.pmtiles" });
+  assert.deepEqual(nowOf(net, new Map([["title", "Day 2"], ["silent", "5"], ["roster", ""],
+    ["course", ""], ["tiles", ""]])), { title: "Day 2", silent: "5", roster: "", courses: [""],
+    tiles: "" });
+  assert.equal(nowOf({ ...net, tiles: [] }, new Map()).tiles, "");
+});
+test("a course that an entry can't carry is thinned, and its ends stay", () => {
+  const courseOf = n => JSON.stringify({ type: "FeatureCollection", features: [
+    { type: "Feature", properties: { name: "finish" },
+      geometry: { type: "Point", coordinates: [-3.5, 54.5] } },
+    { type: "Feature", properties: {}, geometry: { type: "LineString", coordinates:
+      Array.from({ length: n }, (_, k) => [-3.5 + k / 123456.7, 54.5 + k / 98765.4]) } }] });
+  assert.equal(courseFor(courseOf(10)), courseOf(10));
+  const long = courseOf(60000), text = courseFor(long), base = readBase(text);
+  assert.ok(text.length <= most.letters && long.length > 1e6);
+  assert.deepEqual([base.points.length, base.points[0].name, base.lines.length], [1, "finish", 1]);
+  const [[line], [whole]] = [base.lines, readBase(long).lines];
+  assert.ok(line.length / 3 > 4000);
+  for (const k of [0, 1, 2]) {
+    assert.ok(Math.abs(line[k] - whole[k]) < 1e-6);
+    assert.ok(Math.abs(line.at(k - 3) - whole.at(k - 3)) < 1e-6);
+  }
+  assert.throws(() => courseFor("Q0A Sweep"));
+  const many = { type: "MultiPoint", coordinates: Array.from({ length: 60000 }, () => [1, 2]) };
+  assert.throws(() => courseFor(JSON.stringify(many)), /too many points/);
+});
+test("half a letter, as a text may have that was cut, doesn't keep a line from the server", () => {
+  const it = new Journal("A", async () => 0, null);
+  it.addLine({ ...LINE, text: "so\ud83d", from: "\ude00B" });
+  assert.deepEqual(it.lines.map(of => [of.from, of.text]), [["\ufffdB", "so\ufffd"]]);
+  assert.ok(LINE.text.includes("\u{1f600}"));
+  it.addLine(LINE);
+  assert.equal(it.lines.length, 2);
+  assert.ok(it.lines.some(of => of.text === LINE.text));
+});
+
+// ---- a model: what is sent is lost, comes twice and late, and desks and the server begin again
+
+/** Numbers from 0 to below 1, the same for each seed. */
+function lot(seed) {
+  let n = seed + 1;
+  return () => {
+    n = Math.imul(n ^ n >>> 15, 0x2c1b3c6d) + 0x9e3779b9 | 0;
+    return (Math.imul(n ^ n >>> 12, 0x297a2d39) >>> 0) / 2 ** 32;
+  };
+}
+/** A server that is a set of lines for each desk, as files that only grow. */
+class Base {
+  constructor(chance) {
+    this.chance = chance;
+    this.trouble = 0.3;
+    this.files = new Map();
+    this.late = [];
+  }
+  take(desk, all) {
+    const lines = this.files.get(desk) || [];
+    this.files.set(desk, [...lines, ...all.split("\n").filter(it => it && !lines.includes(it))]);
+  }
+  /** Takes what a desk sends, unless it is lost; the answer may be lost too. */
+  async send(desk, all) {
+    const { chance, trouble } = this;
+    if (chance() < trouble) this.late.push([desk, all]);
+    if (chance() < trouble) return null;
+    this.take(desk, all);
+    for (const it of this.late.splice(0, Math.floor(chance() * 2))) this.take(...it);
+    return chance() < trouble ? null : 0;
+  }
+  /** What a desk is told: a part of a file from some place on, which it may have had. */
+  tell(journal) {
+    for (const lines of this.files.values()) {
+      const begin = Math.floor(this.chance() * (lines.length + 1));
+      journal.hear(lines.slice(begin, begin + 1 + Math.floor(this.chance() * 9)).join("\n"));
+    }
+  }
+}
+test("desks and their server have the same in the end, whatever is lost or late", async () => {
+  for (let seed = 0; seed < 150; seed++) {
+    const chance = lot(seed), base = new Base(chance), stores = ["A", "B", "C"].map(storeOf);
+    let now = 0;
+    const open = k => new Journal("ABC"[k], (desk, all) => base.send(desk, all), stores[k],
+      () => now++);
+    const desks = stores.map((_, k) => open(k)), texts = new Set();
+    for (let step = 0; step < 60; step++) {
+      const k = Math.floor(chance() * 3), desk = desks[k], what = Math.floor(chance() * 6);
+      if (what === 0) {
+        texts.add(`line ${step}`);
+        desk.addLine({ ...LINE, text: `line ${step}` });
+      } else if (what === 1 && desk.lines.length) {
+        const line = desk.lines[Math.floor(chance() * desk.lines.length)];
+        desk.removeLines([line]);
+        texts.delete(line.text);
+      } else if (what === 2) desk.add("setting", { name: "title", value: `title ${step}` });
+      else if (what === 3) desks[k] = open(k); // its browser was closed
+      else base.tell(desk);
+      await desk.sendAll();
+    }
+    base.trouble = 0;
+    for (const it of [...base.late, ...base.late]) base.take(...it);
+    for (let turn = 0; turn < 2; turn++)
+      for (const it of desks) {
+        await it.sendAll();
+        await new Promise(setImmediate);
+        for (const lines of base.files.values()) it.hear(lines.join("\n"));
+      }
+    const all = [...base.files.values()].flat();
+    assert.equal(new Set(all).size, all.length);
+    for (const it of desks) {
+      assert.deepEqual([...it.entries.keys()].sort(), [...all].sort(), `seed ${seed}`);
+      assert.deepEqual(it.lines.map(of => of.text).sort(), [...texts].sort(), `seed ${seed}`);
+      assert.equal(it.settings.get("title"), desks[0].settings.get("title"));
+      assert.equal(it.waiting.size, 0);
+    }
+  }
 });

@@ -55,7 +55,8 @@ test("what stands above all says when, of how many, by whom, and what to do", { 
 });
 test("the lists have what the tables say", { skip }, () => {
   assert.deepEqual(cells("messages", 7), [
-    ["unanswered", "Leader (Q1RUN-7)", "Q1BASE", "at CP 2", "2", "18:23:20", "18:23:20"],
+    ["unanswered", "Leader (Q1RUN-7)", "Q1BASE", "at CP 2 dealt with", "2", "18:23:20",
+      "18:23:20"],
     ["acknowledged", "Q1BASE", "Leader (Q1RUN-7)", "where are you?", "1", "18:21:40", "18:21:40"]]);
   assert.deepEqual([...document.querySelectorAll("#messages .state")].map(it => it.title),
     ["", "by Leader (Q1RUN-7), 2024-06-21 18:22:00 UTC"]);
@@ -74,7 +75,8 @@ test("the lists have what the tables say", { skip }, () => {
     .find(it => it.querySelector("th").textContent === name).className;
   assert.deepEqual([classes("Q1MED"), classes("Old"), classes("Q1BASE")],
     ["station silent emergency", "object killed", "station"]);
-  assert.deepEqual(cells("expected", 5).sort(), [["Q1GONE", "Marshal", "", "not heard", ""],
+  assert.deepEqual(cells("expected", 5).sort(), [["Q1GONE", "Marshal", "",
+    "not heard isn\u2019t coming", ""],
     ["Q1RUN-*", "Leader", "Runners 7", "18:10:00", "56 min"]]);
   assert.deepEqual(cells("receivers", 5), [["COAST", "18:16:40", "50 min", "2", "1"],
     ["HILL", "18:00:00", "66 min", "1", ""], ["RX1", "19:06:40", "0 s", "9", "9"]]);

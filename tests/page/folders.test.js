@@ -1,6 +1,6 @@
 import assert from "node:assert/strict";
 import { test } from "node:test";
-import { filesOf } from "../../page/src/intake/folders.js";
+import { filesOf, handleOf } from "../../page/src/intake/folders.js";
 
 const fileNamed = name => ({ isFile: true, name, file: done => done({ name }) });
 const folderOf = (name, entries) => ({ isDirectory: true, name, createReader: () => {
@@ -22,4 +22,12 @@ test("a folder that can't be read is there as a folder", async () => {
   const torn = { isDirectory: true, name: "torn",
     createReader: () => ({ readEntries: (_, fail) => fail(new Error("no")) }) };
   assert.deepEqual(await filesOf(dropOf(torn)), [{ name: "torn", isFolder: true }]);
+});
+test("what a browser reads a file again by is kept, where it gives that", async () => {
+  const handle = { kind: "file" }, drop = dropOf(fileNamed("a.log"), fileNamed("b.log"),
+    fileNamed("c.log"));
+  drop.items[0].getAsFileSystemHandle = async () => handle;
+  drop.items[1].getAsFileSystemHandle = () => Promise.reject(new Error("no"));
+  const [a, b, c] = await filesOf(drop);
+  assert.deepEqual([handleOf(a), handleOf(b), handleOf(c)], [handle, undefined, undefined]);
 });

@@ -70,7 +70,8 @@ test("lines in a page of an event are there too, once, and can be taken away", (
 });
 test("a net that gets another title takes its lines along, but not into another net", () => {
   const store = new Store(), lines = opened(store, [], "aprsbook");
-  lines.bring([own(1, "a")]);
+  lines.offer("a.html", [own(1, "a")]);
+  lines.answer("a.html", true);
   lines.open("Race");
   assert.deepEqual(textsOf(opened(store)), ["a"]);
   opened(store, [], "Other").add(own(2, "b"));
@@ -81,8 +82,35 @@ test("a net that gets another title takes its lines along, but not into another 
 });
 test("a page may bring very many lines", () => {
   const lines = opened(new Store()), many = Array.from({ length: 200000 }, (_, k) => own(k, "a"));
-  assert.equal(lines.bring(many), true);
+  lines.offer("a.html", many);
+  assert.deepEqual([lines.lines.length, lines.answer("a.html", true)], [0, true]);
   assert.equal(lines.lines.length, many.length);
+});
+test("the lines of another page are asked for, stand under its name, and go all at once", () => {
+  const store = new Store(), lines = opened(store, [own(5, "in the page")]);
+  lines.add(own(1, "mine"));
+  lines.offer("27.html", [own(2, "theirs"), own(3, "of a desk", { desk: "AID" })]);
+  lines.offer("28.html", [own(4, "never")]);
+  assert.deepEqual(textsOf(lines), ["mine", "in the page"]);
+  lines.answer("27.html", true);
+  lines.answer("28.html", false);
+  assert.deepEqual([lines.desks, lines.offered.size],
+    [[["", 1], ["27.html", 1], ["AID", 1], ["this page", 1]], 0]);
+  const net = netOfLines([]), entries = entriesOf(net, lines.lines);
+  assert.deepEqual(entries.map(it => [it.state, it.note]), [["own", ""],
+    ["of 27.html", "of 27.html"], ["of AID", "of AID"], ["of this page", "of this page"]]);
+  // what is kept knows it too, and so does a page that carries them
+  assert.deepEqual(opened(store).desks, [["", 1], ["27.html", 1], ["AID", 1]]);
+  assert.deepEqual(lines.carried.map(it => it.desk), [undefined, "27.html", "AID", undefined]);
+  lines.removeDesk("27.html");
+  lines.removeDesk("this page");
+  assert.deepEqual(textsOf(lines), ["mine", "of a desk"]);
+  assert.deepEqual(textsOf(opened(store, [own(5, "in the page")])), ["mine", "of a desk"]);
+});
+test("lines of other days that a page has are counted", () => {
+  const lines = new OwnLines(new Store());
+  lines.open("Race", [own(0, "then"), own(9e5, "later")], { begin: AT, end: AT + 60 });
+  assert.deepEqual([lines.ofOtherDays, lines.others], [1, 0]);
 });
 test("two windows of one net lose nothing of each other", () => {
   const store = new Store(), one = opened(store), two = opened(store);

@@ -121,7 +121,7 @@ test("coasts: what is land, and what isn't", () => {
   for (const [north, east] of land) assert.equal(isLand(north, east), true, `${north} ${east}`);
   for (const [north, east] of sea) assert.equal(isLand(north, east), false, `${north} ${east}`);
 });
-test("which square a file of a web map has", () => {
+test("which tile a file of a web map is", () => {
   assert.deepEqual(tileOf("tiles/12/2007/1300.png"), { z: 12, x: 2007, y: 1300 });
   assert.deepEqual(tileOf("0/0/0.jpg"), { z: 0, x: 0, y: 0 });
   for (const it of ["12/4096/0.png", "12/1.png", "a/b/c.png", "1/0/0.txt", "23/0/0.png"])

@@ -11,8 +11,8 @@ import {
   message, moment, netOfLines, place, row, rowsOf, SETTINGS, settingsFor, thing,
 } from "./tables.js";
 
-const OF = { gap: 30, silent: 30, isLongAgo: () => false, missing: [], expected: 0,
-  settings: SETTINGS };
+const OF = { gap: 30, silent: 30, isLongAgo: () => false, isSilent: () => false, missing: [],
+  expected: 0, settings: SETTINGS, markOf: () => null, ownCall: "" };
 const LEADER = [{ call: "Q1A-*", name: "Leader", group: "", bib: "" }];
 const micE = (second, source, says) => row("mic-e", second, source,
   { latitude: "54.5", longitude: "-3.5", symbol: "/j", says });
@@ -36,7 +36,7 @@ test("many in need don't fill the page", () => {
 });
 test("an emergency that is over is said, and no longer as one", () => {
   const net = netOfLines([micE(0, "Q1A", "emergency"), micE(9, "Q1A", "in-service")]);
-  assert.deepEqual(needsOf(net.things, SETTINGS).map(it => [it.grade, it.text]),
+  assert.deepEqual(needsOf(net.things, OF).map(it => [it.grade, it.text]),
     [["warn", "Q1A said emergency at 18:00:00, and no longer does"]]);
 });
 
@@ -57,14 +57,16 @@ test("what wants doing stays in sight where a part of the time alone is shown", 
   { since: Date.parse(moment(5400)) / 1000 });
   assert.deepEqual(net.things.map(it => it.name), ["Q1B"]);
   const isLongAgo = last => Date.parse(moment(9000)) / 1000 - last > 1800;
-  assert.deepEqual(newsOf(net, { ...OF, isLongAgo }).map(it => [it.grade, it.text, it.isEarlier]), [
+  const isSilent = it => isLongAgo(it.heardAt);
+  const news = newsOf(net, { ...OF, isLongAgo, isSilent });
+  assert.deepEqual(news.map(it => [it.grade, it.text, it.isEarlier]), [
     ["alarm", "EMERGENCY: Q1A, 18:00:00", undefined],
     ["bad", "2 messages unanswered (1 earlier than is shown)", true],
     ["warn", "2 stations silent for over 30 min (2 earlier than is shown)", true],
     ["warn", "nothing heard for over 30 min by RX2", undefined]]);
   // who is expected was heard, however long ago
   const [runner] = expectedOf([{ call: "Q1RUN" }], net.whole.stations);
-  assert.equal(runner.last, Date.parse(moment(2)) / 1000);
+  assert.equal(runner.heardAt, Date.parse(moment(2)) / 1000);
 });
 
 test("the alarm rings for what is new, and only where it is on", () => {
@@ -89,7 +91,7 @@ test("the alarm rings once for a need, also where it is worded in another way", 
   const alarm = new Alarm(() => rung++), lines = [micE(0, "Q1A-7", "emergency")];
   alarm.turn(true, false);
   const hear = (settings = SETTINGS) =>
-    alarm.hear(needsOf(netOfLines(lines).things, settings)).map(it => it.text);
+    alarm.hear(needsOf(netOfLines(lines).things, { ...OF, settings })).map(it => it.text);
   assert.deepEqual(hear(), ["EMERGENCY: Q1A-7, 18:00:00"]);
   assert.deepEqual(hear(settingsFor(LEADER, { dated: "day" })), []);
   lines.push(micE(60, "Q1A-7", "emergency"));
@@ -100,7 +102,7 @@ test("the alarm rings once for a need, also where it is worded in another way", 
   later[2] = moment(75);
   lines[1] = later.join("\t");
   assert.deepEqual(hear(), []);
-  assert.equal(needsOf(netOfLines(lines).things, SETTINGS)[0].text, "EMERGENCY: Q1A-7, 18:01:15");
+  assert.equal(needsOf(netOfLines(lines).things, OF)[0].text, "EMERGENCY: Q1A-7, 18:01:15");
 });
 
 test("two wrong clocks don't hide one another", () => {
@@ -145,7 +147,8 @@ test("what is dated after now is said of its receivers, also where no other one 
     "computer\u2019s, is wrong"]);
   assert.match(said(-600)[0], /^RX1, RX2 heard something 2 h 10 min after now/);
   // as long as it may be taken for now it is said to which moment ages count
-  const ages = second => newsOf(net, { ...OF, now: Date.parse(moment(second)) / 1000 })
+  const ages = second => newsOf(net, { ...OF, now: Date.parse(moment(second)) / 1000,
+    end: Date.parse(moment(7200)) / 1000 })
     .map(it => it.text).filter(it => /^ages/.test(it));
   assert.deepEqual([7200 + 600, 7200 + 86400, 7200 + 601].map(it => ages(it).join()), ["", "",
     "ages count to 20:00:00, 10 min 1 s ago, when something was last heard"]);
@@ -203,7 +206,8 @@ test("a net is the same in whatever order its table stands, also since a moment"
 });
 test("a name of the roster stands wherever a station is in need", () => {
   const net = netOfLines([micE(0, "Q1A-7", "emergency")]), settings = settingsFor(LEADER);
-  assert.equal(needsOf(net.things, settings)[0].text, "EMERGENCY: Leader (Q1A-7), 18:00:00");
+  assert.equal(needsOf(net.things, { ...OF, settings })[0].text,
+    "EMERGENCY: Leader (Q1A-7), 18:00:00");
   const missingText = missing => newsOf(net, { ...OF, missing, expected: 5, settings })
     .map(it => it.text).find(it => / expected /.test(it));
   assert.equal(missingText([]), "0 of 5 expected not heard");

@@ -7,7 +7,8 @@ import { netOfLines, place } from "./tables.js";
 
 test("what is told of a mark that is clicked on comes into view beside the map", () => {
   const net = netOfLines([place(0, "Q1A", 54, -3), place(1, "Q1B", 54, -3)]), list = { show() {} };
-  page.shown = { net, all: { rows: net.things[0].rows, messages: [] } };
+  page.shown = { net, all: { rows: net.things[0].rows, messages: [], end: 1 },
+    data: { silent: 30, live: 0 } };
   page.widgets = { map: { reach() {}, paintSoon() {} }, layers: { stations: {} },
     lists: { places: list, frames: list, things: { mark() {} } } };
   const [box, one] = ["beside", "one"].map(id => document.getElementById(id));

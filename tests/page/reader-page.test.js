@@ -2,6 +2,7 @@ import assert from "node:assert/strict";
 import { test } from "node:test";
 import zlib from "node:zlib";
 import { line } from "./stand.js";
+import { filesOf } from "../../page/src/intake/folders.js";
 import { byId, enter, open, skip, textsOf, until } from "./window.js";
 
 const packed = text => zlib.deflateSync(Buffer.from(text)).toString("base64");
@@ -55,10 +56,15 @@ test("logs are checked, merged and drawn, and what is none says why", { skip }, 
 test("the page of the event has what is drawn, and its title", { skip }, async () => {
   enter("name", "Fell <race>");
   await until(() => aprsbook.data.title === "Fell <race>");
+  const { bring, takeAllAway } = await import("../../page/src/app/add-layer.js");
+  bring("points.txt", "Tarn 54.5 -3.5 150");
+  aprsbook.page.marks.add("dealt", { alarm: "home Q1A", note: "went home" });
   const page = await aprsfiles.eventPage({ "1/0/0": "cA==" });
   const [head, coast, data, end] = page.split("|");
   assert.deepEqual([head, coast, end], ["<title>Fell &lt;race&gt;</title>", "", "end"]);
-  const { title, rows, tiles, live, gap, silent } = JSON.parse(data);
+  const { title, rows, tiles, live, gap, silent, points, marks } = JSON.parse(data);
+  assert.deepEqual([points, JSON.parse(marks).alarm], ["Tarn 54.5 -3.5 150", "home Q1A"]);
+  takeAllAway();
   assert.deepEqual([title, rows.split("\n").length, tiles, live, gap, silent],
     ["Fell <race>", 4, { "1/0/0": "cA==" }, 0, 30, 30]);
   assert.ok(!data.includes("<"));
@@ -80,4 +86,39 @@ test("the example is read at a click", { skip }, async () => {
   byId("example").click();
   await until(() => verdicts()["hill.log"]);
   assert.ok(Object.keys(verdicts()).includes("hill.log"));
+});
+test("a log that has grown takes its older one's place, and what is new is marked", { skip },
+  async () => {
+    while (rows().length) rows()[0].querySelector("td:last-child button").click();
+    await until(() => !aprsfiles.files.length);
+    const first = logOf("18:00:00", "HILL"), more = logOf("18:30:00", "HILL", "Q1B");
+    await aprsfiles.add([fileOf("hill.log", first)]);
+    const [row] = rows();
+    await aprsfiles.add([fileOf("hill.log", first + more)]);
+    assert.deepEqual(verdicts(), { "hill.log": "heard 2 passed 0" });
+    assert.equal(rows()[0], row);
+    assert.match(byId("looked").textContent, /^1 new since .*: mark as seen$/);
+    // ages still count to the last transmission: nobody says that the net goes on
+    assert.equal(aprsbook.page.follows, false);
+  });
+test("a log whose handle the browser gave is read again as it grows", { skip }, async () => {
+  const { reread } = await import("../../page/src/intake/reread.js");
+  let text = logOf("18:00:00", "COAST"), at = 1;
+  const handle = { kind: "file",
+    getFile: async () => new File([text], "coast.log", { lastModified: at }) };
+  const item = { kind: "file", webkitGetAsEntry: () => ({ isFile: true }),
+    getAsFileSystemHandle: async () => handle };
+  await aprsfiles.add(await filesOf({ items: [item], files: [await handle.getFile()] }));
+  await reread();
+  assert.equal(verdicts()["coast.log"], "heard 1 passed 0");
+  assert.equal(aprsbook.page.follows, false);
+  text += logOf("18:40:00", "COAST", "Q1C");
+  at++;
+  await reread();
+  assert.equal(verdicts()["coast.log"], "heard 2 passed 0");
+  assert.equal(aprsbook.page.follows, true);
+  // one that is gone stays as it was read
+  handle.getFile = () => Promise.reject(new Error("NotFoundError"));
+  await reread();
+  assert.equal(verdicts()["coast.log"], "heard 2 passed 0");
 });

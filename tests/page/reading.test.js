@@ -7,7 +7,7 @@ import { tableOf } from "../../page/src/net/table-lines.js";
 import { atOnce } from "../../page/src/util/tasks.js";
 import {
   SETTINGS,
-  COLUMNS, message, moment, netOfLines, place, readMessages, row, rowsOf, table, thing,
+  COLUMNS, message, messageTable, moment, netOfLines, place, readMessages, row, rowsOf, table, thing,
 } from "./tables.js";
 
 test("columns are taken by name, also in another order, with more of them, or fewer", () => {
@@ -64,17 +64,16 @@ test("at one moment the greater receiver decides which place is the last", () =>
     assert.equal(thing(netOfLines(lines), "Q1A").now.north, 54);
 });
 
-test("the state of a message is the table's, that of a reply-ack too", () => {
-  const columns =
-    "source addressee id text state first last answer answer_source reply_ack".split(" ");
-  const [a, b, c] = readMessages(table([
-    message("Q1A", "Q1B", "help{01}", "unnumbered", 0, { reply_ack: "unanswered" }),
-    message("Q1A", "Q1B", "again{02}", "unnumbered", 0),
-    message("Q1A", "Q1B", "well", "acknowledged", 0, { answer: moment(4), answer_source: "Q1B" })],
-  columns));
-  assert.deepEqual([a.state, b.state, c.state], ["unanswered", "unnumbered", "acknowledged"]);
-  assert.equal(c.answered - c.first, 4);
-  assert.equal(c.answeredBy, "Q1B");
+test("what came of a message is the table's outcome, that of a number for reply-acks too", () => {
+  const [a, b, c] = readMessages(messageTable([
+    message("Q1A", "Q1B", "help{01}", "unnumbered", 0, { number: "01", outcome: "unanswered" }),
+    message("Q1A", "Q1B", "again{02}", "unnumbered", 0, { number: "02", reply_ack: "unanswered",
+      outcome: "acknowledged", outcome_moment: moment(9) }),
+    message("Q1A", "Q1B", "well", "acknowledged", 0, { answer: moment(4), answer_source: "Q1B" })]));
+  assert.deepEqual([a.state, b.state, c.state], ["unanswered", "acknowledged", "acknowledged"]);
+  assert.deepEqual([a.id, b.id, c.id], ["01", "02", ""]);
+  assert.deepEqual([b.answered - b.first, c.answered - c.first], [9, 4]);
+  assert.deepEqual([Number.isNaN(a.answered), c.answeredBy], [true, "Q1B"]);
 });
 
 test("a place is found in symbols that are a backslash or a colon", () => {

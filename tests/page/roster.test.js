@@ -51,10 +51,11 @@ test("a list of all calls is read at once, and of many faults a few are said", (
   assert.deepEqual(faultWords([]), []);
 });
 test("a call stands for itself alone, and with -* for each of its SSIDs and none", () => {
-  const heard = [{ key: "a", name: "Q1A-7", kind: "station", last: 5 },
-    { key: "b", name: "Q1B", kind: "station", last: 6 },
-    { key: "c", name: "Q1B-1", kind: "station", last: 4 }];
-  const expected = text => expectedOf(readRoster(text).list, heard).map(it => [it.last, it.key]);
+  const heard = [{ key: "a", name: "Q1A-7", kind: "station", heardAt: 5 },
+    { key: "b", name: "Q1B", kind: "station", heardAt: 6 },
+    { key: "c", name: "Q1B-1", kind: "station", heardAt: 4 }];
+  const expected = text => expectedOf(readRoster(text).list, heard)
+    .map(it => [it.heardAt, it.key]);
   assert.deepEqual(expected("Q1A\nQ1A-*\nQ1A-7\nQ1B-*\nQ1B\nQ1B-1\nQ1B-2\n"),
     [[-Infinity, ""], [5, "a"], [5, "a"], [6, "b"], [6, "b"], [4, "c"], [-Infinity, ""]]);
 });

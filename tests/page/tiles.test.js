@@ -7,14 +7,14 @@ import { TileLayer } from "../../page/src/map/layers/tile-layer.js";
 globalThis.devicePixelRatio = 1;
 globalThis.createImageBitmap = async () => ({ width: 256, height: 256 });
 const PEN = new Proxy({}, { get: () => () => {}, set: () => true });
-/** A view in which squares of level 12 are so many levels smaller than their pictures. */
+/** A view in which tiles of level 12 are so many levels smaller than their pictures. */
 function viewOf(width, height, out) {
   const view = Object.assign(new Projection(), { width, height });
   view.look(54.5, -3.5);
   const wide = 2 * Math.PI * Math.cos(54.5 * Math.PI / 180);
   return Object.assign(view, { scale: 256 * 2 ** (12 - out) / wide });
 }
-/** Paints until nothing is new; gives how often, and whether there were squares. */
+/** Paints until nothing is new; gives how often, and whether there were tiles. */
 async function settled(tiles, view) {
   for (let paints = 1, isNew = true; ; paints++) {
     isNew = false;
@@ -25,14 +25,14 @@ async function settled(tiles, view) {
 }
 function archive() {
   const read = [], tiles = new TileLayer();
-  tiles.open("x", { least: 12, most: 16, read: async (...square) => {
-    read.push(square.join());
+  tiles.open("x", { least: 12, most: 16, read: async (...tile) => {
+    read.push(tile.join());
     return new Blob(["p"]);
   } });
   return { tiles, read };
 }
 
-test("squares are read once for a view, in a large window too, or are too many", async () => {
+test("tiles are read once for a view, in a large window too, or are too many", async () => {
   for (const [width, height, out, isShown] of [[1280, 700, 0, true], [1280, 700, 1.9, true],
     [1920, 1000, 1, true], [1920, 1000, 1.9, false], [2560, 1400, 1.9, false]]) {
     const { tiles, read } = archive(), [paints, some] = await settled(tiles,
@@ -42,7 +42,7 @@ test("squares are read once for a view, in a large window too, or are too many",
     assert.equal(read.length > 0, isShown);
   }
 });
-test("of squares that are kept those go first that were drawn longest ago", async () => {
+test("of tiles that are kept those go first that were drawn longest ago", async () => {
   const { tiles, read } = archive(), middle = viewOf(1280, 700, 1.6), arms = [];
   await settled(tiles, middle);
   for (const [right, down] of [[600, 0], [-600, 0], [0, 400], [0, -400], [600, 0]]) {
@@ -56,11 +56,24 @@ test("of squares that are kept those go first that were drawn longest ago", asyn
   }
   assert.ok(new Set(read).size > 400 && arms.at(-1) > 0, `${arms}`);
 });
-test("a square that comes later is drawn where its gap was seen", async () => {
+test("a tile that comes later is drawn where its gap was seen", async () => {
   const tiles = new TileLayer(), view = viewOf(256, 256, 0);
   tiles.take({ z: 12, x: 0, y: 0 }, new Blob(["far away"]));
   assert.deepEqual(await settled(tiles, view), [1, false]);
   const [z, x, y] = [...tiles.made.keys()][0].split("/").map(Number);
   tiles.take({ z, x, y }, new Blob(["p"]));
   assert.deepEqual(await settled(tiles, view), [2, true]);
+});
+test("tiles that are no pictures are counted, and the page is told", async t => {
+  const { createImageBitmap } = globalThis, tiles = new TileLayer();
+  t.after(() => { globalThis.createImageBitmap = createImageBitmap; });
+  globalThis.createImageBitmap = async () => { throw new Error("InvalidStateError"); };
+  let told = 0;
+  tiles.onDamage = () => { told++; };
+  tiles.open("bad", { least: 12, most: 12, read: async () => new Blob(["no picture"]) });
+  assert.deepEqual(await settled(tiles, viewOf(256, 256, 0)), [1, false]);
+  assert.ok(tiles.damaged.size > 0);
+  assert.equal(told, tiles.damaged.size);
+  tiles.clear();
+  assert.equal(tiles.damaged.size, 0);
 });

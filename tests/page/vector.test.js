@@ -1,7 +1,7 @@
 import assert from "node:assert/strict";
 import { test } from "node:test";
 import { open, skip } from "./window.js";
-import { readBase } from "../../page/src/formats/read-vector.js";
+import { readBase, readingBase } from "../../page/src/formats/read-vector.js";
 import { degreesOf } from "../../page/src/geo/sphere.js";
 
 if (!skip) open(null);
@@ -62,4 +62,32 @@ test("what is none of these is refused, and what is off the earth too", { skip }
   for (const [text, why] of Object.entries(refused)) assert.throws(() => readBase(text), why, text);
   // east goes on beyond the date line, up to once and a half around
   assert.deepEqual(read('{"type":"Point","coordinates":[540,90]}').points[0].slice(0, 2), ["", 90]);
+});
+test("a long course is read in steps, which count its places", () => {
+  const coordinates = Array.from({ length: 10000 }, (_, k) => [k / 1e4, 54]), sums = [];
+  const steps = readingBase(JSON.stringify({ type: "LineString", coordinates }));
+  let it = steps.next();
+  for (; !it.done; it = steps.next()) sums.push(it.value);
+  assert.deepEqual(sums, [4096, 4096, 1808]);
+  assert.equal(it.value.lines[0].length, 30000);
+});
+test("an odd GeoJSON is refused in words, and odd names are none", { skip }, () => {
+  const deep = '{"type":"GeometryCollection","geometries":['.repeat(200) + "]}".repeat(200);
+  const refused = { '{"type":{"toString":1}}': /^no GeoJSON$/,
+    '{"type":"Point"}': /a list is missing/,
+    '{"type":"LineString","coordinates":7}': /a list is missing/,
+    '{"type":"Point","coordinates":["1",2]}': /off the earth/, [deep]: /too deep in each other/ };
+  for (const [text, message] of Object.entries(refused))
+    assert.throws(() => readBase(text), { message });
+  assert.deepEqual(read('{"type":"Feature","properties":{"name":{"toString":null}},"geometry":' +
+    '{"type":"Point","coordinates":[1,2]}}').points, [["", 2, 1]]);
+});
+test("XML that a browser takes no deeper is not called ill-formed", { skip }, t => {
+  const { DOMParser } = globalThis, put = value =>
+    Object.defineProperty(globalThis, "DOMParser", { value, configurable: true });
+  t.after(() => put(DOMParser));
+  put(class { parseFromString() {
+    return { querySelector: () => ({ textContent: "Excessive depth in document: 256" }) };
+  } });
+  assert.throws(() => readBase("<kml></kml>"), /too deep in each other/);
 });

@@ -46,6 +46,8 @@ export const pen = new Pen();
 const jsdom = jsdomOf();
 export const skip = jsdom ? false : "needs jsdom (Debian: node-jsdom)";
 
+/** So many sheets of the form are in view. */
+export const IN_VIEW = 4;
 const NONE = { TITLE: "APRS net", STYLE: "", POLICY: "", CONNECT: "", FILES: "", FOOTER: "",
   PARTS: "", COAST: "", SCRIPT: "" };
 /** The shell with these data, and the fields of the page that reads logs where `reads` says so. */
@@ -67,6 +69,12 @@ export function open(data, { hash = "", reads = false } = {}) {
   };
   prototype.scrollIntoView = () => {};
   window.matchMedia = () => ({ matches: false, addEventListener() {} });
+  // the first few of what is observed are in view
+  globalThis.IntersectionObserver = class {
+    constructor(run) { Object.assign(this, { run, seen: 0 }); }
+    observe(target) { this.run([{ target, isIntersecting: this.seen++ < IN_VIEW }]); }
+    disconnect() {}
+  };
   window.ResizeObserver = class { constructor(run) { this.run = run; } observe() { this.run(); } };
   window.Path2D = class { constructor(d) { this.d = d; } };
   // colours have the names that the style has

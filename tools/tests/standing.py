@@ -11,7 +11,7 @@ import pytest
 from aprsbook_tools import cli, table_output
 from aprsbook_tools.reports import track_files, tracks
 from aprsbook_tools.reports.roster import Roster
-from aprsbook_tools.reports.table import WORDS, Message, Row, Station, Thing
+from aprsbook_tools.reports.table import WORDS, Message, Row, Station, Thing, columns_of
 
 # prints the table that is asked for, and as a book what it is given; it notes how it was called
 SCRIPT = """#!{python}
@@ -110,9 +110,10 @@ def shown(value: Any) -> str:
 
 def table_text(kind: Any, items: Sequence[Any]) -> str:
     """The table of these items, with a column that this version doesn't know."""
-    names = [it.name for it in dataclasses.fields(kind)]
-    lines = [[shown(getattr(it, name)) for name in names] + ["?"] for it in items]
-    return "".join("\t".join(line) + "\n" for line in [[*names, "of_later"], *lines])
+    fields = [it.name for it in dataclasses.fields(kind)]
+    lines = [[shown(getattr(it, name)) for name in fields] + ["?"] for it in items]
+    head = [*columns_of(kind), "of_later"]
+    return "".join("\t".join(line) + "\n" for line in [head, *lines])
 
 
 def tracks_of(form: str, things: Iterable[tracks.Thing]) -> Iterator[str]:

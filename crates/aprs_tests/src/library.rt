@@ -1,5 +1,5 @@
 //! Examples of a few calls each, most of which docs/library.md shows as they stand here:
-//! `tests/library.sh` compares these.
+//! `tests/documents/library.sh` compares these.
 
 use aprs_ax25::{Callsign, Frame, Hop};
 use aprs_book::{Book, Gap};

@@ -1,40 +1,61 @@
 // @ts-check
 // What wants doing: how bad it is, and in words.
 
+import { markWords } from "../lists/dealt.js";
+import { isMine, isOpen } from "../lists/messages.js";
+import { needOf } from "../net/alarms.js";
 import { apartText, clockWords } from "../net/clock-words.js";
 import { count, namesText } from "../util/text.js";
 import { timeText } from "../util/time.js";
 
 /** @typedef {import("../net/net.js").Thing} Thing */
+/** @typedef {import("../net/message-table.js").Message} Message */
 /** @typedef {import("../net/settings.js").Settings} Settings */
+/** @typedef {import("../lists/dealt.js").Marking} Marking */
+/** @typedef {Pick<Marking, "markOf"> & { settings: Settings }} Known what is known of alarms */
 /**
  * A word of news: where it stands, or what it is about; how bad it is; what it says; whether some
- * of it was heard before the time that is shown.
+ * of it was heard before the time that is shown; of which kind of station it is.
  * @typedef {{ href: string, grade: "alarm" | "bad" | "warn" | "good", text: string,
- *   pick?: string, isEarlier?: boolean }} Word
+ *   pick?: string, isEarlier?: boolean, kind?: string }} Word
  */
 
-/** @typedef {Word & { id: string }} Need with what it is known by, however it is worded */
 /**
- * Who is in need, and who said so before: an emergency first, then by time.
+ * With what it is known by, however it is worded, and the alarm that can be dealt with.
+ * @typedef {Word & { id: string, alarm: string }} Need
+ */
+/**
+ * When something was said last in need: by the clocks of others, where the receiver's is wrong.
+ * @param {Thing} it @param {Settings} settings
+ */
+function momentOfNeed({ rows, lastUrgent: k }, settings) {
+  const text = timeText(rows.heardAt(k), settings), own = timeText(rows.last[k], settings);
+  return text === own ? text : `${text} (${own} by ${namesText(rows.lists[rows.heard[k]])})`;
+}
+/**
+ * Who is in need, and who said so before: an emergency first, then by time; last those with whom
+ * somebody deals.
  * @param {Thing[]} things
- * @param {Settings} settings
+ * @param {Known} known
  * @returns {Need[]}
  */
-export function needsOf(things, settings) {
+export function needsOf(things, { settings, markOf }) {
   const words = [], weight = (/** @type {Thing} */ it) => it.rows.urgent[it.lastUrgent];
+  const dealt = (/** @type {Thing} */ it) => it.urgent ? markOf(needOf(it)) : null;
   const urgent = things.filter(it => it.lastUrgent >= 0);
-  urgent.sort((a, b) => Number(Boolean(b.urgent)) - Number(Boolean(a.urgent)) ||
-    weight(b) - weight(a) || b.last - a.last);
+  const waits = (/** @type {Thing} */ it) => Number(it.urgent !== "" && !dealt(it));
+  urgent.sort((a, b) => waits(b) - waits(a) ||
+    Number(Boolean(b.urgent)) - Number(Boolean(a.urgent)) || weight(b) - weight(a) ||
+    b.last - a.last);
   for (const it of urgent) {
-    const { first, last } = it.rows, at = timeText(last[it.lastUrgent], settings);
-    const name = settings.names.shown(it.name);
+    const at = momentOfNeed(it, settings), mark = dealt(it), name = settings.names.shown(it.name);
     const level = weight(it) === 2 ? "emergency" : "priority";
     /** @type {Word["grade"]} */
-    const grade = !it.urgent ? "warn" : level === "emergency" ? "alarm" : "bad";
-    const id = `${first[it.lastUrgent]} ${it.key}`;
-    words.push({ href: "#where", pick: it.key, id, grade, text: it.urgent
-      ? `${level === "emergency" ? "EMERGENCY" : "priority"}: ${name}, ${at}`
+    const grade = mark || !it.urgent ? "warn" : level === "emergency" ? "alarm" : "bad";
+    const id = `${it.rows.first[it.lastUrgent]} ${it.key}`;
+    const end = mark ? `, ${markWords(mark, settings)}` : "";
+    words.push({ href: "#where", pick: it.key, id, alarm: needOf(it), grade, text: it.urgent
+      ? `${level === "emergency" ? "EMERGENCY" : "priority"}: ${name}, ${at}${end}`
       : `${name} said ${level} at ${at}, and no longer does` });
   }
   return words;
@@ -126,38 +147,50 @@ function missingText({ missing, expected, silent, settings: { names } }) {
  * @param {number} early
  */
 const earlierText = early => early ? ` (${early.toLocaleString("en")} earlier than is shown)` : "";
-/** When something was last heard. */
-const lastOf = (/** @type {import("../net/net.js").Whole} */ { stations }) =>
-  stations.reduce((most, it) => Math.max(most, it.last), -Infinity);
+/**
+ * What the messages that wait say, with those of the reader's own call.
+ * @param {Message[]} messages those in a state
+ * @param {string} state
+ * @param {string} ownCall
+ */
+function messagesText(messages, state, ownCall) {
+  const mine = messages.filter(it => isMine(it, ownCall)).length;
+  return `${count(messages.length, "message")} ${state}` +
+    (mine ? `, ${mine} of ${ownCall}` : "");
+}
 /**
  * All news of a net, what matters most first. What wants doing is of all the time.
  * @param {Pick<import("../net/net.js").Net,
  *   "since" | "things" | "others" | "receivers" | "whole">} net
- * @param {{ gap: number, silent: number, isLongAgo: (last: number) => boolean, missing: string[],
- *   expected: number, settings: Settings, now?: number }} of the gap in seconds, silence in
- *   minutes, who is expected; and the moment now, where ages don't count to it
+ * @param {Known & { gap: number, silent: number, isLongAgo: (last: number) => boolean,
+ *   isSilent: (it: import("../net/net.js").Heard) => boolean, ownCall: string, missing: string[],
+ *   expected: number, now?: number, end: number }} of the gap in seconds, silence in minutes, who
+ *   is expected; the moment to which ages count; and the moment now, where that is another
  * @returns {Word[]}
  */
 export function newsOf(net, of) {
-  const { gap, silent, isLongAgo, missing, expected, settings, now } = of, { whole, since } = net;
+  const { gap, silent, isLongAgo, isSilent, ownCall, missing, expected, settings, now, end } = of;
+  const { whole, since } = net;
   /** @type {Word[]} */
-  const words = [...mostOf(needsOf(whole.needy, settings))];
+  const words = [...mostOf(needsOf(whole.needy, of))];
   const unfixed = net.things.filter(it => it.unfixed).length;
   /** @param {string} href @param {Word["grade"]} grade @param {string} text */
   const say = (href, grade, text) => words.push({ href, grade, text });
   const sayOf = (/** @type {string} */ href, /** @type {Word["grade"]} */ grade,
-    /** @type {{ last: number }[]} */ all, /** @type {(n: number) => string} */ textOf) => {
-    const { length } = all, early = all.filter(it => it.last < since).length;
-    words.push({ href, grade: length ? grade : "good", text: textOf(length) + earlierText(early),
-      isEarlier: early > 0 });
+    /** @type {number[]} */ moments, /** @type {string} */ text, kind = "") => {
+    const early = moments.filter(it => it < since).length;
+    words.push({ href, grade: moments.length ? grade : "good", text: text + earlierText(early),
+      isEarlier: early > 0, ...kind && { kind } });
   };
-  const inState = (/** @type {string} */ state) =>
-    whole.messages.filter(it => it.state === state);
-  sayOf("#said", "bad", inState("unanswered"), n => `${count(n, "message")} unanswered`);
-  const rejected = inState("rejected");
-  if (rejected.length) sayOf("#said", "bad", rejected, n => `${count(n, "message")} rejected`);
-  sayOf("#list", "warn", whole.stations.filter(it => isLongAgo(it.last)),
-    n => `${count(n, "station")} silent for over ${silent} min`);
+  for (const state of ["unanswered", "rejected"]) {
+    const open = whole.messages.filter(it => it.state === state && isOpen(it, of));
+    if (open.length || state === "unanswered")
+      sayOf("#said", "bad", open.map(it => it.last), messagesText(open, state, ownCall));
+  }
+  const quiet = whole.stations.filter(isSilent);
+  sayOf("#list", "warn", quiet.map(it => it.heardAt),
+    `${count(quiet.length, "station")} silent for over ${silent} min`,
+    quiet.length ? "silent" : "");
   if (expected)
     say("#roster", missing.length ? "bad" : "good", missingText(of));
   // where a clock is wrong, that is what is said
@@ -168,7 +201,7 @@ export function newsOf(net, of) {
     say("#ears", "warn", `nothing heard for over ${silent} min by ${namesText(deaf)}`);
   words.push(...clocksOff(net.receivers, gap));
   if (now !== undefined)
-    words.push(...datedAhead(net.receivers, now), ...agesText(lastOf(whole), now, settings));
+    words.push(...datedAhead(net.receivers, now), ...agesText(end, now, settings));
   if (unfixed) say("#list", "warn", `${count(unfixed, "station")} at 0, 0, which is no fix`);
   if (net.others)
     say("#list", "warn", `${count(net.others, "transmission")} of a kind that this page ` +

@@ -4,12 +4,13 @@
 import { bringAll, takeAllAway } from "./add-layer.js";
 import { drawPart } from "./header.js";
 import { play, turnClock } from "./playback.js";
-import { colour, refresh } from "./render.js";
+import { colour, drawMarks, refresh } from "./render.js";
 import { reveal } from "./reveal.js";
 import { sift } from "./search.js";
-import { pick } from "./selection.js";
+import { pick, takeOrigin, takeOtherCall } from "./selection.js";
 import { listenToEdge } from "./splitter.js";
 import { page, shownNow, widgets } from "./state.js";
+import { nameIn } from "../net/rows.js";
 import { byId, choose, keep } from "../util/dom.js";
 import { runAllWaiting } from "../util/task-queue.js";
 
@@ -63,6 +64,11 @@ function listenToChoices() {
     choices.kind = byId("kind").value;
     sift();
   });
+  on("call", "change", () => {
+    keep("call", choices.call = byId("call").value = byId("call").value.trim().toUpperCase());
+    drawMarks();
+  });
+  on("origin", "change", () => takeOrigin(byId("origin").value));
   redrawOn("since", () => {
     choices.hours = Number(byId("since").value);
     choose("since", choices.hours ? String(choices.hours) : "");
@@ -94,10 +100,16 @@ function listenToHead() {
     page.alarm.turn(byId("sound").checked);
     choose("sound", page.alarm.isOn ? "on" : "");
   });
-  on("news", "click", ({ target }) => {
-    reveal(/** @type {HTMLElement} */ (target).dataset);
-  });
+  for (const id of ["news", "urgent"])
+    on(id, "click", ({ target }) => {
+      const link = /** @type {HTMLElement} */ (target);
+      if (!link.matches("a")) return;
+      if (widgets().form.isOpen) widgets().form.open(false);
+      reveal(link.dataset);
+    });
   on("one-close", "click", () => pick(page.picked));
+  on("one-origin", "click", () => takeOrigin(nameIn(page.picked || "")));
+  on("other-call-set", "click", takeOtherCall);
   on("lay", "click", () => widgets().sources.lay());
   on("bring", "change", () => {
     bringAll([...byId("bring").files || []]);

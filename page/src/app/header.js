@@ -2,12 +2,16 @@
 // What stands above all else: when and by whom the net was heard, what is new, what wants doing.
 
 import { needsOf, newsOf } from "./alerts.js";
+import { callsBefore } from "./dealt.js";
 import { page, shownNow, view } from "./state.js";
+import { isExcusedOf } from "../lists/stations.js";
 import { expectedOf, faultWords } from "../net/roster.js";
 import { byId, make, write } from "../util/dom.js";
 import { count, firstOf, namesText } from "../util/text.js";
 import { dateText, secondText, timeText, zonesText } from "../util/time.js";
 
+/** So many who are in need are named above any view. */
+const URGENT = 6;
 /** Says when, of how many and by whom the net was heard. */
 export function drawAbout() {
   const { net, all, data } = shownNow(), { settings } = page;
@@ -45,9 +49,15 @@ export function drawPart() {
   write("part", partText({ hours, until, found: found.length, all: net.things.length,
     clock: settings }));
 }
+/** From now on what is new is marked, as in a page that goes on. */
+export function goOnFromHere() {
+  page.grows = true;
+  if (page.shown && !page.looked.seen) page.looked.look(page.shown.net, Date.now() / 1000);
+}
 /** Says what is new since the reader looked, where the page goes on. */
 export function drawLooked() {
-  const { net, data } = shownNow(), { looked } = page, goesOn = Boolean(data.live || page.follows);
+  const { net, data } = shownNow(), { looked } = page;
+  const goesOn = Boolean(data.live || page.follows || page.grows);
   if (!goesOn) looked.forget();
   else if (!looked.seen && net.rows.length) looked.look(net, Date.now() / 1000);
   if (page.turned) looked.reveal(net);
@@ -57,22 +67,26 @@ export function drawLooked() {
   button.textContent = `${fresh} new since ${timeText(looked.at, page.settings)}: mark as seen`;
   document.title = fresh ? `(${fresh}) ${data.title}` : data.title;
 }
+/** @param {import("./alerts.js").Word} word */
+const linkOf = ({ href, grade, text, pick: key, isEarlier, kind }) => make("a", { href,
+  className: grade, textContent: text,
+  data: { ...key && { key }, ...isEarlier && { earlier: "yes" }, ...kind && { kind } } });
 /**
  * The words of the news, and notes and faults of the roster.
  * @returns {HTMLElement[]}
  */
 function newsNodes() {
   const { net, data, all } = shownNow(), now = view.now;
-  const expected = expectedOf(page.roster.list, net.whole.stations);
-  const missing = expected.filter(it => now - it.last > view.silent).map(it => it.call);
+  const expected = expectedOf(page.roster.list, net.whole.stations, callsBefore());
+  const missing = expected.filter(it => view.isLongAgo(it.heardAt) && !isExcusedOf(it, view))
+    .map(it => it.call);
   const news = all.rows.length ? newsOf(net, { gap: data.gap, silent: data.silent,
-    isLongAgo: view.isLongAgo, settings: page.settings, missing, expected: expected.length,
+    isLongAgo: view.isLongAgo, isSilent: view.isSilent, ownCall: view.ownCall,
+    markOf: view.markOf, settings: page.settings, missing, expected: expected.length, end: now,
     // a page that goes on says itself what it misses, and by the server's clock
     now: data.live || page.follows ? undefined : Date.now() / 1000 }) : [];
   const faults = faultWords(page.roster.faults).map(it => `roster, ${it}`);
-  return [...news.map(({ href, grade, text, pick: key, isEarlier }) => make("a", { href,
-    className: grade, textContent: text,
-    data: { ...key && { key }, ...isEarlier && { earlier: "yes" } } })),
+  return [...news.map(linkOf),
   ...[...firstOf(data.notes), ...faults].map(textContent =>
     make("span", { className: "bad", textContent }))];
 }
@@ -95,8 +109,25 @@ export function drawNews() {
   const words = (/** @type {Element[]} */ list) =>
     list.map(it => it.className + it.textContent).join("\n");
   if (words(nodes) !== words([...byId("news").children])) putNews(nodes);
-  const needs = needsOf(shownNow().net.whole.needy, page.settings)
+  const needs = needsOf(shownNow().net.whole.needy, view)
     .filter(it => it.grade === "alarm" || it.grade === "bad");
+  drawUrgent(needs);
   const fresh = page.alarm.hear(needs).map(it => it.text);
   if (fresh.length) byId("needs").textContent = firstOf(fresh).join("; ");
+}
+/**
+ * Says above any view who is in need, and with whom nobody deals yet.
+ * @param {import("./alerts.js").Need[]} needs
+ */
+function drawUrgent(needs) {
+  const some = needs.slice(0, URGENT), more = needs.length - some.length;
+  const words = [...some.map(it => it.text), ...more ? [`and ${more} more`] : []];
+  const urgent = byId("urgent");
+  if ([...urgent.querySelectorAll("a, span")].map(it => it.textContent).join("\n") ===
+    words.join("\n")) return;
+  urgent.hidden = !some.length;
+  urgent.replaceChildren(...some.flatMap(it => [linkOf(it), make("button", { type: "button",
+    className: "deal", textContent: "dealt with", aria: { "aria-label": `dealt with: ${it.text}` },
+    onclick: () => view.onDeal(it.alarm, "") }), " "]),
+  ...words.slice(some.length).map(textContent => make("span", { textContent })));
 }

@@ -95,7 +95,8 @@ function countAges(now) {
     it.textContent = age(now - heardAt(it));
   for (const [box, rows] of Object.entries(LISTS))
     for (const row of byId(box).querySelectorAll(rows))
-      row.classList.toggle("silent", now - heardAt(row.querySelector(".age")) > view.silent);
+      row.classList.toggle("silent", !row.classList.contains("excused") &&
+        now - heardAt(row.querySelector(".age")) > view.silent);
 }
 /** Counts ages on, and says what this page misses. */
 export function tick() {

@@ -3,9 +3,10 @@
 // and what a desk sets for all.
 
 import { apartText } from "../net/clock-words.js";
-import { page } from "./state.js";
+import { page, tell } from "./state.js";
+import { courseFor } from "../desks/course.js";
 import { make, momentOf, write } from "../util/dom.js";
-import { count, printable } from "../util/text.js";
+import { count, messageOf, printable } from "../util/text.js";
 
 /** @typedef {import("../desks/journal.js").Journal} Journal */
 /** @typedef {import("../desks/stream.js").NetTold} NetTold */
@@ -15,11 +16,12 @@ import { count, printable } from "../util/text.js";
  * What is said of the sites: wrong clocks, lines that were refused, and days to come.
  * @param {NetTold} net
  */
-export function siteWords({ sites }) {
+export function siteWords({ sites, days }) {
   return Object.entries(sites).flatMap(([name, { clock, refused, day }]) => [
     ...clock ? [`the clock of ${name} is ${apartText(Math.abs(clock))} ` +
       `${clock > 0 ? "ahead" : "behind"}`] : [],
-    ...day ? [`${name} has lines of ${day}, which is to come`] : [],
+    ...day ? [`${name} has lines of ${day}, which is ${day > (days.at(-1) ?? "")
+      ? "to come" : "today by its clock"}`] : [],
     ...refused ? [`${count(refused, "line")} of ${name} refused`] : []]);
 }
 /**
@@ -39,29 +41,80 @@ export function connectionWords({ journal, isThere }) {
   return words;
 }
 
-/** @param {string} words @param {HTMLElement[]} fields @param {() => void} run */
+/**
+ * What all pages show of the net now: what a desk has set, or else what the server was begun with.
+ * @param {NetTold} net
+ * @param {Map<string, string>} own what desks have set
+ */
+export const nowOf = (net, own) => ({
+  title: own.get("title") || net.title,
+  silent: own.get("silent") || String(net.silent),
+  roster: own.get("roster") ?? net.roster,
+  courses: own.has("course") ? [own.get("course") || ""] : net.courses,
+  tiles: own.get("tiles") ?? net.tiles[0] ?? "",
+});
+/** @param {string} words @param {Node[]} fields @param {() => void} run */
 const fieldset = (words, fields, run) => make("p", {}, ...fields.flatMap(it => [it, " "]),
   make("button", { type: "button", textContent: words, onclick: run }));
+/** @param {string} label @param {HTMLElement} node */
+const labelled = (label, node) => make("label", { textContent: `${label} ` }, node);
 /** @param {string} label @param {object} of */
 const input = (label, of) => {
   const node = make("input", { ...of });
-  return { node, label: make("label", { textContent: `${label} ` }, node) };
+  return { node, label: labelled(label, node) };
 };
 /**
- * What a desk can set for all pages of the net.
+ * Sets the roster, the course and the map of tiles for all; each may be none.
  * @param {Journal} journal
  */
-function settingsOf(journal) {
+function layersOf(journal) {
+  const roster = make("textarea", { rows: 4, cols: 40 });
+  const course = input("course", { type: "file", accept: ".gpx,.kml,.geojson,.json" });
+  const tiles = make("select", {});
+  const set = (/** @type {string} */ name, /** @type {string} */ value) =>
+    journal.add("setting", { name, value });
+  async function setCourse() {
+    const file = course.node.files?.[0];
+    if (!file) return set("course", "");
+    try {
+      set("course", courseFor(await file.text()));
+      course.node.value = "";
+      return tell("");
+    } catch (fault) {
+      return tell(`${printable(file.name)}: ${messageOf(fault)}`, true);
+    }
+  }
+  let shown = "";
+  return { nodes: [
+    fieldset("set the roster for all", [labelled("roster", roster)],
+      () => set("roster", roster.value)),
+    fieldset("set the course for all, or none", [course.label], setCourse),
+    fieldset("set the map for all", [labelled("map", tiles)], () => set("tiles", tiles.value)),
+  ],
+  /** Shows what is set now, where nobody writes something else here. */
+  show(/** @type {NetTold} */ net) {
+    const now = nowOf(net, journal.settings);
+    if (roster.value === shown) roster.value = shown = now.roster;
+    if (tiles.options.length === net.tiles.length + 1) return;
+    tiles.replaceChildren(...["", ...net.tiles].map(value =>
+      make("option", { value, textContent: printable(value) || "none" })));
+    tiles.value = now.tiles;
+  } };
+}
+/**
+ * Sets the title and the silence, names a station, and notes something to it, for all.
+ * @param {Journal} journal
+ */
+function wordsFor(journal) {
   const title = input("title", { size: 24, maxLength: 200 });
   const silent = input("silent after minutes", { type: "number", min: "1", max: "1000000" });
   const call = input("call", { size: 9, maxLength: 9 });
   const name = input("is called", { size: 16, maxLength: 40 });
   const note = input("note", { size: 40, maxLength: 2000 });
-  const roster = make("textarea", { rows: 4, cols: 40 });
   const set = (/** @type {string} */ of, /** @type {string} */ value) =>
     value && journal.add("setting", { name: of, value });
   const callNow = () => call.node.value.trim().toUpperCase().replace(/-0$/, "");
-  return [
+  return { nodes: [
     fieldset("set for all", [title.label, silent.label], () => {
       set("title", title.node.value.trim());
       if (silent.node.validity.valid) set("silent", silent.node.value);
@@ -76,9 +129,12 @@ function settingsOf(journal) {
         journal.add("note", { call: callNow(), text: note.node.value.trim() });
       note.node.value = "";
     }),
-    fieldset("set the roster for all", [make("label", { textContent: "roster " }, roster)],
-      () => set("roster", roster.value)),
-  ];
+  ],
+  show(/** @type {NetTold} */ net) {
+    const now = nowOf(net, journal.settings);
+    title.node.placeholder = now.title;
+    silent.node.placeholder = now.silent;
+  } };
 }
 /**
  * The notes to stations, each with what takes it away.
@@ -91,16 +147,17 @@ const notesOf = journal => journal.ofKind("note").map(it => make("li", {},
     aria: { "aria-label": `take the note to ${it.call} away` },
     onclick: () => journal.remove(it.id) })));
 
-/** The panel, once it is made: its line, its notes, and the rest. */
-let panel = /** @type {{ notes: HTMLElement } | null} */ (null);
+/** The panel, once it is made: its notes, and what shows in its fields what is set. */
+let panel = /** @type {{ notes: HTMLElement, show: (net: NetTold) => void } | null} */ (null);
 /** @param {Journal | null} journal */
 function makePanel(journal) {
   const notes = make("ul", {}), told = document.getElementById("told");
   const title = make("summary", { textContent: "this net" });
+  const parts = journal ? [wordsFor(journal), layersOf(journal)] : [];
   const own = journal ? [make("details", { id: "desk" }, title,
-    make("div", {}, ...settingsOf(journal), notes))] : [];
+    make("div", {}, ...parts.flatMap(it => it.nodes), notes))] : [];
   told?.before(make("p", { id: "connection", aria: { role: "status" } }), ...own);
-  return { notes };
+  return { notes, show: (/** @type {NetTold} */ net) => parts.forEach(it => it.show(net)) };
 }
 /**
  * Draws what is said of the net, and what a desk can set.
@@ -112,4 +169,5 @@ export function drawNetPanel(of) {
   document.getElementById("connection")?.classList.toggle("warn",
     !of.isThere || siteWords(of.net).length > 0);
   panel.notes.replaceChildren(...of.journal ? notesOf(of.journal) : []);
+  panel.show(of.net);
 }

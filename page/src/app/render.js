@@ -2,21 +2,24 @@
 // Draws the page: its lists, its map and what stands above them.
 
 import { readBrought } from "./basemaps.js";
+import { callsBefore, openMarks } from "./dealt.js";
 import { drawAbout, drawLooked, drawNews } from "./header.js";
 import { holdClock } from "./playback.js";
 import { madeHays, sift } from "./search.js";
-import { drawOne } from "./selection.js";
+import { drawOne, pick } from "./selection.js";
 import { page, presentOf, shownNow, view, widgets } from "./state.js";
 import { inOrder } from "../lists/messages.js";
+import { linesOf, passedList, passedWords, turnsOf, visitList } from "../lists/passed.js";
 import { pairList, shareText } from "../lists/stations.js";
 import { timelineList } from "../lists/timeline.js";
 import { Colouring, wayFor } from "../map/colours.js";
+import { passedOf } from "../net/checkpoints.js";
 import { messagesOf } from "../net/message-table.js";
-import { hearings, netOf, rank } from "../net/net.js";
-import { expectedOf } from "../net/roster.js";
+import { allOf, hearings, netOf } from "../net/net.js";
+import { expectedOf, Names } from "../net/roster.js";
 import { Rows } from "../net/rows.js";
 import { columnsOf } from "../net/table-reader.js";
-import { byId, make } from "../util/dom.js";
+import { byId, make, write } from "../util/dom.js";
 import { later } from "../util/task-queue.js";
 import { atOnce, inSlices, once } from "../util/tasks.js";
 import { datedBy } from "../util/time.js";
@@ -63,11 +66,9 @@ async function draw(turn, next) {
  * @param {Next} next
  * @returns {Steps<All>}
  */
-function* allOf({ data, read }) {
+function* readAll({ data, read }) {
   const rows = new Rows(read || (yield* columnsOf(data.rows)));
-  const messages = yield* messagesOf(data.messages);
-  messages.forEach(rank);
-  return { rows, messages, end: rows.until };
+  return yield* allOf(rows, yield* messagesOf(data.messages), data.gap);
 }
 /**
  * The steps of a drawing.
@@ -75,9 +76,9 @@ function* allOf({ data, read }) {
  * @returns {Steps<void>}
  */
 function* drawing(next) {
-  const all = next.all ||= yield* allOf(next), { hours } = page.choices;
+  const all = next.all ||= yield* readAll(next), { hours } = page.choices;
   const since = hours ? presentOf(next) - hours * 3600 : -Infinity;
-  const net = yield* netOf(all, since, next.data.gap);
+  const net = yield* netOf(all, since);
   turnTo({ data: next.data, all, net });
   drawAbout();
   drawLooked();
@@ -110,11 +111,11 @@ function turnTo(shown) {
     .map(it => it.first), ...net.whole.needy.map(it => all.rows.last[it.lastUrgent] ?? NaN)],
   settings);
   if (fresh) {
+    openMarks(data.title, data.marks || "", drawMarks);
     readBrought();
     page.own.open(data.title, data.lines, spanOf(all));
   }
-  for (const it of net.things)
-    if (it.kind === "station" && it.name) it.label = settings.names.shown(it.name);
+  nameThings(net);
   stations.placed = net.placed;
   map.refit();
   colour();
@@ -131,16 +132,54 @@ export function colour() {
   byId("legend").replaceChildren(...stations.colouring.legend.map(it =>
     make("span", {}, make("span", { className: `key c-${it.colour}` }), it.text)));
 }
+const drawRoster = () => widgets().lists.roster.show(
+  expectedOf(page.roster.list, shownNow().net.whole.stations, callsBefore()), true);
+/** Draws what marks have a part in, where one is new or taken back. */
+export function drawMarks() {
+  if (!page.shown) return;
+  const { net } = page.shown, { lists } = widgets();
+  page.settings.names = new Names(page.roster.list, callsBefore());
+  nameThings(net);
+  drawNews();
+  drawOne(true);
+  sift(true);
+  lists.messages.show(inOrder(net.messages, view), true);
+  drawRoster();
+}
+/**
+ * Gives stations the names by which they are known.
+ * @param {Net} net
+ */
+function nameThings(net) {
+  for (const it of net.things)
+    if (it.kind === "station" && it.name) it.label = page.settings.names.shown(it.name);
+}
 function drawLists() {
   const { net, all } = shownNow(), { lists } = widgets();
-  lists.messages.show([...net.messages].sort(inOrder), true);
+  lists.messages.show(inOrder(net.messages, view), true);
   byId("bulletins-head").hidden = byId("bulletins-box").hidden = !net.bulletins.length;
   lists.bulletins.show([...net.bulletins].sort((a, b) => b.last - a.last), true);
   byId("roster").hidden = !page.roster.list.length;
-  lists.roster.show(expectedOf(page.roster.list, net.whole.stations), true);
+  drawRoster();
+  byId("passes").hidden = !page.points.length;
+  if (page.points.length) later("passed", drawPassed(net));
   later("receivers", once(() => lists.receivers.show(net.receivers, true)));
   later("pairs", drawPairs(all, net));
   later("find", madeHays(net.things));
+}
+/**
+ * Draws who passed each checkpoint.
+ * @param {Net} net
+ * @returns {Steps<void>}
+ */
+function* drawPassed(net) {
+  const { points, settings } = page, of = { points, settings }, { lists } = widgets();
+  const passed = yield* passedOf(net.placed, points), { visits } = passed;
+  lists.passed = passedList(byId("passed-box"), visits, of, key => pick(key));
+  lists.passed.show(linesOf(visits, settings));
+  lists.visits = visitList(byId("visits-box"), of);
+  lists.visits.show(turnsOf(visits));
+  write("passed-told", passedWords(passed, of));
 }
 /**
  * Draws who heard and who repeated whom, and after them when, which has the same sums.
@@ -157,7 +196,7 @@ function* drawPairs({ rows }, net) {
   yield;
   lists.repeated = pairList(byId("repeated-box"), { id: "repeated",
     caption: "how many transmissions each digipeater repeated, of those that were heard",
-    pairs: repeated, sent, tell: (_, __, n, of) => shareText(n, of) });
+    pairs: repeated, sent, tell: (before, name, n) => `${name} repeated ${n} of ${before}` });
   yield;
   lists.timeline = yield* timelineList(byId("timeline-box"), rows, net,
     { sent, clock: page.settings });

@@ -23,13 +23,23 @@ function showAllThings() {
   sift();
 }
 /**
+ * Shows those things alone that the news count.
+ * @param {string} kind
+ */
+function showKind(kind) {
+  page.choices.find = byId("find").value = "";
+  page.choices.kind = byId("kind").value = kind;
+  sift();
+}
+/**
  * Shows and picks what a word of the news names by its key; or, without one, what it counts, of
  * which some was heard before the time that is shown.
- * @param {{ key?: string, earlier?: string }} of
+ * @param {{ key?: string, earlier?: string, kind?: string }} of
  */
-export async function reveal({ key, earlier }) {
+export async function reveal({ key, earlier, kind }) {
   const isIn = (/** @type {{ key: string }[]} */ list) => list.some(it => it.key === key);
   if (earlier || key && !isIn(shownNow().net.things)) await showAllTime();
+  if (kind) showKind(kind);
   if (!key) return;
   if (isIn(shownNow().net.things) && !isIn(page.found)) showAllThings();
   if (page.choices.until !== Infinity) showLatest();

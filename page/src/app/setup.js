@@ -93,12 +93,14 @@ function readChoices() {
     put("place-form", kept("form")));
   settings.local = byId("local").checked = of("time") === "local";
   settings.miles = byId("miles").checked = kept("miles") === "on";
+  choices.call = byId("call").value = kept("call");
+  choices.origin = byId("origin").value = kept("origin");
   page.alarm.turn(byId("sound").checked = of("sound") === "on", false);
   tellMute();
   for (const kind of ["pointerup", "keyup"]) addEventListener(kind, tellMute);
 }
 const makeLists = () => ({
-  messages: messageList(byId("messages-box"), view),
+  messages: messageList(byId("messages-box"), view, key => reveal({ key })),
   bulletins: bulletinList(byId("bulletins-box"), view),
   things: thingList(byId("things-box"), view, pick),
   places: placeList(byId("one-places"), view), frames: frameList(byId("one-frames"), view),

@@ -27,6 +27,15 @@ const SOME = 100;
 export const spelling = entry => JSON.stringify(Object.fromEntries(Object.entries(entry)
   .sort(([a], [b]) => a < b ? -1 : 1)))
   .replace(/[\x7f-\uffff]/g, it => "\\u" + it.charCodeAt(0).toString(16).padStart(4, "0"));
+/** Half of a letter in UTF-16, as a text may have that was cut, and no server takes. */
+const HALF = /\p{Surrogate}/gu;
+/**
+ * What an entry says, with a mark in place of each half of a letter.
+ * @param {Record<string, string>} says
+ * @returns {Record<string, string>}
+ */
+const wholeLetters = says => Object.fromEntries(Object.entries(says)
+  .map(([name, it]) => [name, it.replace(HALF, "\ufffd")]));
 /** An id that nobody else makes. */
 const newId = () => [...crypto.getRandomValues(new Uint8Array(16))]
   .map(it => it.toString(16).padStart(2, "0")).join("");
@@ -47,21 +56,21 @@ function entryIn(text) {
  * @returns {Line}
  */
 export const lineOf = it => ({ at: Number(it.time) / 1000, from: String(it.from),
-  to: String(it.to), id: String(it.number), text: String(it.text) });
+  to: String(it.to), id: String(it.number), text: String(it.text), desk: it.desk });
 
 /** All entries that this desk knows, and those of its own that the server has yet to take. */
 export class Journal {
   /**
    * @param {string} desk
    * @param {Send} send
-   * @param {Pick<Storage, "getItem" | "setItem"> | null} store keeps what waits
+   * @param {Pick<Storage, "getItem" | "setItem"> | null} store keeps what waits, by the key
    */
-  constructor(desk, send, store, now = Date.now) {
+  constructor(desk, send, store, now = Date.now, key = `aprsbook desk: ${desk}`) {
     this.desk = desk;
     this.send = send;
     this.store = store;
     this.now = now;
-    this.key = `aprsbook desk: ${desk}`;
+    this.key = key;
     /** @type {Map<string, Entry>} by their spelling, so that none is there twice */
     this.entries = new Map();
     /** @type {Set<string>} spellings of those that wait */
@@ -72,6 +81,8 @@ export class Journal {
     this.isStored = true;
     /** Is called where something is new, be it of this desk or of another. */
     this.onChange = () => {};
+    /** The marks by alarms, as they were at so many entries: none is ever changed. */
+    this.dealt = { at: -1, by: /** @type {Map<string, Entry[]>} */ (new Map()) };
     for (const it of this.read().split("\n")) if (this.put(it)) this.waiting.add(it);
   }
   read() {
@@ -120,14 +131,25 @@ export class Journal {
    * @param {Record<string, string>} says
    */
   add(kind, says) {
-    const entry = { ...says, kind, desk: this.desk, at: this.now(), id: newId() };
-    const text = spelling(entry);
-    this.put(text);
-    this.waiting.add(text);
+    return this.addAll(kind, [says])[0];
+  }
+  /**
+   * Adds entries of this desk, be they many; their ids.
+   * @param {keyof typeof KINDS} kind
+   * @param {Record<string, string>[]} all what each of them says
+   */
+  addAll(kind, all) {
+    const added = all.map(says =>
+      ({ ...wholeLetters(says), kind, desk: this.desk, at: this.now(), id: newId() }));
+    for (const text of added.map(spelling)) {
+      this.put(text);
+      this.waiting.add(text);
+    }
+    if (!added.length) return [];
     this.keep();
     this.onChange();
     this.sendAll();
-    return entry.id;
+    return added.map(it => it.id);
   }
   /**
    * Takes an entry away, for all desks.
@@ -177,13 +199,15 @@ export class Journal {
       to: line.to, number: line.id, text: line.text });
   }
   /**
-   * Takes a line away, whoever added it, as often as it is there.
-   * @param {Line} line
+   * Takes lines away, whoever added them, as often as they are there.
+   * @param {Line[]} lines
    */
-  removeLine(line) {
-    const isSame = (/** @type {Line} */ it) => it.at === line.at && it.from === line.from &&
-      it.to === line.to && it.id === line.id && it.text === line.text;
-    for (const it of this.ofKind("line").filter(of => isSame(lineOf(of)))) this.remove(it.id);
+  removeLines(lines) {
+    const keyOf = (/** @type {Line} */ it) =>
+      JSON.stringify([it.at, it.from, it.to, it.id, it.text]);
+    const keys = new Set(lines.map(keyOf));
+    this.addAll("gone", this.ofKind("line").filter(it => keys.has(keyOf(lineOf(it))))
+      .map(it => ({ of: it.id })));
   }
   /**
    * What the last entry of a kind says of each matter.
@@ -207,7 +231,19 @@ export class Journal {
    * @param {string} alarm
    */
   dealtWith(alarm) {
-    return this.ofKind("dealt").filter(it => it.alarm === alarm);
+    return this.marks.get(alarm) || [];
+  }
+  /** Who deals with each alarm. */
+  get marks() {
+    const { dealt, entries: { size } } = this;
+    if (dealt.at === size) return dealt.by;
+    const by = /** @type {Map<string, Entry[]>} */ (new Map());
+    for (const it of this.ofKind("dealt")) {
+      const alarm = String(it.alarm);
+      by.set(alarm, [...by.get(alarm) || [], it]);
+    }
+    this.dealt = { at: size, by };
+    return by;
   }
   /**
    * The notes to a station.

@@ -11,10 +11,11 @@ export const patience = { again: 2000, first: 8000, silent: 40000, ask: 5000 };
 const VAIN = 2;
 
 /**
- * What the server says of the net: its title, silence in minutes, roster and courses, which days it
- * shows, and of sites by how many seconds the clock is ahead, how many lines were refused, a day
- * to come that its lines are of.
- * @typedef {{ title: string, silent: number, roster: string, courses: string[], days: string[],
+ * What the server says of the net: its title, silence in minutes, roster and courses, its maps of
+ * tiles, which days it shows, and of sites by how many seconds the clock is ahead, how many lines
+ * were refused, a day that its lines are of and no page shows.
+ * @typedef {{ title: string, silent: number, roster: string, courses: string[],
+ *   tiles: string[], days: string[],
  *   sites: Record<string, { clock: number, refused: number, day: string }> }} NetTold
  */
 /**

@@ -8,7 +8,7 @@ import { openSqlite } from "./sqlite.js";
 /** @typedef {import("./sqlite.js").Sqlite} Sqlite */
 /** @typedef {import("./sqlite.js").Item} Item */
 
-const SQUARE = ["zoom_level", "tile_column", "tile_row"];
+const KEY = ["zoom_level", "tile_column", "tile_row"];
 /**
  * The words in the last brackets of how an index was made.
  * @param {string} sql
@@ -44,21 +44,21 @@ export class Mbtiles {
   /** @param {Sqlite} base */
   constructor(base) {
     const { items } = base, tables = new Map(items.filter(it => it.kind === "table")
-      .map(it => [it.name, { ...it, columns: columnsOf(it.sql) }]));
+      .map(it => [it.name.toLowerCase(), { ...it, columns: columnsOf(it.sql) }]));
     const [tiles, map, images] = ["tiles", "map", "images"].map(it => tables.get(it));
     this.base = base;
     this.least = 0;
     this.most = 22;
-    this.squares = tiles || map;
+    this.tiles = tiles || map;
     this.images = tiles ? undefined : images;
-    if (!this.squares || !tiles && !images) throw new Error("it has no table of tiles");
-    this.index = indexOf(items, this.squares.name, SQUARE);
+    if (!this.tiles || !tiles && !images) throw new Error("it has no table of tiles");
+    this.index = indexOf(items, this.tiles.name, KEY);
     this.imageIndex = this.images ? indexOf(items, this.images.name, ["tile_id"]) : 0;
   }
   /** Reads which levels there are, and whether the tiles are pictures. */
   async begin() {
     const [first, last] = await Promise.all([false, true].map(it => this.base.end(this.index, it)));
-    if (!first || !last) throw new Error("it has no squares");
+    if (!first || !last) throw new Error("it has no tiles");
     const [z, x, row] = first.map(Number);
     Object.assign(this, { least: z, most: Math.min(22, Number(last[0])) });
     const blob = await this.read(z, x, 2 ** z - 1 - row);
@@ -73,11 +73,11 @@ export class Mbtiles {
    * @param {number} y
    */
   async read(z, x, y) {
-    const { base, squares, images } = this, key = [z, x, 2 ** z - 1 - y];
+    const { base, tiles, images } = this, key = [z, x, 2 ** z - 1 - y];
     const number = await base.find(this.index, key);
-    if (number === null || !squares) return null;
-    const row = await base.row(squares.root, number) || [];
-    const data = row[squares.columns.indexOf(images ? "tile_id" : "tile_data")];
+    if (number === null || !tiles) return null;
+    const row = await base.row(tiles.root, number) || [];
+    const data = row[tiles.columns.indexOf(images ? "tile_id" : "tile_data")];
     if (!images) return data instanceof Uint8Array ? new Blob([data]) : null;
     const image = await base.find(this.imageIndex, [data]);
     if (image === null) return null;
@@ -87,7 +87,7 @@ export class Mbtiles {
 }
 /**
  * Opens a file of MBTiles; says why where its tiles can't be drawn.
- * @param {Blob} file
+ * @param {import("./sliced.js").Sliced} file
  */
 export async function openMbtiles(file) {
   const tiles = new Mbtiles(await openSqlite(file));

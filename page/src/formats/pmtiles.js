@@ -4,6 +4,7 @@
 
 /** @typedef {{ id: number, offset: number, length: number, run: number }} Entry */
 /** @typedef {{ offset: number, length: number }} Span */
+/** @typedef {import("./sliced.js").Sliced} Sliced */
 
 const HEADER = 127;
 /** @type {Record<number, string>} */
@@ -76,7 +77,7 @@ function entryFor(entries, id) {
 
 /** An archive, which is opened by `openPmtiles`. */
 export class Pmtiles {
-  /** @param {Blob} file @param {DataView} header */
+  /** @param {Sliced} file @param {DataView} header */
   constructor(file, header) {
     const number = (/** @type {number} */ at) => Number(header.getBigUint64(at, true));
     const span = (/** @type {number} */ at) => ({ offset: number(at), length: number(at + 8) });
@@ -96,8 +97,9 @@ export class Pmtiles {
   async bytesOf({ offset, length }) {
     const slice = this.file.slice(offset, offset + length);
     if (slice.size < length) throw new Error("the archive is cut short");
-    const stream = this.packing === GZIP
-      ? slice.stream().pipeThrough(new DecompressionStream("gzip")) : slice.stream();
+    const bytes = await slice.arrayBuffer();
+    if (this.packing !== GZIP) return new Uint8Array(bytes);
+    const stream = new Blob([bytes]).stream().pipeThrough(new DecompressionStream("gzip"));
     return new Uint8Array(await new Response(stream).arrayBuffer());
   }
   /** @param {Span} span */
@@ -124,7 +126,8 @@ export class Pmtiles {
       if (!it || it.run && id >= it.id + it.run) return null;
       if (it.run) {
         const offset = this.data.offset + it.offset;
-        return this.file.slice(offset, offset + it.length, this.type);
+        const bytes = await this.file.slice(offset, offset + it.length).arrayBuffer();
+        return new Blob([bytes], { type: this.type });
       }
       span = { offset: this.leaves.offset + it.offset, length: it.length };
     }
@@ -133,7 +136,7 @@ export class Pmtiles {
 }
 /**
  * Opens an archive; says why where its tiles can't be drawn.
- * @param {Blob} file
+ * @param {Sliced} file
  */
 export async function openPmtiles(file) {
   const head = new DataView(await file.slice(0, HEADER).arrayBuffer());

@@ -78,7 +78,7 @@ function order(key, other) {
 
 /** A database, which is opened by `openSqlite`. */
 export class Sqlite {
-  /** @param {Blob} file @param {DataView} head */
+  /** @param {import("./sliced.js").Sliced} file @param {DataView} head */
   constructor(file, head) {
     this.file = file;
     this.size = head.getUint16(16) === 1 ? 65536 : head.getUint16(16);
@@ -215,7 +215,7 @@ export class Sqlite {
 }
 /**
  * Opens a database, and reads what tables and indexes it has.
- * @param {Blob} file
+ * @param {import("./sliced.js").Sliced} file
  */
 export async function openSqlite(file) {
   const head = new DataView(await file.slice(0, 100).arrayBuffer());

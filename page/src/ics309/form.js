@@ -1,13 +1,17 @@
 // @ts-check
 // The form ICS-309 as it is used: opened, filled, added to, printed and saved.
 
+import { deskNodes } from "./desk-lines.js";
 import { keepDraft, readDraft } from "./draft.js";
-import { fieldOf, fillForm, momentIn } from "./sheets.js";
+import { fieldOf, fillForm, momentIn, sheetsShown } from "./sheets.js";
 import { byId } from "../util/dom.js";
 import { count } from "../util/text.js";
 
 /** @typedef {import("../util/dom.js").Input} Input */
 /** @typedef {import("./own-lines.js").Line} Line */
+
+/** A net that was heard within so many seconds goes on. */
+const DAY = 86400;
 
 /** The form of a page, with the operator's own lines. */
 export class Form {
@@ -23,6 +27,8 @@ export class Form {
     this.page = page;
     this.now = now;
     this.save = save;
+    /** Whether the moment of the next line is the reader's, and doesn't go on. */
+    this.isTimed = false;
   }
   get isOpen() {
     return !byId("ics").hidden;
@@ -33,19 +39,40 @@ export class Form {
   }
   /** Draws it where it is open. */
   draw() {
-    const { shown, own: { lines }, settings } = this.page;
-    if (this.isOpen && shown)
-      fillForm(shown.net, { lines, settings, onRemove: line => this.remove(line) });
+    const { shown, own, settings } = this.page;
+    if (!this.isOpen || !shown) return;
+    fillForm(shown.net, { lines: own.lines, settings, onRemove: line => this.remove(line) });
+    const run = (/** @type {boolean} */ isKept) => {
+      this.draw();
+      this.tell(isKept);
+    };
+    byId("own-desks").replaceChildren(...deskNodes(own.desks, own.offered, {
+      onRemove: desk => run(own.removeDesk(desk)),
+      onAnswer: (name, isTaken) => run(own.answer(name, isTaken)) }));
+  }
+  /** Whether the net is of another day, so that now is no moment of it. */
+  get isOver() {
+    const end = this.now();
+    return Number.isFinite(end) && Math.abs(Date.now() / 1000 - end) > DAY;
+  }
+  /** Puts the moment of the next line: now, or of a net of another day its end. */
+  putMoment() {
+    const at = this.isOver ? this.now() : Date.now() / 1000;
+    byId("own-at").value = fieldOf(at, this.page.settings);
+    this.isTimed = false;
+  }
+  /** Has the moment go on, until the next line is begun. */
+  goOn() {
+    if (!this.isOver && !this.isTimed && !this.isWritten && !byId("own-id").value)
+      this.putMoment();
   }
   /** @param {boolean} open */
   open(open) {
     document.body.classList.toggle("ics", open);
     byId("ics").hidden = !open;
     byId("ics-incident").value ||= this.page.shown?.data.title ?? "";
-    if (this.page.own.others) this.tell(this.page.own.isStored);
-    const now = this.now();
-    byId("own-at").value = fieldOf(Number.isFinite(now) ? now : Date.now() / 1000,
-      this.page.settings);
+    this.tell(this.page.own.isStored);
+    this.putMoment();
     this.draw();
     byId(open ? "ics-incident" : "ics-open").focus();
     keepDraft(open);
@@ -57,7 +84,10 @@ export class Form {
     const at = byId("own-at").value;
     this.open(true);
     // a line that was being written has its moment
-    if (this.isWritten) byId("own-at").value = at;
+    if (this.isWritten) {
+      byId("own-at").value = at;
+      this.isTimed = true;
+    }
     byId(this.isWritten ? "own-text" : "ics-incident").focus();
   }
   /** @param {Line} line */
@@ -76,16 +106,19 @@ export class Form {
     this.tell(this.page.own.add({ at, from: value("own-from"), to: value("own-to"),
       id: value("own-id"), text }));
     byId("own-id").value = byId("own-text").value = "";
+    this.isTimed = false;
+    this.goOn();
     keepDraft(true);
     this.draw();
     byId("own-text").focus();
   }
   /** @param {boolean} isKept whether the browser keeps what was changed */
   tell(isKept) {
-    const { others } = this.page.own;
+    const { others, ofOtherDays } = this.page.own;
     byId("own-told").textContent = [isKept ? ""
       : "This browser keeps no lines: save the page of the event, which has them.",
-    others ? `Left out, more than a day off: ${count(others, "line")} of your own.` : ""]
+    others ? `Left out, more than a day off: ${count(others, "line")}.` : "",
+    ofOtherDays ? `More than a day off, and shown: ${count(ofOtherDays, "line")}.` : ""]
       .filter(Boolean).join(" ");
   }
   /**
@@ -110,6 +143,9 @@ export class Form {
     for (const id of ["ics-incident", "ics-net", "ics-operator"])
       on(id, "change", () => this.draw());
     on("ics", "input", () => keepDraft(true));
+    on("own-at", "input", () => { this.isTimed = true; });
+    setInterval(() => this.isOpen && this.goOn(), 1000);
+    addEventListener("beforeprint", () => this.isOpen && sheetsShown.whole());
     addEventListener("storage", ({ key }) => this.hear(key));
     // the browser asks whether to leave
     addEventListener("beforeunload", event => this.page.own.isAtRisk && event.preventDefault());

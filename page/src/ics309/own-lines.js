@@ -1,6 +1,7 @@
 // @ts-check
-// The operator's own lines of the communications log, such as voice traffic. The browser keeps them
-// by the title of the net, where it can; what it keeps may be damaged, and then counts as nothing.
+// The operator's own lines of the communications log, such as voice traffic, and those of other
+// desks. The browser keeps them by the title of the net, where it can. What it keeps may be
+// damaged, and then counts as nothing.
 
 /** @typedef {import("../net/log-entries.js").Line} Line */
 /** @typedef {{ lines: Line[], gone: string[] }} Kept lines, and the keys of those taken away */
@@ -28,10 +29,18 @@ export function linesIn(values) {
   return values.filter(it => Math.abs(Number.isFinite(it?.at) ? it.at : NaN) <= LAST &&
     NAMES.every(name =>
       typeof it[name] === "string" && it[name].length <= 2000))
-    .map(it => ({ at: it.at, from: it.from, to: it.to, id: it.id, text: it.text }));
+    .map(it => ({ at: it.at, from: it.from, to: it.to, id: it.id, text: it.text,
+      ...typeof it.desk === "string" && it.desk && { desk: it.desk.slice(0, DESK) } }));
 }
+/** So many letters of a desk's name are kept, and what a page is called that says none. */
+const DESK = 80, PAGE = "this page";
+/**
+ * Lines with the name of a desk, where they have none.
+ * @param {Line[]} lines @param {string} desk
+ */
+const ofDesk = (lines, desk) => lines.map(it => ({ ...it, desk: it.desk || desk }));
 /** This browser's store, where it has one. */
-function storeOf() {
+export function storeOf() {
   try {
     return globalThis.localStorage || null;
   } catch {
@@ -41,9 +50,10 @@ function storeOf() {
 
 /**
  * The lines of all desks, those that one of them took away, and what adds to both.
- * @typedef {{ lines: Line[], linesGone: Line[], isStored: boolean,
+ * @typedef {{ desk: string, entries: { size: number }, lines: Line[], linesGone: Line[],
+ *   isStored: boolean,
  *   addLine: (line: Line) => unknown,
- *   removeLine: (line: Line) => void }} Shared
+ *   removeLines: (lines: Line[]) => void }} Shared
  */
 
 /** The lines of a net. */
@@ -58,13 +68,17 @@ export class OwnLines {
     this.given = [];
     /** @type {Kept} */
     this.kept = { lines: [], gone: [] };
-    /** @type {Line[]} those of pages that were dropped here */
+    /** @type {Line[]} those of pages that were dropped here, and taken */
     this.brought = [];
+    /** @type {Map<string, Line[]>} those of pages that were dropped here, to be asked for */
+    this.offered = new Map();
     this.span = ALWAYS;
     /** @type {Set<string>} keys of those that stand in the page, or were added in it */
     this.here = new Set();
     /** @type {Shared | null} those of all desks of a net that is served */
     this.shared = null;
+    /** All lines as they were made of these parts, none of which is changed in its place. */
+    this.made = { of: /** @type {unknown[]} */ ([]), all: /** @type {Line[]} */ ([]) };
   }
   /** Those of this net, by time. */
   get lines() {
@@ -80,13 +94,38 @@ export class OwnLines {
   get others() {
     return this.all.length - this.lines.length;
   }
+  /** How many of those that are here are of other days than the net. */
+  get ofOtherDays() {
+    const { begin, end } = this.span;
+    return this.lines.filter(it => it.at < begin - FAR || it.at > end + FAR).length;
+  }
+  /** The lines as a page carries them to others, each with its desk, where that has a name. */
+  get carried() {
+    const own = this.shared?.desk ?? "";
+    return this.lines.map(({ desk, ...it }) =>
+      ({ ...it, ...desk && desk !== PAGE ? { desk } : !desk && own && { desk: own } }));
+  }
+  /** How many lines each desk has, one's own first, under an empty name. */
+  get desks() {
+    const counts = new Map();
+    for (const { desk = "" } of this.lines) counts.set(desk, (counts.get(desk) || 0) + 1);
+    return [...counts].sort(([a], [b]) => a < b ? -1 : 1);
+  }
   /** All of them, by time. */
   get all() {
+    const of = [this.given, this.kept, this.shared, this.shared?.entries.size];
+    if (of.some((it, n) => it !== this.made.of[n])) this.made = { of, all: this.united() };
+    return this.made.all;
+  }
+  /** The lines of the page, of this browser and of all desks, each once. */
+  united() {
     const { lines: shared, linesGone } = this.shared || { lines: [], linesGone: [] };
     const gone = new Set([...this.kept.gone, ...linesGone.map(keyOf)]);
     // what a desk adds again is there again, also where it was taken away before
     for (const it of shared) gone.delete(keyOf(it));
-    const all = new Map([...this.given, ...this.kept.lines, ...shared].map(it => [keyOf(it), it]));
+    const own = this.shared?.desk ?? "";
+    const others = shared.map(it => it.desk === own ? { ...it, desk: "" } : it);
+    const all = new Map([...this.given, ...this.kept.lines, ...others].map(it => [keyOf(it), it]));
     return [...all].filter(([key]) => !gone.has(key)).map(it => it[1]).sort((a, b) => a.at - b.at);
   }
   /**
@@ -101,17 +140,29 @@ export class OwnLines {
     const before = this.key && !isSame ? this.lines : [];
     this.key = key;
     this.span = span;
-    this.given = linesIn(given);
+    this.given = ofDesk(linesIn(given), PAGE);
     for (const it of this.given) this.here.add(keyOf(it));
     // what the browser doesn't keep stays in this page
     this.kept = isSame && !this.isStored ? this.withStored() : this.read();
     if (before.length) this.addAll(this.lines.length ? this.brought : before);
   }
   /**
-   * Takes the lines of pages that were dropped here.
+   * Has the lines of a page that was dropped here asked for.
+   * @param {string} name of the page
    * @param {Line[]} lines
    */
-  bring(lines) {
+  offer(name, lines) {
+    this.offered.set(name, ofDesk(lines, name));
+  }
+  /**
+   * Takes the lines that a page offers, or leaves them; says whether the browser keeps them.
+   * @param {string} name
+   * @param {boolean} isTaken
+   */
+  answer(name, isTaken) {
+    const lines = this.offered.get(name) || [];
+    this.offered.delete(name);
+    if (!isTaken) return this.isStored;
     this.brought = this.brought.concat(lines);
     return this.addAll(lines);
   }
@@ -158,11 +209,26 @@ export class OwnLines {
   }
   /** @param {Line} line */
   remove(line) {
-    const key = keyOf(line);
-    this.shared?.removeLine(line);
-    this.brought = this.brought.filter(it => keyOf(it) !== key);
+    return this.removeAll([line]);
+  }
+  /**
+   * Takes lines away, be they many; says whether the browser keeps that.
+   * @param {Line[]} removed
+   */
+  removeAll(removed) {
+    const keys = new Set(removed.map(keyOf));
+    this.shared?.removeLines(removed);
+    this.brought = this.brought.filter(it => !keys.has(keyOf(it)));
     return this.change(({ lines, gone }) =>
-      ({ lines: lines.filter(it => keyOf(it) !== key), gone: [...gone, key] }));
+      ({ lines: lines.filter(it => !keys.has(keyOf(it))),
+        gone: [...new Set([...gone, ...keys])] }));
+  }
+  /**
+   * Takes all lines of a desk away.
+   * @param {string} desk
+   */
+  removeDesk(desk) {
+    return this.removeAll(this.lines.filter(it => (it.desk || "") === desk));
   }
   /**
    * Changes what is kept; says whether the browser keeps it.

@@ -52,8 +52,12 @@ export function sheetsOf(entries, names) {
   return sheets;
 }
 
-/** @param {Entry} it @param {Settings} settings @param {(line: Line) => void} onRemove */
-function rowOf(it, settings, onRemove) {
+/** So many sheets at most are printed. */
+const MOST = 200;
+/** How all is written, and what takes a line away. */
+/** @typedef {{ settings: Settings, onRemove: (line: Line) => void }} Writing */
+/** @param {Entry} it @param {Writing} writing */
+function rowOf(it, { settings, onRemove }) {
   const { own } = it;
   const name = own ? printable : (/** @type {string} */ call) => settings.names.shown(call);
   const remove = own && make("button", { type: "button", className: "no-print",
@@ -70,23 +74,71 @@ function rowOf(it, settings, onRemove) {
 const HEADS = [["num", "no."], ["", "time"], ["", "from"], ["", "msg no."], ["", "to"],
   ["", "message"]];
 /**
- * A sheet, with its number; the first stands below the form's own head.
+ * What stands on a sheet, with its number; the first is below the form's own head.
  * @param {Entry[]} entries
  * @param {number} n
- * @param {{ of: number, settings: Settings }} all how many sheets there are, and how all is written
- * @param {(line: Line) => void} onRemove
+ * @param {number} of how many sheets there are
+ * @param {Writing} writing
  */
-function sheetNode(entries, n, { of, settings }, onRemove) {
+function partsOf(entries, n, of, writing) {
   const field = (/** @type {import("../util/dom.js").Input} */ id) => byId(id).value;
   const number = make("span", { className: "sheet-number", textContent: `page ${n + 1} of ${of}` });
   const above = n ? ["ICS 309", field("ics-incident"), textOf("ics-period"),
     field("ics-net"), field("ics-operator")].filter(Boolean).map(printable).join(" \u00b7 ") : "";
-  return make("div", { className: "sheet" },
-    make("p", {}, make("span", { textContent: above || "5. communications log" }), " ", number),
+  const head = make("span", { textContent: above || "5. communications log" });
+  return [make("p", {}, head, " ", number),
     make("table", {}, make("thead", {}, make("tr", {}, ...HEADS.map(([className, textContent]) =>
       make("th", { scope: "col", className, textContent })))),
-    make("tbody", {}, ...entries.map(it => rowOf(it, settings, onRemove)))));
+    make("tbody", {}, ...entries.map(it => rowOf(it, writing))))];
 }
+/** The sheets of the form, of which those are there that come into view, and all on paper. */
+class Sheets {
+  constructor() {
+    /** @type {Entry[][]} */
+    this.all = [];
+    /** @type {Writing | null} */
+    this.writing = null;
+    /** @type {IntersectionObserver | null} */
+    this.observer = null;
+  }
+  /** @param {Entry[][]} all @param {Writing} writing */
+  show(all, writing) {
+    Object.assign(this, { all, writing });
+    this.observer?.disconnect();
+    this.observer = new IntersectionObserver(seen => {
+      for (const { target, isIntersecting } of seen)
+        this.turn(/** @type {HTMLElement} */ (target), isIntersecting);
+    }, { rootMargin: "1500px" });
+    byId("ics-rest").textContent = "";
+    byId("ics-sheets").replaceChildren(...all.map((entries, n) => {
+      const node = make("div", { className: "sheet", data: { n } });
+      const high = entries.reduce((sum, it) => sum + heightOf(it, writing.settings.names), 0);
+      node.style.minHeight = `${Math.round(high)}pt`;
+      return node;
+    }));
+    for (const it of byId("ics-sheets").children) this.observer.observe(it);
+  }
+  /**
+   * Fills a sheet that comes into view, and empties one that leaves it, which stays as high.
+   * @param {HTMLElement} node @param {boolean} isSeen
+   */
+  turn(node, isSeen) {
+    const n = Number(node.dataset.n), isFilled = node.firstChild !== null;
+    if (isSeen === isFilled || !this.writing) return;
+    if (isFilled) node.style.minHeight = `${node.offsetHeight}px`;
+    node.replaceChildren(...isSeen ? partsOf(this.all[n], n, this.all.length, this.writing) : []);
+    if (isSeen) node.style.minHeight = "";
+  }
+  /** Fills all for paper; where that is too much, it says so. */
+  whole() {
+    const nodes = /** @type {HTMLElement[]} */ ([...byId("ics-sheets").children]);
+    for (const it of nodes.slice(0, MOST)) this.turn(it, true);
+    const left = this.all.slice(MOST).reduce((sum, it) => sum + it.length, 0);
+    byId("ics-rest").textContent = left
+      ? `and ${left.toLocaleString("en")} lines more, which are saved as CSV` : "";
+  }
+}
+export const sheetsShown = new Sheets();
 /**
  * Fills the form with the messages that are shown and with own lines.
  * @param {{ rows: ArrayLike<number>, begin: number, end: number, messages: Message[],
@@ -102,8 +154,7 @@ export function fillForm(net, { lines, settings, onRemove }) {
     : zoneText(now, settings);
   byId("ics-date").textContent = fullText(now, settings);
   const dated = datedBy(entries.map(it => it.at), settings);
-  const all = { of: sheets.length, settings: { ...settings, dated } };
-  byId("ics-sheets").replaceChildren(...sheets.map((it, n) => sheetNode(it, n, all, onRemove)));
+  sheetsShown.show(sheets, { settings: { ...settings, dated }, onRemove });
 }
 /**
  * A moment as a field for date and time has it, in the time that the page shows.

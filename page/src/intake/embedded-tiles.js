@@ -1,5 +1,5 @@
 // @ts-check
-// The squares of the reader's own map that a saved page carries: those around the places, level by
+// The tiles of the reader's own map that a saved page carries: those around the places, level by
 // level, as long as a whole level has room. aprs-net page does the same.
 
 import { isPicture } from "../formats/file-kinds.js";
@@ -10,12 +10,12 @@ import { tilesOf } from "../map/layers/tile-layer.js";
 /**
  * What is carried: tiles in base64, by their ways; and the first level that is left out, where
  * one is.
- * @typedef {{ squares: Record<string, string>, leftOut: number | null }} Carried
+ * @typedef {{ tiles: Record<string, string>, leftOut: number | null }} Carried
  */
 /** Of a box, in degrees: its least side before it is widened, how far north it lies, its height. */
 const LEAST = 0.09, MOST_NORTH = 85, MOST_SPAN = 6;
 /** A level of more tiles than these isn't looked through. */
-const MOST_SQUARES = 40000;
+const MOST_TILES = 40000;
 
 /**
  * The places of tracks, but for a few that are far from all others.
@@ -60,40 +60,40 @@ function base64Of(bytes) {
 }
 /**
  * The tiles of a level in a box that are pictures, in base64; null where they need more room.
- * @param {{ find: (key: string) => Promise<Blob | null> }} tiles
+ * @param {{ find: (key: string) => Promise<Blob | null> }} map
  * @param {Box} box
  * @param {number} z
  * @param {number} room in bytes
  */
-async function levelOf(tiles, box, z, room) {
+async function levelOf(map, box, z, room) {
   /** @type {Record<string, string>} */
-  const squares = {}, keys = tilesOf(box, z, MOST_SQUARES);
+  const tiles = {}, keys = tilesOf(box, z, MOST_TILES);
   let left = room;
   for (const key of keys || []) {
-    const blob = await tiles.find(key);
+    const blob = await map.find(key);
     if (!blob) continue;
     const bytes = new Uint8Array(await blob.arrayBuffer());
     if (!isPicture(bytes)) continue;
-    squares[key] = base64Of(bytes);
-    left -= squares[key].length;
+    tiles[key] = base64Of(bytes);
+    left -= tiles[key].length;
     if (left < 0) return null;
   }
-  return keys && { squares, left };
+  return keys && { tiles, left };
 }
 /**
  * The tiles of a map in a box, as long as a whole level has room in so many bytes.
- * @param {{ least: number, most: number, find: (key: string) => Promise<Blob | null> }} tiles
+ * @param {{ least: number, most: number, find: (key: string) => Promise<Blob | null> }} map
  * @param {Box} box
  * @param {number} room in bytes
  * @returns {Promise<Carried>}
  */
-export async function carriedIn(tiles, box, room) {
+export async function carriedIn(map, box, room) {
   /** @type {Carried} */
-  const carried = { squares: {}, leftOut: null };
-  for (let z = tiles.least; z <= tiles.most; z++) {
-    const level = await levelOf(tiles, box, z, room);
+  const carried = { tiles: {}, leftOut: null };
+  for (let z = map.least; z <= map.most; z++) {
+    const level = await levelOf(map, box, z, room);
     if (!level) return { ...carried, leftOut: z };
-    Object.assign(carried.squares, level.squares);
+    Object.assign(carried.tiles, level.tiles);
     room = level.left;
   }
   return carried;

@@ -2,6 +2,31 @@
 // What is dropped: files, and the files in folders.
 
 /** @typedef {File | { name: string, isFolder: true }} Dropped a file, or a folder as a whole */
+/**
+ * By what a browser reads a file again, where it gives such a handle (File System Access).
+ * @type {WeakMap<File, FileSystemFileHandle>}
+ */
+const handles = new WeakMap();
+/** @param {File} file */
+export const handleOf = file => handles.get(file);
+/**
+ * The file of a handle as it is now; null where it is gone, or may not be read any more.
+ * @param {FileSystemFileHandle} handle
+ */
+export async function fileBy(handle) {
+  const file = await handle.getFile().catch(() => null);
+  if (file) handles.set(file, handle);
+  return file;
+}
+/**
+ * Keeps the handle of a file that was dropped.
+ * @param {File | undefined} file
+ * @param {Promise<FileSystemHandle | null> | undefined} handle
+ */
+async function keepHandle(file, handle) {
+  const it = await handle?.catch(() => null);
+  if (file && it?.kind === "file") handles.set(file, /** @type {FileSystemFileHandle} */ (it));
+}
 /** @param {FileSystemDirectoryReader} reader @returns {Promise<FileSystemEntry[]>} */
 const readSome = reader => new Promise((done, fail) => reader.readEntries(done, fail));
 /** @param {FileSystemFileEntry} entry @returns {Promise<File>} */
@@ -46,7 +71,10 @@ export async function filesOf(dropped) {
   const items = [...dropped.items].filter(it => it.kind === "file");
   // they are gone after the first pause
   const entries = items.map(it => it.webkitGetAsEntry()), plain = [...dropped.files];
+  const kept = items.map((it, k) => entries[k]?.isDirectory ? undefined
+    : keepHandle(plain[k], it.getAsFileSystemHandle?.()));
   const lists = entries.map((entry, k) => entry?.isDirectory ? readFolder(entry)
     : [plain[k]]);
+  await Promise.all(kept);
   return (await Promise.all(lists)).flat().filter(it => it && !it.name.startsWith("."));
 }

@@ -7,6 +7,7 @@ import { page } from "../app/state.js";
 import { kindOf, linesLost, READ, spelled } from "../formats/file-kinds.js";
 import { joined } from "../formats/gunzip.js";
 import { files, numberIn } from "./file-table.js";
+import { goesOn } from "./growth.js";
 import { askFor, namesIn, Refused } from "./http-get.js";
 import { fileOf, leaveOut, look } from "./intake.js";
 import { work } from "./reader-app.js";
@@ -212,7 +213,7 @@ export async function takeWhole(file, had, whole) {
   }
   await lookWell(file);
   if (!file.taken) file.taken = before;
-  if (file.kind === "log" && !file.fault && !goesOn(had, whole)) await keepEarlier(file, old);
+  if (file.kind === "log" && !file.fault && !isLonger(had, whole)) await keepEarlier(file, old);
   return true;
 }
 /**
@@ -226,14 +227,11 @@ async function lookWell(file) {
   await look(file, numberIn("gap"));
 }
 /**
- * Whether bytes go on with what is known of them.
+ * Whether bytes go on with what is known of them, by its end.
  * @param {Uint8Array} had
  * @param {Uint8Array} whole
  */
-function goesOn(had, whole) {
-  const from = Math.max(0, had.length - OVERLAP);
-  return had.subarray(from).every((it, k) => it === whole[from + k]);
-}
+const isLonger = (had, whole) => goesOn(had, whole, Math.max(0, had.length - OVERLAP));
 /**
  * What was read of logs before they began anew.
  * @type {Map<Given, Given>}
@@ -268,7 +266,7 @@ async function grownOf(had, url, length) {
       await askFor(url, pace.limit, { headers: { Range: `bytes=${from}-` } });
     if (answer.status !== 206) return bytes;
     const all = joined([had.subarray(0, from), bytes], from + bytes.length);
-    if (goesOn(had, all)) return all;
+    if (isLonger(had, all)) return all;
   }
   return (await askFor(url, pace.limit)).bytes;
 }

@@ -7,6 +7,7 @@ import {
 import { beginningOf, MOST, TOO_LARGE, unzipped } from "../formats/gunzip.js";
 import { linesIn } from "../ics309/own-lines.js";
 import { shifting } from "./clock-shift.js";
+import { goesOn } from "./growth.js";
 import { inSlices } from "../util/tasks.js";
 import { count } from "../util/text.js";
 import { run } from "../worker/pool.js";
@@ -15,15 +16,17 @@ import { bytesIn, isSameSource, limits, sizeOf } from "../worker/sources.js";
 /** @typedef {import("../formats/file-kinds.js").Damage} Damage */
 /** @typedef {import("../worker/sources.js").Source} Source */
 /**
- * A file that was given. `bytes` are its bytes as they are read, `taken` what goes into the book,
- * or null; `unread` says why it can't be read at all. `ready` are the bytes of a file that were
+ * A file that was given. `bytes` are its bytes as they are read, `given` those that came where
+ * lines of them were left out, and `taken` what goes into the book, or null; `unread` says why it
+ * can't be read at all. `ready` are the bytes of a file that were
  * read for a check, and are the next book's. Of the lines that were passed over, so many, no more
  * than the first are kept.
  * @typedef {{ name: string, kind: string, bytes: Source, unread: string, receiver: string,
  *   moment: string, passed: string[], over: number, said: string, fault: string, reason: string,
  *   spelling: string[], damage: Damage[], leftOut: string[], taken: Source | null,
  *   ready?: Uint8Array, lines?: import("../ics309/own-lines.js").Line[], row?: HTMLTableRowElement,
- *   whole?: Uint8Array, mark?: string, away?: string, looking?: Promise<void> }} Given
+ *   whole?: Uint8Array, mark?: string, away?: string, looking?: Promise<void>, given?: Source,
+ *   handle?: FileSystemFileHandle }} Given what a browser reads a file again by is its handle
  */
 
 /**
@@ -64,6 +67,36 @@ export const fileOf = (name, kind, bytes, of = {}) => ({ name, kind, bytes, unre
  */
 export const isSame = (a, b) => a.name === b.name && !a.whole && a.unread === b.unread &&
   isSameSource(a.bytes, b.bytes);
+/**
+ * What a file is known by to have changed.
+ * @param {File} file
+ */
+export const markOf = ({ size, lastModified }) => `${size} ${lastModified}`;
+/**
+ * Whether a file is another one as it was before: a log of its name whose lines go on in it, or one
+ * that can't be read any more, as a large one that has changed.
+ * @param {Given} older
+ * @param {Given} it
+ */
+export async function isGrown(older, it) {
+  const areLogs = older.kind === "log" && it.kind === "log" && !older.whole;
+  if (!areLogs || older.name !== it.name) return false;
+  const had = older.given || older.bytes, now = it.bytes;
+  if (sizeOf(now) < sizeOf(had)) return false;
+  if (!(had instanceof Blob)) return goesOn(had, await bytesIn(now));
+  const begin = await had.slice(0, HEAD).arrayBuffer().catch(() => null);
+  return !begin || goesOn(new Uint8Array(begin),
+    await bytesIn(now instanceof Blob ? now.slice(0, HEAD) : now.subarray(0, HEAD)));
+}
+/**
+ * A file goes on as another one, in its place; it has to be looked at again.
+ * @param {Given} older
+ * @param {Given} it
+ */
+export function takePlace(older, it) {
+  const { bytes, spelling, handle, mark } = it;
+  Object.assign(older, { bytes, spelling, taken: null, given: undefined, handle, mark });
+}
 /** Whether gzip packed what begins so. */
 const isPacked = (/** @type {Uint8Array} */ head) => head[0] === 0x1f && head[1] === 0x8b;
 /** @param {Blob} file */
@@ -76,7 +109,8 @@ async function bytesOf(file) {
 /**
  * Reads a file that was given; of one that is nothing of a net, no more than how it begins.
  * @param {File} file
- * @param {(name: string, text: string, spelling: string) => void} bring takes a map or a roster
+ * @param {(name: string, text: string, spelling: string) => Promise<void>} bring takes a map or a
+ *   roster
  * @returns {Promise<Given | null>}
  */
 export async function take(file, bring) {
@@ -84,6 +118,7 @@ export async function take(file, bring) {
     fileOf(file.name, kind, new Uint8Array(), { unread: why });
   try {
     const { head, all } = await bytesOf(file), { bytes: begin, spelling } = spelled(head);
+    if (isPacked(begin)) return unread("is packed by gzip twice: unpack it once", "an archive");
     const kind = kindOf(begin, file.name.replace(/\.gz$/i, ""));
     if (kind === "a web page") {
       const lines = ownLinesIn(new TextDecoder().decode(await all()));
@@ -100,7 +135,7 @@ export async function take(file, bring) {
       return fileOf(file.name, kind, plain.bytes, { spelling: plain.spelling });
     }
     const written = writtenIn(bytes);
-    bring(file.name, written.text, written.spelling);
+    await bring(file.name, written.text, written.spelling);
     return null;
   } catch (fault) {
     const { message } = /** @type {Error} */ (fault);
@@ -241,6 +276,7 @@ export const lineText = (file, { begin, end }) =>
  * @param {Given} file
  */
 export function leaveOut(file) {
+  file.given ||= file.bytes;
   file.leftOut.push(...file.damage.map(it => `line ${it.line}: ${it.why}: ${lineText(file, it)}`));
   file.bytes = without(atHand(file), file.damage);
 }

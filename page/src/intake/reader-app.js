@@ -2,6 +2,7 @@
 // The page that reads logs: what is dropped on it goes through the module, and nothing leaves it.
 
 import { bring, bringGround, bringLines } from "../app/add-layer.js";
+import { goOnFromHere } from "../app/header.js";
 import { show } from "../app/render.js";
 import { page, shownNow, widgets } from "../app/state.js";
 import { fromBase64 } from "../formats/base64.js";
@@ -9,8 +10,10 @@ import { unpacked } from "../formats/gunzip.js";
 import { contents } from "./bundle.js";
 import { receiversIn } from "./clock-shift.js";
 import { drawFiles, files, notesOf, numberIn, shiftNotes } from "./file-table.js";
-import { filesOf } from "./folders.js";
-import { asText, fileOf, isSame, look, placeOf, shifts, take } from "./intake.js";
+import { filesOf, handleOf } from "./folders.js";
+import {
+  asText, fileOf, isGrown, isSame, leaveOut, look, markOf, placeOf, shifts, take, takePlace,
+} from "./intake.js";
 import { beginEarly, Refused, textsOf } from "./runs.js";
 import { dataOf, eventPieces, readShell, tilesWithin } from "./save-event-page.js";
 import { tileOf } from "../map/layers/tile-layer.js";
@@ -138,6 +141,7 @@ async function takeFile(file) {
   if (fault === "") return null;
   const it = await take(file, bring);
   if (it?.unread && fault) it.unread += `, and ${fault}`;
+  if (it?.kind === "log") Object.assign(it, { handle: handleOf(file), mark: markOf(file) });
   return it;
 }
 const UNREAD = "drop the files in it, or choose it as a folder";
@@ -160,9 +164,56 @@ export async function add(dropped) {
 const coming = [];
 /** @param {Given} file @param {number} gap */
 async function lookAt(file, gap) {
+  const leavesOut = file.leftOut.length > 0;
+  file.leftOut = [];
   await look(file, gap);
+  // what was left out of a log is left out of it as it has grown
+  if (leavesOut && file.damage.length) {
+    leaveOut(file);
+    await look(file, gap);
+  }
   coming.splice(coming.indexOf(file), 1);
-  files.push(file);
+  if (!files.includes(file)) files.push(file);
+}
+/**
+ * The file that another one is as it has grown, or nothing.
+ * @param {Given} it
+ */
+async function olderOf(it) {
+  for (const one of files) if (await isGrown(one, it)) return one;
+  return null;
+}
+/**
+ * What is new of files that were read: themselves, or the older ones whose places they take.
+ * @param {Given[]} list
+ */
+async function newOf(list) {
+  /** @type {Given[]} */
+  const found = [];
+  for (const it of list) {
+    // one that is there already says nothing new
+    if ([...files, ...coming, ...found].some(one => isSame(one, it))) continue;
+    const older = await olderOf(it);
+    if (older) {
+      takePlace(older, it);
+      goOnFromHere();
+    }
+    found.push(older || it);
+  }
+  return found;
+}
+/**
+ * Takes what else is dropped than files to be read: tiles of a map, and folders that can't be read.
+ * @param {Iterable<Dropped>} dropped
+ */
+function takeOthers(dropped) {
+  const plain = [];
+  for (const it of dropped)
+    if (it instanceof File) {
+      if (!takeTile(it)) plain.push(it);
+    } else if (!files.some(one => one.name === it.name))
+      files.push(fileOf(it.name, "folder", new Uint8Array(), { unread: UNREAD, fault: UNREAD }));
+  return plain;
 }
 /**
  * Takes files: each is checked while the runs over all of them go on.
@@ -171,20 +222,10 @@ async function lookAt(file, gap) {
 async function takeAll(dropped) {
   began = performance.now();
   tellProgress(0, "reading");
-  const plain = [], gap = numberIn("gap"), many = files.length;
-  for (const it of dropped)
-    if (it instanceof File) {
-      if (!takeTile(it)) plain.push(it);
-    } else if (!files.some(one => one.name === it.name))
-      files.push(fileOf(it.name, "folder", new Uint8Array(), { unread: UNREAD, fault: UNREAD }));
-  /** @type {Given[]} */
-  const read = [];
-  const pages = [];
-  for (const it of await Promise.all(plain.map(takeFile))) {
-    if (it?.lines) pages.push({ name: it.name, lines: it.lines });
-    // one that is there already says nothing new
-    else if (it && ![...files, ...coming, ...read].some(one => isSame(one, it))) read.push(it);
-  }
+  const gap = numberIn("gap"), many = files.length, plain = takeOthers(dropped);
+  const all = (await Promise.all(plain.map(takeFile))).flatMap(it => it || []);
+  const pages = all.flatMap(({ name, lines }) => lines ? [{ name, lines }] : []);
+  const read = await newOf(all.filter(it => !it.lines));
   if (pages.length) bringLines(pages);
   const isNew = read.length > 0 || files.length > many;
   if (!isNew && coming.length) return;
@@ -270,13 +311,13 @@ async function saveRun(command, name) {
  */
 async function saveEvent() {
   const most = byId("most").validity.valid ? +byId("most").value : 0, now = made, data = dataOf();
-  const { squares, leftOut } = await tilesWithin(most), many = Object.keys(squares).length;
+  const { tiles, leftOut } = await tilesWithin(most), many = Object.keys(tiles).length;
   const shell = await readShell();
-  const pieces = await inSlices(gathered(eventPieces(squares, data, shell)), () => true);
+  const pieces = await inSlices(gathered(eventPieces(tiles, data, shell)), () => true);
   if (pieces) save("event.html", pieces, "text/html");
   // where other files came the page says something else
   if (made !== now || !many && leftOut === null) return;
-  say(`event.html has ${count(many, "square")} of the map` + (leftOut === null ? ""
+  say(`event.html has ${count(many, "tile")} of the map` + (leftOut === null ? ""
     : `; level ${leftOut}, and what is finer, would be more than ${most} MB`));
 }
 /** A field for how much of the reader's own map the saved page has, where there is such a map. */

@@ -1,6 +1,7 @@
 // @ts-check
 // The runs that make a book and its tables of files, which begin before the files are checked.
 
+import { newIn } from "./growth.js";
 import { placeOf, shifts } from "./intake.js";
 import { merged } from "./merging.js";
 import { run } from "../worker/pool.js";
@@ -33,6 +34,21 @@ export class Refused extends Error {
  */
 let early = null;
 /**
+ * The last book: of what it was made by files, and with which gap.
+ * @type {{ book: Uint8Array, of: Map<Given, Source>, gap: number } | null}
+ */
+let last = null;
+/**
+ * What has to be merged for a book of these files: the last book and what is new in them since,
+ * since a merge is the same in whatever parts, or nothing where that is another book.
+ * @param {Map<Given, Source>} of @param {number} gap
+ * @returns {Source[] | null}
+ */
+function grownTo(of, gap) {
+  const rest = last && last.gap === gap ? newIn(last.of, of) : null;
+  return last && rest && [last.book, ...rest];
+}
+/**
  * Begins with files that aren't checked yet. Files have the same table as their book, so it need
  * not wait for the book; but each run holds all files, so only where they are small. Where clocks
  * are put right, logs are moved once they are checked.
@@ -45,7 +61,8 @@ export function beginEarly(all, gap) {
   if (shifts.size || sizeOfAll(inputs) > limits.alone) return;
   const begin = (/** @type {Command} */ command, /** @type {Source[]} */ given) =>
     run(command, gap, given).catch(() => null);
-  const rows = begin("rows", inputs), merge = begin("merge", inputs);
+  const wanted = grownTo(new Map(all.map((it, k) => [it, inputs[k]])), gap) || inputs;
+  const rows = begin("rows", wanted), merge = begin("merge", wanted);
   const messages = merge.then(book => book?.status === 0 ? begin("messages", [book.bytes]) : null);
   early = { all, inputs, gap, got: { merge, rows, messages } };
 }
@@ -95,6 +112,27 @@ async function tablesApart(book, gap) {
   return { book, rows, messages };
 }
 /**
+ * The book of these files: of the last one and what is new, where that goes; or else of all.
+ * @param {Given[]} good @param {number} gap
+ * @param {Promise<Got | null> | undefined} begun
+ * @param {(share: number) => void} tellShare
+ */
+async function bookOf(good, gap, begun, tellShare) {
+  const lent = good.flatMap(it => it.ready || []);
+  const inputs = good.map(it => it.ready || it.taken || it.bytes);
+  for (const it of good) it.ready = undefined;
+  const before = await begun;
+  if (before?.status === 0) return before.bytes;
+  const grown = grownTo(sourcesOf(good), gap);
+  if (grown?.length === 1) return /** @type {Uint8Array} */ (grown[0]);
+  const got = grown && await run("merge", gap, grown).catch(() => null);
+  // what is refused is named by its place among all
+  return got?.status === 0 ? got.bytes
+    : orRefused(await merged(inputs, gap, lent, tellShare)).bytes;
+}
+/** @param {Given[]} good @returns {Map<Given, Source>} */
+const sourcesOf = good => new Map(good.map(it => [it, it.taken || it.bytes]));
+/**
  * Book and tables of these files, also where they began early and well.
  * @param {Given[]} good
  * @param {number} gap
@@ -104,14 +142,15 @@ async function tablesApart(book, gap) {
 export async function textsOf(good, gap, tellShare) {
   const begun = begunOf(good, gap);
   early = null;
-  const by = new Map(shifts), lent = good.flatMap(it => it.ready || []);
-  const inputs = good.map(it => it.ready || it.taken || it.bytes);
-  for (const it of good) it.ready = undefined;
+  const by = new Map(shifts), of = sourcesOf(good);
   const tellMerged = (/** @type {number} */ share) => tellShare(0.3 + 0.3 * share);
-  const { bytes } = await answerOf(begun.merge, () => merged(inputs, gap, lent, tellMerged));
+  const bytes = await bookOf(good, gap, begun.merge, tellMerged);
   tellMerged(1);
-  const made = (/** @type {Tables} */ { book, rows, messages }) => ({ book, rows: rows.bytes,
-    read: rows.read || null, messages: messages.bytes, shifts: by });
+  const made = (/** @type {Tables} */ { book, rows, messages }) => {
+    last = { book, of, gap };
+    return { book, rows: rows.bytes, read: rows.read || null, messages: messages.bytes,
+      shifts: by };
+  };
   if (bytes.length > limits.alone) return made(await tablesApart(bytes, gap));
   const [rows, messages] = await Promise.all([
     answerOf(begun.rows, () => run("rows", gap, [bytes])),

@@ -1,6 +1,7 @@
 // @ts-check
 // The page of the event that is saved, the same that `aprs-net page` makes of these files.
 
+import { marksText } from "../app/dealt.js";
 import { page, shownNow, widgets } from "../app/state.js";
 import { unpacked } from "../formats/gunzip.js";
 import { contents } from "./bundle.js";
@@ -26,7 +27,7 @@ const MEGABYTE = 1e6;
 export async function tilesWithin(most) {
   const { tiles } = widgets().layers;
   const box = boxAround(nearIn(shownNow().net.placed.map(it => it.track)));
-  if (tiles.least > tiles.most || !most || !box) return { squares: {}, leftOut: null };
+  if (tiles.least > tiles.most || !most || !box) return { tiles: {}, leftOut: null };
   return carriedIn(tiles, box, most * MEGABYTE);
 }
 /** The data of the page, with the maps, the roster and the lines that the reader brought. */
@@ -36,7 +37,10 @@ export function dataOf() {
   data.maps = [...data.maps, ...bases.map(it => it.text)];
   if (rosters.length + (data.roster ? 1 : 0) > 1) data.roster = rosterText(page.roster.list);
   else if (rosters.length) data.roster = rosters[0].text;
-  if (page.own.lines.length) data.lines = page.own.lines;
+  const points = page.brought.filter(it => it.points).map(it => it.text);
+  if (points.length) data.points = [data.points, ...points].filter(Boolean).join("\n");
+  if (page.own.lines.length) data.lines = page.own.carried;
+  if (page.marks?.entries.size) data.marks = marksText();
   return data;
 }
 /**

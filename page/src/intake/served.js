@@ -2,14 +2,17 @@
 // A page that `aprs-net serve` hands out: it is told at once what is new in the logs, and has what
 // desks write down for one another.
 
-import { bring } from "../app/add-layer.js";
+import { bring, takeAway } from "../app/add-layer.js";
 import { alive, tick } from "../app/live.js";
-import { drawNetPanel } from "../app/net-panel.js";
+import { drawNetPanel, nowOf } from "../app/net-panel.js";
+import { drawMarks } from "../app/render.js";
 import { page } from "../app/state.js";
 import { Journal } from "../desks/journal.js";
 import { goneOn, Stream } from "../desks/stream.js";
+import { storeOf } from "../ics309/own-lines.js";
 import { byId } from "../util/dom.js";
 import { files } from "./file-table.js";
+import { drawServed } from "./served-tiles.js";
 import { followed, followedOf, followOne, mark, takeWhole, told } from "./follow.js";
 import { work } from "./reader-app.js";
 
@@ -130,15 +133,24 @@ function applySettings() {
   setOf("silent", own.get("silent") || String(net.silent), putIn("silent"));
   // of a call that stands in several lists the first line counts
   setOf("names", namesText(), text => bringFirst("names of desks", text));
-  const bringRoster = (/** @type {string} */ text) => text && bring("roster of the net", text);
-  setOf("roster", own.get("roster") ?? net.roster, bringRoster);
-  const courses = own.has("course") ? [own.get("course") || ""] : net.courses;
-  setOf("course", courses.join("\0"), () => courses.forEach((text, k) =>
-    text && bring(`course ${k + 1} of the net`, text)));
+  const { roster, courses, tiles } = nowOf(net, own);
+  setOf("roster", roster, () => bringOnly("roster of the net", [roster]));
+  setOf("course", courses.join("\0"), () => bringOnly("course of the net", courses));
+  setOf("tiles", tiles, drawServed);
+}
+/**
+ * Has the page show these texts under a name, and no others.
+ * @param {string} name
+ * @param {string[]} texts
+ */
+function bringOnly(name, texts) {
+  const all = texts.filter(it => it), has = page.brought.some(it => it.name.startsWith(name));
+  if (has) takeAway(new RegExp(`^${name}`));
+  all.forEach((text, k) => bring(k ? `${name}, ${k + 1}` : name, text));
 }
 /** @param {string} name @param {string} text */
 function bringFirst(name, text) {
-  page.brought = page.brought.filter(it => it.name !== name);
+  takeAway(new RegExp(`^${name}$`));
   if (!text) return;
   const others = page.brought;
   page.brought = [];
@@ -148,7 +160,7 @@ function bringFirst(name, text) {
 /** What a desk has written is new: the form, the names and the panel have it. */
 function journalChanged() {
   applySettings();
-  page.widgets?.form.draw();
+  drawMarks();
   drawPanel();
 }
 const drawPanel = () => net && drawNetPanel({ net, journal: page.journal, isThere: told.now });
@@ -157,7 +169,7 @@ const drawPanel = () => net && drawNetPanel({ net, journal: page.journal, isTher
 
 /** Has the operator's lines go to the journal, and those of other desks stand beside them. */
 function share(/** @type {Journal} */ journal) {
-  page.journal = journal;
+  page.journal = page.marks = journal;
   page.own.shared = journal;
   journal.onChange = journalChanged;
 }
@@ -187,12 +199,4 @@ export async function beginServed() {
   page.follows = true;
   byId("follow").value ||= "logs.txt"; // so that it is asked where no stream comes through
   stream.begin();
-}
-/** This browser's store, where it has one. */
-function storeOf() {
-  try {
-    return globalThis.localStorage || null;
-  } catch {
-    return null; // it is forbidden here
-  }
 }

@@ -7,7 +7,8 @@ import { far } from "../geo/units.js";
 import { graphNode, graphsOf } from "./charts.js";
 import { numbersOf } from "./frames.js";
 import { detailLines } from "./station-facts.js";
-import { NO_FIX, whereOf } from "./stations.js";
+import { markFacts } from "./station-marks.js";
+import { NO_FIX, sentText, whereOf } from "./stations.js";
 import { cell, heardCell, List, timeCell } from "./table-view.js";
 import { markOf, symbolOf } from "../map/symbols.js";
 import { wordsOf } from "../net/details.js";
@@ -19,20 +20,24 @@ import { namesText } from "../util/text.js";
 /** @typedef {import("../net/rows.js").Place} Place */
 /** @typedef {import("./station-facts.js").Fact} Fact */
 /** @typedef {import("../net/settings.js").Settings} Settings */
+/** @typedef {{ name: string, vector: number[] }} Origin a place from which distances are told */
+/** @typedef {import("./station-marks.js").View & { origin: Origin | null }} View */
 
 /**
  * Draws the panel of a thing, and gives the numbers of its frames; nothing is drawn of none.
  * @param {Thing | undefined} thing
  * @param {{ all: import("../net/net.js").All, net: import("../net/net.js").Net,
- *   from: Thing | undefined, settings: Settings }} of
+ *   from: Thing | undefined, view: View }} of
  */
-export function drawPanel(thing, { all, net, from, settings }) {
+export function drawPanel(thing, { all, net, from, view }) {
   byId("one").hidden = !thing;
   if (!thing) return [];
+  const { settings } = view;
+  byId("other-call-label").hidden = thing.kind !== "station";
   byId("one-name").replaceChildren(...(thing.now ? [markOf(thing, thing.now)] : []), thing.label,
     make("small", { textContent: ` ${thing.kind}${thing.killed ? ", killed" : ""}` }));
   const channels = channelsOf(all.messages, thing.name);
-  const of = { picks: net.rows, channels, from, settings };
+  const of = { picks: net.rows, channels, from, view };
   byId("one-about").replaceChildren(...factsOf(thing, of).flatMap(([name, ...value]) =>
     [make("dt", { textContent: name }), make("dd", {}, ...value)]));
   const numbers = numbersOf(thing, net.rows);
@@ -46,24 +51,30 @@ export function drawPanel(thing, { all, net, from, settings }) {
  * was picked before.
  * @param {Thing} thing
  * @param {{ picks: ArrayLike<number>, channels: import("../net/telemetry.js").Channel[],
- *   from: Thing | undefined, settings: Settings }} of
+ *   from: Thing | undefined, view: View }} of
  */
-function factsOf(thing, { picks, channels, from, settings }) {
-  const { now } = thing;
+function factsOf(thing, { picks, channels, from, view }) {
+  const { now } = thing, { settings, origin } = view;
   /** @type {Fact[]} */
   const facts = [["last heard", momentOf(thing.last, settings), ` by ${namesText(thing.by)}`],
-    ["sent", String(thing.sent)]];
+    ["sent", sentText(thing)], ...markFacts(thing, view)];
   if (thing.unfixed) facts.push(["0, 0", NO_FIX]);
   if (now) facts.push(...factsAt(thing, now, settings));
   if (thing.status) facts.push(["status", air(thing.status)]);
   facts.push(...detailLines(thing, picks, channels, settings));
-  if (now && from?.now && from !== thing) {
-    const way = bearing(from.now.vector, now.vector);
-    facts.push([`from ${from.label}`,
-      `${far(distance(from.now.vector, now.vector), settings)}, ${Math.round(way) % 360}\u00b0`]);
-  }
+  if (now && from?.now && from !== thing)
+    facts.push(wayFact({ name: from.label, vector: from.now.vector }, now, settings));
+  if (now && origin) facts.push(wayFact(origin, now, settings));
   return facts;
 }
+/**
+ * How far a place is from another, and in which direction.
+ * @param {Origin} origin @param {Place} now @param {Settings} settings
+ * @returns {Fact}
+ */
+const wayFact = ({ name, vector }, now, settings) => [`from ${name}`,
+  `${far(distance(vector, now.vector), settings)}, ` +
+    `${Math.round(bearing(vector, now.vector)) % 360}\u00b0`];
 /** @param {Thing} thing @param {Place} now @param {Settings} settings */
 function factsAt({ kind }, now, settings) {
   const word = symbolOf(now).word, words = wordsOf(now, settings);

@@ -1,14 +1,44 @@
 // @ts-check
 // Messages and bulletins.
 
+import { dealtNodes } from "./dealt.js";
 import { cell, List, newMark, timeCell } from "./table-view.js";
+import { unansweredOf } from "../net/alarms.js";
 import { air, callIn, make } from "../util/dom.js";
 import { said } from "../util/text.js";
 import { fullText } from "../util/time.js";
 
 /** @typedef {import("../net/message-table.js").Message} Message */
 /** @typedef {import("../net/settings.js").Settings} Settings */
-/** @typedef {{ isNewMessage: (it: Message) => boolean, settings: Settings }} View */
+/** @typedef {import("./dealt.js").Marking} Marking */
+/** @typedef {(key: string) => unknown} OnPick */
+/**
+ * What lists of messages have to know of the page: what is new, the reader's own call, the key of a
+ * call that was heard, and what is dealt with.
+ * @typedef {Marking & { isNewMessage: (it: Message) => boolean, ownCall: string,
+ *   keyOf: (call: string) => string | null, settings: Settings }} View
+ */
+/** The states of messages, in the order in which they stand, and those that want doing. */
+const STATES = ["unanswered", "rejected", "unnumbered", "acknowledged"], OPEN = 2;
+/**
+ * Whether a message waits for somebody, and nobody has dealt with it yet.
+ * @param {Message} it @param {Pick<View, "markOf">} view
+ */
+export const isOpen = (it, { markOf }) =>
+  STATES.indexOf(it.state) < OPEN && !markOf(unansweredOf(it));
+/** Whether a message is to or from the reader's own call. */
+export const isMine = (/** @type {Message} */ it, /** @type {string} */ call) =>
+  call !== "" && (it.addressee === call || it.source === call);
+/**
+ * The place of a message among them: what waits for the reader comes first.
+ * @param {Message} it @param {Pick<View, "markOf" | "ownCall">} view
+ */
+export function placeOf(it, view) {
+  const state = STATES.indexOf(it.state);
+  if (!isOpen(it, view)) return state < OPEN ? STATES.length + 2 : state + 2;
+  const { ownCall } = view;
+  return !isMine(it, ownCall) ? state + 2 : it.addressee === ownCall ? 0 : 1;
+}
 /**
  * What is said of a message's state beside the state.
  * @param {Message} it
@@ -20,29 +50,48 @@ function answerOf(it, settings) {
     fullText(it.answered, settings);
 }
 /** A text, of which the style shows so many lines; one of octets alone would hide other rows. */
-const textCell = (/** @type {string} */ text) =>
-  make("td", { className: "text", title: said(text) }, air(text));
-/** @param {Message} it @param {View} view */
-function messageRow(it, { isNewMessage, settings }) {
-  const who = (/** @type {string} */ call) => callIn(settings.names.shown(call));
-  return make("tr", { className: it.state + (isNewMessage(it) ? " new" : "") },
+const textCell = (/** @type {string} */ text, /** @type {(Node | string)[]} */ ...rest) =>
+  make("td", { className: "text", title: said(text) }, air(text), ...rest);
+/**
+ * Who sent a message, or to whom: a way to its place, where it was heard itself.
+ * @param {string} call @param {View} view @param {OnPick} onPick
+ */
+function whoOf(call, { settings, keyOf }, onPick) {
+  const shown = callIn(settings.names.shown(call)), key = keyOf(call);
+  return key ? make("button", { type: "button", className: "pick", title: "show on the map",
+    onclick: () => onPick(key) }, shown) : shown;
+}
+/** @param {Message} it @param {View} view @param {OnPick} onPick */
+function messageRow(it, view, onPick) {
+  const { isNewMessage, settings, ownCall } = view, waits = STATES.indexOf(it.state) < OPEN;
+  const marks = [isOpen(it, view) || !waits ? it.state : "dealt"];
+  if (isNewMessage(it)) marks.push("new");
+  if (isMine(it, ownCall)) marks.push("mine");
+  return make("tr", { className: marks.join(" ") },
     make("td", { className: "state", textContent: it.state, title: answerOf(it, settings) },
       ...newMark(isNewMessage(it))),
-    cell("call from", who(it.source)), cell("call to", who(it.addressee)), textCell(it.text),
+    cell("call from", whoOf(it.source, view, onPick),
+      it.gate ? make("small", { textContent: ` by ${it.gate}` }) : null),
+    cell("call to", whoOf(it.addressee, view, onPick)),
+    textCell(it.text, ...waits ? dealtNodes(unansweredOf(it), view) : []),
     cell("id", it.id), timeCell(it.first, settings), timeCell(it.last, settings));
 }
-/** @param {HTMLElement} box @param {View} view */
-export function messageList(box, view) {
-  const row = (/** @type {Message} */ it) => messageRow(it, view);
+/** @param {HTMLElement} box @param {View} view @param {OnPick} onPick */
+export function messageList(box, view, onPick) {
+  const row = (/** @type {Message} */ it) => messageRow(it, view, onPick);
   return new List(box, { id: "messages", caption: "messages", row, columns: [
-    { title: "state", value: it => it.order }, { title: "from", value: it => it.source },
+    { title: "state", value: it => placeOf(it, view) }, { title: "from", value: it => it.source },
     { title: "to", value: it => it.addressee }, { title: "text", value: it => it.text },
     { title: "no.", value: it => it.id }, { title: "first", number: true, value: it => it.first },
     { title: "last", number: true, value: it => it.last },
   ] });
 }
-/** @param {Message} a @param {Message} b */
-export const inOrder = (a, b) => a.order - b.order || b.last - a.last;
+/**
+ * The messages in the order in which they stand.
+ * @param {Message[]} messages @param {Pick<View, "markOf" | "ownCall">} view
+ */
+export const inOrder = (messages, view) => messages.map(it => ({ it, place: placeOf(it, view) }))
+  .sort((a, b) => a.place - b.place || b.it.last - a.it.last).map(({ it }) => it);
 
 /** @param {HTMLElement} box @param {View} view */
 export function bulletinList(box, view) {

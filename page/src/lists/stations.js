@@ -2,10 +2,13 @@
 // Stations, objects and items; receivers; who heard whom, and who repeated whom.
 
 import { placeText } from "../geo/coordinate-formats.js";
+import { dealtNodes, markWords } from "./dealt.js";
 import { ageCell, cell, heardCell, List, newMark, number, timeCell } from "./table-view.js";
 import { markOf, symbolOf } from "../map/symbols.js";
+import { homeOf, needOf, otherCallOf, silenceOf } from "../net/alarms.js";
 import { clockWords } from "../net/clock-words.js";
 import { OPEN, wordsOf } from "../net/details.js";
+import { nameIn } from "../net/rows.js";
 import { air, callIn, letters, make } from "../util/dom.js";
 import { printable, said } from "../util/text.js";
 
@@ -13,9 +16,10 @@ import { printable, said } from "../util/text.js";
 /** @typedef {import("../net/net.js").Receiver} Receiver */
 /** @typedef {import("../net/rows.js").Place} Place */
 /** @typedef {import("../net/settings.js").Settings} Settings */
+/** @typedef {import("./dealt.js").Marking} Marking */
 /**
  * Who is expected, when that was heard last, and its key.
- * @typedef {import("../net/roster.js").Expected & { last: number, key: string }} Waited
+ * @typedef {import("../net/roster.js").Expected & { heardAt: number, key: string }} Waited
  */
 /**
  * How a receiver's clock is put right: by how much it was in what is drawn, whether it can be, and
@@ -26,8 +30,10 @@ import { printable, said } from "../util/text.js";
 /**
  * What lists have to know of the page: the moment to which ages count, after how many seconds a
  * station is silent, the gap, what is picked, new or silent, and what the reader chose.
- * @typedef {{ now: number, silent: number, gap: number, picked: string | null,
+ * @typedef {Marking & { now: number, silent: number, gap: number, picked: string | null,
  *   clockOf: ClockOf | null, isSilent: (it: Thing) => boolean,
+ *   isExcused: (it: { name: string, heardAt: number }) => boolean,
+ *   isLongAgo: (heardAt: number) => boolean,
  *   isNewThing: (it: Thing) => boolean, settings: Settings }} View
  */
 /** What is said of a station that sends 0, 0. */
@@ -38,13 +44,18 @@ function marksOf(it, view) {
   const marks = [it.kind];
   if (it.killed) marks.push("killed");
   if (view.isSilent(it)) marks.push("silent");
+  if (it.kind === "station" && view.isExcused(it)) marks.push("excused");
   if (it.urgent) marks.push(it.urgent);
   if (it.key === view.picked) marks.push("picked");
   if (view.isNewThing(it)) marks.push("new");
   return marks.join(" ");
 }
-/** @param {Thing} it @param {Place | null} now @param {Settings} settings */
-function aboutOf(it, now, settings) {
+/** What can be marked of a station: by whom somebody is awaited, or who sees to it. */
+const marksFor = (/** @type {Thing} */ it) => [...it.urgent ? [needOf(it)] : [], silenceOf(it),
+  homeOf(it.name), otherCallOf(it.name)];
+/** @param {Thing} it @param {Place | null} now @param {View} view */
+function aboutOf(it, now, view) {
+  const { settings } = view;
   /** @type {(Node | string)[]} */
   const about = [];
   if (it.urgent) about.push(make("b", { className: "bad", textContent: it.urgent }), " ");
@@ -54,6 +65,8 @@ function aboutOf(it, now, settings) {
     about.push(air(now.comment), " ");
   } else if (it.unfixed) about.push(make("span", { className: "warn", textContent: NO_FIX }), " ");
   if (it.status) about.push(make("i", { title: "status" }, air(it.status)));
+  for (const mark of it.kind === "station" ? marksFor(it).map(view.markOf) : [])
+    if (mark) about.push(" ", make("small", { textContent: markWords(mark, settings) }));
   return about;
 }
 /** @param {Thing} it @param {View} view @param {(key: string) => void} onPick */
@@ -69,9 +82,13 @@ function thingRow(it, view, onPick) {
     make("th", { scope: "row" }, now ? markOf(it, now) : make("span", { className: "mark" }), pick,
       ...newMark(view.isNewThing(it))),
     cell("kind", ...kind), timeCell(it.last, settings),
-    ageCell(it.last, view), heardCell(it.by), cell("num sent", it.sent.toLocaleString("en")),
-    cell("where", ...whereOf(now, settings)), cell("about", ...aboutOf(it, now, settings)));
+    ageCell(it.heardAt, view), heardCell(it.by), cell("num sent", sentText(it)),
+    cell("where", ...whereOf(now, settings)), cell("about", ...aboutOf(it, now, view)));
 }
+/** How much a station sent of its own, and of others as a gate. */
+export const sentText = (/** @type {Thing} */ { sent, passed }) => passed
+  ? `${sent.toLocaleString("en")}, ${passed.toLocaleString("en")} of others`
+  : sent.toLocaleString("en");
 /** @param {Place | null} place @param {Settings} settings */
 export function whereOf(place, settings) {
   if (!place) return [];
@@ -86,9 +103,9 @@ export function thingList(box, view, onPick) {
     keyOf: it => it.key, columns: [
       { title: "name", value: it => it.label }, { title: "kind", value: it => it.kind },
       { title: "last heard", number: true, value: it => it.last },
-      { title: "age", number: true, value: it => -it.last },
+      { title: "age", number: true, value: it => -it.heardAt },
       { title: "by", value: it => it.by.join() },
-      { title: "sent", number: true, value: it => it.sent },
+      { title: "sent", number: true, value: it => it.sent + it.passed },
       { title: "place", value: it => it.now ? it.now.north : -Infinity },
       { title: "comment, status", value: it => (it.now?.comment || "") + it.status },
     ] });
@@ -118,7 +135,8 @@ export function pairList(box, { id, caption, pairs, sent, tell }) {
   const sentBy = (/** @type {string} */ source) => sent.get(source) || 0;
   const row = (/** @type {string} */ source) => {
     const of = sentBy(source), cells = columns.map(name => {
-      const n = pairs.get(source, name), share = n / of;
+      // a digipeater is repeated too, more than it sent of its own
+      const n = pairs.get(source, name), share = n / Math.max(n, of, 1);
       return make("td", { className: `num h${Math.ceil(share * 5)}`,
         textContent: n ? String(n) : "", title: tell(source, name, n, of) });
     });
@@ -179,24 +197,34 @@ export function receiverList(box, view) {
     { title: "clock", number: true, value: it => it.clock?.by || 0 },
   ] });
 }
+/** What is noted of one for whom nobody waits any more: who was heard, and who wasn't. */
+export const GONE = "went home", ABSENT = "isn\u2019t coming";
+/**
+ * Whether nobody waits any more for one that is expected, by its call or that which was heard.
+ * @param {Waited} it @param {Pick<View, "isExcused">} view
+ */
+export const isExcusedOf = ({ call, key, heardAt }, { isExcused }) =>
+  [call, ...key ? [nameIn(key)] : []].some(name => isExcused({ name, heardAt }));
 /**
  * Whom one waits for.
  * @param {HTMLElement} box @param {View} view @param {(key: string) => void} onPick
  */
 export function rosterList(box, view, onPick) {
   const row = (/** @type {Waited} */ it) => {
-    const heard = it.last > -Infinity, silent = !heard || view.now - it.last > view.silent;
+    const { heardAt } = it, heard = heardAt > -Infinity, isExcused = isExcusedOf(it, view);
     const call = heard ? make("button", { type: "button", className: "pick", title:
       "show on the map", onclick: () => onPick(it.key) }, it.call) : it.call;
-    return make("tr", { className: silent ? "silent" : "" },
+    const marks = [...isExcused ? ["excused"] : view.isLongAgo(heardAt) ? ["silent"] : []];
+    return make("tr", { className: marks.join(" ") },
       make("th", { scope: "row" }, call), cell("text", letters(printable(it.name))),
       cell("group", letters(printable([it.group, it.bib].filter(Boolean).join(" ")))),
-      heard ? timeCell(it.last, view.settings) : cell("num time", "not heard"),
-      heard ? ageCell(it.last, view) : cell("num age"));
+      heard ? timeCell(heardAt, view.settings) : cell("num time", "not heard",
+        ...dealtNodes(homeOf(it.call), view, [ABSENT])),
+      heard ? ageCell(heardAt, view) : cell("num age"));
   };
   return new List(box, { id: "expected", caption: "expected stations", row, columns: [
     { title: "call", value: it => it.call }, { title: "who", value: it => it.name },
     { title: "group, no.", value: it => it.group + it.bib },
-    { title: "last heard", number: true, value: it => it.last },
-    { title: "age", number: true, value: it => -it.last }] });
+    { title: "last heard", number: true, value: it => it.heardAt },
+    { title: "age", number: true, value: it => -it.heardAt }] });
 }

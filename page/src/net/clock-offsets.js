@@ -14,6 +14,12 @@ import { byLetters } from "../util/text.js";
  * transmissions; or, where no two agree, how far from each other one.
  * @typedef {{ by: number, of: number, from: Pair[] }} Clock
  */
+/**
+ * Whether a clock is known to be wrong, and by how much.
+ * @param {Clock | null} clock @param {number} gap
+ * @returns {clock is Clock}
+ */
+export const isOff = (clock, gap) => clock !== null && Math.abs(clock.by) > gap;
 /** Fewer transmissions than these say nothing of a clock. */
 export const FEWEST = 2;
 
@@ -82,6 +88,27 @@ function middleOf(zeros, list) {
 /** More rows of one text than these have no pairs. */
 const MOST = 8;
 /**
+ * The clocks of so many receivers are compared, since pairs grow by the square: of those that heard
+ * most.
+ */
+export const MOST_COMPARED = 64;
+/** After so many names that were looked at there is a step. */
+const STEP = 4096;
+/** @typedef {{ names: string[], heard: number }} List so many rows of a list of receivers */
+/**
+ * The receivers whose clocks are compared.
+ * @param {List[]} heard
+ */
+export function comparedIn(heard) {
+  /** @type {Map<string, number>} */
+  const sums = new Map();
+  for (const { names, heard: n } of heard)
+    for (const it of names) sums.set(it, (sums.get(it) || 0) + n);
+  const all = [...sums];
+  if (all.length > MOST_COMPARED) all.sort(([a, m], [b, n]) => n - m || byLetters(a, b));
+  return new Set(all.slice(0, MOST_COMPARED).map(([name]) => name));
+}
+/**
  * Rows by the first one that says the same, those that are wanted; `ends` has where a group ends.
  * @param {Rows} rows @param {number} since
  * @param {(k: number) => boolean} isWanted
@@ -104,40 +131,60 @@ function* gathered(rows, since, isWanted) {
 function apartIn(lists) {
   /** @type {Map<number, boolean>} */
   const known = new Map();
+  /** @type {Set<string>[]} */
+  const sets = [];
+  const setOf = (/** @type {number} */ n) => sets[n] ||= new Set(lists[n]);
   return (/** @type {number} */ a, /** @type {number} */ b) => {
     const key = a * lists.length + b;
     let is = known.get(key);
-    if (is === undefined) known.set(key, is = !lists[a].some(it => lists[b].includes(it)));
+    if (is === undefined) known.set(key, is = !lists[a].some(it => setOf(b).has(it)));
     return is;
   };
 }
+/**
+ * Whether of lists of receivers, by their numbers, none has a name of another.
+ * @param {ArrayLike<number>} lists
+ * @param {(a: number, b: number) => boolean} isApart
+ */
+function areApart(lists, isApart) {
+  for (let m = 0; m < lists.length; m++)
+    for (let n = 0; n < m; n++) if (!isApart(lists[n], lists[m])) return false;
+  return true;
+}
 
 /**
- * The pairs of receivers that heard the same transmissions. What stands in several rows with the
- * same text, no receiver in two of them, was one transmission if clocks are wrong.
+ * The pairs of receivers that heard the same transmissions, of those that are compared. What stands
+ * in several rows with the same text, no receiver in two of them, was one transmission if clocks
+ * are wrong.
  * @param {Rows} rows @param {number} since
- * @param {{ names: string[], heard: number }[]} heard the rows of each list of receivers
+ * @param {List[]} heard the rows of each list of receivers
+ * @param {Set<string>} compared
  * @returns {Generator<unknown, Pair[]>}
  */
-export function* pairsOf(rows, since, heard) {
-  const { same, first } = rows, all = new Differences();
-  for (const { names, heard: n } of heard) if (names.length > 1) all.same(names, n);
+export function* pairsOf(rows, since, heard, compared = comparedIn(heard)) {
+  const { same, first } = rows, all = new Differences(), { size } = compared;
+  const kept = rows.lists.map(it => it.filter(name => compared.has(name)));
+  for (const { names, heard: n } of heard) {
+    if (names.length > 1) all.same(names.filter(it => compared.has(it)), n);
+    if (size === MOST_COMPARED) yield;
+  }
   const times = new Uint32Array(rows.length);
   yield* eachSince(rows, since, k => { times[same[k]]++; });
   // what is sent again and again has no partner that would be sure
   const isPaired = (/** @type {number} */ k) => times[same[k]] > 1 && times[same[k]] <= MOST;
   const { ends, members } = yield* gathered(rows, since, isPaired);
   const isApart = apartIn(rows.lists);
-  yield* eachSince(rows, since, k => {
+  for (let k = 0, looked = 0; k < rows.length; k++) {
     const end = ends[same[k]], begin = end - times[same[k]];
-    if (!isPaired(k) || members[begin] !== k) return;
+    if (++looked > STEP) yield looked = 0;
+    if (!isPaired(k) || members[begin] !== k) continue;
     const group = members.subarray(begin, end), lists = group.map(it => rows.heard[it]);
-    for (let m = 0; m < group.length; m++)
-      for (let n = 0; n < m; n++) if (!isApart(lists[n], lists[m])) return;
+    looked += lists.reduce((sum, it) => sum + rows.lists[it].length, 0);
+    if (!areApart(lists, isApart)) continue;
     for (let n = 1; n < group.length; n++)
-      for (let m = 0; m < n; m++) for (const a of rows.lists[lists[m]])
-        for (const b of rows.lists[lists[n]]) all.add(a, b, first[group[m]] - first[group[n]]);
-  });
+      for (let m = 0; m < n; m++) for (const a of kept[lists[m]])
+        for (const b of kept[lists[n]]) all.add(a, b, first[group[m]] - first[group[n]]);
+  }
   return all.pairs().filter(it => it.of >= FEWEST);
 }
 

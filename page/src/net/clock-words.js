@@ -1,6 +1,7 @@
 // @ts-check
 // A receiver's clock beside the others', in words.
 
+import { isOff } from "./clock-offsets.js";
 import { age, unitsOf } from "../util/time.js";
 
 /**
@@ -26,6 +27,6 @@ export function clockWords({ clock }, gap) {
     return { text, title: "no two receivers agree, so none is known to be right", wrong: true };
   }
   const title = `the middle of ${of} transmissions that others heard too`;
-  const wrong = Math.abs(by) > gap;
+  const wrong = isOff(clock, gap);
   return { text: wrong ? aheadText(by) : `within ${gap} s`, title, wrong };
 }

@@ -1,12 +1,11 @@
 // @ts-check
 // The entries of a communications log: messages, bulletins, and lines that an operator wrote.
 
-import { isBulletin } from "./net.js";
-
 /** @typedef {import("./message-table.js").Message} Message */
 /**
- * A line: a moment in seconds since 1970, from whom to whom, the message's number and its text.
- * @typedef {{ at: number, from: string, to: string, id: string, text: string }} Line
+ * A line: a moment in seconds since 1970, from whom to whom, the message's number and its text; and
+ * the desk or the page that wrote it, where that is another one.
+ * @typedef {{ at: number, from: string, to: string, id: string, text: string, desk?: string }} Line
  */
 /**
  * An entry of the log: its number in it, a moment, from whom to whom, the message's number, what it
@@ -24,7 +23,8 @@ import { isBulletin } from "./net.js";
 export function entriesOf(net, lines = []) {
   const heard = [...net.messages, ...net.bulletins].map(it => ({ at: it.first, from: it.source,
     to: it.addressee, id: it.id, text: it.text, state: it.state,
-    note: isBulletin(it) || it.state === "unnumbered" ? "" : it.state, own: null }));
-  const own = lines.map(it => ({ ...it, state: "own", note: "", own: it }));
+    note: it.isBulletin || it.state === "unnumbered" ? "" : it.state, own: null }));
+  const own = lines.map(it => ({ ...it, state: it.desk ? `of ${it.desk}` : "own",
+    note: it.desk ? `of ${it.desk}` : "", own: it }));
   return [...heard, ...own].sort((a, b) => a.at - b.at).map((it, n) => ({ number: n + 1, ...it }));
 }

@@ -2,9 +2,9 @@
 // The net that the tables tell of: things, messages, receivers and digipeaters.
 
 import { vectorOf } from "../geo/sphere.js";
-import { clocksOf, pairsOf } from "./clock-offsets.js";
+import { clocksOf, isOff, pairsOf } from "./clock-offsets.js";
 import { kindIn, nameIn } from "./rows.js";
-import { URGENT } from "./table-reader.js";
+import { TELLING, URGENT } from "./table-reader.js";
 import { each, eachSince } from "../util/tasks.js";
 import { byLetters, said } from "../util/text.js";
 
@@ -13,14 +13,21 @@ import { byLetters, said } from "../util/text.js";
 /** @typedef {import("./message-table.js").Message} Message */
 /** @typedef {import("./clock-offsets.js").Clock} Clock */
 /** @typedef {ArrayLike<number>} Picks numbers of rows */
-/** @typedef {{ rows: Rows, messages: Message[], end: number }} All what was read of the tables */
+/**
+ * What was read of the tables: receivers' clocks by all that they heard, and the moment to which
+ * ages count, in seconds.
+ * @typedef {{ rows: Rows, messages: Message[], clocks: Map<string, Clock>, end: number }} All
+ */
 /**
  * What stays in sight whatever part of the time is shown: when each station was last heard at all,
  * when each receiver last heard something, who is in need, and all messages.
  * @typedef {{ stations: Heard[], ears: { name: string, last: number }[], needy: Thing[],
  *   messages: Message[] }} Whole
  */
-/** @typedef {{ key: string, kind: string, name: string, last: number }} Heard */
+/**
+ * When a station was last heard, by clocks that aren't known to be wrong.
+ * @typedef {{ key: string, kind: string, name: string, heardAt: number }} Heard
+ */
 /**
  * A net since a moment: the numbers of its rows, when the first and the last was heard, and what
  * they tell of; `others` are rows of a kind that the page doesn't know.
@@ -33,19 +40,6 @@ import { byLetters, said } from "../util/text.js";
  * @typedef {{ heard: Pairs, alone: Pairs, repeated: Pairs, sent: Map<string, number> }} Hearings
  */
 
-/** The states of messages, in the order in which they stand. */
-const STATES = ["unanswered", "rejected", "unnumbered", "acknowledged"];
-export const isBulletin = (/** @type {Message} */ message) =>
-  /^(BLN|NWS-)/.test(message.addressee);
-
-/**
- * Gives a message its place among them.
- * @param {Message} message
- */
-export function rank(message) {
-  message.order = STATES.indexOf(message.state);
-}
-
 /** A station, an object or an item; its places are the numbers of rows, and made when asked for. */
 export class Thing {
   /** @param {Rows} rows @param {string} key */
@@ -56,13 +50,20 @@ export class Thing {
     this.key = key;
     this.label = said(this.name) || "(no name)";
     this.first = Infinity;
+    /** When it was last heard, by clocks that aren't known to be wrong. */
+    this.heardAt = -Infinity;
     this.sent = 0;
+    /** How many frames of others it passed on. */
+    this.passed = 0;
+    /** Since when it is in need, or was last, without a break. */
+    this.needSince = NaN;
     // numbers of rows, -1 for none
     this.lastHeard = -1;
     this.lastStatus = -1;
     this.lastPlace = -1;
-    this.lastSays = -1;
     this.lastUrgent = -1;
+    /** Of each kind that says whether it is in need. */
+    this.lastTelling = TELLING.map(() => -1);
     this.lastWeather = -1;
     this.lastTelemetry = -1;
     /** How many of its rows are at 0, 0. */
@@ -76,9 +77,22 @@ export class Thing {
   }
   /** @param {number} k */
   hear(k) {
-    const { rows } = this;
     this.sent++;
+    this.notice(k);
+  }
+  /**
+   * Takes a frame of another station that it passed on.
+   * @param {number} k
+   */
+  pass(k) {
+    this.passed++;
+    this.notice(k);
+  }
+  /** @param {number} k */
+  notice(k) {
+    const { rows } = this;
     this.first = Math.min(this.first, rows.first[k]);
+    this.heardAt = Math.max(this.heardAt, rows.heardAt(k));
     this.lastHeard = rows.later(this.lastHeard, k);
   }
   get last() {
@@ -115,9 +129,9 @@ export class Thing {
   get killed() {
     return this.lastPlace >= 0 && this.rows.killed[this.lastPlace] === 1;
   }
-  /** Whether the last Mic-E report is an emergency or of priority: which, or nothing. */
+  /** Whether the last report of a kind is an emergency or of priority: which, or nothing. */
   get urgent() {
-    return this.lastSays < 0 ? "" : URGENT[this.rows.urgent[this.lastSays]];
+    return URGENT[Math.max(...this.lastTelling.map(k => k < 0 ? 0 : this.rows.urgent[k]))];
   }
   /**
    * How many of its places were known at a moment.
@@ -159,8 +173,31 @@ function note(station, rows, k) {
   if (rows.is(k, "status")) station.lastStatus = rows.later(station.lastStatus, k);
   else if (rows.is(k, "weather")) station.lastWeather = rows.later(station.lastWeather, k);
   else if (rows.is(k, "telemetry")) station.lastTelemetry = rows.later(station.lastTelemetry, k);
-  else if (rows.is(k, "mic-e")) station.lastSays = rows.later(station.lastSays, k);
   if (rows.urgent[k]) station.lastUrgent = rows.later(station.lastUrgent, k);
+  const n = TELLING.indexOf(rows.kind[k]), { lastTelling } = station;
+  if (n >= 0) lastTelling[n] = rows.later(lastTelling[n], k);
+}
+/** After so many seconds in which a station doesn't say so any more it is in need anew. */
+const CALM = 1800;
+/**
+ * Finds since when stations are in need, or were last: a time without a break, and in which no
+ * report of the kind that said so takes it back.
+ * @param {Rows} rows @param {Thing[]} things
+ * @returns {Generator<unknown, void>}
+ */
+function* findNeeds(rows, things) {
+  const needy = new Map(things.filter(it => it.lastUrgent >= 0).map(it =>
+    [rows.things.indexOf(it.key), { thing: it, kinds: new Set(), last: -Infinity }]));
+  if (needy.size) yield* each(rows.order, k => {
+    const it = needy.get(rows.station[k]), kind = rows.kind[k], first = rows.first[k];
+    if (!it) return;
+    if (!rows.urgent[k]) it.kinds.delete(kind);
+    else {
+      if (!it.kinds.size || first - it.last > CALM) it.thing.needSince = first;
+      it.kinds.add(kind);
+      it.last = rows.last[k];
+    }
+  });
 }
 /**
  * Stations, then objects, then items, each kind by name, with their places in order. `picks` are
@@ -181,9 +218,12 @@ function* thingsOf(rows, picks, walk) {
     const it = thing(rows.thing[k]);
     if (rows.isUnfixed(k)) it.unfixed++;
     if (it !== station) it.hear(k);
+    if (rows.gate[k]) thing(rows.gate[k] - 1).pass(k);
   });
   yield* each(picks, k => { if (rows.hasPlace(k)) things[rows.thing[k]].put(k); });
-  return things.filter(Boolean).sort(byKindAndName);
+  const all = things.filter(Boolean).sort(byKindAndName);
+  yield* findNeeds(rows, all);
+  return all;
 }
 
 /** How many of a thing there are for each pair of names. */
@@ -207,14 +247,28 @@ export class Pairs {
   }
 }
 
+/** What stands for any digipeater, and names none. */
+const ALIAS = /^(?:(?:WIDE|TRACE)[0-9]?(?:-[0-9]+)?|RELAY|ECHO|GATE)$/;
 /**
- * How many rows there are of each station and list of names, such as the receivers.
+ * Who repeated a frame, in order; what names no digipeater only where nothing else is there.
+ * @param {string[]} path
+ */
+export function digipeatersOf(path) {
+  const used = path.filter(it => it.endsWith("*")).map(it => it.slice(0, -1));
+  const named = used.filter(it => !ALIAS.test(it));
+  return named.length ? named : used.slice(-1);
+}
+/**
+ * How many rows there are of each station and list of names, such as the receivers; of those that
+ * are wanted.
  * @param {Rows} rows @param {number} since @param {Uint32Array} column
+ * @param {(k: number) => boolean} isWanted
  * @returns {Generator<unknown, [string, string[], number][]>}
  */
-function* countLists(rows, since, column) {
+function* countLists(rows, since, column, isWanted = () => true) {
   const counts = new Map(), { station } = rows, many = rows.lists.length;
   yield* eachSince(rows, since, k => {
+    if (!isWanted(k)) return;
     const key = station[k] * many + column[k];
     counts.set(key, (counts.get(key) || 0) + 1);
   });
@@ -235,10 +289,13 @@ export function* hearings(rows, since) {
       for (const receiver of list) heard.add(source, receiver, n);
       if (list.length === 1) alone.add(source, list[0], n);
     }
-  for (const [name, list, n] of yield* countLists(rows, since, rows.via))
-    for (const hop of list)
-      if (hop.endsWith("*"))
-        for (const source of [name, "all"]) repeated.add(source, hop.slice(0, -1), n);
+  // the path of a frame that was passed on isn't one on the air
+  const isOwn = (/** @type {number} */ k) => !rows.gate[k];
+  for (const [name, list, n] of yield* countLists(rows, since, rows.via, isOwn))
+    digipeatersOf(list).reduce((before, digipeater) => {
+      for (const source of [before, "all"]) repeated.add(source, digipeater, n);
+      return digipeater;
+    }, name);
   return { heard, alone, repeated, sent };
 }
 
@@ -248,24 +305,47 @@ export function* hearings(rows, since) {
  *   clock: Clock | null }} Receiver
  */
 /**
- * Each receiver, and the pairs of them whose clocks can be compared.
- * @param {Rows} rows @param {number} since @param {number} gap
- * @returns {Generator<unknown, Receiver[]>}
+ * How many rows each list of receivers heard, and the last one of them.
+ * @param {Rows} rows @param {number} since
+ * @returns {Generator<unknown, { names: string[], heard: number, last: number }[]>}
  */
-function* receiversOf(rows, since, gap) {
+function* heardOf(rows, since) {
   /** @type {{ names: string[], heard: number, last: number }[]} */
   const lists = [];
-  /** @type {Map<string, Receiver>} */
-  const receivers = new Map();
   yield* eachSince(rows, since, k => {
     // at its first moment one of several receivers heard it at least
     const n = rows.heard[k], list = lists[n] ||= { names: rows.lists[n], heard: 0, last: k };
     list.heard++;
     if (rows.first[k] >= rows.first[list.last]) list.last = k;
   });
-  const heard = lists.filter(Boolean);
-  const clocks = clocksOf(yield* pairsOf(rows, since, heard), gap);
-  for (const { names, heard: n, last } of heard) {
+  return lists.filter(Boolean);
+}
+/**
+ * What the tables say, with receivers' clocks. Ages count to the last moment at which somebody
+ * heard something whose clock isn't known to be wrong.
+ * @param {Rows} rows @param {Message[]} messages @param {number} gap
+ * @returns {Generator<unknown, All>}
+ */
+export function* allOf(rows, messages, gap) {
+  const heard = yield* heardOf(rows, -Infinity);
+  const clocks = clocksOf(yield* pairsOf(rows, -Infinity, heard), gap);
+  const wrong = [...clocks].filter(([, it]) => isOff(it, gap));
+  rows.takeAheads(new Map(wrong.map(([name, it]) => [name, it.by])));
+  let end = -Infinity;
+  if (wrong.length) yield* eachSince(rows, -Infinity, k => {
+    if (!rows.ahead[rows.heard[k]]) end = Math.max(end, rows.last[k]);
+  });
+  return { rows, messages, clocks, end: end > -Infinity ? end : rows.until };
+}
+/**
+ * Each receiver since a moment, and its clock.
+ * @param {All} all @param {number} since
+ * @returns {Generator<unknown, Receiver[]>}
+ */
+function* receiversOf({ rows, clocks }, since) {
+  /** @type {Map<string, Receiver>} */
+  const receivers = new Map();
+  for (const { names, heard: n, last } of yield* heardOf(rows, since)) {
     const alone = names.length === 1;
     for (const name of names) {
       let it = receivers.get(name);
@@ -291,8 +371,9 @@ function* lastOf(rows) {
   const last = new Float64Array(rows.things.length).fill(-Infinity), urgent = new Set();
   const heard = new Float64Array(rows.lists.length).fill(-Infinity), ears = new Map();
   yield* eachSince(rows, -Infinity, k => {
-    const n = rows.station[k], list = rows.heard[k];
-    if (rows.last[k] > last[n]) last[n] = rows.last[k];
+    const n = rows.station[k], list = rows.heard[k], at = rows.heardAt(k), gate = rows.gate[k] - 1;
+    if (at > last[n]) last[n] = at;
+    if (gate >= 0 && at > last[gate]) last[gate] = at;
     if (rows.first[k] > heard[list]) heard[list] = rows.first[k];
     if (rows.urgent[k]) urgent.add(n);
   });
@@ -301,8 +382,8 @@ function* lastOf(rows) {
       ears.set(name, Math.max(ears.get(name) ?? -Infinity, heard[n]));
   });
   const stations = rows.things.map((key, n) =>
-    ({ key, kind: kindIn(key), name: nameIn(key), last: last[n] }));
-  return { stations: stations.filter(it => it.last > -Infinity), urgent,
+    ({ key, kind: kindIn(key), name: nameIn(key), heardAt: last[n] }));
+  return { stations: stations.filter(it => it.heardAt > -Infinity), urgent,
     ears: [...ears].map(([name, last]) => ({ name, last })) };
 }
 /**
@@ -315,14 +396,14 @@ function* wholeOf({ rows, messages }) {
   const picks = urgent.size ? rows.order.filter(k => urgent.has(rows.station[k])) : [];
   const things = yield* thingsOf(rows, picks, run => each(picks, run));
   const needy = things.filter(it => it.lastUrgent >= 0);
-  return { stations, ears, needy, messages: messages.filter(it => !isBulletin(it)) };
+  return { stations, ears, needy, messages: messages.filter(it => it.isTraffic) };
 }
 /**
  * All of the net that was heard since a moment, but who heard whom.
- * @param {All} all @param {number} since @param {number} gap
+ * @param {All} all @param {number} since
  * @returns {Generator<unknown, Net>}
  */
-export function* netOf(all, since, gap) {
+export function* netOf(all, since) {
   const { rows } = all, picks = rows.since(since), some = picks.length > 0;
   // they stand by their first moment, and the last of all is one of them
   const begin = some ? rows.first[picks[0]] : Infinity, end = some ? rows.until : -Infinity;
@@ -332,10 +413,10 @@ export function* netOf(all, since, gap) {
   for (const it of placed) yield it.track; // it is kept
   let others = 0;
   yield* eachSince(rows, since, k => { if (rows.is(k, "other")) others++; });
-  const said = messages.filter(it => !isBulletin(it));
-  const receivers = yield* receiversOf(rows, since, gap);
-  const whole = since > -Infinity ? yield* wholeOf(all) : { needy: things, messages: said,
+  const traffic = messages.filter(it => it.isTraffic);
+  const receivers = yield* receiversOf(all, since);
+  const whole = since > -Infinity ? yield* wholeOf(all) : { needy: things, messages: traffic,
     ears: receivers, stations: things.filter(it => it.kind === "station") };
-  return { rows: picks, since, begin, end, things, placed, others, messages: said,
-    bulletins: messages.filter(isBulletin), whole, receivers };
+  return { rows: picks, since, begin, end, things, placed, others, messages: traffic,
+    bulletins: messages.filter(it => it.isBulletin), whole, receivers };
 }

@@ -185,16 +185,23 @@ const baseOf = (/** @type {string} */ call) => call.replace(/-\d+$/, "");
 
 /** Whom one knows: names by call. */
 export class Names {
-  /** @param {Expected[]} list */
-  constructor(list) {
+  /**
+   * @param {Expected[]} list
+   * @param {Map<string, string>} before the call that each had before that it has now
+   */
+  constructor(list, before = new Map()) {
     this.by = new Map(list.map(it => [it.call, it]));
+    this.before = before;
   }
   /**
-   * The line of a station: its own, or that of each of its SSIDs.
+   * The line of a station: its own, that of each of its SSIDs, or that of the call it had before.
    * @param {string} call
+   * @returns {Expected | undefined}
    */
   of(call) {
-    return this.by.get(call) || this.by.get(`${baseOf(call)}-*`);
+    const before = this.before.get(call) || "";
+    return this.by.get(call) || this.by.get(`${baseOf(call)}-*`) || this.by.get(before) ||
+      this.by.get(`${baseOf(before)}-*`);
   }
   /**
    * The name of a station alone, empty where there is none.
@@ -218,18 +225,21 @@ export class Names {
 }
 /**
  * When each expected station was last heard, and its key; of any SSID, that of the one heard last.
+ * What goes on under another call is heard under that too.
  * @param {Expected[]} list
- * @param {{ key: string, name: string, kind: string, last: number }[]} things
+ * @param {{ key: string, name: string, kind: string, heardAt: number }[]} things
+ * @param {Map<string, string>} before the call that each had before
  */
-export function expectedOf(list, things) {
-  const none = { last: -Infinity, key: "" }, latest = new Map();
+export function expectedOf(list, things, before = new Map()) {
+  const none = { heardAt: -Infinity, key: "" }, latest = new Map();
   for (const it of things) {
     if (it.kind !== "station") continue;
-    for (const call of [it.name, `${baseOf(it.name)}-*`])
-      if (it.last > (latest.get(call) || none).last) latest.set(call, it);
+    for (const name of [it.name, before.get(it.name)])
+      for (const call of name ? [name, `${baseOf(name)}-*`] : [])
+        if (it.heardAt > (latest.get(call) || none).heardAt) latest.set(call, it);
   }
   return list.map(it => {
-    const { last, key } = latest.get(it.call) || none;
-    return { ...it, last, key };
+    const { heardAt, key } = latest.get(it.call) || none;
+    return { ...it, heardAt, key };
   });
 }

@@ -64,6 +64,7 @@ export class Rows {
     this.thing = columns.thing;
     this.heard = columns.heard;
     this.via = columns.via;
+    this.gate = columns.gate;
     this.begin = columns.begin;
     this.stop = columns.stop;
     this.killed = columns.killed;
@@ -73,7 +74,27 @@ export class Rows {
     this.same = columns.same;
     this.order = columns.order;
     this.length = columns.order.length;
+    /** By how many seconds all who are in a list are known to be ahead; 0 where one isn't. */
+    this.ahead = new Float64Array(lists.length);
     this.placeKills();
+  }
+  /**
+   * Knows from now on by how much the clocks of receivers are ahead, those that are wrong.
+   * @param {Map<string, number>} aheads
+   */
+  takeAheads(aheads) {
+    this.lists.forEach((names, n) => {
+      const all = names.map(it => aheads.get(it) || 0);
+      this.ahead[n] = all.reduce((least, it) => Math.abs(it) < Math.abs(least) ? it : least,
+        all[0] || 0);
+    });
+  }
+  /**
+   * When a row was last heard, by clocks that aren't known to be wrong.
+   * @param {number} k
+   */
+  heardAt(k) {
+    return this.last[k] - this.ahead[this.heard[k]];
   }
   /** A kill at 0, 0 lies where the thing was: its sender left the place out. */
   placeKills() {

@@ -9,8 +9,12 @@ import { STEP } from "../util/tasks.js";
 export const KINDS = ["position", "object", "item", "status", "message", "ack", "rej", "mic-e",
   "weather", "telemetry", "raw", "other"];
 const OTHER = KINDS.length - 1;
-/** What Mic-E says in need, by how much it matters. */
+/** What is said in need, by how much it matters. */
 export const URGENT = ["", "priority", "emergency"];
+/** The kinds of rows that say whether their station is in need. */
+export const TELLING = ["position", "mic-e", "status"].map(it => KINDS.indexOf(it));
+/** What a comment or a status says in need, as a word of its own. */
+const NEED = "EMERGENCY";
 
 /**
  * The columns for so many rows.
@@ -21,6 +25,8 @@ const emptyColumns = n => ({
   // who sent it and what it places, by their numbers in `things`; lists, by theirs in `lists`
   station: new Uint32Array(n), thing: new Uint32Array(n), heard: new Uint32Array(n),
   via: new Uint32Array(n),
+  // who passed it on, by the number of that in `things` and 1; 0 for nobody
+  gate: new Uint32Array(n),
   // where its line begins and ends in the table
   begin: new Uint32Array(n), stop: new Uint32Array(n),
   killed: new Uint8Array(n), urgent: new Uint8Array(n),
@@ -78,6 +84,25 @@ export function orderOf(moments, n) {
   return order;
 }
 
+/**
+ * Where a word of capitals stands by itself in bytes.
+ * @param {Uint8Array} bytes
+ * @param {string} word
+ */
+export function placesOfWord(bytes, word) {
+  const codes = [...word].map(it => it.charCodeAt(0)), places = [];
+  const isLetter = (/** @type {number | undefined} */ it) =>
+    it !== undefined && (it | 32) >= 97 && (it | 32) <= 122;
+  // of all its letters the last one is the rarest
+  const last = codes.length - 1;
+  for (let at = bytes.indexOf(codes[last]); at >= 0; at = bytes.indexOf(codes[last], at + 1)) {
+    const begin = at - last;
+    if (codes.every((it, n) => bytes[begin + n] === it) && !isLetter(bytes[begin - 1]) &&
+      !isLetter(bytes[at + 1])) places.push(begin);
+  }
+  return places;
+}
+
 /** The columns that say when and by whom a row was heard, and not what it is. */
 const HEARD = ["kind", "first", "last", "receivers", "receiver", "source", "destination", "via"];
 
@@ -107,15 +132,20 @@ class TableReader extends Lines {
     this.receivers = of("receivers");
     this.source = of("source");
     this.via = of("via");
+    this.gate = of("gate");
     this.name = of("name");
     this.state = of("state");
     this.latitude = of("latitude");
     this.longitude = of("longitude");
     this.says = of("says");
+    this.pleas = placesOfWord(bytes, NEED);
+    /** Which of these comes next. */
+    this.plea = 0;
     this.rest = Math.max(...HEARD.map(of)) + 1;
     /** More columns than these aren't looked at one by one. */
     this.wanted = Math.min(names.length, Math.max(this.rest, this.kind, this.first, this.last,
-      this.name, this.state, this.latitude, this.longitude, this.says) + 1);
+      this.name, this.state, this.latitude, this.longitude, this.says,
+      this.gate) + 1);
   }
   /** Makes room for more rows. */
   grow() {
@@ -149,13 +179,23 @@ class TableReader extends Lines {
     columns.heard[n] = this.list(this.receivers);
     columns.station[n] = columns.thing[n] = this.word(this.named.station, this.source);
     columns.via[n] = this.list(this.via);
+    if (this.has(this.gate)) columns.gate[n] = this.word(this.named.station, this.gate) + 1;
     columns.begin[n] = this.begin;
     columns.stop[n] = end;
     const rest = columns.rest[n] = Math.min(begins[this.rest], end);
     columns.hash[n] = hashOf(this.view, rest, end, columns.station[n] * KINDS.length + kind);
-    if (this.has(this.says)) columns.urgent[n] = this.word(this.needs, this.says);
+    columns.urgent[n] = this.need(kind, rest, end);
     this.place(KINDS[kind], n);
     this.n++;
+  }
+  /**
+   * How urgent is what a row says, by Mic-E or in its comment or status.
+   * @param {number} kind @param {number} begin @param {number} end
+   */
+  need(kind, begin, end) {
+    const said = this.has(this.says) ? this.word(this.needs, this.says) : 0, { pleas } = this;
+    while (pleas[this.plea] < begin) this.plea++;
+    return TELLING.includes(kind) && pleas[this.plea] < end ? URGENT.length - 1 : said;
   }
   /**
    * Whether two rows are of one station and kind, and say the same.

@@ -6,7 +6,8 @@ import { fullText, isoText, timeText } from "./time.js";
 
 /**
  * @typedef {"choose" | "choose-folder" | "name" | "gap" | "silent" | "follow" | "local" | "miles" |
- *   "sound" | "live" | "bring" | "corner-0" | "corner-1" | "corner-2" | "clock" | "find" |
+ *   "sound" | "live" | "bring" | "call" | "origin" |
+ *   "other-call" | "corner-0" | "corner-1" | "corner-2" | "clock" | "find" |
  *   "ics-incident" | "ics-net" | "ics-operator" | "ics-by" | "own-at" | "own-from" | "own-id" |
  *   "own-to" | "own-text" | "most"} Input
  */

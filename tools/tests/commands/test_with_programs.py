@@ -85,7 +85,8 @@ def test_a_message_that_was_rejected_and_acknowledged_later() -> None:
     )
     [it] = table_of(Message, given=log)
     [row] = sheet("ics-309", "--format", "csv", given=log)
-    assert [row["message"], row["state"]] == ["one", "acknowledged"] == [it.text, it.state]
+    # the first answer decides
+    assert [row["message"], row["state"]] == ["one", "rejected"] == [it.text, it.outcome]
 
 
 def test_messages_of_the_evening() -> None:

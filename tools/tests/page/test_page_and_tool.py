@@ -17,9 +17,9 @@ from standing import at, message, place, put, row, shown, table_text, tracks_of
 from aprsbook_tools import table_output
 from aprsbook_tools.commands.clocks import spans_of
 from aprsbook_tools.commands.ics_309 import in_order, table_of
-from aprsbook_tools.commands.roster import line_of
+from aprsbook_tools.commands.roster import last_of, line_of
 from aprsbook_tools.reports import table
-from aprsbook_tools.reports.last_heard import heard_of
+from aprsbook_tools.reports.last_heard import COLUMNS, heard_of
 from aprsbook_tools.reports.roster import Roster, read_roster
 from aprsbook_tools.reports.table import Message, Row
 from aprsbook_tools.reports.tracks import things_of
@@ -267,9 +267,10 @@ def test_kml(both: List[Any]) -> None:
 def test_roster(both: List[Any]) -> None:
     for case, said in both:
         roster = read_roster(case.roster)
-        stations = heard_of(case.rows)
+        stations = heard_of(table.fields(Row, case.rows_text.splitlines(), COLUMNS))
         told = [
-            [it.call, it.name, it.group, it.bib, line_of(it, stations)[0]] for it in roster.expected
+            [it.call, it.name, it.group, it.bib, line_of(it, last_of(it, stations))[0]]
+            for it in roster.expected
         ]
         assert told == said["expected"], case
         assert [it.line for it in roster.faults] == said["faults"], case

@@ -74,6 +74,29 @@ def test_what_is_not_answered() -> None:
     ]
 
 
+def test_what_came_of_it_is_by_any_answer() -> None:
+    """`{07}` in a text is a number too, and a plain ack answers it; queries aren't answered so."""
+    some = [
+        message("18:00", "Q1A", "Q1B", "one{07}", state="unnumbered", reply_ack="unanswered",
+                number="07", outcome="acknowledged", class_="message"),
+        message("18:01", "Q1A", "Q1B", "two{08}", state="unnumbered", reply_ack="unanswered",
+                number="08", outcome="unanswered", class_="message"),
+        message("18:02", "Q1A", "Q1B", "?APRSD", id="9", outcome="unanswered", class_="query"),
+        message("18:02", "Q1A", "Q1A", "PARM.V", id="1", outcome="unanswered", class_="telemetry"),
+    ]
+    assert [it.words for it in alerts.unanswered(some, Roster(), NOW, 30)] == [
+        "Q1B hasn't acknowledged message 08 of Q1A, 18:01:00 UTC: two{08}"]
+
+
+def test_a_moment_that_moves_a_little_is_the_same() -> None:
+    """As where a wrong clock, whose median moves while a net runs, is allowed for."""
+    alert = alerts.Alert("silent", "Q1A", at("18:00:30"), "")
+    assert alert.is_since_about(at("18:00:01")) and alert.is_since_about(at("18:01:29"))
+    assert not alert.is_since_about(at("18:01:30")) and not alert.is_since_about("never")
+    assert not alerts.Alert("silent", "Q1A", "never", "").is_since_about(at("18:00"))
+    assert not alerts.Alert("emergency", "Q1A", at("18:00"), "").is_since_about(at("18:00"))
+
+
 def said(clock: str, says: str) -> Row:
     return place(clock, "Q1A-9", 54.5, -3.5, kind="mic-e", says=says, text="help")
 

@@ -11,7 +11,8 @@ def test_who_never_sent_a_position_was_heard(programs: Programs) -> None:
     programs.say(
         row("message", "18:04", "Q1A", name="Q1B"), table.Station(source="Q1A", transmissions=1)
     )
-    assert programs.lines("last-heard", "net.log")[1:] == [[at("18:04"), "RX1", "Q1A", "1", ""]]
+    assert programs.lines("last-heard", "net.log")[1:] == [
+        [at("18:04"), "RX1", "Q1A", "1", "", "0"]]
 
 
 def test_who_was_heard_last(programs: Programs, tmp_path: pathlib.Path) -> None:
@@ -23,9 +24,9 @@ def test_who_was_heard_last(programs: Programs, tmp_path: pathlib.Path) -> None:
         row("raw", "18:01", "Q1B-7", receiver="RX2"),
     )
     assert programs.lines("last-heard", "--roster", "names", "net.log") == [
-        ["last", "receiver", "call", "transmissions", "name"],
-        [at("18:01"), "RX2", "Q1B-7", "1", "Leader"],
-        [at("18:05"), "RX1", "Q1A", "3", ""],
+        ["last", "receiver", "call", "transmissions", "name", "passed"],
+        [at("18:01"), "RX2", "Q1B-7", "1", "Leader", "0"],
+        [at("18:05"), "RX1", "Q1A", "3", "", "0"],
     ]
 
 
@@ -41,11 +42,72 @@ def test_who_wasn_t_heard(programs: Programs, tmp_path: pathlib.Path) -> None:
         row("raw", "18:02", "Q1RUNS"),
     )
     assert programs.lines("roster", "--roster", "names", "net.log")[1:] == [
-        ["never", "", "Q1GONE", "0", "", "gone", ""],
-        [at("18:02"), "RX1", "Q1RUNS", "1", "Q1RUNS", "the other", ""],
-        [at("18:05"), "RX2", "Q1RUN-*", "4", "Q1RUN", "sweepers, 2", ""],
-        [at("18:05"), "RX2", "Q1RUN", "1", "Q1RUN", "", ""],
+        ["never", "", "Q1GONE", "0", "", "gone", "", "0"],
+        [at("18:02"), "RX1", "Q1RUNS", "1", "Q1RUNS", "the other", "", "0"],
+        [at("18:05"), "RX2", "Q1RUN-*", "4", "Q1RUN", "sweepers, 2", "", "0"],
+        [at("18:05"), "RX2", "Q1RUN", "1", "Q1RUN", "", "", "0"],
     ]
+
+
+def test_a_gate_that_passes_on_all_it_sends_was_heard(programs: Programs, tmp_path: pathlib.Path
+                                                      ) -> None:
+    """It was never heard to `roster` and `watch`, and wasn't there in `last-heard`."""
+    (tmp_path / "names").write_text("Q1GATE-10 Gate\nQ1NET Control\n")
+    programs.say(
+        row("message", "18:04", "Q1NET", gate="Q1GATE-10", name="Q1B"),
+        row("status", "18:05", "Q1NET", gate="Q1GATE-10", receiver="RX2", receivers=("RX2",)),
+        row("raw", "18:06", "", gate="Q1GATE-10"),
+        row("raw", "18:06", "Q1 RUN", gate="Q1GATE-10"),
+        row("raw", "18:03", "}Q1A", gate="Q1GATE-10"),
+    )
+    assert programs.lines("last-heard", "net.log")[1:] == [
+        [at("18:05"), "RX2", "Q1NET", "2", "", "0"],
+        [at("18:06"), "RX1", "Q1GATE-10", "0", "", "5"],
+    ]
+    assert programs.lines("roster", "--fail", "--roster", "names", "net.log")[1:] == [
+        [at("18:05"), "RX2", "Q1NET", "2", "Q1NET", "Control", "", "0"],
+        [at("18:06"), "RX1", "Q1GATE-10", "0", "Q1GATE-10", "Gate", "", "5"],
+    ]
+
+
+def by(name: str, clock: str, source: str, text: str) -> table.Row:
+    """A status that one receiver heard."""
+    return row("status", clock, source, text=text, receiver=name, receivers=(name,))
+
+
+# A and B agree; C, an hour ahead, heard what they heard, and Q1C alone; rows are in a book's order
+HOUR_AHEAD = [
+    by("C", "19:06", "Q1C", "late"),
+    row("status", "18:00", "Q1X", text="1", receivers=("A", "B")),
+    by("C", "19:00", "Q1X", "1"),
+    row("status", "18:10", "Q1X", text="2", receivers=("A", "B")),
+    by("C", "19:10", "Q1X", "2"),
+    row("status", "18:08", "Q1Y", text="3", receivers=("A", "B"), receiver="B"),
+]
+
+
+def test_one_clock_an_hour_ahead_makes_nobody_last(programs: Programs) -> None:
+    programs.say(*HOUR_AHEAD)
+    assert [it[:4] for it in programs.lines("last-heard", "net.log")[1:]] == [
+        [at("19:06"), "C", "Q1C", "1"],
+        [at("18:08"), "B", "Q1Y", "1"],
+        [at("18:10"), "RX1", "Q1X", "4"],
+    ]
+    assert programs.said == ("aprs-net: the clock of C is about 3600 seconds ahead of the others, "
+                             "and that is allowed for (aprs-net clocks says it exactly)\n")
+
+
+def test_a_time_is_that_of_clocks_that_are_right(programs: Programs, tmp_path: pathlib.Path
+                                                 ) -> None:
+    """Q1C was heard at 18:06, which the receiver called 19:06."""
+    (tmp_path / "names").write_text("Q1C\n")
+    programs.say(*HOUR_AHEAD)
+    words = "roster", "--fail", "--roster", "names", "net.log"
+    programs.run(*words, "--from", "2024-06-21T18:30", status=5)
+    programs.run(*words, "--from", "2024-06-21T18:06", status=0)
+    programs.run(*words, "--to", "2024-06-21T18:06", status=5)
+    heard = programs.lines("last-heard", "--from", "2024-06-21T18:09", "net.log")[1:]
+    assert [it[:4] for it in heard] == [[at("18:10"), "RX1", "Q1X", "2"]]
 
 
 def test_a_line_that_isn_t_understood_ends_it(programs: Programs, tmp_path: pathlib.Path) -> None:

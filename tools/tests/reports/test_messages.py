@@ -173,3 +173,36 @@ def test_what_desks_have_written_down(programs: Programs, tmp_path: pathlib.Path
          "Gate 1", ""],
     ]
     programs.run("ics-309", "--desks", str(tmp_path / "none"), "net.log", status=1)
+
+
+def test_a_communications_log_has_what_was_said(programs: Programs) -> None:
+    """The number stands in a text too, any answer counts, and queries and the like are left out."""
+    programs.say(
+        message("18:00", "Q1A", "Q1B", "one{01}", state="unnumbered", reply_ack="unanswered",
+                class_="message", number="01", outcome="acknowledged", gate="Q1GATE-10",
+                outcome_moment="2024-06-21T18:00:09.000Z"),
+        message("18:01", "Q1A", "BLN1RACE", "Start", class_="bulletin", outcome="unnumbered"),
+        message("18:02", "Q1A", "BLNA", "Later", class_="announcement", outcome="unnumbered"),
+        message("18:03", "NWSTST", "NWS-WARN", "Wind", class_="weather-bulletin"),
+        message("18:04", "Q1A", "Q1A", "PARM.V,T", class_="telemetry", outcome="unnumbered"),
+        message("18:05", "Q1A", "Q1B", "?APRSD", class_="query", outcome="unnumbered"),
+        message("18:06", "Q1B", "Q1A", "ack01}F1", class_="answer", outcome="unnumbered"),
+    )
+    lines = read_csv(programs.run("ics-309", "--format", "csv", "net.log"))[1:]
+    assert [it[4] for it in lines] == ["one{01}", "Start", "Later", "Wind"]
+    assert lines[0][2] == "01" and lines[0][5] == "acknowledged"
+    form = programs.run("ics-309", "net.log")
+    assert "01     Q1B        ack     one{01}" in form and "Messages: 4" in form
+    table = programs.lines("messages", "net.log")
+    assert len(table) == 8
+    first = dict(zip(table[0], table[1]))
+    assert first["class"] == "message" and first["gate"] == "Q1GATE-10"
+    assert first["outcome_moment"] == "2024-06-21T18:00:09.000Z"
+
+
+def test_an_older_program_has_fewer_columns(programs: Programs, tmp_path: pathlib.Path) -> None:
+    programs.say(message("18:00", "Q1A", "Q1B", "one", id="7", state="acknowledged"))
+    path = tmp_path / "messages.tsv"
+    old = [line.split("\t")[:9] for line in path.read_text().splitlines()]
+    path.write_text("".join("\t".join(line) + "\n" for line in old))
+    assert "7      Q1B        ack     one" in programs.run("ics-309", "net.log")

@@ -4,6 +4,7 @@ import http.client
 import json
 import os
 import pathlib
+import re
 import shutil
 import signal
 import socket
@@ -24,6 +25,7 @@ POLICY = "default-src 'none'"
 PAGE = f'<!DOCTYPE html><meta http-equiv="Content-Security-Policy" content="{POLICY}">page'
 DAY = time.strftime("%Y-%m-%d", time.gmtime())
 RECEIVERS = ["HILL", "COAST"]
+HEAD = re.compile(r"(?P<name>.+) (?P<begin>\d+) \d+\n")  # of an event with lines
 
 
 def line(number: int, name: str = "HILL", day: str = DAY) -> bytes:
@@ -204,10 +206,12 @@ class Listener:
             self.files.pop(data[0].decode().strip(), None)
         if kind != "lines":
             return
-        name, begin, _ = data[0].decode().rsplit(" ", 2)
+        head = HEAD.fullmatch(data[0].decode())
+        assert head, data[0]
+        name, begin = head["name"], int(head["begin"])
         had, octets = self.files.setdefault(name, bytearray()), b"".join(data[1:])
-        over = len(had) - int(begin)
-        if over < 0 or had[int(begin):] != octets[:over]:
+        over = len(had) - begin
+        if over < 0 or had[begin:] != octets[:over]:
             self.misfits += 1
             del self.files[name]
         else:

@@ -8,6 +8,8 @@ import pytest
 from hypothesis import given
 from hypothesis import strategies as st
 
+from aprsbook_tools.commands.page import with_desks
+from aprsbook_tools.reports.roster import read_roster
 from aprsbook_tools.serving import entries
 from aprsbook_tools.serving.entries import Journals, entry_in, refusal, spelling
 
@@ -106,3 +108,19 @@ def test_journals_of_a_folder(tmp_path: pathlib.Path) -> None:
         assert others == 2
     with pytest.raises(Exception, match="no such folder"):
         entries.read(str(tmp_path / "none"))
+
+
+def test_a_page_of_an_event_carries_the_journal() -> None:
+    its = [spelling({**LINE, "desk": "GATE", "time": "1718992800500"}),
+           entry(2, "name", call="Q1A", name='The "Lead",\nnow'),
+           entry(3, "name", call="?", name="x"), entry(4, "dealt", alarm="17 Q1A", note="car")]
+    journals = entries.Journals(it for it in map(entry_in, its) if it is not None)
+    given = {"title": "Race", "roster": "call;name\nQ1B;Sweep\nQ1A;Runner 1\n"}
+    data = with_desks(given, journals)
+    assert data["lines"] == [{"at": 1718992800.5, "from": "Gate 1", "to": "NET", "id": "1",
+                              "text": LINE["text"], "desk": "GATE"}]
+    assert len(data["marks"].split("\n")) == 4 and '"alarm":"17 Q1A"' in data["marks"]
+    roster = read_roster(data["roster"])
+    assert not roster.faults and roster.name_of("Q1B") == "Sweep"
+    assert roster.name_of("Q1A") == 'The "Lead", now' and len(roster.expected) == 2
+    assert with_desks(given, entries.Journals([]))["roster"] == given["roster"]

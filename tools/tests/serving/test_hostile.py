@@ -1,14 +1,17 @@
 """Who means harm to a net that is served: paths, hosts, origins, floods, replays, smuggled requests
 and what is too large. Nobody else is held up."""
+import contextlib
 import http.client
+import json
 import pathlib
+import random
 import socket
 import time
 from typing import Any, Dict, Iterator, List
 
 import pytest
 
-from aprsbook_tools.serving import signing
+from aprsbook_tools.serving import entries, signing
 from conftest import wait_for
 from served import DAY, Served, line, serving
 
@@ -98,6 +101,59 @@ def test_smuggled_requests(net: Served, more: List[str], body: bytes) -> None:
     assert net.ask("GET", "/who", token="GUEST").status == 200
 
 
+@pytest.mark.parametrize("octets", [
+    b"OPTIONS * HTTP/1.1\r\nHost: %s\r\n\r\n",
+    b"CONNECT evil.example:443 HTTP/1.1\r\nHost: evil.example:443\r\n\r\n",
+    b"TRACE /who HTTP/1.1\r\nHost: %s\r\n\r\n",
+    b"PUT /logs/x HTTP/1.1\r\nHost: %s\r\nContent-Length: 1\r\n\r\nx",
+    b"DELETE /logs.txt HTTP/1.1\r\nHost: %s\r\n\r\n",
+    b"GET http://evil.example/who HTTP/1.1\r\nHost: %s\r\n\r\n",
+    b"GET /who HTTP/1.0\r\n\r\n",
+    b"GET /who\r\n\r\n",
+    b"PRI * HTTP/2.0\r\n\r\nSM\r\n\r\n",
+    b"GET /events HTTP/1.1\r\nHost: %s\r\nConnection: Upgrade\r\nUpgrade: websocket\r\n\r\n",
+    b"GET /who HTTP/1.1\r\nHost: %s\r\nX: a\r\n folded: b\r\n\r\n",
+    b"GET /who HTTP/1.1\nHost: %s\n\n",
+    b"GET /who HTTP/1.1\r\nHost: %s\r\nCookie: aprs-net=desk.BASE.99999999999." + b"0" * 64
+    + b"\r\n\r\n",
+    b"GET /who HTTP/1.1\r\nHost: %s\r\nAuthorization: Aprs-Mark " + b"0" * 32 + b":" + b"0" * 64
+    + b"\r\n\r\n",
+    b"\x16\x03\x01\x02\x00\x01\x00\x01\xfc\x03\x03" + bytes(500),
+])
+def test_requests_that_no_page_makes(net: Served, octets: bytes) -> None:
+    before = net.log()
+    said = raw(net, octets.replace(b"%s", b"127.0.0.1:%d" % net.port), .3)
+    assert b" 200 " not in said and b'"kind"' not in said, said
+    assert net.ask("GET", "/who", token="GUEST").status == 200 and net.log() == before
+
+
+def test_requests_of_any_bytes(net: Served) -> None:
+    """Good requests in which bytes are changed, doubled or left out; who has no token gets nothing
+    by them, and nothing is written."""
+    chance, before = random.Random(89), net.log()
+    good = [head(net, "GET", "/events?once=1", token="GUEST").replace(
+        net.tokens["GUEST"].encode(), b"x" * 32),
+        head(net, "POST", f"/push/HILL/{DAY}", f"Content-Length: {len(line(5))}", token="HILL"
+             ).replace(net.tokens["HILL"].encode(), b"x" * 32) + line(5)]
+    for _ in range(150):
+        octets = bytearray(chance.choice(good))
+        for _ in range(chance.randrange(1, 6)):
+            at = chance.randrange(len(octets))
+            octets[at:at + chance.randrange(3)] = chance.choice(
+                [b"\r\n", b"\0", b"\xff", b" ", b":", b"", octets[:at], bytes([octets[at] ^ 1])])
+        said = raw(net, bytes(octets), .05)
+        assert b"200 OK" not in said, (octets, said)
+    assert net.ask("GET", "/who", token="GUEST").status == 200 and net.log() == before
+
+
+def test_places_that_no_listener_has(net: Served) -> None:
+    for have in ("x:9", f"{DAY}/HILL.log:999999999999999", f"{DAY}/HILL.log:-1", "%ff:1", ":",
+                 "&have=".join([f"{DAY}/HILL.log:3"] * 2000)):
+        answer = net.ask("GET", f"/events?once=1&have={have}", token="GUEST")
+        assert answer.status in (200, 400)
+    assert net.ask("GET", "/who", token="GUEST").status == 200
+
+
 def test_header_lines_cannot_be_put_in(net: Served) -> None:
     for path in (f"/events?once=1&have={DAY}/HILL.log%0d%0aevent:%20x:3", "/logs/%0d%0aX:%20y"):
         answer = net.ask("GET", path, token="GUEST")
@@ -149,6 +205,37 @@ def test_lines_that_are_too_long_or_too_many(net: Served) -> None:
     assert net.push(line(3), Aprs_After="x").status == 400
 
 
+@pytest.mark.parametrize("change, why", [
+    ('"at":NaN', "Moment"), ('"at":1e400', "Spelling"), ('"at":true', "Moment"),
+    ('"at":-1', "Moment"), ('"at":' + "9" * 200_000, "NoObject"),
+    ('"at":' + "[" * 100_000, "NoObject"), ('"at":1,"at":2', "Spelling"),
+    ('"at":"1"', "Moment"), ('"at":1.0', "Moment"), ('"at":Infinity', "Moment"),
+], ids=range(10))
+def test_entries_that_are_none(net: Served, change: str, why: str) -> None:
+    good = json.dumps({"at": 1, "call": "Q1A", "desk": "BASE", "id": "0" * 32, "kind": "note",
+                       "text": "x"}, sort_keys=True, separators=(",", ":"))
+    entry = good.replace('"at":1', change)
+    answer = net.ask("POST", "/desks/BASE", entry.encode() + b"\n", "BASE",
+                     Content_Type=JSON_LINES)
+    assert [it[1] for it in answer.says["refused"]] == [why] and answer.says["added"] == 0
+
+
+def test_half_a_letter_is_no_text(net: Served, tmp_path: pathlib.Path) -> None:
+    entry = {"at": 1, "desk": "GATE", "from": "A", "id": "0" * 32, "kind": "line", "number": "",
+             "text": "\ud83d", "time": "1", "to": "B"}
+    it = json.dumps(entry, sort_keys=True, separators=(",", ":")).encode()
+    answer = net.ask("POST", "/desks/GATE", it + b"\n", "GATE", Content_Type=JSON_LINES)
+    assert [of[1] for of in answer.says["refused"]] == ["Text"]
+    # such a line of before, and what a spreadsheet or a terminal would take amiss
+    texts = ["\U0001f600", "=1+1", "a\nb\0\x1b[2J\u202e"]
+    lines = [json.dumps({**entry, "id": f"{k:032x}", "text": text}, sort_keys=True,
+                        separators=(",", ":")) for k, text in enumerate(["\ud83d", *texts])]
+    (tmp_path / "desks").mkdir()
+    (tmp_path / "desks" / "GATE.jsonl").write_text("".join(f"{it}\n" for it in lines))
+    journals, others = entries.read(str(tmp_path))
+    assert [it.text for it in journals.lines] == sorted(texts) and others == 1
+
+
 def test_idle_connections_do_not_keep_others_out(net: Served) -> None:
     idle = [socket.create_connection(("127.0.0.1", net.port)) for _ in range(120)]
     begun = time.monotonic()
@@ -156,6 +243,37 @@ def test_idle_connections_do_not_keep_others_out(net: Served) -> None:
     assert time.monotonic() - begun < 5
     for it in idle:
         it.close()
+
+
+def test_bodies_of_strangers_take_no_memory(tmp_path: pathlib.Path) -> None:
+    with serving(tmp_path) as net, contextlib.ExitStack() as stack:
+        assert net.process
+        status = pathlib.Path(f"/proc/{net.process.pid}/status")
+        before = memory_in(status)
+        begin = (f"POST /push/HILL/{DAY} HTTP/1.1\r\nHost: 127.0.0.1:{net.port}\r\n"
+                 "Content-Length: 1048576\r\n\r\n").encode() + b"x" * 1_048_000
+        for _ in range(150):
+            it = stack.enter_context(socket.create_connection(("127.0.0.1", net.port), timeout=5))
+            with contextlib.suppress(OSError):
+                it.sendall(begin)
+        assert net.ask("GET", "/who", token="GUEST").status == 200
+        assert memory_in(status) - before < 60
+        # who has shown a token goes on, however large what it sends is
+        known = http.client.HTTPConnection("127.0.0.1", net.port, timeout=20)
+        known.request("GET", "/states/HILL",
+                      headers={"Authorization": f"Bearer {net.tokens['HILL']}"})
+        assert known.getresponse().read()
+        lines = [line(number) for number in range(20_000)]
+        known.request("POST", f"/push/HILL/{DAY}", b"".join(lines),
+                      {"Authorization": f"Bearer {net.tokens['HILL']}"})
+        assert json.loads(known.getresponse().read())["added"] == 20_000
+        known.close()
+
+
+def memory_in(status: pathlib.Path) -> float:
+    """MiB that a process has."""
+    [size] = [it.split()[1] for it in status.read_text().splitlines() if it.startswith("VmRSS")]
+    return int(size) / 1024
 
 
 def test_a_listener_that_reads_nothing(net: Served) -> None:

@@ -140,8 +140,9 @@ def test_what_was_acknowledged_outlives_power_failures(
 
 async def add_some(it: Store, chance: random.Random, acknowledged: Dict[str, List[bytes]]) -> None:
     names = [f"{day_of(chance.randrange(2))}/RX{chance.randrange(3)}.log" for _ in range(3)]
-    lines = [[b"%d %s" % (chance.getrandbits(60), b"x" * chance.choice([1, 30, 2000]))
-              for _ in range(chance.randrange(4))] for _ in names]
+    lines = [[b"2024-06-21T18:00:00.000Z RX %016x%s" % (
+        chance.getrandbits(60), b"78" * chance.choice([1, 30, 2000]))
+        for _ in range(chance.randrange(4))] for _ in names]
     it.judging.rest = it.writing.rest = 0
     await asyncio.gather(*(it.add(it.file(name), Batch(its)) for name, its in zip(names, lines)))
     for name, its in zip(names, lines):

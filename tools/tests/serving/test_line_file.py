@@ -12,6 +12,8 @@ from aprsbook_tools.serving.states import EMPTY, State
 
 SAID: List[str] = []
 MOST = 1 << 20
+A, B, C, D, E, X, Y, Z = (b"2024-06-21T18:00:00.000Z HILL c000%02xc0" % it for it in b"abcdexyz")
+SIZE = len(A) + 1  # with its line feed
 
 
 def file_in(folder: pathlib.Path, most: int = MOST) -> LineFile:
@@ -30,58 +32,60 @@ def lines_in(it: LineFile) -> List[bytes]:
 
 def test_lines_are_there_once(tmp_path: pathlib.Path) -> None:
     it = file_in(tmp_path)
-    first, second = add(it, Batch([b"a", b"b"]), Batch([b"b", b"c", b"c"]))
+    first, second = add(it, Batch([A, B]), Batch([B, C, C]))
     assert (first.added, first.known) == (2, 0)
     assert (second.added, second.known) == (1, 2)
-    assert lines_in(it) == [b"a", b"b", b"c"]
+    assert lines_in(it) == [A, B, C]
     assert it.look() == second.state == file_in(tmp_path).look()
 
 
 def test_what_is_for_another_state_is_refused(tmp_path: pathlib.Path) -> None:
     it = file_in(tmp_path)
-    [taken] = add(it, Batch([b"a"], EMPTY))
-    assert taken == Taken(EMPTY.plus(b"a"), 1)
-    late, right = add(it, Batch([b"b"], EMPTY), Batch([b"b"], taken.state))
+    [taken] = add(it, Batch([A], EMPTY))
+    assert taken == Taken(EMPTY.plus(A), 1)
+    late, right = add(it, Batch([B], EMPTY), Batch([B], taken.state))
     assert not late.fits and late.state == taken.state
-    assert right.fits and lines_in(it) == [b"a", b"b"]
+    assert right.fits and lines_in(it) == [A, B]
 
 
 def test_a_file_that_is_full(tmp_path: pathlib.Path) -> None:
-    it = file_in(tmp_path, 10)
-    add(it, Batch([b"1234567"]))
+    it = file_in(tmp_path, 2 * SIZE - 1)
+    add(it, Batch([A]))
     with pytest.raises(OSError) as fault:
-        add(it, Batch([b"abc"]))
+        add(it, Batch([B]))
     assert fault.value.errno == errno.EDQUOT
-    assert lines_in(it) == [b"1234567"] and it.look() == EMPTY.plus(b"1234567")
-    assert add(it, Batch([b"1234567"]))[0].known == 1
+    assert lines_in(it) == [A] and it.look() == EMPTY.plus(A)
+    assert add(it, Batch([A]))[0].known == 1
+    it.most += 1
+    assert add(it, Batch([B]))[0].added == 1
 
 
 def test_another_program_writes_it_too(tmp_path: pathlib.Path) -> None:
     it = file_in(tmp_path)
-    add(it, Batch([b"a"]))
+    add(it, Batch([A]))
     path = pathlib.Path(it.path)
-    path.write_bytes(path.read_bytes() + b"b\ntorn")
-    assert it.look() == EMPTY.plus(b"a").plus(b"b")
-    [taken] = add(it, Batch([b"b", b"c"]))
+    path.write_bytes(path.read_bytes() + B + b"\ntorn")
+    assert it.look() == EMPTY.plus(A).plus(B)
+    [taken] = add(it, Batch([B, C]))
     assert (taken.added, taken.known) == (1, 1)
-    assert lines_in(it) == [b"a", b"b", b"c"]
+    assert lines_in(it) == [A, B, C]
     other = path.with_name("new")  # as rsync does: another file of the same size
-    other.write_bytes(b"x\ny\nz\n")
+    other.write_bytes(b"\n".join([X, Y, Z, b""]))
     other.replace(path)
-    assert it.look() == EMPTY.plus(b"x").plus(b"y").plus(b"z")
+    assert it.look() == EMPTY.plus(X).plus(Y).plus(Z)
 
 
 def test_a_fault_leaves_what_is_known_in_doubt(tmp_path: pathlib.Path) -> None:
     it = file_in(tmp_path)
-    add(it, Batch([b"a"]))
+    add(it, Batch([A]))
     with pytest.raises(ZeroDivisionError):
-        with it.adding([Batch([b"b"])], SAID.append):
+        with it.adding([Batch([B])], SAID.append):
             raise ZeroDivisionError
-    assert it.look() == EMPTY.plus(b"a")
-    assert add(it, Batch([b"b"]))[0].added == 1
+    assert it.look() == EMPTY.plus(A)
+    assert add(it, Batch([B]))[0].added == 1
 
 
-@given(st.lists(st.tuples(st.lists(st.sampled_from([b"a", b"b", b"c", b"d", b"e"]), max_size=4),
+@given(st.lists(st.tuples(st.lists(st.sampled_from([A, B, C, D, E]), max_size=4),
                           st.integers(0, 4)), max_size=8))
 def test_any_batches_make_their_union(tmp_path_factory: pytest.TempPathFactory,
                                       batches: List[Tuple[List[bytes], int]]) -> None:

@@ -1,4 +1,5 @@
 """A net that is served: sites that push, pages that listen, desks that write."""
+import fcntl
 import http.client
 import json
 import pathlib
@@ -14,11 +15,14 @@ from conftest import started, tried, wait_for
 from served import DAY, POLICY, Listener, Served, line, serving
 
 JSON_LINES = "application/x-ndjson"
+TILES = b"PMTiles\3" + bytes(range(256)) * 4096
 
 
 @pytest.fixture(scope="module")
 def net(tmp_path_factory: pytest.TempPathFactory) -> Iterator[Served]:
-    with serving(tmp_path_factory.mktemp("net"), "--title", "Fell race") as it:
+    folder = tmp_path_factory.mktemp("net")
+    (folder / "lakes.pmtiles").write_bytes(TILES)
+    with serving(folder, "--title", "Fell race", "--tiles", folder / "lakes.pmtiles") as it:
         yield it
 
 
@@ -103,6 +107,17 @@ def test_ranges(net: Served) -> None:
     assert f"logs/{DAY}/HILL.log\n" in net.ask("GET", "/logs.txt", token="GUEST").body.decode()
 
 
+def test_a_map_is_handed_out_by_slices(net: Served) -> None:
+    assert net.ask("GET", "/who", token="GATE").says["net"]["tiles"] == ["lakes.pmtiles"]
+    head = net.ask("HEAD", "/tiles/lakes.pmtiles", token="GATE")
+    assert head.headers["Content-Length"] == str(len(TILES))
+    part = net.ask("GET", "/tiles/lakes.pmtiles", token="GATE", Range="bytes=8-1007")
+    assert part.status == 206 and part.body == TILES[8:1008]
+    assert net.ask("GET", "/tiles/lakes.pmtiles", token="HILL").status == 403
+    for path in ("/tiles/tokens", "/tiles/../tokens", "/tiles/%2e%2e/tokens", "/tiles/"):
+        assert net.ask("GET", path, token="GATE").status == 404
+
+
 def test_desks_write_journals(net: Served) -> None:
     taken = net.ask("POST", "/desks/BASE", entry(1, "BASE") * 2 + entry(2, "GATE"), "BASE",
                     Content_Type=JSON_LINES)
@@ -114,6 +129,17 @@ def test_desks_write_journals(net: Served) -> None:
     assert bytes(listener.files["desks/GATE.jsonl"]) == entry(3, "GATE")
     state = net.ask("GET", "/desks/BASE", token="BASE").says["state"]
     assert state == taken.says["state"]
+
+
+def test_a_long_entry_comes_to_all(net: Served) -> None:
+    course = spelling({"at": 1, "desk": "GATE", "id": f"{90:032x}", "kind": "setting",
+                       "name": "course", "value": "x" * 200_000}) + b"\n"
+    after = entry(91, "GATE")
+    assert net.ask("POST", "/desks/GATE", course + after, "GATE",
+                   Content_Type=JSON_LINES).says["added"] == 2
+    listener = Listener(net, "GUEST")
+    listener.listen(lambda: listener.files.get("desks/GATE.jsonl", b"").endswith(course + after))
+    assert listener.misfits == 0
 
 
 def test_who_may_do_what(net: Served) -> None:
@@ -165,6 +191,19 @@ def test_a_clock_that_is_wrong_is_told(net: Served) -> None:
     net.push(line(1, day="2098-01-01"), day="2098-01-01")
     listener.listen(lambda: listener.told["sites"]["HILL"]["day"] == "2098-01-01")
     assert "HILL has lines of 2098-01-01, which is to come" in net.said
+    # a clock that was never set: the lines that are heard now are of another day
+    for _ in range(2):
+        net.push(line(1, "COAST", "1970-01-01"), name="COAST", day="1970-01-01", Aprs_Clock="5000")
+    listener.listen(lambda: listener.told["sites"]["COAST"]["day"] == "1970-01-01")
+    assert "COAST has lines of 1970-01-01, which is today by its clock" in net.said
+    # a day that was missed is none of this
+    net.push(line(1, day="2020-01-01"), day="2020-01-01", Aprs_Clock=str(int(1000 * time.time())))
+    # and what others write here, as rsync
+    (net.logs / "site" / "2097-05-06").mkdir(parents=True)
+    (net.logs / "site" / "2097-05-06" / "FAR.log").write_bytes(line(1, "FAR", "2097-05-06"))
+    listener.listen(lambda: "FAR" in listener.told["sites"], 40)
+    assert listener.told["sites"]["FAR"]["day"] == "2097-05-06"
+    assert "2020-01-01" not in net.said and net.said.count("which is to come") == 2
     assert f"logs/{DAY}" in net.ask("GET", "/logs.txt", token="GUEST").body.decode()
 
 
@@ -261,7 +300,15 @@ def test_it_logs_tncs_and_ends_well(tmp_path: pathlib.Path) -> None:
             assert net.ask("GET", "/").status == 302
             assert "the page is at http://127.0.0.1" in net.said
             assert "anybody of this machine may do all" in net.said
+            log = net.logs / DAY / "RX1.log"
+            with open(log, "ab") as held:  # a write that waits, as for a slow disk
+                fcntl.flock(held, fcntl.LOCK_EX)
+                connection.sendall(b"".join(b"\xc0" + kiss.wrap(b"frame %d" % k)
+                                            for k in range(300)))
+                wait_for(lambda: "another program holds its lock" in net.said, "the wait")
+                assert net.ask("GET", "/who").status == 200
             assert net.end() == 0
+            assert len(net.log("RX1")) == 301
 
 
 def test_two_servers_of_one_folder(tmp_path: pathlib.Path) -> None:
@@ -281,6 +328,8 @@ def test_two_servers_of_one_folder(tmp_path: pathlib.Path) -> None:
     (["--tnc", "localhost:8001"], "no =NAME", 2),
     (["--tls", "none", "none"], "none", 1),
     (["--page", "none.html"], "none.html", 1),
+    (["--tiles", "none.pmtiles"], "none.pmtiles", 1),
+    (["--tiles", __file__], "no PMTiles and no MBTiles", 1),
     (["--tokens", "none"], "none", 1),
 ])
 def test_what_it_refuses(tmp_path: pathlib.Path, options: "list[str]", words: str,

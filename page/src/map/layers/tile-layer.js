@@ -77,6 +77,10 @@ export class TileLayer {
     this.archives = new Map();
     /** @type {Map<string, ImageBitmap | null>} */
     this.made = new Map();
+    /** @type {Set<string>} tiles that are there, and can't be drawn */
+    this.damaged = new Set();
+    /** Is called where such a tile is found. */
+    this.onDamage = () => {};
     this.least = 99;
     this.most = 0;
   }
@@ -89,6 +93,7 @@ export class TileLayer {
     this.blobs.set(key, blob);
     // where it wasn't there before, that was kept too
     this.made.delete(key);
+    this.damaged.delete(key);
     this.widen(z, z);
   }
   /**
@@ -98,6 +103,7 @@ export class TileLayer {
   open(name, archive) {
     this.archives.set(name, archive);
     this.made.clear();
+    this.damaged.clear();
     this.widen(archive.least, archive.most);
   }
   /**
@@ -107,6 +113,12 @@ export class TileLayer {
   carry(tiles) {
     if (tiles === this.carried) return;
     this.carried = tiles;
+    this.made.clear();
+    this.levels();
+  }
+  /** @param {string} name */
+  close(name) {
+    this.archives.delete(name);
     this.made.clear();
     this.levels();
   }
@@ -133,6 +145,7 @@ export class TileLayer {
     this.blobs.clear();
     this.archives.clear();
     this.made.clear();
+    this.damaged.clear();
     this.levels();
   }
   /**
@@ -159,13 +172,24 @@ export class TileLayer {
     made.set(key, got ?? null);
     if (got !== undefined) return got;
     if (made.size > KEPT) made.delete([...made.keys()][0]);
-    // a tile that can't be read or drawn is as one that isn't there
-    this.find(key).then(blob => blob && createImageBitmap(blob)).then(it => {
+    this.unpack(key).then(it => {
       if (!it || !made.has(key)) return;
       made.set(key, it);
       again();
-    }, () => {});
+    }, () => {
+      // it is as one that isn't there
+      this.damaged.add(key);
+      this.onDamage();
+    });
     return null;
+  }
+  /**
+   * The picture of a tile, or null where there is none; fails where it can't be read or drawn.
+   * @param {string} key
+   */
+  async unpack(key) {
+    const blob = await this.find(key);
+    return blob && createImageBitmap(blob);
   }
   /**
    * The size of the tiles that fits a view; none where the view is too wide.

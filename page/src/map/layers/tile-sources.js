@@ -25,6 +25,7 @@ export class TileSources {
    */
   constructor({ tiles, images }, { tell, paintSoon }) {
     this.tiles = tiles;
+    tiles.onDamage = () => this.show();
     this.images = images;
     this.tell = tell;
     this.paintSoon = paintSoon;
@@ -39,26 +40,44 @@ export class TileSources {
    * @param {File} file
    */
   async take(file) {
+    if (await this.open(file.name, file)) return true;
+    const head = new Uint8Array(await file.slice(0, 16).arrayBuffer());
+    if (isPicture(head)) return this.wait(file);
+    if (!WORLD.test(file.name)) return false;
+    this.takeWorld(stemOf(file.name), await file.slice(0, 1000).text());
+    this.show();
+    return true;
+  }
+  /**
+   * Opens an archive of tiles; says whether it is one.
+   * @param {string} name
+   * @param {import("../../formats/sliced.js").Sliced} file
+   */
+  async open(name, file) {
     const head = new Uint8Array(await file.slice(0, 16).arrayBuffer());
     const begin = String.fromCharCode(...head);
-    if (begin.startsWith("PMTiles")) this.tiles.open(file.name, await openPmtiles(file));
-    else if (begin.startsWith("SQLite format 3"))
-      this.tiles.open(file.name, await openMbtiles(file));
-    else if (isPicture(head)) return this.wait(file);
-    else if (WORLD.test(file.name))
-      this.takeWorld(stemOf(file.name), await file.slice(0, 1000).text());
+    if (begin.startsWith("PMTiles")) this.tiles.open(name, await openPmtiles(file));
+    else if (begin.startsWith("SQLite format 3")) this.tiles.open(name, await openMbtiles(file));
     else return false;
     this.show();
     return true;
   }
   /**
-   * Takes a picture, whose corners its world file has, or which are asked for; says whether it is
-   * one that can be drawn.
+   * Takes an archive away.
+   * @param {string} name
+   */
+  close(name) {
+    this.tiles.close(name);
+    this.show();
+  }
+  /**
+   * Takes a picture, whose corners its world file has, or which are asked for.
    * @param {File} file
    */
   async wait(file) {
-    const picture = await createImageBitmap(file).catch(() => null);
-    if (!picture) return false;
+    const picture = await createImageBitmap(file).catch(() => {
+      throw new Error("this browser can\u2019t unpack it, which is damaged or too large");
+    });
     const stem = stemOf(file.name), world = this.worlds.get(stem);
     this.worlds.delete(stem);
     this.ask({ name: printable(file.name), stem, picture });
@@ -131,8 +150,10 @@ export class TileSources {
   show() {
     const { tiles, images } = this;
     const names = [...tiles.archives.keys(), ...images.all.map(it => it.name)].map(printable);
-    if (tiles.size) names.push(count(tiles.size, "square"));
-    byId("own-map").textContent = names.length ? `Own map: ${names.join(", ")}.` : "";
+    if (tiles.size) names.push(count(tiles.size, "tile"));
+    const own = names.length ? `Own map: ${names.join(", ")}.` : "", { size } = tiles.damaged;
+    byId("own-map").textContent = size && own
+      ? `${own} ${count(size, "tile")} of it can\u2019t be drawn, being no picture.` : own;
     this.paintSoon();
   }
 }

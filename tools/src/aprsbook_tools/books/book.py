@@ -16,7 +16,7 @@ import tempfile
 from typing import Any, Callable, Dict, Iterator, List, Optional, Sequence
 
 from aprsbook_tools import progress
-from aprsbook_tools.books import building, executors, inputs, jobs, mending
+from aprsbook_tools.books import bases, building, executors, inputs, jobs, mending
 from aprsbook_tools.books.building import MOST, Plan
 from aprsbook_tools.books.chunks import MEGABYTE
 from aprsbook_tools.books.executors import Engine
@@ -120,15 +120,16 @@ def remembered(path: str) -> Dict[str, Any]:
             return {}
     except (OSError, ValueError, RecursionError):
         return {}
-    stamps, sums = found.get("inputs"), found.get("sums")
-    if not isinstance(stamps, dict) or not isinstance(sums, dict):
+    stamps, sums, has = found.get("inputs"), found.get("sums"), found.get("has", [])
+    if not isinstance(stamps, dict) or not isinstance(sums, dict) or not isinstance(has, list):
         return {}
     is_sound = all(map(is_stamp, stamps.values())) and all(type(it) is int for it in sums.values())
-    return found if is_sound else {}
+    return found if is_sound and all(isinstance(it, str) for it in has) else {}
 
 
 def remember(path: str, made: Dict[str, Any], before: Dict[str, Any], say: Say) -> None:
-    """Writes down of what a book was made, with the checksums of the inputs."""
+    """Writes down of what a book was made, with the checksums of the inputs. `made` may have the
+    labels of books that it has taken, to which others may be news."""
     sums, old = {}, before.get("inputs", {})
     for name, stamp in made["inputs"].items():
         known = before.get("sums", {}).get(name) if old.get(name) == stamp else None
@@ -156,6 +157,18 @@ def say_what_is_gone(path: str, before: Dict[str, Any], items: Sequence[Input], 
                 and is_changed(name, size, before.get("sums", {}).get(name)):
             say(f"{name} was changed, not only added to: what {path} has of it stays, until it is "
                 "made --anew")
+
+
+def say_what_lacks_its_base(path: str, has: Sequence[str], items: Sequence[Input], say: Say
+                            ) -> List[str]:
+    """Names inputs that are news to a book that isn't there. The result are the labels of books
+    that are: those that were before, and those of the inputs."""
+    known = set(has)
+    own = [inputs.look_at(path)] if os.path.isfile(path) else []
+    for name in bases.without_base([*items, *own], known):
+        say(f"{name} is news to a book that is neither {path} nor an input: rows may be missing, "
+            "until what was sent before it comes")
+    return sorted(known)
 
 
 def is_changed(path: str, size: int, known: Optional[int]) -> bool:
@@ -234,6 +247,7 @@ def make_locked(path: str, items: Sequence[Input], wish: Wish, say: Say) -> bool
     items = usable(items, pass_over if wish.pass_over else leave_out)
     if wish.noted and not wish.anew:
         say_what_is_gone(path, before, items, say)
+    has = say_what_lacks_its_base(path, [] if wish.anew else before.get("has", []), items, say)
     with work_folder(path, wish, gap, items) as folder:
         plan = Plan(gap, folder, wish.piece, wish.most)
         books = books_of(plan, items, wish, pass_over if wish.pass_over else leave_out)
@@ -254,7 +268,7 @@ def make_locked(path: str, items: Sequence[Input], wish: Wish, say: Say) -> bool
                     building.write_book(plan, books, new.file)
     wish.left += [] if wish.pass_over else passed
     if wish.noted and not passed:
-        remember(path, made, before, say)
+        remember(path, {**made, "has": has}, before, say)
     say_what_is_large(path, say)
     return new.changed
 

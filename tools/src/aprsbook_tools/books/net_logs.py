@@ -1,13 +1,15 @@
 """The logs of a net that runs: whole lines alone, and what was left out in words."""
 import argparse
+import contextlib
 import datetime
 import gzip
+import io
 import lzma
 import os
 import re
 import zlib
 from dataclasses import dataclass, field
-from typing import Iterator, List, Sequence, Tuple
+from typing import Iterator, List, Mapping, Sequence, Tuple
 
 from aprsbook_tools.books import inputs
 from aprsbook_tools.errors import ExitStatus, Fault
@@ -112,6 +114,19 @@ def whole_lines(octets: bytes) -> Tuple[bytes, int, bool]:
     kept = inputs.whole_lines(octets)
     is_unended = bool(octets) and not octets.endswith(b"\n")
     return b"".join(kept), octets.count(b"\n") - len(kept), is_unended
+
+
+def put_right(log: bytes, ahead: Mapping[str, float]) -> bytes:
+    """A log whose lines are whole, with the moments of receivers whose clocks are so many seconds
+    ahead put right, to the second."""
+    def lines() -> Iterator[bytes]:
+        for line in io.BytesIO(log):
+            read = log_file.read_whole(line)
+            if read is not None and read.receiver in ahead:
+                with contextlib.suppress(ValueError):  # before 1970 or after 2099
+                    line = log_file.moved(line, read, -round(ahead[read.receiver]))
+            yield line
+    return b"".join(lines())
 
 
 def gather(folder: str, days: List[str]) -> Gathered:

@@ -1,41 +1,12 @@
 """What an old book lacks of logs and books, as a book, for whoever has the old one."""
-import hashlib
 import os
-from typing import NamedTuple, Optional, Sequence
+from typing import Optional, Sequence
 
-from aprsbook_tools.books import book, inputs
+from aprsbook_tools.books import bases, book, inputs
 from aprsbook_tools.books.building import Plan
 from aprsbook_tools.books.inputs import Input
 from aprsbook_tools.errors import ExitStatus, Fault
 from aprsbook_tools.system import atomic, programs
-
-BLOCK = 1 << 20  # bytes that are read at a time
-
-
-class Base(NamedTuple):
-    """What news are made against: the number of a book's rows, and the SHA-256 sum of its file."""
-    rows: int
-    digest: str
-
-
-def base_of(path: str) -> Base:
-    """The rows and the digest of a book file."""
-    digest, lines = hashlib.sha256(), 0
-    try:
-        with open(path, "rb") as file:
-            for block in iter(lambda: file.read(BLOCK), b""):
-                digest.update(block)
-                lines += block.count(b"\n")
-    except OSError as fault:
-        raise Fault(f"{path}: {fault.strerror}") from fault
-    return Base(max(0, lines - 2), digest.hexdigest())
-
-
-def name_of(old: str, base: Base) -> str:
-    """The file's name where none is given: it says what the news were made against."""
-    stem = os.path.basename(old)
-    stem = stem[:-len(".book")] if stem.endswith(".book") else stem
-    return f"{stem}-news-{base.rows}-{base.digest[:12]}.book"
 
 
 def gap_for(old: str, wish: book.Wish) -> int:
@@ -56,8 +27,8 @@ def make(path: Optional[str], old: str, items: Sequence[Input], wish: book.Wish,
          say: book.Say) -> str:
     """A file becomes the book of those rows of the inputs' book that the old one lacks, written
     whole or not at all. Its path is the result."""
-    gap, base = gap_for(old, wish), base_of(old)
-    path = path or name_of(old, base)
+    gap, base = gap_for(old, wish), bases.base_of(old)
+    path = path or bases.name_of(old, base)
     atomic.check(path, [old, *(it.path for it in items)])
 
     def pass_over(name: str, why: str) -> None:
@@ -70,6 +41,6 @@ def make(path: Optional[str], old: str, items: Sequence[Input], wish: book.Wish,
         program = ["aprsbook-fold", "--new-to", old]
         with atomic.writing(path, [old]) as new:
             programs.write_book(new.file, *programs.with_gap(program, gap, books or [old]))
-            if base_of(old) != base:
+            if bases.base_of(old) != base:
                 raise Fault(f"{old} has changed meanwhile: make the news of it again")
     return path

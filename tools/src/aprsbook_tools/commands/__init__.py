@@ -13,6 +13,7 @@ GROUPS: Dict[str, Dict[str, str]] = {
     },
     "Books": {
         "book": "make a book of logs and books, and keep it up to date",
+        "mail": "write what is new to each neighbour of a club",
         "sqlite": "make a database of SQLite with the tables of a book",
         "csv": "write a table of a book, or fields of your own, as CSV",
     },

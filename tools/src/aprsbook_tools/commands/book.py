@@ -4,7 +4,7 @@ import os
 from typing import List, Sequence
 
 from aprsbook_tools import arguments, stderr
-from aprsbook_tools.books import book, executors, inputs, merged_inputs, news
+from aprsbook_tools.books import bases, book, executors, inputs, merged_inputs, news
 from aprsbook_tools.books.chunks import MEGABYTE
 from aprsbook_tools.books.inputs import Input
 from aprsbook_tools.errors import ExitStatus, Fault
@@ -33,7 +33,7 @@ and the status is 1.
 
 With --news-to OLD all that is named are inputs, and what the book OLD lacks of them is written, as
 a book, for whoever has OLD: to -o FILE, or to one whose name says OLD's rows and digest. Who has
-another book than OLD may lack rows."""
+another book than OLD may lack rows, and `aprs-net book` says so, by that name, when it takes it."""
 
 
 EXAMPLES = [
@@ -117,7 +117,7 @@ def run_news(args: argparse.Namespace, wish: book.Wish) -> int:
     if not items and not args.pass_over:
         raise Fault(f"no logs and no books are in {' '.join(given)}")
     path = news.make(args.output, args.news_to, items, wish, say)
-    base = news.base_of(args.news_to)
+    base = bases.base_of(args.news_to)
     stderr.note(f"{path} is new to {args.news_to}: {base.rows} rows, sha256 {base.digest}")
     return 0
 

@@ -4,13 +4,12 @@ import re
 from dataclasses import dataclass
 from typing import Iterable, Iterator, List, Sequence, Tuple
 
-from aprsbook_tools import arguments, stderr, table_output
+from aprsbook_tools import arguments, table_output
 from aprsbook_tools.formats import moments
 from aprsbook_tools.formats.spreadsheet import Cell
-from aprsbook_tools.reports.alerts import state_of
 from aprsbook_tools.reports.roster import Expected, Roster, call_of, roster_of
 from aprsbook_tools.reports.table import Message
-from aprsbook_tools.serving import entries
+from aprsbook_tools.serving import desk_options
 from aprsbook_tools.serving.entries import Journals
 
 HEAD = ["time", "from", "number", "to", "message", "state"]
@@ -36,7 +35,9 @@ def station_of(text: str) -> Expected:
 DESCRIPTION = """\
 A line for each message at the moment when it was first heard (UTC): from whom, its number, to whom,
 whether it was acknowledged (ack), rejected (rej) or not answered (no ack), and its text. A message
-that was sent again under its number is one line. Without a format it is the form on paper."""
+that was sent again under its number within half an hour is one line. Messages and answers count
+that a gate passed to the air. Queries and definitions of telemetry are left out. Without a format
+it is the form on paper."""
 EXAMPLES = [
     ("the form of an evening", "aprs-net ics-309 --net 'Fell race' --from 18:00 logs"),
     ("what a station sent or got, for a spreadsheet",
@@ -49,12 +50,7 @@ def add_arguments(parser: argparse.ArgumentParser) -> None:
         "--station", type=station_of, metavar="CALL", help="those that this station sent or got"
     )
     parser.add_argument("--net", default="", metavar="NAME", help="the net's name, for the form")
-    parser.add_argument(
-        "--desks",
-        metavar="LOGS",
-        help="also what the desks of `aprs-net serve` have written down: voice traffic, and "
-        "tactical names",
-    )
+    desk_options.add_desks(parser, "voice traffic, and tactical names")
     table_output.add_arguments(parser)
 
 
@@ -67,19 +63,13 @@ def spoken(journals: Journals, args: argparse.Namespace) -> Iterator[Message]:
                          text=text, desk=it.desk)
 
 
-def named_by(journals: Journals, roster: Roster) -> Roster:
-    """A roster with the tactical names that desks gave."""
-    names = journals.names
-    others = [it for it in roster.expected if it.call not in names]
-    return Roster([*others, *(Expected(call, name) for call, name in names.items())])
-
-
 def chosen(messages: Sequence[Message], args: argparse.Namespace) -> List[Message]:
-    """The messages of a station, by their first moment."""
+    """The traffic of a station, by its first moment."""
 
     def is_asked(it: Message) -> bool:
         station = args.station
-        return station is None or station.is_of(it.source) or station.is_of(it.addressee)
+        return it.is_traffic and (
+            station is None or station.is_of(it.source) or station.is_of(it.addressee))
 
     return in_order(filter(is_asked, messages))
 
@@ -93,7 +83,8 @@ def table_of(messages: Sequence[Message], roster: Roster, has_desks: bool = Fals
              ) -> Tuple[List[str], List[List[Cell]]]:
     """The log as a table, with the state as the table has it, with desks and tactical names."""
     rows: List[List[Cell]] = [
-        [it.first, it.source, it.id, it.addressee, it.text, state_of(it)] for it in messages]
+        [it.first, it.source, it.said_number, it.addressee, it.text, it.final_state]
+        for it in messages]
     for row, it in zip(rows, messages):
         row += [getattr(it, DESK, "")] if has_desks else []
         row += [roster.name_of(of) for of in (it.source, it.addressee) if roster.has_names]
@@ -109,9 +100,9 @@ def form_of(messages: Sequence[Message], roster: Roster, net: str) -> str:
             [
                 time,
                 roster.said(it.source),
-                it.id,
+                it.said_number,
                 roster.said(it.addressee),
-                ANSWERS.get(state_of(it), ""),
+                ANSWERS.get(it.final_state, ""),
                 it.text,
             ]
         )
@@ -137,11 +128,9 @@ def run(args: argparse.Namespace) -> int:
     roster = roster_of(args.roster)
     messages = [*table_output.items_of(Message, args)]
     if args.desks is not None:
-        journals, others = entries.read(args.desks)
-        if others:
-            stderr.warn(f"{args.desks}: lines of desks that are no entries: {others}")
+        journals = desk_options.read(args.desks)
         messages += spoken(journals, args)
-        roster = named_by(journals, roster)
+        roster = desk_options.named_by(journals, roster)
     messages = chosen(messages, args)
     if args.format in (None, "text"):
         table_output.put_lines(args, [form_of(messages, roster, args.net)])

@@ -7,10 +7,11 @@ from aprsbook_tools.reports.roster import roster_of
 from aprsbook_tools.reports.table import Message
 
 DESCRIPTION = """\
-A line for each message: from whom, to whom, its number and text, its state (acknowledged, rejected,
-unanswered, unnumbered), when it was heard first and last, and the answer that decides its state. A
-message that was sent again under its number is one line. With a roster there are columns of
-tactical names."""
+A line for each message: from whom, to whom, its number and text, when it was heard first and last,
+by which gate it came, and its outcome by any answer (acknowledged, rejected, unanswered,
+unnumbered). The class says what it is: message, bulletin, announcement, weather-bulletin, query,
+telemetry or answer. A message that was sent again under its number within half an hour is one line.
+With a roster there are columns of tactical names."""
 EXAMPLES = [
     ("who waits for an answer", "aprs-net messages --format tsv net.book | grep unanswered"),
     ("the messages of this evening, for a program",

@@ -4,7 +4,7 @@ import asyncio
 import os
 import re
 import webbrowser
-from typing import Callable, List, Tuple
+from typing import TYPE_CHECKING, Callable, List, Tuple
 
 from aprsbook_tools import arguments, stderr
 from aprsbook_tools.books import net_logs
@@ -12,6 +12,9 @@ from aprsbook_tools.errors import ExitStatus, Fault
 from aprsbook_tools.frame_sources import serial, tcp
 from aprsbook_tools.reports.roster import read_roster
 from aprsbook_tools.system import programs, user_text
+
+if TYPE_CHECKING:
+    from aprsbook_tools.serving.loggers import Logger
 
 DESCRIPTION = """\
 Hands out a page that follows the logs below LOGS, and tells each page at once what is new in them,
@@ -88,6 +91,9 @@ def add_page(parser: argparse.ArgumentParser) -> None:
     arguments.add_roster(parser)
     parser.add_argument("--course", action="append", default=[], metavar="FILE", dest="courses",
                         help="GPX, KML or GeoJSON, drawn below all else")
+    parser.add_argument("--tiles", action="append", default=[], metavar="FILE",
+                        help="a map of tiles, .pmtiles or .mbtiles: pages draw the first, or the "
+                        "one that a desk sets")
     parser.add_argument("--silent", type=arguments.duration(0, 1_000_000, "m"), default=30,
                         metavar="MINUTES",
                         help="a station that wasn't heard for so long is marked (30)")
@@ -125,12 +131,12 @@ def run(args: argparse.Namespace) -> int:
     return 0
 
 
-def begin_loggers(args: argparse.Namespace, on_line: Callable[[str], object]) -> None:
-    from aprsbook_tools.serving import loggers
-    for to, name in args.tncs:
-        loggers.begin(tcp.Tcp(to, 900), name, args.logs, on_line, say)
-    for device, name in args.serials:
-        loggers.begin(serial.Serial(device, args.baud), name, args.logs, on_line, say)
+def begin_loggers(args: argparse.Namespace, on_write: Callable[[str], object]) -> "List[Logger]":
+    from aprsbook_tools.serving.loggers import Logger
+    tncs = [(tcp.Tcp(to, 900), name) for to, name in args.tncs]
+    serials = [(serial.Serial(to, args.baud), name) for to, name in args.serials]
+    return [Logger(source, name, args.logs, on_write, say).begin()
+            for source, name in [*tncs, *serials]]
 
 
 async def serve(args: argparse.Namespace) -> None:
@@ -140,11 +146,13 @@ async def serve(args: argparse.Namespace) -> None:
     from aprsbook_tools.serving.hub import Hub
     from aprsbook_tools.serving.net import Net, Settings
     from aprsbook_tools.serving.store import Store
+    from aprsbook_tools.serving.tile_archives import archives_of
     from aprsbook_tools.serving.tokens import Tokens
     loop = asyncio.get_running_loop()
     tls, tokens = server.context_of(args.tls), Tokens(args.tokens, say)
     settings = Settings(args.title, args.silent, roster_of(args),
-                        [event_page.read_map(it) for it in args.courses])
+                        [event_page.read_map(it) for it in args.courses],
+                        archives_of(args.tiles))
     page = reader_page.read(args.page)
     hub = Hub(args.logs, net_logs.days_of(args) if args.days else None)
     store = Store(args.logs, args.quota << 20, say, hub.look_at)
@@ -159,8 +167,8 @@ async def serve(args: argparse.Namespace) -> None:
     if args.behind_proxy:
         net.hosts += [it.lower() for it in args.hosts]
     hub.look()
-    begin_loggers(args, lambda path: loop.call_soon_threadsafe(hub.look_at, path))
-    looking = asyncio.ensure_future(hub.run())
+    loggers = begin_loggers(args, lambda path: loop.call_soon_threadsafe(hub.look_at, path))
+    looking = asyncio.ensure_future(hub.run(net.hear_of_day, say))
     where = args.hosts[0] if args.behind_proxy and args.hosts else net.hosts[0]
     address = f"{'https' if net.is_secure else 'http'}://{where}/"
     say_where(args, address)
@@ -170,6 +178,8 @@ async def serve(args: argparse.Namespace) -> None:
     hub.end()
     await asyncio.sleep(0.1)  # so that listeners end well
     await its.close_all_connections()
+    for it in loggers:
+        await loop.run_in_executor(None, it.end)
     await loop.run_in_executor(None, store.end)
 
 

@@ -11,10 +11,9 @@ from typing import Dict, List, Optional, Set, Tuple, Union
 from aprsbook_tools import arguments, stderr
 from aprsbook_tools.books import merged_inputs, net_logs
 from aprsbook_tools.errors import ExitStatus, Fault, words_of
-from aprsbook_tools.reports import alerts, table
+from aprsbook_tools.reports import alerts, last_heard, receiver_clocks, table
 from aprsbook_tools.reports.alerts import Alert
-from aprsbook_tools.reports.last_heard import heard_of
-from aprsbook_tools.reports.roster import roster_of
+from aprsbook_tools.reports.roster import Roster, roster_of
 from aprsbook_tools.reports.table import Message, Row
 from aprsbook_tools.system import atomic
 
@@ -22,10 +21,11 @@ PATIENCE = 60  # seconds that the user's command may take
 
 DESCRIPTION = """\
 Tells, once each, of the logs LOGS/DAY/NAME.log: who of those expected (or of all that were heard)
-is silent, which message isn't answered, and who reports an emergency in Mic-E. It is told on
-standard output, or to COMMAND: the last of its arguments is what happened in words. The variables
-APRS_NET_KIND (silent, unanswered, emergency), APRS_NET_CALL, APRS_NET_SINCE and APRS_NET_WORDS have
-it too. No shell reads these words. Where COMMAND fails, it is told again in the next turn."""
+is silent, which message isn't answered, and who reports an emergency in Mic-E. Where a receiver's
+clock differs from those that agree, that is said and allowed for. It is told on standard output, or
+to COMMAND: the last of its arguments is what happened in words. The variables APRS_NET_KIND
+(silent, unanswered, emergency), APRS_NET_CALL, APRS_NET_SINCE and APRS_NET_WORDS have it too. No
+shell reads these words. Where COMMAND fails, it is told again in the next turn."""
 EXAMPLES = [
     ("tell on the screen who is silent for 20 minutes, each minute",
      "aprs-net watch --silent 20 --every 60 --roster expected.txt logs"),
@@ -71,18 +71,27 @@ def now_of(args: argparse.Namespace) -> int:
 def alerts_of(args: argparse.Namespace) -> List[Alert]:
     """All that is to be told now."""
     roster, now = roster_of(args.roster), now_of(args)
-    found = net_logs.gather(args.logs, net_logs.days_of(args))
-    found_alerts: List[Alert] = []
-    with merged_inputs.book([], args.gap, found.log) as book:
-        if args.emergency:
-            found_alerts += alerts.emergencies(table.of(Row, [book], args.gap), roster)
-        if args.unanswered:
-            messages = table.of(Message, [book], args.gap)
-            found_alerts += alerts.unanswered(messages, roster, now, args.unanswered)
-        if args.silent:
-            stations = heard_of(table.of(Row, [book], args.gap))
-            found_alerts += alerts.silent(stations, roster, now, args.silent)
-    return found_alerts
+    log = net_logs.gather(args.logs, net_logs.days_of(args)).log
+    with merged_inputs.book([], args.gap, log) as book:
+        ahead = receiver_clocks.of_book(book, args.gap)
+        if not ahead:
+            return alerts_in(book, args, roster, now)
+    with merged_inputs.book([], args.gap, net_logs.put_right(log, ahead)) as book:
+        return alerts_in(book, args, roster, now)
+
+
+def alerts_in(book: str, args: argparse.Namespace, roster: Roster, now: int) -> List[Alert]:
+    """What is to be told of a book whose moments are right."""
+    found: List[Alert] = []
+    if args.emergency:
+        found += alerts.emergencies(table.of(Row, [book], args.gap, names=alerts.COLUMNS), roster)
+    if args.unanswered:
+        messages = table.of(Message, [book], args.gap)
+        found += alerts.unanswered(messages, roster, now, args.unanswered)
+    if args.silent:
+        stations = last_heard.heard_of(last_heard.rows_of([book], args.gap))
+        found += alerts.silent(stations, roster, now, args.silent)
+    return found
 
 
 def tell(alert: Alert, command: Optional[str]) -> bool:
@@ -148,8 +157,10 @@ def turn(args: argparse.Namespace, told: Set[str]) -> Tuple[Set[str], bool]:
     """Tells what is new: what is told now, and whether all could be. What is over and comes again
     is told again."""
     now, went_well = set(), True
+    since = dict(it.rsplit(" ", 1) for it in told if " " in it)
     for alert in alerts_of(args):
-        if alert.key in told or tell(alert, args.command):
+        is_told = alert.key in told or alert.is_since_about(since.get(alert.about, ""))
+        if is_told or tell(alert, args.command):
             now.add(alert.key)
         else:
             went_well = False

@@ -194,8 +194,10 @@ class Logs:
     """The logs below a folder, DAY/NAME.log; what can't be written yet is held. What was written is
     on the disk after so many seconds, if `write` or `sync` is called then."""
 
-    def __init__(self, folder: str, say: Say, seconds: float = SYNC) -> None:
+    def __init__(self, folder: str, say: Say, seconds: float = SYNC,
+                 on_write: Callable[[str], object] = lambda path: None) -> None:
         self.folder, self.say, self.seconds = folder, say, seconds
+        self.on_write = on_write  # is told the path of a log that got a line
         self.held: Deque[Tuple[str, bytes]] = collections.deque()
         self.lost = 0
         self.unsynced: Dict[str, None] = {}  # logs, in the order of their first lines
@@ -221,6 +223,7 @@ class Logs:
                 path, line = self.held[0]
                 self.note(path, append(path, line, self.say, sync=not self.seconds))
                 self.held.popleft()
+                self.on_write(path)
         except OSError as fault:
             self.tell(said(fault))
         else:

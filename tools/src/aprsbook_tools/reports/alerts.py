@@ -9,6 +9,7 @@ from aprsbook_tools.reports.table import Message, Row
 
 MINUTE = 60_000  # milliseconds
 EMERGENCY = "emergency"
+COLUMNS = ("first", "last", "source", "latitude", "longitude", "says", "text")  # that are read
 
 
 @dataclass(frozen=True)
@@ -22,8 +23,23 @@ class Alert:
     words: str
 
     @property
+    def about(self) -> str:
+        return f"{self.kind} {self.call}"
+
+    @property
     def key(self) -> str:
-        return f"{self.kind} {self.call} {self.since}"
+        return f"{self.about} {self.since}"
+
+    def is_since_about(self, since: str) -> bool:
+        """Whether it is the one that began at another moment, less than a minute apart: where a
+        wrong clock is allowed for, moments move a little. An emergency is told rather twice."""
+        if self.kind == EMERGENCY:
+            return False
+        try:
+            apart = moments.milliseconds(self.since) - moments.milliseconds(since)
+        except ValueError:  # never
+            return False
+        return abs(apart) < MINUTE
 
 
 def is_before(moment: str, now: int, minutes: int) -> bool:
@@ -59,23 +75,18 @@ def silent(stations: Sequence[Heard], roster: Roster, now: int, minutes: int) ->
     return alerts
 
 
-def state_of(message: Message) -> str:
-    """The state of a message, as the table decides it: by reply-acks where it has these."""
-    return message.reply_ack or message.state
-
-
 def unanswered(messages: Iterable[Message], roster: Roster, now: int, minutes: int) -> List[Alert]:
-    """Messages that nobody has answered for so long."""
+    """Messages that nobody has answered for so long. A query is answered in other ways."""
     return [
         Alert(
             "unanswered",
-            f"{it.source} {it.addressee} {it.id}",
+            f"{it.source} {it.addressee} {it.said_number}",
             it.first,
-            f"{roster.said(it.addressee)} hasn't acknowledged message {it.id} of "
+            f"{roster.said(it.addressee)} hasn't acknowledged message {it.said_number} of "
             f"{roster.said(it.source)}, {clock(it.first)}: {it.text}",
         )
         for it in messages
-        if state_of(it) == "unanswered" and is_before(it.first, now, minutes)
+        if it.is_traffic and it.final_state == "unanswered" and is_before(it.first, now, minutes)
     ]
 
 

@@ -4,7 +4,8 @@ import dataclasses
 import heapq
 import itertools
 import statistics
-from typing import Callable, DefaultDict, Dict, Iterable, List, Mapping, Sequence, Set, Tuple
+from typing import (
+    Callable, DefaultDict, Dict, Iterable, List, Mapping, Protocol, Sequence, Set, Tuple)
 
 from aprsbook_tools.formats import moments
 from aprsbook_tools.reports.table import Row
@@ -149,7 +150,17 @@ def spans(one: str, other: str, frames: Sequence[Both], step: int) -> List[Span]
     return [Span(one, other, tuple(part)) for part in min(found, key=unsteady)]
 
 
-def agreeing(found: Sequence[Span], gap: float) -> List[Set[str]]:
+class Difference(Protocol):
+    """Two receivers, and by how many seconds the first one's clock is ahead."""
+    @property
+    def one(self) -> str: ...
+    @property
+    def other(self) -> str: ...
+    @property
+    def ahead(self) -> float: ...
+
+
+def agreeing(found: Sequence[Difference], gap: float) -> List[Set[str]]:
     """The receivers in groups whose clocks agree in all spans, the largest first."""
     groups = {name: {name} for it in found for name in (it.one, it.other)}
     off = {(it.one, it.other) for it in found if abs(it.ahead) > gap}
@@ -161,11 +172,17 @@ def agreeing(found: Sequence[Span], gap: float) -> List[Set[str]]:
     return sorted(one_each.values(), key=lambda it: (-len(it), sorted(it)))
 
 
-def wrong(found: Sequence[Span], gap: float) -> List[str]:
+def most_agreeing(found: Sequence[Difference], gap: float) -> Set[str]:
+    """The receivers whose clocks agree, where they are more than in any other group."""
+    groups = agreeing(found, gap)
+    return groups[0] if len(groups) > 1 and len(groups[0]) > len(groups[1]) else set()
+
+
+def wrong(found: Sequence[Difference], gap: float) -> List[str]:
     """The receivers that differ by more than the gap from one of those that agree, where more agree
     than in any other group; or else those that are in all spans of such a difference."""
     off = [{it.one, it.other} for it in found if abs(it.ahead) > gap]
-    groups = agreeing(found, gap)
-    if len(groups) > 1 and len(groups[0]) > len(groups[1]):
-        return sorted({name for it in off if it & groups[0] for name in it - groups[0]})
+    right = most_agreeing(found, gap)
+    if right:
+        return sorted({name for it in off if it & right for name in it - right})
     return sorted(set.intersection(*off)) if off else []

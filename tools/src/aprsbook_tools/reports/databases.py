@@ -65,7 +65,8 @@ def columns_of(kind: Type[Any]) -> Dict[str, str]:
     """The columns of a kind, each with its type."""
     hints = get_type_hints(kind)
     return {
-        it.name: SENT.get(it.name) or sql_type(hints[it.name]) for it in dataclasses.fields(kind)
+        table.column_of(it.name): SENT.get(it.name) or sql_type(hints[it.name])
+        for it in dataclasses.fields(kind)
     }
 
 

@@ -277,6 +277,15 @@ def entry_of(fields: Sequence[str], order: Sequence[str]) -> Union[Expected, str
     return Expected(call, said.get("name", ""), said.get("group", ""), said.get("bib", ""))
 
 
+def text_of(roster: Roster) -> str:
+    """The text of a roster, which is read as this one."""
+    def field(text: str) -> str:
+        quoted = text.replace('"', '""')
+        return f'"{quoted}"' if re.search(r'[",;\t\r\n]|^\s|\s$', text) else text
+    rows = [",".join(map(field, (it.call, it.name, it.group, it.bib))) for it in roster.expected]
+    return "".join(f"{it}\n" for it in ["call,name,group,number", *rows])
+
+
 def roster_of(path: Optional[str]) -> Roster:
     """The roster of a file, which has no fault; an empty one where there is no file."""
     if path is None:

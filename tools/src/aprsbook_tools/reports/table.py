@@ -128,9 +128,12 @@ class Row:
     finer_longitude: Optional[float] = column(decimal, late=True)
 
 
+NO_TRAFFIC = frozenset(["query", "telemetry", "answer"])  # classes of messages
+
+
 @dataclasses.dataclass(frozen=True)
 class Message:
-    """A message with its state, and the answer that decides it."""
+    """A time that a message was sent, with its states, and the answers that decide them."""
     source: str = column()
     addressee: str = column()
     id: str = column()
@@ -142,11 +145,32 @@ class Message:
     answer_source: str = column()
     reply_ack: str = column(late=True)
     reply_answer: str = column(late=True)
+    gate: str = column(late=True)
+    class_: str = column(late=True)  # the column is called class, a word of Python
+    number: str = column(late=True)
+    outcome: str = column(late=True)
+    outcome_moment: str = column(late=True)
+
+    @property
+    def final_state(self) -> str:
+        """What came of it, by any answer to its number where the table has that."""
+        return self.outcome or self.reply_ack or self.state
+
+    @property
+    def said_number(self) -> str:
+        """Its number, also where that stands in its text for reply-acks."""
+        return self.number or self.id
+
+    @property
+    def is_traffic(self) -> bool:
+        """Whether somebody says something: no definition of telemetry, no query, no answer."""
+        return self.class_ not in NO_TRAFFIC
 
 
 @dataclasses.dataclass(frozen=True)
 class Station:
-    """A station with its last position and its last status."""
+    """A station with its last position and its last status, and how many frames of others it passed
+    on."""
     source: str = column()
     transmissions: Optional[int] = column(number)
     last: str = column()
@@ -162,6 +186,8 @@ class Station:
     status_receiver: str = column()
     status_stamp: str = column()
     status_text: str = column()
+    heard: str = column(late=True)
+    passed: Optional[int] = column(number, late=True)
 
 
 @dataclasses.dataclass(frozen=True)
@@ -186,7 +212,8 @@ WORDS: Dict[Type[Any], str] = {
     Row: "rows", Message: "messages", Station: "stations", Thing: "things"}
 # the moments by which a row is of a time: when it was first heard, or what is last known, last
 MOMENTS: Dict[Type[Any], Tuple[str, ...]] = {
-    Row: ("first",), Message: ("first",), Station: ("last", "status_last"), Thing: ("last",)}
+    Row: ("first",), Message: ("first",), Station: ("last", "status_last", "heard"),
+    Thing: ("last",)}
 
 
 class Time(NamedTuple):
@@ -196,20 +223,26 @@ class Time(NamedTuple):
 
 
 ALWAYS = Time()
+REST = "*"  # in place of a column's name: what stands behind all others that are read
+
+
+def column_of(name: str) -> str:
+    """The column of a field, whose name has a _ behind a word of Python."""
+    return name.rstrip("_")
 
 
 def columns_of(kind: Type[Any]) -> List[str]:
-    return [it.name for it in dataclasses.fields(kind)]
+    return [column_of(it.name) for it in dataclasses.fields(kind)]
 
 
 def readers_of(kind: Type[Any]) -> Dict[str, Callable[[str], Any]]:
     """How each column of a kind is read."""
-    return {it.name: it.metadata["read"] for it in dataclasses.fields(kind)}
+    return {column_of(it.name): it.metadata["read"] for it in dataclasses.fields(kind)}
 
 
 def places_of(kind: Type[Any], names: Sequence[str], head: Sequence[str]) -> List[int]:
     """Where columns stand in a line; one that an older program lacks, behind its end."""
-    late = {it.name for it in dataclasses.fields(kind) if it.metadata["late"]}
+    late = {column_of(it.name) for it in dataclasses.fields(kind) if it.metadata["late"]}
     for it in names:
         if it not in head and it not in late:
             raise Fault(f"the table of {WORDS[kind]} has no column {it}")
@@ -218,13 +251,15 @@ def places_of(kind: Type[Any], names: Sequence[str], head: Sequence[str]) -> Lis
 
 def fields(kind: Type[Any], lines: Iterable[str], names: Sequence[str],
            time: Time = ALWAYS) -> Iterator[List[str]]:
-    """These columns of the table's lines, as they are shown, of those of a time."""
+    """These columns of the table's lines, as they are shown, of those of a time. REST, which may be
+    the last name, is all that stands behind the others."""
     lines = iter(lines)
     head = next(lines, "").split("\t")
-    at = places_of(kind, names, head)
+    at = places_of(kind, [it for it in names if it != REST], head)
     times = places_of(kind, MOMENTS[kind], head) if time != ALWAYS else []
     most, tabs = max([*at, *times]) + 1, len(head) - 1
-    lacks, is_whole = len(head) in at, at == [*range(len(head))]
+    at += [most] if REST in names else []
+    lacks, is_whole = len(head) in [*at, *times], at == [*range(len(head))]
     pick = operator.itemgetter(*at, at[0])  # of one column alone it would be no tuple
     for number_, line in enumerate(lines, 2):
         if line.count("\t") != tabs:

@@ -15,6 +15,7 @@ PATHS = [
     ("/aprsbook.html", page_answers.Page),
     ("/logs.txt", page_answers.Names),
     ("/logs/(.{1,200})", page_answers.LogFile),
+    ("/tiles/(.{1,200})", page_answers.TileArchive),
     ("/events", events.Events),
     (f"/push/{NAME}/{DAY}", set_answers.Push),
     (f"/states/{NAME}", set_answers.States),

@@ -15,6 +15,7 @@ FOLDER = "desks"  # of the journals, below that of the logs
 SUFFIX = ".jsonl"
 ENTRY = 1 << 18  # bytes of an entry
 ID = re.compile("[0-9a-f]{32}")
+HALF = re.compile("[\ud800-\udfff]")  # of a letter in UTF-16, which no text of UTF-8 can have
 # what an entry of a kind says beside who, when and what kind: texts of so many letters at most
 KINDS: Dict[str, Dict[str, int]] = {
     "line": {"time": 15, "from": 40, "to": 40, "number": 20, "text": 2000},
@@ -24,7 +25,7 @@ KINDS: Dict[str, Dict[str, int]] = {
     "note": {"call": 9, "text": 2000},  # what desks should know of a station
     "setting": {"name": 20, "value": 200_000},  # of the net, for all its pages
 }
-SETTINGS = ("title", "roster", "course", "silent")  # the names of settings
+SETTINGS = ("title", "roster", "course", "silent", "tiles")  # the names of settings
 
 
 def spelling(entry: Any) -> bytes:
@@ -58,13 +59,18 @@ def refusal_of_values(entry: Dict[str, Any], form: Dict[str, int]) -> Optional[s
         return "Id"
     if type(entry["at"]) is not int or not 0 <= entry["at"] < moments.END:
         return "Moment"
-    if any(not isinstance(entry[it], str) or len(entry[it]) > most for it, most in form.items()):
+    if not all(is_text(entry[it], most) for it, most in form.items()):
         return "Text"
     if entry["kind"] == "line" and not is_moment(entry["time"]):
         return "Time"
     if entry["kind"] == "setting" and entry["name"] not in SETTINGS:
         return "Setting"
     return None
+
+
+def is_text(value: Any, most: int) -> bool:
+    """Whether a value is a text of so many letters at most."""
+    return isinstance(value, str) and len(value) <= most and not HALF.search(value)
 
 
 def is_moment(text: str) -> bool:
@@ -128,6 +134,11 @@ class Journals:
     def last(self, kind: str, of: str, value: str) -> Dict[str, str]:
         """What the last entry of a kind says of each matter."""
         return {it.says[of]: it.says[value] for it in self.of_kind(kind)}
+
+    @property
+    def text(self) -> str:
+        """All entries, a line each, as a page carries them."""
+        return "\n".join(it.spelled.decode("ascii") for it in self.entries)
 
     @property
     def names(self) -> Dict[str, str]:

@@ -7,14 +7,19 @@ import asyncio
 import datetime
 import os
 import re
-from typing import Callable, Dict, Iterable, List, NamedTuple, Optional, Set
+import time
+from typing import Callable, Dict, Iterable, Iterator, List, NamedTuple, Optional, Set, Tuple
 
 from aprsbook_tools.books import inputs, net_logs
+from aprsbook_tools.errors import Fault, words_of
 from aprsbook_tools.formats import log_file
 from aprsbook_tools.serving import entries
 
 EACH = 0.2  # seconds: how often it is looked for what others write
 PIECE = 1 << 16  # bytes of a file in one event
+LONGEST = entries.ENTRY + 1  # bytes of an event that is one line, as a course that a desk has set
+TO_COME = 10.0  # seconds: how often it is looked for days to come
+LOG = re.compile(rf"({log_file.RECEIVER})\.log", re.ASCII)
 PLAIN = re.compile(rb"[ -~\n]*")  # what an event can carry
 
 
@@ -113,8 +118,7 @@ class Hub:
         last = self.last.get(name)
         if last is not None and last.begin == begin and last.end <= log.size:
             return last
-        octets = read(log, begin, PIECE)
-        octets = octets[:octets.rfind(b"\n") + 1]
+        octets = lines_at(log, begin)
         end = begin + len(octets) if octets else end_of_line(log, begin)
         if end == begin:
             return None
@@ -133,9 +137,31 @@ class Hub:
             return 0
         return at - len(before) + before.rfind(b"\n", 0, -1) + 1
 
-    async def run(self) -> None:
+    def logs_to_come(self) -> Iterator[Tuple[str, str]]:
+        """Receivers with logs of days to come, which no page shows, and those days."""
+        last = max(self.days)
+        for at, folders, files in inputs.walk(self.folder):
+            day = os.path.basename(at)
+            folders[:] = [it for it in folders if not inputs.DAY.fullmatch(it) or it > last]
+            if at != self.folder and inputs.DAY.fullmatch(day):
+                for found in filter(None, map(LOG.fullmatch, files)):
+                    yield found[1], day
+
+    async def run(self, on_day_to_come: Callable[[str, str], object], say: log_file.Say) -> None:
+        """Looks again and again. A folder that can't be read is said once, and tried again."""
+        asked, told = -TO_COME, ""
         while True:
-            self.look()
+            try:
+                self.look()
+                if time.monotonic() - asked >= TO_COME:
+                    asked = time.monotonic()
+                    for name, day in self.logs_to_come():
+                        on_day_to_come(name, day)
+                told = ""
+            except Fault as fault:
+                if words_of(fault) != told:
+                    told = words_of(fault)
+                    say(told)
             await asyncio.sleep(EACH)
 
     def end(self) -> None:
@@ -155,8 +181,18 @@ def files_in(folder: str, suffix: str) -> List[str]:
     return [it for it in paths if it.isprintable() and inputs.is_utf_8(it)]
 
 
+def lines_at(log: Log, begin: int) -> bytes:
+    """The whole lines of a piece, or its first line, where that is longer and can be an entry."""
+    octets = read(log, begin, PIECE)
+    end = octets.rfind(b"\n") + 1
+    if not end and len(octets) == PIECE:
+        octets = read(log, begin, LONGEST)
+        end = octets.find(b"\n") + 1
+    return octets[:end]
+
+
 def end_of_line(log: Log, begin: int) -> int:
-    """Where a line ends that is longer than a piece; where it begins if it is gone."""
+    """Where a line ends that no event can carry; where it begins if it is gone."""
     at = begin
     while at < log.size:
         octets = read(log, at, PIECE)

@@ -1,8 +1,8 @@
 """What all answers have: the net that is served, and what is known of its sites."""
 import time
-from typing import Any, Callable, Dict, List, NamedTuple, Optional
+from typing import Any, Callable, Dict, List, NamedTuple, Optional, Set
 
-from aprsbook_tools.formats import log_file
+from aprsbook_tools.formats import log_file, moments
 from aprsbook_tools.serving.hub import Hub
 from aprsbook_tools.serving.store import Store
 from aprsbook_tools.serving.tokens import Grant, Tokens
@@ -19,6 +19,7 @@ class Settings(NamedTuple):
     silent: int = 30
     roster: str = ""
     courses: List[str] = []
+    tiles: Dict[str, str] = {}  # paths of archives by their names; the first is shown
 
 
 class Site:
@@ -29,7 +30,8 @@ class Site:
         self.clock = 0.0
         self.seemed = 0.0  # what the clock seemed to be in the push before
         self.refused = 0
-        self.strange_day = ""
+        self.strange_day = ""  # the last day of which it has lines that no page shows
+        self.strange_days: Set[str] = set()
 
 
 class Wrong:
@@ -71,7 +73,7 @@ class Net:
         """What each page is told beside the lines."""
         it = self.settings
         return {"title": it.title, "silent": it.silent, "roster": it.roster,
-                "courses": it.courses, "days": self.hub.days,
+                "courses": it.courses, "tiles": [*it.tiles], "days": self.hub.days,
                 "sites": {name: {"clock": round(site.clock, 1), "refused": site.refused,
                                  "day": site.strange_day}
                           for name, site in sorted(self.sites.items())}}
@@ -97,13 +99,26 @@ class Net:
         site.refused += refused
         if clock is not None:
             self.hear_of_clock(name, site, clock)
-        if day > max(self.hub.days) and day != site.strange_day:
-            site.strange_day = day
-            self.say(f"{name} has lines of {day}, which is to come: no page shows them; set its "
-                     "clock, and move them by `aprs-net shift`")
+        if day > max(self.hub.days) or clock is not None and self.is_by_clock(day, clock):
+            self.hear_of_day(name, day)
         if before != (site.clock, site.strange_day, site.refused):
             self.tell()
 
+    def is_by_clock(self, day: str, clock: float) -> bool:
+        """Whether a day that no page shows is today by a clock that is ahead by so many seconds."""
+        return day not in self.hub.days and day == day_at(time.time() + clock)
+
+    def hear_of_day(self, name: str, day: str) -> None:
+        """Of lines that no page shows, since a clock is wrong."""
+        site = self.sites.setdefault(name, Site())
+        if day in site.strange_days:
+            return
+        site.strange_days.add(day)
+        site.strange_day = max(site.strange_days)
+        why = "which is to come" if day > max(self.hub.days) else "which is today by its clock"
+        self.say(f"{name} has lines of {day}, {why}: no page shows them; set its clock, and move "
+                 "them by `aprs-net shift`")
+        self.tell()
 
     def hear_of_clock(self, name: str, site: Site, clock: float) -> None:
         """Of a clock that is off. What was long on its way seems to be of one that is behind, so
@@ -115,6 +130,12 @@ class Net:
         before, site.clock = site.clock, clock if abs(clock) > CLOCK else 0.0
         if before or site.clock:
             self.say(f"{name}: {clock_words(site.clock)}")
+
+
+def day_at(moment: float) -> str:
+    """The day of a moment, in seconds since 1970, or nothing where no log has it."""
+    milliseconds = round(1000 * moment)
+    return moments.text_of(milliseconds)[:10] if 0 <= milliseconds < moments.END else ""
 
 
 def clock_words(clock: float) -> str:

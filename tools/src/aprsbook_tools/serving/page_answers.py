@@ -96,29 +96,33 @@ class Names(Answer):
         self.finish("".join(f"logs/{it}\n" for it in names))
 
 
-class LogFile(Answer):
-    """The whole lines of a log, or of them those from a place on."""
+class FileAnswer(Answer):
+    """A file, or a part of it, by a name that is looked up."""
 
     async def head(self, name: str) -> None:
         await self.get(name)
 
     async def get(self, name: str) -> None:
-        log = self.net.hub.logs.get(name)
-        if log is None:
-            raise tornado.web.HTTPError(404)
+        raise NotImplementedError
+
+    async def hand_out(self, path: str, size: int, kind: str) -> None:
+        """Answers with the first bytes of a file, or with those of them that are asked for."""
         try:
-            changed = os.stat(log.path).st_mtime_ns
+            changed = os.stat(path).st_mtime_ns
         except OSError:
             raise tornado.web.HTTPError(404)
-        begin, end = self.range(log.size)
-        self.set_header("Content-Type", "text/plain; charset=us-ascii")
+        begin, end = self.range(size)
+        self.set_header("Content-Type", kind)
         self.set_header("Accept-Ranges", "bytes")
-        self.set_header("ETag", f'"{log.size:x}-{changed:x}"')
+        self.set_header("ETag", f'"{size:x}-{changed:x}"')
         self.set_header("Content-Length", str(end - begin))
         if self.request.method == "HEAD":
             self.finish()
             return
-        with open(log.path, "rb") as file:
+        await self.send(path, begin, end)
+
+    async def send(self, path: str, begin: int, end: int) -> None:
+        with open(path, "rb") as file:
             file.seek(begin)
             while begin < end:
                 octets = file.read(min(PART, end - begin))
@@ -143,6 +147,26 @@ class LogFile(Answer):
         self.set_status(206)
         self.set_header("Content-Range", f"bytes {begin}-{end - 1}/{size}")
         return begin, end
+
+
+class LogFile(FileAnswer):
+    """The whole lines of a log, or of them those from a place on."""
+
+    async def get(self, name: str) -> None:
+        log = self.net.hub.logs.get(name)
+        if log is None:
+            raise tornado.web.HTTPError(404)
+        await self.hand_out(log.path, log.size, "text/plain; charset=us-ascii")
+
+
+class TileArchive(FileAnswer):
+    """A map of tiles, whose name the server has said."""
+
+    async def get(self, name: str) -> None:
+        path = self.net.settings.tiles.get(name)
+        if path is None or not os.path.isfile(path):
+            raise tornado.web.HTTPError(404)
+        await self.hand_out(path, os.path.getsize(path), "application/octet-stream")
 
 
 def close(answer: tornado.web.RequestHandler) -> None:

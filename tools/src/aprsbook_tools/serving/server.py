@@ -19,8 +19,11 @@ BODY = 1 << 20  # bytes of a request
 HEAD = 1 << 16
 IDLE = 60  # seconds of a connection without a request, or until one's head is there
 BODY_TIME = 20  # seconds for a body
+# what a proxy hands on as a client wrote it: who asks is the last one in X-Forwarded-For
+FORGED = ("X-Real-Ip", "X-Scheme")
+STRANGERS = 16 << 20  # bytes of bodies at a time, of all who have shown no token
 LOOPBACK = ["127.0.0.1", "::1"]
-REFUSAL = b"HTTP/1.1 411 Length Required\r\nConnection: close\r\nContent-Length: 0\r\n\r\n"
+REFUSAL = b"HTTP/1.1 %s\r\nConnection: close\r\nContent-Length: 0\r\n\r\n"
 
 Stream = tornado.iostream.IOStream
 
@@ -36,6 +39,7 @@ class Server(tornado.httpserver.HTTPServer):
         self.addresses: Dict[str, int] = {}
         self.hosts: Dict[Stream, str] = {}
         self.strangers: Dict[Stream, str] = {}  # the oldest first
+        self.bodies: Dict[Stream, int] = {}  # bytes that strangers send
 
     def handle_stream(self, stream: Stream, address: Tuple[Any, ...]) -> None:
         host = str(address[0])
@@ -56,8 +60,22 @@ class Server(tornado.httpserver.HTTPServer):
         """Who holds this connection has shown a token."""
         self.strangers.pop(connection.stream, None)
 
+    def admits(self, stream: Stream, size: int) -> bool:
+        """Whether there is room for a body of so many bytes; of a stranger it takes some until
+        `had` says that it is here."""
+        if not size or stream not in self.strangers:
+            return True
+        if sum(self.bodies.values()) + size > STRANGERS:
+            return False
+        self.bodies[stream] = size
+        return True
+
+    def had(self, stream: Stream) -> None:
+        self.bodies.pop(stream, None)
+
     def forget(self, stream: Stream) -> None:
         self.strangers.pop(stream, None)
+        self.had(stream)
         host = self.hosts.pop(stream, None)
         if host is not None:
             self.addresses[host] -= 1
@@ -69,32 +87,42 @@ class Server(tornado.httpserver.HTTPServer):
         super().on_close(server_conn)
 
     def start_request(self, server_conn: object, request_conn: Any) -> "Strict":
-        return Strict(super().start_request(server_conn, request_conn), request_conn)
+        return Strict(super().start_request(server_conn, request_conn), request_conn.stream, self)
 
 
 class Strict(tornado.httputil.HTTPMessageDelegate):
     """Takes requests whose length is said once, by digits. Of others a proxy may think otherwise
     than this server, and then a part of a body would be a request."""
 
-    def __init__(self, own: tornado.httputil.HTTPMessageDelegate, connection: Any) -> None:
-        self.own, self.connection = own, connection
+    def __init__(self, own: tornado.httputil.HTTPMessageDelegate, stream: Stream,
+                 server: Server) -> None:
+        self.own, self.stream, self.server = own, stream, server
 
     def headers_received(self, start_line: Any, headers: tornado.httputil.HTTPHeaders) -> Any:
         lengths = headers.get_list("Content-Length")
         if "Transfer-Encoding" in headers or len(lengths) > 1 or \
                 any(not re.fullmatch(r"\d{1,9}", it, re.ASCII) for it in lengths):
-            self.connection.stream.write(REFUSAL)
-            self.connection.stream.close()
-            return None
+            return self.refuse(b"411 Length Required")
+        if not self.server.admits(self.stream, sum(map(int, lengths))):
+            return self.refuse(b"503 Service Unavailable")
+        for it in FORGED:
+            if it in headers:
+                del headers[it]
         return self.own.headers_received(start_line, headers)
+
+    def refuse(self, why: bytes) -> None:
+        self.stream.write(REFUSAL % why)
+        self.stream.close()
 
     def data_received(self, chunk: bytes) -> Any:
         return self.own.data_received(chunk)
 
     def finish(self) -> None:
+        self.server.had(self.stream)
         self.own.finish()
 
     def on_connection_close(self) -> None:
+        self.server.had(self.stream)
         self.own.on_connection_close()
 
 

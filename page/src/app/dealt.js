@@ -1,0 +1,34 @@
+// @ts-check
+// What somebody deals with: marks of alarms, who went home, and who goes on under another call.
+// They are entries of a journal. A net that is served shares it; else this browser keeps it by the
+// title of the net.
+
+import { page } from "./state.js";
+import { Journal } from "../desks/journal.js";
+import { storeOf } from "../ics309/own-lines.js";
+import { otherCallOf } from "../net/alarms.js";
+
+/** Nobody takes what a page by itself writes down: it stays in this browser. */
+const keepHere = async () => null;
+/**
+ * Has the marks of a net by its title, where no journal is shared, and those that stand in its
+ * page.
+ * @param {string} title
+ * @param {string} given
+ * @param {() => void} onChange
+ */
+export function openMarks(title, given, onChange) {
+  const key = `aprsbook marks: ${title}`;
+  if (page.journal) return;
+  if (page.marks?.key !== key) page.marks = new Journal("", keepHere, storeOf(), Date.now, key);
+  const marks = page.marks;
+  marks.onChange = () => {}; // what is given is drawn with all else
+  marks.hear(given);
+  marks.onChange = onChange;
+}
+/** All that is marked, as a page of the net carries it. */
+export const marksText = () => [...page.marks?.entries.keys() || []].join("\n");
+/** The call that each had before which goes on under another one. */
+export const callsBefore = () => new Map([...page.marks?.marks || []]
+  .filter(([alarm]) => alarm.startsWith(otherCallOf("")))
+  .map(([alarm, [mark]]) => [String(mark.note), alarm.slice(otherCallOf("").length)]));

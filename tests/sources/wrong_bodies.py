@@ -1,0 +1,115 @@
+#!/usr/bin/env python3
+"""Tries build/wrong_bodies.py on a crate of its own: which functions an edit changes, when it is
+alone in its check, and which edits share one.
+usage: tests/sources/wrong_bodies.py
+"""
+import pathlib
+import sys
+import tempfile
+import unittest
+from typing import Set
+
+sys.path.insert(0, str(pathlib.Path(__file__).resolve().parents[2] / "build"))
+import wrong_bodies  # noqa: E402 (it lies in the folder that was just named)
+
+SOURCE = """\
+use other::{Thing, more};
+
+/// The most of a line.
+pub const MOST: usize = 8;
+const TWICE: usize = 2 * MOST;
+const SIZE: usize = 4;
+const TABLE: [u8; 3] = [
+    1, 2,
+    3,
+];
+
+struct Held {
+    bytes: [u8; SIZE],
+}
+
+impl Held {
+    fn first(&self) -> u8 {
+        self.bytes[0]
+    }
+
+    fn again(&self) -> u8 {
+        let it = self.bytes[0];
+        it
+    }
+}
+
+fn is_long(count: usize) -> bool {
+    count > TWICE
+}
+
+fn entry(at: usize) -> u8 {
+    TABLE[at % MOST]
+}
+"""
+
+
+class Edits(unittest.TestCase):
+    """What is known of an edit by its text."""
+
+    def setUp(self) -> None:
+        place = tempfile.TemporaryDirectory()
+        self.addCleanup(place.cleanup)
+        self.crate = pathlib.Path(place.name)
+        (self.crate / "src").mkdir()
+        (self.crate / "src/lib.rt").write_text(SOURCE, encoding="utf-8")
+
+    def edit(self, *pairs: str) -> wrong_bodies.Edit:
+        """The edit with these texts, each old one before its new one."""
+        texts = [f"old: {pairs[i]}\nnew: {pairs[i + 1]}\n" for i in range(0, len(pairs), 2)]
+        path = self.crate / f"{pairs[1].strip()[:9]}.edit"
+        path.write_text("file: src/lib.rt\n" + "".join(texts), encoding="utf-8")
+        return wrong_bodies.edit_of(path, self.crate)
+
+    def changed(self, *pairs: str) -> Set[str]:
+        """The names of the functions that this edit changes."""
+        return {it.name for it in self.edit(*pairs).changed}
+
+    def test_a_body_is_its_function(self) -> None:
+        self.assertEqual(self.changed("count > TWICE", "count < TWICE"), {"is_long"})
+
+    def test_a_constant_is_whoever_names_it(self) -> None:
+        self.assertEqual(self.changed("usize = 8;", "usize = 9;"), {"is_long", "entry"})
+        self.assertEqual(self.changed("2 * MOST", "3 * MOST"), {"is_long"})
+        self.assertEqual(self.changed("    3,", "    4,"), {"entry"})
+        self.assertFalse(self.edit("2 * MOST", "3 * MOST").is_alone)
+
+    def test_a_type_is_alone(self) -> None:
+        self.assertTrue(self.edit("usize = 4;", "usize = 5;").is_alone)
+        self.assertTrue(self.edit("    bytes:", "    pub bytes:").is_alone)
+
+    def test_an_import_is_nobodys(self) -> None:
+        pairs = "use other::{Thing, more};", "use other::Thing;", "count > TWICE", "count > 1"
+        self.assertEqual(self.changed(*pairs), {"is_long"})
+        self.assertFalse(self.edit(*pairs).is_alone)
+
+    def test_a_text_that_an_earlier_pair_leaves_once(self) -> None:
+        edit = self.edit("it = self.bytes[0];", "it = self . bytes[0];", "self.bytes[0]", "0")
+        self.assertEqual({it.name for it in edit.changed}, {"first", "again"})
+        text = wrong_bodies.with_edits({"src/lib.rt": SOURCE}, [edit])["src/lib.rt"]
+        self.assertIn("        0\n", text)
+
+    def test_a_text_that_stands_twice_is_refused(self) -> None:
+        with self.assertRaises(wrong_bodies.Unfit):
+            self.edit("self.bytes[0]", "0")
+        with self.assertRaises(wrong_bodies.Unfit):
+            self.edit("nowhere", "0")
+
+    def test_edits_of_one_function_share_no_check(self) -> None:
+        first = self.edit("count > TWICE", "count < TWICE")
+        same, other = self.edit("usize = 8;", "usize = 9;"), self.edit("    3,", "    5,")
+        lots = wrong_bodies.lots([first, same, other], 60)
+        self.assertEqual([len(it) for it in lots], [2, 1])
+        text = wrong_bodies.with_edits({"src/lib.rt": SOURCE}, lots[0])["src/lib.rt"]
+        self.assertIn("count < TWICE", text)
+        self.assertIn("    5,\n", text)
+        self.assertIn("usize = 8;", text)
+
+
+if __name__ == "__main__":
+    unittest.main()

@@ -1,0 +1,132 @@
+"""Whose clock is wrong, of the rows of a book, in which receivers' own moments no longer stand.
+
+What stands in several rows of one text, no receiver in two of them, was one transmission where
+clocks are wrong. The page says the same of a book (`net/clock-offsets.js`); `clock_offsets` has
+more to go by, since it reads logs.
+"""
+import collections
+import itertools
+import statistics
+from typing import (
+    Counter, DefaultDict, Dict, Iterable, Iterator, List, NamedTuple, Optional, Sequence, Tuple)
+
+from aprsbook_tools import stderr
+from aprsbook_tools.formats import book_file, moments
+from aprsbook_tools.reports import clock_offsets, table
+from aprsbook_tools.reports.table import REST, Row
+
+# what is read of each row: when and by whom it was heard, and its text
+COLUMNS = ("first", "receivers", "source", "destination", REST)
+MOST = 8  # rows of one text: what is sent more often has no partner that would be sure
+FEWEST = 2  # transmissions that both heard: fewer say nothing of a clock
+
+
+class Pair(NamedTuple):
+    """Two receivers, and by how many seconds the clock of the first is ahead, in the median."""
+
+    one: str
+    other: str
+    ahead: float
+
+
+class Pairs:
+    """What each two receivers heard, row by row in the order of a book."""
+
+    def __init__(self) -> None:
+        self.apart: DefaultDict[Tuple[str, str], List[int]] = collections.defaultdict(list)
+        self.together: Counter[str] = collections.Counter()  # rows of each list of receivers
+
+    def noted(self, rows: Iterable[List[str]], names: Sequence[str]) -> Iterator[List[str]]:
+        """The rows as they come, which have these columns."""
+        first, receivers, source, destination, text = map(names.index, COLUMNS)
+        together, before = self.together, [""] * len(names)
+        group: List[Tuple[str, str]] = []
+        for row in rows:
+            together[row[receivers]] += 1
+            if row[text] != before[text] or row[source] != before[source] \
+                    or row[destination] != before[destination]:
+                if len(group) > 1:
+                    self.compare(group)
+                group = []
+            before = row
+            if len(group) <= MOST:
+                group.append((row[first], row[receivers]))
+            yield row
+        self.compare(group)
+
+    def compare(self, group: Sequence[Tuple[str, str]]) -> None:
+        """Takes rows of one text: when each was heard first, and by whom."""
+        lists = [receivers.split(",") for _, receivers in group]
+        names = [it for of in lists for it in of]
+        if not 1 < len(group) <= MOST or len({*names}) < len(names):
+            return
+        times = [moments.milliseconds(first) for first, _ in group]
+        for (at, of), (other_at, others) in itertools.combinations(zip(times, lists), 2):
+            for one, other in itertools.product(of, others):
+                key, ahead = ((one, other), at - other_at) if one < other else \
+                    ((other, one), other_at - at)
+                self.apart[key].append(ahead)
+
+    def found(self) -> List[Pair]:
+        """The pairs that heard enough, each with the median of their differences: 0 in a row that
+        both heard."""
+        zeros: Counter[Tuple[str, str]] = collections.Counter()
+        for receivers, count in self.together.items():
+            for one, other in itertools.combinations(sorted(receivers.split(",")), 2):
+                zeros[one, other] += count
+        result = []
+        for one, other in sorted({*zeros, *self.apart}):
+            apart = self.apart.get((one, other), [])
+            if len(apart) + zeros[one, other] >= FEWEST:
+                ahead = median_of(apart, zeros[one, other])
+                result.append(Pair(one, other, ahead / 1000))
+        return result
+
+    def wrong(self, gap: float) -> Dict[str, float]:
+        """The receivers whose clocks are wrong, each with the seconds by which its own is ahead of
+        those that agree; none where no more agree than in another group."""
+        found = self.found()
+        right = clock_offsets.most_agreeing(found, gap)
+        ahead: DefaultDict[str, List[float]] = collections.defaultdict(list)
+        for it in found:
+            if it.other in right and it.one not in right:
+                ahead[it.one].append(it.ahead)
+            elif it.one in right and it.other not in right:
+                ahead[it.other].append(-it.ahead)
+        return {name: statistics.median(of) for name, of in sorted(ahead.items())}
+
+
+def median_of(values: Sequence[int], zeros: int) -> float:
+    """The median of values, and of so many zeros, which need no room."""
+    below = sum(it < 0 for it in values)
+    middle = (len(values) + zeros) // 2
+    if below <= middle < below + zeros:
+        return 0
+    return sorted(values)[middle if middle < below else middle - zeros]
+
+
+def moment_of(last: str, receivers: str, receiver: str, ahead: Dict[str, float]) -> str:
+    """When a row was heard by clocks that are right: its last moment, or, where wrong clocks alone
+    heard it, so much earlier or later as that of its receiver is wrong."""
+    if not ahead or any(it not in ahead for it in receivers.split(",")):
+        return last
+    moment = moments.milliseconds(last) - round(1000 * ahead[receiver])
+    return moments.text_of(min(max(0, moment), moments.END - 1))
+
+
+def of_book(book: str, gap: Optional[int]) -> Dict[str, float]:
+    """The receivers of a book whose clocks are wrong, and by how much, which is said."""
+    pairs = Pairs()
+    rows = table.fields(Row, table.lines_of(Row, [book], gap), COLUMNS)
+    collections.deque(pairs.noted(rows, COLUMNS), 0)
+    return told(pairs.wrong(gap or book_file.GAP))
+
+
+def told(ahead: Dict[str, float]) -> Dict[str, float]:
+    """Says once of each clock that it is wrong."""
+    for name, seconds in ahead.items():
+        way = "ahead of" if seconds > 0 else "behind"
+        about = round(abs(seconds), -1)  # the median moves a little while a net runs
+        stderr.warn_once(f"the clock of {name} is about {about:.0f} seconds {way} the others, and "
+                         "that is allowed for (aprs-net clocks says it exactly)")
+    return ahead

@@ -1,0 +1,67 @@
+"""How long a server waits for who is slow, and for how many."""
+import asyncio
+import time
+from typing import Awaitable, Callable, List
+
+import pytest
+
+pytest.importorskip("tornado", reason="needs Tornado (Debian: python3-tornado)")
+import tornado.web  # noqa: E402
+
+from aprsbook_tools.frame_sources import tcp  # noqa: E402
+from aprsbook_tools.serving import server  # noqa: E402
+
+
+def served(ask: Callable[[int], Awaitable[None]]) -> None:
+    """Asks a server of nothing, which lends patience for half a second."""
+    async def run() -> None:
+        its = server.server_of(tornado.web.Application([]), None, 10, 5, False)
+        port = server.listen(its, tcp.Place("127.0.0.1", 0))
+        try:
+            await asyncio.wait_for(ask(port), 20)
+        finally:
+            its.stop()
+            await its.close_all_connections()
+    with pytest.MonkeyPatch.context() as patch:
+        patch.setattr(server, "IDLE", 0.5)
+        patch.setattr(server, "BODY_TIME", 0.5)
+        asyncio.run(run())
+
+
+@pytest.mark.parametrize("octets", [
+    b"", b"GET / HT", b"GET / HTTP/1.1\r\nHost: x\r\nX: ",
+    b"POST / HTTP/1.1\r\nHost: x\r\nContent-Length: 100\r\n\r\nhalf",
+    b"GET / HTTP/1.1\r\nHost: x\r\n\r\n",
+])
+def test_who_says_no_more_is_left(octets: bytes) -> None:
+    async def ask(port: int) -> None:
+        reader, writer = await asyncio.open_connection("127.0.0.1", port)
+        writer.write(octets)
+        begun = time.monotonic()
+        await reader.read()
+        assert time.monotonic() - begun < 10
+        writer.close()
+    served(ask)
+
+
+def test_who_says_a_letter_at_a_time_is_left() -> None:
+    async def ask(port: int) -> None:
+        _, writer = await asyncio.open_connection("127.0.0.1", port)
+        with pytest.raises(OSError):
+            for _ in range(200):
+                writer.write(b"x")
+                await writer.drain()
+                await asyncio.sleep(0.05)
+    served(ask)
+
+
+def test_of_an_address_the_oldest_stranger_goes() -> None:
+    async def ask(port: int) -> None:
+        readers: List[asyncio.StreamReader] = []
+        for _ in range(6):
+            reader, _ = await asyncio.open_connection("127.0.0.1", port)
+            readers.append(reader)
+        begun = time.monotonic()
+        assert await readers[0].read() == b""
+        assert time.monotonic() - begun < 0.4 and not readers[5].at_eof()
+    served(ask)
