@@ -18,7 +18,7 @@ TEMPLATE = REPOSITORY / "tools/src/aprsbook_tools/data/event.html"
 PICTURES = os.environ.get("PICTURES")
 RUNS = int(os.environ.get("RUNS") or 1000)
 # the text of a table that the page has
-TABLE = "[...aprsbook.textsOf(aprsbook.page.data.%s)].join('')"
+TABLE = "[...aprsbook.textsOf(aprsbook.data.%s)].join('')"
 TEXTS = "[...document.querySelectorAll('%s')].map(it => it.textContent)"
 
 

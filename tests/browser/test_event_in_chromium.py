@@ -102,6 +102,42 @@ def test_contained(page: Chromium, folder: pathlib.Path) -> None:
             (width, []))
 
 
+def test_marks_without_a_font(page: Chromium, folder: pathlib.Path) -> None:
+    """A message of marks that no font has pushes no column out of its box."""
+    lines = place(0, "Q1A", 54.5, -3.5)
+    marks = "".join("\\x%02x" % it for it in ("a" + chr(0x1DA9B) * 60).encode()[1:])
+    page.open(page_of(folder / "marks.html", lines, message(
+        "Q1A", "Q1B", "a" + marks, "unanswered", 1, id="1")), 1280, 800)
+    is_(page.js("(it => it.scrollWidth <= it.clientWidth)(document.getElementById('messages-box'))"),
+        True)
+
+
+def test_forced_colours(page: Chromium, folder: pathlib.Path) -> None:
+    """Where the system chooses colours, who is in need stands out from the other news."""
+    rows = place(0, "Q1A", 54.5, -3.5) + row(
+        "mic-e", 1, "Q1MED", latitude="54.5000000", longitude="-3.5000000", ambiguity=0,
+        compressed="no", symbol="/>", says="emergency")
+    page.open(page_of(folder / "need.html", rows, message("Q1A", "Q1B", "?", "unanswered", 1)))
+    page.call("Emulation.setEmulatedMedia", features=[{"name": "forced-colors", "value": "active"}])
+    of = "getComputedStyle(document.querySelector('#news > %s')).backgroundColor"
+    is_(page.js("matchMedia('(forced-colors: active)').matches"), True)
+    assert page.js(of % ".alarm") != page.js(of % ":not(.alarm)")
+    page.call("Emulation.setEmulatedMedia", features=[])
+
+
+def test_a_phone_shows_what_is_told(page: Chromium, folder: pathlib.Path) -> None:
+    """On a narrow page what is told of a pick comes into view, with or without a place."""
+    rows = "".join(place(k, f"Q1A{k}", 54.5, -3.5 + k / 100) for k in range(9))
+    url = page_of(folder / "phone.html", rows + row("status", 9, "Q1NO", text="no place"))
+    for name in "Q1A3", "Q1NO":
+        page.open(url, 360, 640)
+        page.js(PICK % name)
+        page.settle()
+        top, bottom = page.js("(it => [it.top, it.bottom])(document.getElementById('one-name')"
+                              ".getBoundingClientRect())")
+        assert 0 <= top and bottom <= 640, (name, top, bottom)
+
+
 def test_edges(page: Chromium, folder: pathlib.Path) -> None:
     """On a map that became another size all names are whole."""
     rows = "".join(place(k, f"Q1LONG-{k}", 54.5 + k / 100, -3.5 + k % 2 / 50) for k in range(8))
@@ -352,7 +388,8 @@ def test_long_texts(page: Chromium, folder: pathlib.Path) -> None:
     high = page.js("[...document.querySelectorAll('#messages .text')].map(it => "
                    "[it.title.length, it.getBoundingClientRect().height])")
     is_([it[0] for it in high], [2, 4 * 67])
-    assert high[1][1] < 170, high
+    # and a line for what deals with it
+    assert high[1][1] < 190, high
 
 
 def test_world(page: Chromium, folder: pathlib.Path) -> None:

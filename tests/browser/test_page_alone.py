@@ -120,7 +120,8 @@ def test_strangers(page: Browser, folder: pathlib.Path) -> None:
                         "words.log": "so much is written here\n" * 9000})
     page.wait(MADE)
     told = page.js(TOLD)
-    is_(told["photo.log"], "is a picture, which no log is")
+    is_(told["photo.log"], "is a picture, which no log is, and can\u2019t be drawn as a map: this "
+        "browser can\u2019t unpack it, which is damaged or too large")
     is_([told["zeros.log"], told["words.log"]], ["is no log", "is no log"])
     is_(page.js("aprsfiles.files.map(it => [it.name, it.bytes.length]).sort()")[1:],
         [["photo.log", 0], ["words.log", 0], ["zeros.log", 0]])
@@ -154,6 +155,56 @@ def test_names(page: Browser, folder: pathlib.Path) -> None:
     give(page, folder, {name: log(2)})
     is_(page.js("document.querySelector('#files th[scope=row]').textContent"),
         "log\\xe2\\x80\\xaegnp.log")
+
+
+@pytest.mark.browsers("Chromium")
+@pytest.mark.parametrize("width, height, most", [(1440, 900, 300), (1024, 600, 270),
+                                                 (360, 640, 470)])
+def test_first_view(page: Chromium, folder: pathlib.Path, width: int, height: int,
+                    most: int) -> None:
+    """The map is in the first view below four logs, whose table folds; a damaged one opens it."""
+    fresh(page, folder)
+    page.size(width, height)
+    give(page, folder, {f"{it}.log": log(5, it) for it in ("RX1", "RX2", "RX3", "RX4")})
+    page.wait(MADE)
+    top = page.js("document.getElementById('map').getBoundingClientRect().top")
+    assert top <= most, top
+    said = "[fold.open, document.getElementById('fold-text').textContent]"
+    is_(page.js(said), [False, "4 files"])
+    give(page, folder, {"torn.log": log(5, "RX5") + "no line\n"})
+    page.wait(f"{MADE} && aprsfiles.files.length === 5")
+    is_(page.js(said), [True, "5 files, 1 of them not read"])
+
+
+@pytest.mark.browsers("Chromium")
+def test_many_receivers(page: Chromium, folder: pathlib.Path) -> None:
+    """A log of 2,000 receivers that heard the same is drawn, and says whose clocks are compared."""
+    fresh(page, folder)
+    give(page, folder, {"many.log": "".join(
+        place(100 * k, "Q1A", 30 + k, f"R{n}") for k in range(4) for n in range(2000))})
+    page.wait(f"{MADE} && {ROWS} === 4", 120)
+    page.wait("document.getElementById('compared').textContent !== ''")
+    is_(page.js("document.getElementById('compared').textContent"),
+        "Those of the 64 that heard most are compared.")
+
+
+@pytest.mark.browsers("Chromium")
+def test_a_long_course(page: Chromium, folder: pathlib.Path) -> None:
+    """A long course says how far it is read, and XML that is too deep isn't called ill-formed."""
+    fresh(page, folder)
+    points = "".join(f'<trkpt lat="54.5" lon="{k / 1e5}"/>' for k in range(140_000))
+    page.js("(() => { const told = document.getElementById('told'); window.said = [];"
+            "new MutationObserver(() => said.push(told.textContent))"
+            ".observe(told, { childList: true, characterData: true, subtree: true }) })()")
+    give(page, folder, {"a.log": log(1), "course.gpx":
+                        f"<gpx><trk><trkseg>{points}</trkseg></trk></gpx>"})
+    page.wait("said.at(-1) === 'course.gpx: a map'", 120)
+    assert "course.gpx: reading" in page.js("said")
+    assert any("places so far" in it for it in page.js("said")), page.js("said")
+    deep = "<kml>" + "<Folder>" * 6000 + "</Folder>" * 6000 + "</kml>"
+    give(page, folder, {"deep.kml": deep})
+    page.wait("said.at(-1).startsWith('deep.kml')")
+    assert "not well-formed" not in page.js("said.at(-1)"), page.js("said.at(-1)")
 
 
 def drop(page: Chromium, *paths: Place) -> None:
@@ -646,8 +697,11 @@ def test_own_lines(page: Browser, folder: pathlib.Path) -> None:
     fresh(page, folder)
     page.give("#choose", folder / "event.html", folder / "a.log")
     page.wait(MADE)
-    is_(page.js("told.textContent"), "event.html: 2 lines of your own for ICS-309")
+    is_(page.js("told.textContent"),
+        "event.html: 2 lines of another desk, which the form ICS-309 offers")
     page.js("document.getElementById('ics-open').click()")
+    is_(page.js(LOGGED), [])
+    page.js("document.querySelector('#own-desks button').click()")
     is_(page.js(LOGGED), ["by <b>voice</b>", "=1+1"])
     page.js("(localStorage.clear(), 1)")
 
@@ -664,7 +718,7 @@ def test_other_days(page: Browser, folder: pathlib.Path) -> None:
         page.js("document.getElementById('ics-open').click()")
         is_(page.js(LOGGED), ["at 1718992800"])
         is_(page.js("document.getElementById('own-told').textContent"),
-            "Left out, more than a day off: 1 line of your own.")
+            "Left out, more than a day off: 1 line.")
         assert "at 1718388000" not in page.js("aprsfiles.eventPage()")
         page.js("(localStorage.clear(), 1)")
 

@@ -43,9 +43,12 @@ export function takeOtherCall() {
 }
 const thingOf = (/** @type {string | null} */ key) =>
   shownNow().net.things.find(it => it.key === key);
-/** Brings what is told of it into view where lists stand beside the map, in a box that scrolls. */
+/** Whether lists stand beside the map, in a box that scrolls, and not below it. */
+const isBeside = () => getComputedStyle(byId("beside")).overflowY === "auto";
+/** Brings what is told of it into view; where that stands below the map, a part of the map too. */
 export function showOne() {
   const [box, one] = [byId("beside"), byId("one")];
+  if (!isBeside()) return one.scrollIntoView({ block: "start" });
   box.scrollTop += one.getBoundingClientRect().top - box.getBoundingClientRect().top;
 }
 /**
@@ -65,7 +68,8 @@ export function pick(key, onMap = false) {
   drawOne();
   lists.things.mark(page.picked, onMap);
   if (thing?.now && !onMap) byId("map").scrollIntoView({ block: "nearest" });
-  if (thing && onMap) showOne();
+  // beside the map the list stays where it is, as does a map above what is told
+  if (thing && onMap === isBeside()) showOne();
   map.paintSoon();
 }
 /** What is known of the thing that is picked; its lists stay where they are in another drawing. */

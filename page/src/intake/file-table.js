@@ -166,13 +166,31 @@ function rowOf(file, work) {
   more.replaceChildren(...moreOf(file, work));
   return row;
 }
+/** The files with which something is wrong, by which the table was folded last. */
+let foldedBy = "";
+/**
+ * Folds the table, so that the map is seen, or opens it where something is wrong with a file; what
+ * the reader does then stays until that is another one.
+ */
+function fold() {
+  const bad = files.filter(it => it.fault), box = byId("fold"), now = files.length
+    ? `${bad.map(it => it.name).join()}:` : "";
+  byId("fold-text").textContent = count(files.length, "file") +
+    (bad.length ? `, ${bad.length} of them not read` : "");
+  box.parentElement?.classList.toggle("filled", files.length > 0);
+  if (now === foldedBy) return;
+  foldedBy = now;
+  const isOpen = !files.length || bad.length > 0;
+  // who is at work in it stays there
+  if (isOpen || !box.contains(document.activeElement)) box.open = isOpen;
+}
 /**
  * Draws the table of the files.
  * @param {Work} work
  */
 export function drawFiles(work) {
   byId("files-box").hidden = !files.length;
-  byId("files-box").parentElement?.classList.toggle("filled", files.length > 0);
+  fold();
   const rows = files.map(it => rowOf(it, work)), body = byId("files").tBodies[0];
   for (const it of [...body.rows]) if (!rows.includes(it)) it.remove();
   rows.forEach((row, k) => {

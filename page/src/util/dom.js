@@ -16,7 +16,7 @@ import { fullText, isoText, timeText } from "./time.js";
 /**
  * The kinds of the page's elements by their names, where they are more than HTML elements.
  * @typedef {Record<Input, HTMLInputElement> & Record<Select, HTMLSelectElement> &
- *   Record<Button, HTMLButtonElement> & Record<"saves" | "adds", HTMLDetailsElement> &
+ *   Record<Button, HTMLButtonElement> & Record<"saves" | "adds" | "fold", HTMLDetailsElement> &
  *   { files: HTMLTableElement, progress: HTMLProgressElement }} Kinds
  */
 /**
@@ -58,12 +58,17 @@ export function make(tag, of, ...inside) {
   for (const it of inside) if (it !== null && it !== undefined) node.append(it);
   return node;
 }
+/** A letter with more marks on it than these would be as wide as all of them, without a font. */
+const MARKS = /(?<=\p{M}{4})(?=\p{M})/u;
 /**
- * A text off the air: which way it runs, and where it ends, stays its own affair.
+ * A text off the air: which way it runs, and where it ends, stays its own affair. A letter with
+ * very many marks may be broken among them.
  * @param {string} shown
  */
 export function air(shown) {
-  return shown ? make("bdi", { textContent: said(shown) }) : "";
+  if (!shown) return "";
+  const [first, ...rest] = said(shown).split(MARKS);
+  return make("bdi", {}, first, ...rest.flatMap(it => [make("wbr"), it]));
 }
 /**
  * A text that stands in the page as it is, whichever way it runs.
