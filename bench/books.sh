@@ -34,6 +34,8 @@ widen_year() { "$@" "$program" widen 60 year.book; }
 plain_year() { "$@" plain/book_merge year.book; }
 fold_books() { "$@" "$fold" three/a.book three/b.book three/c.book; }
 fold_day() { "$@" "$fold" year.book day.book; }
+news_day() { "$@" "$fold" --new-to year.book day.book; }
+fold_year_and_news() { "$@" "$fold" year.book news.book; }
 plain_day() { "$@" plain/book_merge year.book day.book; }
 fold_64_books() { "$@" "$fold" many/*.book; }
 plain_64_books() { "$@" plain/book_merge many/*.book; }
@@ -104,7 +106,9 @@ measure_folds() {
     cut_up 1000 most
     rm most/*.log
     for book in three/?.book; do sed '1d; $d' "$book" | sort > "${book%.book}.rows"; done
-    for run in fold_books fold_day plain_day fold_64_books plain_64_books fold_1000_books; do
+    news_day > news.book
+    for run in fold_books fold_day plain_day fold_year_and_news fold_64_books plain_64_books \
+        fold_1000_books; do
         same "$run and C, $lines lines" "$run" book_of_all
     done
 
@@ -114,9 +118,10 @@ measure_folds() {
     time_row 'fold of three book files / sort -m of their rows' "$lines" - fold_books sort_rows
     time_row 'fold of three book files / cat of them' "$lines" - fold_books cat_books
     most_row 'fold of three book files: peak memory / 4 MiB' "$lines" 4096 fold_books
-    take_turns fold_day plain_day
+    take_turns fold_day plain_day news_day
     time_row "fold of a day's book into a year's / C" "$lines" 0.9 fold_day plain_day
     most_row 'the same: peak memory / 4 MiB' "$lines" 4096 fold_day
+    time_row "what is new in a day's book to a year's / the fold of both" "$lines" 1.1 news_day fold_day
     take_turns fold_64_books plain_64_books fold_1000_books
     time_row 'fold of 64 book files / C' "$lines" - fold_64_books plain_64_books
     time_row 'fold of 1,000 book files / fold of 64' "$lines" 2.0 fold_1000_books fold_64_books

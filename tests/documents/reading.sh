@@ -29,10 +29,9 @@ while IFS= read -r line; do
     fail "its head says that no public clause cites it, and one does: $line"
 done < "$scratch/cited"
 
-# those of the messages of a net came last, and have no names of their own yet: no other may come, and
-# what is mended goes from these lists
-known_names='Answers Asked GivesReply IsTold Message is_end message_cmp message_of number_of told_line'
-known_twice='Message message_cmp reported_message'
+# the known ones: no other may come, and what is mended goes from these lists
+known_names='first_of number_of'
+known_twice=''
 # are WHAT KNOWN FOUND: what is found is what is known
 are() {
     # shellcheck disable=SC2086 # one name a word

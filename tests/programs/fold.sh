@@ -154,7 +154,7 @@ rows=$(($(wc -l < "$old") - 2))
 digest=$(sha256sum "$old" | cut -d ' ' -f 1)
 told="aprsbook-fold: new to $old: $rows rows, sha256 $digest"
 aprsbook-fold --new-to "$old" evening.book > news.book 2> said || fail "no news: $(cat said)"
-[ "$(cat said)" = "$told" ] || fail "of news it says: $(cat said)"
+[ ! -s said ] || fail "of news it says unasked: $(cat said)"
 alike 'an old book and its news' news.book "$old"
 aprsbook-fold --new-to "$old" < evening.book 2> said | cmp -s - news.book ||
     fail 'the news of standard input differ'
@@ -162,6 +162,10 @@ aprsbook-fold --new-to evening.book ./*.log.book 2> said | cmp -s - none.book ||
     fail 'nothing is new, and something is written'
 aprsbook-fold --check --new-to "$old" evening.book > left 2> said || fail "a check: $(cat said)"
 [ "$(cat left said)" = "$told" ] || fail "a check of news says: $(cat left said)"
+# the digest is that of the whole file, also of a range
+aprsbook-fold --check --from N1 --until N2 --new-to "$old" evening.book > left 2> said ||
+    fail "a check of a range: $(cat said)"
+[ "$(cat left said)" = "$told" ] || fail "a check of news of a range says: $(cat left said)"
 # lacks COMPLAINT OLD BOOK..: the old book, or another one, is refused so
 lacks() {
     wanted=$1
@@ -177,11 +181,17 @@ lacks 'all.600: other gap' "$old" all.600
 sed '$d' evening.book > cut.book
 lacks "cut.book: line $(wc -l < evening.book): Ending" cut.book evening.book
 lacks "cut.book: line $(wc -l < evening.book): Ending" "$old" cut.book
-# a pipe can't be read twice
+# a pipe serves, since the old book is read once
 mkfifo old.pipe
-cat "$old" > old.pipe 2> /dev/null &
-lacks 'old.pipe: cannot open' old.pipe evening.book
+cat "$old" > old.pipe &
+aprsbook-fold --new-to old.pipe evening.book 2> said | cmp -s - news.book ||
+    fail 'the news to a pipe differ'
 wait
+cat "$old" > old.pipe &
+aprsbook-fold --check --new-to old.pipe evening.book 2> said || fail "of a pipe: $(cat said)"
+wait
+[ "$(cat said)" = "aprsbook-fold: new to old.pipe: $rows rows, sha256 $digest" ] ||
+    fail "of a pipe it says: $(cat said)"
 # shellcheck disable=SC3045 # a shell without it leaves this out
 if (ulimit -v 65536 && aprsbook-fold --version) > left 2>&1; then
     (ulimit -v 65536; aprsbook-fold --new-to large large large) > left 2> said ||
@@ -203,5 +213,6 @@ aprsbook-fold --version | grep -q '^aprsbook-fold [0-9]' || fail 'the version'
 if command -v python3 > /dev/null; then
     "$repository/tests/programs/folds.py" "$program" "$scratch/bin/aprsbook-fold" 40 > said || fail "$(cat said)"
     "$repository/tests/programs/news.py" "$program" "$scratch/bin/aprsbook-fold" 40 > said || fail "$(cat said)"
+    "$repository/tests/programs/range.py" "$scratch/bin/aprsbook-fold" > said || fail "$(cat said)"
 fi
 echo 'folds are as merges are'

@@ -62,10 +62,10 @@ def compare_ranges(fold: str, chance: random.Random, asked: Paths, old: str, new
     ]
     words = [*bounds(*ends), *asked]
     news, whole = run(fold, *words, "--new-to", old, *new), run(fold, *words, old, *new)
-    own = run(fold, *words, old)
-    if (news.status, news.out) != (0, lacking(whole.out, own.out)) or news.said != told(old):
+    own, checked = run(fold, *words, old), run(fold, *words, "--check", "--new-to", old, *new)
+    if news != Answer(0, lacking(whole.out, own.out), b""):
         return f"{words}: {news.status}, {news.said!r}"
-    return ""
+    return "" if checked == Answer(0, b"", told(old)) else f"{words}, checked: {checked.said!r}"
 
 
 def compare_chain(fold: str, chance: random.Random, asked: Paths, old: str, new: Paths) -> str:
@@ -121,7 +121,7 @@ def compare(program: str, fold: str, chance: random.Random, folder: Path) -> str
             return f"{news.status}, {news.said!r}"
         return refuses(fold, program, asked, old, new, news)
     whole, own = run(fold, *asked, old, *new), run(fold, *asked, old)
-    if news.out != lacking(whole.out, own.out) or news.said != told(old):
+    if news != Answer(0, lacking(whole.out, own.out), b""):
         return f"{len(rows_of(news.out))} rows are new, {news.said!r}"
     late = folder / "late"
     late.write_bytes(news.out)

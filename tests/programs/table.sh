@@ -46,13 +46,14 @@ aprsbook-table messages sample.log | tee "$scratch/messages" |
     picks source addressee id text state first last answer answer_source reply_ack reply_answer |
     wanted 'the messages of the sample'
 cat > "$scratch/wanted" << 'end'
-N0CALL-7 2 - - - - - - - - - 2024-05-01T12:00:02.000Z RX2 - Hi
-N0CALL-8 1 - - - - - - - - - - - - -
-WU2Z 2 2024-05-01T12:00:31.000Z RX1 - 49.0583333 -72.0291667 0 no /- Club house - - - -
+N0CALL-7 2 - - - - - - - - - 2024-05-01T12:00:02.000Z RX2 - Hi 2024-05-01T12:02:10.000Z 0
+N0CALL-8 1 - - - - - - - - - - - - - 2024-05-01T12:01:00.000Z 0
+WU2Z 2 2024-05-01T12:00:31.000Z RX1 - 49.0583333 -72.0291667 0 no /- Club house - - - - 2024-05-01T12:02:12.000Z 0
 end
 aprsbook-table stations sample.log | tee "$scratch/stations" |
     picks source transmissions last receiver stamp latitude longitude ambiguity compressed symbol \
-        text status_last status_receiver status_stamp status_text | wanted 'the stations of the sample'
+        text status_last status_receiver status_stamp status_text heard passed |
+    wanted 'the stations of the sample'
 cat > "$scratch/wanted" << 'end'
 object LEADER live 2024-05-01T12:01:00.000Z RX1 N0CALL-8 092345z 49.0583333 -72.0291667 0 no /> -
 end
@@ -65,6 +66,7 @@ aprsbook-table things sample.log | tee "$scratch/things" |
 if has 'random messages' python3; then
     python3 "$repository/tests/programs/replies.py" "$table" || fail 'random messages differ'
     python3 "$repository/tests/programs/net_messages.py" "$table" || fail 'the messages of random nets differ'
+    python3 "$repository/tests/programs/activity.py" "$table" || fail 'the activity of stations differs'
 fi
 
 # ---- the words ----

@@ -44,7 +44,7 @@ MAKERS = {
     "aprs_command/src/jobs.rt": 1,
     "aprs_program/src/complaint.rt": 5,
     "aprs_program/src/host.rt": 5,
-    "aprs_program/src/news.rt": 4,
+    "aprs_program/src/news.rt": 5,
     "aprs_program/src/opening.rt": 4,
     "aprs_program/src/texts.rt": 1,
 }

@@ -1,5 +1,5 @@
 -- The text of what is new, from its header to its last line.
-use Rattle.aprs_fold.proofs.Common.{◌≡◌, ◌∙◌, ℕ, List, [], ◌++◌, append-nil, Option, Result, Ok, Err, refl, sym, ap, subst, Puts, Puts-fails, Puts-is, Sends, Counted, Row, IsGap}
+use Rattle.aprs_fold.proofs.Common.{◌≡◌, ◌∙◌, ℕ, List, [], append-nil, Option, Ok, Err, refl, sym, ap, subst, Puts, Puts-fails, Puts-is, Sends, Counted, Row, IsGap}
 use Rattle.aprs_io.specs.Outlet.{HasTaken, held_of, writer_of}
 use Rattle.aprs_io.specs.declared.outlet.Outlet.{Outlet}
 use Rattle.aprs_bookfile.specs.RowLines.{ended_by_lf}

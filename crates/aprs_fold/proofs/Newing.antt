@@ -1,53 +1,34 @@
--- The rows of several streams are taken, and those are put that are new to a known book, until none
+-- The rows of several streams are taken, and those are put that are new to the first one, until none
 -- is left.
-use Rattle.aprs_fold.proofs.Common.{◌≡◌, ◌∙◌, ◌+◌, ℕ, Bool, true, false, cond, List, [], ◌∷◌, ◌++◌, append-nil, append_assoc, length, length-append, map, Option, Ok, Err, inl, inr, refl, sym, ap, subst, Counted, Row, row_cmp, row_total, IsBelow, Ordered, Sound, IsGap, millis_of, Puts, in_left, in_right, ◌∈◌}
+use Rattle.aprs_fold.proofs.Common.{◌≡◌, ◌∙◌, ◌+◌, ℕ, zero, suc, Bool, true, false, cond, List, [], ◌∷◌, ◌++◌, append-nil, append_assoc, length, length-append, map, Option, Some, None, inl, inr, refl, sym, ap, subst, upto, up_to_itself, in_either, in_left, in_right, Counted, Row, row_cmp, row_total, IsBelow, IsUpTo, IsSoundRow, Sound, IsGap, millis_of, ◌∈◌}
 use Rattle.std.proofs.lemmas.List.Elements.{filter-append}
 use Rattle.aprs_io.specs.declared.outlet.Outlet.{Outlet}
 use Rattle.aprs_laws.specs.Together.{book_together}
-use Rattle.aprs_bookfile.specs.Reading.{IsAnswered}
-use Rattle.aprs_bookfile.specs.RowStream.{front_of}
 use Rattle.aprs_bookfile.specs.declared.row_stream.RowStream.{RowStream}
-use Rattle.aprs_folding.specs.Folding.{rows_put, IsFolding}
-use Rattle.aprs_folding.specs.News.{new_rows}
+use Rattle.aprs_folding.specs.Folding.{rows_put, IsFolding, TakesNext}
+use Rattle.aprs_folding.specs.News.{last_of, new_rows}
+use Rattle.aprs_folding.proofs.Beside.{last_decides, last_more, new_same}
 use Rattle.aprs_folding.proofs.News.{is_new, new_are_sound}
-use Rattle.aprs_folding.proofs.Steps.{begins}
+use Rattle.aprs_folding.proofs.Steps.{begins, ends_as_book}
 use Rattle.aprs_fold.specs.Fold.{IsWhole}
-use Rattle.aprs_fold.specs.Inputs.{all_of, AreBooks, IsAsked, IsRefused}
-use Rattle.aprs_fold.specs.Known.{AreBefore, FailsNew, HasDrained, HasReadPast, IsAt, IsNewing, PutsNew}
-use Rattle.aprs_fold.specs.News.{news_of_sources, IsNewsRefused, LeavesNews}
+use Rattle.aprs_fold.specs.Fronts.{row_at, IsFirst}
+use Rattle.aprs_fold.specs.Inputs.{all_of, AreBooks, IsRefused}
+use Rattle.aprs_fold.specs.Known.{is_first, known_after, FailsNew, IsAhead, IsNewing, PutsNew, PutsNews}
+use Rattle.aprs_fold.specs.News.{first_of, news_of_sources, LeavesNews}
 use Rattle.aprs_fold.specs.Range.{rows_of_sources}
-use Rattle.aprs_fold.specs.Streams.{fronts_of, AreReading, IsOfInputs, IsReading}
+use Rattle.aprs_fold.specs.Streams.{fronts_of, taken_at, AreReading, GoesOn, IsOfInputs}
 use Rattle.aprs_fold.specs.Taking.{HasPut}
 use Rattle.aprs_fold.specs.declared.fault.FoldFault.{FoldFault}
-use Rattle.aprs_fold.specs.declared.fault.FoldFault.TheVariants.{Memory, Write}
 use Rattle.aprs_fold.specs.declared.range.SourceRange.{SourceRange}
 use Rattle.aprs_fold.proofs.Kept.{in_within, sound_within, within_both}
-use Rattle.aprs_fold.proofs.Lacking.{across, at_of, lone_member, new_in_front, one_or_none}
+use Rattle.aprs_fold.proofs.Lacking.{across, below_upto, front_some, sound_front}
 use Rattle.aprs_fold.proofs.Puttings.{HasPut-fails, HasPut-none, HasPut-then}
-use Rattle.aprs_fold.proofs.Reading.{reading_asked}
-use Rattle.aprs_fold.proofs.Streamed.{memory_own, one_own}
-use Rattle.aprs_fold.proofs.Walking.{all_none, count_put, front_sound, len_there, memory_refuses, parts_by, read_sound, sound_whole, write_refuses}
+use Rattle.aprs_fold.proofs.Reading.{AreReading-ended, AreReading-front, AreReading-in}
+use Rattle.aprs_fold.proofs.Streamed.{memory_own}
+use Rattle.aprs_fold.proofs.Walking.{all_none, count_put, front_sound, len_there, memory_refuses, none_before, parts_by, read_sound, some_millis, sound_whole, takes_here, takes_there, write_refuses}
 
 sound_none : (gap : ℕ) → Sound gap []
 sound_none gap = record { ascending = tt; apart = tt; each = λ x h. absurd h }
-
-nothing : {X : Type 0} (xs ys : List X) → xs ≡ [] → ys ≡ [] → xs ++ ys ≡ []
-nothing xs ys f g = (λ i. f i ++ g i)
-
--- a stream that has ended was answered
-pub answered : {R A : Type 0} (remaining : R → Option (List ℕ)) (limit gap : ℕ)
-    (f n : Counted R) (s : RowStream A) (t : List Row) → IsAt remaining limit gap f n s t
-    → front_of s ≡ [] → IsAnswered remaining limit [] (Ok (record { gap = gap; rows = t })) f n
-answered remaining limit gap f n s t h none = elim h.reading.gets [
-  | inl one ↦ absurd (let e = sym one.1 ∙ none in cc)
-  | inr end ↦ subst (λ (g : ℕ). IsAnswered remaining limit []
-      (Ok (record { gap = g; rows = t })) f n) h.reading.gap_is end.2
-]
-
-pub at_asked : {R A : Type 0} (remaining : R → Option (List ℕ)) (limit gap : ℕ)
-    (f n : Counted R) (s : RowStream A) (t : List Row) → IsAt remaining limit gap f n s t
-    → IsAsked remaining limit f n
-at_asked remaining limit gap f n s t h = reading_asked remaining limit gap f n s t h.reading
 
 pub none_whole : (gap : ℕ) → IsGap gap → IsWhole gap []
 none_whole gap is_gap =
@@ -64,245 +45,317 @@ leaves_begun contents gap fault o is_gap is =
       parts_by contents fault [] [] o o is none.puts,
     )
 
-module _ {Q R W A : Type 0} (known_left : Q → Option (List ℕ)) (remaining : R → Option (List ℕ))
-    (contents : W → Option (List ℕ)) (limit gap : ℕ) (range : SourceRange) (known : Counted Q)
-    (first : List (Counted R)) (begun : Outlet W) where
-  pub news_begins : (known_now : Counted Q) (old : RowStream A) (now : List (Counted R))
-      (streams : List (RowStream A)) → IsReading known_left limit gap known known_now old []
+-- ---- the rows of the first input
+
+-- the row that is taken of it, if one is
+abbrev taken_of : Bool → Row → List Row
+taken_of true x = x ∷ []
+taken_of false x = []
+
+first_in : (taken : List (List Row)) (y : Row) → y ∈ first_of taken → y ∈ all_of taken
+first_in [] y h = absurd h
+first_in (t ∷ taken) y h = in_left y t (all_of taken) h
+
+first_none : {A : Type 0} (streams : List (RowStream A))
+    → first_of (map (λ (s : RowStream A). []) streams) ≡ []
+first_none [] = refl
+first_none (s ∷ streams) = refl
+
+last_taken : (old : List Row) (b : Bool) (x : Row)
+    → last_of (old ++ taken_of b x) ≡ known_after b (last_of old) x
+last_taken old true x = last_more old x
+last_taken old false x = ap last_of (append-nil old)
+
+module _ {R A : Type 0} (remaining : R → Option (List ℕ)) (limit gap : ℕ) where
+  first_taken : (i : ℕ) (first now : List (Counted R)) (streams : List (RowStream A))
+      (taken : List (List Row)) (x : Row) → row_at streams i ≡ Some x
+      → AreReading remaining limit gap first now streams taken
+      → first_of (taken_at streams i taken) ≡ first_of taken ++ taken_of (is_first i) x
+  first_taken i [] [] [] [] x is h = absurd (cc)
+  first_taken i [] [] [] (t ∷ taken) x is h = absurd h
+  first_taken i [] [] (s ∷ streams) taken x is h = absurd h
+  first_taken i [] (n ∷ now) streams taken x is h = absurd h
+  first_taken i (f ∷ first) [] streams taken x is h = absurd h
+  first_taken i (f ∷ first) (n ∷ now) [] taken x is h = absurd h
+  first_taken i (f ∷ first) (n ∷ now) (s ∷ streams) [] x is h = absurd h
+  first_taken zero (f ∷ first) (n ∷ now) (s ∷ streams) (t ∷ taken) x is h =
+      ap (λ (l : List Row). t ++ l) (front_some s x is).0
+  first_taken (suc i) (f ∷ first) (n ∷ now) (s ∷ streams) (t ∷ taken) x is h =
+      sym (append-nil t)
+
+  first_sound : (i : ℕ) (first now : List (Counted R)) (streams : List (RowStream A))
+      (taken : List (List Row)) → AreReading remaining limit gap first now streams taken
+      → Sound (millis_of gap) (first_of taken)
+      → Sound (millis_of gap) (first_of (taken_at streams i taken))
+  first_sound i [] [] [] [] h sound = sound
+  first_sound i [] [] [] (t ∷ taken) h sound = absurd h
+  first_sound i [] [] (s ∷ streams) taken h sound = absurd h
+  first_sound i [] (n ∷ now) streams taken h sound = absurd h
+  first_sound i (f ∷ first) [] streams taken h sound = absurd h
+  first_sound i (f ∷ first) (n ∷ now) [] taken h sound = absurd h
+  first_sound i (f ∷ first) (n ∷ now) (s ∷ streams) [] h sound = absurd h
+  first_sound zero (f ∷ first) (n ∷ now) (s ∷ streams) (t ∷ taken) h sound =
+      sound_front remaining limit gap f n s t sound h.0
+  first_sound (suc i) (f ∷ first) (n ∷ now) (s ∷ streams) (t ∷ taken) h sound = sound
+
+-- ---- the walk
+
+put_last : (closed : Bool) (last : List Row) (z : Row) → z ∈ rows_put closed last → z ∈ last
+put_last true last z h = h
+put_last false last z h = absurd h
+
+module _ {R W A : Type 0} (remaining : R → Option (List ℕ)) (contents : W → Option (List ℕ))
+    (limit gap : ℕ) (range : SourceRange) (first : List (Counted R)) (begun : Outlet W) where
+  pub news_begins : (now : List (Counted R)) (streams : List (RowStream A))
       → AreReading remaining limit gap first now streams (map (λ (s : RowStream A). []) streams)
-      → IsNewing known_left remaining contents limit gap range known known_now old first now
-      streams begun begun [] 0
-  news_begins known_now old now streams k h = record {
+      → IsNewing remaining contents limit gap range first now streams begun begun [] [] 0
+  news_begins now streams h = record {
     taken = map (λ (s : RowStream A). []) streams;
     final = [];
     reading = h;
     folding = subst (λ (l : List Row). IsFolding (millis_of gap) l (fronts_of streams) [] [])
         (sym (all_none streams)) (begins (millis_of gap) (fronts_of streams));
-    was = [];
-    knows = at_of known_left limit gap known known_now old [] (sound_none (millis_of gap)) k;
-    before = λ y h. absurd h;
+    sound = subst (Sound (millis_of gap)) (sym (first_none streams)) (sound_none (millis_of gap));
+    keeps = sym (ap last_of (first_none streams));
     written = [];
-    are_new = λ more none o. refl;
+    are_new = λ rest sound ahead. refl;
     put = HasPut-none begun;
     counted = refl;
   }
 
-  module _ (is_gap : IsGap gap) (known_now : Counted Q) (old : RowStream A)
-      (now : List (Counted R)) (streams : List (RowStream A)) (out : Outlet W) (last : List Row)
-      (count : ℕ)
-      (w : IsNewing known_left remaining contents limit gap range known known_now old first now
-      streams begun out last count) where
-    abbrev seen : List Row
-    seen = w.was ++ front_of old
+  module _ (is_gap : IsGap gap) (now : List (Counted R)) (streams : List (RowStream A))
+      (out : Outlet W) (last known : List Row) (count : ℕ)
+      (w : IsNewing remaining contents limit gap range first now streams begun out last known count)
+    where
+      abbrev old : List Row
+      old = first_of w.taken
 
-    pub all_sound : Sound (millis_of gap) (w.final ++ last)
-    all_sound =
-        read_sound gap is_gap (all_of w.taken) (fronts_of streams) w.final last w.folding
+      all_sound : Sound (millis_of gap) (w.final ++ last)
+      all_sound =
+          read_sound gap is_gap (all_of w.taken) (fronts_of streams) w.final last w.folding
 
-    final_sound : Sound (millis_of gap) w.final
-    final_sound = front_sound (millis_of gap) w.final last all_sound
+      final_sound : Sound (millis_of gap) w.final
+      final_sound = front_sound (millis_of gap) w.final last all_sound
 
-    pub closed_sound : (closed : Bool) → Sound (millis_of gap) (w.final ++ rows_put closed last)
-    closed_sound true = all_sound
-    closed_sound false = subst (Sound (millis_of gap)) (sym (append-nil w.final)) final_sound
+      closed_sound : (closed : Bool) → Sound (millis_of gap) (w.final ++ rows_put closed last)
+      closed_sound true = all_sound
+      closed_sound false = subst (Sound (millis_of gap)) (sym (append-nil w.final)) final_sound
 
-    -- what was put is whole
-    written_whole : IsWhole gap w.written
-    written_whole =
-        let same : w.written ≡ new_rows (seen ++ []) (rows_of_sources range w.final) =
-        w.are_new [] (λ e. refl) (subst (Ordered (IsBelow row_cmp)) (sym (append-nil seen))
-        w.knows.sound.ascending) in
-        sound_whole gap w.written is_gap (subst (Sound (millis_of gap)) (sym same)
-        (new_are_sound (millis_of gap) (seen ++ []) (rows_of_sources range w.final)
-        (sound_within (millis_of gap) range w.final final_sound))) w.put.spelled
+      old_sound : Sound (millis_of gap) (old ++ [])
+      old_sound = subst (Sound (millis_of gap)) (sym (append-nil old)) w.sound
 
-    pub leaves_here : (fault : FoldFault) → IsOfInputs fault
-        → LeavesNews contents gap fault begun out
-    leaves_here fault is = (
-      w.written,
-      [],
-      written_whole,
-      parts_by contents fault w.written [] begun out is w.put.puts,
-    )
+      -- the kept row says which of the rows that are put next are new
+      new_with : (rows rest : List Row) → Sound (millis_of gap) (old ++ rest)
+          → ((y : Row) → y ∈ rest → IsAhead (fronts_of streams) y)
+          → ((z : Row) → z ∈ rows → z ∈ last)
+          → ((z y : Row) → z ∈ rows → y ∈ rest → IsBelow row_cmp z y)
+          → w.written ++ new_rows known (rows_of_sources range rows)
+          ≡ new_rows (old ++ rest) (rows_of_sources range (w.final ++ rows))
+      new_with rows rest sound ahead own below =
+          let kept = rows_of_sources range rows in
+          let decided : new_rows (old ++ rest) kept ≡ new_rows (last_of old) kept =
+          new_same (old ++ rest) (last_of old) kept (λ z h.
+              let here = in_within range z rows h in
+              last_decides (millis_of gap) (some_millis gap is_gap) (all_of w.taken)
+              (fronts_of streams) w.final last old rest z w.folding (first_in w.taken) sound
+              (own z here) (λ y k. below z y here k)) in
+          (λ i. w.are_new rest sound ahead i
+          ++ (ap (λ (l : List Row). new_rows l kept) w.keeps ∙ sym decided) i)
+          ∙ sym (filter-append (is_new (old ++ rest)) (rows_of_sources range w.final) kept)
+          ∙ ap (new_rows (old ++ rest)) (sym (within_both range w.final rows))
 
-    are_before : (rows : List Row) → Sound (millis_of gap) (w.final ++ rows)
-        → AreBefore w.was rows
-    are_before rows sound x y hx hy =
-        let c = w.before y hy in
-        row_total.trans y c.0 x c.2
-        (across (IsBelow row_cmp) w.final rows c.0 x sound.ascending c.1 hx)
+      new_so_far : (rows : List Row) → ((z : Row) → z ∈ rows → z ∈ last)
+          → w.written ++ new_rows known (rows_of_sources range rows)
+          ≡ new_rows (old ++ []) (rows_of_sources range (w.final ++ rows))
+      new_so_far rows own =
+          new_with rows [] old_sound (λ y h. absurd h) own (λ z y h k. absurd k)
 
-    -- of these rows what is new is put
-    module _ (rows : List Row) (sound : Sound (millis_of gap) (w.final ++ rows))
-        (known_next : Counted Q) (next : RowStream A) (wrote : Bool) (put_out : Outlet W)
-        (p : PutsNew known_left contents range wrote known_now known_next old next out put_out rows)
-      where
-        pub past : HasReadPast known_left limit gap known known_next old next w.was rows
-        past = p.reads limit gap known w.was w.knows (are_before rows sound)
+      -- what was put is whole
+      written_whole : IsWhole gap w.written
+      written_whole = sound_whole gap w.written is_gap (subst (Sound (millis_of gap))
+          (sym (w.are_new [] old_sound (λ y h. absurd h)))
+          (new_are_sound (millis_of gap) (old ++ []) (rows_of_sources range w.final)
+          (sound_within (millis_of gap) range w.final final_sound))) w.put.spelled
 
-        abbrev kept : List Row
-        kept = rows_of_sources range rows
+      pub leaves_here : (fault : FoldFault) → IsOfInputs fault
+          → LeavesNews contents gap fault begun out
+      leaves_here fault is = (
+        w.written,
+        [],
+        written_whole,
+        parts_by contents fault w.written [] begun out is w.put.puts,
+      )
 
-        abbrev more_written : List Row
-        more_written = w.written ++ new_rows (front_of next) kept
+      -- of the last row what is new is put
+      module _ (closed wrote : Bool) (next : Outlet W)
+          (p : PutsNew contents range wrote known out next (rows_put closed last)) where
+        abbrev more : List Row
+        more = new_rows known (rows_of_sources range (rows_put closed last))
 
-        below : (x y : Row) → x ∈ kept → y ∈ past.taken → IsBelow row_cmp y x
-        below x y hx hy = elim (past.before y hy) [
-          | inl k ↦ are_before rows sound x y (in_within range x rows hx) k
-          | inr one ↦ subst (λ (z : Row). IsBelow row_cmp y z)
-              (lone_member one.0 x rows one.1 (in_within range x rows hx)) one.2
-        ]
+        pub put_all : HasPut contents begun next (w.written ++ more)
+        put_all = HasPut-then begun out next w.written more w.put p.puts
 
-        step_new : (more : List Row) → (front_of next ≡ [] → more ≡ [])
-            → Ordered (IsBelow row_cmp) ((past.taken ++ front_of next) ++ more)
-            → more_written ≡ new_rows ((past.taken ++ front_of next) ++ more)
-            (rows_of_sources range (w.final ++ rows))
-        step_new more none o =
-            let all = (past.taken ++ front_of next) ++ more in
-            let whole : all ≡ seen ++ (past.more ++ more) =
-            ap (λ l. l ++ more) past.grown ∙ append_assoc seen past.more more in
-            let so_far : w.written ≡ new_rows all (rows_of_sources range w.final) =
-            w.are_new (past.more ++ more)
-            (λ e. nothing past.more more (past.ended e).0 (none (past.ended e).1))
-            (subst (Ordered (IsBelow row_cmp)) whole o)
-            ∙ ap (λ l. new_rows l (rows_of_sources range w.final)) (sym whole) in
-            (λ i. so_far i ++ sym (new_in_front past.taken (front_of next) more kept below p.ahead
-            (one_or_none next) none o) i)
-            ∙ sym (filter-append (is_new all) (rows_of_sources range w.final) kept)
-            ∙ ap (new_rows all) (sym (within_both range w.final rows))
-
-        put_all : HasPut contents begun put_out more_written
-        put_all = HasPut-then begun out put_out w.written (new_rows (front_of next) kept) w.put p.puts
-
-        whole_new : IsWhole gap more_written
-        whole_new =
-            let all = past.taken ++ front_of next in
-            let same : more_written ≡ new_rows (all ++ []) (rows_of_sources range (w.final ++ rows)) =
-            step_new [] (λ e. refl) (subst (Ordered (IsBelow row_cmp)) (sym (append-nil all))
-            past.at.sound.ascending) in
-            sound_whole gap more_written is_gap (subst (Sound (millis_of gap)) (sym same)
-            (new_are_sound (millis_of gap) (all ++ []) (rows_of_sources range (w.final ++ rows))
-            (sound_within (millis_of gap) range (w.final ++ rows) sound))) put_all.spelled
+        pub whole_new : IsWhole gap (w.written ++ more)
+        whole_new = sound_whole gap (w.written ++ more) is_gap (subst (Sound (millis_of gap))
+            (sym (new_so_far (rows_put closed last) (put_last closed last)))
+            (new_are_sound (millis_of gap) (old ++ [])
+            (rows_of_sources range (w.final ++ rows_put closed last))
+            (sound_within (millis_of gap) range (w.final ++ rows_put closed last)
+            (closed_sound closed)))) put_all.spelled
 
         -- a fault of the inputs after that
         pub leaves_put : (fault : FoldFault) → IsOfInputs fault
-            → LeavesNews contents gap fault begun put_out
+            → LeavesNews contents gap fault begun next
         leaves_put fault is = (
-          more_written,
+          w.written ++ more,
           [],
           whole_new,
-          parts_by contents fault more_written [] begun put_out is put_all.puts,
+          parts_by contents fault (w.written ++ more) [] begun next is put_all.puts,
         )
 
-        counts : (n : ℕ) → n ≡ cond wrote (count + 1) count → n ≡ length more_written
-        counts n e = e ∙ count_put wrote count (length w.written)
-            (length (new_rows (front_of next) kept)) w.counted
-            (len_there wrote (new_rows (front_of next) kept) p.is_there)
-            ∙ sym (length-append w.written (new_rows (front_of next) kept))
+        counts : (n : ℕ) → n ≡ cond wrote (count + 1) count → n ≡ length (w.written ++ more)
+        counts n e = e ∙ count_put wrote count (length w.written) (length more) w.counted
+            (len_there wrote more p.is_there) ∙ sym (length-append w.written more)
 
         -- it goes on
-        pub news_on : (taken : List (List Row)) (after : List (Counted R))
-            (others : List (RowStream A)) (new : List Row) (n : ℕ)
-            → AreReading remaining limit gap first after others taken
-            → IsFolding (millis_of gap) (all_of taken) (fronts_of others) (w.final ++ rows) new
-            → n ≡ cond wrote (count + 1) count
-            → IsNewing known_left remaining contents limit gap range known known_next next first
-            after others begun put_out new n
-        news_on taken after others new n reading folding e = record {
-          taken = taken;
-          final = w.final ++ rows;
-          reading = reading;
-          folding = folding;
-          was = past.taken;
-          knows = past.at;
-          before = λ y h. elim (past.before y h) [
-            | inl k ↦ let c = w.before y k in (c.0, in_left c.0 w.final rows c.1, c.2)
-            | inr one ↦ (
-              one.0,
-              in_right one.0 w.final rows
-                  (subst (λ (l : List Row). one.0 ∈ l) (sym one.1) (inl refl)),
-              one.2,
+        module _ (i : ℕ) (f : IsFirst streams i) (sound : IsSoundRow f.row) (new : List Row)
+            (takes : TakesNext closed (millis_of gap) last f.row new)
+            (after : List (Counted R)) (others : List (RowStream A))
+            (reading : AreReading remaining limit gap first after others
+            (taken_at streams i w.taken)) (goes : GoesOn i streams others) where
+          abbrev taken : List (List Row)
+          taken = taken_at streams i w.taken
+
+          -- the closed row comes before the one that closes it
+          below_next : (c : Bool) → TakesNext c (millis_of gap) last f.row new
+              → Sound (millis_of gap) ((w.final ++ rows_put c last) ++ new)
+              → (z : Row) → z ∈ rows_put c last → IsBelow row_cmp z f.row
+          below_next true t s z h = across (IsBelow row_cmp) (w.final ++ last) new z f.row
+              s.ascending (in_right z w.final last h)
+              (subst (λ (l : List Row). f.row ∈ l) (sym t.3) (inl refl))
+          below_next false t s z h = absurd h
+
+          closed_below : (z : Row) → z ∈ rows_put closed last → IsBelow row_cmp z f.row
+          closed_below = below_next closed takes (read_sound gap is_gap (all_of taken)
+              (fronts_of streams) (w.final ++ rows_put closed last) new
+              (takes_here remaining limit gap first now streams w.taken w.reading i f w.final last
+              w.folding sound closed new takes))
+
+          in_front : f.row ∈ fronts_of streams
+          in_front = AreReading-in remaining limit gap i first now streams w.taken f.row f.is
+              w.reading
+
+          was_ahead : (y : Row) → IsAhead (fronts_of others) y → IsAhead (fronts_of streams) y
+          was_ahead y h =
+              let at = AreReading-front remaining limit gap first after others taken h.0 reading
+              h.1 in
+              elim (goes at.0 f.row h.0 f.is at.1) [
+                | inl was ↦ (
+                  h.0,
+                  AreReading-in remaining limit gap at.0 first now streams w.taken h.0 was
+                      w.reading,
+                  h.2,
+                )
+                | inr up ↦ (f.row, in_front, upto row_total f.row h.0 y up h.2)
+              ]
+
+          own_ahead : (b : Bool) (y : Row) → y ∈ taken_of b f.row → IsAhead (fronts_of streams) y
+          own_ahead true y h = elim h [
+            | inl same ↦ (
+              f.row,
+              in_front,
+              subst (λ (z : Row). IsUpTo row_cmp f.row z) same (up_to_itself row_total f.row),
             )
-          ];
-          written = more_written;
-          are_new = step_new;
-          put = put_all;
-          counted = counts n e;
-        }
+            | inr never ↦ absurd never
+          ]
+          own_ahead false y h = absurd h
 
-        -- all have ended
-        pub news_end : (known_end : Counted Q) (end : RowStream A) (n : ℕ)
-            → w.final ++ rows ≡ book_together (millis_of gap) (all_of w.taken)
-            → AreBooks remaining limit gap first now w.taken → front_of end ≡ []
-            → HasDrained known_left limit gap known known_end next end (past.taken ++ front_of next)
-            → n ≡ cond wrote (count + 1) count
-            → (was : List Row) × (all : List (List Row))
-            × IsAnswered known_left limit [] (Ok (record { gap = gap; rows = was })) known known_end
-            × AreBooks remaining limit gap first now all
-            × HasPut contents begun put_out (news_of_sources range gap was all).rows
-            × (n ≡ length (news_of_sources range gap was all).rows)
-            × IsWhole gap (news_of_sources range gap was all).rows
-        news_end known_end end n book books ended d e =
-            let seen_all = past.taken ++ front_of next in
-            let whole : d.taken ≡ seen_all ++ d.more =
-            sym (append-nil d.taken) ∙ ap (λ l. d.taken ++ l) (sym ended) ∙ d.grown in
-            let same : more_written ≡ (news_of_sources range gap d.taken w.taken).rows =
-            step_new d.more (λ k. (d.ended k).0) (subst (Ordered (IsBelow row_cmp)) d.grown
-            d.at.sound.ascending)
-            ∙ (λ i. new_rows (sym whole i) (rows_of_sources range (book i))) in (
-              d.taken,
-              w.taken,
-              answered known_left limit gap known known_end end d.taken d.at ended,
-              books,
-              subst (λ (l : List Row). HasPut contents begun put_out l) same put_all,
-              subst (λ (l : List Row). n ≡ length l) same (counts n e),
-              subst (λ (l : List Row). IsWhole gap l) same whole_new,
+          old_on : first_of taken ≡ old ++ taken_of (is_first i) f.row
+          old_on = first_taken remaining limit gap i first now streams w.taken f.row f.is w.reading
+
+          step_new : (rest : List Row) → Sound (millis_of gap) (first_of taken ++ rest)
+              → ((y : Row) → y ∈ rest → IsAhead (fronts_of others) y)
+              → w.written ++ more
+              ≡ new_rows (first_of taken ++ rest)
+              (rows_of_sources range (w.final ++ rows_put closed last))
+          step_new rest s ahead =
+              let own = taken_of (is_first i) f.row in
+              let whole : first_of taken ++ rest ≡ old ++ (own ++ rest) =
+              ap (λ (l : List Row). l ++ rest) old_on ∙ append_assoc old own rest in
+              let all_ahead : (y : Row) → y ∈ (own ++ rest) → IsAhead (fronts_of streams) y =
+              λ y h. elim (in_either y own rest h) [
+                | inl k ↦ own_ahead (is_first i) y k
+                | inr k ↦ was_ahead y (ahead y k)
+              ] in
+              new_with (rows_put closed last) (own ++ rest) (subst (Sound (millis_of gap)) whole s)
+              all_ahead (put_last closed last) (λ z y h k.
+                  let a = all_ahead y k in
+                  below_upto z f.row y (closed_below z h) (upto row_total f.row a.0 y
+                  (none_before remaining limit gap first now streams w.taken w.reading i f a.0 a.1)
+                  a.2))
+              ∙ ap (λ (l : List Row). new_rows l
+              (rows_of_sources range (w.final ++ rows_put closed last))) (sym whole)
+
+          pub news_on : (kept : List Row) (n : ℕ)
+              → kept ≡ known_after (is_first i) known f.row → n ≡ cond wrote (count + 1) count
+              → IsNewing remaining contents limit gap range first after others begun next new kept n
+          news_on kept n e m = record {
+            taken = taken;
+            final = w.final ++ rows_put closed last;
+            reading = reading;
+            folding = takes_there remaining limit gap first now streams w.taken w.reading i f w.final
+                last w.folding sound closed new takes after others reading goes;
+            sound = first_sound remaining limit gap i first now streams w.taken w.reading w.sound;
+            keeps = e ∙ ap (λ (l : List Row). known_after (is_first i) l f.row) w.keeps
+                ∙ sym (last_taken old (is_first i) f.row) ∙ ap last_of (sym old_on);
+            written = w.written ++ more;
+            are_new = step_new;
+            put = put_all;
+            counted = counts n m;
+          }
+
+      -- all have ended
+      pub news_end : ((k : ℕ) → row_at streams k ≡ None) → (some : Bool) (next : Outlet W) (n : ℕ)
+          → PutsNew contents range some known out next last → n ≡ cond some (count + 1) count
+          → (rows : List (List Row)) × AreBooks remaining limit gap first now rows
+          × PutsNews contents gap n begun next (news_of_sources range gap rows).rows
+      news_end none some next n p e =
+          let book : w.final ++ last ≡ book_together (millis_of gap) (all_of w.taken) =
+          ends_as_book (millis_of gap) (some_millis gap is_gap) (all_of w.taken)
+          (fronts_of streams) w.final last w.folding in
+          let same : w.written ++ new_rows known (rows_of_sources range last)
+              ≡ (news_of_sources range gap w.taken).rows =
+          new_so_far last (λ z h. h)
+          ∙ (λ i. new_rows (append-nil old i) (rows_of_sources range (book i))) in (
+            w.taken,
+            AreReading-ended remaining limit gap first now streams w.taken none w.reading,
+            subst (λ (l : List Row). PutsNews contents gap n begun next l) same (record {
+              put = put_all true some next p;
+              counted = counts true some next p n e;
+              whole = whole_new true some next p;
+            }),
+          )
+
+      -- ---- the last row can't be put, or the next one not be kept
+
+      pub fails_left : (fault : FoldFault) (next : Outlet W)
+          → FailsNew contents range fault known out next last
+          → LeavesNews contents gap fault begun next
+      fails_left fault next fails = elim fails [
+        | inl m ↦ leaves_put m.1.0 m.1.1 next m.1.2 fault (memory_own fault m.0)
+        | inr write ↦ subst (λ (g : FoldFault). LeavesNews contents gap g begun next)
+            (sym write.0) (
+              w.written,
+              rows_of_sources range last,
+              written_whole,
+              HasPut-fails begun out next w.written (rows_of_sources range last) w.put write.1,
             )
-
-    -- ---- the last row can't be put, or the next one not be kept
-
-    module _ (fault : FoldFault) (known_next : Counted Q) (next : RowStream A) (put_out : Outlet W)
-        (fails : FailsNew known_left contents range fault known_now known_next old next out put_out
-        last) where
-      pub fails_left : LeavesNews contents gap fault begun put_out
-      fails_left = elim fails [
-        | inl m ↦ leaves_put (rows_put m.1.0 last) (closed_sound m.1.0) known_next next m.1.1
-            put_out m.1.2 fault (memory_own fault m.0)
-        | inr more ↦ elim more [
-          | inl write ↦ subst (λ (f : FoldFault). LeavesNews contents gap f begun put_out)
-              (sym write.0) (
-                w.written,
-                rows_of_sources range last,
-                written_whole,
-                HasPut-fails begun out put_out w.written (rows_of_sources range last) w.put write.2,
-              )
-          | inr read ↦ subst (λ (o : Outlet W). LeavesNews contents gap fault begun o)
-              (sym read.0) (leaves_here fault (one_own known_left limit gap 0 fault known known_next
-              (read.1 limit gap known w.was w.knows (are_before last all_sound)).0))
-        ]
       ]
 
-      pub fails_refused : (after : List (Counted R))
-          → IsNewsRefused known_left remaining limit gap fault known known_next first after
-      fails_refused after = elim fails [
-        | inl m ↦ inr (memory_refuses remaining limit gap first after fault m.0)
-        | inr more ↦ elim more [
-          | inl write ↦ inr (write_refuses remaining limit gap first after fault write.0)
-          | inr read ↦
-              inl (read.1 limit gap known w.was w.knows (are_before last all_sound)).0
-        ]
-      ]
-
-      pub fails_asked : IsAsked known_left limit known known_next
-      fails_asked = elim fails [
-        | inl m ↦
-            let at = (past (rows_put m.1.0 last) (closed_sound m.1.0) known_next next m.1.1
-            put_out m.1.2).at in
-            at_asked known_left limit gap known known_next next _ at
-        | inr more ↦ elim more [
-          | inl write ↦
-              let at = (write.1 limit gap known w.was w.knows (are_before last all_sound)).at in
-              at_asked known_left limit gap known known_next next _ at
-          | inr read ↦ (read.1 limit gap known w.was w.knows (are_before last all_sound)).1
-        ]
+      pub fails_refused : (fault : FoldFault) (next : Outlet W) (after : List (Counted R))
+          → FailsNew contents range fault known out next last
+          → IsRefused remaining limit gap fault first after
+      fails_refused fault next after fails = elim fails [
+        | inl m ↦ memory_refuses remaining limit gap first after fault m.0
+        | inr write ↦ write_refuses remaining limit gap first after fault write.0
       ]

@@ -83,7 +83,7 @@ module _ {R A : Type 0} (remaining : R → Option (List ℕ)) (limit gap : ℕ)
     (reading : AreReading remaining limit gap first now streams taken) (i : ℕ)
     (f : IsFirst streams i) where
   -- none in front comes before it
-  none_before : NoneIsBefore f.row (fronts_of streams)
+  pub none_before : NoneIsBefore f.row (fronts_of streams)
   none_before y h =
       let at = AreReading-front remaining limit gap first now streams taken y reading h in
       subst (λ (o : Option Row). NotAfter o (Some y)) f.is

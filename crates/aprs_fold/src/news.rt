@@ -1,21 +1,19 @@
-//! What of a fold of book files is new to a book file.
-ghost use Rattle.std.specs.Prelude.{◌≡◌, ◌≤◌, [], IfErr, IfOk, List, OnOk, Ok, length};
+//! What of a fold of book files is new to the first of them.
+ghost use Rattle.std.specs.Prelude.{◌≡◌, ◌≤◌, [], IfErr, IfOk, List, OnOk};
 ghost use Rattle.aprs_io.specs.Device.{Sends};
 ghost use Rattle.aprs_io.specs.Outlet.{Puts};
 ghost use Rattle.aprs_laws.specs.Gap.{IsGap};
 ghost use Rattle.aprs_laws.specs.Row.{Row};
-ghost use Rattle.aprs_bookfile.specs.Reading.{IsAnswered};
 ghost use Rattle.aprs_bookfile.specs.RowReader.{most_stream};
 ghost use Rattle.aprs_bookfile.specs.Text.{written_text};
 ghost use Rattle.aprs_fold.specs.Fold.{IsWhole};
-ghost use Rattle.aprs_fold.specs.Inputs.{AreAsked, AreBooks, IsAsked};
+ghost use Rattle.aprs_fold.specs.Inputs.{AreAsked, AreBooks, IsRefused};
+ghost use Rattle.aprs_fold.specs.Known.{PutsNews};
 ghost use Rattle.aprs_fold.specs.News as Spec;
-ghost use Rattle.aprs_fold.specs.Taking.{HasPut};
 
 use crate::fault::FoldFault;
 use crate::fold::put_header;
-use crate::known::drain;
-use crate::opening::{advance, open_all, open_one};
+use crate::opening::{advance, open_all};
 use crate::range::SourceRange;
 use crate::taking::count_after;
 use crate::taking_new::{put_last_new, take_front_new};
@@ -23,128 +21,112 @@ use crate::tournament::Tournament;
 use aprs_bookfile::{OpenLine, WrittenRow, end_line_and_lf};
 use aprs_io::{Counted, Outlet};
 use aprs_laws::Gap;
+use aprs_rows::OpenRow;
 use std::alloc::Allocator;
 use std::io::{Read, Write};
 
-/// Writes of the book that `fold_books` writes those rows that the book file `known` hasn't as they
-/// are: a whole book's text in version 3. Whoever has taken the known book needs nothing else of
-/// the inputs, where the known book is the first of them, opened a second time. Without it among
-/// them, a row that it has with more receivers is new as well. `known` has to be a book file of
-/// this gap, of at most `limit` bytes. It is read beside the inputs, to its end, in memory for one
-/// row more. Its faults have the number 0. Requires a limit of at most `MAX_BOOK`.
-/// Where an input or `known` is at fault or an allocation fails, the header and a part of the rows'
-/// lines were written. They are no book's text, since the last line isn't there. At `Write` a
-/// prefix of a book's text was written.
-pub fn fold_news<Q: Read, R: Read, W: Write, A: Allocator + Copy>(
+/// Writes of the book that `fold_books` writes those rows that the first input hasn't as they are:
+/// a whole book's text in version 3. Whoever has taken the first input's book needs nothing else of
+/// the inputs. It is read with the others, and only once, in memory for one row more. Of no inputs
+/// nothing is new. Requires a limit of at most `MAX_BOOK`.
+/// Where an input is at fault or an allocation fails, the header and a part of the rows' lines were
+/// written. They are no book's text, since the last line isn't there. At `Write` a prefix of a
+/// book's text was written.
+pub fn fold_news<R: Read, W: Write, A: Allocator + Copy>(
     alloc: A,
     limit: u64,
     gap: Gap,
     range: &SourceRange,
-    known: &mut Counted<Q>,
     inputs: &mut [Counted<R>],
     w: &mut Counted<W>,
 ) -> Result<(), FoldFault>
     requires { limit ≤ most_stream }
 
-    // At `Ok` each input and `known` are whole texts of books of this gap. What was written is the
-    // text of what is new to the one in the book of the others, and can be read back.
-    ensures news { OnOk result ((old : List Row) × (rows : List (List Row))
-        × IsAnswered Q.remaining limit [] (Ok (record { gap = gap; rows = old })) known.old
-        known.new
+    // At `Ok` each input is the whole text of a book of this gap. What was written is the text of
+    // what is new to the first in the book of all, and can be read back.
+    ensures news { OnOk result ((rows : List (List Row))
         × AreBooks R.remaining limit gap inputs.old inputs.new rows
         × Sends W.contents result w.old w.new
-        (written_text (Spec.news_of_sources range.now gap old rows))
-        × IsWhole gap (Spec.news_of_sources range.now gap old rows).rows) }
+        (written_text (Spec.news_of_sources range.now gap rows))
+        × IsWhole gap (Spec.news_of_sources range.now gap rows).rows) }
 
-    // At a fault of one of them, it has it. What was written is a part of a book's text.
-    ensures refuses { IfErr result (λ fault. Spec.IsNewsRefused Q.remaining R.remaining limit gap
-        fault known.old known.new inputs.old inputs.new) }
+    // At a fault of an input, that input has it. What was written is a part of a book's text.
+    ensures refuses { IfErr result (λ fault.
+        IsRefused R.remaining limit gap fault inputs.old inputs.new) }
     ensures left { IfErr result (λ fault. Spec.LeavesPart W.contents gap fault w.old w.new) }
 
-    // Of each at most `limit` bytes were got, and one more was taken at `TooLong`. None is asked
-    // after its end or a fault.
-    ensures asks_known { IsAsked Q.remaining limit known.old known.new }
+    // Of each input at most `limit` bytes were got, and one more was taken at `TooLong`. None is
+    // asked after its end or a fault.
     ensures asks { AreAsked R.remaining limit inputs.old inputs.new }
 {
     let mut out = Outlet::new(w);
-    put_news_text(alloc, limit, gap, range, known, inputs, &mut out)?;
+    put_news_text(alloc, limit, gap, range, inputs, &mut out)?;
     Ok(out.flush()?)
 }
 
 /// Puts the text of what is new into `out`, from its header to its last line. `out` sends the
 /// header before an input is read.
-fn put_news_text<Q: Read, R: Read, W: Write, A: Allocator + Copy>(
+fn put_news_text<R: Read, W: Write, A: Allocator + Copy>(
     alloc: A,
     limit: u64,
     gap: Gap,
     range: &SourceRange,
-    known: &mut Counted<Q>,
     inputs: &mut [Counted<R>],
     out: &mut Outlet<'_, W>,
 ) -> Result<(), FoldFault>
     requires few { limit ≤ most_stream }
     requires gap { IsGap gap }
-    ensures news { OnOk result ((old : List Row) × (rows : List (List Row))
-        × IsAnswered Q.remaining limit [] (Ok (record { gap = gap; rows = old })) known.old
-        known.new
+    ensures news { OnOk result ((rows : List (List Row))
         × AreBooks R.remaining limit gap inputs.old inputs.new rows
         × Puts W.contents result out.old out.new
-        (written_text (Spec.news_of_sources range.now gap old rows))
-        × IsWhole gap (Spec.news_of_sources range.now gap old rows).rows) }
-    ensures refuses { IfErr result (λ fault. Spec.IsNewsRefused Q.remaining R.remaining limit gap
-        fault known.old known.new inputs.old inputs.new) }
+        (written_text (Spec.news_of_sources range.now gap rows))
+        × IsWhole gap (Spec.news_of_sources range.now gap rows).rows) }
+    ensures refuses { IfErr result (λ fault.
+        IsRefused R.remaining limit gap fault inputs.old inputs.new) }
     ensures left { IfErr result (λ fault.
         Spec.LeavesNewsText W.contents gap fault out.old out.new) }
-    ensures asks_known { IsAsked Q.remaining limit known.old known.new }
     ensures asks { AreAsked R.remaining limit inputs.old inputs.new }
 {
     put_header(gap, out)?;
-    let count = put_news(alloc, limit, gap, range, known, inputs, out)?;
+    let count = put_news(alloc, limit, gap, range, inputs, out)?;
     Ok(out.put(end_line_and_lf(count).as_slice())?)
 }
 
 /// Puts the lines of what is new into `out`, and returns their number.
-fn put_news<Q: Read, R: Read, W: Write, A: Allocator + Copy>(
+fn put_news<R: Read, W: Write, A: Allocator + Copy>(
     alloc: A,
     limit: u64,
     gap: Gap,
     range: &SourceRange,
-    known: &mut Counted<Q>,
     inputs: &mut [Counted<R>],
     out: &mut Outlet<'_, W>,
 ) -> Result<usize, FoldFault>
     requires few { limit ≤ most_stream }
     requires gap { IsGap gap }
-    ensures news { IfOk result (λ count. (old : List Row) × (rows : List (List Row))
-        × IsAnswered Q.remaining limit [] (Ok (record { gap = gap; rows = old })) known.old
-        known.new
+    ensures news { IfOk result (λ count. (rows : List (List Row))
         × AreBooks R.remaining limit gap inputs.old inputs.new rows
-        × HasPut W.contents out.old out.new (Spec.news_of_sources range.now gap old rows).rows
-        × (count ≡ length (Spec.news_of_sources range.now gap old rows).rows)
-        × IsWhole gap (Spec.news_of_sources range.now gap old rows).rows) }
-    ensures refuses { IfErr result (λ fault. Spec.IsNewsRefused Q.remaining R.remaining limit gap
-        fault known.old known.new inputs.old inputs.new) }
+        × PutsNews W.contents gap count out.old out.new
+        (Spec.news_of_sources range.now gap rows).rows) }
+    ensures refuses { IfErr result (λ fault.
+        IsRefused R.remaining limit gap fault inputs.old inputs.new) }
     ensures left { IfErr result (λ fault. Spec.LeavesNews W.contents gap fault out.old out.new) }
-    ensures asks_known { IsAsked Q.remaining limit known.old known.new }
     ensures asks { AreAsked R.remaining limit inputs.old inputs.new }
 {
     let mut opened = open_all(alloc, limit, gap, inputs)?;
-    let mut old = open_one(alloc, limit, gap, 0, known)?;
     let streams = opened.as_mut_slice();
     let mut tournament = Tournament::new(alloc, streams)?;
     let mut room = WrittenRow::new();
     let mut last = OpenLine::new(alloc);
+    let mut known = OpenRow::new(alloc);
     let mut count = 0;
     while let Some(index) = tournament.first(streams) {
-        let wrote = take_front_new(
-            gap, range, streams, index, &mut last, &mut old, known, out, &mut room,
-        )?;
+        let wrote =
+            take_front_new(gap, range, streams, index, &mut last, &mut known, out, &mut room)?;
         count = count_after(count, wrote)?;
         advance(index, streams, inputs)?;
         tournament.play_again(streams, index);
     }
-    let some = put_last_new(range, &last, &mut old, known, out, &mut room)?;
+    let some = put_last_new(range, &last, &known, out, &mut room)?;
     let all = count_after(count, some)?;
-    drain(&mut old, known)?;
     Ok(all)
 }

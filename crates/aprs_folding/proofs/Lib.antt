@@ -1,3 +1,4 @@
 pub mod Folding
 pub mod News
 pub mod Steps
+pub mod Beside

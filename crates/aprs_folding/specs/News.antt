@@ -6,9 +6,11 @@ use Rattle.std.specs.Ordering.{is_eq}
 use Rattle.aprs_log.specs.Reception.{bytes_cmp, heard_cmp}
 use Rattle.aprs_laws.specs.JoinRow.{merge}
 use Rattle.aprs_laws.specs.Lists.{◌∈◌, SameMembers}
-use Rattle.aprs_laws.specs.Row.{Row}
+use Rattle.aprs_laws.specs.Order.{IsBelow}
+use Rattle.aprs_laws.specs.Row.{Row, row_cmp}
 use Rattle.aprs_laws.specs.Sound.{AreSoundRows, Sound}
 use Rattle.aprs_laws.specs.Together.{book_together}
+use Rattle.aprs_folding.specs.Folding.{IsFolding}
 
 -- Whether two lists of receivers are equal.
 abbrev pub are_same_names : List (List ℕ) → List (List ℕ) → Bool
@@ -29,6 +31,12 @@ is_among rows x = list_any (is_same_row x) rows
 -- more than a row of `old` is another row.
 abbrev pub new_rows : List Row → List Row → List Row
 new_rows old rows = filter (λ x. not (is_among old x)) rows
+
+-- The last of the rows, or none.
+abbrev pub last_of : List Row → List Row
+last_of [] = []
+last_of (x ∷ []) = x ∷ []
+last_of (x ∷ y ∷ rows) = last_of (y ∷ rows)
 
 -- `own` has taken these rows: if they join it once more, it stays as it is.
 abbrev pub HasMerged : ℕ → List Row → List Row → Type 0
@@ -101,3 +109,11 @@ NewsStandForBooks gap = (old own : List Row) (books others came : List (List Row
     → SameMembers came
     (new_rows old (book_together gap (flat_map (λ rows. rows) (old ∷ books))) ∷ others)
     → take_all gap own came ≡ take_all gap own (books ++ others)
+
+-- Of a book the rows `old` are folded, and `rest` isn't yet. The row that is still open, where none
+-- of the rest comes up to it, is one of that book exactly if it is the last one of `old`.
+abbrev pub LastDecides : ℕ → Type 0
+LastDecides gap = (read front written last old rest : List Row) (x : Row)
+    → IsFolding gap read front written last → ((y : Row) → y ∈ old → y ∈ read)
+    → Sound gap (old ++ rest) → x ∈ last → ((y : Row) → y ∈ rest → IsBelow row_cmp x y)
+    → (x ∈ (old ++ rest)) ↔ (x ∈ last_of old)

@@ -26,3 +26,9 @@ pub fn news_come_in_any_order()
     ensures at_once { (gap : ℕ) → 0 < gap → Spec.NewsStandForBooks gap }
     ensures each { (gap : ℕ) → 0 < gap → Spec.NewsComeFreely gap }
 {}
+
+/// Where the old book is folded with others, one row of it has to be kept: a row that no later one
+/// joins is a row of the old book exactly if it is the last one that was taken of it.
+pub fn old_rows_are_seen()
+    ensures { (gap : ℕ) → 0 < gap → Spec.LastDecides gap }
+{}

@@ -1,3 +1,4 @@
+pub mod Activities
 pub mod Common
 pub mod Lines
 pub mod ThingLines

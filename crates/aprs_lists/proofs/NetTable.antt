@@ -17,8 +17,8 @@ use Rattle.aprs_messages.specs.declared.copies.MessageCopy.{MessageCopy}
 use Rattle.aprs_summary.specs.MessageRows.{spelled_call}
 use Rattle.aprs_lists.specs.Lines.{tabbed_line}
 use Rattle.aprs_lists.specs.Net.{IsNetTable}
-use Rattle.aprs_lists.specs.Told.{AreTold, IsAnswerBy, IsAnswerTo, answer_found, found_by, found_line, least_reply, message_columns, message_number, told_found, told_line}
-use Rattle.aprs_lists.specs.Traffic.{AreGiven, GivesCopy, GivesReply}
+use Rattle.aprs_lists.specs.Told.{AreTold, IsAnswerBy, IsAnswerTo, answer_found, found_by, found_line, least_reply, message_columns, message_number, told_found, told_message_line}
+use Rattle.aprs_lists.specs.Traffic.{AreGiven, GivesCopy, GivesNetReply}
 
 ordered_map : {X Y : Type 0} (f : X → Y) (Q : Y → Y → Type 0) (xs : List X)
     → Ordered (λ x y. Q (f x) (f y)) xs → Ordered Q (map f xs)
@@ -71,7 +71,7 @@ in_time book copies sound given c m =
 pub net_table : (book : BookValue) (message_gap : ℕ) (copies : List MessageCopy) (answers : List Answer)
     → IsSoundBook book → IsGap message_gap
     → AreGiven GivesCopy book.rows (map copy_of copies)
-    → AreGiven GivesReply book.rows (map reply_of answers)
+    → AreGiven GivesNetReply book.rows (map reply_of answers)
     → Ordered (IsUpTo (on copy_of copy_cmp)) copies → Ordered (IsUpTo (on reply_of reply_cmp)) answers
     → IsNetTable message_gap book (tabbed_line message_columns
     ++ flat_map (found_line (millis_of book.gap) (map reply_of answers))
@@ -96,5 +96,5 @@ net_table book message_gap copies answers sound range cs rs co ro =
       };
       text_is =
           ap (λ l. tabbed_line message_columns ++ l)
-          (lines_of_map (told_found gap replies) told_line sent);
+          (lines_of_map (told_found gap replies) told_message_line sent);
     }

@@ -9,8 +9,8 @@ use Rattle.aprs_messages.specs.Copies.{Copy}
 use Rattle.aprs_messages.specs.Runs.{AreInTime, Sent}
 use Rattle.aprs_summary.specs.MessageRows.{spelled_call}
 use Rattle.aprs_lists.specs.Net.{AreNetMessages}
-use Rattle.aprs_lists.specs.Told.{AreTold, IsAnswerBy, IsTold, Told, asked_by, message_number, sent_told}
-use Rattle.aprs_lists.specs.Traffic.{AreGiven, GivesCopy, GivesReply}
+use Rattle.aprs_lists.specs.Told.{AreTold, IsAnswerBy, IsToldRun, Told, asked_by, message_number, sent_told}
+use Rattle.aprs_lists.specs.Traffic.{AreGiven, GivesCopy, GivesNetReply}
 
 same_given : {A : Type 0} (P : Row → A → Type 0) (rows : List Row) (xs ys : List A)
     → AreGiven P rows xs → AreGiven P rows ys → SameMembers xs ys
@@ -25,7 +25,7 @@ module _ (gap : ℕ) (R S : List Reply) (same : SameMembers R S) where
   one_answer r is_reply (Some number) None x y h k = h ∙ sym k
   one_answer r is_reply None call x y h k = h ∙ sym k
 
-  one_told : (r : Sent) (t u : Told) → IsTold gap R r t → IsTold gap S r u → t ≡ u
+  one_told : (r : Sent) (t u : Told) → IsToldRun gap R r t → IsToldRun gap S r u → t ≡ u
   one_told r t u h k =
       let number = message_number r.message in
       let call = spelled_call r.message.addressee in
@@ -52,7 +52,7 @@ pub one_net : (gap message_gap : ℕ) (rows : List Row)
     → AreNetMessages gap message_gap rows t → AreNetMessages gap message_gap rows u → t ≡ u
 one_net gap message_gap rows o t u h k =
     let copies = same_given GivesCopy rows h.copies k.copies h.are_copies k.are_copies in
-    let replies = same_given GivesReply rows h.replies k.replies h.are_replies k.are_replies in
+    let replies = same_given GivesNetReply rows h.replies k.replies h.are_replies k.are_replies in
     let sent = one_sent message_gap h.copies k.copies copies (in_time rows h.copies o h.are_copies)
     h.sent k.sent h.are_sent k.are_sent in
     all_once gap h.replies k.replies replies h.sent t u h.are_told

@@ -1,6 +1,5 @@
 -- Sets with the same members have one text of each table.
 use Rattle.aprs_lists.proofs.Common.{◌≡◌, ◌∙◌, ◌++◌, ◌∷◌, [], ℕ, List, None, Option, Some, ap, arith, refl, subst, sym, call_text, bytes_total, bool_cmp_total, on_total, then_total, IsTotalOrder, BookOf, Received, Row, SameMembers, ◌∈◌, Key, call_total, known_once, not_both}
-use Rattle.std.specs.Fmt.{decimal}
 use Rattle.std.specs.List.{count_by}
 use Rattle.aprs_ax25.specs.Callsign.{Call, call_cmp}
 use Rattle.aprs_laws.proofs.Books.{unique}
@@ -22,8 +21,8 @@ use Rattle.aprs_summary.specs.declared.lists.named.Named.{Named}
 use Rattle.aprs_summary.specs.declared.lists.station.Station.{Station}
 use Rattle.aprs_lists.specs.Lines.{tabbed_line}
 use Rattle.aprs_lists.specs.Messages.{messages_table}
-use Rattle.aprs_lists.specs.Told.{listed_line, listed_outcome, listed_settled, message_columns, told_line}
-use Rattle.aprs_lists.specs.Stations.{position_fields, station_columns, station_table_line, stations_table, status_fields}
+use Rattle.aprs_lists.specs.Told.{listed_line, listed_outcome, listed_settled, message_columns, told_message_line}
+use Rattle.aprs_lists.specs.Stations.{station_columns, station_table_line, stations_table}
 use Rattle.aprs_lists.specs.Things.{heard_thing_line, thing_columns, thing_table_line, things_table}
 use Rattle.aprs_lists.proofs.Once.{same_lines}
 
@@ -55,7 +54,7 @@ module _ (S T : List Received) (same : SameMembers S T) where
       ∙ (ap (answered_by first) (known_once S T (AnswersIt m id) h.0 k.0 same h.1 k.1) ∙ sym k.2)
 
   abbrev message_told : Message → MessageState → ℕ → ℕ → Option ℕ → ReplyAck → List ℕ
-  message_told m state first last answered reply_ack = told_line (record {
+  message_told m state first last answered reply_ack = told_message_line (record {
     message = record { source = m.source; addressee = m.addressee; text = m.text; id = m.id };
     state = state;
     first = first;
@@ -106,23 +105,22 @@ module _ (S T : List Received) (same : SameMembers S T) where
 
   -- ---- stations
 
-  abbrev station_told : Call → ℕ → Option Received → Option Received → List ℕ
-  station_told call n position status = tabbed_line (call_text call ∷ decimal n
-      ∷ position_fields position ++ status_fields status)
-
-  abbrev rows_from : Call → List Row → ℕ
-  rows_from call rows = count_by (λ (r : Row). has_source call (row_key r)) rows
+  abbrev rows_of : Call → List Row → ℕ
+  rows_of call rows = count_by (λ (r : Row). has_source call (row_key r)) rows
 
   module _ (gap : ℕ) (rows more : List Row) (f : BookOf gap S rows) (g : BookOf gap T more)
       (xs ys : List Station) (p : AreStations S rows xs) (q : AreStations T more ys) where
+    same_rows : rows ≡ more
+    same_rows = unique gap S T rows more same f g
+
     one_station_line : (x y : Station) → x ∈ xs → y ∈ ys → x.call ≡ y.call
-        → station_table_line x ≡ station_table_line y
+        → station_table_line rows x ≡ station_table_line rows y
     one_station_line x y i j e =
         let a = p.each x i in
         let b = q.each y j in
         let n : x.transmissions ≡ y.transmissions = a.transmissions
-        ∙ (ap (rows_from x.call) (unique gap S T rows more same f g)
-        ∙ (ap (λ (c : Call). rows_from c more) e ∙ sym b.transmissions)) in
+        ∙ (ap (rows_of x.call) same_rows
+        ∙ (ap (λ (c : Call). rows_of c more) e ∙ sym b.transmissions)) in
         let position : x.position ≡ y.position =
         known_once S T (Passes (reports_position x.call)) x.position y.position same a.position
         (subst (λ (c : Call). LastKnown T (Passes (reports_position c)) y.position) (sym e)
@@ -130,20 +128,23 @@ module _ (S T : List Received) (same : SameMembers S T) where
         let status : x.status ≡ y.status =
         known_once S T (Passes (reports_status x.call)) x.status y.status same a.status
         (subst (λ (c : Call). LastKnown T (Passes (reports_status c)) y.status) (sym e) b.status) in
-        ap (λ (c : Call). station_told c x.transmissions x.position x.status) e
-        ∙ (ap (λ (k : ℕ). station_told y.call k x.position x.status) n
-        ∙ (ap (λ (o : Option Received). station_told y.call y.transmissions o x.status) position
-        ∙ ap (λ (o : Option Received). station_told y.call y.transmissions y.position o) status))
+        λ i. station_table_line rows (record {
+          call = e i;
+          transmissions = n i;
+          position = position i;
+          status = status i;
+        })
 
-    pub one_stations : stations_table xs ≡ stations_table ys
+    pub one_stations : stations_table rows xs ≡ stations_table more ys
     one_stations = ap (λ (l : List ℕ). tabbed_line station_columns ++ l)
-        (same_lines (λ (x : Station). x.call) station_table_line (IsBelow call_cmp)
+        (same_lines (λ (x : Station). x.call) (station_table_line rows) (IsBelow call_cmp)
         (not_both call_total) xs ys p.ascending q.ascending
         (λ x i. let s = (p.sources x.call).0 (x, i, refl) in
         (q.sources x.call).1 (s.0, (same s.0).0 s.1, s.2))
         (λ y i. let s = (q.sources y.call).0 (y, i, refl) in
         (p.sources y.call).1 (s.0, (same s.0).1 s.1, s.2))
         one_station_line)
+        ∙ ap (λ (r : List Row). stations_table r ys) same_rows
 
   -- ---- objects and items
 

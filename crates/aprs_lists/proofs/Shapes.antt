@@ -1,5 +1,5 @@
 -- Each line of the tables has all fields.
-use Rattle.aprs_lists.proofs.Common.{◌≡◌, ◌∙◌, ◌∷◌, ◌++◌, [], ℕ, Bool, List, None, Option, Some, ap, ap₂, codes, length, refl, Received, Value, key_of, report_of}
+use Rattle.aprs_lists.proofs.Common.{◌≡◌, ◌∙◌, ◌∷◌, ◌++◌, [], ℕ, Bool, List, None, Option, Some, ap, ap₂, codes, length, refl, Received, Row, Value, key_of, report_of}
 use Rattle.std.specs.Prelude.{All, true, false, if◌then◌else◌}
 use Rattle.std.proofs.Common.{suc, ◌+◌}
 use Rattle.std.proofs.lemmas.List.{length-append}
@@ -17,7 +17,7 @@ use Rattle.aprs_report.specs.declared.place.Place.TheVariants as place
 use Rattle.aprs_report.specs.declared.stamp.Stamp.{Stamp}
 use Rattle.aprs_report.specs.declared.symbol.Symbol.{Symbol}
 use Rattle.aprs_report.proofs.Readings.{reads_as}
-use Rattle.aprs_summary.specs.Messages.{state_text}
+use Rattle.aprs_summary.specs.Messages.{Message, state_text}
 use Rattle.aprs_summary.specs.Names.{ReportsOf, Thing, reported_thing, shown_thing}
 use Rattle.aprs_summary.specs.declared.lists.message.MessageState.{MessageState}
 use Rattle.aprs_summary.specs.declared.lists.message.MessageState.TheVariants.{Unnumbered, Unanswered, Acknowledged, Rejected}
@@ -29,11 +29,11 @@ use Rattle.aprs_table.specs.Cells.{ambiguity_field, compressed_field, stamp_fiel
 use Rattle.aprs_table.specs.Shape.{IsField}
 use Rattle.aprs_table.proofs.Frees.{AreFree, Free, Plain, free_call, free_decimal, free_degrees, free_moment, free_name, free_shown, free_stamp, free_word}
 use Rattle.aprs_lists.specs.Lines.{tabbed_line}
-use Rattle.aprs_messages.specs.Copies.{Message}
 use Rattle.aprs_lists.specs.Class.{class_text, is_announcement, is_answer, is_bulletin, is_query, is_telemetry, is_weather_bulletin}
-use Rattle.aprs_lists.specs.Told.{Told, answer_fields, bytes_or_nothing, call_or_nothing, message_columns, message_number, moment_or_nothing, net_fields, reply_ack_fields, told_fields, told_line}
+use Rattle.aprs_lists.specs.Told.{Told, answer_fields, bytes_or_nothing, call_or_nothing, message_columns, message_number, moment_or_nothing, net_fields, reply_ack_fields, told_fields, told_message_line}
 use Rattle.aprs_lists.specs.Shape.{HasAllFieldsOf, HasCall, HasName}
-use Rattle.aprs_lists.specs.Stations.{position_fields, position_in, station_columns, station_table_fields, station_table_line, status_fields, status_in}
+use Rattle.aprs_lists.specs.Activity.{frames_passed, heard_last}
+use Rattle.aprs_lists.specs.Stations.{activity_fields, position_fields, position_in, station_columns, station_fields, station_table_line, status_fields, status_in}
 use Rattle.aprs_lists.specs.Things.{named_fields, placed_fields, thing_columns, thing_line_in, thing_table_line}
 
 -- so many fields without a tab and an LF
@@ -87,9 +87,9 @@ gate_free : (o : Option Call) → HasCall o → Free (call_or_nothing o)
 gate_free None h = tt
 gate_free (Some call) h = free_call call h
 
-settled_free : (o : Option ℕ) → Free (moment_or_nothing o)
-settled_free None = tt
-settled_free (Some moment) = free_moment moment
+moment_free : (o : Option ℕ) → Free (moment_or_nothing o)
+moment_free None = tt
+moment_free (Some moment) = free_moment moment
 
 net_free : (t : Told) → HasCall t.gate → AreFree (net_fields t)
 net_free t gate = (
@@ -98,7 +98,7 @@ net_free t gate = (
     class_free t.message,
     (
       free_shown (bytes_or_nothing (message_number t.message)),
-      (state_free t.outcome, (settled_free t.settled, tt)),
+      (state_free t.outcome, (moment_free t.settled, tt)),
     ),
   ),
 )
@@ -113,7 +113,7 @@ nine (Some answered) to Awaited t = refl
 nine (Some answered) to (Heard moment) t = refl
 
 pub message_line : (t : Told) → IsCall t.message.source → HasCall t.gate
-    → HasAllFieldsOf message_columns (told_line t)
+    → HasAllFieldsOf message_columns (told_message_line t)
 message_line t call gate =
     let to = t.message.addressee in
     record {
@@ -238,21 +238,28 @@ known_status None h = record { count = refl; free = nothing tt }
 known_status (Some x) h = let info = (key_of x.frame).info in
     status_so x (report_of (key_of x.frame)) info h (reads_as info)
 
-pub station_line : (x : Station) → IsCall x.call → HasName x.position → HasName x.status
-    → HasAllFieldsOf station_columns (station_table_line x)
-station_line x call p s =
+pub station_line : (rows : List Row) (x : Station) → IsCall x.call → HasName x.position
+    → HasName x.status → HasAllFieldsOf station_columns (station_table_line rows x)
+station_line rows x call p s =
     let at = known_position x.position p in
     let of = known_status x.status s in
+    let heard = heard_last x.call rows in
+    let passed = frames_passed x.call rows in
+    let status = status_fields x.status ++ activity_fields heard passed in
     record {
-      fields = station_table_fields x;
+      fields = station_fields x (activity_fields heard passed);
       count = ap (λ (n : ℕ). suc (suc n))
-          (length-append (position_fields x.position) (status_fields x.status)
-          ∙ ap₂ (λ (m n : ℕ). m + n) at.count of.count);
-      are_fields = are_fields (station_table_fields x) (
+          (length-append (position_fields x.position) status
+          ∙ ap₂ (λ (m n : ℕ). m + n) at.count
+          (length-append (status_fields x.status) (activity_fields heard passed)
+          ∙ ap (λ (n : ℕ). n + 2) of.count));
+      are_fields = are_fields (station_fields x (activity_fields heard passed)) (
         free_call x.call call,
         (
           free_decimal x.transmissions,
-          are_append (position_fields x.position) (status_fields x.status) at.free of.free,
+          are_append (position_fields x.position) status at.free
+              (are_append (status_fields x.status) (activity_fields heard passed) of.free
+              (moment_free heard, (free_decimal passed, tt))),
         ),
       );
       whole = refl;

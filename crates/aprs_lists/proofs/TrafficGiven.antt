@@ -14,7 +14,7 @@ use Rattle.aprs_summary.specs.MessageRows.{spelled_call}
 use Rattle.aprs_summary.specs.ReplyAcks.{IsReplyAckText}
 use Rattle.aprs_summary.specs.ReplyTexts.{HoldsOnly}
 use Rattle.aprs_lists.specs.Said.{Said, said_in}
-use Rattle.aprs_lists.specs.Traffic.{Answering, AreGiven, GivesReply, SaysAnswer, by_ack, by_rej, by_reply, with_one}
+use Rattle.aprs_lists.specs.Traffic.{Answering, AreGiven, GivesNetReply, SaysAnswer, by_ack, by_rej, by_reply, with_one}
 
 some_once : {X : Type 0} (x y : X) → ◌≡◌ {A = Option X} (Some x) (Some y) → x ≡ y
 some_once x y e = cc
@@ -70,24 +70,24 @@ module _ (x : Row) (s : Said) (is : said_in (row_key x) ≡ Some s) where
     is_rejection = a.is_rejection;
   }
 
-  says_so : (a : Reply) (g : GivesReply x a) → Says (named g.addressee a)
+  says_so : (a : Reply) (g : GivesNetReply x a) → Says (named g.addressee a)
   says_so a g = subst (λ (t : Said). SaysAnswer (named g.addressee a) (reading_of t.info))
       (some_once g.said s (sym g.is_said ∙ is)) g.answer
 
-  pub no_reply : HoldsOnly Says None → HoldsOnly (GivesReply x) None
-  no_reply h = only_none (GivesReply x) (λ a g. none_held Says (named g.addressee a) h (says_so a g))
+  pub no_reply : HoldsOnly Says None → HoldsOnly (GivesNetReply x) None
+  no_reply h = only_none (GivesNetReply x) (λ a g. none_held Says (named g.addressee a) h (says_so a g))
 
   module _ (p : Answering) (h : HoldsOnly Says (Some p)) where
-    named_so : (a : Reply) (g : GivesReply x a) → p ≡ named g.addressee a
+    named_so : (a : Reply) (g : GivesNetReply x a) → p ≡ named g.addressee a
     named_so a g = one_held Says p (named g.addressee a) h (says_so a g)
 
-    spelled_so : (a : Reply) (g : GivesReply x a) → spelled_call p.addressee ≡ Some a.asked.source
+    spelled_so : (a : Reply) (g : GivesNetReply x a) → spelled_call p.addressee ≡ Some a.asked.source
     spelled_so a g = (spelled p.addressee a.asked.source).1
         (subst (λ (t : List ℕ). SpellsCall a.asked.source t)
         (sym (ap (λ (q : Answering). q.addressee) (named_so a g))) g.to)
 
-    pub no_call : spelled_call p.addressee ≡ None → HoldsOnly (GivesReply x) None
-    no_call n = only_none (GivesReply x)
+    pub no_call : spelled_call p.addressee ≡ None → HoldsOnly (GivesNetReply x) None
+    no_call n = only_none (GivesNetReply x)
         (λ a g. none_some a.asked.source (sym n ∙ spelled_so a g))
 
     -- the answer with these parts
@@ -104,8 +104,8 @@ module _ (x : Row) (s : Said) (is : said_in (row_key x) ≡ Some s) where
     }
 
     pub one_reply : (c : Call) → spelled_call p.addressee ≡ Some c
-        → HoldsOnly (GivesReply x) (Some (replied c x.first))
-    one_reply c e = only_some (GivesReply x) (replied c x.first)
+        → HoldsOnly (GivesNetReply x) (Some (replied c x.first))
+    one_reply c e = only_some (GivesNetReply x) (replied c x.first)
         (record {
           said = s;
           is_said = is;

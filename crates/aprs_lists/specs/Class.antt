@@ -3,7 +3,7 @@ use Rattle.std.specs.Prelude.{ℕ, Bool, false, ◌==◌, ◌&&◌, ◌||◌, na
 use Rattle.std.specs.List.{starts_with}
 use Rattle.aprs_log.specs.Octet.{octet}
 use Rattle.aprs_report.specs.Bytes.{is_alphanumeric, is_capital, is_digit}
-use Rattle.aprs_messages.specs.Copies.{Message}
+use Rattle.aprs_summary.specs.Messages.{Message}
 use Rattle.aprs_summary.specs.ReplyAcks.{is_number_or_nothing}
 
 -- The addressee is BLN and a byte that passes the test, whatever follows.
@@ -37,16 +37,16 @@ abbrev pub is_query : List ℕ → Bool
 is_query text = starts_with nat_eq text (codes "?APRS") || starts_with nat_eq text (codes "?PING?")
 
 -- A closing brace, and at most two letters or digits.
-abbrev pub is_end : List ℕ → Bool
-is_end [] = false
-is_end (brace ∷ rest) = brace == octet "}" && is_number_or_nothing rest
+abbrev pub is_ack_end : List ℕ → Bool
+is_ack_end [] = false
+is_ack_end (brace ∷ rest) = brace == octet "}" && is_number_or_nothing rest
 
 -- One or two letters or digits, and such an end.
 unfoldable pub is_ended_number : List ℕ → Bool
 is_ended_number [] = false
 is_ended_number (x ∷ []) = false
-is_ended_number (x ∷ y ∷ rest) = is_alphanumeric x && is_end (y ∷ rest)
-    || is_alphanumeric x && is_alphanumeric y && is_end rest
+is_ended_number (x ∷ y ∷ rest) = is_alphanumeric x && is_ack_end (y ∷ rest)
+    || is_alphanumeric x && is_alphanumeric y && is_ack_end rest
 
 -- The text is an ack with a brace, as reply-acks have it.
 unfoldable pub is_ack_text : List ℕ → Bool

@@ -1,10 +1,12 @@
--- Messages, answers and reports that the worked examples are about.
-use Rattle.std.specs.Prelude.{ℕ, Bool, true, false, List, [], Option, None, codes}
+-- Messages, answers, reports and rows that the worked examples are about.
+use Rattle.std.specs.Prelude.{ℕ, Bool, true, false, List, [], ◌∷◌, Option, None, codes}
 use Rattle.aprs_log.specs.Reception.{Received}
-use Rattle.aprs_laws.specs.Examples.{n0call, reception_at, rx1}
+use Rattle.aprs_laws.specs.Examples.{example_row, n0call, reception_at, rx1}
+use Rattle.aprs_laws.specs.Row.{Row}
 use Rattle.aprs_messages.specs.Answers.{Reply}
-use Rattle.aprs_messages.specs.Copies.{Message}
+use Rattle.aprs_summary.specs.Messages.{Message}
 use Rattle.aprs_messages.specs.Runs.{Sent}
+use Rattle.aprs_summary.specs.Examples.{heard_by}
 
 -- What N0CALL-7 sends to an addressee, with an id or none.
 abbrev pub message_to : List ℕ → List ℕ → Option (List ℕ) → Message
@@ -53,3 +55,12 @@ sent_as text id = record {
 -- What RX1 heard at a moment.
 abbrev pub heard_at : ℕ → Received
 heard_at moment = reception_at moment rx1 []
+
+-- A row of a frame from N0CALL with this SSID, at one moment.
+abbrev pub row_by : ℕ → ℕ → List ℕ → Row
+row_by ssid moment info = example_row moment (rx1 ∷ []) (heard_by ssid moment info)
+
+-- Two statuses of N0CALL-7, one of N0CALL-8, and one of N0CALL-9 that N0CALL-8 passed on.
+abbrev pub active_rows : List Row
+active_rows = row_by 7 40 (codes ">Hi") ∷ row_by 7 30 (codes ">Ho") ∷ row_by 8 20 (codes ">Hi")
+    ∷ row_by 8 50 (codes "}N0CALL-9>APRS:>Hi") ∷ []

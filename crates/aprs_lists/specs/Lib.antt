@@ -1,4 +1,5 @@
 -- Definitions that contracts of these tables cite.
+pub mod Activity
 pub mod Class
 pub mod Examples
 pub mod Lines

@@ -7,7 +7,7 @@ use Rattle.aprs_messages.specs.Answers.{Reply}
 use Rattle.aprs_messages.specs.Copies.{Copy}
 use Rattle.aprs_messages.specs.Runs.{AreSent, Sent}
 use Rattle.aprs_lists.specs.Told.{AreTold, Told, told_table}
-use Rattle.aprs_lists.specs.Traffic.{AreGiven, GivesCopy, GivesReply}
+use Rattle.aprs_lists.specs.Traffic.{AreGiven, GivesCopy, GivesNetReply}
 
 -- These are the messages of a net, told in order, of the rows of a book of this gap: the runs of all
 -- copies under the message gap, each with its first answers. Both gaps are in milliseconds.
@@ -16,7 +16,7 @@ pub record AreNetMessages (gap message_gap : ℕ) (rows : List Row) (told : List
   pub replies : List Reply
   pub sent : List Sent
   pub are_copies : AreGiven GivesCopy rows copies
-  pub are_replies : AreGiven GivesReply rows replies
+  pub are_replies : AreGiven GivesNetReply rows replies
   pub are_sent : AreSent message_gap copies sent
   pub are_told : AreTold gap replies sent told
 

@@ -4,12 +4,13 @@ use Rattle.aprs_ax25.specs.Callsign.{Call, IsCall}
 use Rattle.aprs_log.specs.Receiver.{IsName}
 use Rattle.aprs_log.specs.Reception.{Received}
 use Rattle.aprs_laws.specs.Key.{key_of}
+use Rattle.aprs_laws.specs.Row.{Row}
 use Rattle.aprs_summary.specs.Names.{ReportsOf, shown_thing}
 use Rattle.aprs_summary.specs.declared.lists.named.Named.{Named}
 use Rattle.aprs_summary.specs.declared.lists.station.Station.{Station}
 use Rattle.aprs_table.specs.Shape.{IsField}
 use Rattle.aprs_lists.specs.Lines.{tabbed_line}
-use Rattle.aprs_lists.specs.Told.{Told, message_columns, told_line}
+use Rattle.aprs_lists.specs.Told.{Told, message_columns, told_message_line}
 use Rattle.aprs_lists.specs.Stations.{station_columns, station_table_line}
 use Rattle.aprs_lists.specs.Things.{thing_columns, thing_table_line}
 
@@ -34,12 +35,12 @@ HasCall (Some call) = IsCall call
 -- The line of each message from a callsign, passed on by one or by none, has all fields.
 abbrev pub MessageLinesHaveAllFields : Type 0
 MessageLinesHaveAllFields = (t : Told) → IsCall t.message.source → HasCall t.gate
-    → HasAllFieldsOf message_columns (told_line t)
+    → HasAllFieldsOf message_columns (told_message_line t)
 
--- The line of each station with a callsign that named receivers heard has all fields.
+-- The line of each station of any rows with a callsign that named receivers heard has all fields.
 abbrev pub StationLinesHaveAllFields : Type 0
-StationLinesHaveAllFields = (x : Station) → IsCall x.call → HasName x.position → HasName x.status
-    → HasAllFieldsOf station_columns (station_table_line x)
+StationLinesHaveAllFields = (rows : List Row) (x : Station) → IsCall x.call → HasName x.position
+    → HasName x.status → HasAllFieldsOf station_columns (station_table_line rows x)
 
 -- The line of each object and item that a callsign reported to a named receiver has all fields.
 abbrev pub ThingLinesHaveAllFields : Type 0

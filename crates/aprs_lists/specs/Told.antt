@@ -5,11 +5,10 @@ use Rattle.std.specs.Option.{option_map}
 use Rattle.aprs_ax25.specs.Callsign.{Call, call_text}
 use Rattle.aprs_io.specs.Shown.{shown_text}
 use Rattle.aprs_log.specs.Moment.{moment_text}
-use Rattle.aprs_messages.specs.Answers.{Asked, IsFirstAnswer, Reply, first_of}
-use Rattle.aprs_messages.specs.Copies.{Message}
+use Rattle.aprs_messages.specs.Answers.{AskedAnswer, IsFirstAnswer, Reply, first_of}
 use Rattle.aprs_messages.specs.Runs.{Sent}
 use Rattle.aprs_summary.specs.MessageRows.{spelled_call}
-use Rattle.aprs_summary.specs.Messages.{state_text}
+use Rattle.aprs_summary.specs.Messages.{Message, state_text}
 use Rattle.aprs_summary.specs.ReplyTexts.{number_of}
 use Rattle.aprs_summary.specs.declared.lists.message.MessageRow.{MessageRow}
 use Rattle.aprs_summary.specs.declared.lists.message.MessageState.{MessageState}
@@ -105,8 +104,8 @@ told_fields t = call_text t.message.source ∷ shown_text t.message.addressee
     ∷ answer_fields t.answered t.message.addressee ++ (reply_ack_fields t.reply_ack ++ net_fields t)
 
 -- The line of a message.
-abbrev pub told_line : Told → List ℕ
-told_line t = tabbed_line (told_fields t)
+abbrev pub told_message_line : Told → List ℕ
+told_message_line t = tabbed_line (told_fields t)
 
 -- The names of the columns.
 abbrev pub message_columns : List (List ℕ)
@@ -117,7 +116,7 @@ message_columns = codes "source" ∷ codes "addressee" ∷ codes "id" ∷ codes 
 
 -- The names of the columns, and one line for each message, in their order.
 abbrev pub told_table : List Told → List ℕ
-told_table messages = tabbed_line message_columns ++ flat_map told_line messages
+told_table messages = tabbed_line message_columns ++ flat_map told_message_line messages
 
 -- ---- as the listing has it
 
@@ -158,7 +157,7 @@ listed_told x = record {
 
 -- The line of a message of the listing.
 abbrev pub listed_line : MessageRow → List ℕ
-listed_line x = told_line (listed_told x)
+listed_line x = told_message_line (listed_told x)
 
 -- ---- of a run of copies
 
@@ -209,7 +208,7 @@ sent_told r by_ack by_reply = record {
 }
 
 -- What is asked of the answers to a run's message: from whom, for what number, and in what form.
-abbrev pub asked_by : Sent → List ℕ → Call → Bool → Asked
+abbrev pub asked_by : Sent → List ℕ → Call → Bool → AskedAnswer
 asked_by r number answerer is_reply =
     record { source = r.message.source; answerer = answerer; number = number; is_reply = is_reply }
 
@@ -230,7 +229,7 @@ IsAnswerTo gap replies r is_reply answer = IsAnswerBy gap replies r is_reply
     (message_number r.message) (spelled_call r.message.addressee) answer
 
 -- This is what the table tells of a run, by these answers.
-pub record IsTold (gap : ℕ) (replies : List Reply) (r : Sent) (t : Told) : Type 0 where
+pub record IsToldRun (gap : ℕ) (replies : List Reply) (r : Sent) (t : Told) : Type 0 where
   pub by_ack : Option Reply
   pub by_reply : Option Reply
   pub is_ack : IsAnswerTo gap replies r false by_ack
@@ -242,7 +241,7 @@ abbrev pub AreTold : ℕ → List Reply → List Sent → List Told → Type 0
 AreTold gap replies [] [] = Unit {0}
 AreTold gap replies [] (t ∷ ts) = ⊥
 AreTold gap replies (r ∷ rs) [] = ⊥
-AreTold gap replies (r ∷ rs) (t ∷ ts) = IsTold gap replies r t × AreTold gap replies rs ts
+AreTold gap replies (r ∷ rs) (t ∷ ts) = IsToldRun gap replies r t × AreTold gap replies rs ts
 
 -- ---- as it is found among answers in order
 
@@ -269,4 +268,4 @@ told_found gap replies r =
     sent_told r (answer_found gap replies r false) (answer_found gap replies r true)
 
 abbrev pub found_line : ℕ → List Reply → Sent → List ℕ
-found_line gap replies r = told_line (told_found gap replies r)
+found_line gap replies r = told_message_line (told_found gap replies r)

@@ -9,7 +9,8 @@ use Rattle.aprs_laws.specs.Lists.{◌∈◌, Ordered}
 use Rattle.aprs_laws.specs.Order.{IsUpTo}
 use Rattle.aprs_laws.specs.Row.{Row, last_moment, row_key}
 use Rattle.aprs_messages.specs.Answers.{Reply, reply_cmp, reply_of}
-use Rattle.aprs_messages.specs.Copies.{Copy, Message, copy_cmp, copy_of}
+use Rattle.aprs_messages.specs.Copies.{Copy, copy_cmp, copy_of}
+use Rattle.aprs_summary.specs.Messages.{Message, reported_message}
 use Rattle.aprs_messages.specs.declared.answers.Answer.{Answer}
 use Rattle.aprs_messages.specs.declared.copies.MessageCopy.{MessageCopy}
 use Rattle.aprs_summary.specs.ReplyAcks.{IsReplyAckText}
@@ -18,15 +19,9 @@ use Rattle.aprs_lists.specs.declared.traffic.AnswerParts.{AnswerParts}
 
 -- ---- copies of messages
 
--- The message that a station sends by a report, if it is one.
-abbrev pub message_by : Call → Value → Option Message
-message_by from (message addressee text id) =
-    Some (record { source = from; addressee = addressee; text = text; id = id })
-message_by from v = None
-
 -- What is said is this message.
 abbrev pub SaysMessage : Said → Message → Type 0
-SaysMessage s m = message_by s.source (reading_of s.info) ≡ Some m
+SaysMessage s m = reported_message s.source (reading_of s.info) ≡ Some m
 
 -- The row is a copy of a message: it says the message, from its first to its last moment.
 pub record GivesCopy (x : Row) (c : Copy) : Type 0 where
@@ -57,7 +52,7 @@ pub data SaysAnswer (a : Answering) (v : Value) : Type 0 where
 
 -- The row is an answer, at its first moment. Who says it answers, to the station whose message is
 -- answered.
-pub record GivesReply (x : Row) (a : Reply) : Type 0 where
+pub record GivesNetReply (x : Row) (a : Reply) : Type 0 where
   pub said : Said
   pub is_said : said_in (row_key x) ≡ Some said
   pub addressee : List ℕ
@@ -97,6 +92,6 @@ answering_of x = record {
 pub record IsGathered (rows : List Row) (copies : List MessageCopy) (answers : List Answer)
     : Type 0 where
   pub copies_given : AreGiven GivesCopy rows (map copy_of copies)
-  pub answers_given : AreGiven GivesReply rows (map reply_of answers)
+  pub answers_given : AreGiven GivesNetReply rows (map reply_of answers)
   pub copies_ordered : Ordered (IsUpTo (on copy_of copy_cmp)) copies
   pub answers_ordered : Ordered (IsUpTo (on reply_of reply_cmp)) answers

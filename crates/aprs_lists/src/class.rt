@@ -3,7 +3,7 @@ ghost use Rattle.std.specs.Prelude.{◌≡◌};
 ghost use Rattle.std.specs.Option.{option_map};
 ghost use Rattle.std.specs.List.{list_all};
 ghost use Rattle.aprs_report.specs.Bytes.{is_alphanumeric};
-ghost use Rattle.aprs_messages.specs.Copies.{message_of};
+ghost use Rattle.aprs_messages.specs.Copies.{message_named};
 ghost use Rattle.aprs_summary.specs.ReplyAcks.{is_number_or_nothing};
 ghost use Rattle.aprs_lists.specs.Class as Spec;
 
@@ -11,7 +11,7 @@ use aprs_messages::MessageName;
 
 /// The class of a message, in a word.
 pub(crate) fn class_text(message: &MessageName<'_>) -> &'static [u8]
-    ensures { result.now ≡ Spec.class_text (message_of message.now) }
+    ensures { result.now ≡ Spec.class_text (message_named message.now) }
 {
     let (addressee, text) = (message.addressee, message.text);
     if is_bulletin(addressee) {
@@ -88,16 +88,16 @@ fn is_ended_number(bytes: &[u8]) -> bool
 {
     match bytes {
         [x, y, rest @ ..] => {
-            x.is_ascii_alphanumeric() && is_end(&bytes[1..])
-                || x.is_ascii_alphanumeric() && y.is_ascii_alphanumeric() && is_end(rest)
+            x.is_ascii_alphanumeric() && is_ack_end(&bytes[1..])
+                || x.is_ascii_alphanumeric() && y.is_ascii_alphanumeric() && is_ack_end(rest)
         }
         _ => false,
     }
 }
 
 /// Whether bytes are a closing brace, and at most two letters or digits.
-fn is_end(bytes: &[u8]) -> bool
-    ensures { result ≡ Spec.is_end bytes.now }
+fn is_ack_end(bytes: &[u8]) -> bool
+    ensures { result ≡ Spec.is_ack_end bytes.now }
 {
     match bytes {
         [b'}', rest @ ..] => rest.len() <= 2 && all_alphanumeric(rest),

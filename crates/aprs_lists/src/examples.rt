@@ -7,13 +7,14 @@ ghost use Rattle.aprs_report.specs.Reading.{item, object, position, raw, status}
 ghost use Rattle.aprs_report.specs.declared.place.Place.{Place};
 ghost use Rattle.aprs_report.specs.declared.stamp.Stamp.{Stamp};
 ghost use Rattle.aprs_report.specs.declared.symbol.Symbol.{Symbol};
-ghost use Rattle.aprs_laws.specs.Examples.{rx1};
+ghost use Rattle.aprs_laws.specs.Examples.{n0call, rx1};
 ghost use Rattle.aprs_laws.specs.Key.{key_of};
 ghost use Rattle.aprs_table.specs.Cells.{stamp_field};
 ghost use Rattle.aprs_summary.specs.declared.lists.message.MessageState.TheVariants.{Unnumbered, Unanswered, Acknowledged, Rejected};
 ghost use Rattle.aprs_summary.specs.declared.lists.reply_ack.ReplyAck.TheVariants.{NotAwaited, Awaited, Heard};
+ghost use Rattle.aprs_lists.specs.Activity.{frames_passed, heard_last, latest, passes_on};
 ghost use Rattle.aprs_lists.specs.Class.{class_text};
-ghost use Rattle.aprs_lists.specs.Examples.{ack_at, heard_at, hi_to, message_to, rej_at, reply_at, sent_as, text_to};
+ghost use Rattle.aprs_lists.specs.Examples.{ack_at, active_rows, heard_at, hi_to, row_by, message_to, rej_at, reply_at, sent_as, text_to};
 ghost use Rattle.aprs_lists.specs.Lines.{tabbed_line};
 ghost use Rattle.aprs_lists.specs.Stations.{no_position, no_status, position_in, status_in};
 ghost use Rattle.aprs_lists.specs.Things.{named_fields, placed_fields, thing_line_in};
@@ -145,4 +146,26 @@ pub fn stations_are_told()
         (status stamp text) ≡ moment_text 5 ∷ rx1 ∷ stamp_field stamp ∷ shown_text text ∷ [] }
     ensures no_place { position_in (heard_at 5) raw ≡ no_position }
     ensures misses_status { status_in (heard_at 5) raw ≡ no_status }
+{}
+
+/// A station was heard last at the latest of its rows' last moments, whatever they say.
+#[tactic(auto, unfolding(aprs_laws::specs::Key::key_of))]
+pub fn stations_are_heard_last()
+    ensures none { latest [] ≡ None }
+    ensures in_the_middle { latest (5 ∷ 9 ∷ 7 ∷ []) ≡ Some 9 }
+    ensures twice { latest (5 ∷ 5 ∷ []) ≡ Some 5 }
+    ensures heard { heard_last (n0call 7) active_rows ≡ Some 40 }
+    ensures by_a_frame_that_it_passed_on { heard_last (n0call 8) active_rows ≡ Some 50 }
+    ensures misses_source_of_a_passed_frame { heard_last (n0call 9) active_rows ≡ None }
+{}
+
+/// A station passed on each frame that begins as a third-party frame, whoever its source is.
+pub fn stations_pass_on_frames()
+    ensures one_of_two { frames_passed (n0call 8) active_rows ≡ 1 }
+    ensures none { frames_passed (n0call 7) active_rows ≡ 0 }
+    ensures passes { passes_on (row_by 8 50 (codes "}N0CALL-9>APRS:>Hi")) ≡ true }
+    ensures any_source { passes_on (row_by 8 50 (codes "}>:")) ≡ true }
+    ensures misses_colon { passes_on (row_by 8 50 (codes "}N0CALL-9>APRS")) ≡ false }
+    ensures misses_arrow { passes_on (row_by 8 50 (codes "}N0CALL-9:>Hi")) ≡ false }
+    ensures misses_brace { passes_on (row_by 8 50 (codes ">N0CALL-9>APRS:>Hi")) ≡ false }
 {}

@@ -1,6 +1,7 @@
 //! The tables of what is listed of a book: its messages, its stations, its objects and items.
 #![tactic(auto)]
 
+mod activity;
 mod class;
 mod examples;
 mod laws;
@@ -17,6 +18,6 @@ mod traffic;
 pub use laws::listed_lines_have_all_fields;
 pub use messages::write_messages;
 pub use net::write_net_messages;
-pub use stations::write_stations;
+pub use stations::{HeardStations, write_stations};
 pub use things::write_things;
 pub use traffic::Traffic;

@@ -19,8 +19,24 @@ pub fn put_line<W: Write>(
     ensures { Puts W.contents result out.old out.new (tabbed_line
         (cell_text first.now ∷ map cell_text second.now ++ map cell_text third.now)) }
 {
+    put_long_line(out, first, second, third, &[])
+}
+
+/// Puts a line of one more list of fields.
+pub fn put_long_line<W: Write>(
+    out: &mut Outlet<'_, W>,
+    first: &Cell<'_>,
+    second: &[Cell<'_>],
+    third: &[Cell<'_>],
+    fourth: &[Cell<'_>],
+) -> Result<(), WriteFault>
+    ensures { Puts W.contents result out.old out.new
+        (tabbed_line (cell_text first.now ∷ map cell_text second.now
+        ++ (map cell_text third.now ++ map cell_text fourth.now))) }
+{
     put_cell(out, first)?;
     put_cells(out, second)?;
     put_cells(out, third)?;
+    put_cells(out, fourth)?;
     out.put(b"\n")
 }

@@ -1,63 +1,209 @@
 //! The table of a book's stations.
-ghost use Rattle.std.specs.Prelude.{◌≡◌, ◌∷◌, ℕ, List, map};
+ghost use Rattle.std.specs.Prelude.{◌≡◌, ◌∷◌, ◌++◌, ℕ, List, [], IfOk, map};
 ghost use Rattle.std.specs.List.{flat_map};
+ghost use Rattle.std.specs.Option.{option_copied};
 ghost use Rattle.aprs_io.specs.Device.{Sends};
 ghost use Rattle.aprs_io.specs.Outlet.{Puts};
+ghost use Rattle.aprs_laws.specs.Gap.{millis_of};
+ghost use Rattle.aprs_summary.specs.Stations.{ReportsStations};
+ghost use Rattle.aprs_summary.specs.declared.lists.station.Station.{Station};
 ghost use Rattle.aprs_table.specs.Cells.{cell_text};
+ghost use Rattle.aprs_lists.specs.Activity.{heard_kept, passed_kept};
 ghost use Rattle.aprs_lists.specs.Stations as Spec;
+ghost use Rattle.aprs_lists.specs.Told.{moment_or_nothing};
 
-use crate::line::put_line;
+use crate::activity::{Activity, activities_of};
+use crate::line::put_long_line;
 use crate::table::{Lines, write_table};
+use crate::told::moment_cell;
+use aprs_ax25::Callsign;
 use aprs_io::{Counted, Outlet, WriteFault};
+use aprs_log::Moment;
 use aprs_report::Report;
+use aprs_rows::{BookStore, Memory, WalkRoom};
 use aprs_summary::{Heard, HeardRoom, Station, StationWalk, Summary};
 use aprs_table::Cell;
 use itoa::Buffer;
-use std::alloc::Allocator;
+use std::alloc::{Allocator, Global};
+use std::collections::BTreeMap;
 use std::io::Write;
+use std::marker::Model;
 
 /// The names of the columns.
 const COLUMNS: &[u8] = b"\
     source\ttransmissions\tlast\treceiver\tstamp\tlatitude\tlongitude\tambiguity\tcompressed\t\
-    symbol\ttext\tstatus_last\tstatus_receiver\tstatus_stamp\tstatus_text\n";
+    symbol\ttext\tstatus_last\tstatus_receiver\tstatus_stamp\tstatus_text\theard\tpassed\n";
 
-/// Writes the table of the stations of a book, from its summary: the names of the columns, and
-/// exactly one line for each station, ascending by callsign, with its last known position and
-/// status. Mic-E positions and frames that are passed on give none. At a fault a prefix of this
-/// went out. Takes no memory.
-pub fn write_stations<W: Write, A: Allocator + Copy>(
-    w: &mut Counted<W>,
-    summary: &Summary<'_, A>,
-) -> Result<(), WriteFault>
-    ensures { (text : List ℕ) × Spec.IsStationsTable summary.now text
-        × Sends W.contents result w.old w.new text }
-{
-    write_table(w, COLUMNS, summary.stations())
+/// The stations that were heard in the book of a store: what is last known of each, and how active
+/// it was. Their frames stay where they lie.
+pub struct HeardStations<'t, A: Allocator = Global> {
+    summary: Summary<'t, A>,
+    activities: BTreeMap<Callsign, Activity, A>,
 }
 
-impl<'s, 't, A: Allocator + Copy> Lines for StationWalk<'s, 't, A> {
-    ghost lines = { flat_map Spec.station_table_line };
-
-    /// Puts the lines of the stations, in their order.
-    fn put_lines<W: Write>(mut self, out: &mut Outlet<'_, W>) -> Result<(), WriteFault> {
-        let mut room = HeardRoom::new();
-        while let Some(station) = self.next(&mut room) {
-            put_station(out, &station)?;
-        }
-        Ok(())
+impl<'t, A: Allocator> Drop for HeardStations<'t, A> {
+    fn drop(self) {
+        let HeardStations {
+            summary,
+            activities,
+        } = self;
+        drop(summary);
+        drop(activities);
     }
 }
 
+impl<'t, A: Allocator> Model for HeardStations<'t, A> {
+    ghost use Rattle.aprs_laws.specs.BookValue.{BookValue};
+    ghost use Rattle.aprs_lists.specs.Activity.{AreActivities};
+
+    ghost Value = { BookValue };
+
+    ghost view = { λ s. s.summary };
+
+    ghost invariant = { λ s. AreActivities s.summary.rows s.activities.entries };
+}
+
+impl<'t, A: Allocator + Copy> HeardStations<'t, A> {
+    /// The stations of the book in this store, in two passes over its rows. Takes memory for the
+    /// walks over them and for the book's summary. The room has to last as long as the stations.
+    pub fn of(
+        alloc: A,
+        store: &'t BookStore<A>,
+        room: &'t mut WalkRoom<A>,
+    ) -> Result<HeardStations<'t, A>, Memory>
+        ensures { IfOk result (λ stations. stations ≡ store.now) }
+    {
+        let mut first_room = WalkRoom::new(alloc);
+        let rows = store.rows(&mut first_room)?;
+        let most = rows.most_rows();
+        let activities = activities_of(alloc, rows, most)?;
+        let summary = Summary::of(alloc, store, room)?;
+        Ok(HeardStations {
+            summary,
+            activities,
+        })
+    }
+
+    /// The lines of their table.
+    fn lines(&self) -> StationLines<'_, 't, A>
+        ensures { (stations : List Station)
+            × ReportsStations (millis_of self.now.gap) self.now.rows stations
+            × (result ≡ flat_map (Spec.station_table_line self.now.rows) stations) }
+    {
+        StationLines {
+            walk: self.summary.stations(),
+            activities: &self.activities,
+        }
+    }
+}
+
+/// Writes the table of the stations of a book: the names of the columns, and exactly one line for
+/// each station, ascending by callsign, with its last known position and status, when it was heard
+/// last, and how many frames of others it passed on. Mic-E positions and frames that are passed on
+/// give no position or status. At a fault a prefix of this went out. Takes no memory.
+pub fn write_stations<W: Write, A: Allocator + Copy>(
+    w: &mut Counted<W>,
+    stations: &HeardStations<'_, A>,
+) -> Result<(), WriteFault>
+    ensures { (text : List ℕ) × Spec.IsStationsTable stations.now text
+        × Sends W.contents result w.old w.new text }
+{
+    write_table(w, COLUMNS, stations.lines())
+}
+
+/// The lines of stations, with how active they were.
+#[derive(Drop)]
+struct StationLines<'s, 't, A: Allocator = Global> {
+    walk: StationWalk<'s, 't, A>,
+    activities: &'s BTreeMap<Callsign, Activity, A>,
+}
+
+impl<'s, 't, A: Allocator> Model for StationLines<'s, 't, A> {
+    ghost use Rattle.std.specs.Prelude.{ℕ, List};
+    ghost use Rattle.std.specs.List.{flat_map};
+    ghost use Rattle.aprs_lists.specs.Stations.{station_line_in};
+
+    ghost Value = { List ℕ };
+
+    ghost view = { λ l. flat_map (station_line_in l.activities.now.entries) l.walk };
+}
+
+impl<'s, 't, A: Allocator + Copy> Lines for StationLines<'s, 't, A> {
+    ghost lines = { λ text. text };
+
+    /// Puts the lines of the stations, in their order.
+    fn put_lines<W: Write>(self, out: &mut Outlet<'_, W>) -> Result<(), WriteFault> {
+        put_stations(out, self.walk, self.activities)
+    }
+}
+
+/// Puts the lines of stations, in their order, each with what is kept of how active it was. Fails
+/// where the output is refused.
+fn put_stations<W: Write, A: Allocator + Copy>(
+    out: &mut Outlet<'_, W>,
+    mut walk: StationWalk<'_, '_, A>,
+    activities: &BTreeMap<Callsign, Activity, A>,
+) -> Result<(), WriteFault>
+    ensures { Puts W.contents result out.old out.new
+        (flat_map (Spec.station_line_in activities.now.entries) walk.entry) }
+{
+    let mut room = HeardRoom::new();
+    while let Some(station) = walk.next(&mut room) {
+        put_station(out, &station, activities.get(&station.call))?;
+    }
+    Ok(())
+}
+
 /// Puts the line of a station. Fails where the output is refused.
-fn put_station<W: Write>(out: &mut Outlet<'_, W>, station: &Station<'_>) -> Result<(), WriteFault>
-    ensures { Puts W.contents result out.old out.new (Spec.station_table_line station.now) }
+fn put_station<W: Write>(
+    out: &mut Outlet<'_, W>,
+    station: &Station<'_>,
+    activity: Option<&Activity>,
+) -> Result<(), WriteFault>
+    ensures { Puts W.contents result out.old out.new
+        (Spec.station_line_by station.now (option_copied activity.entry)) }
+{
+    let (heard, passed) = heard_and_passed(activity);
+    let mut buffer = Buffer::new();
+    let passed = buffer.format(passed).as_bytes();
+    let activity = activity_cells(heard, passed);
+    put_known(out, station, &activity)
+}
+
+/// When a station was heard last, and the number of frames of others that it passed on.
+fn activity_cells<'a>(heard: Option<Moment>, passed: &'a [u8]) -> [Cell<'a>; 2]
+    ensures { map cell_text result ≡ moment_or_nothing heard ∷ passed.now ∷ [] }
+{
+    [moment_cell(heard), Cell::Plain(passed)]
+}
+
+/// Puts the line of a station, with these last fields. Fails where the output is refused.
+fn put_known<W: Write>(
+    out: &mut Outlet<'_, W>,
+    station: &Station<'_>,
+    activity: &[Cell<'_>],
+) -> Result<(), WriteFault>
+    ensures { Puts W.contents result out.old out.new
+        (Spec.station_line_with station.now (map cell_text activity.now)) }
 {
     let mut buffer = Buffer::new();
     let transmissions = buffer.format(station.transmissions).as_bytes();
     let source = Cell::Call(station.call.copy());
     let position = position_cells(transmissions, &station.position);
     let status = status_cells(&station.status);
-    put_line(out, &source, &position, &status)
+    put_long_line(out, &source, &position, &status, activity)
+}
+
+/// When a station was heard last, and how many frames of others it passed on; never, and none,
+/// where nothing is kept of it.
+fn heard_and_passed(activity: Option<&Activity>) -> (Option<Moment>, u64)
+    ensures heard { result.0 ≡ heard_kept (option_copied activity.entry) }
+    ensures passed { result.1 ≡ passed_kept (option_copied activity.entry) }
+{
+    match activity {
+        Some(activity) => (Some(activity.heard), activity.passed),
+        None => (None, 0),
+    }
 }
 
 /// How many transmissions a station has, and its last known position; nothing of it where none is

@@ -2,7 +2,7 @@
 ghost use Rattle.std.specs.Prelude.{◌≡◌, [], ◌∷◌, ◌++◌, map};
 ghost use Rattle.std.specs.Option.{option_map};
 ghost use Rattle.aprs_io.specs.Outlet.{Puts};
-ghost use Rattle.aprs_messages.specs.Copies.{message_of};
+ghost use Rattle.aprs_messages.specs.Copies.{message_named};
 ghost use Rattle.aprs_table.specs.Cells.{cell_text};
 ghost use Rattle.aprs_lists.specs.Told as Spec;
 
@@ -49,7 +49,7 @@ pub(crate) fn put_message<W: Write>(
     out: &mut Outlet<'_, W>,
     line: &MessageLine<'_>,
 ) -> Result<(), WriteFault>
-    ensures { Puts W.contents result out.old out.new (Spec.told_line (Spec.told_of line.now)) }
+    ensures { Puts W.contents result out.old out.new (Spec.told_message_line (Spec.told_of line.now)) }
 {
     let source = Cell::Call(line.source.copy());
     let said = [
@@ -125,7 +125,7 @@ fn gate_cell(gate: &Option<Callsign>) -> Cell<'static>
 }
 
 /// The field of a moment, empty without one.
-fn moment_cell(moment: Option<Moment>) -> Cell<'static>
+pub(crate) fn moment_cell(moment: Option<Moment>) -> Cell<'static>
     ensures { cell_text result ≡ Spec.moment_or_nothing moment }
 {
     match moment {
@@ -146,7 +146,7 @@ fn bytes_or_nothing<'t>(bytes: Option<&'t [u8]>) -> &'t [u8]
 
 /// The number of a message: its id, or without one the number that its text has for reply-acks.
 pub(crate) fn number_of<'t>(message: &MessageName<'t>) -> Option<&'t [u8]>
-    ensures { option_map (λ x. x.now) result ≡ Spec.message_number (message_of message.now) }
+    ensures { option_map (λ x. x.now) result ≡ Spec.message_number (message_named message.now) }
 {
     match message.id {
         Some(id) => Some(id),

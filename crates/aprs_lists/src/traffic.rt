@@ -8,7 +8,8 @@ ghost use Rattle.aprs_laws.specs.Order.{IsUpTo};
 ghost use Rattle.aprs_laws.specs.Row.{row_key};
 ghost use Rattle.aprs_report.specs.Reader.{reading_of};
 ghost use Rattle.aprs_messages.specs.Answers.{Reply, reply_cmp, reply_of};
-ghost use Rattle.aprs_messages.specs.Copies.{Copy, copy_cmp, copy_of, message_of};
+ghost use Rattle.aprs_messages.specs.Copies.{Copy, copy_cmp, copy_of, message_named};
+ghost use Rattle.aprs_summary.specs.Messages.{reported_message};
 ghost use Rattle.aprs_summary.specs.ReplyTexts.{HoldsOnly};
 ghost use Rattle.aprs_lists.specs.Said.{said_in, said_view};
 ghost use Rattle.aprs_lists.specs.Traffic as Spec;
@@ -90,7 +91,7 @@ impl<'t, A: Allocator + Copy> Traffic<'t, A> {
 
     /// The answers, in order.
     pub(crate) fn answers(&self) -> &[Answer<'t>]
-        ensures given { Spec.AreGiven Spec.GivesReply self.now.rows (map reply_of result.now) }
+        ensures given { Spec.AreGiven Spec.GivesNetReply self.now.rows (map reply_of result.now) }
         ensures ordered { Ordered (IsUpTo (on reply_of reply_cmp)) result.now }
     {
         self.answers.as_slice()
@@ -140,7 +141,7 @@ fn take_row<'t, A: Allocator + Copy>(
     ensures copies { OnOk result ((c : Copy) → (c ∈ map copy_of copies.new.items)
         ↔ ((c ∈ map copy_of copies.old.items) ⊎ Spec.GivesCopy row.now c)) }
     ensures answers { OnOk result ((a : Reply) → (a ∈ map reply_of answers.new.items)
-        ↔ ((a ∈ map reply_of answers.old.items) ⊎ Spec.GivesReply row.now a)) }
+        ↔ ((a ∈ map reply_of answers.old.items) ⊎ Spec.GivesNetReply row.now a)) }
 {
     put_copy(copies, copy_in(row))?;
     put_answer(answers, answer_in(row))
@@ -190,8 +191,8 @@ fn copy_in<'t>(row: &RowView<'t>) -> Option<MessageCopy<'t>>
 
 /// The message that is said, or `None` where it is none.
 fn message_in<'t>(said: &Said<'t>) -> Option<MessageName<'t>>
-    ensures { option_map message_of result
-        ≡ Spec.message_by said.now.source (reading_of said.now.info.now) }
+    ensures { option_map message_named result
+        ≡ reported_message said.now.source (reading_of said.now.info.now) }
 {
     match Report::read(said.info) {
         Report::Message {
@@ -210,7 +211,7 @@ fn message_in<'t>(said: &Said<'t>) -> Option<MessageName<'t>>
 
 /// The answer that a row is, or `None` where it is none.
 fn answer_in<'t>(row: &RowView<'t>) -> Option<Answer<'t>>
-    ensures { HoldsOnly (Spec.GivesReply row.now) (option_map reply_of result) }
+    ensures { HoldsOnly (Spec.GivesNetReply row.now) (option_map reply_of result) }
 {
     let said = said_in(row)?;
     let parts = answer_parts(said.info)?;

@@ -1,34 +1,9 @@
--- The orders of messages and their copies.
-use Rattle.aprs_messages.proofs.Common.{◌≡◌, ℕ, List, Option, None, Some, ap, refl, subst, sym, Bor, Call, call_cmp, call_total, call_exact, bytes_cmp, bytes_total, bytes_exact, nat_cmp, nat_cmp_total, exact_pairs, CmpEqualImpliesEq, IsTotalOrder, IsSortedBy, IsUpTo, Ordered, Ordering, is_lt, on, on_total, then_total, options_total, option_cmp, option_map, ordering_then}
-use Rattle.aprs_messages.specs.Copies.{Copy, Message, copy_cmp, copy_of, message_cmp}
+-- The order of copies of messages.
+use Rattle.aprs_messages.proofs.Common.{◌≡◌, ℕ, List, Option, None, Some, ap, refl, subst, sym, Bor, call_cmp, call_total, bytes_cmp, nat_cmp, nat_cmp_total, IsTotalOrder, IsSortedBy, IsUpTo, Ordered, Ordering, is_lt, on, on_total, then_total, options_total, option_cmp, option_map, ordering_then}
+use Rattle.aprs_messages.specs.Copies.{Copy, copy_cmp, copy_of}
+use Rattle.aprs_summary.proofs.Messages.{message_total}
 use Rattle.aprs_messages.specs.declared.copies.MessageCopy.{MessageCopy}
 use Rattle.aprs_messages.proofs.Orders.{sorted_ordered}
-
-pub message_total : IsTotalOrder message_cmp
-message_total =
-    then_total (on_total (λ (m : Message). m.source) call_total)
-    (then_total (on_total (λ (m : Message). m.addressee) bytes_total)
-    (then_total (on_total (λ (m : Message). m.text) bytes_total)
-    (on_total (λ (m : Message). m.id) (options_total bytes_total))))
-
-ids_exact : CmpEqualImpliesEq (option_cmp bytes_cmp)
-ids_exact None None h = refl
-ids_exact None (Some y) h = absurd (cc)
-ids_exact (Some x) None h = absurd (cc)
-ids_exact (Some x) (Some y) h = ap Some (bytes_exact x y h)
-
-pub message_exact : CmpEqualImpliesEq message_cmp
-message_exact a b h =
-    ap (λ (p : Call × (List ℕ × (List ℕ × Option (List ℕ)))). record
-    { source = p.0; addressee = p.1.0; text = p.1.1.0; id = p.1.1.1 })
-    (exact_pairs call_cmp
-    (λ (x y : List ℕ × (List ℕ × Option (List ℕ))). ordering_then (bytes_cmp x.0 y.0)
-    (ordering_then (bytes_cmp x.1.0 y.1.0) (option_cmp bytes_cmp x.1.1 y.1.1))) call_exact
-    (exact_pairs bytes_cmp
-    (λ (x y : List ℕ × Option (List ℕ)). ordering_then (bytes_cmp x.0 y.0)
-    (option_cmp bytes_cmp x.1 y.1)) bytes_exact
-    (exact_pairs bytes_cmp (option_cmp bytes_cmp) bytes_exact ids_exact))
-    (a.source, (a.addressee, (a.text, a.id))) (b.source, (b.addressee, (b.text, b.id))) h)
 
 pub copy_total : IsTotalOrder copy_cmp
 copy_total =

@@ -1,16 +1,16 @@
 -- The first answer is where a search in order finds it.
 use Rattle.aprs_messages.proofs.Common.{◌≡◌, ◌∙◌, ◌<◌, ◌≤◌, ◌⊎◌, ℕ, Bool, true, false, List, [], ◌∷◌, Option, None, Some, drop, length, get_or, map, suc, zero, ap, arith, refl, subst, sym, inl, inr, Call, call_cmp, call_total, call_exact, bytes_cmp, bytes_total, bytes_exact, bool_cmp, bool_cmp_total, nat_cmp, nat_cmp_total, exact_pairs, CmpEqualImpliesEq, IsTotalOrder, MatchOrdering, ranks, IsPartitionedBy, is_eq, is_gt, is_lt, and_from, and_parts, lt-ltb, ltb-true, on, on_total, then_total, ordering_then, Ordered, Ordering, Less, Equal, Greater, IsUpTo, same_greatest, up_to_itself, tied_itself, place_of, in_place, cases_lt, option_map, if◌then◌else◌, from_map, in_map, ◌∈◌}
-use Rattle.aprs_messages.specs.Answers.{Answers, Asked, IsFirstAnswer, Reply, asked_cmp, chosen_of, first_of, is_before, reply_cmp, reply_of}
+use Rattle.aprs_messages.specs.Answers.{AnswersInTime, AskedAnswer, IsFirstAnswer, Reply, asked_cmp, chosen_of, first_of, is_before, reply_cmp, reply_of}
 use Rattle.aprs_messages.specs.Chosen.{chosen, is_early, is_timely}
 use Rattle.aprs_messages.specs.declared.answers.Answer.{Answer}
 use Rattle.aprs_messages.proofs.Orders.{not_after, ordered_drop, dropped_in}
 
 pub asked_total : IsTotalOrder asked_cmp
 asked_total =
-    then_total (on_total (λ (q : Asked). q.source) call_total)
-    (then_total (on_total (λ (q : Asked). q.answerer) call_total)
-    (then_total (on_total (λ (q : Asked). q.number) bytes_total)
-    (on_total (λ (q : Asked). q.is_reply) bool_cmp_total)))
+    then_total (on_total (λ (q : AskedAnswer). q.source) call_total)
+    (then_total (on_total (λ (q : AskedAnswer). q.answerer) call_total)
+    (then_total (on_total (λ (q : AskedAnswer). q.number) bytes_total)
+    (on_total (λ (q : AskedAnswer). q.is_reply) bool_cmp_total)))
 
 pub bool_exact : CmpEqualImpliesEq bool_cmp
 bool_exact true true h = refl
@@ -89,11 +89,11 @@ not_early m n p h = by_case (nat_cmp m n) (ranks m n) where
   by_case Greater c = refl
 
 module _ (least : Answer) (acknowledges : least.is_rejection ≡ false) (until : Option ℕ) where
-  abbrev q : Asked
+  abbrev q : AskedAnswer
   q = (reply_of least).asked
 
   abbrev Timely : Reply → Type 0
-  Timely a = Answers q least.moment until a
+  Timely a = AnswersInTime q least.moment until a
 
   -- what answers in time isn't early
   timely_late : (x : Answer) → Timely (reply_of x) → is_early least x ≡ false
@@ -157,7 +157,7 @@ module _ (least : Answer) (acknowledges : least.is_rejection ≡ false) (until :
           let u = up_to b m t in
           let same : (reply_of y).asked ≡ q =
           same_greatest asked_total asked_exact (reply_of y).asked q
-          (subst (λ (a : Asked). IsUpTo asked_cmp (reply_of y).asked a) t.for_it
+          (subst (λ (a : AskedAnswer). IsUpTo asked_cmp (reply_of y).asked a) t.for_it
           (asked_up_to (reply_of y) b u))
           (asked_up_to (reply_of least) (reply_of y) from_least) in
           record {

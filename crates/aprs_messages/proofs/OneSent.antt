@@ -1,10 +1,12 @@
 -- A set of copies has one list of runs, and a set of answers one first answer.
 use Rattle.aprs_messages.proofs.Common.{◌≡◌, ◌∙◌, ◌<◌, ◌≤◌, ◌+◌, ℕ, Bool, List, Option, None, Some, ap, arith, refl, subst, sym, inl, inr, suc, zero, cases_lt, Call, call_cmp, call_exact, nat_cmp, exact_unsigned, exact_pairs, bool_cmp, option_cmp, ordering_then, CmpEqualImpliesEq, not_both, same_greatest, tied_itself, Less, Equal, SameMembers, ◌∈◌}
 use Rattle.aprs_laws.proofs.Lists.{ordered_same}
-use Rattle.aprs_messages.specs.Answers.{Asked, IsFirstAnswer, Reply, asked_cmp, reply_cmp}
-use Rattle.aprs_messages.specs.Copies.{Copy, Message, copy_cmp, message_cmp}
+use Rattle.aprs_messages.specs.Answers.{AskedAnswer, IsFirstAnswer, Reply, asked_cmp, reply_cmp}
+use Rattle.aprs_messages.specs.Copies.{Copy, copy_cmp}
+use Rattle.aprs_summary.specs.Messages.{Message, message_cmp}
 use Rattle.aprs_messages.specs.Runs.{AreInTime, AreSent, IsNextBegin, IsRunOf, IsSentBefore, IsSentOnce, Sent, SentAt}
-use Rattle.aprs_messages.proofs.CopyOrder.{copy_total, message_exact, message_total}
+use Rattle.aprs_summary.proofs.Messages.{message_exact, message_total}
+use Rattle.aprs_messages.proofs.CopyOrder.{copy_total}
 use Rattle.aprs_messages.proofs.FirstAnswers.{asked_exact, bool_exact, reply_total}
 
 -- ---- exact orders
@@ -30,7 +32,7 @@ copy_exact a b h =
 
 reply_exact : CmpEqualImpliesEq reply_cmp
 reply_exact a b h =
-    ap (λ (p : Asked × (ℕ × Bool)). record { asked = p.0; moment = p.1.0; is_rejection = p.1.1 })
+    ap (λ (p : AskedAnswer × (ℕ × Bool)). record { asked = p.0; moment = p.1.0; is_rejection = p.1.1 })
     (exact_pairs asked_cmp
     (λ (x y : ℕ × Bool). ordering_then (nat_cmp x.0 y.0) (bool_cmp x.1 y.1)) asked_exact
     (exact_pairs nat_cmp bool_cmp exact_unsigned bool_exact)
@@ -38,7 +40,7 @@ reply_exact a b h =
 
 -- ---- one first answer
 
-pub first_once : (R S : List Reply) (same : SameMembers R S) (q : Asked) (start : ℕ) (until : Option ℕ)
+pub first_once : (R S : List Reply) (same : SameMembers R S) (q : AskedAnswer) (start : ℕ) (until : Option ℕ)
     (x y : Option Reply) → IsFirstAnswer R q start until x → IsFirstAnswer S q start until y → x ≡ y
 first_once R S same q start until None None h k = refl
 first_once R S same q start until None (Some b) h k = absurd (h b ((same b).1 k.0) k.1)

@@ -1,15 +1,15 @@
 -- One answer after another, in order, gives the first that counts.
 use Rattle.aprs_messages.proofs.Common.{◌≡◌, ◌∙◌, ℕ, Bool, true, false, List, [], ◌∷◌, Option, None, Some, ap, refl, subst, sym, inl, inr, bool_cmp, nat_cmp, is_eq, is_lt, and_from, and_parts, if◌then◌else◌, ordering_then, Ordered, IsUpTo, same_greatest, up_to_itself, tied_itself, ◌∈◌}
-use Rattle.aprs_messages.specs.Answers.{Answers, Asked, IsFirstAnswer, PlainIsFirst, Reply, asked_cmp, chosen_of, first_of, is_before, is_early, is_timely, reply_cmp}
+use Rattle.aprs_messages.specs.Answers.{AnswersInTime, AskedAnswer, IsFirstAnswer, PlainIsFirst, Reply, asked_cmp, chosen_of, first_of, is_before, is_early, is_timely, reply_cmp}
 use Rattle.aprs_messages.proofs.FirstAnswers.{asked_exact, asked_total, asked_up_to, earlier_before, equal_so, moments_up_to, not_early, reply_total}
 use Rattle.aprs_messages.proofs.Orders.{not_after}
 
 module _ (least : Reply) (acknowledges : least.is_rejection ≡ false) (until : Option ℕ) where
-  abbrev q : Asked
+  abbrev q : AskedAnswer
   q = least.asked
 
   abbrev Timely : Reply → Type 0
-  Timely a = Answers q least.moment until a
+  Timely a = AnswersInTime q least.moment until a
 
   -- what answers in time isn't early
   timely_late : (x : Reply) → Timely x → is_early least x ≡ false
@@ -59,7 +59,7 @@ module _ (least : Reply) (acknowledges : least.is_rejection ≡ false) (until : 
     timely_first b m t =
         let u = up_to b m in
         let same : x.asked ≡ q = same_greatest asked_total asked_exact x.asked q
-        (subst (λ (a : Asked). IsUpTo asked_cmp x.asked a) t.for_it (asked_up_to x b u))
+        (subst (λ (a : AskedAnswer). IsUpTo asked_cmp x.asked a) t.for_it (asked_up_to x b u))
         (asked_up_to least x from_least) in
         record {
           for_it = same;

@@ -1,8 +1,10 @@
 -- One copy after another, in order, gives the maximal runs.
 use Rattle.aprs_messages.proofs.Common.{◌≡◌, ◌∙◌, ◌<◌, ◌≤◌, ◌+◌, ◌⊎◌, ℕ, Bool, true, false, List, [], ◌∷◌, None, Some, max, leb, leb-true, ap, arith, refl, subst, sym, inl, inr, and_from, and_parts, cases_lt, le-leb, if◌then◌else◌, is_eq, is_gt, nat_cmp, option_cmp, call_cmp, ordering_then, Ordered, Ordering, Less, Equal, Greater, IsBelow, IsUpTo, MatchOrdering, ranks, same_greatest, up_to_itself, tied_itself, ◌∈◌}
-use Rattle.aprs_messages.specs.Copies.{Copy, Message, copy_cmp, message_cmp}
+use Rattle.aprs_messages.specs.Copies.{Copy, copy_cmp}
+use Rattle.aprs_summary.specs.Messages.{Message, message_cmp}
 use Rattle.aprs_messages.specs.Runs.{AreInTime, AreSent, IsCopyOf, IsFirstCopy, IsNextBegin, IsRunOf, IsSentBefore, IsSentOnce, Sent, SentAt, PlainIsSent, ended, goes_on, is_same, next_begin, runs_after, runs_of, sent_again, sent_first}
-use Rattle.aprs_messages.proofs.CopyOrder.{copy_total, message_exact, message_total}
+use Rattle.aprs_summary.proofs.Messages.{message_exact, message_total}
+use Rattle.aprs_messages.proofs.CopyOrder.{copy_total}
 
 -- ---- the order of copies
 

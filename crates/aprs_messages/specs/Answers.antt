@@ -11,21 +11,21 @@ use Rattle.aprs_messages.specs.declared.answers.Question.{Question}
 
 -- What an answer is for: whose message, who answers, the number of the message, and whether by a
 -- reply-ack.
-pub record Asked : Type 0 where
+pub record AskedAnswer : Type 0 where
   pub source : Call
   pub answerer : Call
   pub number : List ℕ
   pub is_reply : Bool
 
 -- The order of questions: by all their parts, from the left.
-abbrev pub asked_cmp : Asked → Asked → Ordering
+abbrev pub asked_cmp : AskedAnswer → AskedAnswer → Ordering
 asked_cmp = then_cmp (on (λ q. q.source) call_cmp)
     (then_cmp (on (λ q. q.answerer) call_cmp)
     (then_cmp (on (λ q. q.number) bytes_cmp) (on (λ q. q.is_reply) bool_cmp)))
 
 -- An answer: what it is for, when it was first heard, and whether it rejects the message.
 pub record Reply : Type 0 where
-  pub asked : Asked
+  pub asked : AskedAnswer
   pub moment : ℕ
   pub is_rejection : Bool
 
@@ -36,7 +36,7 @@ reply_cmp = then_cmp (on (λ a. a.asked) asked_cmp)
     (then_cmp (on (λ a. a.moment) nat_cmp) (on (λ a. a.is_rejection) bool_cmp))
 
 -- What the code asks.
-abbrev pub asked_of : Question → Asked
+abbrev pub asked_of : Question → AskedAnswer
 asked_of x = record {
   source = x.source;
   answerer = x.answerer;
@@ -58,18 +58,18 @@ is_before None moment = true
 is_before (Some until) moment = nat_lt moment until
 
 -- The answer is for this, and was heard at a moment from `start` on, and before `until`.
-pub record Answers (q : Asked) (start : ℕ) (until : Option ℕ) (a : Reply) : Type 0 where
+pub record AnswersInTime (q : AskedAnswer) (start : ℕ) (until : Option ℕ) (a : Reply) : Type 0 where
   pub for_it : a.asked ≡ q
   pub not_before : start ≤ a.moment
   pub before : is_before until a.moment ≡ true
 
 -- The first of the answers for this in that time, or none where there is none. Of two at one moment
 -- an acknowledgement comes first.
-abbrev pub IsFirstAnswer : List Reply → Asked → ℕ → Option ℕ → Option Reply → Type 0
+abbrev pub IsFirstAnswer : List Reply → AskedAnswer → ℕ → Option ℕ → Option Reply → Type 0
 IsFirstAnswer replies q start until None =
-    (a : Reply) → a ∈ replies → Answers q start until a → ⊥
-IsFirstAnswer replies q start until (Some a) = (a ∈ replies) × Answers q start until a
-    × ((b : Reply) → b ∈ replies → Answers q start until b → IsUpTo reply_cmp a b)
+    (a : Reply) → a ∈ replies → AnswersInTime q start until a → ⊥
+IsFirstAnswer replies q start until (Some a) = (a ∈ replies) × AnswersInTime q start until a
+    × ((b : Reply) → b ∈ replies → AnswersInTime q start until b → IsUpTo reply_cmp a b)
 
 -- ---- one answer after another
 

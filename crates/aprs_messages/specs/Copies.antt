@@ -4,23 +4,9 @@ use Rattle.std.specs.Option.{option_cmp, option_map}
 use Rattle.std.specs.Ordering.{nat_cmp, on, then_cmp}
 use Rattle.std.specs.declared.cmp.Ordering.{Ordering}
 use Rattle.aprs_ax25.specs.Callsign.{Call, call_cmp}
-use Rattle.aprs_log.specs.Reception.{bytes_cmp}
+use Rattle.aprs_summary.specs.Messages.{Message, message_cmp}
 use Rattle.aprs_messages.specs.declared.copies.MessageCopy.{MessageCopy}
 use Rattle.aprs_messages.specs.declared.copies.MessageName.{MessageName}
-
--- Who sent it, to whom, its text, and its id or none: copies that agree in these are of one
--- message.
-pub record Message : Type 0 where
-  pub source : Call
-  pub addressee : List ℕ
-  pub text : List ℕ
-  pub id : Option (List ℕ)
-
--- The order of messages: by source, addressee, text, then id, where no id comes before any.
-abbrev pub message_cmp : Message → Message → Ordering
-message_cmp = then_cmp (on (λ m. m.source) call_cmp)
-    (then_cmp (on (λ m. m.addressee) bytes_cmp)
-    (then_cmp (on (λ m. m.text) bytes_cmp) (on (λ m. m.id) (option_cmp bytes_cmp))))
 
 -- A copy of a message: from when to when it was heard, and the station that passed it on, or none
 -- where its sender itself was heard.
@@ -38,8 +24,8 @@ copy_cmp = then_cmp (on (λ c. c.message) message_cmp)
     (then_cmp (on (λ c. c.gate) (option_cmp call_cmp)) (on (λ c. c.last) nat_cmp)))
 
 -- The message that the parts of the code name.
-abbrev pub message_of : MessageName → Message
-message_of x = record {
+abbrev pub message_named : MessageName → Message
+message_named x = record {
   source = x.source;
   addressee = x.addressee.now;
   text = x.text.now;
@@ -48,4 +34,4 @@ message_of x = record {
 
 -- The copy that the parts of the code show.
 abbrev pub copy_of : MessageCopy → Copy
-copy_of x = record { message = message_of x.message; first = x.first; gate = x.gate; last = x.last }
+copy_of x = record { message = message_named x.message; first = x.first; gate = x.gate; last = x.last }

@@ -2,7 +2,8 @@
 use Rattle.std.specs.Prelude.{ℕ, Bool, true, false, Option, None, Some, codes}
 use Rattle.aprs_laws.specs.Examples.{n0call}
 use Rattle.aprs_messages.specs.Answers.{Reply}
-use Rattle.aprs_messages.specs.Copies.{Copy, Message}
+use Rattle.aprs_messages.specs.Copies.{Copy}
+use Rattle.aprs_summary.specs.Messages.{Message}
 use Rattle.aprs_messages.specs.Runs.{Sent}
 
 -- The message `Hi` from N0CALL-7 to N0CALL-8, of the id 1.

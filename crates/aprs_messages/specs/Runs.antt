@@ -4,7 +4,8 @@ use Rattle.std.specs.Ordering.{is_eq}
 use Rattle.aprs_ax25.specs.Callsign.{Call}
 use Rattle.aprs_laws.specs.Lists.{◌∈◌, Ordered}
 use Rattle.aprs_laws.specs.Order.{IsBelow, IsUpTo}
-use Rattle.aprs_messages.specs.Copies.{Copy, Message, copy_cmp, message_cmp, message_of}
+use Rattle.aprs_messages.specs.Copies.{Copy, copy_cmp, message_named}
+use Rattle.aprs_summary.specs.Messages.{Message, message_cmp}
 use Rattle.aprs_messages.specs.declared.runs.MessageRun.{MessageRun}
 
 -- A message of one run: from when to when it was sent, the gate of its first copy, and when the
@@ -82,7 +83,7 @@ AreInTime copies = (c : Copy) → c ∈ copies → c.first ≤ c.last
 -- The run of the code.
 abbrev pub sent_of : MessageRun → Sent
 sent_of x = record {
-  message = message_of x.copy.now.message;
+  message = message_named x.copy.now.message;
   first = x.copy.now.first;
   last = x.last;
   gate = x.copy.now.gate;

@@ -2,7 +2,7 @@
 ghost use Rattle.std.specs.Prelude.{◌≡◌, ◌≤◌, ◌∷◌, [], IfNone, IfSome, drop, length, map};
 ghost use Rattle.std.specs.Iterator.{YieldsFirstBy, item_count};
 ghost use Rattle.aprs_laws.specs.Gap.{IsGap, millis_of};
-ghost use Rattle.aprs_messages.specs.Copies.{copy_of, message_of};
+ghost use Rattle.aprs_messages.specs.Copies.{copy_of, message_named};
 ghost use Rattle.aprs_messages.specs.Runs as Spec;
 
 use crate::copies::MessageCopy;
@@ -116,7 +116,7 @@ fn goes_on(gap: Gap, first: &MessageCopy<'_>, last: Moment, next: &MessageCopy<'
 /// When the next run begins after that which began with `first`, if the copies after it begin with
 /// one of the same message.
 fn next_begin(first: &MessageCopy<'_>, rest: &[MessageCopy<'_>]) -> Option<Moment>
-    ensures { result ≡ Spec.next_begin (message_of first.now.message) (map copy_of rest.now) }
+    ensures { result ≡ Spec.next_begin (message_named first.now.message) (map copy_of rest.now) }
 {
     match rest.first() {
         Some(next) if is_same(first, next) => Some(next.first),
@@ -126,7 +126,7 @@ fn next_begin(first: &MessageCopy<'_>, rest: &[MessageCopy<'_>]) -> Option<Momen
 
 /// Whether both copies are of one message.
 fn is_same(copy: &MessageCopy<'_>, other: &MessageCopy<'_>) -> bool
-    ensures { result ≡ Spec.is_same (message_of copy.now.message) (message_of other.now.message) }
+    ensures { result ≡ Spec.is_same (message_named copy.now.message) (message_named other.now.message) }
 {
     copy.message.cmp(&other.message).is_eq()
 }

@@ -2,6 +2,7 @@
 use crate::complaint::{
     Complaint, EXIT_USAGE, complain, complaint_of, complaint_of_arguments, complaint_status,
 };
+use crate::digested::Digested;
 use crate::ending::{complaint_after, input_name};
 use crate::opening::{OpenFault, Opener, open_inputs};
 use crate::retried::Retried;
@@ -25,11 +26,21 @@ pub enum HostInput {
     File(File),
     /// The rows of a range of sources in a book file.
     Part(BookRange<File>),
+    /// A file whose digest is taken as it is read.
+    Digested(Digested<File>),
     /// Standard input.
     Standard(Stdin),
 }
 
 impl HostInput {
+    /// The input with its digest, where it is a file. What isn't one stays.
+    pub(crate) fn digested(self) -> HostInput {
+        match self {
+            HostInput::File(file) => HostInput::Digested(Digested::new(file)),
+            other => other,
+        }
+    }
+
     /// The rows of this range alone, where the input is a book file in which they are found by
     /// bisection; otherwise the input, from its beginning. What isn't a file stays.
     fn within<A: Allocator>(self, alloc: A, range: &SourceRange) -> HostInput {
@@ -52,6 +63,7 @@ impl Read for HostInput {
         match self {
             HostInput::File(file) => file.read(buf),
             HostInput::Part(part) => part.read(buf),
+            HostInput::Digested(file) => file.read(buf),
             HostInput::Standard(standard) => standard.read(buf),
         }
     }

@@ -3,21 +3,22 @@ use crate::complaint::Complaint;
 use crate::digested::Digested;
 use crate::ending::{complaint_after, input_name};
 use crate::host::{HostInput, Program, has_bounds, parts_of};
-use crate::opening::{OpenFault, Opener, complaint_of_open, open_all};
+use crate::opening::{Opener, open_all};
 use crate::retried::Retried;
 use aprs_fold::{MAX_BOOK, SourceRange};
 use aprs_io::Counted;
 use aprs_laws::Gap;
 use aprs_runs::{RunFault, news_run};
+use std::alloc::Global;
 use std::fs::File;
-use std::io::{self, Seek, Write};
+use std::io::{self, Write};
 use std::process::ExitCode;
 
 impl Program<'_> {
     /// Folds the old book with the other ones, or with standard input where there are none, and
-    /// writes the rows that the old one lacks, in the range. The old book is opened twice: as the
-    /// first of the inputs, and to be compared with. Then the number of its rows and its digest are
-    /// told on standard error. For the rest it does as `do_fold` says.
+    /// writes the rows that the old one lacks, in the range. Where the books are only checked, the
+    /// number of the old one's rows and its digest are told on standard error. For the rest it does
+    /// as `do_fold` says.
     pub(crate) fn do_news(
         &mut self,
         gap: Gap,
@@ -30,39 +31,20 @@ impl Program<'_> {
         if paths.insert(0, old).is_err() {
             return self.report(Complaint::OutOfMemory);
         }
-        let known = match self.open_known(input_name(paths.as_slice(), 0)) {
-            Ok(known) => known,
-            Err(complaint) => return self.report(complaint),
-        };
         let inputs = match self.open_books(paths.as_slice(), range, is_check) {
             Ok(inputs) => inputs,
             Err(complaint) => return self.report(complaint),
         };
         if is_check {
-            return self.news_into(gap, range, paths.as_slice(), known, inputs, io::sink());
+            return self.news_into(gap, range, paths.as_slice(), inputs, io::sink());
         }
         let output = Retried::new(self.rt.stdout());
-        self.news_into(gap, range, paths.as_slice(), known, inputs, output)
+        self.news_into(gap, range, paths.as_slice(), inputs, output)
     }
 
-    /// The old book, which is read from its beginning. What can't be sought, as a pipe, can't be
-    /// read twice, and is refused.
-    fn open_known<'t>(&self, path: &'t str) -> Result<Counted<Digested<File>>, Complaint<'t>> {
-        let mut file = match File::open(self.rt, path) {
-            Ok(file) => file,
-            Err(error) => {
-                return Err(complaint_of_open(path.as_bytes(), OpenFault::of(&error)));
-            }
-        };
-        match file.rewind() {
-            Ok(()) => Ok(Counted::new(Digested::new(file))),
-            Err(_) => Err(Complaint::CannotOpen(path.as_bytes())),
-        }
-    }
-
-    /// The inputs of these paths, and standard input after the old book where this is alone. Unless
-    /// the books are only checked, the rows of the range alone are read of a file in which
-    /// bisection finds them.
+    /// The inputs of these paths, and standard input after the old book where this is alone. Where
+    /// they are only checked, the old book has its digest taken. Otherwise the rows of the range
+    /// alone are read of a file in which bisection finds them.
     fn open_books<'t>(
         &mut self,
         paths: &'t [String],
@@ -74,42 +56,47 @@ impl Program<'_> {
         if paths.len() < 2 && inputs.push(Counted::new(self.standard_input())).is_err() {
             return Err(Complaint::OutOfMemory);
         }
-        if is_check || !has_bounds(range) {
+        if is_check {
+            return with_digest(alloc, inputs);
+        }
+        if !has_bounds(range) {
             return Ok(inputs);
         }
         parts_of(alloc, inputs, range)
     }
 
-    /// Folds the inputs, which have these paths, writes what is new to the known book to this
-    /// output, and tells what it was compared with, or reports a fault. Returns the exit status.
+    /// Folds the inputs, which have these paths, writes what is new to the first to this output,
+    /// and tells what it was compared with where its digest was taken, or reports a fault. Returns
+    /// the exit status.
     fn news_into<W: Write + Drop>(
         &self,
         gap: Gap,
         range: &SourceRange,
         paths: &[String],
-        mut known: Counted<Digested<File>>,
         mut inputs: Vec<Counted<HostInput>>,
         output: W,
     ) -> ExitCode {
         let alloc = self.rt.alloc();
         let mut w = Counted::new(output);
-        let books = inputs.as_mut_slice();
-        let outcome = news_run(alloc, MAX_BOOK, gap, range, &mut known, books, &mut w);
+        let outcome = news_run(alloc, MAX_BOOK, gap, range, inputs.as_mut_slice(), &mut w);
         let flushed = w.into_inner().flush().is_ok();
         if let Err(RunFault::Input { index, fault }) = outcome {
             return self.report_input(gap, input_name(paths, index), inputs, index, fault);
         }
-        match complaint_after(paths, &outcome, flushed) {
-            Some(complaint) => self.report(complaint),
-            None => self.tell_known(input_name(paths, 0), known.into_inner()),
+        if let Some(complaint) = complaint_after(paths, &outcome, flushed) {
+            return self.report(complaint);
+        }
+        match first_of(inputs) {
+            Some(HostInput::Digested(old)) => self.tell_old(input_name(paths, 0), old),
+            _ => ExitCode::SUCCESS,
         }
     }
 
     /// Tells on standard error which book the news were compared with: its path, the number of its
     /// rows and its digest. Returns the exit status.
-    fn tell_known(&self, path: &str, known: Digested<File>) -> ExitCode {
+    fn tell_old(&self, path: &str, old: Digested<File>) -> ExitCode {
         let alloc = self.rt.alloc();
-        let (lines, digest) = known.finish();
+        let (lines, digest) = old.finish();
         // Of its lines the first is the header, and the last has the number of rows.
         let rows = lines.saturating_sub(2);
         let Ok(digits) = hex::encode(alloc, digest) else {
@@ -124,4 +111,28 @@ impl Program<'_> {
         let _ = Retried::new(self.rt.stderr()).write_all(line.as_bytes());
         ExitCode::SUCCESS
     }
+}
+
+/// The inputs, of which the first has its digest taken. Fails where an allocation failed.
+fn with_digest(
+    alloc: Global,
+    inputs: Vec<Counted<HostInput>>,
+) -> Result<Vec<Counted<HostInput>>, Complaint<'static>> {
+    let mut all = Vec::new(alloc);
+    for input in inputs {
+        let own = input.into_inner();
+        let next = if all.is_empty() { own.digested() } else { own };
+        if all.push(Counted::new(next)).is_err() {
+            return Err(Complaint::OutOfMemory);
+        }
+    }
+    Ok(all)
+}
+
+/// The first of the inputs, if there are any.
+fn first_of(mut inputs: Vec<Counted<HostInput>>) -> Option<HostInput> {
+    if inputs.is_empty() {
+        return None;
+    }
+    Some(inputs.swap_remove(0).into_inner())
 }

@@ -8,7 +8,6 @@ use Rattle.aprs_runs.specs.Show.{IsListingOf}
 use Rattle.aprs_runs.specs.TableOf.{IsTableOf}
 use Rattle.aprs_runs.specs.ToldBook.{IsHistory, IsTable}
 use Rattle.aprs_lists.specs.Messages.{IsMessagesTable}
-use Rattle.aprs_lists.specs.Stations.{IsStationsTable}
 use Rattle.aprs_lists.specs.Things.{IsThingsTable}
 use Rattle.aprs_runs.specs.declared.extract.Summarized.{Summarized}
 use Rattle.aprs_runs.specs.declared.extract.Summarized.TheVariants as summarized
@@ -25,7 +24,6 @@ IsExtract (extract.Table t) = IsTable t
 abbrev pub IsSummarized : Summarized → BookValue → List ℕ → Type 0
 IsSummarized summarized.Listing = IsShown
 IsSummarized summarized.Messages = IsMessagesTable
-IsSummarized summarized.Stations = IsStationsTable
 IsSummarized summarized.Things = IsThingsTable
 
 -- The text is this extract of the book of a set under this gap, in seconds.

@@ -47,7 +47,7 @@ pub record IsStationsTableOf (gap : ℕ) (S : List Received) (text : List ℕ) :
   pub stations : List Station
   pub book : BookOf (millis_of gap) S rows
   pub are_stations : AreStations S rows stations
-  pub text_is : text ≡ stations_table stations
+  pub text_is : text ≡ stations_table rows stations
 
 -- The text is the table of the objects and items of S.
 pub record IsThingsTableOf (S : List Received) (text : List ℕ) : Type 0 where

@@ -14,7 +14,7 @@ use aprs_command::Table;
 use aprs_io::{Counted, WriteFault};
 use aprs_laws::Gap;
 use aprs_listing::write_listing;
-use aprs_lists::{write_messages, write_stations, write_things};
+use aprs_lists::{write_messages, write_things};
 use aprs_summary::Summary;
 use std::alloc::Allocator;
 use std::io::{Read, Write};
@@ -32,7 +32,6 @@ pub(crate) enum Extract {
 pub(crate) enum Summarized {
     Listing,
     Messages,
-    Stations,
     Things,
 }
 
@@ -48,7 +47,6 @@ pub(crate) fn write_summarized<W: Write, A: Allocator + Copy>(
     match what {
         Summarized::Listing => write_listing(w, summary),
         Summarized::Messages => write_messages(w, summary),
-        Summarized::Stations => write_stations(w, summary),
         Summarized::Things => write_things(w, summary),
     }
 }

@@ -7,6 +7,7 @@ ghost use Rattle.aprs_runs.specs.Gathered.{with_rows, WritesText};
 ghost use Rattle.aprs_runs.specs.ToldBook.{IsHistory, WritesTold, answer_of_output};
 ghost use Rattle.aprs_table.specs.Table.{table_text};
 ghost use Rattle.aprs_lists.specs.Net.{IsNetTable};
+ghost use Rattle.aprs_lists.specs.Stations.{IsStationsTable};
 
 use crate::extract::{Extract, Summarized, write_summarized};
 use crate::fault::RunFault;
@@ -15,7 +16,7 @@ use aprs_command::Table;
 use aprs_io::{Counted, WriteFault};
 use aprs_laws::Gap;
 use aprs_listing::write_history;
-use aprs_lists::{Traffic, write_net_messages};
+use aprs_lists::{HeardStations, Traffic, write_net_messages, write_stations};
 use aprs_rows::{BookStore, Memory, PackedRows, WalkRoom};
 use aprs_summary::Summary;
 use aprs_table::write_table;
@@ -148,7 +149,7 @@ impl<A: Allocator + Copy> Gathered<A> {
             Extract::Table(Table::Rows) => self.table_of_rows(w),
             Extract::Table(Table::Messages(Some(gap))) => self.net_messages(gap, w),
             Extract::Table(Table::Messages(None)) => self.summarize(Summarized::Messages, w),
-            Extract::Table(Table::Stations) => self.summarize(Summarized::Stations, w),
+            Extract::Table(Table::Stations) => self.stations(w),
             Extract::Table(Table::Things) => self.summarize(Summarized::Things, w),
         }
     }
@@ -163,6 +164,18 @@ impl<A: Allocator + Copy> Gathered<A> {
         let store = self.into_store()?;
         let summary = Summary::of(alloc, &store, &mut room)?;
         Ok(write_summarized(w, what, &summary)?)
+    }
+
+    /// Writes the table of the stations of the book. At `Memory` an allocation failed, and nothing
+    /// was written; at `Write` a prefix of the table was written.
+    fn stations<W: Write>(self, w: &mut Counted<W>) -> Result<(), OutputFault>
+        ensures { WritesTold IsStationsTable W.contents result self w.old w.new }
+    {
+        let alloc = self.alloc;
+        let mut room = WalkRoom::new(alloc);
+        let store = self.into_store()?;
+        let stations = HeardStations::of(alloc, &store, &mut room)?;
+        Ok(write_stations(w, &stations)?)
     }
 
     /// Writes the table of the messages of a net in the book, under this message gap. At `Memory` an

@@ -1,4 +1,4 @@
-use Rattle.aprs_fold.proofs.Common.{Ok, rules, inr, subst, err_from_is_err_and, Sends, Sends-put}
+use Rattle.aprs_fold.proofs.Common.{Ok, rules, subst, err_from_is_err_and, Sends, Sends-put}
 use Rattle.aprs_io.proofs.Sends.{Sends-ok}
 use Rattle.aprs_bookfile.specs.Text.{written_text}
 use Rattle.aprs_fold.specs.News.{news_of_sources, LeavesPart}
@@ -23,24 +23,16 @@ returns-in_err-flush-clause-left g c =
     let h = c.in_ok-put_news_text.ensures.news in
     rw (p.1, p.2) (subst (λ w. LeavesPart g.W.Write.contents c.args.gap Write c.args.w.now w)
     (search rules) (news_unsent g.W.Write.contents c.args.gap c.args.w.now _
-    (news_of_sources c.args.range.now c.args.gap h.0 h.1).rows h.5
-    (Sends-put c.new-out.ensures.nothing h.4 c.in_err-flush.ensures.sent)))
-
-pub returns-in_err-flush-clause-refuses : goal.returns-in_err-flush-clause-refuses
-returns-in_err-flush-clause-refuses g c =
-    let p = err_from_is_err_and c.from_residual-in_err-flush.result
-    c.from_residual-in_err-flush.ensures.1 in
-    rw (p.1, p.2) (inr tt)
+    (news_of_sources c.args.range.now c.args.gap h.0).rows h.3
+    (Sends-put c.new-out.ensures.nothing h.2 c.in_err-flush.ensures.sent)))
 
 pub returns-clause-news : goal.returns-clause-news
 returns-clause-news g c =
     let h = c.in_ok-put_news_text.ensures.news in (
       h.0,
       h.1,
-      h.2,
-      h.3,
       subst (λ w. Sends {E = FoldFault} g.W.Write.contents (Ok tt) c.args.w.now w
-          (written_text (news_of_sources c.args.range.now c.args.gap h.0 h.1))) (search rules)
-          (Sends-ok (Sends-put c.new-out.ensures.nothing h.4 c.in_ok-flush.ensures.sent)),
-      h.5,
+          (written_text (news_of_sources c.args.range.now c.args.gap h.0))) (search rules)
+          (Sends-ok (Sends-put c.new-out.ensures.nothing h.2 c.in_ok-flush.ensures.sent)),
+      h.3,
     )

@@ -5,8 +5,8 @@ use Rattle.aprs_fold.proofs.news.put_news.Given as goal
 
 abbrev pub invariant-loop-index : goal.invariant-loop-index
 invariant-loop-index g l = record {
-  newing : IsNewing g.Q.Read.remaining g.R.Read.remaining g.W.Write.contents l.limit l.gap l.range
-      l.fn.known l.known l.old l.fn.inputs l.inputs l.streams l.fn.out l.out l.last l.count;
+  newing : IsNewing g.R.Read.remaining g.W.Write.contents l.limit l.gap l.range l.fn.inputs
+      l.inputs l.streams l.fn.out l.out l.last l.known l.count;
   played : IsPlayed l.streams l.tournament.winners.items;
 }
 

@@ -1,8 +1,8 @@
-use Rattle.aprs_fold.proofs.Common.{Err, Ok, inr, refl, err_from_is_err_and, Puts-is}
+use Rattle.aprs_fold.proofs.Common.{Err, Ok, err_from_is_err_and, Puts-is}
 use Rattle.aprs_fold.specs.News.{news_of_sources}
 use Rattle.aprs_fold.proofs.NewTexts.{news_all, news_header, news_rows}
 use Rattle.aprs_fold.proofs.Puttings.{Puts-ok}
-use Rattle.aprs_fold.proofs.Streamed.{AreAsked-none, IsAsked-none}
+use Rattle.aprs_fold.proofs.Streamed.{AreAsked-none}
 use Rattle.aprs_fold.proofs.Texts.{whole_text}
 use Rattle.aprs_fold.proofs.news.put_news_text.Goals as goal
 
@@ -11,16 +11,6 @@ returns-in_err-put_header-clause-left g c =
     let p = err_from_is_err_and c.from_residual.result c.from_residual.ensures.1 in
     rw (p.1, p.2) (news_header g.W.Write.contents c.args.gap c.args.out.now c.put_header.new.out
     c.requires.gap c.in_err-put_header.ensures.puts)
-
-pub returns-in_err-put_header-clause-refuses : goal.returns-in_err-put_header-clause-refuses
-returns-in_err-put_header-clause-refuses g c =
-    let p = err_from_is_err_and c.from_residual.result c.from_residual.ensures.1 in
-    rw (p.1, p.2) (inr tt)
-
-pub returns-in_err-put_header-clause-asks_known
-    : goal.returns-in_err-put_header-clause-asks_known
-returns-in_err-put_header-clause-asks_known g c =
-    IsAsked-none g.Q.Read.remaining c.args.limit c.args.known.now
 
 pub returns-in_err-put_header-clause-asks : goal.returns-in_err-put_header-clause-asks
 returns-in_err-put_header-clause-asks g c =
@@ -40,30 +30,22 @@ returns-in_err-put-clause-left g c =
     c.from_residual-in_err-put.ensures.1 in
     let h = c.in_ok-count.ensures.news in
     rw (p.1, p.2) (news_all g.W.Write.contents c.args.gap c.args.out.now c.put.new.self
-    (news_of_sources c.args.range.now c.args.gap h.0 h.1).rows h.6
+    (news_of_sources c.args.range.now c.args.gap h.0).rows h.2.whole
     (whole_text g.W.Write.contents c.args.gap (Err c.in_err-put.field-0.0) c.args.out.now
     c.put_header.new.out c.put_news.new.out c.put.new.self c.in_ok-count.count
-    (news_of_sources c.args.range.now c.args.gap h.0 h.1).rows
-    (Puts-ok c.in_ok-put_header.ensures.puts) h.4.puts h.5
+    (news_of_sources c.args.range.now c.args.gap h.0).rows
+    (Puts-ok c.in_ok-put_header.ensures.puts) h.2.put.puts h.2.counted
     (Puts-is c.in_err-put.ensures (cc))))
-
-pub returns-in_err-put-clause-refuses : goal.returns-in_err-put-clause-refuses
-returns-in_err-put-clause-refuses g c =
-    let p = err_from_is_err_and c.from_residual-in_err-put.result
-    c.from_residual-in_err-put.ensures.1 in
-    rw (p.1, p.2) (inr tt)
 
 pub returns-clause-news : goal.returns-clause-news
 returns-clause-news g c =
     let h = c.in_ok-count.ensures.news in (
       h.0,
       h.1,
-      h.2,
-      h.3,
       Puts-ok (whole_text g.W.Write.contents c.args.gap (Ok tt) c.args.out.now
           c.put_header.new.out c.put_news.new.out c.put.new.self c.in_ok-count.count
-          (news_of_sources c.args.range.now c.args.gap h.0 h.1).rows
-          (Puts-ok c.in_ok-put_header.ensures.puts) h.4.puts h.5
+          (news_of_sources c.args.range.now c.args.gap h.0).rows
+          (Puts-ok c.in_ok-put_header.ensures.puts) h.2.put.puts h.2.counted
           (Puts-is c.in_ok-put.ensures (cc))),
-      h.6,
+      h.2.whole,
     )

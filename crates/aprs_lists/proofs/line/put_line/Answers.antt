@@ -1,43 +1,10 @@
-use Rattle.aprs_lists.proofs.Common.{map, ◌++◌, ◌∷◌, [], Puts-fails, Puts-is, Puts-then, cell_text, tabbed_cells}
-use Rattle.aprs_lists.proofs.Lines.{in_parts, tabs}
+use Rattle.aprs_lists.proofs.Common.{◌++◌, ◌∷◌, List, ℕ, ap, append-nil, map, Puts-is, cell_text}
+use Rattle.aprs_lists.specs.Lines.{tabbed_line}
 use Rattle.aprs_lists.proofs.line.put_line.Goals as goal
-
-pub returns-in_err-put_cell : goal.returns-in_err-put_cell
-returns-in_err-put_cell g c =
-    let second = map cell_text c.args.second.now in
-    let third = map cell_text c.args.third.now in
-    Puts-is (Puts-fails c.from_residual.result c.from_residual.ensures.0
-    c.in_err-put_cell.ensures (tabs second ++ (tabs third ++ 10 ∷ [])))
-    (in_parts (cell_text c.args.first.now) second third)
-
-pub returns-in_err-put_cells : goal.returns-in_err-put_cells
-returns-in_err-put_cells g c =
-    let second = map cell_text c.args.second.now in
-    let third = map cell_text c.args.third.now in
-    Puts-is (Puts-then c.in_ok-put_cell.ensures
-    (Puts-fails c.from_residual-in_err-put_cells.result
-    c.from_residual-in_err-put_cells.ensures.0
-    (Puts-is c.in_err-put_cells.ensures (tabbed_cells c.args.second.now))
-    (tabs third ++ 10 ∷ [])))
-    (in_parts (cell_text c.args.first.now) second third)
-
-pub returns-in_err-put_cells-2 : goal.returns-in_err-put_cells-2
-returns-in_err-put_cells-2 g c =
-    let second = map cell_text c.args.second.now in
-    let third = map cell_text c.args.third.now in
-    Puts-is (Puts-then c.in_ok-put_cell.ensures
-    (Puts-then (Puts-is c.in_ok-put_cells.ensures (tabbed_cells c.args.second.now))
-    (Puts-fails c.from_residual-in_err-put_cells-2.result
-    c.from_residual-in_err-put_cells-2.ensures.0
-    (Puts-is c.in_err-put_cells-2.ensures (tabbed_cells c.args.third.now)) (10 ∷ []))))
-    (in_parts (cell_text c.args.first.now) second third)
 
 pub returns : goal.returns
 returns g c =
-    let second = map cell_text c.args.second.now in
-    let third = map cell_text c.args.third.now in
-    Puts-is (Puts-then c.in_ok-put_cell.ensures
-    (Puts-then (Puts-is c.in_ok-put_cells.ensures (tabbed_cells c.args.second.now))
-    (Puts-then (Puts-is c.in_ok-put_cells-2.ensures (tabbed_cells c.args.third.now))
-    c.put.ensures)))
-    (in_parts (cell_text c.args.first.now) second third)
+    Puts-is c.put_long_line.ensures
+    (ap (λ (l : List (List ℕ)). tabbed_line
+    (cell_text c.args.first.now ∷ map cell_text c.args.second.now ++ l))
+    (append-nil (map cell_text c.args.third.now)))

@@ -2,7 +2,7 @@ use Rattle.aprs_lists.proofs.Common.{ap, map, BookValue}
 use Rattle.aprs_messages.specs.Answers.{reply_of}
 use Rattle.aprs_messages.specs.Copies.{copy_of}
 use Rattle.aprs_summary.proofs.Collected.{last_added, walk_ends, walk_goes, walk_starts}
-use Rattle.aprs_lists.specs.Traffic.{AreGiven, GivesCopy, GivesReply}
+use Rattle.aprs_lists.specs.Traffic.{AreGiven, GivesCopy, GivesNetReply}
 use Rattle.aprs_lists.proofs.TrafficGiven.{given_first, given_more, given_sorted}
 use Rattle.aprs_lists.proofs.traffic.gather.Goals as goal
 
@@ -13,7 +13,7 @@ loop-row-init g c =
       copies =
           walk_starts _ _ _ start (given_first GivesCopy _ (ap (map copy_of) c.new-copies.ensures.items));
       answers =
-          walk_starts _ _ _ start (given_first GivesReply _ (ap (map reply_of) c.new-answers.ensures.items));
+          walk_starts _ _ _ start (given_first GivesNetReply _ (ap (map reply_of) c.new-answers.ensures.items));
     }
 
 pub loop-row-preserved : goal.loop-row-preserved
@@ -27,8 +27,8 @@ loop-row-preserved g c = record {
   answers =
       walk_goes _ _ _ _ _ c.in-Some.row c.in-Some.ensures.steps
       (λ done more adds held. last_added
-      (λ rows. AreGiven GivesReply rows (map reply_of c.take_row.new.answers.items)) adds
-      (given_more GivesReply done c.in-Some.row _ _ held c.in_ok-take_row.ensures.answers))
+      (λ rows. AreGiven GivesNetReply rows (map reply_of c.take_row.new.answers.items)) adds
+      (given_more GivesNetReply done c.in-Some.row _ _ held c.in_ok-take_row.ensures.answers))
       c.loop-row.invariant.answers;
 }
 
@@ -39,7 +39,7 @@ returns g c = record {
       (walk_ends _ _ _ c.in-None.ensures.steps.0 c.loop-row.invariant.copies)
       c.sort_copies.ensures.same;
   answers_given =
-      given_sorted GivesReply reply_of _ _ _
+      given_sorted GivesNetReply reply_of _ _ _
       (walk_ends _ _ _ c.in-None.ensures.steps.0 c.loop-row.invariant.answers)
       c.sort_answers.ensures.same;
   copies_ordered = c.sort_copies.ensures.ordered;

@@ -2,7 +2,7 @@ use Rattle.std.proofs.Common.{map}
 use Rattle.aprs_messages.specs.Answers.{reply_of}
 use Rattle.aprs_messages.specs.Copies.{copy_of}
 use Rattle.aprs_summary.proofs.Collected.{SoFar}
-use Rattle.aprs_lists.specs.Traffic.{AreGiven, GivesCopy, GivesReply}
+use Rattle.aprs_lists.specs.Traffic.{AreGiven, GivesCopy, GivesNetReply}
 use Rattle.aprs_lists.proofs.traffic.gather.Given as goal
 
 abbrev pub invariant-loop-row : goal.invariant-loop-row
@@ -11,6 +11,6 @@ invariant-loop-row g l = record {
       SoFar (λ done. AreGiven GivesCopy done (map copy_of l.copies.items)) l.fn.rows.rows
       l.row-iterator.rows;
   answers :
-      SoFar (λ done. AreGiven GivesReply done (map reply_of l.answers.items)) l.fn.rows.rows
+      SoFar (λ done. AreGiven GivesNetReply done (map reply_of l.answers.items)) l.fn.rows.rows
       l.row-iterator.rows;
 }

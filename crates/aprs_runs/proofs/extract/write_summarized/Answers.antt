@@ -21,15 +21,6 @@ returns-in-Messages g c =
       written.2,
     )
 
-pub returns-in-Stations : goal.returns-in-Stations
-returns-in-Stations g c =
-    let written = c.write_stations.ensures in (
-      written.0,
-      subst (λ (what : Summarized). IsSummarized what c.args.summary.now written.0)
-          (sym c.in-Stations.is) written.1,
-      written.2,
-    )
-
 pub returns-in-Things : goal.returns-in-Things
 returns-in-Things g c =
     let written = c.write_things.ensures in (
