@@ -40,7 +40,14 @@ impl Run {
         match self {
             Run::Fold => fold_run(alloc, MAX_BOOK, Gap::STANDARD, inputs, w),
             Run::News => {
-                news_run(alloc, MAX_BOOK, Gap::STANDARD, &SourceRange::all(), inputs, w)
+                news_run(
+                    alloc,
+                    MAX_BOOK,
+                    Gap::STANDARD,
+                    &SourceRange::all(),
+                    inputs,
+                    w,
+                )
             }
         }
     }
@@ -145,10 +152,7 @@ fn line_of(run: &Result<(), RunFault>) -> Option<u64> {
 /// Whether a run over this text and another ends at its second input, which fails after so many
 /// bytes: at its line, asked once, and with a part written.
 fn is_ended_after(alloc: Global, run: Run, first: &[u8], good: usize) -> bool {
-    let mut inputs = [
-        reader(first, 7, usize::MAX),
-        reader(MERGED_TEXT, 7, good),
-    ];
+    let mut inputs = [reader(first, 7, usize::MAX), reader(MERGED_TEXT, 7, good)];
     let mut w = Counted::new(Vec::new(alloc));
     let outcome = run.over(alloc, inputs.as_mut_slice(), &mut w);
     let is_at = line_of(&outcome) == Some(line_after(MERGED_TEXT, good));
@@ -170,9 +174,18 @@ fn is_written_up_to(alloc: Global, run: Run, room: usize) -> bool {
 #[test]
 fn folds_end_at_each_byte_of_a_device(rt: HostRuntime) {
     for good in 0..MERGED_TEXT.len() {
-        assert!(rt; is_ended_after(rt.alloc(), Run::Fold, MERGED_TEXT, good), "{good}");
-        assert!(rt; is_ended_after(rt.alloc(), Run::News, MERGED_TEXT, good), "{good}");
-        assert!(rt; is_ended_after(rt.alloc(), Run::News, EMPTY_TEXT, good), "{good}");
+        assert!(rt;
+            is_ended_after(rt.alloc(), Run::Fold, MERGED_TEXT, good),
+            "{good}"
+        );
+        assert!(rt;
+            is_ended_after(rt.alloc(), Run::News, MERGED_TEXT, good),
+            "{good}"
+        );
+        assert!(rt;
+            is_ended_after(rt.alloc(), Run::News, EMPTY_TEXT, good),
+            "{good}"
+        );
         assert!(rt; is_written_up_to(rt.alloc(), Run::Fold, good), "{good}");
         assert!(rt; is_written_up_to(rt.alloc(), Run::News, good), "{good}");
     }
