@@ -8,6 +8,7 @@ import re
 import signal
 import subprocess
 import sys
+import zipfile
 from typing import Any, Dict
 
 import pytest
@@ -69,7 +70,8 @@ def test_the_template(tmp_path: pathlib.Path, monkeypatch: pytest.MonkeyPatch) -
         event_page.template()
     for version in "0.9.0", "0.10.0":
         (tmp_path / "release" / version).mkdir(parents=True)
-        (tmp_path / "release" / version / "event.html").write_text(version)
+        with zipfile.ZipFile(tmp_path / "release" / version / "aprs-net.pyz", "w") as archive:
+            archive.writestr("aprsbook_tools/data/event.html", version)
     assert event_page.template() == "0.10.0"
     event_page.template.cache_clear()
     monkeypatch.undo()

@@ -6,6 +6,7 @@ import pathlib
 import pkgutil
 import re
 import xml.etree.ElementTree
+import zipfile
 from typing import Any, Dict, List, Optional
 
 import aprsbook_tools
@@ -38,9 +39,12 @@ def newest(name: str) -> Optional[pathlib.Path]:
 
 
 def released() -> Optional[str]:
-    """The page of an event of the newest release."""
-    it = newest("event.html")
-    return it.read_text(encoding="utf-8") if it else None
+    """The page of an event of the newest release, within its archive of aprs-net."""
+    it = newest("aprs-net.pyz")
+    if it is None:
+        return None
+    with zipfile.ZipFile(it) as archive:
+        return archive.read(f"aprsbook_tools/{TEMPLATE}").decode()
 
 
 @functools.lru_cache(maxsize=None)
