@@ -276,9 +276,9 @@ def main() -> None:
         evening = Evening(pathlib.Path(name), os.path.abspath(args.page), args.browser)
         try:
             lead(evening, args.seconds)
-            for it, place in zip(evening.desks, ("base", "site")):
+            for desk, place in zip(evening.desks, ("base", "site")):
                 if args.pictures:
-                    it.js(f"picture {args.pictures / f'desk-{place}.png'}")
+                    desk.js(f"picture {args.pictures / f'desk-{place}.png'}")
         finally:
             evening.end()
     return None

@@ -25,6 +25,8 @@ class Tnc:
         with open(path, "rb") as file:
             found = [log_file.read_whole(line) for line in file]
         self.lines: List[log_file.Line] = [it for it in found if it is not None]
+        if not self.lines:
+            raise ValueError(f"{path} has no line of a log")
         self.listeners: List[asyncio.StreamWriter] = []
         self.is_heard = asyncio.Event()
 
@@ -40,7 +42,8 @@ class Tnc:
             await asyncio.sleep(max(0, line.moment - done) / 1000 / FASTER)
             done = max(done, line.moment)
             for listener in self.listeners:
-                listener.write(bytes.fromhex(line.digits.decode()))
+                if not listener.is_closing():
+                    listener.write(bytes.fromhex(line.digits.decode()))
 
     def end(self) -> None:
         for listener in self.listeners:
@@ -64,8 +67,12 @@ def main() -> int:
     if len(sys.argv) < 3 or not sys.argv[1].isdecimal():
         print("usage: tnc.py PORT LOG..", file=sys.stderr)
         return 2
-    with contextlib.suppress(KeyboardInterrupt):
-        asyncio.run(play(int(sys.argv[1]), sys.argv[2:]))
+    try:
+        with contextlib.suppress(KeyboardInterrupt):
+            asyncio.run(play(int(sys.argv[1]), sys.argv[2:]))
+    except (OSError, OverflowError, ValueError) as fault:
+        print(f"tnc.py: {fault}", file=sys.stderr)
+        return 1
     return 0
 
 

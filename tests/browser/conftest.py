@@ -30,7 +30,7 @@ def pytest_generate_tests(metafunc: pytest.Metafunc) -> None:
 @pytest.fixture(scope="module")
 def page(request: pytest.FixtureRequest) -> Iterator[Browser]:
     kind = KINDS[request.param]
-    if not kind.is_there():  # type: ignore[attr-defined]
+    if not kind.is_there():
         pytest.skip(f"needs {kind.name}")
     browser = kind()
     yield browser

@@ -42,7 +42,6 @@ def main() -> int:
     page = Chromium(takes_any_certificate=True)
     try:
         enter(page, (folder / "gate.token").read_text().strip())
-        page.js("document.getElementById('map').scrollIntoView()")
         take(page, "evening-wall.webp")
         say(page, **{"from": "Gate 1", "to": "NET", "text": "118 retired at CP2, is driven down"})
         page.js("document.getElementById('ics-sheets').scrollIntoView()")

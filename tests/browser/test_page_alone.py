@@ -169,11 +169,11 @@ def test_first_view(page: Chromium, folder: pathlib.Path, width: int, height: in
     page.wait(MADE)
     top = page.js("document.getElementById('map').getBoundingClientRect().top")
     assert top <= most, top
-    is_(page.js("[fold.open, document.getElementById('fold-text').textContent]"), [False, "4 files"])
+    said = "[fold.open, document.getElementById('fold-text').textContent]"
+    is_(page.js(said), [False, "4 files"])
     give(page, folder, {"torn.log": log(5, "RX5") + "no line\n"})
     page.wait(f"{MADE} && aprsfiles.files.length === 5")
-    is_(page.js("[fold.open, document.getElementById('fold-text').textContent]"),
-        [True, "5 files, 1 of them not read"])
+    is_(page.js(said), [True, "5 files, 1 of them not read"])
 
 
 @pytest.mark.browsers("Chromium")
@@ -697,8 +697,11 @@ def test_own_lines(page: Browser, folder: pathlib.Path) -> None:
     fresh(page, folder)
     page.give("#choose", folder / "event.html", folder / "a.log")
     page.wait(MADE)
-    is_(page.js("told.textContent"), "event.html: 2 lines of your own for ICS-309")
+    is_(page.js("told.textContent"),
+        "event.html: 2 lines of another desk, which the form ICS-309 offers")
     page.js("document.getElementById('ics-open').click()")
+    is_(page.js(LOGGED), [])
+    page.js("document.querySelector('#own-desks button').click()")
     is_(page.js(LOGGED), ["by <b>voice</b>", "=1+1"])
     page.js("(localStorage.clear(), 1)")
 
@@ -715,7 +718,7 @@ def test_other_days(page: Browser, folder: pathlib.Path) -> None:
         page.js("document.getElementById('ics-open').click()")
         is_(page.js(LOGGED), ["at 1718992800"])
         is_(page.js("document.getElementById('own-told').textContent"),
-            "Left out, more than a day off: 1 line of your own.")
+            "Left out, more than a day off: 1 line.")
         assert "at 1718388000" not in page.js("aprsfiles.eventPage()")
         page.js("(localStorage.clear(), 1)")
 

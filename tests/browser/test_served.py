@@ -31,6 +31,8 @@ DAY = "2024-06-21"
 ROWS = "aprsbook.all.rows.length"
 LINES = "aprsbook.page.own.lines.map(it => it.text).sort().join('|')"
 CONNECTION = "document.getElementById('connection').textContent"
+OWN_MAP = "document.getElementById('own-map').textContent"
+BROUGHT = "aprsbook.page.brought.map(it => it.name).sort().join('|')"
 # `aprsbook check` takes every line, where no program is built
 CHECK = "#!/bin/sh\ncat > /dev/null\necho heard 0 passed 0\n"
 
@@ -239,8 +241,11 @@ def test_what_a_desk_sets_all_pages_show(page: Browser, live: Live) -> None:
     page.wait("document.getElementById('title').textContent === 'Fell race, second day'")
     live.write(2, "name", call="Q1A", name="Leader")
     page.wait(f"{TEXTS % '#things-box td, #things-box th'}.join().includes('Leader')")
-    live.write(3, "setting", name="roster", value="Q1B Sweep\n")
+    live.write(3, "setting", name="roster", value="Q1B Sweep\nQ1A Runner 1\n")
     page.wait(f"{TEXTS % '#roster-box td, #roster-box th'}.join().includes('Sweep')")
+    # a desk's name for a station counts before the roster's
+    page.wait(f"{BROUGHT} === 'names of desks|roster of the net'")
+    assert page.js("aprsbook.page.settings.names.shown('Q1A')") == "Leader (Q1A)"
     assert page.js("document.getElementById('silent').value") == "30"
     live.write(4, "setting", name="silent", value="7")
     page.wait("document.getElementById('silent').value === '7'")
@@ -250,10 +255,6 @@ def test_what_a_desk_sets_all_pages_show(page: Browser, live: Live) -> None:
     page.js("document.querySelector('#desk input').value = 'Third day'")
     page.js("document.querySelector('#desk button').click()")
     page.wait("document.getElementById('title').textContent === 'Third day'")
-
-
-OWN_MAP = "document.getElementById('own-map').textContent"
-BROUGHT = "aprsbook.page.brought.map(it => it.name).sort().join('|')"
 
 
 def set_for_all(page: Browser, words: str, change: str) -> None:
@@ -281,6 +282,20 @@ def test_the_map_the_course_and_the_roster_are_one_for_all(page: Browser, live: 
     page.wait("aprsbook.layers.vectors.all.length === 1")
     assert page.js("aprsbook.layers.vectors.all[0].lines[0].length") == 21_000
     live.write(3, "setting", name="course", value="")
+    page.wait("aprsbook.layers.vectors.all.length === 0")
+    # this desk chooses a long one of its own, which is thinned, and what is no map is said
+    points = "".join(f'<trkpt lat="{54.5 + k / 1e5:.7f}" lon="{-3.5 + k / 2e5:.7f}"></trkpt>\n'
+                     for k in range(20_000))
+    (live.folder / "course.gpx").write_text(f"<gpx><trk><trkseg>{points}</trkseg></trk></gpx>")
+    page.give("#desk input[type=file]", live.folder / "course.gpx")
+    set_for_all(page, "set the course", "")
+    page.wait("aprsbook.layers.vectors.all.length === 1")
+    assert 5_000 < page.js("aprsbook.layers.vectors.all[0].lines[0].length / 3") <= 20_000
+    (live.folder / "course.gpx").write_text("no map")
+    page.give("#desk input[type=file]", live.folder / "course.gpx")
+    set_for_all(page, "set the course", "")
+    page.wait("document.getElementById('told').textContent.startsWith('course.gpx: ')")
+    set_for_all(page, "set the course", "field.value = ''")
     page.wait("aprsbook.layers.vectors.all.length === 0")
     # a desk changes the roster that is there
     live.write(4, "setting", name="roster", value="Q1B Sweep\n")

@@ -133,7 +133,7 @@ test("an archive of a server is asked for by slices, again where it was away", a
   try {
     const it = await openPmtiles(new ServedFile("http://base/tiles/lakes.pmtiles", blob.size));
     assert.deepEqual(asked.slice(0, 2), [[0, 126], [0, 126]]);
-    for (const [z, x, y] of squares(2, 4)) {
+    for (const [z, x, y] of tilesAt(2, 4)) {
       const found = await it.read(z, x, y);
       assert.deepEqual([...new Uint8Array(await found.arrayBuffer())],
         [...PNG, numberOf(z, x, y)]);

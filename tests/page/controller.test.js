@@ -91,14 +91,14 @@ test("a station goes on under another call, and is silent no more", { skip }, ()
 });
 test("checkpoints that are brought have passing times, and go along", { skip }, async () => {
   const { bring, takeAllAway } = await import("../../page/src/app/add-layer.js");
-  bring("points.txt", "Finish 54.6 -3.5 100\nTop 10 10 10\n");
+  await bring("points.txt", "Finish 54.6 -3.5 100\nTop 10 10 10\n");
   assert.equal(byId("told").textContent, "points.txt: 2 checkpoints");
   await until(() => document.querySelector("#passed tbody tr"));
   assert.deepEqual([byId("passes").hidden, textsOf("#passed thead th"), textsOf("#passed tbody th"),
     textsOf("#visits tbody th")],
   [false, ["no.", "name", "Finish", "Top"], ["Q1NET"], ["Finish"]]);
   assert.match(byId("passed-told").textContent, /^Nobody passed Top: /);
-  bring("bad.txt", "Finish 54.6 -3.5 100\nTop 10 x 10\n");
+  await bring("bad.txt", "Finish 54.6 -3.5 100\nTop 10 x 10\n");
   assert.match(byId("told").textContent, /^bad\.txt: line 2 is no checkpoint, such as/);
   takeAllAway();
   assert.equal(byId("passes").hidden, true);

@@ -67,7 +67,7 @@ def turned(line: str, some: random.Random) -> Optional[str]:
         return None
     found, into = some.choice(ways)
     if into == "call":
-        return re.match(r"\s*", line)[0] + ";"  # type: ignore[index]
+        return line[:len(line) - len(line.lstrip())] + ";"
     new = str(int(found[1]) + 1) if into == "+1" else into
     return line[:found.start()] + new + line[found.end():]
 

@@ -15,6 +15,7 @@ test("what is told of a mark that is clicked on comes into view beside the map",
   box.getBoundingClientRect = () => ({ top: 155 });
   one.getBoundingClientRect = () => ({ top: 855 - box.scrollTop });
   document.getElementById("map").scrollIntoView = () => {};
+  globalThis.getComputedStyle = () => ({ overflowY: "auto" });
   pick("station Q1A", true);
   assert.deepEqual([one.hidden, box.scrollTop], [false, 700]);
   // the same again ends it, and one that is picked in the list leaves the list where it is

@@ -57,7 +57,7 @@ test("the page of the event has what is drawn, and its title", { skip }, async (
   enter("name", "Fell <race>");
   await until(() => aprsbook.data.title === "Fell <race>");
   const { bring, takeAllAway } = await import("../../page/src/app/add-layer.js");
-  bring("points.txt", "Tarn 54.5 -3.5 150");
+  await bring("points.txt", "Tarn 54.5 -3.5 150");
   aprsbook.page.marks.add("dealt", { alarm: "home Q1A", note: "went home" });
   const page = await aprsfiles.eventPage({ "1/0/0": "cA==" });
   const [head, coast, data, end] = page.split("|");

@@ -37,7 +37,8 @@ const world = (name, north, east) =>
   file(name, `0.01\n0\n0\n-0.01\n${east + 0.005}\n${north - 0.005}\n`);
 function grounds() {
   globalThis.createImageBitmap = async () => ({ width: 100, height: 50 });
-  const tiles = { archives: new Map(), size: 0, clear() {} }, images = { all: [] }, told = [];
+  const tiles = { archives: new Map(), size: 0, damaged: new Set(), clear() {} };
+  const images = { all: [] }, told = [];
   const page = { tell: text => told.push(text), paintSoon() {} };
   return { all: new TileSources({ tiles, images }, page), told, whereIs: () => images.all
     .map(it => [it.name, ...degreesOf(it.corners[0]).map(Math.round)].join(" ")).sort() };

@@ -83,10 +83,13 @@ if [ -n "$program" ]; then
 fi
 python=$(python_with pytest,hypothesis)
 if [ -n "$python" ]; then
-    # side by side, where that can be done (Debian: python3-pytest-xdist)
+    # side by side, where that can be done (Debian: python3-pytest-xdist): twice as many as there are
+    # processors, since some wait
     together=
-    if [ "$(python_with pytest,hypothesis,xdist)" = "$python" ]; then together='-n 4'; fi
-    # shellcheck disable=SC2086 # two words, or none
+    if [ "$(python_with pytest,hypothesis,xdist)" = "$python" ]; then
+        together="-n $((2 * $(getconf _NPROCESSORS_ONLN))) --dist loadgroup"
+    fi
+    # shellcheck disable=SC2086 # some words, or none
     $python -m pytest -q $together -p no:cacheprovider
 else
     echo 'left out: tests of tools (Debian: apt install python3-pytest python3-hypothesis)'

@@ -24,6 +24,13 @@ settings.register_profile("net", deadline=None, max_examples=100)
 settings.load_profile("net")
 
 
+def pytest_collection_modifyitems(items: List[pytest.Item]) -> None:
+    """Tests that share a server or a cluster are all done by one process of pytest-xdist."""
+    for it in items:
+        if it.path.stem in ("test_cluster", "test_hostile", "test_serving"):
+            it.add_marker(pytest.mark.xdist_group(it.path.stem))
+
+
 def environment(**more: str) -> Dict[str, str]:
     """The environment in which the command runs from its sources, buffered as a user's is."""
     own = {name: it for name, it in os.environ.items() if name != "PYTHONUNBUFFERED"}
@@ -45,11 +52,14 @@ def tried(*arguments: object, given: bytes = b"", status: int = 0,
     return done
 
 
-def started(*arguments: object, **keywords: Any) -> "subprocess.Popen[bytes]":
-    """aprs-net, which runs on."""
+def started(*arguments: object, rate: float = 1, **keywords: Any) -> "subprocess.Popen[bytes]":
+    """aprs-net, which runs on, by a clock that runs so many times as fast."""
     keywords.setdefault("env", environment())
     keywords.setdefault("stderr", subprocess.PIPE)
-    return subprocess.Popen(command(*arguments), **keywords)
+    words = command(*arguments)
+    if rate != 1:
+        words[1:3] = [str(HERE / "hurried.py"), str(rate)]
+    return subprocess.Popen(words, **keywords)
 
 
 def named(text: str) -> List[Dict[str, str]]:

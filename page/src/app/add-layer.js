@@ -75,17 +75,30 @@ export async function bring(name, text, spelling = "") {
   } catch (fault) {
     it.fault = messageOf(fault);
   }
-  page.brought = [...page.brought.filter(one => one.name !== name), it];
-  tell(page.brought.map(toldOf).reverse().join("; "), page.brought.some(isBad));
-  readBrought();
-  refresh();
+  const brought = [...page.brought.filter(one => one.name !== name), it];
+  tell(brought.map(toldOf).reverse().join("; "), brought.some(isBad));
+  put(brought);
 }
 /**
  * Takes away what was brought by names of this form.
  * @param {RegExp} form
  */
 export function takeAway(form) {
-  page.brought = page.brought.filter(it => !form.test(it.name));
+  const left = page.brought.filter(it => !form.test(it.name));
+  if (left.length < page.brought.length) put(left);
+}
+/**
+ * Puts what was brought by a name before all else.
+ * @param {string} name
+ */
+export function putFirst(name) {
+  const isIt = (/** @type {Brought} */ it) => it.name === name;
+  if (page.brought.findIndex(isIt) > 0)
+    put([...page.brought.filter(isIt), ...page.brought.filter(it => !isIt(it))]);
+}
+/** @param {Brought[]} brought */
+function put(brought) {
+  page.brought = brought;
   readBrought();
   refresh();
 }

@@ -170,9 +170,7 @@ function messagesText(messages, state, ownCall) {
  */
 export function newsOf(net, of) {
   const { gap, silent, isLongAgo, isSilent, ownCall, missing, expected, settings, now, end } = of;
-  const { whole, since } = net;
-  /** @type {Word[]} */
-  const words = [...mostOf(needsOf(whole.needy, of))];
+  const { whole, since } = net, words = mostOf(needsOf(whole.needy, of)).slice();
   const unfixed = net.things.filter(it => it.unfixed).length;
   /** @param {string} href @param {Word["grade"]} grade @param {string} text */
   const say = (href, grade, text) => words.push({ href, grade, text });

@@ -16,7 +16,7 @@ import { Colouring, wayFor } from "../map/colours.js";
 import { passedOf } from "../net/checkpoints.js";
 import { MOST_COMPARED } from "../net/clock-offsets.js";
 import { messagesOf } from "../net/message-table.js";
-import { allOf, hearings, netOf } from "../net/net.js";
+import { allOf, hearings, netOf, repeatsOf } from "../net/net.js";
 import { expectedOf, Names } from "../net/roster.js";
 import { Rows } from "../net/rows.js";
 import { columnsOf } from "../net/table-reader.js";
@@ -135,6 +135,11 @@ export function colour() {
 }
 const drawRoster = () => widgets().lists.roster.show(
   expectedOf(page.roster.list, shownNow().net.whole.stations, callsBefore()), true);
+/** Draws who heard and who repeated whom anew. */
+export function drawRepeats() {
+  const { all, net } = shownNow();
+  later("pairs", drawPairs(all, net));
+}
 /** Draws what marks have a part in, where one is new or taken back. */
 export function drawMarks() {
   if (!page.shown) return;
@@ -192,14 +197,18 @@ function* drawPassed(net) {
  */
 function* drawPairs({ rows }, net) {
   const { heard, alone, repeated, sent } = yield* hearings(rows, net.since), { lists } = widgets();
+  const { repeats } = shownNow().data, isWhole = repeats !== undefined && net.since === -Infinity;
+  const copies = isWhole ? "all copies that were heard" : "the last copy of each";
   lists.heard = pairList(byId("heard-box"), { id: "heard",
     caption: "how many transmissions each receiver heard", pairs: heard, sent,
     tell: (source, name, n, of) =>
       `${shareText(n, of)}, ${alone.get(source, name)} by no other` });
   yield;
   lists.repeated = pairList(byId("repeated-box"), { id: "repeated",
-    caption: "how many transmissions each digipeater repeated, of those that were heard",
-    pairs: repeated, sent, tell: (before, name, n) => `${name} repeated ${n} of ${before}` });
+    caption: `how many transmissions each digipeater repeated, by ${copies}`,
+    pairs: isWhole ? repeatsOf(repeats) : repeated, sent,
+    tell: (before, name, n) => `${name} repeated ${n} of ${before}` });
+  write("repeated-told", `Counted by ${copies}.`);
   yield;
   lists.timeline = yield* timelineList(byId("timeline-box"), rows, net,
     { sent, clock: page.settings });

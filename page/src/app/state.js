@@ -24,11 +24,12 @@ import { byId } from "../util/dom.js";
  * What a page is made of: its title; the gap in seconds and the silence in minutes; after how many
  * seconds it is loaded again, or 0; maps, roster and notes as texts; two tables of a book, in
  * bytes; a fine coast, tiles of a map, the operator's own lines and marks of what is dealt with,
- * where it has some; checkpoints as a text; whether it waits for logs.
+ * where it has some; checkpoints as a text; who repeated whom, by all receptions; whether it waits
+ * for logs.
  * @typedef {{ title: string, gap: number, silent: number, live: number, maps: string[],
  *   roster: string, notes: string[], rows: Uint8Array, messages: Uint8Array, coast?: string,
  *   tiles?: Record<string, string>, lines?: unknown, marks?: string, points?: string,
- *   waits?: boolean }} Data
+ *   repeats?: string, waits?: boolean }} Data
  */
 /**
  * What is drawn next: its data, the columns of its rows where they are made already, and what was

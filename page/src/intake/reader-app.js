@@ -3,7 +3,7 @@
 
 import { bring, bringGround, bringLines } from "../app/add-layer.js";
 import { goOnFromHere } from "../app/header.js";
-import { show } from "../app/render.js";
+import { drawRepeats, show } from "../app/render.js";
 import { page, shownNow, widgets } from "../app/state.js";
 import { fromBase64 } from "../formats/base64.js";
 import { unpacked } from "../formats/gunzip.js";
@@ -14,6 +14,7 @@ import { filesOf, handleOf } from "./folders.js";
 import {
   asText, fileOf, isGrown, isSame, leaveOut, look, markOf, placeOf, shifts, take, takePlace,
 } from "./intake.js";
+import { repeatsBy } from "./receptions.js";
 import { beginEarly, Refused, textsOf } from "./runs.js";
 import { dataOf, eventPieces, readShell, tilesWithin } from "./save-event-page.js";
 import { tileOf } from "../map/layers/tile-layer.js";
@@ -66,9 +67,9 @@ const optionsOf = () => ({ title: byId("name").value || "APRS net", gap: numberI
  * Draws these texts, with the options as they stand.
  * @param {Made} texts
  */
-function draw({ rows, messages, read, shifts: by }) {
+function draw({ rows, messages, read, shifts: by, repeats }) {
   drawnShifts = by;
-  return show({ ...optionsOf(), rows, messages }, read);
+  return show({ ...optionsOf(), rows, messages, repeats }, read);
 }
 const NONE = new Uint8Array();
 /**
@@ -107,6 +108,7 @@ export async function work() {
     enableSaves(true);
     tellProgress(1);
     const { rows: { length } } = shownNow().all;
+    countRepeats(good, mine);
     told = `${count(length, "transmission")} of ${count(good.length, "file")}, ` +
       `in ${((performance.now() - begin) / 1000).toFixed(1)} s`;
     say(told);
@@ -116,6 +118,24 @@ export async function work() {
     tellProgress(1);
     say((file ? printable(file.name) + ": " : "") + messageOf(fault), true);
   }
+}
+
+/** Waits until no other files come, in a page that goes on for longer. */
+const wait = { timer: /** @type {ReturnType<typeof setTimeout> | undefined} */ (undefined),
+  still: 500, goesOn: 30000 };
+/**
+ * Counts who repeated whom by all receptions, once nothing else is to be done.
+ * @param {Given[]} good
+ * @param {number} mine
+ */
+function countRepeats(good, mine) {
+  clearTimeout(wait.timer);
+  wait.timer = setTimeout(async () => {
+    const repeats = await repeatsBy(good, () => mine === turn).catch(() => null);
+    if (mine !== turn || repeats === null || !made) return;
+    made.repeats = shownNow().data.repeats = repeats;
+    drawRepeats();
+  }, page.follows ? wait.goesOn : wait.still);
 }
 
 // ---- what is given

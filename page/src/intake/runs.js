@@ -13,10 +13,11 @@ import { limits, sizeOfAll } from "../worker/sources.js";
 /** @typedef {"merge" | "rows" | "messages"} Command */
 /** @typedef {Partial<Record<Command, Promise<Got | null>>>} Begun */
 /**
- * A book, its tables, and the columns of its rows; and how the clocks of its receivers were put
- * right.
+ * A book, its tables, and the columns of its rows; how the clocks of its receivers were put right;
+ * and who repeated whom, once that is counted.
  * @typedef {{ book: Uint8Array, rows: Uint8Array, messages: Uint8Array,
- *   read: import("../net/table-reader.js").Read | null, shifts: Map<string, number> }} Made
+ *   read: import("../net/table-reader.js").Read | null, shifts: Map<string, number>,
+ *   repeats?: string }} Made
  */
 /** A run of all files that was refused: for which of them, or -1 where it is for none. */
 export class Refused extends Error {

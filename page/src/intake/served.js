@@ -2,15 +2,16 @@
 // A page that `aprs-net serve` hands out: it is told at once what is new in the logs, and has what
 // desks write down for one another.
 
-import { bring, takeAway } from "../app/add-layer.js";
+import { bring, putFirst, takeAway } from "../app/add-layer.js";
 import { alive, tick } from "../app/live.js";
 import { drawNetPanel, nowOf } from "../app/net-panel.js";
 import { drawMarks } from "../app/render.js";
-import { page } from "../app/state.js";
+import { page, tell } from "../app/state.js";
 import { Journal } from "../desks/journal.js";
 import { goneOn, Stream } from "../desks/stream.js";
 import { storeOf } from "../ics309/own-lines.js";
 import { byId } from "../util/dom.js";
+import { messageOf } from "../util/text.js";
 import { files } from "./file-table.js";
 import { drawServed } from "./served-tiles.js";
 import { followed, followedOf, followOne, mark, takeWhole, told } from "./follow.js";
@@ -125,37 +126,34 @@ const putIn = id => (/** @type {string} */ value) => {
 function namesText() {
   return [...page.journal?.names || []].map(([call, name]) => `${call} ${name}\n`).join("");
 }
+/** What is brought comes one after the other: a long map is read in slices. */
+let turn = Promise.resolve();
+const inTurn = (/** @type {() => Promise<void>} */ step) => {
+  turn = turn.then(step).catch(fault => tell(messageOf(fault), true));
+};
 /** Has the page show what the server and the desks say of the net. */
 function applySettings() {
   if (!net) return;
-  const own = page.journal?.settings || new Map();
-  setOf("title", own.get("title") || net.title, putIn("name"));
-  setOf("silent", own.get("silent") || String(net.silent), putIn("silent"));
-  // of a call that stands in several lists the first line counts
-  setOf("names", namesText(), text => bringFirst("names of desks", text));
-  const { roster, courses, tiles } = nowOf(net, own);
-  setOf("roster", roster, () => bringOnly("roster of the net", [roster]));
-  setOf("course", courses.join("\0"), () => bringOnly("course of the net", courses));
+  const { title, silent, roster, courses, tiles } = nowOf(net, page.journal?.settings || new Map());
+  setOf("title", title, putIn("name"));
+  setOf("silent", silent, putIn("silent"));
+  setOf("names", namesText(), text => inTurn(() => bringOnly(NAMES, [text])));
+  setOf("roster", roster, () => inTurn(() => bringOnly("roster of the net", [roster])));
+  setOf("course", courses.join("\0"), () => inTurn(() => bringOnly("course of the net", courses)));
   setOf("tiles", tiles, drawServed);
 }
+const NAMES = "names of desks";
 /**
  * Has the page show these texts under a name, and no others.
  * @param {string} name
  * @param {string[]} texts
  */
-function bringOnly(name, texts) {
-  const all = texts.filter(it => it), has = page.brought.some(it => it.name.startsWith(name));
-  if (has) takeAway(new RegExp(`^${name}`));
-  all.forEach((text, k) => bring(k ? `${name}, ${k + 1}` : name, text));
-}
-/** @param {string} name @param {string} text */
-function bringFirst(name, text) {
-  takeAway(new RegExp(`^${name}$`));
-  if (!text) return;
-  const others = page.brought;
-  page.brought = [];
-  bring(name, text);
-  page.brought = [...page.brought, ...others];
+async function bringOnly(name, texts) {
+  takeAway(new RegExp(`^${name}`));
+  for (const [k, text] of texts.filter(it => it).entries())
+    await bring(k ? `${name}, ${k + 1}` : name, text);
+  // of a call that stands in several lists the first line counts
+  putFirst(NAMES);
 }
 /** What a desk has written is new: the form, the names and the panel have it. */
 function journalChanged() {

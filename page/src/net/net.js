@@ -3,6 +3,7 @@
 
 import { vectorOf } from "../geo/sphere.js";
 import { clocksOf, isOff, pairsOf } from "./clock-offsets.js";
+import { digipeatersOf } from "./repeats.js";
 import { kindIn, nameIn } from "./rows.js";
 import { TELLING, URGENT } from "./table-reader.js";
 import { each, eachSince } from "../util/tasks.js";
@@ -247,16 +248,17 @@ export class Pairs {
   }
 }
 
-/** What stands for any digipeater, and names none. */
-const ALIAS = /^(?:(?:WIDE|TRACE)[0-9]?(?:-[0-9]+)?|RELAY|ECHO|GATE)$/;
 /**
- * Who repeated a frame, in order; what names no digipeater only where nothing else is there.
- * @param {string[]} path
+ * Who repeated whom, of the lines of all receptions.
+ * @param {string} text
  */
-export function digipeatersOf(path) {
-  const used = path.filter(it => it.endsWith("*")).map(it => it.slice(0, -1));
-  const named = used.filter(it => !ALIAS.test(it));
-  return named.length ? named : used.slice(-1);
+export function repeatsOf(text) {
+  const repeated = new Pairs();
+  for (const line of text.split("\n").filter(Boolean)) {
+    const [digipeater, before, frames] = line.split("\t");
+    for (const source of [before, "all"]) repeated.add(source, digipeater, Number(frames));
+  }
+  return repeated;
 }
 /**
  * How many rows there are of each station and list of names, such as the receivers; of those that

@@ -117,9 +117,15 @@ def parse(parser: Parser, words: Sequence[str]) -> argparse.Namespace:
     return args
 
 
+# options of other programs, and what is like them here
+MEANT = {"--device": "--serial", "--host": "--connect", "--kiss": "--connect",
+         "--port": "--connect", "--server": "--connect", "--tcp": "--connect"}
+
+
 def meant(word: str, known: Sequence[str]) -> str:
     """The known words that are most like one, as a question."""
     import difflib  # only where something is wrong
 
-    found = difflib.get_close_matches(word.lower(), known, 2, 0.6)
+    found = [it for it in [MEANT.get(word.lower(), "")] if it in known] or \
+        difflib.get_close_matches(word.lower(), known, 2, 0.6)
     return f"; did you mean {' or '.join(found)}?" if found else ""

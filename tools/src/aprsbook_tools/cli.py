@@ -5,7 +5,7 @@ import sys
 from typing import List, NoReturn, Optional, Sequence, Tuple
 
 from aprsbook_tools import VERSION, commands, signals, stderr
-from aprsbook_tools.errors import ExitStatus, Fault, words_of
+from aprsbook_tools.errors import NO_ROOM, ExitStatus, Fault, words_of
 
 HELP = """\
 aprs-net {version}: logs, books and reports of APRS nets, around aprsbook
@@ -25,6 +25,9 @@ Write a log of the TNC at port 8001, and make a page of it:
 
 `aprs-net help COMMAND` says more of a command, with examples.
 """
+
+
+LEAST_PYTHON = (3, 9)
 
 
 class Ended(BaseException):
@@ -116,7 +119,7 @@ def run(arguments: Optional[Sequence[str]] = None) -> int:
         raise  # nobody reads standard output any more
     except OSError as fault:
         stderr.say(words_of(fault))
-        return ExitStatus.INPUT
+        return ExitStatus.OUTPUT if fault.errno in NO_ROOM else ExitStatus.INPUT
     except (MemoryError, RuntimeError) as fault:
         if isinstance(fault, RuntimeError) and "start new thread" not in str(fault):
             raise
@@ -137,6 +140,10 @@ def hold_standard_files() -> None:
 def main(arguments: Optional[Sequence[str]] = None) -> int:
     """The program: as `run`, and ended by a signal as it has to be."""
     hold_standard_files()
+    if sys.version_info < LEAST_PYTHON:
+        stderr.warn("it needs Python %d.%d or later, and this is %d.%d" % (
+            *LEAST_PYTHON, *sys.version_info[:2]))
+        return ExitStatus.MISSING
     signals.heed(end, "SIGTERM", "SIGHUP")
     try:
         status = run(arguments)

@@ -1,5 +1,6 @@
 """The one exception: what went wrong, in words, and the exit status, as of aprsbook."""
 import enum
+import errno
 from typing import Union
 
 
@@ -45,7 +46,17 @@ def words_of(fault: Union[Fault, OSError]) -> str:
     return str(fault) if isinstance(fault, Fault) else f"aprs-net: {said(fault)}"
 
 
+NO_ROOM = (errno.ENOSPC, errno.EDQUOT)
+
+
 def said(fault: OSError) -> str:
-    """A system's fault in words: the file, where there is one, and what is wrong."""
+    """A system's fault in words: the file, where there is one, and what is wrong. Files without a
+    name are temporary ones."""
     words = fault.strerror or str(fault)
-    return f"{fault.filename}: {words}" if fault.filename is not None else words
+    if fault.filename is not None:
+        return f"{fault.filename}: {words}"
+    if fault.errno not in NO_ROOM:
+        return words
+    import tempfile  # only where something is wrong
+
+    return f"{tempfile.gettempdir()}: {words} (TMPDIR names another folder for temporary files)"

@@ -1,9 +1,11 @@
 """aprs-net book on bad days: a signal, two runs at once, faulty inputs, and programs that fail.
 
 Each test is run with a stand-in for aprsbook, and with aprsbook itself where it is there."""
+import fcntl
 import glob
 import gzip
 import os
+import re
 import shutil
 import signal
 import time
@@ -14,7 +16,7 @@ import pytest
 from aprsbook_tools.books import book, inputs
 from aprsbook_tools.system import atomic
 from clubs import ALL, Club, runs_of
-from conftest import started, wait_for
+from conftest import HERE, started, wait_for
 
 
 @pytest.mark.parametrize("words", [[], ["--days", "days"], ["--work", "work"]])
@@ -228,3 +230,52 @@ def test_a_killed_run_leaves_the_old_book_or_the_new_one(club: Club) -> None:
         assert club.read() in (old, new)
     club.book("net.book", "logs")
     assert club.read() == new
+
+
+def test_two_machines_with_receivers_of_one_name_are_named(club: Club) -> None:
+    """A book takes them for one, and nothing said so."""
+    for host, log in ("a", "hill"), ("b", "coast"):
+        text = club.lay(f"{host}/2024-06-21/RX1.log", log).read_bytes()
+        club.path(f"{host}/2024-06-21/RX1.log").write_bytes(
+            re.sub(rb" (HILL|COAST) ", b" RX1 ", text))
+    said = club.book("net.book", "a", "b")
+    assert "are of one time, and both of a receiver RX1" in said and said.count("\n") == 1
+    # a copy, and what one receiver wrote elsewhere later, are no second one
+    copy = club.path("a/2024-06-21/RX1.log").read_bytes()
+    club.path("b/2024-06-21/RX1.log").write_bytes(copy)
+    assert "are of one time" not in club.book("other.book", "a", "b")
+    club.path("b/2024-06-21/RX1.log").write_bytes(copy.replace(b"2024-06-21T", b"2024-06-22T"))
+    assert "are of one time" not in club.book("third.book", "a", "b")
+
+
+def test_what_a_killed_run_has_left_goes_at_the_next(club: Club) -> None:
+    """Folders of 29 MB lay there for a day."""
+    club.lay("logs/HILL.log", "hill")
+    left, used = (club.path(f".net.book.{name}.aprs-net-work") for name in ("abcd0123", "efgh4567"))
+    for it in left, used:
+        it.mkdir()
+        (it / "piece-000000.book").write_bytes(b"a piece\n")
+        (it / "lock").write_bytes(b"")
+    with open(used / "lock", "rb+") as file:
+        fcntl.flock(file, fcntl.LOCK_EX)
+        club.book("net.book", "logs")
+        assert used.is_dir() and not left.exists()
+    club.lay("logs/COAST.log", "coast")
+    club.book("net.book", "logs")
+    assert not used.exists()
+
+
+def test_a_run_that_is_killed_leaves_what_the_next_takes_away(club: Club) -> None:
+    if club.bin is None:
+        pytest.skip("needs the stand-in")
+    club.lay("logs/HILL.log", "hill")
+    slow = club.bin / "aprsbook"
+    slow.write_text("#!/bin/sh\ntouch begun\nsleep 3\n")
+    with started("book", "net.book", "logs", cwd=club.folder, env=club.env) as running:
+        wait_for(club.path("begun").exists, "for the program")
+        running.kill()
+    assert [*club.folder.glob(".net.book.*.aprs-net-work/lock")]
+    shutil.copy(HERE / "stand_in.py", slow)
+    slow.chmod(0o755)
+    club.book("net.book", "logs")
+    assert not [*club.folder.glob(".net.book.*.aprs-net-work")]

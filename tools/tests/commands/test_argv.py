@@ -89,7 +89,7 @@ def test_what_was_meant_is_said(programs: Programs, word: str, meant: str) -> No
 def test_where_a_tnc_is_was_typed_otherwise(programs: Programs, words: "list[str]") -> None:
     """It said of the name that it isn't of 1 to 16 letters, and not what is wrong."""
     programs.run(*words, status=2)
-    assert "--kiss" in programs.said or "stands behind --connect" in programs.said
+    assert "did you mean --connect" in programs.said or "stands behind --connect" in programs.said
 
 
 def test_nothing_is_the_help_and_wrong(programs: Programs) -> None:

@@ -8,6 +8,7 @@ import resource
 import signal
 import socket
 import subprocess
+import termios
 import time
 from typing import Any, Dict, List, Optional
 
@@ -18,10 +19,12 @@ from aprsbook_tools.formats import ax25, kiss, log_file
 from aprsbook_tools.frame_sources import source, tcp, writer
 from aprsbook_tools.imports import feed
 from aprsbook_tools.system import disk
+from aprsbook_tools.system.clock import CLOCK
 from conftest import started, tried, wait_for
 
 FRAME = bytes.fromhex("c00082a0a4a64040e09c60868298986f03f03e4869c0")
 FRAME_1 = FRAME[:1] + b"\x10" + FRAME[2:]
+HURRIED = 20  # times as fast as the machine's: the clock of a logger that connects again
 
 
 def logs(folder: pathlib.Path, kind: str = "log") -> Dict[str, List[bytes]]:
@@ -158,7 +161,7 @@ class Server:
     def start(self, *options: object, kind: str = "--connect") -> "subprocess.Popen[bytes]":
         with open(self.said, "wb") as said:
             return started("log", kind, f"127.0.0.1:{self.place[1]}", *options, "RX1",
-                           self.folder / "logs", stderr=said)
+                           self.folder / "logs", stderr=said, rate=HURRIED)
 
     def accept(self) -> socket.socket:
         connection, _ = self.server.accept()
@@ -217,7 +220,7 @@ def test_nothing_is_missed_after_an_idle_timeout() -> None:
 
     moments = iter([100.0, 100.0 + 900])
     patch = pytest.MonkeyPatch()
-    patch.setattr("aprsbook_tools.frame_sources.source.time.monotonic", lambda: next(moments))
+    patch.setattr(CLOCK, "seconds", lambda: next(moments))
     source.listen(Idle(), Waits(), lambda _: None, lambda: None, lambda _: None)
     patch.undo()
     assert pauses == [source.AGAIN - 900] and pauses[0] < 0
@@ -245,7 +248,7 @@ def test_a_server_for_all_that_refuses_is_asked_more_rarely(
         def open(self, waiting: source.Waiting) -> source.Input:
             now[0] += 100 if len(pauses) == 10 else 0
             raise OSError("refused")
-    monkeypatch.setattr("aprsbook_tools.frame_sources.source.time.monotonic", lambda: now[0])
+    monkeypatch.setattr(CLOCK, "seconds", lambda: now[0])
     source.listen(Refuses(), Waits(), lambda _: None, lambda: None, lambda _: None)
     assert pauses[:8] == [10, 20, 40, 80, 160, 320, 600, 600]
     assert pauses[10:] == [source.AGAIN - 100, 10]  # one that lasted begins anew
@@ -276,9 +279,9 @@ def test_bad_lines_of_a_server_are_not_said_without_a_limit() -> None:
 
 
 def test_a_silent_server_is_given_up(server: Server) -> None:
-    with server.start("--idle", "0.3") as process:
+    with server.start("--idle", str(HURRIED / 2)) as process:
         silent = server.accept()
-        server.says("nothing came for 0.3 seconds")
+        server.says(f"nothing came for {HURRIED // 2} seconds")
         with server.accept() as connection:
             connection.sendall(FRAME)
             wait_for(server.count)
@@ -365,6 +368,11 @@ def moments_of(folder: pathlib.Path) -> List[int]:
     return [it.moment for it in lines if it]
 
 
+def is_read(pipe: int) -> bool:
+    """Whether all that was written into a pipe was read."""
+    return fcntl.ioctl(pipe, termios.FIONREAD, bytes(4)) == bytes(4)
+
+
 def test_frames_have_the_moments_at_which_they_came(tmp_path: pathlib.Path) -> None:
     """Also where another program holds the log's lock, as a backup does."""
     files = lay(tmp_path)
@@ -373,20 +381,24 @@ def test_frames_have_the_moments_at_which_they_came(tmp_path: pathlib.Path) -> N
         fcntl.flock(it, fcntl.LOCK_EX)
     process = started("log", "RX1", tmp_path, stdin=subprocess.PIPE)
     assert process.stdin and process.stderr
-    sent = []
+    pipe = process.stdin.fileno()
+    marks = []  # each before a frame is sent, and long after the one before was read
     for _ in range(3):
+        marks.append(int(time.time() * 1000))
         process.stdin.write(FRAME)
         process.stdin.flush()
-        sent.append(time.time() * 1000)
+        wait_for(lambda: is_read(pipe), "a reader")
         time.sleep(0.4)
     assert b"another program holds its lock" in process.stderr.readline()
+    marks.append(int(time.time() * 1000))
     for it in locks:
         it.close()
     wait_for(lambda: count(tmp_path) == 3)
     process.terminate()
     assert process.wait() == 0
     found = moments_of(tmp_path)
-    assert all(abs(one - other) < 300 for one, other in zip(found[1:], sent[1:])), (found, sent)
+    between = [*zip(marks, found, marks[1:])]
+    assert len(between) == 3 and all(begin <= it <= end for begin, it, end in between), between
 
 
 def test_a_signal_ends_what_waits_for_a_lock(tmp_path: pathlib.Path) -> None:
@@ -428,7 +440,7 @@ def test_a_log_is_synced(tmp_path: pathlib.Path, monkeypatch: pytest.MonkeyPatch
     monkeypatch.setattr(disk, "sync", lambda _: calls.append("sync"))
     monkeypatch.setattr(disk, "sync_folder", calls.append)
     now = [100.0]
-    monkeypatch.setattr("aprsbook_tools.formats.log_file.time.monotonic", lambda: now[0])
+    monkeypatch.setattr(CLOCK, "seconds", lambda: now[0])
     line = log_file.of_frame(0, "RX1", FRAME)
     it = log_file.Logs(str(tmp_path), lambda _: None)
     for second in 0, 4.9:
@@ -565,7 +577,7 @@ def test_a_serial_port_that_is_unplugged(tmp_path: pathlib.Path) -> None:
 
     with open(said, "wb") as file:
         process = started("log", "--serial", device, "--baud", "1200", "RX1", tmp_path / "logs",
-                          stderr=file)
+                          stderr=file, rate=HURRIED)
     wait_for(lambda: "No such file" in said.read_text())
     ours = plug()
     wait_for(lambda: "is open" in said.read_text())
@@ -602,10 +614,10 @@ def test_two_loggers_do_not_share_the_bytes_of_a_serial_port(tmp_path: pathlib.P
     said = tmp_path / "said.txt"
     ours, theirs = os.openpty()
     words = "log", "--serial", os.ttyname(theirs), "RX1", tmp_path / "logs"
-    one = started(*words)
+    one = started(*words, rate=HURRIED)
     assert one.stderr is not None and b"is open" in one.stderr.readline()
     with open(said, "wb") as file:
-        other = started(*words, stderr=file)
+        other = started(*words, stderr=file, rate=HURRIED)
     try:
         wait_for(lambda: "another logger reads it" in said.read_text())
         os.write(ours, FRAME * 2)

@@ -161,6 +161,18 @@ def test_a_capture_has_the_frames_of_a_log() -> None:
     tried("pcap", given=b"no log\n", status=1)
 
 
+def test_a_capture_of_a_folder(tmp_path: pathlib.Path) -> None:
+    """It said "Is a directory", where other commands take folders."""
+    for name in "b", "a":
+        (tmp_path / f"{name}.log").write_bytes(b"2024-06-21T18:00:00Z RX1 c000%02xc0\n" % ord(name))
+    alone = [tried("pcap", tmp_path / f"{it}.log").stdout for it in "ab"]
+    assert tried("pcap", tmp_path).stdout == alone[0] + alone[1][24:]
+    assert tried("pcap", tmp_path / "b.log", "-", given=(tmp_path / "a.log").read_bytes()
+                 ).stdout == alone[1] + alone[0][24:]
+    (tmp_path / "net.book").write_bytes(b"APRSBOOK 3 30\nEND 0\n")
+    assert b"is a book" in tried("pcap", tmp_path, status=1).stderr
+
+
 def test_a_packet_is_made_of_a_whole_frame_alone() -> None:
     """As the programs read a log: a torn last line is none of it."""
     line = b"2024-06-21T18:00:00.000Z RX1 c000a0c0"

@@ -64,7 +64,7 @@ def test_the_keeper_has_all_parts_in_json(said: Programs) -> None:
     said.say()
     (said.folder / "rx.log").write_bytes(b"")
     told = json.loads(said.run("keeper", "--format", "json", "rx.log"))
-    assert [*told] == ["direct", "hops", "hours", "repeats"]
+    assert [*told] == ["direct", "hops", "hours", "repeats", "delays"]
 
 
 def test_somebody_is_missing(said: Programs) -> None:

@@ -1,6 +1,7 @@
 """Logs: lines, torn ends, and what is held while there is no room."""
+import os
 import pathlib
-from typing import List
+from typing import List, Set
 
 import pytest
 from hypothesis import given, strategies as st
@@ -133,3 +134,27 @@ def test_the_last_moment_has_a_text_and_2100_has_none() -> None:
     assert moments.text_of(moments.END - 1) == "2099-12-31T23:59:59.999Z"
     with pytest.raises(ValueError):
         moments.text_of(moments.END)
+
+
+def test_a_stick_that_is_taken_away(tmp_path: pathlib.Path, monkeypatch: pytest.MonkeyPatch
+                                    ) -> None:
+    """As root: what was written below its folder lay on the card, hidden once it was back."""
+    stick, real = tmp_path / "stick", os.path.ismount
+    stick.mkdir()
+    mounted: Set[str] = set()
+    monkeypatch.setattr(os.path, "ismount", lambda it: str(it) in mounted or real(it))
+    said: List[str] = []
+    logs = log_file.Logs(str(stick / "logs"), said.append)
+    log = path(stick / "logs")
+
+    def lines_after(*paths: str) -> int:
+        mounted.clear()
+        mounted.update(paths)
+        logs.put("RX1", line())
+        return len(log.read_bytes().splitlines())
+    assert lines_after() == 1  # it isn't there yet
+    assert lines_after(str(stick)) == 2
+    assert lines_after() == 2 and lines_after() == 2
+    assert said == [f"{stick}: the disk isn't mounted any more: frames that are held: 1, lost: 0"]
+    assert lines_after(str(stick)) == 5
+    assert logs.end() == 0

@@ -6,7 +6,7 @@ import { pathToFileURL } from "node:url";
 const page = name => import(pathToFileURL(`${process.argv[2]}/${name}.js`).href);
 const { pairsOf } = await page("net/clock-offsets");
 const { SAVES } = await page("formats/exports");
-const { netOf } = await page("net/net");
+const { allOf, netOf } = await page("net/net");
 const { messagesOf } = await page("net/message-table");
 const { tableOf } = await page("net/table-lines");
 const { columnsOf } = await page("net/table-reader");
@@ -21,14 +21,14 @@ function ended(steps) {
 }
 function saidOf({ rows, messages, roster }) {
   const table = tableOf(rows), read = new Rows(ended(columnsOf(table)));
-  const all = { rows: read, messages: ended(messagesOf(tableOf(messages))), end: read.until };
-  const net = ended(netOf(all, -Infinity, 30)), said = {};
+  const all = ended(allOf(read, ended(messagesOf(tableOf(messages))), 30));
+  const net = ended(netOf(all, -Infinity)), said = {};
   const { list, faults } = readRoster(roster);
   const saved = (name, names) =>
     [...SAVES[name][2](net, { title: "net", rows: table }, { lines: [], names })].join("");
   for (const name of Object.keys(SAVES)) said[name] = saved(name, new Names([]));
   said.expected = expectedOf(list, net.things).map(it => [it.call, it.name, it.group, it.bib,
-    it.last === -Infinity ? "never" : new Date(it.last * 1000).toISOString()]);
+    it.heardAt === -Infinity ? "never" : new Date(Math.round(it.heardAt * 1000)).toISOString()]);
   said.faults = faults.map(it => it.line);
   said.named = saved("messages (CSV)", new Names(list));
   const count = n => read.heard.filter(it => it === n).length;

@@ -332,7 +332,7 @@ def test_logs_of_other_machines_lie_in_folders_of_their_own(tmp_path: pathlib.Pa
 def test_a_system_s_fault_doesn_t_end_a_turn(net: Programs) -> None:
     """As where the place of the page isn't there for a while."""
     (net.folder / "out").write_text("")
-    with started("follow", "--every", "1", *NOW[1:]) as process:
+    with started("follow", "--every", "1", *NOW[1:], rate=10) as process:
         try:
             assert process.stderr is not None
             assert process.stderr.readline() == b"aprs-net: out: File exists\n"
@@ -346,7 +346,7 @@ def test_again_and_again(net: Programs) -> None:
     """A turn that fails doesn't end it, and what is new comes into the page."""
     log = net.folder / "logs/2024-06-21/RX1.log"
     log.rename(net.folder / "log")
-    with started("follow", "--every", "1", *NOW[1:]) as process:
+    with started("follow", "--every", "1", *NOW[1:], rate=10) as process:
         try:
             assert process.stderr is not None
             assert b"is no log of 2024-06-21" in process.stderr.readline()

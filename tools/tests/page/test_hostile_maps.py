@@ -11,6 +11,7 @@ from aprsbook_tools.errors import Fault
 from aprsbook_tools.formats import pmtiles
 from aprsbook_tools.geo import Spot
 from aprsbook_tools.page import basemap, event_page, gshhg
+from aprsbook_tools.system.clock import CLOCK
 from test_basemap import PNG, archive
 
 SPOT = Spot(54.5, -3.6)
@@ -80,7 +81,7 @@ def test_a_signal_ends_a_database_without_an_end(
     def interrupted() -> float:
         raise KeyboardInterrupt
     times = iter([lambda: 0.0, interrupted])
-    monkeypatch.setattr("aprsbook_tools.page.basemap.time.monotonic", lambda: next(times)())
+    monkeypatch.setattr(CLOCK, "seconds", lambda: next(times)())
     with pytest.raises(KeyboardInterrupt):
         tiles_in(tmp_path / "map.mbtiles")
 

@@ -17,7 +17,7 @@ from standing import at, message, place, put, row, shown, table_text, tracks_of
 from aprsbook_tools import table_output
 from aprsbook_tools.commands.clocks import spans_of
 from aprsbook_tools.commands.ics_309 import in_order, table_of
-from aprsbook_tools.commands.roster import last_of, line_of
+from aprsbook_tools.commands.roster import last_of
 from aprsbook_tools.reports import table
 from aprsbook_tools.reports.last_heard import COLUMNS, heard_of
 from aprsbook_tools.reports.roster import Roster, read_roster
@@ -33,6 +33,7 @@ GPX = "{http://www.topografix.com/GPX/1/1}"
 KML = "{http://www.opengis.net/kml/2.2}"
 CALLS = ["Q1A", "Q1A-7", "Q1B", "Q1B-15", "Q1NET"]
 NAMES = ["CP 1", "LEADER", "=A", "<x>", "ü", "\u202ex", "a\udce9b", "\ufeff", "\U0001f3c3"]
+TO_ALL = {"BLN1": "bulletin", "BLNA": "announcement", "NWS-X": "weather-bulletin"}
 STATES = ["unnumbered", "unanswered", "acknowledged", "rejected"]
 LINES = [
     "Q1A Leader",
@@ -97,7 +98,8 @@ class Case(NamedTuple):
 
     @property
     def messages(self) -> List[Message]:
-        return in_order(table.read(Message, self.messages_text.splitlines()))
+        messages = table.read(Message, self.messages_text.splitlines())
+        return in_order(it for it in messages if it.is_traffic)
 
 
 def clock(some: random.Random) -> str:
@@ -136,21 +138,20 @@ def roster_of(some: random.Random) -> str:
     return some.choice(["\n", "\r\n"]).join(lines)
 
 
+def message_of(some: random.Random) -> Message:
+    """A message of any class."""
+    to, number = some.choice([*CALLS, *TO_ALL]), some.choice(["", "7"])
+    class_ = TO_ALL.get(to) or some.choice(["message", "message", "query", "telemetry", "answer"])
+    return message(clock(some), some.choice(CALLS), to, some.choice(TEXTS), id=number,
+                   state=some.choice(STATES), outcome=some.choice(STATES), class_=class_,
+                   number=number or some.choice(["", "07"]))
+
+
 def tables_of(seed: int) -> Case:
     """Tables made up, whatever the programs can say."""
     some = random.Random(seed)
     rows = [row_of(some) for _ in range(some.randrange(12))]
-    messages = [
-        message(
-            clock(some),
-            some.choice(CALLS),
-            some.choice([*CALLS, "BLN1", "NWS-X"]),
-            some.choice(TEXTS),
-            id=some.choice(["", "7"]),
-            state=some.choice(STATES),
-        )
-        for _ in range(some.randrange(6))
-    ]
+    messages = [message_of(some) for _ in range(some.randrange(6))]
     return Case(table_text(Row, rows), table_text(Message, messages), roster_of(some))
 
 
@@ -267,11 +268,11 @@ def test_kml(both: List[Any]) -> None:
 def test_roster(both: List[Any]) -> None:
     for case, said in both:
         roster = read_roster(case.roster)
-        stations = heard_of(table.fields(Row, case.rows_text.splitlines(), COLUMNS))
-        told = [
-            [it.call, it.name, it.group, it.bib, line_of(it, last_of(it, stations))[0]]
-            for it in roster.expected
-        ]
+        stations = heard_of(table.tuples(Row, case.rows_text.splitlines(), COLUMNS))
+        told = []
+        for it in roster.expected:
+            last = last_of(it, stations)  # by clocks that are right
+            told.append([it.call, it.name, it.group, it.bib, last.order[0] if last else "never"])
         assert told == said["expected"], case
         assert [it.line for it in roster.faults] == said["faults"], case
 

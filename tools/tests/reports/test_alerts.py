@@ -19,6 +19,7 @@ from aprsbook_tools.reports.last_heard import Heard
 from aprsbook_tools.reports.roster import Expected, Roster, read_roster
 from aprsbook_tools.reports.table import Row
 from aprsbook_tools.system import atomic
+from aprsbook_tools.system.clock import CLOCK
 
 NOW = milliseconds(at("19:00"))
 
@@ -181,11 +182,11 @@ def test_each_is_told_once_while_the_state_cannot_be_written(
     def refuse(*_: object) -> None:
         raise Fault("told: No space left on device", 3)
 
-    def sleep(_: float) -> None:
+    def wait(_: float) -> None:
         next(turns)
 
     monkeypatch.setattr(atomic, "write", refuse)
-    monkeypatch.setattr(time, "sleep", sleep)
+    monkeypatch.setattr(CLOCK, "wait", wait)
     with pytest.raises((StopIteration, RuntimeError)):
         net.run(*WORDS, "--state", "told", "--every", "1", "logs")
     out = net.capture.readouterr()
@@ -227,7 +228,7 @@ def test_what_standard_output_refuses_is_told_again(net: Programs) -> None:
 def test_it_ends_where_nobody_reads_it(net: Programs) -> None:
     reads, writes = os.pipe()
     os.close(reads)
-    process = started(*WORDS, "--every", "1", "logs", cwd=net.folder, stdout=writes)
+    process = started(*WORDS, "--every", "1", "logs", cwd=net.folder, stdout=writes, rate=10)
     os.close(writes)
     assert process.wait(20) == -signal.SIGPIPE
     assert process.stderr is not None and process.stderr.read() == b""
@@ -277,3 +278,9 @@ def test_a_folder_without_logs_is_said(net: Programs) -> None:
     os.rename(net.folder / "logs", net.folder / "other")
     net.run(*WORDS, "logs", status=1)
     assert "in logs is no log of 2024-06-21" in net.said
+
+
+def test_a_log_is_no_folder_of_logs(programs: Programs) -> None:
+    """It said that no log of today is in it."""
+    programs.run("watch", "--silent", "20", "net.log", status=2)
+    assert "net.log is no folder" in programs.said

@@ -82,6 +82,39 @@ def test_who_repeats_whom() -> None:
     assert digipeater_stats.repeats_of(some) == [("Q1DIG", "Q1A", 2), ("Q1TOP", "Q1DIG", 1)]
 
 
+def late(*frames: "tuple[float, str]", receiver: str = "RX1") -> "list[list[object]]":
+    """Who is late of copies of one frame, each so many seconds after 18:00 over this path."""
+    zero = heard("18:00", "Q1A", receiver=receiver).moment
+    some = [
+        Reception(zero + round(1000 * at), heard("18:00", "Q1A", via, receiver).row)
+        for at, via in frames]
+    return [[it.digipeater, it.late, it.frames, it.delay / 1000]
+            for it in digipeater_stats.delays_of(some, 30_000)]
+
+
+def test_who_repeats_late() -> None:
+    """31 seconds late, and nothing named it."""
+    for delay in 30.001, 31, 90:
+        assert late((0, ""), (delay, "Q1DIG*")) == [["Q1DIG", 1, 1, delay]]
+    for delay in 0, 1, 29, 30, 90.001:
+        assert late((0, ""), (delay, "Q1DIG*")) == []
+    # beacons each 20 seconds
+    each = [(20 * it + delay, via) for it in range(10) for delay, via in ((0, ""), (31, "Q1DIG*"))]
+    assert late(*sorted(each)) == []  # which of them was repeated nobody knows
+    each = [(60 * it + delay, via) for it in range(10) for delay, via in ((0, ""), (31, "Q1DIG*"))]
+    assert late(*sorted(each)) == [["Q1DIG", 10, 10, 31]]
+    # a direct copy that wasn't heard makes none late, and who repeats the late one isn't late
+    assert late((0, ""), (1, "Q1DIG*"), (61, "Q1DIG*")) == []
+    assert late((0, ""), (31, "Q1DIG*"), (32, "Q1DIG*,Q1TOP*")) == [["Q1DIG", 1, 1, 31]]
+    assert late((0, "Q1TOP*"), (31, "Q1DIG*,WIDE2-1")) == [["Q1DIG", 1, 1, 31]]
+
+
+def test_what_one_receiver_heard_is_late_to_it_alone() -> None:
+    some = [heard("18:00", "Q1A"), heard("18:01", "Q1A", "Q1DIG*", "RX2"),
+            heard("18:01", "Q1A", "Q1DIG*", text="another")]
+    assert digipeater_stats.delays_of(some, 30_000) == []
+
+
 def test_who_is_heard_direct() -> None:
     some = [
         heard("18:00", "Q1A"),
@@ -216,6 +249,7 @@ def test_all_parts(programs: Programs, tmp_path: pathlib.Path) -> None:
         "hops",
         "hours",
         "repeats",
+        "delays",
     ]
     programs.run("keeper", "-o", "net.log", "net.log", status=2)
 

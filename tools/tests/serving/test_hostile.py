@@ -258,6 +258,12 @@ def test_bodies_of_strangers_take_no_memory(tmp_path: pathlib.Path) -> None:
                 it.sendall(begin)
         assert net.ask("GET", "/who", token="GUEST").status == 200
         assert memory_in(status) - before < 60
+        # nobody is kept out, and a desk's lines are taken
+        form = {"Content_Type": "application/x-www-form-urlencoded", "Origin": net.url[:-1]}
+        entered = net.ask("POST", "/login", b"token=" + net.tokens["GATE"].encode(), **form)
+        assert entered.status == 303
+        assert net.ask("POST", "/desks/BASE", b"", "BASE", Content_Type=JSON_LINES).status == 200
+        assert net.push(line(1)).status == 200
         # who has shown a token goes on, however large what it sends is
         known = http.client.HTTPConnection("127.0.0.1", net.port, timeout=20)
         known.request("GET", "/states/HILL",
@@ -266,7 +272,7 @@ def test_bodies_of_strangers_take_no_memory(tmp_path: pathlib.Path) -> None:
         lines = [line(number) for number in range(20_000)]
         known.request("POST", f"/push/HILL/{DAY}", b"".join(lines),
                       {"Authorization": f"Bearer {net.tokens['HILL']}"})
-        assert json.loads(known.getresponse().read())["added"] == 20_000
+        assert json.loads(known.getresponse().read())["added"] == 19_999
         known.close()
 
 

@@ -92,6 +92,7 @@ class Way:
 
 
 def pusher_of(way: Way, folder: pathlib.Path, name: str = "HILL") -> Pusher:
+    # the way stands in for a server
     return Pusher(way, name, str(folder), 7, lambda text: None)  # type: ignore[arg-type]
 
 

@@ -1,7 +1,11 @@
 """How long a server waits for who is slow, and for how many."""
 import asyncio
+import contextlib
+import pathlib
+import ssl
+import subprocess
 import time
-from typing import Awaitable, Callable, List
+from typing import Awaitable, Callable, List, Optional
 
 import pytest
 
@@ -12,10 +16,10 @@ from aprsbook_tools.frame_sources import tcp  # noqa: E402
 from aprsbook_tools.serving import server  # noqa: E402
 
 
-def served(ask: Callable[[int], Awaitable[None]]) -> None:
+def served(ask: Callable[[int], Awaitable[None]], tls: Optional[ssl.SSLContext] = None) -> None:
     """Asks a server of nothing, which lends patience for half a second."""
     async def run() -> None:
-        its = server.server_of(tornado.web.Application([]), None, 10, 5, False)
+        its = server.server_of(tornado.web.Application([]), tls, 10, 5, False)
         port = server.listen(its, tcp.Place("127.0.0.1", 0))
         try:
             await asyncio.wait_for(ask(port), 20)
@@ -42,6 +46,24 @@ def test_who_says_no_more_is_left(octets: bytes) -> None:
         assert time.monotonic() - begun < 10
         writer.close()
     served(ask)
+
+
+@pytest.mark.parametrize("octets", [b"", b"\x16\x03\x01\x02\x00\x01\x00", b"GET / HTTP/1.1\r\n"])
+def test_who_begins_no_tls_is_left(tmp_path: pathlib.Path, octets: bytes) -> None:
+    names = [str(tmp_path / it) for it in ("cert.pem", "key.pem")]
+    made = subprocess.run(["openssl", "req", "-x509", "-newkey", "rsa:2048", "-nodes", "-subj",
+                           "/CN=net", "-out", names[0], "-keyout", names[1]], capture_output=True)
+    if made.returncode:
+        pytest.skip("needs openssl")
+
+    async def ask(port: int) -> None:
+        reader, writer = await asyncio.open_connection("127.0.0.1", port)
+        writer.write(octets)
+        begun = time.monotonic()
+        with contextlib.suppress(OSError):
+            await reader.read()
+        assert time.monotonic() - begun < 10
+    served(ask, server.context_of(names))
 
 
 def test_who_says_a_letter_at_a_time_is_left() -> None:

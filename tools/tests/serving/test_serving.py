@@ -10,6 +10,7 @@ from typing import Iterator
 import pytest
 
 from aprsbook_tools.formats import kiss
+from aprsbook_tools.serving import signing
 from aprsbook_tools.serving.entries import spelling
 from conftest import started, tried, wait_for
 from served import DAY, POLICY, Listener, Served, line, serving
@@ -268,7 +269,9 @@ def test_an_answer_of_somebody_else_is_not_believed(net: Served, tmp_path: pathl
     assert status == 200 and DAY in says
     its.token = net.tokens["HILL"] + "x"
     with pytest.raises(Away, match="isn't of a server"):
-        its.read(Repeated(), json.dumps(says).encode(), None or mark_of(its.token))  # type: ignore
+        # what was repeated stands in for an answer of http.client
+        mark = mark_of(its.token)
+        its.read(Repeated(), json.dumps(says).encode(), mark)  # type: ignore[arg-type]
 
 
 class Repeated:
@@ -279,8 +282,7 @@ class Repeated:
         return "0" * 64
 
 
-def mark_of(token: str) -> object:
-    from aprsbook_tools.serving import signing
+def mark_of(token: str) -> signing.Mark:
     return signing.mark_of(token, signing.Question("GET", "/", "", b""))
 
 

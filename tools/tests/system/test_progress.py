@@ -12,11 +12,17 @@ import pytest
 
 from aprsbook_tools import progress
 from aprsbook_tools.books import executors, jobs
+from aprsbook_tools.system.clock import CLOCK
+
+
+@pytest.fixture(autouse=True)
+def hurried(monkeypatch: pytest.MonkeyPatch) -> None:
+    monkeypatch.setattr(CLOCK, "rate", 10.0)
 
 
 def slowly() -> Iterator[int]:
     for number in range(3):
-        time.sleep(1.5 * progress.STEP)
+        CLOCK.wait(1.5 * progress.STEP)
         yield number
 
 

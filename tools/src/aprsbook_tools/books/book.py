@@ -16,7 +16,7 @@ import tempfile
 from typing import Any, Callable, Dict, Iterator, List, Optional, Sequence
 
 from aprsbook_tools import progress
-from aprsbook_tools.books import bases, building, executors, inputs, jobs, mending
+from aprsbook_tools.books import bases, building, executors, inputs, jobs, mending, one_name
 from aprsbook_tools.books.building import MOST, Plan
 from aprsbook_tools.books.chunks import MEGABYTE
 from aprsbook_tools.books.executors import Engine
@@ -69,16 +69,12 @@ def work_folder(path: str, wish: Wish, gap: int, items: Sequence[Input]) -> Iter
         atomic.remove_leftovers(folder)
         yield folder
         return
-    real = os.path.realpath(path)
-    atomic.remove_leftovers(*os.path.split(real))
-    try:
-        folder = tempfile.mkdtemp(atomic.WORK, f".{os.path.basename(real)}.", os.path.dirname(real))
-    except OSError as fault:
-        raise Fault(f"{path}: {fault.strerror}", ExitStatus.OUTPUT) from fault
-    try:
+    with contextlib.ExitStack() as stack:
+        try:
+            folder = stack.enter_context(atomic.work_folder(os.path.realpath(path)))
+        except OSError as fault:
+            raise Fault(f"{path}: {fault.strerror}", ExitStatus.OUTPUT) from fault
         yield folder
-    finally:
-        shutil.rmtree(folder, ignore_errors=True)
 
 
 def is_of_work(path: str, work: str) -> bool:
@@ -219,6 +215,22 @@ def make(path: str, items: Sequence[Input], wish: Wish, say: Say) -> bool:
         return make_locked(path, again(items) if has_waited else items, wish, say)
 
 
+def passer(wish: Wish, say: Say, passed: List[str]) -> PassOver:
+    """What is told of an input that is left out, all or a part, and why: it says and notes that. A
+    Fault where it may not be left out."""
+    def pass_over(name: str, why: str) -> None:
+        say(f"{name} is passed over: {why}")
+        passed.append(name)
+
+    def leave_out(name: str, why: str) -> None:
+        is_book = inputs.look_at(name).is_book
+        if is_book and (wish.anew or name in wish.named) or not wish.may_leave_out:
+            raise Fault(f"{name}: {why.removesuffix(': left out')}")
+        say(f"{name}: {why}")
+        passed.append(name)
+    return pass_over if wish.pass_over else leave_out
+
+
 def make_locked(path: str, items: Sequence[Input], wish: Wish, say: Say) -> bool:
     old = old_book(path, wish)
     gap = wish.gap or old or book_file.GAP
@@ -232,44 +244,41 @@ def make_locked(path: str, items: Sequence[Input], wish: Wish, say: Say) -> bool
     if wish.noted and not wish.anew and made == {key: before.get(key) for key in made}:
         return False
     passed: List[str] = []
-
-    def pass_over(name: str, why: str) -> None:
-        say(f"{name} is passed over: {why}")
-        passed.append(name)
-
-    def leave_out(name: str, why: str) -> None:
-        is_book = inputs.look_at(name).is_book
-        if is_book and (wish.anew or name in wish.named) or not wish.may_leave_out:
-            raise Fault(f"{name}: {why.removesuffix(': left out')}")
-        say(f"{name}: {why}")
-        passed.append(name)
-
-    items = usable(items, pass_over if wish.pass_over else leave_out)
+    pass_over = passer(wish, say, passed)
+    items = usable(items, pass_over)
     if wish.noted and not wish.anew:
         say_what_is_gone(path, before, items, say)
+    one_name.say_where_two_are(items, say)
     has = say_what_lacks_its_base(path, [] if wish.anew else before.get("has", []), items, say)
     with work_folder(path, wish, gap, items) as folder:
         plan = Plan(gap, folder, wish.piece, wish.most)
-        books = books_of(plan, items, wish, pass_over if wish.pass_over else leave_out)
+        books = books_of(plan, items, wish, pass_over)
         with widened(path, old, gap, folder) as own:
             books += own
-            if not books:
-                wish.left += [] if wish.pass_over else passed
-                return False
-            with atomic.writing(path) as new:
-                try:
-                    building.write_book(plan, books, new.file)
-                except Fault as fault:  # of a book that was given
-                    if fault.status != ExitStatus.INPUT or wish.pass_over or passed:
-                        raise
-                    new.file.seek(0)
-                    new.file.truncate()
-                    books = of_each(plan, items, wish, leave_out) + own
-                    building.write_book(plan, books, new.file)
+            is_known = wish.pass_over or passed  # each was looked at
+            is_new = bool(books) and write(path, plan, books, None if is_known else (
+                lambda: of_each(plan, items, wish, pass_over) + own))
     wish.left += [] if wish.pass_over else passed
-    if wish.noted and not passed:
-        remember(path, {**made, "has": has}, before, say)
-    say_what_is_large(path, say)
+    if books:
+        if wish.noted and not passed:
+            remember(path, {**made, "has": has}, before, say)
+        say_what_is_large(path, say)
+    return is_new
+
+
+def write(path: str, plan: Plan, books: Sequence[str],
+          again: Optional[Callable[[], List[str]]]) -> bool:
+    """Writes the book of books, or, where one that was given is faulty, of those that are made
+    again; whether the file became another."""
+    with atomic.writing(path) as new:
+        try:
+            building.write_book(plan, books, new.file)
+        except Fault as fault:
+            if fault.status != ExitStatus.INPUT or again is None:
+                raise
+            new.file.seek(0)
+            new.file.truncate()
+            building.write_book(plan, again(), new.file)
     return new.changed
 
 

@@ -8,7 +8,6 @@ import logging
 import subprocess
 import sys
 import threading
-import time
 from typing import Any, Callable, Dict, Iterator, Optional, Sequence, Set, Tuple
 
 from aprsbook_tools import progress
@@ -17,6 +16,7 @@ from aprsbook_tools.books.executors import Engine, Passed
 from aprsbook_tools.books.jobs import Job
 from aprsbook_tools.errors import ExitStatus, Fault
 from aprsbook_tools.system import atomic
+from aprsbook_tools.system.clock import CLOCK
 
 TRIES = 6  # of a job, before the run ends
 STRIKES = 2  # failed jobs of a worker, before others are asked
@@ -101,19 +101,19 @@ class Turn:
 
     def all_done(self) -> Iterator[int]:
         """The numbers of jobs as they are done; then the first fault is raised."""
-        lost = time.monotonic()
+        lost = CLOCK.seconds()
         while not self.is_over():
             try:
                 with self.cluster.connect() as client:
                     try:
                         yield from self.by_client(client)
                     finally:
-                        lost = time.monotonic()
+                        lost = CLOCK.seconds()
             except (OSError, self.cluster.dask.TimeoutError) as fault:
-                if not self.cluster.is_found or time.monotonic() - lost > self.cluster.patience:
+                if not self.cluster.is_found or CLOCK.seconds() - lost > self.cluster.patience:
                     raise Fault(f"{self.cluster.address}: no scheduler is there: {fault}",
                                 ExitStatus.MISSING) from fault
-                time.sleep(1)
+                CLOCK.wait(1)
         if self.faults:
             raise self.faults[min(self.faults)]
 
@@ -129,7 +129,7 @@ class Turn:
         """Has jobs done while the connection stands."""
         self.waiting = [it for it in range(len(self.todo)) if it not in self.done][::-1]
         self.running.clear()
-        manned = time.monotonic()
+        manned = CLOCK.seconds()
         while not self.is_over():
             if client.status != "running":
                 raise ConnectionError("the connection is lost")
@@ -137,12 +137,12 @@ class Turn:
             self.cluster.tell_of_none(workers)
             self.hand_out(client, workers)
             if any(not it.late for it in self.running.values()):
-                manned = time.monotonic()
+                manned = CLOCK.seconds()
             # those that are late may only be slow
-            elif time.monotonic() - manned > self.cluster.patience * (10 if workers else 1):
+            elif CLOCK.seconds() - manned > self.cluster.patience * (10 if workers else 1):
                 why = "no worker answers" if workers else "the scheduler has no workers"
                 raise Fault(f"{self.cluster.address}: {why}", ExitStatus.MISSING)
-            self.news.wait(1)
+            self.news.wait(CLOCK.real(1))
             self.news.clear()
             yield from self.collect()
             self.look_for_late(workers)
@@ -167,7 +167,7 @@ class Turn:
                 stdin=subprocess.DEVNULL, capture_output=True, pure=False, retries=0,
                 workers=[worker], allow_other_workers=False)
             future.add_done_callback(lambda _: self.news.set())
-            self.running[future] = Running(number, worker, time.monotonic())
+            self.running[future] = Running(number, worker, CLOCK.seconds())
 
     def collect(self) -> Iterator[int]:
         """Takes what has ended."""
@@ -195,7 +195,7 @@ class Turn:
 
     def note_time(self, it: Running) -> None:
         """How long a job took says how long others may take."""
-        took, size = time.monotonic() - it.since, self.sizes[it.number]
+        took, size = CLOCK.seconds() - it.since, self.sizes[it.number]
         if size < SMALL:
             self.cluster.longest = max(self.cluster.longest, took)
         elif not it.late:
@@ -231,7 +231,7 @@ class Turn:
                 del self.running[future]
                 if not is_over:
                     self.failed(it, "the worker is gone")
-            elif not it.late and time.monotonic() - it.since > self.most(it.number):
+            elif not it.late and CLOCK.seconds() - it.since > self.most(it.number):
                 it.late = True
                 self.cluster.strikes[it.worker] = STRIKES
                 self.waiting.append(it.number)

@@ -132,6 +132,9 @@ def put_right(log: bytes, ahead: Mapping[str, float]) -> bytes:
 def gather(folder: str, days: List[str]) -> Gathered:
     """The whole lines of the logs of these days. A last line without an end is being written today,
     and was torn on another day."""
+    if os.path.exists(folder) and not os.path.isdir(folder):
+        raise Fault(f"{folder} is no folder: give that of the logs, which has one for each day",
+                    ExitStatus.ARGUMENTS)
     found = logs_of(folder, days)
     result, parts, now = Gathered(), [], today()
     for day, path in found:

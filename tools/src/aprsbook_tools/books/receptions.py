@@ -8,7 +8,8 @@ import io
 from dataclasses import dataclass
 from typing import List, Sequence
 
-from aprsbook_tools.books import inputs
+from aprsbook_tools import stderr
+from aprsbook_tools.books import inputs, one_name
 from aprsbook_tools.books.net_logs import octets_of
 from aprsbook_tools.errors import Fault
 from aprsbook_tools.formats import book_file, log_file, moments
@@ -37,6 +38,7 @@ def logs_of(paths: Sequence[str]) -> List[str]:
             raise Fault(f"{it.path}: {it.fault}")
     if not found:
         raise Fault(f"no logs are in {' '.join(paths)}")
+    one_name.say_where_two_are(found, stderr.warn_once)
     return [it.path for it in found]
 
 

@@ -7,7 +7,7 @@ import tempfile
 from typing import IO, Callable, Dict, List, Sequence, Tuple
 
 from aprsbook_tools import arguments, stderr, table_output
-from aprsbook_tools.books import inputs, merged_inputs
+from aprsbook_tools.books import inputs, merged_inputs, one_name
 from aprsbook_tools.errors import ExitStatus, Fault, said
 from aprsbook_tools.formats import book_file, log_file
 from aprsbook_tools.reports import clock_offsets, table
@@ -80,6 +80,7 @@ def spans_of(paths: Sequence[str], step: int, within: Within = lambda _: True
         if it.is_book:
             raise Fault(f"{it.path}: a book has no longer what each receiver's clock said: give "
                         "the logs")
+    one_name.say_where_two_are(items, stderr.warn_once)
     with contextlib.ExitStack() as stack:
         try:
             folder = stack.enter_context(tempfile.TemporaryDirectory())

@@ -2,7 +2,6 @@
 import argparse
 import functools
 import os
-import time
 from typing import List
 
 from aprsbook_tools import arguments, stderr
@@ -10,6 +9,7 @@ from aprsbook_tools.books import inputs, merged_inputs, net_logs
 from aprsbook_tools.errors import ExitStatus, Fault, words_of
 from aprsbook_tools.page import basemap, options
 from aprsbook_tools.system import atomic
+from aprsbook_tools.system.clock import CLOCK
 
 DESCRIPTION = """Makes OUT/net.book and OUT/index.html of the logs of today and yesterday (UTC).
 These are LOGS/DAY/NAME.log such as `aprs-net log` writes, also compressed (.log.gz). Both stay as
@@ -81,4 +81,4 @@ def run(args: argparse.Namespace) -> int:
             make(args)
         except (Fault, OSError) as fault:  # the next turn may go well
             stderr.say(words_of(fault))
-        time.sleep(args.every)
+        CLOCK.wait(args.every)

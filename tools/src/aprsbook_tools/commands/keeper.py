@@ -1,4 +1,4 @@
-"""For the keeper of a digipeater: heard direct, hops, packets an hour, who repeats whom."""
+"""For the keeper of a digipeater: heard direct, hops, hours, who repeats whom, and who is late."""
 import argparse
 import json
 import re
@@ -8,7 +8,7 @@ from aprsbook_tools import arguments, table_output
 from aprsbook_tools.books import merged_inputs
 from aprsbook_tools.books.receptions import Reception, receptions_of
 from aprsbook_tools.errors import ExitStatus, Fault
-from aprsbook_tools.formats import log_file, moments
+from aprsbook_tools.formats import book_file, log_file, moments
 from aprsbook_tools.formats.spreadsheet import Cell
 from aprsbook_tools.geo import Spot
 from aprsbook_tools.reports import digipeater_stats
@@ -24,6 +24,7 @@ class Asked(NamedTuple):
     receptions: Sequence[Reception]
     roster: Roster
     at: Dict[str, Spot]
+    gap: int  # seconds
 
 
 def direct(it: Asked) -> List[List[Cell]]:
@@ -55,6 +56,13 @@ def repeats(it: Asked) -> List[List[Cell]]:
     return [[*of] for of in digipeater_stats.repeats_of(it.receptions)]
 
 
+def delays(it: Asked) -> List[List[Cell]]:
+    return [
+        [of.receiver, of.digipeater, of.late, of.frames, round(of.delay / 1000, 1)]
+        for of in digipeater_stats.delays_of(it.receptions, 1000 * it.gap)
+    ]
+
+
 def farthest(it: Asked) -> List[List[Cell]]:
     return [
         [
@@ -75,6 +83,7 @@ PARTS: Dict[str, Part] = {
     "hops": (["receiver", "hops", "frames"], hops),
     "hours": (["receiver", "hour", "frames", "direct"], hours),
     "repeats": (["digipeater", "from", "frames"], repeats),
+    "delays": (["receiver", "digipeater", "late", "frames", "seconds"], delays),
     "farthest": (["receiver", "call", "km", "degrees", "moment", "name"], farthest),
 }
 
@@ -82,9 +91,10 @@ PARTS: Dict[str, Part] = {
 DESCRIPTION = """\
 For the keeper of a digipeater, of logs: `direct` has the stations that each receiver heard itself;
 `hops` how many frames came over so many digipeaters; `hours` the frames of each hour (UTC);
-`repeats` who repeated whom, each frame once; `farthest` the farthest place of each that was heard
-direct. What a station passed on of others counts in `hours` alone. A book has one copy of each
-transmission, so logs are read."""
+`repeats` who repeated whom, each frame once; `delays` who repeated frames later than the gap, up to
+three times as late, so that a book has them twice and `passed` late moments; `farthest` the
+farthest place of each that was heard direct. What a station passed on of others counts in `hours`
+alone. A book has one copy of each transmission, so logs are read."""
 EXAMPLES = [
     ("all of yesterday's logs", "aprs-net keeper logs/2024-06-21"),
     ("the farthest stations of a digipeater that stands there",
@@ -158,7 +168,8 @@ def run(args: argparse.Namespace) -> int:
     arguments.check_range(args)
     with merged_inputs.spooled(args.inputs) as paths:
         receptions = [it for it in receptions_of(paths) if arguments.is_within(args, it.moment)]
-    asked = Asked(receptions, roster_of(args.roster), spots_of(args.at, receptions))
+    asked = Asked(receptions, roster_of(args.roster), spots_of(args.at, receptions),
+                  args.gap or book_file.GAP)
     if args.part:
         head, lines = PARTS[args.part]
         table_output.put_table(args, head, lines(asked))

@@ -1,17 +1,18 @@
 """aprs-net pcap: the frames of a log as a capture that Wireshark reads."""
 import argparse
 import struct
-from typing import IO, Iterator
+from typing import IO, Iterator, Sequence
 
 from aprsbook_tools import arguments
+from aprsbook_tools.books import receptions
 from aprsbook_tools.errors import Fault
 from aprsbook_tools.formats import kiss, log_file
 from aprsbook_tools.imports.files import AX25_KISS
 from aprsbook_tools.system import atomic, long_lines, streams
 
 DESCRIPTION = """\
-Writes the frames of a log, of those lines that hold one, as a capture of packets that Wireshark
-reads."""
+Writes the frames of logs, of those lines that hold one, as a capture of packets that Wireshark
+reads. Logs are put one after another."""
 EXAMPLES = [
     ("a log in Wireshark", "aprs-net pcap hill.log -o hill.pcap"),
     ("a book", "aprs-net import book net.book | aprs-net pcap -o net.pcap"),
@@ -20,12 +21,11 @@ EXAMPLES = [
 
 def add_arguments(parser: argparse.ArgumentParser) -> None:
     arguments.add_output(parser)
-    arguments.add_log(parser)
+    arguments.add_inputs(parser, "a log, or a folder of logs")
 
 
-def capture(file: IO[bytes], name: str) -> Iterator[bytes]:
-    """The capture: its head, and a record of each frame."""
-    yield struct.pack("<IHHIIII", 0xA1B2C3D4, 2, 4, 0, 0, 65535, AX25_KISS)
+def packets(file: IO[bytes], name: str) -> Iterator[bytes]:
+    """A record of each frame of a log."""
     for number, line in enumerate(long_lines.bounded(file), 1):
         read = log_file.read_whole(line)
         if read is None:
@@ -38,9 +38,20 @@ def capture(file: IO[bytes], name: str) -> Iterator[bytes]:
             yield struct.pack("<IIII", seconds, rest * 1000, len(octets), len(octets)) + octets
 
 
+def capture(paths: Sequence[str]) -> Iterator[bytes]:
+    """The capture of logs: its head, and a record of each frame."""
+    yield struct.pack("<IHHIIII", 0xA1B2C3D4, 2, 4, 0, 0, 65535, AX25_KISS)
+    for path in paths:
+        log = arguments.one_input(path)
+        with streams.opened(log) as file:
+            name = streams.name_of(log)
+            yield from streams.read_of(packets(file, name), name)
+
+
 def run(args: argparse.Namespace) -> int:
-    with streams.opened(args.log) as file:
-        name = streams.name_of(args.log)
-        lines = streams.read_of(capture(file, name), name)
-        streams.put(args.output, lines, atomic.all_of(args.log))
+    paths = ["-"]
+    if not arguments.is_standard_input(args.inputs):
+        named = [it for it in args.inputs if it != "-"]
+        paths = [*receptions.logs_of(named), *(["-"] if "-" in args.inputs else [])]
+    streams.put(args.output, capture(paths), atomic.all_of(args.inputs))
     return 0

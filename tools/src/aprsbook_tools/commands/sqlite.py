@@ -33,8 +33,8 @@ def run(args: argparse.Namespace) -> int:
     roster, gap = roster_of(args.roster), table_output.gap_of(args)
     with merged_inputs.book(args.inputs, gap) as book:
         tables = {
-            name: table.fields(kind, table.lines_of(kind, [book], gap), table.columns_of(kind),
-                               table_output.time_of(args))
+            name: table.columns(kind, table.lines_of(kind, [book], gap),
+                                table_output.time_of(args))
             for name, kind in databases.TABLES.items()
         }
         databases.write(args.database, tables, read, roster)

@@ -16,6 +16,7 @@ from aprsbook_tools.reports.alerts import Alert
 from aprsbook_tools.reports.roster import Roster, roster_of
 from aprsbook_tools.reports.table import Message, Row
 from aprsbook_tools.system import atomic
+from aprsbook_tools.system.clock import CLOCK
 
 PATIENCE = 60  # seconds that the user's command may take
 
@@ -210,4 +211,4 @@ def run(args: argparse.Namespace) -> int:
             raise
         except (Fault, OSError) as fault:  # the next turn may go well
             stderr.say(words_of(fault))
-        time.sleep(args.every)
+        CLOCK.wait(args.every)

@@ -8,12 +8,12 @@ import collections
 import errno
 import os
 import re
-import time
 from typing import Callable, Deque, Dict, NamedTuple, Optional, Set, Tuple
 
 from aprsbook_tools.errors import said
 from aprsbook_tools.formats import limits, moments
 from aprsbook_tools.system import disk
+from aprsbook_tools.system.clock import CLOCK
 
 try:
     import fcntl
@@ -154,13 +154,13 @@ def lock(path: str, file: int, say: Say) -> None:
     """Waits until no other program writes a log; a long wait is said."""
     if fcntl is None:
         return
-    end = time.monotonic() + LOCK
-    while time.monotonic() < end:
+    end = CLOCK.seconds() + LOCK
+    while CLOCK.seconds() < end:
         try:
             fcntl.flock(file, fcntl.LOCK_EX | fcntl.LOCK_NB)
             return
         except BlockingIOError:
-            time.sleep(0.01)
+            CLOCK.wait(0.01)
     say(f"{path}: another program holds its lock: frames wait")
     fcntl.flock(file, fcntl.LOCK_EX)
 
@@ -203,6 +203,7 @@ class Logs:
         self.unsynced: Dict[str, None] = {}  # logs, in the order of their first lines
         self.folders: Set[str] = set()  # with new names
         self.since = 0.0  # when the first of these was written
+        self.mount = disk.mount_of(folder)
         self.told = ("", 0)  # why frames are held, and how many hundreds
 
     def put(self, name: str, line: Line, kind: str = "log") -> None:
@@ -221,6 +222,7 @@ class Logs:
         try:
             while self.held:
                 path, line = self.held[0]
+                self.check_mount()
                 self.note(path, append(path, line, self.say, sync=not self.seconds))
                 self.held.popleft()
                 self.on_write(path)
@@ -232,6 +234,13 @@ class Logs:
             self.told = ("", 0)
         self.sync(self.seconds)
 
+    def check_mount(self) -> None:
+        """OSError where the disk of the logs, as a stick, was taken away: what is written below its
+        folder then lies on another disk, and is hidden once it is back."""
+        if not os.path.ismount(self.mount):
+            raise OSError(errno.ENODEV, "the disk isn't mounted any more", self.mount)
+        self.mount = disk.mount_of(self.folder)
+
     def tell(self, why: str) -> None:
         """Says that frames are held: once, and then by the hundred."""
         hundreds = (len(self.held) + self.lost) // 100
@@ -242,7 +251,7 @@ class Logs:
     def note(self, path: str, is_new: bool) -> None:
         """Remembers what isn't on the disk yet."""
         if not self.unsynced:
-            self.since = time.monotonic()
+            self.since = CLOCK.seconds()
         self.unsynced[path] = None
         if is_new:
             day = os.path.dirname(path)
@@ -251,11 +260,11 @@ class Logs:
     @property
     def due(self) -> Optional[float]:
         """In how many seconds what was written has to be on the disk; None where it is."""
-        return max(0.0, self.since + self.seconds - time.monotonic()) if self.unsynced else None
+        return max(0.0, self.since + self.seconds - CLOCK.seconds()) if self.unsynced else None
 
     def sync(self, seconds: float = 0.0) -> None:
         """Waits until what was written so many seconds ago is on the disk."""
-        if not self.unsynced or time.monotonic() < self.since + seconds:
+        if not self.unsynced or CLOCK.seconds() < self.since + seconds:
             return
         logs, folders = [*self.unsynced], sorted(self.folders)
         self.unsynced.clear()

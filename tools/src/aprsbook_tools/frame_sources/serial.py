@@ -36,7 +36,7 @@ class Serial(Source):
 
     def open_elsewhere(self) -> Input:
         try:
-            import serial  # type: ignore[import]
+            import serial  # type: ignore[import] # not needed on Linux, and without types
         except ImportError:
             raise Fault("a serial port needs pyserial here: python3 -m pip install pyserial",
                         ExitStatus.MISSING)

@@ -2,11 +2,11 @@
 a connection that ended after a while is made again at once."""
 import os
 import select
-import time
 from typing import Any, Callable, Optional, Tuple
 
 from aprsbook_tools import signals
 from aprsbook_tools.errors import said
+from aprsbook_tools.system.clock import CLOCK
 
 AGAIN = 5.0  # seconds from one try to the next
 LONG = 60.0  # seconds of a connection that went well
@@ -48,11 +48,12 @@ class Waiting:
         """Whether there is input before so many seconds are over."""
         if os.name == "nt" and file == 0:
             return True
-        return bool(self.during(lambda: select.select([file], [], [], seconds)[0]))
+        real = None if seconds is None else CLOCK.real(seconds)
+        return bool(self.during(lambda: select.select([file], [], [], real)[0]))
 
     def pause(self, seconds: float) -> None:
         if seconds > 0:
-            self.during(lambda: time.sleep(seconds))
+            self.during(lambda: CLOCK.wait(seconds))
 
 
 class Input:
@@ -102,7 +103,7 @@ def listen(source: Source, waiting: Waiting, take: Take, restart: Callable[[], N
     well, and why it ended."""
     last, pause = None, AGAIN
     while True:
-        begun = time.monotonic()
+        begun = CLOCK.seconds()
         restart()
         try:
             why = read_once(source, waiting, take, say)
@@ -117,7 +118,7 @@ def listen(source: Source, waiting: Waiting, take: Take, restart: Callable[[], N
         if why != last:
             last = why
             say(why)
-        lasted = time.monotonic() - begun
+        lasted = CLOCK.seconds() - begun
         pause = min(LONGEST, 2 * pause) if source.is_shared and lasted < LONG else AGAIN
         try:
             waiting.pause(pause - lasted)

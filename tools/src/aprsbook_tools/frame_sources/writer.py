@@ -2,11 +2,11 @@
 frames are read, and stamped with the moments at which they came."""
 import collections
 import threading
-import time
 from typing import Callable, Deque, Optional, Tuple
 
 from aprsbook_tools.formats.log_file import Line, Logs
 from aprsbook_tools.frame_sources.source import Ended, Waiting
+from aprsbook_tools.system.clock import CLOCK
 
 MOST = 10_000  # frames that wait to be written
 AGAIN = 1.0  # seconds between two tries to write what is held
@@ -26,7 +26,7 @@ class Writer(threading.Thread):
         self.logs, self.say = logs, say
         self.waiting: Deque[Waits] = collections.deque()
         self.changed = threading.Condition()
-        self.last = time.monotonic()
+        self.last = CLOCK.seconds()
         self.ending = False
         self.lost = 0
         self.status: Optional[int] = None
@@ -35,8 +35,8 @@ class Writer(threading.Thread):
         """Has a line written. A reader that is faster than the disk waits for it, but not for one
         that stands still: then the oldest line goes."""
         with self.changed:
-            while len(self.waiting) >= MOST and time.monotonic() - self.last < STUCK:
-                self.changed.wait(STUCK)
+            while len(self.waiting) >= MOST and CLOCK.seconds() - self.last < STUCK:
+                self.changed.wait(CLOCK.real(STUCK))
             if len(self.waiting) >= MOST:
                 self.waiting.popleft()
                 self.lost += 1
@@ -51,11 +51,12 @@ class Writer(threading.Thread):
         while True:
             with self.changed:
                 if not self.waiting and not self.ending:
-                    self.changed.wait(AGAIN if self.logs.held else self.logs.due)
+                    due = AGAIN if self.logs.held else self.logs.due
+                    self.changed.wait(None if due is None else CLOCK.real(due))
                 found = self.waiting.popleft() if self.waiting else None
                 if found is None and self.ending:
                     break
-                self.last = time.monotonic()
+                self.last = CLOCK.seconds()
                 self.changed.notify_all()
             self.write(found)
         self.logs.lost += self.lost
@@ -63,12 +64,12 @@ class Writer(threading.Thread):
 
     def write(self, found: Optional[Waits]) -> None:
         """Writes a line, or what is held."""
-        begun = time.monotonic()
+        begun = CLOCK.seconds()
         if found is None:
             self.logs.write()
         else:
             self.logs.put(*found)
-        took = time.monotonic() - begun
+        took = CLOCK.seconds() - begun
         if took > SLOW:
             self.say(f"a write took {took:.0f} seconds: frames have waited for it, and have the "
                      "moments at which they came")
@@ -79,10 +80,10 @@ class Writer(threading.Thread):
         with self.changed:
             self.ending = True
             self.changed.notify_all()
-        end = time.monotonic() + PATIENCE if waiting.asked else None
+        end = CLOCK.seconds() + PATIENCE if waiting.asked else None
         waiting.asked = False
         try:
-            while self.is_alive() and (end is None or time.monotonic() < end):
+            while self.is_alive() and (end is None or CLOCK.seconds() < end):
                 waiting.during(lambda: self.join(0.1))
         except Ended:
             if end is None:

@@ -7,7 +7,6 @@ import math
 import os
 import re
 import sqlite3
-import time
 from typing import Any, Callable, Dict, Iterator, List, NamedTuple, Optional, Sequence, Tuple
 
 from aprsbook_tools import arguments, stderr
@@ -17,6 +16,7 @@ from aprsbook_tools.geo import Spot
 from aprsbook_tools.page import event_page, gshhg
 from aprsbook_tools.page.coast_polygons import Box
 from aprsbook_tools.reports import table, tracks
+from aprsbook_tools.system.clock import CLOCK
 
 # as the page draws them
 MOST_LEVEL = 22
@@ -103,13 +103,13 @@ class Patience:
     tables may be views that have no end."""
 
     def __init__(self, database: sqlite3.Connection) -> None:
-        self.end = time.monotonic() + LONGEST
+        self.end = CLOCK.seconds() + LONGEST
         self.fault: Optional[BaseException] = None
         database.set_progress_handler(self.look, 100_000)
 
     def look(self) -> int:
         try:
-            return int(time.monotonic() > self.end)
+            return int(CLOCK.seconds() > self.end)
         except BaseException as fault:  # what a signal raises would be lost within the database
             self.fault = fault
             return 1
@@ -121,7 +121,7 @@ class Patience:
         except sqlite3.Error as fault:
             if self.fault is not None:
                 raise self.fault
-            if time.monotonic() > self.end:
+            if CLOCK.seconds() > self.end:
                 raise sqlite3.DataError(f"it takes more than {LONGEST} seconds") from fault
             raise
 

@@ -4,13 +4,13 @@ import dataclasses
 import os
 import sqlite3
 from typing import (
-    Any, Callable, Dict, Iterable, Iterator, List, Mapping, Optional, Sequence, Type,
+    Any, Callable, Dict, Iterable, Iterator, Mapping, Optional, Sequence, Tuple, Type,
     get_type_hints)
 
 from aprsbook_tools.errors import ExitStatus, Fault
 from aprsbook_tools.reports import table, table_files, tactical
 from aprsbook_tools.reports.roster import Roster
-from aprsbook_tools.reports.table import Message, Row, Station, Thing
+from aprsbook_tools.reports.table import Columns, Message, Row, Station, Thing
 from aprsbook_tools.system import atomic
 
 # the table's name for each kind of the book's table
@@ -70,25 +70,20 @@ def columns_of(kind: Type[Any]) -> Dict[str, str]:
     }
 
 
-def converter_of(name: str, of: str, read: Callable[[str], Any]) -> Callable[[str], Any]:
-    """What makes a value of a column of what is shown there, where that isn't empty."""
+def converter_of(name: str, read: Callable[[str], Any]) -> table_files.ConvertColumn:
+    """What makes the values of a column of what is shown there: what isn't known is null, or an
+    empty text."""
     if name in SENT:
-        return str
-    number = {"integer": int, "real": float}.get(of)
-    return number or table_files.remembered(table_files.then(read, table_files.cell_of))
+        return lambda values: [it or None for it in values]
+    empty = table_files.cell_of(read(""))
+    return table_files.converter(read, lambda cell: cell, empty, table_files.is_escaped)
 
 
-def values_of(kind: Type[Any], rows: Iterable[List[str]], count: int) -> Iterator[List[Any]]:
-    """Rows as the database takes them, with so many columns of names; what isn't known is null, or
-    an empty text."""
-    types, readers = columns_of(kind), table.readers_of(kind)
-    converters = [converter_of(name, of, readers[name]) for name, of in types.items()]
-    nulls = [at for at, name in enumerate(types) if name in SENT or readers[name]("") is None]
-    for row in table.converted(rows, [*converters, *[str] * count]):
-        for at in nulls:
-            if row[at] == "":
-                row[at] = None
-        yield row
+def values_of(kind: Type[Any], tables: Iterable[Columns], count: int) -> Iterator[Tuple[Any, ...]]:
+    """Rows as the database takes them, with so many columns of names."""
+    own = [converter_of(name, read) for name, read in table.readers_of(kind).items()]
+    for rows in table_files.converted(tables, [*own, *[converter_of("", str)] * count]):
+        yield from rows
 
 
 def check(path: str, inputs: Sequence[str]) -> str:
@@ -137,7 +132,7 @@ def drop(base: sqlite3.Connection, name: str) -> None:
         base.execute(f'drop {kind} "{name}"')
 
 
-def fill(base: sqlite3.Connection, name: str, rows: Iterable[List[str]], roster: Roster) -> None:
+def fill(base: sqlite3.Connection, name: str, tables: Iterable[Columns], roster: Roster) -> None:
     """Makes one table anew, with the columns of names that a roster brings."""
     kind = TABLES[name]
     columns, names = columns_of(kind), tactical.names_of(kind, roster)
@@ -146,18 +141,18 @@ def fill(base: sqlite3.Connection, name: str, rows: Iterable[List[str]], roster:
     base.execute(f"create table {name} ({', '.join(types)})")
     base.executemany(
         f"insert into {name} values ({', '.join('?' * len(types))})",
-        values_of(kind, tactical.named(kind, roster)(rows), len(names)))
+        values_of(kind, tactical.named(kind, roster, tables), len(names)))
 
 
-def write(path: str, tables: Mapping[str, Iterable[List[str]]], inputs: Sequence[str],
+def write(path: str, tables: Mapping[str, Iterable[Columns]], inputs: Sequence[str],
           roster: Roster) -> None:
-    """Puts the tables, whose rows are as the program shows them, in place of those that are there;
-    all else of the database stays."""
+    """Puts the tables, whose columns are as the program shows them, in place of those that are
+    there; all else of the database stays."""
     with writing(path, inputs) as base:
         for name in VIEWS:
             drop(base, name)
-        for name, rows in tables.items():
-            fill(base, name, rows, roster)
+        for name, columns in tables.items():
+            fill(base, name, columns, roster)
         for view in VIEWS.values():
             base.execute(view)
         for index in INDICES:

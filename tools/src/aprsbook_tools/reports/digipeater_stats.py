@@ -1,11 +1,14 @@
-"""What the keeper of a digipeater asks: who is heard direct, hops, hours, who repeats whom."""
+"""What the keeper of a digipeater asks: who is heard direct, hops, hours, who repeats whom, and who
+repeats late."""
 import re
 from collections import Counter, defaultdict
 from dataclasses import dataclass
+from statistics import median
 from typing import Dict, List, Optional, Sequence, Tuple
 
 from aprsbook_tools.books.receptions import Reception
 from aprsbook_tools.geo import Spot, bearing, metres_between
+from aprsbook_tools.reports.clock_offsets import transmission
 from aprsbook_tools.reports.tracks import place_of
 
 # what stands for any digipeater, and names none
@@ -67,6 +70,36 @@ def repeats_of(receptions: Sequence[Reception]) -> List[Tuple[str, str, int]]:
         for before, digipeater in zip(path, path[1:]):
             counts[digipeater, before][it.row.receiver] += 1
     return [(*key, max(of.values())) for key, of in sorted(counts.items())]
+
+
+@dataclass(frozen=True)
+class Delayed:
+    """A digipeater whose copies a receiver heard late: how many of all, and by how many
+    milliseconds in the median."""
+
+    receiver: str
+    digipeater: str
+    late: int
+    frames: int
+    delay: float
+
+
+def delays_of(receptions: Sequence[Reception], gap: int) -> List[Delayed]:
+    """Who repeated frames more than the gap, in milliseconds, after another copy, and at most three
+    times as long: a book has two transmissions of these, and checkpoints moments that are late."""
+    copies: Dict[Tuple[object, ...], Dict[str, int]] = defaultdict(dict)  # the last by each
+    frames: "Counter[Tuple[str, str]]" = Counter()
+    late: Dict[Tuple[str, str], List[int]] = defaultdict(list)
+    for it in filter(is_own, receptions):
+        by = [*digipeaters_of(it), ""][-1 if is_direct(it) else -2]
+        last = copies[(it.row.receiver, *transmission(it.row))]
+        before = max((moment for who, moment in last.items() if who != by), default=it.moment)
+        frames[it.row.receiver, by] += 1
+        # where it has repeated in between, this is a copy of what was sent again
+        if by and last.get(by, -1) < before and gap < it.moment - before <= 3 * gap:
+            late[it.row.receiver, by].append(it.moment - before)
+        last[by] = it.moment
+    return [Delayed(*key, len(of), frames[key], median(of)) for key, of in sorted(late.items())]
 
 
 def last_spots(receptions: Sequence[Reception]) -> Dict[str, Spot]:

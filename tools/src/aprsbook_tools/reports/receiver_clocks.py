@@ -6,7 +6,6 @@ more to go by, since it reads logs.
 """
 import collections
 import itertools
-import statistics
 from typing import (
     Counter, DefaultDict, Dict, Iterable, Iterator, List, NamedTuple, Optional, Sequence, Tuple)
 
@@ -30,27 +29,30 @@ class Pair(NamedTuple):
 
 
 class Pairs:
-    """What each two receivers heard, row by row in the order of a book."""
+    """What each two receivers heard, row by row in the order of a book. `together`, which whoever
+    reads the rows counts, is the rows of each list of receivers."""
 
     def __init__(self) -> None:
         self.apart: DefaultDict[Tuple[str, str], List[int]] = collections.defaultdict(list)
-        self.together: Counter[str] = collections.Counter()  # rows of each list of receivers
+        self.together: Counter[str] = collections.Counter()
 
-    def noted(self, rows: Iterable[List[str]], names: Sequence[str]) -> Iterator[List[str]]:
+    def noted(self, rows: Iterable[Tuple[str, ...]], names: Sequence[str]
+              ) -> Iterator[Tuple[str, ...]]:
         """The rows as they come, which have these columns."""
         first, receivers, source, destination, text = map(names.index, COLUMNS)
-        together, before = self.together, [""] * len(names)
         group: List[Tuple[str, str]] = []
+        before: Tuple[str, ...] = ("",) * len(names)
+        said = ""
         for row in rows:
-            together[row[receivers]] += 1
-            if row[text] != before[text] or row[source] != before[source] \
-                    or row[destination] != before[destination]:
-                if len(group) > 1:
-                    self.compare(group)
+            if row[text] == said and row[source] == before[source] \
+                    and row[destination] == before[destination]:
+                group = group or [(before[first], before[receivers])]
+                if len(group) <= MOST:
+                    group.append((row[first], row[receivers]))
+            elif group:
+                self.compare(group)
                 group = []
-            before = row
-            if len(group) <= MOST:
-                group.append((row[first], row[receivers]))
+            before, said = row, row[text]
             yield row
         self.compare(group)
 
@@ -93,7 +95,7 @@ class Pairs:
                 ahead[it.one].append(it.ahead)
             elif it.one in right and it.other not in right:
                 ahead[it.other].append(-it.ahead)
-        return {name: statistics.median(of) for name, of in sorted(ahead.items())}
+        return {name: sorted(of)[len(of) // 2] for name, of in sorted(ahead.items())}
 
 
 def median_of(values: Sequence[int], zeros: int) -> float:
@@ -105,20 +107,24 @@ def median_of(values: Sequence[int], zeros: int) -> float:
     return sorted(values)[middle if middle < below else middle - zeros]
 
 
-def moment_of(last: str, receivers: str, receiver: str, ahead: Dict[str, float]) -> str:
-    """When a row was heard by clocks that are right: its last moment, or, where wrong clocks alone
-    heard it, so much earlier or later as that of its receiver is wrong."""
-    if not ahead or any(it not in ahead for it in receivers.split(",")):
-        return last
-    moment = moments.milliseconds(last) - round(1000 * ahead[receiver])
+def moment_of(moment_: str, receivers: str, ahead: Dict[str, float]) -> str:
+    """A moment of a row by clocks that are right: where wrong ones alone heard it, it is so much
+    earlier or later as the least wrong of them is."""
+    if not ahead:
+        return moment_
+    seconds = min((ahead.get(it, 0) for it in receivers.split(",")), key=abs)
+    if not seconds:
+        return moment_
+    moment = moments.milliseconds(moment_) - round(1000 * seconds)
     return moments.text_of(min(max(0, moment), moments.END - 1))
 
 
 def of_book(book: str, gap: Optional[int]) -> Dict[str, float]:
     """The receivers of a book whose clocks are wrong, and by how much, which is said."""
     pairs = Pairs()
-    rows = table.fields(Row, table.lines_of(Row, [book], gap), COLUMNS)
-    collections.deque(pairs.noted(rows, COLUMNS), 0)
+    rows = table.tuples(Row, table.lines_of(Row, [book], gap), COLUMNS)
+    receivers = COLUMNS.index("receivers")
+    pairs.together.update(row[receivers] for row in pairs.noted(rows, COLUMNS))
     return told(pairs.wrong(gap or book_file.GAP))
 
 

@@ -2,6 +2,7 @@
 are passed over, and those that an older aprsbook-table lacks are empty."""
 import collections
 import dataclasses
+import itertools
 import operator
 import re
 import unicodedata
@@ -13,6 +14,7 @@ from aprsbook_tools.errors import Fault
 from aprsbook_tools.system import programs
 
 T = TypeVar("T")
+Columns = List[Sequence[Any]]  # the values of each column of some rows
 SHOWN = re.compile(r"((?:\\x[0-9a-f]{2})+)|\\\\")
 BIDI = frozenset("\u061c\u200e\u200f\u202a\u202b\u202c\u202d\u202e\u2066\u2067\u2068\u2069")
 
@@ -223,6 +225,7 @@ class Time(NamedTuple):
 
 
 ALWAYS = Time()
+BATCH = 500  # lines
 REST = "*"  # in place of a column's name: what stands behind all others that are read
 
 
@@ -249,28 +252,65 @@ def places_of(kind: Type[Any], names: Sequence[str], head: Sequence[str]) -> Lis
     return [head.index(it) if it in head else len(head) for it in names]
 
 
-def fields(kind: Type[Any], lines: Iterable[str], names: Sequence[str],
-           time: Time = ALWAYS) -> Iterator[List[str]]:
-    """These columns of the table's lines, as they are shown, of those of a time. REST, which may be
-    the last name, is all that stands behind the others."""
+class Layout:
+    """Where columns stand in the lines of a table, of which those of a time are wanted. REST, which
+    may be the last name, is all that stands behind the others."""
+
+    def __init__(self, kind: Type[Any], head: str, names: Sequence[str], time: Time) -> None:
+        self.kind, self.time, self.head = kind, time, head.split("\t")
+        self.at = places_of(kind, [it for it in names if it != REST], self.head)
+        self.times = places_of(kind, MOMENTS[kind], self.head) if time != ALWAYS else []
+        self.most = max([*self.at, *self.times]) + 1
+        self.lacks = len(self.head) in [*self.at, *self.times]
+        self.at += [self.most] if REST in names else []
+        # takes the columns out of a row; of one alone it would be no tuple
+        self.pick: Callable[[List[str]], Tuple[str, ...]] = operator.itemgetter(*self.at)
+        if len(self.at) == 1:
+            self.pick = lambda row: (row[self.at[0]],)
+
+    def rows(self, lines: Iterator[str]) -> Iterator[List[List[str]]]:
+        """The rows of the lines behind the first, many at once: so each costs least."""
+        number_ = 2
+        for batch in iter(lambda: [*itertools.islice(lines, BATCH)], []):
+            rows = [line.split("\t", self.most) for line in batch]
+            self.check(batch, rows, number_)
+            if self.lacks:
+                rows = [row + [""] for row in rows]
+            yield [row for row in rows if self.is_within(row)] if self.times else rows
+            number_ += len(batch)
+
+    def check(self, lines: Sequence[str], rows: Sequence[List[str]], number_: int) -> None:
+        """Refuses lines, of which the first has this number, without the columns that are read."""
+        size = min(self.most + 1, len(self.head))
+        if {*map(len, rows)} <= {size}:
+            return
+        at = next(at for at, row in enumerate(rows) if len(row) != size)
+        raise Fault(f"the table of {WORDS[self.kind]}: line {number_ + at} has "
+                    f"{lines[at].count(chr(9)) + 1} fields, and {len(self.head)} columns are named")
+
+    def is_within(self, row: Sequence[str]) -> bool:
+        """Whether a row is of the time."""
+        return any(self.time.since <= row[it] < self.time.until for it in self.times if row[it])
+
+
+def tuples(kind: Type[Any], lines: Iterable[str], names: Sequence[str],
+           time: Time = ALWAYS) -> Iterator[Tuple[str, ...]]:
+    """These columns of the table's lines, as they are shown, of those of a time."""
     lines = iter(lines)
-    head = next(lines, "").split("\t")
-    at = places_of(kind, [it for it in names if it != REST], head)
-    times = places_of(kind, MOMENTS[kind], head) if time != ALWAYS else []
-    most, tabs = max([*at, *times]) + 1, len(head) - 1
-    at += [most] if REST in names else []
-    lacks, is_whole = len(head) in [*at, *times], at == [*range(len(head))]
-    pick = operator.itemgetter(*at, at[0])  # of one column alone it would be no tuple
-    for number_, line in enumerate(lines, 2):
-        if line.count("\t") != tabs:
-            raise Fault(f"the table of {WORDS[kind]}: line {number_} has {line.count(chr(9)) + 1} "
-                        f"fields, and {tabs + 1} columns are named")
-        shown = line.split("\t", most)
-        if times and not any(time.since <= shown[it] < time.until for it in times if shown[it]):
-            continue
-        if lacks:
-            shown += [""]
-        yield shown if is_whole else list(pick(shown)[:-1])
+    layout = Layout(kind, next(lines, ""), names, time)
+    for rows in layout.rows(lines):
+        yield from map(layout.pick, rows)
+
+
+def columns(kind: Type[Any], lines: Iterable[str], time: Time = ALWAYS) -> Iterator[Columns]:
+    """All columns of the table's lines, as they are shown, of those of a time: of many lines at
+    once."""
+    lines = iter(lines)
+    layout = Layout(kind, next(lines, ""), columns_of(kind), time)
+    for rows in layout.rows(lines):
+        if rows:
+            turned = [*zip(*rows)]
+            yield [turned[it] for it in layout.at]
 
 
 def read(kind: Type[T], lines: Iterable[str], names: Sequence[str] = (),
@@ -283,8 +323,8 @@ def read(kind: Type[T], lines: Iterable[str], names: Sequence[str] = (),
     readers = [*enumerate(map(readers_of(kind).__getitem__, names))]
     texts = [at for at, reads in readers if reads is text_of]
     others = [(at, reads) for at, reads in readers if reads is not text_of]
-    for values in fields(kind, lines, names, time):
-        row: List[Any] = values
+    for values in tuples(kind, lines, names, time):
+        row: List[Any] = [*values]
         for at in texts:
             if "\\" in row[at]:
                 row[at] = text_of(row[at])
@@ -294,17 +334,6 @@ def read(kind: Type[T], lines: Iterable[str], names: Sequence[str] = (),
         except ValueError as fault:
             raise Fault(f"the table of {WORDS[kind]}: {fault}") from fault
         yield make(row)
-
-
-def converted(rows: Iterable[List[str]], converters: Sequence[Callable[[str], Any]]
-              ) -> Iterator[List[Any]]:
-    """Rows as they are shown, in which each field that isn't empty is converted."""
-    for row in rows:
-        values: List[Any] = row
-        for at, shown in enumerate(row):
-            if shown:
-                values[at] = converters[at](shown)
-        yield values
 
 
 def lines_of(kind: Type[Any], inputs: Sequence[str], gap: Optional[int] = None,

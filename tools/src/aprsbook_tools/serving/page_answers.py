@@ -170,6 +170,7 @@ class TileArchive(FileAnswer):
 
 
 def close(answer: tornado.web.RequestHandler) -> None:
+    # a request of a server has a connection, which Tornado's types leave out
     answer.request.connection.stream.close()  # type: ignore[union-attr]
 
 

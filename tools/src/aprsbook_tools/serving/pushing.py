@@ -15,6 +15,7 @@ from aprsbook_tools.errors import Fault
 from aprsbook_tools.formats import log_file
 from aprsbook_tools.serving import judging, signing
 from aprsbook_tools.serving.states import EMPTY, State, state_in
+from aprsbook_tools.system.clock import CLOCK
 
 BATCH = 1 << 19  # bytes of lines that are sent at once
 PIECE = 1 << 20  # bytes that are read at once
@@ -331,14 +332,14 @@ def push_on(pusher: Pusher, each: float, say: Say) -> None:
             if is_away:
                 say("the server is there again")
             waits, is_away = pauses(), False
-            time.sleep(each)
+            CLOCK.wait(each)
         except (Away, Fault, OSError) as fault:
             if not is_away:
                 words = fault.words if isinstance(fault, Fault) else str(fault)
                 say(f"{words}; it is tried again")
             is_away = True
             pusher.forget()
-            time.sleep(next(waits))
+            CLOCK.wait(next(waits))
 
 
 def push_beside(pusher: Pusher, each: float, say: Say) -> threading.Thread:

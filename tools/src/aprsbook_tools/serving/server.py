@@ -21,7 +21,8 @@ IDLE = 60  # seconds of a connection without a request, or until one's head is t
 BODY_TIME = 20  # seconds for a body
 # what a proxy hands on as a client wrote it: who asks is the last one in X-Forwarded-For
 FORGED = ("X-Real-Ip", "X-Scheme")
-STRANGERS = 16 << 20  # bytes of bodies at a time, of all who have shown no token
+STRANGERS = 16 << 20  # bytes of bodies at a time, of all who have shown no token,
+SMALL = 1 << 16  # but for bodies of so many bytes, such as a desk's
 LOOPBACK = ["127.0.0.1", "::1"]
 REFUSAL = b"HTTP/1.1 %s\r\nConnection: close\r\nContent-Length: 0\r\n\r\n"
 
@@ -32,7 +33,7 @@ class Server(tornado.httpserver.HTTPServer):
     """Holds so many connections at most, of all and of an address. For one more, the oldest that
     has shown no token goes, and where each has, the new one."""
 
-    def initialize(  # type: ignore[override]
+    def initialize(  # type: ignore[override] # as Tornado has it made, with more words
             self, *args: Any, most: int, each: int, **named: Any) -> None:
         super().initialize(*args, **named)
         self.most, self.each = most, each
@@ -61,9 +62,9 @@ class Server(tornado.httpserver.HTTPServer):
         self.strangers.pop(connection.stream, None)
 
     def admits(self, stream: Stream, size: int) -> bool:
-        """Whether there is room for a body of so many bytes; of a stranger it takes some until
-        `had` says that it is here."""
-        if not size or stream not in self.strangers:
+        """Whether there is room for a body of so many bytes, which a stranger's takes until `had`
+        says that it is here."""
+        if size <= SMALL or stream not in self.strangers:
             return True
         if sum(self.bodies.values()) + size > STRANGERS:
             return False

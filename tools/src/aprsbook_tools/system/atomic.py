@@ -30,6 +30,7 @@ except ImportError:  # not on Windows
 
 SUFFIX = ".aprs-net-new"
 WORK = ".aprs-net-work"  # with which the name of a folder ends that goes away
+LOCK = "lock"  # a file in it, which is locked while it is in use
 DAY = 86_400  # seconds
 ASKING = threading.Lock()
 
@@ -103,19 +104,58 @@ def is_log(path: str) -> bool:
 
 
 def remove_leftovers(folder: str, name: str = "") -> None:
-    """Takes away what runs that were killed have left of a file, or of all of a folder, after a
-    day: files, and folders with what is in them."""
+    """Takes away what runs that were killed have left of a file, or of all of a folder: folders
+    that nobody uses at once, and others, and files, after a day."""
     of = re.escape(name) if name else ".+"
     form = re.compile(rf"\.{of}\.[a-z0-9_]{{8}}({re.escape(SUFFIX)}|{re.escape(WORK)})", re.DOTALL)
     with contextlib.suppress(OSError):
         for it in os.scandir(folder):
             found = form.fullmatch(it.name)
-            if not found or time.time() - it.stat(follow_symlinks=False).st_mtime <= DAY:
+            if not found:
                 continue
+            is_old = time.time() - it.stat(follow_symlinks=False).st_mtime > DAY
             if it.is_dir(follow_symlinks=False):
-                shutil.rmtree(it.path, ignore_errors=True)
-            elif found[1] == SUFFIX:
+                if is_old or is_left(it.path):
+                    shutil.rmtree(it.path, ignore_errors=True)
+            elif is_old and found[1] == SUFFIX:
                 os.unlink(it.path)
+
+
+def is_left(folder: str) -> bool:
+    """Whether a work folder is one that whoever made it has left."""
+    if fcntl is None:
+        return False
+    try:
+        file = disk.open_own(os.path.join(folder, LOCK), os.O_RDWR)
+    except OSError:
+        return False
+    try:
+        fcntl.flock(file, fcntl.LOCK_EX | fcntl.LOCK_NB)
+    except OSError:
+        return False
+    finally:
+        os.close(file)
+    return True
+
+
+@contextlib.contextmanager
+def work_folder(real: str) -> Iterator[str]:
+    """A folder beside a file that goes away; if this run is killed, at the next one."""
+    folder, name = os.path.split(real)
+    remove_leftovers(folder, name)
+    work, file = tempfile.mkdtemp(WORK, f".{name}.", folder), -1
+    try:
+        if fcntl is not None:
+            # it gets its name once it is locked: nobody takes the folder before
+            unlocked = os.path.join(work, f".{LOCK}")
+            file = os.open(unlocked, os.O_RDWR | os.O_CREAT | os.O_EXCL, 0o600)
+            fcntl.flock(file, fcntl.LOCK_EX)
+            os.rename(unlocked, os.path.join(work, LOCK))
+        yield work
+    finally:
+        shutil.rmtree(work, ignore_errors=True)
+        if file >= 0:
+            os.close(file)
 
 
 def mode_of_new(mode: int) -> int:
@@ -150,7 +190,7 @@ def writing(path: str, given: Sequence[str] = (), is_named: bool = True) -> Iter
     new = None
     try:
         number, new = tempfile.mkstemp(SUFFIX, f".{name}.", folder)
-        with open(number, "wb") as file:
+        with open(new, "wb", opener=lambda _, flags: number) as file:
             result = Writing(file, new)
             yield result
             file.flush()

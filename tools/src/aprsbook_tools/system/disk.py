@@ -37,3 +37,23 @@ def sync_folder(folder: str) -> None:
             os.fsync(file)
         finally:
             os.close(file)
+
+
+def mount_of(path: str) -> str:
+    """The folder at which the disk is mounted that has a path, which needn't be there yet."""
+    at = os.path.realpath(path)
+    while not os.path.ismount(at) and os.path.dirname(at) != at:
+        at = os.path.dirname(at)
+    return at
+
+
+FEW = 1 << 16  # bytes: a disk with less room is full
+
+
+def room_words(folder: str) -> str:
+    """What is said of a folder where nothing more can be written, if its disk is full."""
+    with contextlib.suppress(OSError, AttributeError):
+        status = os.statvfs(folder)
+        if status.f_bavail * status.f_frsize < FEW:
+            return ": no room is left there"
+    return ""

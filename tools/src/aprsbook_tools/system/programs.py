@@ -1,5 +1,6 @@
 """Runs aprsbook, aprsbook-table and aprsbook-fold. Where one fails, its complaint and its status
 are those of the Fault."""
+import itertools
 import os
 import re
 import shutil
@@ -10,6 +11,7 @@ from typing import IO, Iterator, List, Optional, Sequence, Set, Tuple, Union
 
 from aprsbook_tools import stderr
 from aprsbook_tools.errors import ExitStatus, Fault
+from aprsbook_tools.system import disk
 
 Given = Union[bytes, IO[bytes], None]  # None: standard input as it is
 RUNNING: Set["subprocess.Popen[bytes]"] = set()  # what threads have started
@@ -110,8 +112,16 @@ def run(*command: str, given: Given = b"", into: Optional[IO[bytes]] = None) -> 
         finally:
             RUNNING.discard(process)
     if process.returncode:
-        raise fault_of(command, process.returncode, complaint)
+        fault = fault_of(command, process.returncode, complaint)
+        if into is not None and fault.words == "cannot write":
+            fault.words = f"cannot write in {folder_of(into)}{disk.room_words(folder_of(into))}"
+        raise fault
     return written or b""
+
+
+def folder_of(file: IO[bytes]) -> str:
+    """The folder of a file that is written, or the one for temporary files."""
+    return os.path.dirname(file.name) if isinstance(file.name, str) else tempfile.gettempdir()
 
 
 def write_book(into: IO[bytes], *command: str, given: Given = b"") -> None:
@@ -123,19 +133,24 @@ def write_book(into: IO[bytes], *command: str, given: Given = b"") -> None:
         raise Fault("wrote nothing, which no book is", ExitStatus.OUTPUT, program)
 
 
-def lines_in(file: IO[bytes]) -> Iterator[str]:
-    """The lines of what is read, in blocks, each without its end."""
+def lines_in(file: IO[bytes]) -> Iterator[List[str]]:
+    """The lines of what is read, each without its end, many at once."""
     rest = ""
     for block in iter(lambda: file.read(BLOCK), b""):
         *found, rest = (rest + block.decode("ascii", "backslashreplace")).split("\n")
-        yield from found
+        yield found
     if rest:
-        yield rest
+        yield [rest]
 
 
 def lines(*command: str, given: Given = None) -> Iterator[str]:
     """The lines that a program writes, as they come, each without its end. The Fault comes after
     the last: write nothing before all have been read."""
+    return itertools.chain.from_iterable(blocks(*command, given=given))
+
+
+def blocks(*command: str, given: Given = None) -> Iterator[List[str]]:
+    """The same, many lines at once."""
     open_many_files()
     path = find(command[0])
     stderr.detail(f"runs {' '.join(command)}")
