@@ -1,6 +1,6 @@
 #!/usr/bin/env python3
-"""Tries that a range of a book file is found by bisection: a fold of one writes exactly the rows of the range, and reads
-but a few of the file's lines, whatever these are like. No clause of a contract says how much is read.
+"""Tries that a range of a book file is found by bisection: a fold of one writes exactly the rows of the range, and
+reads but a few of the file's lines, whatever these are like. No clause of a contract says how much is read.
 
 usage: range.py PROGRAM [FOLDER]   PROGRAM is aprsbook-fold; with a FOLDER a book of more than 4 GiB is made there too
 """
@@ -74,7 +74,8 @@ def folded(program: str, path: str, words: List[str]) -> Tuple[str, int]:
 def ranges(rows: int) -> Iterable[Tuple[int, int]]:
     """From which source until which: the first and the last, those between, one and none, and past both ends."""
     middle = rows // 3
-    yield from {(0, 1), (0, rows), (middle, middle + 1), (middle, middle), (rows - 1, rows), (rows, rows + 5), (middle, rows)}
+    yield from {(0, 1), (0, rows), (middle, middle + 1), (middle, middle), (middle, rows)}
+    yield from ((rows - 1, rows), (rows, rows + 5))
 
 
 def words_of(start: int, end: int, rows: int) -> List[str]:
