@@ -195,7 +195,7 @@ def test_a_clock_that_is_wrong_is_told(net: Served) -> None:
     # a clock that was never set: the lines that are heard now are of another day
     for _ in range(2):
         net.push(line(1, "COAST", "1970-01-01"), name="COAST", day="1970-01-01", Aprs_Clock="5000")
-    listener.listen(lambda: listener.told["sites"]["COAST"]["day"] == "1970-01-01")
+    listener.listen(lambda: listener.told["sites"].get("COAST", {}).get("day") == "1970-01-01")
     assert "COAST has lines of 1970-01-01, which is today by its clock" in net.said
     # a day that was missed is none of this
     net.push(line(1, day="2020-01-01"), day="2020-01-01", Aprs_Clock=str(int(1000 * time.time())))
