@@ -27,9 +27,9 @@ class Limit(NamedTuple):
 
 
 LIMITS: Dict[str, Limit] = {
-    "standard_gap": Limit("aprs_laws/specs/Gap", "STANDARD_GAP",
+    "standard_gap": Limit("aprs_transmissions/specs/Gap", "STANDARD_GAP",
                           "seconds between neighbours of a transmission, if nothing says another"),
-    "greatest_gap": Limit("aprs_laws/specs/Gap", "GREATEST_GAP", "seconds of the widest gap"),
+    "greatest_gap": Limit("aprs_transmissions/specs/Gap", "GREATEST_GAP", "seconds of the widest gap"),
     "most_line": Limit("aprs_log/specs/Sizes", "MOST_LINE", "bytes of a log's line before its end"),
     "most_name": Limit("aprs_log/specs/Sizes", "MOST_NAME", "letters of a receiver's name"),
     "last_milli": Limit("aprs_log/specs/Sizes", "LAST_MILLISECOND",

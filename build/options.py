@@ -3,7 +3,7 @@
 
 usage: build/options.py            writes them
        build/options.py --check    says which of them are others, and where the table isn't what
-                                   crates/aprs_command/src has
+                                   crates/aprs_arguments/src has
 
 The table is completions/programs.txt. For a program NAME it writes completions/NAME.bash, _NAME and
 NAME.fish, and in man/NAME.1 what stands between a line `.\\" made: PART` and a line `.\\" end`, or
@@ -439,14 +439,14 @@ def in_sources(program: Program) -> Tuple[Set[str], Set[str]]:
     """The words and the options that the sources have of a program."""
     words: Set[str] = set()
     options: Set[str] = set()
-    for path in glob.glob("crates/aprs_command/src/*.rt"):
+    for path in glob.glob("crates/aprs_arguments/src/*.rt"):
         text = read(path)
         if f'Command::new(alloc, "{program.name}")' in text:
             words |= set(re.findall(r'[cC]ommand(?:::new)?\(\s*alloc,\s*"([\w-]+)"', text))
             words |= set(re.findall(r'PossibleValue::new\("([\w-]+)"\)', text))
             words |= {"help"} if ".subcommand(" in text else set()
             if "Table::named(" in text:
-                tables = read("crates/aprs_command/src/jobs.rt")
+                tables = read("crates/aprs_arguments/src/jobs.rt")
                 words |= set(re.findall(r'if name == b"([a-z]+)"', tables))
             options |= {f"--{it}" for it in re.findall(r'option_arg\(\s*alloc,\s*"([\w-]+)"', text)}
             options |= {f"--{it}" for it in re.findall(r'\.long\("(\w+)"\)', text)}

@@ -31,10 +31,10 @@ class Limit(NamedTuple):
 
 
 LIMITS = (
-    Limit("the widest gap", "crates/aprs_laws/src/gap.rt", "GREATEST",
+    Limit("the widest gap", "crates/aprs_transmissions/src/gap.rt", "GREATEST",
           r"\b1 to ([\d,]+)(?: whole)? seconds|\bgap\b[^.|\n]{0,30}\b1 to ([\d,]+)|"
           r"copies are one, 1 to ([\d,]+)"),
-    Limit("the widest gap of an option", "crates/aprs_command/src/arguments.rt", "GREATEST_GAP",
+    Limit("the widest gap of an option", "crates/aprs_arguments/src/arguments.rt", "GREATEST_GAP",
           r"\b1 to ([\d,]+)(?: whole)? seconds"),
     Limit("a receiver's name", "crates/aprs_log/src/receiver.rt", "MAX_NAME",
           r"\b1 to (\d+) letters"),

@@ -32,11 +32,11 @@ for page in man/*.1; do
     is "$page" "${newest#*, } \"aprsbook $version\"" \
         "$(sed -n 's/^\.TH [^ ]* 1 \(.*"aprsbook [^"]*"\).*/\1/p' "$page")"
 done
-grep -n '"--version"\].*"[a-z-]* [0-9.]*"' crates/aprs_text_tests/src/words.rt > /dev/null ||
-    is crates/aprs_text_tests/src/words.rt "aprsbook $version" nothing
-sed -n 's/.*"--version"\].*\["[a-z-]* \([0-9.]*\)".*/\1/p' crates/aprs_text_tests/src/words.rt |
+grep -n '"--version"\].*"[a-z-]* [0-9.]*"' crates/aprs_tests/src/words.rt > /dev/null ||
+    is crates/aprs_tests/src/words.rt "aprsbook $version" nothing
+sed -n 's/.*"--version"\].*\["[a-z-]* \([0-9.]*\)".*/\1/p' crates/aprs_tests/src/words.rt |
     while read -r tested; do
-        is crates/aprs_text_tests/src/words.rt "$version" "$tested"
+        is crates/aprs_tests/src/words.rt "$version" "$tested"
         [ $failed = 0 ]
     done || failed=1
 [ $failed = 0 ] && echo "the version is $version everywhere"

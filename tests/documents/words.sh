@@ -24,7 +24,7 @@ fail() {
 calls() { build/rattle_text.py --calls "crates/$1" "$2"; }
 arms() { build/rattle_text.py --arms "crates/$1" "$2"; }
 # clap adds help to the commands, and help and the version to the options
-arguments=aprs_command/src/arguments.rt
+arguments=aprs_arguments/src/arguments.rt
 {
     calls $arguments '\w*[cC]ommand(?:::new)?' | sed '/^aprsbook$/d'
     echo help
@@ -47,17 +47,17 @@ arms aprs_bookfile/src/fault.rt 'impl BookCause {' | sed '/^Memory$/d' \
 {
     echo 0
     sed -n 's/^\(pub \)*const [A-Z_]*: u8 = \([0-9]*\);/\2/p' \
-        crates/aprs_program/src/complaint.rt
+        crates/aprs_host/src/complaint.rt
 } > "$scratch/program/statuses"
 # the words of a complaint, as their definition has them, but for those that clap would say too
 awk '/^words_of / && !/UTF-8/ && match($0, /codes ".*"$/) {
     print "aprsbook: " ($0 ~ /\.now/ ? "PLACE" : "") substr($0, RSTART + 7, RLENGTH - 8)
-}' crates/aprs_program/specs/Complaint.antt > "$scratch/program/messages"
+}' crates/aprs_host/specs/Complaint.antt > "$scratch/program/messages"
 echo 'aprsbook: PLACE: line N: CAUSE' >> "$scratch/program/messages"
 # those of the program of histories, which has no capture and widens nothing
 calls aprs_listing/src/history.rt 'put_[a-z]*_line' > "$scratch/program/history_lines"
 # the tables, and the columns as their definition has them
-sed -n 's/.*if name == b"\([a-z]*\)".*/\1/p' crates/aprs_command/src/jobs.rt \
+sed -n 's/.*if name == b"\([a-z]*\)".*/\1/p' crates/aprs_arguments/src/jobs.rt \
     > "$scratch/program/tables"
 # columns FILE NAME: those of a definition
 columns() {

@@ -40,18 +40,18 @@ MAKERS = {
     "aprs_runs/src/widen.rt": 1,
     "aprs_web/src/written.rt": 4,
     # the same for clap's want of memory, and for that of an opening
-    "aprs_command/src/arguments.rt": 1,
-    "aprs_command/src/jobs.rt": 1,
-    "aprs_program/src/complaint.rt": 5,
-    "aprs_program/src/host.rt": 5,
-    "aprs_program/src/news.rt": 5,
-    "aprs_program/src/opening.rt": 4,
-    "aprs_program/src/texts.rt": 1,
+    "aprs_arguments/src/arguments.rt": 1,
+    "aprs_arguments/src/jobs.rt": 1,
+    "aprs_host/src/complaint.rt": 5,
+    "aprs_host/src/host.rt": 5,
+    "aprs_host/src/news.rt": 5,
+    "aprs_host/src/opening.rt": 4,
+    "aprs_host/src/texts.rt": 1,
 }
 # how often each source names what an allocation answers
 NAMERS = {
     "aprs_rows/src/memory.rt": 1,
-    "aprs_command/src/jobs.rt": 1,
+    "aprs_arguments/src/jobs.rt": 1,
     # the allocator of the library for C, where its region is full
     "aprs_arena/src/arena.rt": 1,
 }

@@ -1,34 +1,34 @@
 -- What this crate's proofs cite of the crates below.
 pub use Rattle.aprs_ax25.specs.Callsign.{call_cmp}
-pub use Rattle.aprs_laws.proofs.Books.{one_book}
-pub use Rattle.aprs_laws.proofs.Inserts.{fits_by_test, inserted_is_book, inserted_is_sound}
-pub use Rattle.aprs_laws.proofs.Joins.{gap_laws, one_value, some_millis}
-pub use Rattle.aprs_laws.proofs.Known.{plain_known}
-pub use Rattle.aprs_laws.proofs.Lists.{in_right, ordered_weaker}
-pub use Rattle.aprs_laws.proofs.Orders.{bytes_exact, key_total}
-pub use Rattle.aprs_laws.proofs.Pushes.{IsSound, empty_or_last, one_relation, sound_prefix}
-pub use Rattle.aprs_laws.proofs.Rows.{IsBefore, before_trans, place_means, the_greater}
-pub use Rattle.aprs_laws.proofs.RunRows.{book_of_nothing, union_is_joined}
-pub use Rattle.aprs_laws.proofs.Soundness.{sound, witnessed}
-pub use Rattle.aprs_laws.proofs.Together.{together}
-pub use Rattle.aprs_laws.proofs.Views.{joined_by_merge}
-pub use Rattle.aprs_laws.proofs.Widening.{keeps_under_own_gap, widens_book, widens_witnesses}
-pub use Rattle.aprs_laws.specs.Best.{known_after, known_of}
-pub use Rattle.aprs_laws.specs.Book.{BookOf}
-pub use Rattle.aprs_laws.specs.BookValue.{AreJoined, BookValue, HaveOneGap, Holds, IsSoundBook, widened_to}
-pub use Rattle.aprs_laws.specs.Coalescing.{AreInOrder}
-pub use Rattle.aprs_laws.specs.Gap.{millis_of}
-pub use Rattle.aprs_laws.specs.Inserted.{FitsInPlace, bridge_row, compare_near_to, grow_row, has_place_for, insert_heard, is_listed, is_near_first}
-pub use Rattle.aprs_laws.specs.JoinRow.{IsNear, combine, merge, single}
-pub use Rattle.aprs_laws.specs.Joining.{Joined}
-pub use Rattle.aprs_laws.specs.Key.{key_cmp}
-pub use Rattle.aprs_laws.specs.Lists.{Ordered, ◌∈◌}
-pub use Rattle.aprs_laws.specs.Order.{IsBelow, IsUpTo}
-pub use Rattle.aprs_laws.specs.Row.{Row, last_moment, row_cmp, row_key}
-pub use Rattle.aprs_laws.specs.Sound.{AreSoundRows, FollowsFar, IsFar, IsSoundRow, Sound}
-pub use Rattle.aprs_laws.specs.Widening.{widened_rows}
-pub use Rattle.aprs_laws.specs.Witnesses.{witnesses}
-pub use Rattle.aprs_laws.specs.declared.row_cause.RowCause.{RowCause}
+pub use Rattle.aprs_transmissions.proofs.Books.{one_book}
+pub use Rattle.aprs_transmissions.proofs.Inserts.{fits_by_test, inserted_is_book, inserted_is_sound}
+pub use Rattle.aprs_transmissions.proofs.Joins.{gap_laws, one_value, some_millis}
+pub use Rattle.aprs_transmissions.proofs.Known.{plain_known}
+pub use Rattle.aprs_transmissions.proofs.Lists.{in_right, ordered_weaker}
+pub use Rattle.aprs_transmissions.proofs.Orders.{bytes_exact, key_total}
+pub use Rattle.aprs_transmissions.proofs.Pushes.{IsSound, empty_or_last, one_relation, sound_prefix}
+pub use Rattle.aprs_transmissions.proofs.Rows.{IsBefore, before_trans, place_means, the_greater}
+pub use Rattle.aprs_transmissions.proofs.RunRows.{book_of_nothing, union_is_joined}
+pub use Rattle.aprs_transmissions.proofs.Soundness.{sound, witnessed}
+pub use Rattle.aprs_transmissions.proofs.Together.{together}
+pub use Rattle.aprs_transmissions.proofs.Views.{joined_by_merge}
+pub use Rattle.aprs_transmissions.proofs.Widening.{keeps_under_own_gap, widens_book, widens_witnesses}
+pub use Rattle.aprs_transmissions.specs.Best.{known_after, known_of}
+pub use Rattle.aprs_transmissions.specs.Book.{BookOf}
+pub use Rattle.aprs_transmissions.specs.BookValue.{AreJoined, BookValue, HaveOneGap, Holds, IsSoundBook, widened_to}
+pub use Rattle.aprs_transmissions.specs.Coalescing.{AreInOrder}
+pub use Rattle.aprs_transmissions.specs.Gap.{millis_of}
+pub use Rattle.aprs_transmissions.specs.Inserted.{FitsInPlace, bridge_row, compare_near_to, grow_row, has_place_for, insert_heard, is_listed, is_near_first}
+pub use Rattle.aprs_transmissions.specs.JoinRow.{IsNear, combine, merge, single}
+pub use Rattle.aprs_transmissions.specs.Joining.{Joined}
+pub use Rattle.aprs_transmissions.specs.Key.{key_cmp}
+pub use Rattle.aprs_transmissions.specs.Lists.{Ordered, ◌∈◌}
+pub use Rattle.aprs_transmissions.specs.Order.{IsBelow, IsUpTo}
+pub use Rattle.aprs_transmissions.specs.Row.{Row, last_moment, row_cmp, row_key}
+pub use Rattle.aprs_transmissions.specs.Sound.{AreSoundRows, FollowsFar, IsFar, IsSoundRow, Sound}
+pub use Rattle.aprs_transmissions.specs.Widening.{widened_rows}
+pub use Rattle.aprs_transmissions.specs.Witnesses.{witnesses}
+pub use Rattle.aprs_transmissions.specs.declared.row_cause.RowCause.{RowCause}
 pub use Rattle.aprs_log.specs.Receiver.{IsName}
 pub use Rattle.aprs_log.specs.Reception.{Received, bytes_cmp}
 pub use Rattle.aprs_report.specs.Reader.{reading_of}

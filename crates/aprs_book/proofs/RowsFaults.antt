@@ -2,7 +2,7 @@
 use Rattle.aprs_book.proofs.Common.{◌≡◌, ◌≢◌, ◌∙◌, ℕ, zero, suc, ◌+◌, ◌<◌, ◌≤◌, ◌⊎◌, inl, inr, List, [], ◌∷◌, ◌++◌, Option, None, Some, Err, get_or, length, take, drop, take-take, take-append-drop, refl, sym, ap, subst, arith, slice_get, cases_lt, take_more, Row, Sound, sound_prefix, sound, book_of_nothing, RowCause, refusal, Answers, none_exactly, never_memory}
 use Rattle.std.proofs.Common.{take_all}
 use Rattle.std.proofs.lemmas.Option.{slice_get_cases, slice_get_read, slice_get_within, get_or_from_slice_get}
-use Rattle.aprs_laws.specs.declared.row_cause.RowCause.TheVariants.{Memory}
+use Rattle.aprs_transmissions.specs.declared.row_cause.RowCause.TheVariants.{Memory}
 use Rattle.aprs_book.specs.declared.from_parts.RowsFault.{RowsFault}
 use Rattle.aprs_book.specs.RowsFault.{IsRowsFault, AreSoundOrFaulty, SoundRowsAreFaultless, HaveOneRowsFault}
 

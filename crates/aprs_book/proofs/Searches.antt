@@ -4,7 +4,7 @@ use Rattle.std.proofs.lemmas.List.Sorted.{IsPartitionPoint-from_clause}
 use Rattle.std.specs.Fn.{Called, ComputesKey}
 use denote.Ref.{Bor}
 use denote.Param.Members.{Mut}
-use Rattle.aprs_laws.proofs.Parts.{place_before}
+use Rattle.aprs_transmissions.proofs.Parts.{place_before}
 use Rattle.aprs_book.proofs.Slots.{here, two_at, one_at, alone_end, alone_next}
 use Rattle.aprs_book.proofs.Entries.{test}
 use Rattle.aprs_book.specs.Slots.{IsNewAt, GrowsAt, BridgesAt}

@@ -1,7 +1,7 @@
 -- What applying one step does. No public clause cites this module.
 use Rattle.std.specs.Prelude.{◌≡◌, ℕ, List, [], ◌∷◌, ◌++◌, get_or, slice_set}
 use Rattle.aprs_log.specs.Reception.{Received}
-use Rattle.aprs_laws.specs.BookValue.{BookValue}
+use Rattle.aprs_transmissions.specs.BookValue.{BookValue}
 use Rattle.aprs_book.specs.Replay.{HoldsUnder, empty_book}
 use Rattle.aprs_book.specs.declared.steps.Step.{Step}
 use Rattle.aprs_book.specs.declared.steps.Step.TheVariants.{Take, Merge}

@@ -1,9 +1,9 @@
 -- What taking, merging and widening do to a book.
 use Rattle.std.specs.Prelude.{ℕ, List, [], ◌∷◌, ◌++◌}
 use Rattle.aprs_log.specs.Reception.{Received}
-use Rattle.aprs_laws.specs.Row.{Row}
-use Rattle.aprs_laws.specs.Book.{BookOf}
-use Rattle.aprs_laws.specs.BookValue.{BookValue, Holds}
+use Rattle.aprs_transmissions.specs.Row.{Row}
+use Rattle.aprs_transmissions.specs.Book.{BookOf}
+use Rattle.aprs_transmissions.specs.BookValue.{BookValue, Holds}
 
 -- Whatever set the old rows are the book of, the new are the book of that set and x.
 abbrev pub TakesIn : ℕ → List Row → Received → List Row → Type 0

@@ -1,7 +1,7 @@
 -- Addresses and information that are those of a frame. No public clause cites this module.
 use Rattle.std.specs.Prelude.{◌≡◌, ℕ, List}
 use Rattle.aprs_ax25.specs.Callsign.{Call}
-use Rattle.aprs_laws.specs.Key.{key_of}
+use Rattle.aprs_transmissions.specs.Key.{key_of}
 
 -- A source, a destination and information that are those of a frame.
 pub record IsKeyed (from to : Call) (text bytes : List ℕ) : Type 0 where

@@ -1,10 +1,10 @@
 -- Why rows are not those of a book.
 use Rattle.std.specs.Prelude.{◌≡◌, ◌≢◌, ℕ, ◌<◌, ◌⊎◌, List, take, slice_get, None, Some}
-use Rattle.aprs_laws.specs.Row.{Row}
-use Rattle.aprs_laws.specs.Sound.{Sound}
+use Rattle.aprs_transmissions.specs.Row.{Row}
+use Rattle.aprs_transmissions.specs.Sound.{Sound}
 use Rattle.aprs_rows.specs.Refusal.{refusal}
-use Rattle.aprs_laws.specs.declared.row_cause.RowCause.{RowCause}
-use Rattle.aprs_laws.specs.declared.row_cause.RowCause.TheVariants.{Memory}
+use Rattle.aprs_transmissions.specs.declared.row_cause.RowCause.{RowCause}
+use Rattle.aprs_transmissions.specs.declared.row_cause.RowCause.TheVariants.{Memory}
 use Rattle.aprs_book.specs.declared.from_parts.RowsFault.{RowsFault}
 
 -- x isn't added after the rows: the cause refuses it, or nothing does and an allocation failed.

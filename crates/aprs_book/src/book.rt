@@ -1,10 +1,10 @@
 //! The book.
 ghost use Rattle.std.specs.Prelude.{◌≡◌, ◌↔◌, [], ◌∷◌, ◌++◌, ◌<◌, ◌≤◌, length, IsTrue, IsOk, IfOk, OnOk, OnErr, IsOkUnless, MatchOption, Err, None};
-ghost use Rattle.aprs_laws.specs.Gap.{standard_gap, millis_of};
-ghost use Rattle.aprs_laws.specs.BookValue.{Holds, IsSoundBook, HaveOneGap, AreJoined, widened_to};
-ghost use Rattle.aprs_laws.specs.Sound.{Sound};
-ghost use Rattle.aprs_laws.specs.Inserted.{FitsInPlace};
-ghost use Rattle.aprs_laws.proofs.Joins.{gap_laws};
+ghost use Rattle.aprs_transmissions.specs.Gap.{standard_gap, millis_of};
+ghost use Rattle.aprs_transmissions.specs.BookValue.{Holds, IsSoundBook, HaveOneGap, AreJoined, widened_to};
+ghost use Rattle.aprs_transmissions.specs.Sound.{Sound};
+ghost use Rattle.aprs_transmissions.specs.Inserted.{FitsInPlace};
+ghost use Rattle.aprs_transmissions.proofs.Joins.{gap_laws};
 ghost use Rattle.aprs_book.specs.Changes.{TakesIn, MergesInto, WidensTo};
 ghost use Rattle.aprs_rows.specs.Refusal.{refusal};
 ghost use Rattle.aprs_summary.specs.Known.{AreIndexesOf};
@@ -43,7 +43,7 @@ impl<A: Allocator> Drop for Book<A> {
 }
 
 impl<A: Allocator> Model for Book<A> {
-    ghost use Rattle.aprs_laws.specs.BookValue.{BookValue, IsSoundBook};
+    ghost use Rattle.aprs_transmissions.specs.BookValue.{BookValue, IsSoundBook};
     ghost use Rattle.aprs_summary.specs.Known.{AreIndexesOf};
 
     ghost Value = { BookValue };

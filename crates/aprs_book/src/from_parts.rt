@@ -1,7 +1,7 @@
 //! A book made of many rows.
 ghost use Rattle.std.specs.Prelude.{◌≡◌, ◌<◌, ℕ, [], length, take, IsOk, IfOk, IfErr, OnOk};
-ghost use Rattle.aprs_laws.specs.Gap.{millis_of};
-ghost use Rattle.aprs_laws.specs.Sound.{Sound};
+ghost use Rattle.aprs_transmissions.specs.Gap.{millis_of};
+ghost use Rattle.aprs_transmissions.specs.Sound.{Sound};
 ghost use Rattle.aprs_book.specs.RowsFault.{IsRowsFault, AreSoundOrFaulty, SoundRowsAreFaultless, HaveOneRowsFault};
 
 use crate::{Book, Gap, RowCause, RowParts};

@@ -10,7 +10,7 @@ mod rows;
 mod steps;
 mod stored;
 
-pub use aprs_laws::{Gap, MergeFault, RowCause, WidenFault};
+pub use aprs_transmissions::{Gap, MergeFault, RowCause, WidenFault};
 pub use aprs_rows::{Greatest, Join, Memory, Receivers, all_fit, join_all};
 pub use aprs_summary::{
     Heard, HeardRoom, MessageRow, MessageState, MessageWalk, Named, NamedWalk, ReplyAck, Station,

@@ -1,6 +1,6 @@
 //! What is listed of a book: its stations, its objects and items, and its messages.
 ghost use Rattle.std.specs.Prelude.{◌≡◌, IfOk, length};
-ghost use Rattle.aprs_laws.specs.Gap.{millis_of};
+ghost use Rattle.aprs_transmissions.specs.Gap.{millis_of};
 ghost use Rattle.aprs_summary.specs.Exchange.{IsExchangeOf};
 ghost use Rattle.aprs_summary.specs.Messages.{ReportsMessages};
 ghost use Rattle.aprs_summary.specs.Names.{ReportsNamed};

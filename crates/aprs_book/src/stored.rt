@@ -2,10 +2,10 @@
 ghost use Rattle.std.specs.Prelude.{◌≡◌, ◌++◌, ◌∷◌, [], All, IfOk, OnErr, OnOk};
 ghost use Rattle.std.specs.List.{join_with_byte};
 ghost use Rattle.aprs_log.specs.Receiver.{IsName};
-ghost use Rattle.aprs_laws.specs.Coalescing.{AreInOrder};
-ghost use Rattle.aprs_laws.specs.Gap.{millis_of};
-ghost use Rattle.aprs_laws.specs.JoinRow.{merge};
-ghost use Rattle.aprs_laws.specs.Sound.{AreSoundRows, IsSoundRow};
+ghost use Rattle.aprs_transmissions.specs.Coalescing.{AreInOrder};
+ghost use Rattle.aprs_transmissions.specs.Gap.{millis_of};
+ghost use Rattle.aprs_transmissions.specs.JoinRow.{merge};
+ghost use Rattle.aprs_transmissions.specs.Sound.{AreSoundRows, IsSoundRow};
 
 use crate::rows::kept_row::KeptRow;
 use crate::rows::walk::Walk;

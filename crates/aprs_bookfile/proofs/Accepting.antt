@@ -2,8 +2,8 @@
 use Rattle.aprs_bookfile.proofs.Common.{◌≡◌, ℕ, ◌+◌, ◌*◌, ◌/◌, ◌%◌, ◌^◌, ◌<◌, ◌≤◌, List, [], ◌∷◌, ◌++◌, length, map, Option, None, Some, IfSome, IfOk, IfErr, Result, Ok, Err, inl, inr, refl, sym, ap, ◌∙◌, subst, append-nil, length-append, arith, length-map, All-weaker, IfErr-weaker, Rose, Counted, most_input, Gets, IsWritable, date_text, time_text, Received, InputEnd, MomentForm, Seconds, Millis, BookValue, Holds, IsGap, millis_of, standard_gap, Row, last_moment, text_of_lines}
 use Rattle.aprs_log.specs.Moment.{day_after, moment_text_in}
 use Rattle.aprs_io.specs.declared.input.InputEnd.TheVariants as ending
-use Rattle.aprs_laws.specs.Scaling.{scaled_rows, scaled_heard}
-use Rattle.aprs_laws.proofs.Scaling.{scaled_book}
+use Rattle.aprs_transmissions.specs.Scaling.{scaled_rows, scaled_heard}
+use Rattle.aprs_transmissions.proofs.Scaling.{scaled_book}
 use Rattle.aprs_bookfile.specs.FirstFault.{FirstFault}
 use Rattle.aprs_bookfile.specs.Law.{IsWrittenBack}
 use Rattle.aprs_bookfile.specs.Reading.{IsAnswered}
@@ -20,7 +20,7 @@ use Rattle.aprs_bookfile.proofs.Asking.{Asks-rose}
 use Rattle.aprs_bookfile.proofs.OneText.{one_text, one_version, same_book, cut_short}
 use Rattle.aprs_bookfile.proofs.Versions.{standard_range}
 use Rattle.aprs_bookfile.proofs.SameFaults.{memory_or_first}
-use Rattle.aprs_laws.specs.Book.{BookOf}
+use Rattle.aprs_transmissions.specs.Book.{BookOf}
 
 -- each line has an LF
 pub lines_few : (ls : List (List ℕ)) → length ls ≤ length (text_of_lines ls)

@@ -12,13 +12,13 @@ pub use Rattle.aprs_io.specs.Input.{EndsHere, EndsSo, Gets, last_of_ending, most
 pub use Rattle.aprs_io.specs.Outlet.{Puts}
 pub use Rattle.aprs_io.specs.declared.device.Counted.{Counted}
 pub use Rattle.aprs_io.specs.declared.input.InputEnd.{InputEnd}
-pub use Rattle.aprs_laws.proofs.Soundness.{sound, witnessed}
-pub use Rattle.aprs_laws.specs.BookValue.{BookValue, Holds, IsSoundBook}
-pub use Rattle.aprs_laws.specs.Gap.{IsGap, greatest_gap, millis_of, standard_gap}
-pub use Rattle.aprs_laws.specs.Row.{Row, last_moment}
-pub use Rattle.aprs_laws.specs.Sound.{IsSoundRow, Sound}
-pub use Rattle.aprs_laws.specs.Witnesses.{witnesses}
-pub use Rattle.aprs_laws.specs.declared.row_cause.RowCause.{RowCause}
+pub use Rattle.aprs_transmissions.proofs.Soundness.{sound, witnessed}
+pub use Rattle.aprs_transmissions.specs.BookValue.{BookValue, Holds, IsSoundBook}
+pub use Rattle.aprs_transmissions.specs.Gap.{IsGap, greatest_gap, millis_of, standard_gap}
+pub use Rattle.aprs_transmissions.specs.Row.{Row, last_moment}
+pub use Rattle.aprs_transmissions.specs.Sound.{IsSoundRow, Sound}
+pub use Rattle.aprs_transmissions.specs.Witnesses.{witnesses}
+pub use Rattle.aprs_transmissions.specs.declared.row_cause.RowCause.{RowCause}
 pub use Rattle.aprs_log.proofs.Moments.{millis_kept, moment_in-text, moment_text-is, one_text, same_text, text-moment_in}
 pub use Rattle.aprs_log.specs.LogText.{HasNoLf, text_of_lines}
 pub use Rattle.aprs_log.specs.Moment.{IsWritable, date_text, fraction_text, moment_text, time_text, two_digits}

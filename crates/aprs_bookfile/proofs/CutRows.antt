@@ -1,11 +1,11 @@
 -- A book's text that was cut among the lines of its rows.
 use Rattle.aprs_bookfile.proofs.Common.{◌≡◌, ◌∙◌, ◌⊎◌, ◌+◌, ℕ, List, [], ◌∷◌, ◌++◌, length, map, inl, inr, refl, sym, ap, subst, append-nil, append_assoc, All, All-nil, All-cons, All-head, All-tail, Row, Sound, millis_of, text_of_lines, MomentForm}
 use Rattle.aprs_io.specs.declared.input.InputEnd.TheVariants as how
-use Rattle.aprs_laws.specs.Lists.{Ordered}
-use Rattle.aprs_laws.specs.Order.{IsBelow}
-use Rattle.aprs_laws.specs.Row.{row_cmp}
-use Rattle.aprs_laws.specs.Sound.{IsFar}
-use Rattle.aprs_laws.proofs.Lists.{in_left}
+use Rattle.aprs_transmissions.specs.Lists.{Ordered}
+use Rattle.aprs_transmissions.specs.Order.{IsBelow}
+use Rattle.aprs_transmissions.specs.Row.{row_cmp}
+use Rattle.aprs_transmissions.specs.Sound.{IsFar}
+use Rattle.aprs_transmissions.proofs.Lists.{in_left}
 use Rattle.aprs_bookfile.specs.Law.{LackAnEnd}
 use Rattle.aprs_io.specs.Cut.{Lacks}
 use Rattle.aprs_bookfile.specs.Reader.{HasReadLines}

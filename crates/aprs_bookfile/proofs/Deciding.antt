@@ -3,7 +3,7 @@ use Rattle.aprs_bookfile.proofs.Common.{◌≡◌, ℕ, zero, suc, ◌+◌, ◌<
 use Rattle.aprs_log.specs.Moment.{moment_text_in}
 use Rattle.aprs_rows.specs.Refusal.{refusal}
 use Rattle.hex.specs.declared.error.FromHexError.{FromHexError}
-use Rattle.aprs_laws.specs.declared.row_cause.RowCause.TheVariants as row
+use Rattle.aprs_transmissions.specs.declared.row_cause.RowCause.TheVariants as row
 use Rattle.aprs_bookfile.specs.FirstFault.{FirstFault}
 use Rattle.aprs_bookfile.specs.TextFault.{is_end, SpellsRefusedRow}
 use Rattle.aprs_bookfile.specs.Law.{IsBookText}

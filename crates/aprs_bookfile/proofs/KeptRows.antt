@@ -2,9 +2,9 @@
 use Rattle.aprs_bookfile.proofs.Common.{◌≡◌, ℕ, ◌+◌, Bool, true, false, List, [], ◌∷◌, ◌++◌, length, Option, Some, None, Result, Ok, Err, inl, inr, refl, sym, ap, ◌∙◌, subst, length-append, Row}
 use Rattle.std.specs.List.{last_or}
 use Rattle.std.specs.Prelude.{◌≢◌, IfNone, IfSome, MatchResult}
-use Rattle.aprs_laws.specs.Gap.{millis_of}
-use Rattle.aprs_laws.specs.declared.row_cause.RowCause.{RowCause}
-use Rattle.aprs_laws.specs.declared.row_cause.RowCause.TheVariants as row
+use Rattle.aprs_transmissions.specs.Gap.{millis_of}
+use Rattle.aprs_transmissions.specs.declared.row_cause.RowCause.{RowCause}
+use Rattle.aprs_transmissions.specs.declared.row_cause.RowCause.TheVariants as row
 use Rattle.aprs_rows.specs.Refusal.{refusal}
 use Rattle.aprs_bookfile.specs.Fault.{book_cause_of}
 use Rattle.aprs_bookfile.specs.RowFields.{IsWrongRow}

@@ -2,8 +2,8 @@
 use Rattle.aprs_bookfile.proofs.Common.{◌≡◌, List, [], ◌∷◌, Option, None, Some, inl, inr, Row, IsSoundRow}
 use Rattle.std.specs.Prelude.{IfSome}
 use Rattle.std.specs.List.{last_or}
-use Rattle.aprs_laws.specs.Lists.{◌∈◌}
-use Rattle.aprs_laws.specs.Sound.{AreSoundRows}
+use Rattle.aprs_transmissions.specs.Lists.{◌∈◌}
+use Rattle.aprs_transmissions.specs.Sound.{AreSoundRows}
 use Rattle.aprs_rows.specs.Packed.{AreShort, IsShort}
 
 last_in : (rows : List Row) (x : Row) → last_or None rows ≡ Some x → x ∈ rows

@@ -1,7 +1,7 @@
 -- A line is wrong for one cause at most.
 use Rattle.aprs_bookfile.proofs.Common.{◌≡◌, ℕ, false, true, List, Some, ◌⊎◌, inl, inr, refl, sym, ap, ◌∙◌, subst, ◌≢◌, IsUiFrame, MomentForm, Row, RowCause}
 use Rattle.aprs_rows.specs.Refusal.{refusal}
-use Rattle.aprs_laws.specs.declared.row_cause.RowCause.TheVariants as row
+use Rattle.aprs_transmissions.specs.declared.row_cause.RowCause.TheVariants as row
 use Rattle.aprs_bookfile.specs.TextFault.{HasNoFrame, SpellsRefusedRow, IsWrong, is_end}
 use Rattle.aprs_bookfile.specs.Fault.{book_cause_of}
 use Rattle.aprs_bookfile.specs.Text.{row_line, IsSpelled}

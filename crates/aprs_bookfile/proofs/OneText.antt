@@ -3,7 +3,7 @@ use Rattle.aprs_bookfile.proofs.Common.{◌≡◌, ℕ, ◌+◌, ◌^◌, ◌<�
 use Rattle.aprs_log.specs.Moment.{moment_text_in}
 use Rattle.aprs_rows.specs.Refusal.{refusal}
 use Rattle.aprs_io.specs.declared.input.InputEnd.TheVariants as ending
-use Rattle.aprs_laws.proofs.Pushes.{sound_prefix}
+use Rattle.aprs_transmissions.proofs.Pushes.{sound_prefix}
 use Rattle.aprs_bookfile.specs.FirstFault.{EndFault, RestIsAtFault, FirstFault, HasLine, HeaderFault, IsCut, LineFault}
 use Rattle.aprs_bookfile.specs.TextFault.{SpellsRefusedRow, IsWrong}
 use Rattle.aprs_bookfile.specs.Lines.{pieces}

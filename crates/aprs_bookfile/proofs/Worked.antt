@@ -6,10 +6,10 @@ use Rattle.aprs_rows.specs.Refusal.{refusal}
 use Rattle.aprs_io.specs.declared.input.InputEnd.TheVariants.{End}
 use Rattle.aprs_log.specs.Examples.{hi_frame}
 use Rattle.aprs_log.proofs.Lines.{both}
-use Rattle.aprs_laws.specs.Key.{key_cmp, key_of}
-use Rattle.aprs_laws.specs.Order.{IsUpTo}
-use Rattle.aprs_laws.specs.declared.row_cause.RowCause.TheVariants.{Order}
-use Rattle.aprs_laws.proofs.Orders.{bytes_total, up_to_itself}
+use Rattle.aprs_transmissions.specs.Key.{key_cmp, key_of}
+use Rattle.aprs_transmissions.specs.Order.{IsUpTo}
+use Rattle.aprs_transmissions.specs.declared.row_cause.RowCause.TheVariants.{Order}
+use Rattle.aprs_transmissions.proofs.Orders.{bytes_total, up_to_itself}
 use Rattle.aprs_bookfile.specs.Examples.{fault_in, miscounted_text, disordered_text, unfinished_text}
 use Rattle.aprs_bookfile.specs.Text.{end_line, row_line, IsBookRow, IsBookRows, IsSpelled}
 use Rattle.aprs_bookfile.specs.TextFault.{AreOfRows, HasBookFault}

@@ -2,8 +2,8 @@
 use Rattle.aprs_bookfile.proofs.Common.{◌≡◌, ℕ, ◌<◌, List, [], ◌∷◌, ◌++◌, length, Option, Result, Ok, Err, inl, refl, sym, ap, ◌∙◌, subst, append_assoc, append-nil, arith, All, flat_map, IsErr, flat_map_more, flat_map-append, All-nil, All-push, Puts, Puts-fails, Puts-is, Puts-none, Puts-then, Millis, BookValue, IsSoundBook, Row, Sound}
 use Rattle.aprs_io.specs.declared.device.WriteFault.{WriteFault}
 use Rattle.aprs_io.specs.declared.outlet.Outlet.{Outlet}
-use Rattle.aprs_laws.specs.Lists.{◌∈◌}
-use Rattle.aprs_laws.proofs.Lists.{in_right}
+use Rattle.aprs_transmissions.specs.Lists.{◌∈◌}
+use Rattle.aprs_transmissions.proofs.Lists.{in_right}
 use Rattle.aprs_bookfile.specs.RowLines.{line_and_lf}
 use Rattle.aprs_bookfile.specs.Text.{IsBookRow, IsBookRows, written_version}
 use Rattle.aprs_bookfile.proofs.BookRows.{rows_are}

@@ -2,7 +2,7 @@
 use Rattle.std.specs.Prelude.{◌≡◌, ◌⊎◌, ℕ, ◌+◌, ◌≤◌, List, length, drop, Option, Some, IfSome, Result, Ok, Err}
 use Rattle.aprs_io.specs.Device.{Calls, Going, Fault, End}
 use Rattle.aprs_io.specs.declared.device.Counted.{Counted}
-use Rattle.aprs_laws.specs.BookValue.{BookValue}
+use Rattle.aprs_transmissions.specs.BookValue.{BookValue}
 use Rattle.aprs_bookfile.specs.declared.fault.BookCause.{BookCause}
 use Rattle.aprs_bookfile.specs.declared.fault.BookCause.TheVariants as why
 use Rattle.aprs_bookfile.specs.declared.fault.BookFault.{BookFault}

@@ -3,8 +3,8 @@ use Rattle.std.specs.Prelude.{◌≡◌, ℕ, ◌≤◌, List, ◌++◌, length,
 use Rattle.aprs_io.specs.Input.{Gets}
 use Rattle.aprs_io.specs.declared.input.InputEnd.{InputEnd}
 use Rattle.aprs_io.specs.declared.input.InputEnd.TheVariants as how
-use Rattle.aprs_laws.specs.BookValue.{BookValue}
-use Rattle.aprs_laws.specs.Row.{Row}
+use Rattle.aprs_transmissions.specs.BookValue.{BookValue}
+use Rattle.aprs_transmissions.specs.Row.{Row}
 use Rattle.aprs_bookfile.specs.Text.{book_of_version, book_text, IsBookRows}
 use Rattle.aprs_bookfile.specs.TextFault.{HasBookFault}
 use Rattle.aprs_bookfile.specs.Version.{gap_of}

@@ -2,8 +2,8 @@
 use Rattle.std.specs.Prelude.{ℕ, List, codes}
 use Rattle.aprs_io.specs.declared.input.InputEnd.{InputEnd}
 use Rattle.aprs_io.specs.declared.input.InputEnd.TheVariants as how
-use Rattle.aprs_laws.specs.declared.row_cause.RowCause.{RowCause}
-use Rattle.aprs_laws.specs.declared.row_cause.RowCause.TheVariants as row
+use Rattle.aprs_transmissions.specs.declared.row_cause.RowCause.{RowCause}
+use Rattle.aprs_transmissions.specs.declared.row_cause.RowCause.TheVariants as row
 use Rattle.aprs_bookfile.specs.declared.fault.BookCause.{BookCause}
 use Rattle.aprs_bookfile.specs.declared.fault.BookCause.TheVariants as cause
 

@@ -5,8 +5,8 @@ use Rattle.aprs_io.specs.declared.input.InputEnd.{InputEnd}
 use Rattle.aprs_io.specs.declared.input.InputEnd.TheVariants as how
 use Rattle.aprs_log.specs.LogText.{text_of_lines}
 use Rattle.aprs_log.specs.Reception.{Received}
-use Rattle.aprs_laws.specs.BookValue.{BookValue, Holds}
-use Rattle.aprs_laws.specs.Row.{Row}
+use Rattle.aprs_transmissions.specs.BookValue.{BookValue, Holds}
+use Rattle.aprs_transmissions.specs.Row.{Row}
 use Rattle.aprs_bookfile.specs.BookAnswers.{IsBookOrMemory, ReadsBook}
 use Rattle.aprs_bookfile.specs.Fault.{ending_cause}
 use Rattle.aprs_bookfile.specs.Text.{book_of_version, book_text, row_line, IsBookRow, IsBookRows, written_text, written_version}

@@ -1,7 +1,7 @@
 -- Rows that were read of a book's text.
 use Rattle.std.specs.Prelude.{◌≡◌, ◌⊎◌, ℕ, ◌+◌, List, [], length, Result, Ok, Err}
-use Rattle.aprs_laws.specs.BookValue.{BookValue}
-use Rattle.aprs_laws.specs.Row.{Row}
+use Rattle.aprs_transmissions.specs.BookValue.{BookValue}
+use Rattle.aprs_transmissions.specs.Row.{Row}
 use Rattle.aprs_bookfile.specs.declared.fault.BookCause.TheVariants as why
 use Rattle.aprs_bookfile.specs.declared.fault.BookFault.{BookFault}
 

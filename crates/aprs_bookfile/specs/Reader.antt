@@ -2,8 +2,8 @@
 use Rattle.std.specs.Prelude.{◌≡◌, ◌≢◌, ℕ, ◌+◌, ◌⊎◌, Bool, true, false, List, [], ◌∷◌, ◌++◌, length, map, None, Result, Ok, Err}
 use Rattle.aprs_io.specs.declared.input.InputEnd.{InputEnd}
 use Rattle.aprs_io.specs.declared.input.InputEnd.TheVariants as how
-use Rattle.aprs_laws.specs.Gap.{millis_of, standard_gap}
-use Rattle.aprs_laws.specs.Row.{Row}
+use Rattle.aprs_transmissions.specs.Gap.{millis_of, standard_gap}
+use Rattle.aprs_transmissions.specs.Row.{Row}
 use Rattle.aprs_rows.specs.Refusal.{refusal}
 use Rattle.aprs_bookfile.specs.FirstFault.{FirstFault, IsMemoryAt, IsNoHeader}
 use Rattle.aprs_bookfile.specs.TextFault.{IsWrong}

@@ -2,7 +2,7 @@
 use Rattle.std.specs.Prelude.{◌≡◌, ℕ, ◌+◌, ◌-◌, List, ◌++◌, length, Option, IfSome, Result}
 use Rattle.std.specs.Io.KnownBytes.{Consumes}
 use Rattle.aprs_io.specs.declared.device.Counted.{Counted}
-use Rattle.aprs_laws.specs.BookValue.{BookValue}
+use Rattle.aprs_transmissions.specs.BookValue.{BookValue}
 use Rattle.aprs_bookfile.specs.Asking.{Asks, Takes}
 use Rattle.aprs_bookfile.specs.BookAnswers.{ReadsBook}
 use Rattle.aprs_bookfile.specs.declared.fault.BookFault.{BookFault}

@@ -4,7 +4,7 @@ use Rattle.hex.specs.Hex.{IsBytes}
 use Rattle.aprs_ax25.specs.UiFrame.{IsUiFrame}
 use Rattle.aprs_log.specs.Receiver.{IsName}
 use Rattle.aprs_log.specs.declared.moment_form.MomentForm.TheVariants.{Millis}
-use Rattle.aprs_laws.specs.Row.{Row}
+use Rattle.aprs_transmissions.specs.Row.{Row}
 use Rattle.aprs_bookfile.specs.Text.{row_line, most_frame_bytes}
 
 -- A row's line can spell this receiver and this frame.

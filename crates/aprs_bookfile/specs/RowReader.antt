@@ -1,8 +1,8 @@
 -- What a reader holds of a book's text, and which rows it keeps.
 use Rattle.std.specs.Prelude.{◌≡◌, ℕ, ◌+◌, Bool, true, false, List, [], ◌∷◌, ◌++◌, length, Option, None, Some, Result, Ok, Err}
 use Rattle.std.specs.List.{last_or}
-use Rattle.aprs_laws.specs.BookValue.{BookValue}
-use Rattle.aprs_laws.specs.Row.{Row}
+use Rattle.aprs_transmissions.specs.BookValue.{BookValue}
+use Rattle.aprs_transmissions.specs.Row.{Row}
 use Rattle.aprs_bookfile.specs.Reader.{HasReadLines, is_done, JudgesLine}
 use Rattle.aprs_bookfile.specs.ReadRows.{StopsAfter}
 use Rattle.aprs_bookfile.specs.declared.fault.BookCause.{BookCause}

@@ -2,7 +2,7 @@
 use Rattle.std.specs.Prelude.{◌≡◌, ℕ, ◌+◌, ◌*◌, ◌⊎◌, if◌then◌else◌, Bool, true, false, List, [], ◌∷◌, ◌++◌, length, Option, Ok, Err}
 use Rattle.aprs_io.specs.Device.{Calls, Going}
 use Rattle.aprs_io.specs.declared.device.Counted.{Counted}
-use Rattle.aprs_laws.specs.Row.{Row}
+use Rattle.aprs_transmissions.specs.Row.{Row}
 use Rattle.aprs_bookfile.specs.Piece.{bytes_left}
 use Rattle.aprs_bookfile.specs.Reader.{gap_in, is_done}
 use Rattle.aprs_bookfile.specs.Reading.{Got, IsAnswered}

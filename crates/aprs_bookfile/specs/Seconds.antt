@@ -4,11 +4,11 @@ use Rattle.aprs_io.specs.Octet.{octet}
 use Rattle.aprs_log.specs.Moment.{date_text, day_after, moment_text_in, time_text}
 use Rattle.aprs_log.specs.Reception.{Received}
 use Rattle.aprs_log.specs.declared.moment_form.MomentForm.TheVariants.{Seconds}
-use Rattle.aprs_laws.specs.Book.{BookOf}
-use Rattle.aprs_laws.specs.BookValue.{BookValue, Holds}
-use Rattle.aprs_laws.specs.Gap.{standard_gap}
-use Rattle.aprs_laws.specs.Row.{Row}
-use Rattle.aprs_laws.specs.Scaling.{scaled_rows, scaled_heard}
+use Rattle.aprs_transmissions.specs.Book.{BookOf}
+use Rattle.aprs_transmissions.specs.BookValue.{BookValue, Holds}
+use Rattle.aprs_transmissions.specs.Gap.{standard_gap}
+use Rattle.aprs_transmissions.specs.Row.{Row}
+use Rattle.aprs_transmissions.specs.Scaling.{scaled_rows, scaled_heard}
 use Rattle.aprs_bookfile.specs.Text.{book_text, IsBookRow}
 use Rattle.aprs_bookfile.specs.declared.fault.BookFault.{BookFault}
 use Rattle.aprs_bookfile.specs.declared.version.Version.TheVariants.{One}

@@ -9,10 +9,10 @@ use Rattle.aprs_log.specs.Moment.{IsWritable, moment_text_in}
 use Rattle.aprs_log.specs.declared.moment_form.MomentForm.{MomentForm}
 use Rattle.aprs_log.specs.Receiver.{IsName}
 use Rattle.aprs_log.specs.Reception.{Received}
-use Rattle.aprs_laws.specs.Book.{BookOf}
-use Rattle.aprs_laws.specs.BookValue.{BookValue}
-use Rattle.aprs_laws.specs.Gap.{millis_of}
-use Rattle.aprs_laws.specs.Row.{Row, last_moment}
+use Rattle.aprs_transmissions.specs.Book.{BookOf}
+use Rattle.aprs_transmissions.specs.BookValue.{BookValue}
+use Rattle.aprs_transmissions.specs.Gap.{millis_of}
+use Rattle.aprs_transmissions.specs.Row.{Row, last_moment}
 use Rattle.aprs_bookfile.specs.Version.{form_of, gap_of, header_of, IsVersion}
 use Rattle.aprs_bookfile.specs.declared.version.Version.{Version}
 use Rattle.aprs_bookfile.specs.declared.version.Version.TheVariants.{Three}

@@ -6,11 +6,11 @@ use Rattle.aprs_io.specs.declared.input.InputEnd.{InputEnd}
 use Rattle.aprs_io.specs.declared.input.InputEnd.TheVariants as how
 use Rattle.aprs_log.specs.LogText.{HasNoLf, text_of_lines}
 use Rattle.aprs_log.specs.declared.moment_form.MomentForm.{MomentForm}
-use Rattle.aprs_laws.specs.Gap.{millis_of}
-use Rattle.aprs_laws.specs.Row.{Row}
+use Rattle.aprs_transmissions.specs.Gap.{millis_of}
+use Rattle.aprs_transmissions.specs.Row.{Row}
 use Rattle.aprs_rows.specs.Refusal.{refusal}
-use Rattle.aprs_laws.specs.declared.row_cause.RowCause.{RowCause}
-use Rattle.aprs_laws.specs.declared.row_cause.RowCause.TheVariants as row
+use Rattle.aprs_transmissions.specs.declared.row_cause.RowCause.{RowCause}
+use Rattle.aprs_transmissions.specs.declared.row_cause.RowCause.TheVariants as row
 use Rattle.aprs_bookfile.specs.Text.{row_line, end_line, lines_of, IsSpelled, IsBookRow, IsBookRows}
 use Rattle.aprs_bookfile.specs.Version.{form_of, gap_of, header_of, IsVersion}
 use Rattle.aprs_bookfile.specs.declared.fault.BookCause.{BookCause}

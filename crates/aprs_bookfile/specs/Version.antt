@@ -2,7 +2,7 @@
 use Rattle.std.specs.Prelude.{ℕ, List, ◌++◌, codes, decimal}
 use Rattle.aprs_log.specs.declared.moment_form.MomentForm.{MomentForm}
 use Rattle.aprs_log.specs.declared.moment_form.MomentForm.TheVariants.{Seconds, Millis}
-use Rattle.aprs_laws.specs.Gap.{IsGap, standard_gap}
+use Rattle.aprs_transmissions.specs.Gap.{IsGap, standard_gap}
 use Rattle.aprs_bookfile.specs.declared.version.Version.{Version}
 use Rattle.aprs_bookfile.specs.declared.version.Version.TheVariants.{One, Two, Three}
 

@@ -2,7 +2,7 @@
 ghost use Rattle.std.specs.Prelude.{◌≡◌};
 ghost use Rattle.aprs_bookfile.specs.Fault.{book_cause_number, book_cause_name, book_cause_of};
 
-use aprs_laws::RowCause;
+use aprs_transmissions::RowCause;
 
 /// Why the text of a book is read no further.
 #[derive(Clone, Copy, Debug, PartialEq, Eq)]

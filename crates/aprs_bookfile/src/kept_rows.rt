@@ -1,7 +1,7 @@
 //! The rows that are kept of a text, and the line of the last.
 ghost use Rattle.std.specs.Prelude.{◌≡◌, [], ◌∷◌, ◌++◌, None, Some, IfNone, IfSome, OnErr, OnOk};
 ghost use Rattle.std.specs.List.{last_or};
-ghost use Rattle.aprs_laws.specs.Sound.{AreSoundRows, IsSoundRow};
+ghost use Rattle.aprs_transmissions.specs.Sound.{AreSoundRows, IsSoundRow};
 ghost use Rattle.aprs_rows.specs.Packed.{AreShort, IsShort};
 ghost use Rattle.aprs_bookfile.specs.Text.{row_line};
 
@@ -23,7 +23,7 @@ pub(crate) struct KeptRows<A: Allocator> {
 impl<A: Allocator> Model for KeptRows<A> {
     ghost use Rattle.std.specs.Prelude.{List, None};
     ghost use Rattle.std.specs.List.{last_or};
-    ghost use Rattle.aprs_laws.specs.Row.{Row};
+    ghost use Rattle.aprs_transmissions.specs.Row.{Row};
     ghost use Rattle.aprs_bookfile.specs.KeptLine.{IsKeptLine};
 
     ghost Value = { List Row };

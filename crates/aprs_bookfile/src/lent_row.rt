@@ -26,7 +26,7 @@ pub struct LentRow<'a> {
 
 impl<'a> Model for LentRow<'a> {
     ghost use Rattle.std.specs.Prelude.{Some};
-    ghost use Rattle.aprs_laws.specs.Row.{Row as RowValue};
+    ghost use Rattle.aprs_transmissions.specs.Row.{Row as RowValue};
     ghost use Rattle.aprs_bookfile.specs.KeptLine.{IsKeptLine};
 
     ghost Value = { RowValue };

@@ -1,12 +1,12 @@
 //! A row with its line, which later rows may still join.
 ghost use Rattle.std.specs.Prelude.{◌≡◌, [], ◌∷◌, IfNone, IfOk, IfSome, OnOk};
-ghost use Rattle.aprs_laws.specs.Gap.{millis_of};
-ghost use Rattle.aprs_laws.specs.Sound.{IsSoundRow};
+ghost use Rattle.aprs_transmissions.specs.Gap.{millis_of};
+ghost use Rattle.aprs_transmissions.specs.Sound.{IsSoundRow};
 ghost use Rattle.aprs_rows.specs.OpenRow.{JoinsOrNot};
 ghost use Rattle.aprs_rows.specs.Packed.{IsShort};
 
 use crate::lent_row::LentRow;
-use aprs_laws::Gap;
+use aprs_transmissions::Gap;
 use aprs_rows::{Memory, OpenRow};
 use std::alloc::Allocator;
 use std::marker::Model;
@@ -23,7 +23,7 @@ pub struct OpenLine<A: Allocator> {
 impl<A: Allocator> Model for OpenLine<A> {
     ghost use Rattle.std.specs.Prelude.{List, None};
     ghost use Rattle.std.specs.List.{last_or};
-    ghost use Rattle.aprs_laws.specs.Row.{Row};
+    ghost use Rattle.aprs_transmissions.specs.Row.{Row};
     ghost use Rattle.aprs_bookfile.specs.KeptLine.{IsKeptLine};
 
     ghost Value = { List Row };

@@ -3,7 +3,7 @@ ghost use Rattle.std.specs.Prelude.{◌≡◌, ◌≤◌, ◌+◌, ◌-◌, ◌+
 ghost use Rattle.aprs_io.specs.Device.{device_of, failures_of, Rose};
 ghost use Rattle.aprs_io.specs.Input.{most_input};
 ghost use Rattle.aprs_io.specs.declared.device.Counted.{Counted as CountedValue};
-ghost use Rattle.aprs_laws.specs.BookValue.{IsSoundBook};
+ghost use Rattle.aprs_transmissions.specs.BookValue.{IsSoundBook};
 ghost use Rattle.aprs_bookfile.specs.Asking.{Asks, Takes};
 ghost use Rattle.aprs_bookfile.specs.BookAnswers.{AcceptsBook, ReadsBook};
 ghost use Rattle.aprs_bookfile.specs.ReadRows.{book_read, StopsAfter};
@@ -16,7 +16,7 @@ use crate::fault::BookFault;
 use crate::row_reader::Keeping;
 use crate::row_stream::RowStream;
 use aprs_io::Counted;
-use aprs_laws::Gap;
+use aprs_transmissions::Gap;
 use aprs_rows::PackedRows;
 use std::alloc::Allocator;
 use std::io::Read;

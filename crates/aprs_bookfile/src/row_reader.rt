@@ -1,8 +1,8 @@
 //! A book's text, while it is read line by line.
 ghost use Rattle.std.specs.Prelude.{All, ◌≡◌, ◌<◌, ◌+◌, ◌≤◌, ◌++◌, ◌∷◌, ℕ, [], false, List, length, None, Some, OnErr, OnOk, IfErr, IfOk, IfSome, IfNone};
 ghost use Rattle.std.specs.List.{join_with_byte, last_or};
-ghost use Rattle.aprs_laws.specs.Row.{Row};
-ghost use Rattle.aprs_laws.specs.Sound.{IsSoundRow};
+ghost use Rattle.aprs_transmissions.specs.Row.{Row};
+ghost use Rattle.aprs_transmissions.specs.Sound.{IsSoundRow};
 ghost use Rattle.aprs_rows.specs.Packed.{IsShort};
 ghost use Rattle.aprs_bookfile.specs.BookAnswers.{IsAnswerFor};
 ghost use Rattle.aprs_bookfile.specs.Fault.{ending_cause};
@@ -22,7 +22,7 @@ use crate::row_line::read_row;
 use crate::stage::{Stage, ending_cause, is_done, judge_end, judge_header, may_end};
 use crate::version::Version;
 use aprs_io::InputEnd;
-use aprs_laws::Gap;
+use aprs_transmissions::Gap;
 use aprs_log::MomentForm;
 use aprs_rows::{Memory, PackedRows, RowView};
 use std::alloc::Allocator;

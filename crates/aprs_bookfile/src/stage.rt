@@ -1,6 +1,6 @@
 //! Which line of a book's text comes next.
 ghost use Rattle.std.specs.Prelude.{◌≡◌, ◌≢◌, List, IfErr, MatchResult};
-ghost use Rattle.aprs_laws.specs.Row.{Row};
+ghost use Rattle.aprs_transmissions.specs.Row.{Row};
 ghost use Rattle.aprs_bookfile.specs.Fault.{ending_cause};
 ghost use Rattle.aprs_bookfile.specs.Text.{end_line};
 ghost use Rattle.aprs_bookfile.specs.Reader as Spec;

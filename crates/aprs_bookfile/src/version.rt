@@ -1,11 +1,11 @@
 //! Versions of book files.
 ghost use Rattle.std.specs.Prelude.{◌≡◌, ◌≢◌, ◌≤◌, ◌<◌, ◌^◌, ℕ, Some, decimal, IfNone, IfSome};
 ghost use Rattle.arrayvec.specs.ArrayVec.{array_vec_len};
-ghost use Rattle.aprs_laws.specs.Gap.{IsGap};
+ghost use Rattle.aprs_transmissions.specs.Gap.{IsGap};
 ghost use Rattle.aprs_bookfile.specs.Version.{form_of, gap_of, header_of, IsVersion};
 
 use aprs_io::push_all;
-use aprs_laws::Gap;
+use aprs_transmissions::Gap;
 use aprs_log::MomentForm;
 use arrayvec::ArrayVec;
 use itoa::Buffer;

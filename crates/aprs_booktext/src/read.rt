@@ -2,7 +2,7 @@
 ghost use Rattle.std.specs.Prelude.{◌≡◌, ◌≤◌, ◌-◌, ◌++◌, length, IfSome, IfOk};
 ghost use Rattle.aprs_io.specs.Device.{device_of, failures_of, Rose};
 ghost use Rattle.aprs_io.specs.Input.{most_input};
-ghost use Rattle.aprs_laws.specs.BookValue.{IsSoundBook};
+ghost use Rattle.aprs_transmissions.specs.BookValue.{IsSoundBook};
 ghost use Rattle.aprs_bookfile.specs.Asking.{Asks, Takes};
 ghost use Rattle.aprs_bookfile.specs.BookAnswers.{AcceptsBook, ReadsBook};
 ghost use Rattle.aprs_bookfile.specs.Reading.{IsAnswered};
@@ -11,7 +11,7 @@ ghost use Rattle.aprs_bookfile.specs.Seconds.{ReadsSeconds};
 use aprs_book::Book;
 use aprs_bookfile::{BookFault, RowStream};
 use aprs_io::Counted;
-use aprs_laws::Gap;
+use aprs_transmissions::Gap;
 use aprs_rows::{BookStore, Memory, PackedRows, WalkRoom};
 use std::alloc::Allocator;
 use std::io::Read;

@@ -11,7 +11,7 @@ use Rattle.aprs_bookfile.specs.declared.stage.Stage.{Stage}
 use Rattle.aprs_bookfile.specs.declared.stage.Stage.TheVariants.{Header, Rows, Done}
 use Rattle.aprs_bookfile.specs.declared.row_stream.RowStream.{RowStream}
 use Rattle.aprs_bookfile.specs.declared.version.Version.{Version}
-use Rattle.aprs_folding.specs.Folding.{IsFolding}
+use Rattle.aprs_fold.specs.Folding.{IsFolding}
 use Rattle.aprs_fold.specs.Begun.{AreFolded, AreTaken, BeginsWith, IsTaken}
 use Rattle.aprs_fold.specs.Fronts.{row_at}
 use Rattle.aprs_fold.specs.Inputs.{all_of}

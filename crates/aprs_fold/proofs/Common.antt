@@ -4,16 +4,16 @@ pub use Rattle.aprs_io.proofs.Sends.{Calls-none, Calls-then}
 pub use Rattle.aprs_io.specs.Device.{Calls, End, Fault, Going, Last, Sends}
 pub use Rattle.aprs_io.specs.Outlet.{Puts}
 pub use Rattle.aprs_io.specs.declared.device.Counted.{Counted}
-pub use Rattle.aprs_laws.proofs.Books.{row_total}
-pub use Rattle.aprs_laws.proofs.Common.{upto}
-pub use Rattle.aprs_laws.proofs.Lists.{in_either, in_left, in_right}
-pub use Rattle.aprs_laws.proofs.Orders.{up_to_itself}
-pub use Rattle.aprs_laws.specs.BookValue.{BookValue}
-pub use Rattle.aprs_laws.specs.Gap.{IsGap, millis_of}
-pub use Rattle.aprs_laws.specs.Lists.{Ordered, SameMembers, ◌∈◌}
-pub use Rattle.aprs_laws.specs.Order.{IsBelow, IsUpTo}
-pub use Rattle.aprs_laws.specs.Row.{Row, row_cmp}
-pub use Rattle.aprs_laws.specs.Sound.{IsSoundRow, AreSoundRows, Sound}
+pub use Rattle.aprs_transmissions.proofs.Books.{row_total}
+pub use Rattle.aprs_transmissions.proofs.Common.{upto}
+pub use Rattle.aprs_transmissions.proofs.Lists.{in_either, in_left, in_right}
+pub use Rattle.aprs_transmissions.proofs.Orders.{up_to_itself}
+pub use Rattle.aprs_transmissions.specs.BookValue.{BookValue}
+pub use Rattle.aprs_transmissions.specs.Gap.{IsGap, millis_of}
+pub use Rattle.aprs_transmissions.specs.Lists.{Ordered, SameMembers, ◌∈◌}
+pub use Rattle.aprs_transmissions.specs.Order.{IsBelow, IsUpTo}
+pub use Rattle.aprs_transmissions.specs.Row.{Row, row_cmp}
+pub use Rattle.aprs_transmissions.specs.Sound.{IsSoundRow, AreSoundRows, Sound}
 pub use Rattle.std.proofs.Common.{Bool, Err, IfErr, IfOk, IfSome, IsErr, List, None, Ok, Option, Result, Some, [], ap, append-nil, append_assoc, arith, cond, drop, false, get_or, inl, inr, length, length-append, map, refl, rules, set, subst, suc, sym, take, true, zero, ℕ, ◌++◌, ◌+◌, ◌-◌, ◌<◌, ◌∙◌, ◌∷◌, ◌≡◌, ◌≤◌, ◌⊎◌}
 pub use Rattle.std.proofs.Math.Numerals.{add-one}
 pub use Rattle.std.proofs.lemmas.Bool.{cases_lt}

@@ -2,8 +2,8 @@
 use Rattle.aprs_fold.proofs.Common.{◌≡◌, ◌∙◌, ℕ, Bool, true, false, cond, List, [], ◌∷◌, ◌++◌, inl, inr, refl, ap, Row, row_cmp, IsBelow, Ordered, Sound, ◌∈◌}
 use Rattle.std.specs.List.{filter}
 use Rattle.std.proofs.lemmas.List.Elements.{filter-append}
-use Rattle.aprs_laws.specs.Row.{row_key}
-use Rattle.aprs_laws.specs.Sound.{IsFar}
+use Rattle.aprs_transmissions.specs.Row.{row_key}
+use Rattle.aprs_transmissions.specs.Sound.{IsFar}
 use Rattle.aprs_fold.specs.Range.{all_sources, is_within, rows_of_sources, AllAreWithin}
 use Rattle.aprs_fold.specs.declared.range.SourceRange.{SourceRange}
 

@@ -11,8 +11,8 @@ use Rattle.aprs_bookfile.specs.declared.stage.Stage.{Stage}
 use Rattle.aprs_bookfile.specs.declared.stage.Stage.TheVariants.{Header, Rows, Done}
 use Rattle.aprs_bookfile.specs.declared.row_stream.RowStream.{RowStream}
 use Rattle.aprs_bookfile.proofs.BookRows.{rows_sound}
-use Rattle.aprs_folding.specs.News.{is_among, new_rows}
-use Rattle.aprs_folding.proofs.News.{among_in, in_among}
+use Rattle.aprs_fold.specs.NewRows.{is_among, new_rows}
+use Rattle.aprs_fold.proofs.NewRows.{among_in, in_among}
 use Rattle.aprs_fold.specs.Streams.{IsReading}
 
 -- ---- the row in front

@@ -1,4 +1,8 @@
 pub mod Common
+pub mod Folding
+pub mod NewRows
+pub mod Steps
+pub mod Beside
 pub mod Fronts
 pub mod Matches
 pub mod Reading
@@ -13,3 +17,9 @@ pub mod Texts
 pub mod Lacking
 pub mod Newing
 pub mod NewTexts
+pub mod Frames
+pub mod Lent
+pub mod Lines
+pub mod Places
+pub mod Rows
+pub mod Stretches

@@ -3,13 +3,13 @@
 use Rattle.aprs_fold.proofs.Common.{◌≡◌, ◌∙◌, ◌+◌, ℕ, zero, suc, Bool, true, false, cond, List, [], ◌∷◌, ◌++◌, append-nil, append_assoc, length, length-append, map, Option, Some, None, inl, inr, refl, sym, ap, subst, upto, up_to_itself, in_either, in_left, in_right, Counted, Row, row_cmp, row_total, IsBelow, IsUpTo, IsSoundRow, Sound, IsGap, millis_of, ◌∈◌}
 use Rattle.std.proofs.lemmas.List.Elements.{filter-append}
 use Rattle.aprs_io.specs.declared.outlet.Outlet.{Outlet}
-use Rattle.aprs_laws.specs.Together.{book_together}
+use Rattle.aprs_transmissions.specs.Together.{book_together}
 use Rattle.aprs_bookfile.specs.declared.row_stream.RowStream.{RowStream}
-use Rattle.aprs_folding.specs.Folding.{rows_put, IsFolding, TakesNext}
-use Rattle.aprs_folding.specs.News.{last_of, new_rows}
-use Rattle.aprs_folding.proofs.Beside.{last_decides, last_more, new_same}
-use Rattle.aprs_folding.proofs.News.{is_new, new_are_sound}
-use Rattle.aprs_folding.proofs.Steps.{begins, ends_as_book}
+use Rattle.aprs_fold.specs.Folding.{rows_put, IsFolding, TakesNext}
+use Rattle.aprs_fold.specs.NewRows.{last_of, new_rows}
+use Rattle.aprs_fold.proofs.Beside.{last_decides, last_more, new_same}
+use Rattle.aprs_fold.proofs.NewRows.{is_new, new_are_sound}
+use Rattle.aprs_fold.proofs.Steps.{begins, ends_as_book}
 use Rattle.aprs_fold.specs.Fold.{IsWhole}
 use Rattle.aprs_fold.specs.Fronts.{row_at, IsFirst}
 use Rattle.aprs_fold.specs.Inputs.{all_of, AreBooks, IsRefused}

@@ -9,9 +9,9 @@ use Rattle.std.specs.declared.cmp.Ordering.{Ordering}
 use Rattle.std.specs.declared.cmp.Ordering.TheVariants.{Less, Equal, Greater}
 use Rattle.aprs_ax25.specs.Callsign.{Call, call_cmp}
 use Rattle.aprs_log.specs.Reception.{bytes_cmp}
-use Rattle.aprs_laws.specs.Key.{Key, key_cmp}
-use Rattle.aprs_laws.specs.Row.{row_key}
-use Rattle.aprs_laws.proofs.Orders.{call_total}
+use Rattle.aprs_transmissions.specs.Key.{Key, key_cmp}
+use Rattle.aprs_transmissions.specs.Row.{row_key}
+use Rattle.aprs_transmissions.proofs.Orders.{call_total}
 use Rattle.aprs_fold.specs.Range.{is_from, is_until, is_within, rows_of_sources, PartsAreWhole}
 use Rattle.aprs_fold.specs.declared.range.SourceRange.{SourceRange}
 use Rattle.aprs_fold.proofs.Kept.{is_row_within}

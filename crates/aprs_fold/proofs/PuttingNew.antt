@@ -4,7 +4,7 @@ use Rattle.std.specs.Prelude.{nat_eq}
 use Rattle.std.proofs.lemmas.Bool.{eq-eqb, eqb-true}
 use Rattle.aprs_io.specs.declared.outlet.Outlet.{Outlet}
 use Rattle.aprs_rows.specs.OpenRow.{JoinsOrNot}
-use Rattle.aprs_folding.specs.News.{new_rows}
+use Rattle.aprs_fold.specs.NewRows.{new_rows}
 use Rattle.aprs_fold.specs.Known.{is_first, FailsNew, PutsNew, TakesNew}
 use Rattle.aprs_fold.specs.Range.{rows_of_sources}
 use Rattle.aprs_fold.specs.Taking.{lines_of_rows, FailsPut, HasPut, IsThere}

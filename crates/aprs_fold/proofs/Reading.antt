@@ -5,7 +5,7 @@ use Rattle.std.specs.Prelude.{IfSome, Result}
 use Rattle.aprs_io.specs.Input.{Gets}
 use Rattle.aprs_io.specs.declared.input.InputEnd.{InputEnd}
 use Rattle.aprs_io.specs.declared.input.InputEnd.TheVariants as how
-use Rattle.aprs_laws.specs.BookValue.{BookValue}
+use Rattle.aprs_transmissions.specs.BookValue.{BookValue}
 use Rattle.aprs_bookfile.specs.Asking.{AsksAt}
 use Rattle.aprs_bookfile.specs.BookAnswers.{ReadsBook}
 use Rattle.aprs_bookfile.specs.Reader.{gap_in, HoldsIn}

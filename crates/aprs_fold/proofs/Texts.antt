@@ -8,13 +8,13 @@ use Rattle.aprs_io.specs.Outlet.{HasTaken, held_of, writer_of}
 use Rattle.aprs_io.specs.declared.outlet.Outlet.{Outlet}
 use Rattle.aprs_log.specs.LogText.{text_of_lines}
 use Rattle.aprs_log.specs.declared.moment_form.MomentForm.TheVariants.{Millis}
-use Rattle.aprs_laws.specs.BookValue.{BookValue}
+use Rattle.aprs_transmissions.specs.BookValue.{BookValue}
 use Rattle.aprs_bookfile.specs.RowLines.{ended_by_lf, line_and_lf}
 use Rattle.aprs_bookfile.specs.Text.{end_line, row_line, written_text}
 use Rattle.aprs_bookfile.specs.declared.version.Version.TheVariants.{Three}
 use Rattle.aprs_bookfile.proofs.CutRows.{lack_an_end}
 use Rattle.aprs_bookfile.proofs.TextParts.{text_parts}
-use Rattle.aprs_folding.proofs.Steps.{begins}
+use Rattle.aprs_fold.proofs.Steps.{begins}
 use Rattle.aprs_fold.specs.Fold.{header_text, IsFoldedBook, IsLeft, IsPart, IsWhole, LacksEnd, LeavesRows, LeavesText, PutsPart, PutsRows, PutsTextPart}
 use Rattle.aprs_fold.specs.Range.{rows_of_sources}
 use Rattle.aprs_fold.specs.Taking.{lines_of_rows}

@@ -3,15 +3,15 @@ use Rattle.aprs_fold.proofs.Common.{◌≡◌, ◌<◌, ◌+◌, ◌∙◌, ℕ,
 use Rattle.std.proofs.lemmas.List.Elements.{All-cons, All-nil}
 use Rattle.aprs_io.specs.declared.outlet.Outlet.{Outlet}
 use Rattle.aprs_log.specs.declared.moment_form.MomentForm.TheVariants.{Millis}
-use Rattle.aprs_laws.specs.Sound.{IsFar}
-use Rattle.aprs_laws.specs.Together.{book_together}
-use Rattle.aprs_laws.proofs.Together.{book_is_sound}
+use Rattle.aprs_transmissions.specs.Sound.{IsFar}
+use Rattle.aprs_transmissions.specs.Together.{book_together}
+use Rattle.aprs_transmissions.proofs.Together.{book_is_sound}
 use Rattle.aprs_bookfile.specs.Text.{IsBookRow}
 use Rattle.aprs_bookfile.specs.declared.row_stream.RowStream.{RowStream}
 use Rattle.aprs_bookfile.specs.declared.version.Version.TheVariants.{Three}
 use Rattle.aprs_bookfile.proofs.BookRows.{rows_are}
-use Rattle.aprs_folding.specs.Folding.{rows_put, IsFolding, NoneIsBefore, TakesNext}
-use Rattle.aprs_folding.proofs.Steps.{begins, ends_as_book, takes_on}
+use Rattle.aprs_fold.specs.Folding.{rows_put, IsFolding, NoneIsBefore, TakesNext}
+use Rattle.aprs_fold.proofs.Steps.{begins, ends_as_book, takes_on}
 use Rattle.aprs_fold.specs.Begun.{IsBegun}
 use Rattle.aprs_fold.specs.Fold.{IsWhole, LeavesRows, PutsPart, PutsRows}
 use Rattle.aprs_fold.specs.Fronts.{row_at, IsFirst, NotAfter}

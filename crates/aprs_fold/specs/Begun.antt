@@ -2,13 +2,13 @@
 use Rattle.std.specs.Prelude.{◌≡◌, ℕ, ◌⊎◌, List, [], ◌∷◌, ◌++◌, map, Option, Some, Ok}
 use Rattle.aprs_io.specs.declared.device.Counted.{Counted}
 use Rattle.aprs_log.specs.LogText.{text_of_lines}
-use Rattle.aprs_laws.specs.Gap.{millis_of}
-use Rattle.aprs_laws.specs.Row.{Row}
+use Rattle.aprs_transmissions.specs.Gap.{millis_of}
+use Rattle.aprs_transmissions.specs.Row.{Row}
 use Rattle.aprs_bookfile.specs.Reading.{IsAnswered}
 use Rattle.aprs_bookfile.specs.Text.{row_line, IsBookRows}
 use Rattle.aprs_bookfile.specs.Version.{form_of, gap_of, header_of}
 use Rattle.aprs_bookfile.specs.declared.version.Version.{Version}
-use Rattle.aprs_folding.specs.Folding.{IsFolding}
+use Rattle.aprs_fold.specs.Folding.{IsFolding}
 use Rattle.aprs_fold.specs.Inputs.{all_of}
 
 -- The input begins as a book file of this gap, with the lines of these rows. Where its bytes aren't

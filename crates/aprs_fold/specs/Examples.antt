@@ -1,7 +1,7 @@
 -- Ranges and rows that the worked examples are about.
 use Rattle.std.specs.Prelude.{[], ◌∷◌, None, Some}
-use Rattle.aprs_laws.specs.Examples.{example_row, hi_frame, n0call, of_other, reception_at, rx1}
-use Rattle.aprs_laws.specs.Row.{Row}
+use Rattle.aprs_transmissions.specs.Examples.{example_row, hi_frame, n0call, of_other, reception_at, rx1}
+use Rattle.aprs_transmissions.specs.Row.{Row}
 use Rattle.aprs_fold.specs.declared.range.SourceRange.{SourceRange}
 
 -- From N0CALL-2 until N0CALL-10.

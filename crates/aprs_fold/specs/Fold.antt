@@ -7,7 +7,7 @@ use Rattle.aprs_io.specs.Outlet.{held_of, Puts}
 use Rattle.aprs_io.specs.declared.device.Counted.{Counted}
 use Rattle.aprs_io.specs.declared.outlet.Outlet.{Outlet}
 use Rattle.aprs_io.specs.declared.input.InputEnd.TheVariants as how
-use Rattle.aprs_laws.specs.Row.{Row}
+use Rattle.aprs_transmissions.specs.Row.{Row}
 use Rattle.aprs_bookfile.specs.RowLines.{ended_by_lf, line_and_lf}
 use Rattle.aprs_bookfile.specs.Text.{written_text, IsBookRows}
 use Rattle.aprs_bookfile.specs.TextFault.{HasBookFault}
@@ -49,7 +49,7 @@ IsPart contents gap fault rows last old new = (part : List ℕ) × (rest : List 
 
 -- What was written before the fold ended early: a part of a book's text (`IsPart`), with those of
 -- these rows whose sources are within the range. `rows` are final: whatever the inputs go on to be,
--- the book of all begins with them (`BeginsBook` of aprs_folding). With `last` they are the book of
+-- the book of all begins with them (`BeginsBook`). With `last` they are the book of
 -- the rows that were taken of the inputs (`EndsAsBook`).
 pub record IsLeft {R W : Type 0} (remaining : R → Option (List ℕ))
     (contents : W → Option (List ℕ)) (limit gap : ℕ) (range : SourceRange) (fault : FoldFault)

@@ -2,8 +2,8 @@
 -- cites this module.
 use Rattle.std.specs.Prelude.{◌≡◌, ℕ, ◌<◌, zero, suc, List, [], ◌∷◌, length, Option, None, Some}
 use Rattle.std.specs.List.{last_or}
-use Rattle.aprs_laws.specs.Order.{IsUpTo}
-use Rattle.aprs_laws.specs.Row.{Row, row_cmp}
+use Rattle.aprs_transmissions.specs.Order.{IsUpTo}
+use Rattle.aprs_transmissions.specs.Row.{Row, row_cmp}
 use Rattle.aprs_bookfile.specs.RowStream.{front_of}
 use Rattle.aprs_bookfile.specs.declared.row_stream.RowStream.{RowStream}
 

@@ -5,10 +5,10 @@ use Rattle.aprs_io.specs.Device.{Calls, Last}
 use Rattle.aprs_io.specs.Input.{Gets}
 use Rattle.aprs_io.specs.declared.device.Counted.{Counted}
 use Rattle.aprs_io.specs.declared.input.InputEnd.{InputEnd}
-use Rattle.aprs_laws.specs.BookValue.{BookValue}
-use Rattle.aprs_laws.specs.Gap.{millis_of}
-use Rattle.aprs_laws.specs.Row.{Row}
-use Rattle.aprs_laws.specs.Together.{book_together}
+use Rattle.aprs_transmissions.specs.BookValue.{BookValue}
+use Rattle.aprs_transmissions.specs.Gap.{millis_of}
+use Rattle.aprs_transmissions.specs.Row.{Row}
+use Rattle.aprs_transmissions.specs.Together.{book_together}
 use Rattle.aprs_bookfile.specs.Reading.{IsAnswered}
 use Rattle.aprs_bookfile.specs.RowLines.{ended_by_lf}
 use Rattle.aprs_bookfile.specs.Version.{gap_of, header_of, IsVersion}

@@ -3,14 +3,14 @@
 use Rattle.std.specs.Prelude.{◌≡◌, ◌⊎◌, ℕ, zero, suc, Bool, true, false, List, [], ◌∷◌, ◌++◌, length, Option}
 use Rattle.aprs_io.specs.declared.device.Counted.{Counted}
 use Rattle.aprs_io.specs.declared.outlet.Outlet.{Outlet}
-use Rattle.aprs_laws.specs.Gap.{millis_of}
-use Rattle.aprs_laws.specs.Lists.{◌∈◌}
-use Rattle.aprs_laws.specs.Order.{IsUpTo}
-use Rattle.aprs_laws.specs.Row.{Row, row_cmp}
-use Rattle.aprs_laws.specs.Sound.{Sound}
+use Rattle.aprs_transmissions.specs.Gap.{millis_of}
+use Rattle.aprs_transmissions.specs.Lists.{◌∈◌}
+use Rattle.aprs_transmissions.specs.Order.{IsUpTo}
+use Rattle.aprs_transmissions.specs.Row.{Row, row_cmp}
+use Rattle.aprs_transmissions.specs.Sound.{Sound}
 use Rattle.aprs_bookfile.specs.declared.row_stream.RowStream.{RowStream}
-use Rattle.aprs_folding.specs.Folding.{rows_put, IsFolding, TakesNext}
-use Rattle.aprs_folding.specs.News.{last_of, new_rows}
+use Rattle.aprs_fold.specs.Folding.{rows_put, IsFolding, TakesNext}
+use Rattle.aprs_fold.specs.NewRows.{last_of, new_rows}
 use Rattle.aprs_fold.specs.Fold.{IsWhole}
 use Rattle.aprs_fold.specs.Inputs.{all_of}
 use Rattle.aprs_fold.specs.News.{first_of}

@@ -1,4 +1,7 @@
 -- Definitions that contracts of folds cite.
+pub mod Folded
+pub mod Folding
+pub mod NewRows
 pub mod Inputs
 pub mod Begun
 pub mod Examples
@@ -10,6 +13,13 @@ pub mod News
 pub mod Range
 pub mod Streams
 pub mod Taking
+pub mod Lent
+pub mod Lines
+pub mod Cuts
+pub mod ReadAt
 -- What public clauses cite of lower crates.
-pub use Rattle.aprs_folding.specs.Folding
-pub use Rattle.aprs_folding.specs.News as Lacking
+pub use Rattle.aprs_transmissions.specs.Row
+pub use Rattle.aprs_transmissions.specs.Sound
+pub use Rattle.aprs_transmissions.specs.JoinRow
+pub use Rattle.aprs_transmissions.specs.Coalescing
+pub use Rattle.aprs_transmissions.specs.Together

@@ -2,9 +2,9 @@
 use Rattle.std.specs.Prelude.{ℕ, List, [], ◌∷◌, Option}
 use Rattle.aprs_io.specs.declared.device.Counted.{Counted}
 use Rattle.aprs_io.specs.declared.outlet.Outlet.{Outlet}
-use Rattle.aprs_laws.specs.BookValue.{BookValue}
-use Rattle.aprs_laws.specs.Row.{Row}
-use Rattle.aprs_folding.specs.News.{new_rows}
+use Rattle.aprs_transmissions.specs.BookValue.{BookValue}
+use Rattle.aprs_transmissions.specs.Row.{Row}
+use Rattle.aprs_fold.specs.NewRows.{new_rows}
 use Rattle.aprs_fold.specs.Fold.{IsPart, IsWhole, PutsPart, PutsTextPart}
 use Rattle.aprs_fold.specs.Range.{book_of_sources}
 use Rattle.aprs_fold.specs.declared.fault.FoldFault.{FoldFault}

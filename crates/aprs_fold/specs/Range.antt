@@ -3,10 +3,10 @@ use Rattle.std.specs.Prelude.{◌≡◌, Bool, true, ◌&&◌, ℕ, List, ◌++�
 use Rattle.std.specs.List.{filter}
 use Rattle.std.specs.Ordering.{is_le, is_lt}
 use Rattle.aprs_ax25.specs.Callsign.{Call, call_cmp}
-use Rattle.aprs_laws.specs.BookValue.{BookValue}
-use Rattle.aprs_laws.specs.Lists.{Ordered}
-use Rattle.aprs_laws.specs.Order.{IsBelow}
-use Rattle.aprs_laws.specs.Row.{Row, row_cmp, row_key}
+use Rattle.aprs_transmissions.specs.BookValue.{BookValue}
+use Rattle.aprs_transmissions.specs.Lists.{Ordered}
+use Rattle.aprs_transmissions.specs.Order.{IsBelow}
+use Rattle.aprs_transmissions.specs.Row.{Row, row_cmp, row_key}
 use Rattle.aprs_fold.specs.Inputs.{book_of_all}
 use Rattle.aprs_fold.specs.declared.range.SourceRange.{SourceRange}
 

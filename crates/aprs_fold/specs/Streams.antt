@@ -2,8 +2,8 @@
 use Rattle.std.specs.Prelude.{◌≡◌, ◌≢◌, ℕ, ◌≤◌, ◌+◌, ◌⊎◌, zero, suc, if◌then◌else◌, false, List, [], ◌∷◌, ◌++◌, length, Option, Some}
 use Rattle.std.specs.List.{flat_map}
 use Rattle.aprs_io.specs.declared.device.Counted.{Counted}
-use Rattle.aprs_laws.specs.Order.{IsUpTo}
-use Rattle.aprs_laws.specs.Row.{Row, row_cmp}
+use Rattle.aprs_transmissions.specs.Order.{IsUpTo}
+use Rattle.aprs_transmissions.specs.Row.{Row, row_cmp}
 use Rattle.aprs_bookfile.specs.RowReader.{most_stream}
 use Rattle.aprs_bookfile.specs.RowStream.{front_of, gap_of_stream, GetsOne, is_ended, stream_ahead, stream_size}
 use Rattle.aprs_bookfile.specs.declared.row_stream.RowStream.{RowStream}

@@ -5,11 +5,11 @@ use Rattle.std.specs.List.{flat_map}
 use Rattle.aprs_io.specs.Outlet.{Puts}
 use Rattle.aprs_io.specs.declared.outlet.Outlet.{Outlet}
 use Rattle.aprs_log.specs.declared.moment_form.MomentForm.TheVariants.{Millis}
-use Rattle.aprs_laws.specs.Lists.{◌∈◌}
-use Rattle.aprs_laws.specs.Row.{Row}
+use Rattle.aprs_transmissions.specs.Lists.{◌∈◌}
+use Rattle.aprs_transmissions.specs.Row.{Row}
 use Rattle.aprs_bookfile.specs.RowLines.{line_and_lf}
 use Rattle.aprs_bookfile.specs.Text.{IsBookRow}
-use Rattle.aprs_folding.specs.Folding.{rows_put, TakesNext}
+use Rattle.aprs_fold.specs.Folding.{rows_put, TakesNext}
 use Rattle.aprs_fold.specs.Range.{rows_of_sources}
 use Rattle.aprs_fold.specs.declared.range.SourceRange.{SourceRange}
 use Rattle.aprs_fold.specs.declared.fault.FoldFault.{FoldFault}

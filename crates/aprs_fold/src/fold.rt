@@ -2,8 +2,8 @@
 ghost use Rattle.std.specs.Prelude.{◌≡◌, ◌≤◌, [], List, IfErr, IfOk, OnOk};
 ghost use Rattle.aprs_io.specs.Device.{Sends};
 ghost use Rattle.aprs_io.specs.Outlet.{Puts, held_of};
-ghost use Rattle.aprs_laws.specs.Gap.{IsGap};
-ghost use Rattle.aprs_laws.specs.Row.{Row};
+ghost use Rattle.aprs_transmissions.specs.Gap.{IsGap};
+ghost use Rattle.aprs_transmissions.specs.Row.{Row};
 ghost use Rattle.aprs_bookfile.specs.RowLines.{ended_by_lf};
 ghost use Rattle.aprs_bookfile.specs.RowReader.{most_stream};
 ghost use Rattle.aprs_bookfile.specs.Text.{written_text};
@@ -20,7 +20,7 @@ use crate::taking::{count_after, has_line, put_last, take_front};
 use crate::tournament::Tournament;
 use aprs_bookfile::{OpenLine, WrittenRow, end_line_and_lf, header_line};
 use aprs_io::{Counted, Outlet, WriteFault};
-use aprs_laws::Gap;
+use aprs_transmissions::Gap;
 use std::alloc::Allocator;
 use std::io::{Read, Write};
 

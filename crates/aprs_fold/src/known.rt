@@ -1,6 +1,6 @@
 //! Whether a row is the one of a known book that was last taken.
 ghost use Rattle.std.specs.Prelude.{◌≡◌, false, true};
-ghost use Rattle.aprs_laws.specs.Lists.{◌∈◌};
+ghost use Rattle.aprs_transmissions.specs.Lists.{◌∈◌};
 
 use aprs_rows::{OpenRow, RowView};
 use std::alloc::Allocator;

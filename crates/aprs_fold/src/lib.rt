@@ -1,7 +1,8 @@
-//! Book files folded into one, in memory that doesn't grow with their rows.
+//! Book files folded into one, in memory that doesn't grow with their rows: all of them, a range of
+//! sources, which is found by bisection, or what is new to one of them.
 #![tactic(auto)]
 
-mod example;
+mod examples;
 mod fault;
 mod fold;
 mod known;
@@ -13,9 +14,17 @@ mod taking;
 mod taking_new;
 mod tournament;
 
-pub use example::{ranges_lack_their_ends, rows_are_in_one_part};
+pub use examples::lent_lines::last_lines_count_the_lines_before_them;
+pub use examples::new_rows::{new_rows_need_the_old, rows_are_new_as_they_are};
+pub use examples::ranges::{ranges_lack_their_ends, rows_are_in_one_part};
 pub use fault::FoldFault;
 pub use fold::{MAX_BOOK, fold_books};
-pub use laws::parts_are_the_whole;
+pub use laws::books::{books_are_folded, rows_in_order_are_folded};
+pub use laws::news::{
+    new_rows_are_a_book, new_rows_are_enough, news_come_in_any_order, old_rows_are_seen,
+};
+pub use laws::parts::parts_are_the_whole;
 pub use news::fold_news;
 pub use range::SourceRange;
+pub use range::book_range::BookRange;
+pub use range::read_at::ReadAt;

@@ -1,7 +1,7 @@
 //! The streams of several inputs: their first rows, and the next row of one.
 ghost use Rattle.std.specs.Prelude.{◌≡◌, ℕ, ◌<◌, ◌≤◌, ◌++◌, ◌∷◌, [], IfErr, IfOk, List, OnOk, length};
 ghost use Rattle.aprs_io.specs.declared.device.Counted.{Counted as CountedValue};
-ghost use Rattle.aprs_laws.specs.Row.{Row};
+ghost use Rattle.aprs_transmissions.specs.Row.{Row};
 ghost use Rattle.aprs_bookfile.specs.RowReader.{most_stream};
 ghost use Rattle.aprs_fold.specs.Inputs as Spec;
 ghost use Rattle.aprs_fold.specs.Streams as Streams;
@@ -9,7 +9,7 @@ ghost use Rattle.aprs_fold.specs.Streams as Streams;
 use crate::fault::FoldFault;
 use aprs_bookfile::RowStream;
 use aprs_io::Counted;
-use aprs_laws::Gap;
+use aprs_transmissions::Gap;
 use std::alloc::Allocator;
 use std::io::Read;
 

@@ -1,7 +1,15 @@
-//! Ranges of sources.
+//! Ranges of sources, and their rows in book files that can be read at any place.
 ghost use Rattle.std.specs.Prelude.{◌≡◌};
-ghost use Rattle.aprs_laws.specs.Row.{row_key};
+ghost use Rattle.aprs_transmissions.specs.Row.{row_key};
 ghost use Rattle.aprs_fold.specs.Range as Spec;
+
+pub(crate) mod book_range;
+pub(crate) mod cut;
+pub(crate) mod find;
+pub(crate) mod judge;
+pub(crate) mod line;
+pub(crate) mod read_at;
+pub(crate) mod tail;
 
 use aprs_ax25::Callsign;
 use aprs_rows::RowView;
@@ -36,7 +44,7 @@ impl SourceRange {
     }
 
     /// Whether the row's source is within the range.
-    #[tactic(auto, unfolding(aprs_laws::specs::Key::key_of))]
+    #[tactic(auto, unfolding(aprs_transmissions::specs::Key::key_of))]
     pub(crate) fn contains_row(&self, row: &RowView<'_>) -> bool
         ensures { result ≡ Spec.is_within self.now (row_key row.now).source }
     {

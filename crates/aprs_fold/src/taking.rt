@@ -1,8 +1,8 @@
 //! Rows that are taken in order and written, once no later row can join them.
 ghost use Rattle.std.specs.Prelude.{◌≡◌, ◌+◌, Some, IfErr, IfOk, OnOk, if◌then◌else◌};
-ghost use Rattle.aprs_laws.specs.Gap.{millis_of};
-ghost use Rattle.aprs_laws.specs.Row.{Row};
-ghost use Rattle.aprs_laws.specs.Sound.{IsSoundRow};
+ghost use Rattle.aprs_transmissions.specs.Gap.{millis_of};
+ghost use Rattle.aprs_transmissions.specs.Row.{Row};
+ghost use Rattle.aprs_transmissions.specs.Sound.{IsSoundRow};
 ghost use Rattle.aprs_rows.specs.Packed.{IsShort};
 ghost use Rattle.aprs_fold.specs.Fronts.{IsFirst, row_at};
 ghost use Rattle.aprs_fold.specs.Range.{rows_of_sources};
@@ -12,7 +12,7 @@ use crate::fault::FoldFault;
 use crate::range::SourceRange;
 use aprs_bookfile::{LentRow, OpenLine, RowStream, WrittenRow};
 use aprs_io::Outlet;
-use aprs_laws::Gap;
+use aprs_transmissions::Gap;
 use std::alloc::Allocator;
 use std::io::Write;
 

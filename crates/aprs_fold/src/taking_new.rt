@@ -1,10 +1,10 @@
 //! Rows that are taken in order, of which those are written that are new to a known book.
 ghost use Rattle.std.specs.Prelude.{◌≡◌, ◌∷◌, [], Some, IfErr, IfOk, OnOk};
-ghost use Rattle.aprs_laws.specs.Gap.{millis_of};
-ghost use Rattle.aprs_laws.specs.Row.{Row};
-ghost use Rattle.aprs_laws.specs.Sound.{IsSoundRow};
+ghost use Rattle.aprs_transmissions.specs.Gap.{millis_of};
+ghost use Rattle.aprs_transmissions.specs.Row.{Row};
+ghost use Rattle.aprs_transmissions.specs.Sound.{IsSoundRow};
 ghost use Rattle.aprs_rows.specs.Packed.{IsShort};
-ghost use Rattle.aprs_folding.specs.News.{new_rows};
+ghost use Rattle.aprs_fold.specs.NewRows.{new_rows};
 ghost use Rattle.aprs_fold.specs.Fronts.{IsFirst, row_at};
 ghost use Rattle.aprs_fold.specs.Known as Spec;
 ghost use Rattle.aprs_fold.specs.Range.{rows_of_sources};
@@ -15,7 +15,7 @@ use crate::known::is_kept;
 use crate::range::SourceRange;
 use aprs_bookfile::{LentRow, OpenLine, RowStream, WrittenRow};
 use aprs_io::Outlet;
-use aprs_laws::Gap;
+use aprs_transmissions::Gap;
 use aprs_rows::OpenRow;
 use std::alloc::Allocator;
 use std::io::Write;

@@ -1,6 +1,6 @@
 -- Lemmas on the fields of a line.
 use Rattle.aprs_listing.proofs.Common.{◌≡◌, ℕ, Bool, List, [], ◌∷◌, ◌++◌, map, refl, sym, ap, ap₂, ◌∙◌, flat_map, flat_map-append, Call, call_text, moment_text, Received}
-use Rattle.aprs_laws.specs.Key.{key_of}
+use Rattle.aprs_transmissions.specs.Key.{key_of}
 use Rattle.aprs_listing.specs.Lines.{field_text, spaced_field}
 use Rattle.aprs_listing.specs.Listing.{after_space, heard_fields, name_fields, line_with_text, word}
 use Rattle.aprs_report.specs.Object.{live_text}

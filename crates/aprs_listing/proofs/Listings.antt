@@ -1,7 +1,7 @@
 -- The text of a listing.
 use Rattle.aprs_listing.proofs.Common.{◌≡◌, ◌∷◌, ◌++◌, [], List, ap, flat_map, map, refl, Received}
-use Rattle.aprs_laws.specs.BookValue.{BookValue}
-use Rattle.aprs_laws.specs.Gap.{millis_of}
+use Rattle.aprs_transmissions.specs.BookValue.{BookValue}
+use Rattle.aprs_transmissions.specs.Gap.{millis_of}
 use Rattle.aprs_summary.specs.Messages.{ReportsMessages}
 use Rattle.aprs_summary.specs.Names.{ReportsNamed, Thing, shown_report}
 use Rattle.aprs_summary.specs.Stations.{ReportsStations}

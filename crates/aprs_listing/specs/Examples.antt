@@ -1,7 +1,7 @@
 -- Rows of worked examples, and the lines that a history has of them.
 use Rattle.std.specs.Prelude.{ℕ, ◌*◌, List, [], ◌∷◌, ◌++◌, map, codes}
-use Rattle.aprs_laws.specs.Examples.{reception_at, example_row, rx1}
-use Rattle.aprs_laws.specs.Row.{Row}
+use Rattle.aprs_transmissions.specs.Examples.{reception_at, example_row, rx1}
+use Rattle.aprs_transmissions.specs.Row.{Row}
 
 -- The frame from N0CALL-7 with this information to a destination, given as six characters: an
 -- address has each of them shifted left by one bit.

@@ -13,7 +13,7 @@ use Rattle.aprs_mice.specs.MicE.{MicEValue}
 use Rattle.aprs_mice.specs.MicEMessage.{message_name}
 use Rattle.aprs_mice.specs.Reader.{mic_e_or_none}
 use Rattle.aprs_log.specs.Moment.{moment_text}
-use Rattle.aprs_laws.specs.Row.{Row, last_moment}
+use Rattle.aprs_transmissions.specs.Row.{Row, last_moment}
 use Rattle.aprs_listing.specs.Listing.{id_word, line_with, line_with_text, place_fields, stamp_text, word}
 use Rattle.aprs_report.specs.Object.{live_text}
 

@@ -16,11 +16,11 @@ use Rattle.aprs_report.specs.declared.symbol.Symbol.{Symbol}
 use Rattle.aprs_report.specs.Object.{live_text}
 use Rattle.aprs_log.specs.Moment.{moment_text}
 use Rattle.aprs_log.specs.Reception.{Received}
-use Rattle.aprs_laws.specs.Key.{key_of}
+use Rattle.aprs_transmissions.specs.Key.{key_of}
 use Rattle.aprs_summary.specs.Reports.{report_of}
 use Rattle.aprs_summary.specs.declared.lists.message.MessageRow.{MessageRow}
-use Rattle.aprs_laws.specs.BookValue.{BookValue}
-use Rattle.aprs_laws.specs.Gap.{millis_of}
+use Rattle.aprs_transmissions.specs.BookValue.{BookValue}
+use Rattle.aprs_transmissions.specs.Gap.{millis_of}
 use Rattle.aprs_summary.specs.Messages.{ReportsMessages, state_text}
 use Rattle.aprs_summary.specs.Names.{ReportsNamed, Thing}
 use Rattle.aprs_summary.specs.Stations.{ReportsStations}

@@ -1,7 +1,7 @@
 -- The history of rows has one line for each.
 use Rattle.std.specs.Prelude.{◌≡◌, ℕ, List, length, All}
 use Rattle.aprs_log.specs.LogText.{HasNoLf, text_of_lines}
-use Rattle.aprs_laws.specs.Row.{Row}
+use Rattle.aprs_transmissions.specs.Row.{Row}
 use Rattle.aprs_rows.specs.Told.{IsTold}
 use Rattle.aprs_listing.specs.History.{history_text}
 

@@ -1,6 +1,6 @@
 //! Worked examples of the lines of a history, and near misses. Their functions do nothing.
 ghost use Rattle.std.specs.Prelude.{◌≡◌, ◌∷◌, ◌++◌, [], codes};
-ghost use Rattle.aprs_laws.specs.Examples.{early_row, near_row};
+ghost use Rattle.aprs_transmissions.specs.Examples.{early_row, near_row};
 ghost use Rattle.aprs_listing.specs.Examples.{ended, heard_once, jeep_info, line_once, reported_once};
 ghost use Rattle.aprs_listing.specs.History.{history_line};
 

@@ -24,7 +24,7 @@ use aprs_ax25::{Callsign, FrameRef};
 use aprs_io::{Counted, Outlet, WriteFault};
 use aprs_log::Moment;
 use aprs_mice::MicE;
-use aprs_monitor::hops_text;
+use aprs_ax25::hops_text;
 use aprs_report::{Place, Report, Stamp, Symbol, live_text};
 use aprs_rows::{BookRows, RowView};
 use std::alloc::Allocator;

@@ -5,7 +5,7 @@ ghost use Rattle.aprs_ax25.specs.Hop.{hop_text};
 ghost use Rattle.aprs_ax25.specs.declared.hop.Hop.{Hop};
 ghost use Rattle.aprs_listing.specs.History.{via_text};
 
-use aprs_monitor::after_comma;
+use aprs_ax25::after_comma;
 
 /// The text of digipeaters without the comma before the first, or `-` where there are none.
 pub fn via_or_dash(hops: &[u8]) -> &[u8]

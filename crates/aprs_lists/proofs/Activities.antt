@@ -12,8 +12,8 @@ use Rattle.std.specs.Ordering.{is_eq, ordering_reverse}
 use Rattle.std.specs.declared.cmp.Ordering.{Ordering}
 use Rattle.std.specs.declared.cmp.Ordering.TheVariants.{Equal, Greater, Less}
 use Rattle.aprs_ax25.specs.Callsign.{Call, call_cmp}
-use Rattle.aprs_laws.proofs.Orders.{call_exact}
-use Rattle.aprs_laws.specs.Row.{last_moment, row_key}
+use Rattle.aprs_transmissions.proofs.Orders.{call_exact}
+use Rattle.aprs_transmissions.specs.Row.{last_moment, row_key}
 use Rattle.aprs_rows.proofs.Cases.{by_order}
 use Rattle.aprs_summary.proofs.Collected.{Adds, SoFar}
 use Rattle.aprs_summary.specs.Reports.{has_source}

@@ -1,3 +1,9 @@
+pub mod CopyOrder
+pub mod FirstAnswers
+pub mod Orders
+pub mod SentRuns
+pub mod PlainFirst
+pub mod OneSent
 pub mod Activities
 pub mod Common
 pub mod Lines

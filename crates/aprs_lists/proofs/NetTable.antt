@@ -3,17 +3,17 @@ use Rattle.aprs_lists.proofs.Common.{◌≡◌, ◌++◌, ◌∷◌, [], ℕ, Bo
 use Rattle.std.proofs.Common.{◌<◌, true, false}
 use Rattle.std.specs.Ordering.{on}
 use Rattle.aprs_ax25.specs.Callsign.{Call}
-use Rattle.aprs_laws.proofs.Lists.{from_map}
-use Rattle.aprs_laws.specs.BookValue.{IsSoundBook}
-use Rattle.aprs_laws.specs.Gap.{IsGap, millis_of}
-use Rattle.aprs_laws.specs.Order.{IsUpTo}
-use Rattle.aprs_messages.proofs.PlainFirst.{plain_is_first}
-use Rattle.aprs_messages.proofs.SentRuns.{plain_is_sent}
-use Rattle.aprs_messages.specs.Answers.{Reply, reply_cmp, reply_of}
-use Rattle.aprs_messages.specs.Copies.{Copy, copy_cmp, copy_of}
-use Rattle.aprs_messages.specs.Runs.{AreInTime, Sent, runs_of}
-use Rattle.aprs_messages.specs.declared.answers.Answer.{Answer}
-use Rattle.aprs_messages.specs.declared.copies.MessageCopy.{MessageCopy}
+use Rattle.aprs_transmissions.proofs.Lists.{from_map}
+use Rattle.aprs_transmissions.specs.BookValue.{IsSoundBook}
+use Rattle.aprs_transmissions.specs.Gap.{IsGap, millis_of}
+use Rattle.aprs_transmissions.specs.Order.{IsUpTo}
+use Rattle.aprs_lists.proofs.PlainFirst.{plain_is_first}
+use Rattle.aprs_lists.proofs.SentRuns.{plain_is_sent}
+use Rattle.aprs_lists.specs.Answers.{Reply, reply_cmp, reply_of}
+use Rattle.aprs_lists.specs.Copies.{Copy, copy_cmp, copy_of}
+use Rattle.aprs_lists.specs.Runs.{AreInTime, Sent, runs_of}
+use Rattle.aprs_lists.specs.declared.net.answers.Answer.{Answer}
+use Rattle.aprs_lists.specs.declared.net.copies.MessageCopy.{MessageCopy}
 use Rattle.aprs_summary.specs.MessageRows.{spelled_call}
 use Rattle.aprs_lists.specs.Lines.{tabbed_line}
 use Rattle.aprs_lists.specs.Net.{IsNetTable}

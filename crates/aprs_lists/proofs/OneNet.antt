@@ -2,11 +2,11 @@
 use Rattle.aprs_lists.proofs.Common.{◌≡◌, ◌∙◌, ℕ, Bool, List, None, Option, Some, [], ◌∷◌, ap₂, arith, refl, subst, sym, Row, SameMembers, ◌∈◌}
 use Rattle.std.proofs.Common.{◌≤◌, true, false}
 use Rattle.aprs_ax25.specs.Callsign.{Call}
-use Rattle.aprs_laws.specs.Row.{last_moment}
-use Rattle.aprs_messages.proofs.OneSent.{first_once, one_sent}
-use Rattle.aprs_messages.specs.Answers.{Reply}
-use Rattle.aprs_messages.specs.Copies.{Copy}
-use Rattle.aprs_messages.specs.Runs.{AreInTime, Sent}
+use Rattle.aprs_transmissions.specs.Row.{last_moment}
+use Rattle.aprs_lists.proofs.OneSent.{first_once, one_sent}
+use Rattle.aprs_lists.specs.Answers.{Reply}
+use Rattle.aprs_lists.specs.Copies.{Copy}
+use Rattle.aprs_lists.specs.Runs.{AreInTime, Sent}
 use Rattle.aprs_summary.specs.MessageRows.{spelled_call}
 use Rattle.aprs_lists.specs.Net.{AreNetMessages}
 use Rattle.aprs_lists.specs.Told.{AreTold, IsAnswerBy, IsToldRun, Told, asked_by, message_number, sent_told}

@@ -2,12 +2,12 @@
 use Rattle.aprs_lists.proofs.Common.{◌≡◌, ◌∙◌, ◌++◌, ◌∷◌, [], ℕ, List, None, Option, Some, ap, arith, refl, subst, sym, call_text, bytes_total, bool_cmp_total, on_total, then_total, IsTotalOrder, BookOf, Received, Row, SameMembers, ◌∈◌, Key, call_total, known_once, not_both}
 use Rattle.std.specs.List.{count_by}
 use Rattle.aprs_ax25.specs.Callsign.{Call, call_cmp}
-use Rattle.aprs_laws.proofs.Books.{unique}
-use Rattle.aprs_laws.specs.Best.{LastKnown}
-use Rattle.aprs_laws.specs.BestLaws.{Passes}
-use Rattle.aprs_laws.specs.Order.{IsBelow}
-use Rattle.aprs_laws.specs.Row.{row_key}
-use Rattle.aprs_laws.specs.Spans.{IsFirstMoment, IsLastMoment}
+use Rattle.aprs_transmissions.proofs.Books.{unique}
+use Rattle.aprs_transmissions.specs.Best.{LastKnown}
+use Rattle.aprs_transmissions.specs.BestLaws.{Passes}
+use Rattle.aprs_transmissions.specs.Order.{IsBelow}
+use Rattle.aprs_transmissions.specs.Row.{row_key}
+use Rattle.aprs_transmissions.specs.Spans.{IsFirstMoment, IsLastMoment}
 use Rattle.aprs_summary.proofs.Messages.{message_total}
 use Rattle.aprs_summary.proofs.OneReplyAck.{reply_ack_once}
 use Rattle.aprs_summary.specs.declared.lists.reply_ack.ReplyAck.{ReplyAck}

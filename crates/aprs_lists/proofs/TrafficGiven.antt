@@ -3,11 +3,11 @@ use Rattle.aprs_lists.proofs.Common.{◌≡◌, ◌∙◌, ◌++◌, ◌∷◌, 
 use Rattle.std.proofs.Common.{◌↔◌, ◌⊎◌, true, false}
 use Rattle.aprs_ax25.specs.Callsign.{Call}
 use Rattle.aprs_ax25.specs.CallText.{SpellsCall}
-use Rattle.aprs_laws.proofs.Lists.{from_map, in_either, in_left, in_map, in_right}
-use Rattle.aprs_laws.specs.Row.{row_key}
+use Rattle.aprs_transmissions.proofs.Lists.{from_map, in_either, in_left, in_map, in_right}
+use Rattle.aprs_transmissions.specs.Row.{row_key}
 use Rattle.aprs_report.specs.Reader.{reading_of}
 use Rattle.aprs_report.specs.Reading.{Value, message}
-use Rattle.aprs_messages.specs.Answers.{Reply}
+use Rattle.aprs_lists.specs.Answers.{Reply}
 use Rattle.aprs_summary.proofs.ReplyTexts.{held_so, none_held, one_held, only_none, only_some}
 use Rattle.aprs_summary.proofs.SpelledCalls.{spelled}
 use Rattle.aprs_summary.specs.MessageRows.{spelled_call}

@@ -6,7 +6,7 @@ use Rattle.std.specs.Map.{lookup}
 use Rattle.std.specs.Option.{is_some, option_map}
 use Rattle.aprs_ax25.specs.Callsign.{Call, call_cmp}
 use Rattle.aprs_details.specs.ThirdParty.{passed_of}
-use Rattle.aprs_laws.specs.Row.{Row, last_moment, row_key}
+use Rattle.aprs_transmissions.specs.Row.{Row, last_moment, row_key}
 use Rattle.aprs_summary.specs.Reports.{has_source}
 use Rattle.aprs_lists.specs.declared.activity.Activity.{Activity}
 

@@ -1,11 +1,11 @@
 -- Messages, answers, reports and rows that the worked examples are about.
 use Rattle.std.specs.Prelude.{ℕ, Bool, true, false, List, [], ◌∷◌, Option, None, codes}
 use Rattle.aprs_log.specs.Reception.{Received}
-use Rattle.aprs_laws.specs.Examples.{example_row, n0call, reception_at, rx1}
-use Rattle.aprs_laws.specs.Row.{Row}
-use Rattle.aprs_messages.specs.Answers.{Reply}
+use Rattle.aprs_transmissions.specs.Examples.{example_row, n0call, reception_at, rx1}
+use Rattle.aprs_transmissions.specs.Row.{Row}
+use Rattle.aprs_lists.specs.Answers.{Reply}
 use Rattle.aprs_summary.specs.Messages.{Message}
-use Rattle.aprs_messages.specs.Runs.{Sent}
+use Rattle.aprs_lists.specs.Runs.{Sent}
 use Rattle.aprs_summary.specs.Examples.{heard_by}
 
 -- What N0CALL-7 sends to an addressee, with an id or none.

@@ -1,4 +1,9 @@
 -- Definitions that contracts of these tables cite.
+pub mod Answers
+pub mod Chosen
+pub mod Copies
+pub mod NetExamples
+pub mod Runs
 pub mod Activity
 pub mod Class
 pub mod Examples

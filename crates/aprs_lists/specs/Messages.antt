@@ -1,8 +1,8 @@
 -- The table of the messages of a book.
 use Rattle.std.specs.Prelude.{◌≡◌, ◌++◌, ℕ, List}
 use Rattle.std.specs.List.{flat_map}
-use Rattle.aprs_laws.specs.BookValue.{BookValue}
-use Rattle.aprs_laws.specs.Gap.{millis_of}
+use Rattle.aprs_transmissions.specs.BookValue.{BookValue}
+use Rattle.aprs_transmissions.specs.Gap.{millis_of}
 use Rattle.aprs_summary.specs.Messages.{ReportsMessages}
 use Rattle.aprs_summary.specs.declared.lists.message.MessageRow.{MessageRow}
 use Rattle.aprs_lists.specs.Lines.{tabbed_line}

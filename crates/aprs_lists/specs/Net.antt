@@ -1,11 +1,11 @@
 -- The table of the messages of a net: each time that one was sent.
 use Rattle.std.specs.Prelude.{◌≡◌, ℕ, List}
-use Rattle.aprs_laws.specs.BookValue.{BookValue}
-use Rattle.aprs_laws.specs.Gap.{millis_of}
-use Rattle.aprs_laws.specs.Row.{Row}
-use Rattle.aprs_messages.specs.Answers.{Reply}
-use Rattle.aprs_messages.specs.Copies.{Copy}
-use Rattle.aprs_messages.specs.Runs.{AreSent, Sent}
+use Rattle.aprs_transmissions.specs.BookValue.{BookValue}
+use Rattle.aprs_transmissions.specs.Gap.{millis_of}
+use Rattle.aprs_transmissions.specs.Row.{Row}
+use Rattle.aprs_lists.specs.Answers.{Reply}
+use Rattle.aprs_lists.specs.Copies.{Copy}
+use Rattle.aprs_lists.specs.Runs.{AreSent, Sent}
 use Rattle.aprs_lists.specs.Told.{AreTold, Told, told_table}
 use Rattle.aprs_lists.specs.Traffic.{AreGiven, GivesCopy, GivesNetReply}
 

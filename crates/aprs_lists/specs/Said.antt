@@ -3,7 +3,7 @@ use Rattle.std.specs.Prelude.{ℕ, List, Option, None, Some}
 use Rattle.std.specs.Option.{option_map}
 use Rattle.aprs_ax25.specs.Callsign.{Call}
 use Rattle.aprs_details.specs.ThirdParty.{Passed, passed_of}
-use Rattle.aprs_laws.specs.Key.{Key}
+use Rattle.aprs_transmissions.specs.Key.{Key}
 use Rattle.aprs_summary.specs.MessageRows.{spelled_call}
 use Rattle.aprs_lists.specs.declared.said.Said.{Said as SaidParts}
 

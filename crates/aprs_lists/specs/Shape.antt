@@ -3,8 +3,8 @@ use Rattle.std.specs.Prelude.{◌≡◌, ℕ, List, length, All, Option, None, S
 use Rattle.aprs_ax25.specs.Callsign.{Call, IsCall}
 use Rattle.aprs_log.specs.Receiver.{IsName}
 use Rattle.aprs_log.specs.Reception.{Received}
-use Rattle.aprs_laws.specs.Key.{key_of}
-use Rattle.aprs_laws.specs.Row.{Row}
+use Rattle.aprs_transmissions.specs.Key.{key_of}
+use Rattle.aprs_transmissions.specs.Row.{Row}
 use Rattle.aprs_summary.specs.Names.{ReportsOf, shown_thing}
 use Rattle.aprs_summary.specs.declared.lists.named.Named.{Named}
 use Rattle.aprs_summary.specs.declared.lists.station.Station.{Station}

@@ -7,10 +7,10 @@ use Rattle.aprs_io.specs.Shown.{shown_text}
 use Rattle.aprs_log.specs.Moment.{moment_text}
 use Rattle.aprs_log.specs.Reception.{Received}
 use Rattle.aprs_report.specs.Reading.{Value, position, status}
-use Rattle.aprs_laws.specs.BookValue.{BookValue}
-use Rattle.aprs_laws.specs.Gap.{millis_of}
-use Rattle.aprs_laws.specs.Key.{key_of}
-use Rattle.aprs_laws.specs.Row.{Row}
+use Rattle.aprs_transmissions.specs.BookValue.{BookValue}
+use Rattle.aprs_transmissions.specs.Gap.{millis_of}
+use Rattle.aprs_transmissions.specs.Key.{key_of}
+use Rattle.aprs_transmissions.specs.Row.{Row}
 use Rattle.aprs_summary.specs.Reports.{report_of}
 use Rattle.aprs_summary.specs.Stations.{ReportsStations}
 use Rattle.aprs_summary.specs.declared.lists.station.Station.{Station}

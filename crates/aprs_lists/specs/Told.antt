@@ -5,8 +5,8 @@ use Rattle.std.specs.Option.{option_map}
 use Rattle.aprs_ax25.specs.Callsign.{Call, call_text}
 use Rattle.aprs_io.specs.Shown.{shown_text}
 use Rattle.aprs_log.specs.Moment.{moment_text}
-use Rattle.aprs_messages.specs.Answers.{AskedAnswer, IsFirstAnswer, Reply, first_of}
-use Rattle.aprs_messages.specs.Runs.{Sent}
+use Rattle.aprs_lists.specs.Answers.{AskedAnswer, IsFirstAnswer, Reply, first_of}
+use Rattle.aprs_lists.specs.Runs.{Sent}
 use Rattle.aprs_summary.specs.MessageRows.{spelled_call}
 use Rattle.aprs_summary.specs.Messages.{Message, state_text}
 use Rattle.aprs_summary.specs.ReplyTexts.{number_of}

@@ -5,14 +5,14 @@ use Rattle.aprs_ax25.specs.Callsign.{Call}
 use Rattle.aprs_ax25.specs.CallText.{SpellsCall}
 use Rattle.aprs_report.specs.Reader.{reading_of}
 use Rattle.aprs_report.specs.Reading.{Value, message, ack, rej}
-use Rattle.aprs_laws.specs.Lists.{◌∈◌, Ordered}
-use Rattle.aprs_laws.specs.Order.{IsUpTo}
-use Rattle.aprs_laws.specs.Row.{Row, last_moment, row_key}
-use Rattle.aprs_messages.specs.Answers.{Reply, reply_cmp, reply_of}
-use Rattle.aprs_messages.specs.Copies.{Copy, copy_cmp, copy_of}
+use Rattle.aprs_transmissions.specs.Lists.{◌∈◌, Ordered}
+use Rattle.aprs_transmissions.specs.Order.{IsUpTo}
+use Rattle.aprs_transmissions.specs.Row.{Row, last_moment, row_key}
+use Rattle.aprs_lists.specs.Answers.{Reply, reply_cmp, reply_of}
+use Rattle.aprs_lists.specs.Copies.{Copy, copy_cmp, copy_of}
 use Rattle.aprs_summary.specs.Messages.{Message, reported_message}
-use Rattle.aprs_messages.specs.declared.answers.Answer.{Answer}
-use Rattle.aprs_messages.specs.declared.copies.MessageCopy.{MessageCopy}
+use Rattle.aprs_lists.specs.declared.net.answers.Answer.{Answer}
+use Rattle.aprs_lists.specs.declared.net.copies.MessageCopy.{MessageCopy}
 use Rattle.aprs_summary.specs.ReplyAcks.{IsReplyAckText}
 use Rattle.aprs_lists.specs.Said.{Said, said_in}
 use Rattle.aprs_lists.specs.declared.traffic.AnswerParts.{AnswerParts}

@@ -3,7 +3,7 @@ ghost use Rattle.std.specs.Prelude.{◌≡◌, ◌<◌, ◌≤◌, IfOk, OnOk, l
 ghost use Rattle.std.specs.BTreeMap.{insert_entry};
 ghost use Rattle.std.specs.Option.{option_copied};
 ghost use Rattle.aprs_ax25.specs.Callsign.{call_cmp};
-ghost use Rattle.aprs_laws.specs.Row.{last_moment};
+ghost use Rattle.aprs_transmissions.specs.Row.{last_moment};
 ghost use Rattle.aprs_summary.specs.StationRows.{source_of};
 ghost use Rattle.aprs_lists.specs.Activity as Spec;
 
@@ -42,7 +42,7 @@ pub(crate) fn activities_of<A: Allocator + Copy>(
 
 /// Adds one more row to what is kept of its station, which has to have passed on fewer than
 /// 2^64 - 1 frames so far.
-#[tactic(auto, unfolding(aprs_laws::specs::Key::key_of))]
+#[tactic(auto, unfolding(aprs_transmissions::specs::Key::key_of))]
 fn count_row<A: Allocator + Copy>(
     map: &mut BTreeMap<Callsign, Activity, A>,
     row: &RowView<'_>,

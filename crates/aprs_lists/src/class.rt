@@ -3,11 +3,11 @@ ghost use Rattle.std.specs.Prelude.{◌≡◌};
 ghost use Rattle.std.specs.Option.{option_map};
 ghost use Rattle.std.specs.List.{list_all};
 ghost use Rattle.aprs_report.specs.Bytes.{is_alphanumeric};
-ghost use Rattle.aprs_messages.specs.Copies.{message_named};
+ghost use Rattle.aprs_lists.specs.Copies.{message_named};
 ghost use Rattle.aprs_summary.specs.ReplyAcks.{is_number_or_nothing};
 ghost use Rattle.aprs_lists.specs.Class as Spec;
 
-use aprs_messages::MessageName;
+use crate::net::copies::MessageName;
 
 /// The class of a message, in a word.
 pub(crate) fn class_text(message: &MessageName<'_>) -> &'static [u8]

@@ -1,4 +1,5 @@
-//! The tables of what is listed of a book: its messages, its stations, its objects and items.
+//! The tables of what is listed of a book: its messages, its stations, its objects and items; and
+//! the messages of a net, each a run of copies with its first answer.
 #![tactic(auto)]
 
 mod activity;
@@ -15,7 +16,7 @@ mod things;
 mod told;
 mod traffic;
 
-pub use laws::listed_lines_have_all_fields;
+pub use laws::{first_answers_are_found, listed_lines_have_all_fields, runs_are_found};
 pub use messages::write_messages;
 pub use net::write_net_messages;
 pub use stations::{HeardStations, write_stations};

@@ -2,7 +2,7 @@
 ghost use Rattle.std.specs.Prelude.{◌≡◌};
 ghost use Rattle.std.specs.Option.{option_map};
 ghost use Rattle.aprs_details.specs.ThirdParty.{passed_of, passed_view};
-ghost use Rattle.aprs_laws.specs.Row.{row_key};
+ghost use Rattle.aprs_transmissions.specs.Row.{row_key};
 ghost use Rattle.aprs_summary.specs.MessageRows.{spelled_call};
 ghost use Rattle.aprs_lists.specs.Said as Spec;
 
@@ -23,7 +23,7 @@ pub(crate) struct Said<'t> {
 
 /// What the frame of a row says. If it passes on another one, that is what it says, or `None` where
 /// the source of that is no callsign.
-#[tactic(auto, unfolding(aprs_laws::specs::Key::key_of))]
+#[tactic(auto, unfolding(aprs_transmissions::specs::Key::key_of))]
 pub(crate) fn said_in<'t>(row: &RowView<'t>) -> Option<Said<'t>>
     ensures { option_map Spec.said_view result ≡ Spec.said_in (row_key row.now) }
 {

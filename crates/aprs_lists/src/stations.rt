@@ -4,7 +4,7 @@ ghost use Rattle.std.specs.List.{flat_map};
 ghost use Rattle.std.specs.Option.{option_copied};
 ghost use Rattle.aprs_io.specs.Device.{Sends};
 ghost use Rattle.aprs_io.specs.Outlet.{Puts};
-ghost use Rattle.aprs_laws.specs.Gap.{millis_of};
+ghost use Rattle.aprs_transmissions.specs.Gap.{millis_of};
 ghost use Rattle.aprs_summary.specs.Stations.{ReportsStations};
 ghost use Rattle.aprs_summary.specs.declared.lists.station.Station.{Station};
 ghost use Rattle.aprs_table.specs.Cells.{cell_text};
@@ -53,7 +53,7 @@ impl<'t, A: Allocator> Drop for HeardStations<'t, A> {
 }
 
 impl<'t, A: Allocator> Model for HeardStations<'t, A> {
-    ghost use Rattle.aprs_laws.specs.BookValue.{BookValue};
+    ghost use Rattle.aprs_transmissions.specs.BookValue.{BookValue};
     ghost use Rattle.aprs_lists.specs.Activity.{AreActivities};
 
     ghost Value = { BookValue };

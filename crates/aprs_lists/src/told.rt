@@ -2,16 +2,16 @@
 ghost use Rattle.std.specs.Prelude.{◌≡◌, [], ◌∷◌, ◌++◌, map};
 ghost use Rattle.std.specs.Option.{option_map};
 ghost use Rattle.aprs_io.specs.Outlet.{Puts};
-ghost use Rattle.aprs_messages.specs.Copies.{message_named};
+ghost use Rattle.aprs_lists.specs.Copies.{message_named};
 ghost use Rattle.aprs_table.specs.Cells.{cell_text};
 ghost use Rattle.aprs_lists.specs.Told as Spec;
 
 use crate::class::class_text;
 use crate::line::put_line;
+use crate::net::copies::MessageName;
 use aprs_ax25::Callsign;
 use aprs_io::{Outlet, WriteFault};
 use aprs_log::Moment;
-use aprs_messages::MessageName;
 use aprs_summary::{MessageState, ReplyAck, number_in};
 use aprs_table::Cell;
 use std::io::Write;

@@ -2,21 +2,23 @@
 ghost use Rattle.std.specs.Prelude.{◌≡◌, ◌↔◌, ◌⊎◌, List, Some, IfOk, OnOk, map};
 ghost use Rattle.std.specs.Option.{option_map};
 ghost use Rattle.std.specs.Ordering.{on};
-ghost use Rattle.aprs_laws.specs.BookValue.{IsSoundBook};
-ghost use Rattle.aprs_laws.specs.Lists.{◌∈◌, Ordered};
-ghost use Rattle.aprs_laws.specs.Order.{IsUpTo};
-ghost use Rattle.aprs_laws.specs.Row.{row_key};
+ghost use Rattle.aprs_transmissions.specs.BookValue.{IsSoundBook};
+ghost use Rattle.aprs_transmissions.specs.Lists.{◌∈◌, Ordered};
+ghost use Rattle.aprs_transmissions.specs.Order.{IsUpTo};
+ghost use Rattle.aprs_transmissions.specs.Row.{row_key};
 ghost use Rattle.aprs_report.specs.Reader.{reading_of};
-ghost use Rattle.aprs_messages.specs.Answers.{Reply, reply_cmp, reply_of};
-ghost use Rattle.aprs_messages.specs.Copies.{Copy, copy_cmp, copy_of, message_named};
+ghost use Rattle.aprs_lists.specs.Answers.{Reply, reply_cmp, reply_of};
+ghost use Rattle.aprs_lists.specs.Copies.{Copy, copy_cmp, copy_of, message_named};
 ghost use Rattle.aprs_summary.specs.Messages.{reported_message};
 ghost use Rattle.aprs_summary.specs.ReplyTexts.{HoldsOnly};
 ghost use Rattle.aprs_lists.specs.Said.{said_in, said_view};
 ghost use Rattle.aprs_lists.specs.Traffic as Spec;
 
+use crate::net::answers::{Answer, Question};
+use crate::net::copies::{MessageCopy, MessageName};
+use crate::net::sort::{sort_answers, sort_copies};
 use crate::said::{Said, call_in, said_in};
-use aprs_laws::Gap;
-use aprs_messages::{Answer, MessageCopy, MessageName, Question, sort_answers, sort_copies};
+use aprs_transmissions::Gap;
 use aprs_report::Report;
 use aprs_rows::{BookRows, BookStore, Memory, RowView, WalkRoom};
 use aprs_summary::acknowledged_in;
@@ -44,7 +46,7 @@ impl<'t, A: Allocator> Drop for Traffic<'t, A> {
 }
 
 impl<'t, A: Allocator> Model for Traffic<'t, A> {
-    ghost use Rattle.aprs_laws.specs.BookValue.{BookValue};
+    ghost use Rattle.aprs_transmissions.specs.BookValue.{BookValue};
     ghost use Rattle.aprs_lists.specs.Traffic.{IsGathered};
 
     ghost Value = { BookValue };

@@ -2,25 +2,25 @@
 pub use Rattle.aprs_ax25.proofs.Spellings.{FrameOf-IsSound}
 pub use Rattle.aprs_ax25.specs.Frame.{FrameOf, Parts, address_field}
 pub use Rattle.aprs_ax25.specs.FrameFault.{call_of, field_len, frame_fault, frame_or_fault, parts_of, unless_fault}
-pub use Rattle.aprs_laws.proofs.Choices.{add_listed, add_ordered, in_union, same_members, union_ordered}
-pub use Rattle.aprs_laws.proofs.Coalescing.{single_is_sound}
-pub use Rattle.aprs_laws.proofs.Joins.{is_greater_of, some_millis}
-pub use Rattle.aprs_laws.proofs.Lists.{from_map, in_either, in_left, in_right}
-pub use Rattle.aprs_laws.proofs.Merges.{merged_is_union, merged_is_united, merged_ordered}
-pub use Rattle.aprs_laws.proofs.Orders.{bytes_exact, bytes_total, key_exact, key_total, ordering_then_assoc, same_greatest, up_to_itself}
-pub use Rattle.aprs_laws.proofs.Places.{in_place, place_of}
-pub use Rattle.aprs_laws.specs.BookValue.{BookValue}
-pub use Rattle.aprs_laws.specs.Coalescing.{AreInOrder}
-pub use Rattle.aprs_laws.specs.Gap.{IsGap, millis_of}
-pub use Rattle.aprs_laws.specs.JoinRow.{add, choose, combine, compare_near, greater, single, union}
-pub use Rattle.aprs_laws.specs.Joining.{AreAllAlike, FoldsTo, IsGreaterOf, IsUnited}
-pub use Rattle.aprs_laws.specs.Key.{Key}
-pub use Rattle.aprs_laws.specs.Lists.{Ordered, SameMembers, ◌∈◌}
-pub use Rattle.aprs_laws.specs.Merged.{ascending_union}
-pub use Rattle.aprs_laws.specs.Order.{IsBelow, IsUpTo}
-pub use Rattle.aprs_laws.specs.Row.{Row, last_moment, row_cmp, row_key}
-pub use Rattle.aprs_laws.specs.Sound.{FollowsFar, IsFar, IsNext, IsSoundRow, Sound}
-pub use Rattle.aprs_laws.specs.declared.row_cause.RowCause.{RowCause}
+pub use Rattle.aprs_transmissions.proofs.Choices.{add_listed, add_ordered, in_union, same_members, union_ordered}
+pub use Rattle.aprs_transmissions.proofs.Coalescing.{single_is_sound}
+pub use Rattle.aprs_transmissions.proofs.Joins.{is_greater_of, some_millis}
+pub use Rattle.aprs_transmissions.proofs.Lists.{from_map, in_either, in_left, in_right}
+pub use Rattle.aprs_transmissions.proofs.Merges.{merged_is_union, merged_is_united, merged_ordered}
+pub use Rattle.aprs_transmissions.proofs.Orders.{bytes_exact, bytes_total, key_exact, key_total, ordering_then_assoc, same_greatest, up_to_itself}
+pub use Rattle.aprs_transmissions.proofs.Places.{in_place, place_of}
+pub use Rattle.aprs_transmissions.specs.BookValue.{BookValue}
+pub use Rattle.aprs_transmissions.specs.Coalescing.{AreInOrder}
+pub use Rattle.aprs_transmissions.specs.Gap.{IsGap, millis_of}
+pub use Rattle.aprs_transmissions.specs.JoinRow.{add, choose, combine, compare_near, greater, single, union}
+pub use Rattle.aprs_transmissions.specs.Joining.{AreAllAlike, FoldsTo, IsGreaterOf, IsUnited}
+pub use Rattle.aprs_transmissions.specs.Key.{Key}
+pub use Rattle.aprs_transmissions.specs.Lists.{Ordered, SameMembers, ◌∈◌}
+pub use Rattle.aprs_transmissions.specs.Merged.{ascending_union}
+pub use Rattle.aprs_transmissions.specs.Order.{IsBelow, IsUpTo}
+pub use Rattle.aprs_transmissions.specs.Row.{Row, last_moment, row_cmp, row_key}
+pub use Rattle.aprs_transmissions.specs.Sound.{FollowsFar, IsFar, IsNext, IsSoundRow, Sound}
+pub use Rattle.aprs_transmissions.specs.declared.row_cause.RowCause.{RowCause}
 pub use Rattle.aprs_log.specs.Receiver.{IsName, is_name_byte}
 pub use Rattle.aprs_log.specs.Reception.{Received, bytes_cmp}
 pub use Rattle.std.proofs.Common.{Bool, Bor, Err, IfNone, IfOk, List, MatchResult, None, Ok, OnErr, OnOk, Option, Result, Some, [], ap, append_assoc, arith, cond, drop, false, get_or, inl, inr, leb, length, ltb, map, min, not, refl, replicate, rules, slice_index, subst, suc, sym, take, true, vec_capacity, vec_len, zero, ℕ, ◌%◌, ◌&&◌, ◌*◌, ◌++◌, ◌+◌, ◌-◌, ◌/◌, ◌<◌, ◌==◌, ◌||◌, ◌↔◌, ◌∙◌, ◌∷◌, ◌≡◌, ◌≤◌, ◌⊎◌}

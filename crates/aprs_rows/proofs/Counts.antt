@@ -1,8 +1,8 @@
 -- How many rows a book has.
 use Rattle.aprs_rows.proofs.Common.{◌≡◌, ℕ, ◌+◌, ◌<◌, ◌≤◌, List, [], ◌∷◌, length, arith, ap, refl, Ordering, Less, Equal, Greater, Row, choose, combine, compare_near}
 use Rattle.std.proofs.lemmas.List.Sums.{sum_by-cons}
-use Rattle.aprs_laws.specs.JoinRow.{join_row, merge}
-use Rattle.aprs_laws.specs.Together.{book_together}
+use Rattle.aprs_transmissions.specs.JoinRow.{join_row, merge}
+use Rattle.aprs_transmissions.specs.Together.{book_together}
 use Rattle.aprs_rows.specs.Packed.{room_of, row_room}
 
 abbrev OneMore : List Row → List Row → Type 0

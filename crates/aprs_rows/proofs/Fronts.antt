@@ -6,8 +6,8 @@ use Rattle.std.proofs.lemmas.List.Sums.{sum_by-append, sum_by-cons}
 use Rattle.std.specs.BinaryHeap.{IsHeap, IsUpperBound, lt_by_cmp}
 use Rattle.std.specs.Prelude.{IfNone, IfSome, OnSome}
 use Rattle.std.specs.List.{sum_by, AllByRecursion}
-use Rattle.aprs_laws.specs.Sound.{AreSoundRows}
-use Rattle.aprs_laws.proofs.Books.{row_total}
+use Rattle.aprs_transmissions.specs.Sound.{AreSoundRows}
+use Rattle.aprs_transmissions.proofs.Books.{row_total}
 use Rattle.aprs_rows.specs.Fronts.{Ahead, rows_ahead, all_ahead, ahead_cmp, fronts, AreRuns, IsAfterTop, IsFirst, IsRun, IsTakenOut, PutsBack, SettlesFirst, TakesFirst}
 use Rattle.aprs_rows.specs.Packed.{row_room, room_of}
 use Rattle.aprs_rows.specs.Told.{IsTold}

@@ -1,10 +1,10 @@
 -- The book of a store stays the same where a chunk is sorted, and takes what is put there.
 use Rattle.aprs_rows.proofs.Common.{◌≡◌, ◌∙◌, ℕ, zero, suc, ◌+◌, ◌<◌, List, [], ◌∷◌, ◌++◌, inl, inr, OnOk, OnErr, Result, Ok, Err, append_assoc, arith, refl, sym, ap, subst, length, take, take_more, get_or, flat_map, AllByRecursion, AreInOrder, millis_of, ◌∈◌, SameMembers, Row, IsSoundRow, in_left, in_right, in_either, single, single_is_sound, Received, some_millis, BookValue}
 use Rattle.std.proofs.lemmas.List.{append-nil}
-use Rattle.aprs_laws.specs.JoinRow.{merge}
-use Rattle.aprs_laws.specs.Sound.{AreSoundRows}
-use Rattle.aprs_laws.specs.Together.{book_together}
-use Rattle.aprs_laws.proofs.Together.{merge_append, order_is_free}
+use Rattle.aprs_transmissions.specs.JoinRow.{merge}
+use Rattle.aprs_transmissions.specs.Sound.{AreSoundRows}
+use Rattle.aprs_transmissions.specs.Together.{book_together}
+use Rattle.aprs_transmissions.proofs.Together.{merge_append, order_is_free}
 use Rattle.aprs_rows.specs.BookStore.{IsStored, all_rows, book_stored}
 use Rattle.aprs_rows.specs.Packed.{room_of}
 use Rattle.aprs_rows.proofs.Counts.{some_book}

@@ -1,6 +1,6 @@
 -- Prefixes are in order as the keys are, as far as they go.
 use Rattle.aprs_rows.proofs.Common.{◌≡◌, ◌∙◌, ℕ, zero, suc, ◌+◌, ◌*◌, ◌-◌, ◌/◌, ◌%◌, ◌<◌, ◌≤◌, List, [], ◌∷◌, ◌++◌, length, take, drop, replicate, get_or, slice_index, append_assoc, true, refl, sym, ap, arith, w64, from_be_bytes, nat_cmp, ordering_then, Ordering, Less, Equal, Greater, list_all, nat_tests, and_parts, IsTotalOrder, tied_itself, then_total, on_total, nat_cmp_total, length-append, length-replicate, take_at, drop_at, take-take, Parts, FrameOf, address_field, call_of, parts_of, bytes_cmp, Key, ordering_then_assoc}
-use Rattle.aprs_laws.specs.Key.{key_of, key_cmp}
+use Rattle.aprs_transmissions.specs.Key.{key_of, key_cmp}
 use Rattle.std.proofs.lemmas.Map.Lookups.{CmpEqualImpliesEq, exact_pairs, exact_unsigned}
 use Rattle.aprs_ax25.specs.Address.{Address, IsAddress, letters_and_spaces, address_octets}
 use Rattle.aprs_ax25.specs.Callsign.{Call, IsCall, call_cmp, is_callsign_byte}

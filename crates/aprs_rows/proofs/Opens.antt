@@ -5,12 +5,12 @@ use Rattle.aprs_rows.specs.Names.{names_in}
 use Rattle.aprs_rows.specs.Packed.{room_of, row_room}
 use Rattle.aprs_rows.proofs.Judgements.{some_names}
 use Rattle.std.specs.Ordering.{MatchOrdering}
-use Rattle.aprs_laws.specs.JoinRow.{IsNear}
-use Rattle.aprs_laws.specs.Sound.{AreSoundRows}
-use Rattle.aprs_laws.specs.Together.{book_together}
-use Rattle.aprs_laws.proofs.Rows.{IsBefore, place_means}
-use Rattle.aprs_laws.proofs.Streams.{combined_up_to}
-use Rattle.aprs_laws.proofs.Together.{first_stands, firsts_join, near_is_sound, order_is_free}
+use Rattle.aprs_transmissions.specs.JoinRow.{IsNear}
+use Rattle.aprs_transmissions.specs.Sound.{AreSoundRows}
+use Rattle.aprs_transmissions.specs.Together.{book_together}
+use Rattle.aprs_transmissions.proofs.Rows.{IsBefore, place_means}
+use Rattle.aprs_transmissions.proofs.Streams.{combined_up_to}
+use Rattle.aprs_transmissions.proofs.Together.{first_stands, firsts_join, near_is_sound, order_is_free}
 use Rattle.aprs_rows.specs.BookRows.{IsOpen}
 use Rattle.aprs_rows.specs.Fronts.{IsByTest, IsTakenOut, NoneIsNear, with_names}
 use Rattle.aprs_rows.proofs.Unions.{united_alone, united_more}

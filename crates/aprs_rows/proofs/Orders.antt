@@ -2,7 +2,7 @@
 use Rattle.aprs_rows.proofs.Common.{◌≡◌, ◌∙◌, ℕ, suc, ◌<◌, ◌≤◌, false, List, [], ◌∷◌, length, get_or, inl, inr, refl, ap, subst, arith, AllByRecursion, IsPermutation, is_lt, is_gt, ordering_reverse, Ordering, Less, Equal, Greater, All-from_recursion, recursion_from_All, All-permutation, IsPermutation-sym, AreInOrder, ◌∈◌, SameMembers, IsUpTo, Row, row_cmp, place_of, Bool, Bor, IsStrictWeakOrder, IsSortedBy, ranks_by, sorted_far}
 use Rattle.std.specs.Fn.{Called, ComparesAs, Mut}
 use Rattle.std.proofs.lemmas.Fn.{always_returns_same}
-use Rattle.aprs_laws.proofs.Books.{row_total}
+use Rattle.aprs_transmissions.proofs.Books.{row_total}
 
 -- x is not after y where y is not before x
 pub not_after : (x y : Row) → is_lt (row_cmp y x) ≡ false → IsUpTo row_cmp x y

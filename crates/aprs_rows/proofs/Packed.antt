@@ -1,7 +1,7 @@
 -- Rows packed in bytes, one after another.
 use Rattle.aprs_rows.proofs.Common.{◌≡◌, ◌∙◌, ℕ, suc, ◌+◌, ◌-◌, ◌<◌, ◌≤◌, List, [], ◌∷◌, ◌++◌, inl, inr, None, Some, length, take, drop, sym, ap, subst, arith, take-append_seam, drop-append_seam, length-append, length-drop, length-take, take_all, drop_all, refl, drop-drop, last_or, slice_get, join_with_byte, join_with_byte-slice_split, field_len, Row, IsSoundRow, AllByRecursion}
 use Rattle.std.proofs.lemmas.List.Sums.{sum_by_push, sum_by-cons}
-use Rattle.aprs_laws.specs.Sound.{AreSoundRows}
+use Rattle.aprs_transmissions.specs.Sound.{AreSoundRows}
 use Rattle.aprs_rows.specs.Names.{row_of_text}
 use Rattle.aprs_rows.specs.Packed.{AreMarks, AreShort, IsMarked, IsShort, Notes, mark_row, mark_size, row_bytes, row_room, room_of, rows_of_marks}
 use Rattle.aprs_rows.specs.Told.{IsTold}

@@ -4,8 +4,8 @@ use Rattle.std.specs.declared.cmp.Ordering.{Ordering}
 use Rattle.std.specs.declared.cmp.Ordering.TheVariants.{Less, Equal, Greater}
 use Rattle.aprs_ax25.specs.Frame.{FrameOf}
 use Rattle.aprs_ax25.specs.FrameFault.{parts_of}
-use Rattle.aprs_laws.specs.JoinRow.{join_row, merge}
-use Rattle.aprs_laws.specs.Together.{book_together}
+use Rattle.aprs_transmissions.specs.JoinRow.{join_row, merge}
+use Rattle.aprs_transmissions.specs.Together.{book_together}
 use Rattle.aprs_rows.specs.Told.{IsTold}
 use Rattle.aprs_rows.proofs.Unions.{all_union}
 

@@ -1,13 +1,13 @@
 -- Rows that are still to come in a book. No public clause cites this module.
 use Rattle.std.specs.Prelude.{◌≡◌, ℕ, ◌≤◌, List, [], ◌∷◌}
 use Rattle.aprs_log.specs.Reception.{bytes_cmp}
-use Rattle.aprs_laws.specs.Gap.{IsGap}
-use Rattle.aprs_laws.specs.JoinRow.{union}
-use Rattle.aprs_laws.specs.Lists.{◌∈◌}
-use Rattle.aprs_laws.specs.Order.{IsUpTo}
-use Rattle.aprs_laws.specs.Row.{Row, row_cmp}
-use Rattle.aprs_laws.specs.Sound.{AreSoundRows}
-use Rattle.aprs_laws.specs.Together.{book_together}
+use Rattle.aprs_transmissions.specs.Gap.{IsGap}
+use Rattle.aprs_transmissions.specs.JoinRow.{union}
+use Rattle.aprs_transmissions.specs.Lists.{◌∈◌}
+use Rattle.aprs_transmissions.specs.Order.{IsUpTo}
+use Rattle.aprs_transmissions.specs.Row.{Row, row_cmp}
+use Rattle.aprs_transmissions.specs.Sound.{AreSoundRows}
+use Rattle.aprs_transmissions.specs.Together.{book_together}
 use Rattle.aprs_rows.specs.Fronts.{with_names}
 use Rattle.aprs_rows.specs.NameRoom.{GatheredNames}
 use Rattle.aprs_rows.specs.Packed.{room_of}

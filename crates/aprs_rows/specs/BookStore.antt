@@ -2,12 +2,12 @@
 -- module.
 use Rattle.std.specs.Prelude.{ℕ, List, ◌++◌}
 use Rattle.std.specs.List.{flat_map, AllByRecursion}
-use Rattle.aprs_laws.specs.BookValue.{BookValue}
-use Rattle.aprs_laws.specs.Coalescing.{AreInOrder}
-use Rattle.aprs_laws.specs.Gap.{IsGap, millis_of}
-use Rattle.aprs_laws.specs.Row.{Row}
-use Rattle.aprs_laws.specs.Sound.{AreSoundRows}
-use Rattle.aprs_laws.specs.Together.{book_together}
+use Rattle.aprs_transmissions.specs.BookValue.{BookValue}
+use Rattle.aprs_transmissions.specs.Coalescing.{AreInOrder}
+use Rattle.aprs_transmissions.specs.Gap.{IsGap, millis_of}
+use Rattle.aprs_transmissions.specs.Row.{Row}
+use Rattle.aprs_transmissions.specs.Sound.{AreSoundRows}
+use Rattle.aprs_transmissions.specs.Together.{book_together}
 
 -- All rows: those of the chunk, then those of the lists.
 abbrev pub all_rows : List (List Row) → List Row → List Row

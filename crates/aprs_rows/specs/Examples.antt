@@ -1,7 +1,7 @@
 -- Rows that the worked examples are about.
 use Rattle.std.specs.Prelude.{[], ◌∷◌}
-use Rattle.aprs_laws.specs.Row.{Row}
-use Rattle.aprs_laws.specs.Examples.{rx1, rx2, of_other, reception_at, by_rx1, example_row}
+use Rattle.aprs_transmissions.specs.Row.{Row}
+use Rattle.aprs_transmissions.specs.Examples.{rx1, rx2, of_other, reception_at, by_rx1, example_row}
 
 -- A row of N0CALL-8, which comes after all of N0CALL-7.
 abbrev pub eighth_row : Row

@@ -6,12 +6,12 @@ use Rattle.std.specs.List.{flat_map, AllByRecursion}
 use Rattle.std.specs.List.Sorted.{IsPermutation}
 use Rattle.std.specs.Ordering.{is_eq, on, flip_args}
 use Rattle.std.specs.declared.cmp.Ordering.{Ordering}
-use Rattle.aprs_laws.specs.Coalescing.{AreInOrder}
-use Rattle.aprs_laws.specs.JoinRow.{compare_near}
-use Rattle.aprs_laws.specs.Lists.{◌∈◌, SameMembers}
-use Rattle.aprs_laws.specs.Order.{IsUpTo}
-use Rattle.aprs_laws.specs.Row.{Row, row_cmp}
-use Rattle.aprs_laws.specs.Sound.{AreSoundRows}
+use Rattle.aprs_transmissions.specs.Coalescing.{AreInOrder}
+use Rattle.aprs_transmissions.specs.JoinRow.{compare_near}
+use Rattle.aprs_transmissions.specs.Lists.{◌∈◌, SameMembers}
+use Rattle.aprs_transmissions.specs.Order.{IsUpTo}
+use Rattle.aprs_transmissions.specs.Row.{Row, row_cmp}
+use Rattle.aprs_transmissions.specs.Sound.{AreSoundRows}
 use Rattle.aprs_rows.specs.Packed.{room_of}
 use Rattle.aprs_rows.specs.Told.{IsTold}
 

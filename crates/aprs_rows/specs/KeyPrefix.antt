@@ -5,7 +5,7 @@ use Rattle.aprs_ax25.specs.Callsign.{Call}
 use Rattle.aprs_ax25.specs.Address.{letters_and_spaces}
 use Rattle.aprs_ax25.specs.Frame.{FrameOf}
 use Rattle.aprs_ax25.specs.FrameFault.{parts_of}
-use Rattle.aprs_laws.specs.Key.{Key, key_of}
+use Rattle.aprs_transmissions.specs.Key.{Key, key_of}
 use Rattle.aprs_rows.specs.declared.row.key_prefix.KeyPrefix.{KeyPrefix}
 
 -- The number of a callsign, base 256: its letters, padded with spaces to six, and its SSID.

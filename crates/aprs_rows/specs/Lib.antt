@@ -17,15 +17,15 @@ pub mod Sorted
 pub mod Told
 -- What public clauses cite of lower crates.
 pub use Rattle.aprs_log.specs.Reception
-pub use Rattle.aprs_laws.specs.Order
-pub use Rattle.aprs_laws.specs.Lists
-pub use Rattle.aprs_laws.specs.Key
-pub use Rattle.aprs_laws.specs.Row
-pub use Rattle.aprs_laws.specs.RowCause
-pub use Rattle.aprs_laws.specs.Sound
-pub use Rattle.aprs_laws.specs.Book
-pub use Rattle.aprs_laws.specs.BookValue
-pub use Rattle.aprs_laws.specs.Gap
-pub use Rattle.aprs_laws.specs.JoinRow
-pub use Rattle.aprs_laws.specs.Joining
-pub use Rattle.aprs_laws.specs.Coalescing
+pub use Rattle.aprs_transmissions.specs.Order
+pub use Rattle.aprs_transmissions.specs.Lists
+pub use Rattle.aprs_transmissions.specs.Key
+pub use Rattle.aprs_transmissions.specs.Row
+pub use Rattle.aprs_transmissions.specs.RowCause
+pub use Rattle.aprs_transmissions.specs.Sound
+pub use Rattle.aprs_transmissions.specs.Book
+pub use Rattle.aprs_transmissions.specs.BookValue
+pub use Rattle.aprs_transmissions.specs.Gap
+pub use Rattle.aprs_transmissions.specs.JoinRow
+pub use Rattle.aprs_transmissions.specs.Joining
+pub use Rattle.aprs_transmissions.specs.Coalescing

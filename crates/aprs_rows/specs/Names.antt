@@ -1,7 +1,7 @@
 -- Names of receivers in a text, with commas between, and the row that has such a text.
 use Rattle.std.specs.Prelude.{ℕ, ◌==◌, List}
 use Rattle.std.specs.List.{slice_split}
-use Rattle.aprs_laws.specs.Row.{Row}
+use Rattle.aprs_transmissions.specs.Row.{Row}
 
 -- The names in the text: what stands before, between and after its commas.
 abbrev pub names_in : List ℕ → List (List ℕ)

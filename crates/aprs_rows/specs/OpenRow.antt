@@ -1,8 +1,8 @@
 -- A row that later ones may still join.
 use Rattle.std.specs.Prelude.{◌≡◌, ◌⊎◌, ℕ, Bool, true, false, List, [], ◌∷◌}
 use Rattle.std.specs.Ordering.{is_eq}
-use Rattle.aprs_laws.specs.JoinRow.{combine, compare_near}
-use Rattle.aprs_laws.specs.Row.{Row}
+use Rattle.aprs_transmissions.specs.JoinRow.{combine, compare_near}
+use Rattle.aprs_transmissions.specs.Row.{Row}
 
 -- At `true` the next row is near to the open one, and joins it. At `false` it isn't near, or no row
 -- is open, and nothing changes.

@@ -2,9 +2,9 @@
 use Rattle.std.specs.Prelude.{◌≡◌, ℕ, ◌+◌, ◌<◌, List, [], ◌∷◌, ◌++◌, length, take, drop}
 use Rattle.std.specs.List.{join_with_byte, sum_by}
 use Rattle.aprs_ax25.specs.FrameFault.{field_len}
-use Rattle.aprs_laws.specs.Lists.{◌∈◌}
-use Rattle.aprs_laws.specs.Row.{Row}
-use Rattle.aprs_laws.specs.Sound.{IsSoundRow}
+use Rattle.aprs_transmissions.specs.Lists.{◌∈◌}
+use Rattle.aprs_transmissions.specs.Row.{Row}
+use Rattle.aprs_transmissions.specs.Sound.{IsSoundRow}
 use Rattle.aprs_rows.specs.Names.{row_of_text}
 use Rattle.aprs_rows.specs.Told.{IsTold}
 use Rattle.aprs_rows.specs.declared.store.mark.Mark.{Mark}

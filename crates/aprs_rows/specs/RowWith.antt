@@ -1,6 +1,6 @@
 -- A row by its parts.
 use Rattle.std.specs.Prelude.{ℕ, List}
-use Rattle.aprs_laws.specs.Row.{Row}
+use Rattle.aprs_transmissions.specs.Row.{Row}
 
 -- The row of a first and a last moment, receivers, and the greatest reception's receiver and frame.
 abbrev pub row_with : ℕ → ℕ → List (List ℕ) → List ℕ → List ℕ → Row

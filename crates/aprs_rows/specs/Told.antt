@@ -3,7 +3,7 @@ use Rattle.std.specs.Prelude.{All}
 use Rattle.aprs_ax25.specs.Frame.{FrameOf}
 use Rattle.aprs_ax25.specs.FrameFault.{parts_of}
 use Rattle.aprs_log.specs.Receiver.{IsName}
-use Rattle.aprs_laws.specs.Row.{Row}
+use Rattle.aprs_transmissions.specs.Row.{Row}
 
 -- The receivers have names, and so has that of the greatest reception, whose frame is a UI frame.
 pub record IsTold (x : Row) : Type 0 where

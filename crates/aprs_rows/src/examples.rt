@@ -1,7 +1,7 @@
 //! Worked examples of why a row can't follow others, and near misses.
 ghost use Rattle.std.specs.Prelude.{◌≡◌, [], ◌∷◌, Some, None};
-ghost use Rattle.aprs_laws.specs.declared.row_cause.RowCause.TheVariants.{Order, Span, Near, Receivers, NotGreatest};
-ghost use Rattle.aprs_laws.specs.Examples.{half_minute, rx1, rx2, by_rx1, example_row, row_at, row_to, short_row};
+ghost use Rattle.aprs_transmissions.specs.declared.row_cause.RowCause.TheVariants.{Order, Span, Near, Receivers, NotGreatest};
+ghost use Rattle.aprs_transmissions.specs.Examples.{half_minute, rx1, rx2, by_rx1, example_row, row_at, row_to, short_row};
 ghost use Rattle.aprs_rows.specs.Refusal.{refusal};
 ghost use Rattle.aprs_rows.specs.Examples.{eighth_row, unlisted_row, lesser_row};
 

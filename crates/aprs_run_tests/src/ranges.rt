@@ -2,7 +2,7 @@
 
 use aprs_fixtures::{MERGED_TEXT, OLD_MERGED_TEXT, callsign};
 use aprs_fold::SourceRange;
-use aprs_range::BookRange;
+use aprs_fold::BookRange;
 use std::alloc::Global;
 use std::io::Read;
 use std::test::Fail;

@@ -15,24 +15,24 @@ pub use Rattle.aprs_io.proofs.Sends.{Calls-none, Calls-then, Sends-err, Sends-ok
 pub use Rattle.aprs_io.specs.Device.{Calls, Going, Sends, device_of}
 pub use Rattle.aprs_io.specs.Input.{Gets, most_input}
 pub use Rattle.aprs_io.specs.declared.device.Counted.{Counted}
-pub use Rattle.aprs_laws.proofs.Books.{book_carries, one_book, turn, unique}
-pub use Rattle.aprs_laws.proofs.Known.{known_once, rows_know}
-pub use Rattle.aprs_laws.proofs.Lists.{in_either, in_left, in_right}
-pub use Rattle.aprs_laws.proofs.RunRows.{book_of_nothing}
-pub use Rattle.aprs_laws.proofs.Soundness.{exists, witnessed}
-pub use Rattle.aprs_laws.proofs.Together.{joined_rows, merge_append, together}
-pub use Rattle.aprs_laws.proofs.Unions.{merged}
-pub use Rattle.aprs_laws.specs.Best.{LastKnown}
-pub use Rattle.aprs_laws.specs.BestLaws.{Passes}
-pub use Rattle.aprs_laws.specs.Book.{BookOf}
-pub use Rattle.aprs_laws.specs.BookValue.{BookValue, Holds, IsSoundBook, widened_to}
-pub use Rattle.aprs_laws.specs.Gap.{IsGap, millis_of}
-pub use Rattle.aprs_laws.specs.JoinRow.{join_row, merge, single}
-pub use Rattle.aprs_laws.specs.Lists.{Ordered, SameMembers, ◌∈◌}
-pub use Rattle.aprs_laws.specs.Row.{Row}
-pub use Rattle.aprs_laws.specs.Sound.{Sound}
-pub use Rattle.aprs_laws.specs.Witnesses.{witnesses}
-pub use Rattle.aprs_laws.specs.declared.merge_fault.MergeFault.{MergeFault}
+pub use Rattle.aprs_transmissions.proofs.Books.{book_carries, one_book, turn, unique}
+pub use Rattle.aprs_transmissions.proofs.Known.{known_once, rows_know}
+pub use Rattle.aprs_transmissions.proofs.Lists.{in_either, in_left, in_right}
+pub use Rattle.aprs_transmissions.proofs.RunRows.{book_of_nothing}
+pub use Rattle.aprs_transmissions.proofs.Soundness.{exists, witnessed}
+pub use Rattle.aprs_transmissions.proofs.Together.{joined_rows, merge_append, together}
+pub use Rattle.aprs_transmissions.proofs.Unions.{merged}
+pub use Rattle.aprs_transmissions.specs.Best.{LastKnown}
+pub use Rattle.aprs_transmissions.specs.BestLaws.{Passes}
+pub use Rattle.aprs_transmissions.specs.Book.{BookOf}
+pub use Rattle.aprs_transmissions.specs.BookValue.{BookValue, Holds, IsSoundBook, widened_to}
+pub use Rattle.aprs_transmissions.specs.Gap.{IsGap, millis_of}
+pub use Rattle.aprs_transmissions.specs.JoinRow.{join_row, merge, single}
+pub use Rattle.aprs_transmissions.specs.Lists.{Ordered, SameMembers, ◌∈◌}
+pub use Rattle.aprs_transmissions.specs.Row.{Row}
+pub use Rattle.aprs_transmissions.specs.Sound.{Sound}
+pub use Rattle.aprs_transmissions.specs.Witnesses.{witnesses}
+pub use Rattle.aprs_transmissions.specs.declared.merge_fault.MergeFault.{MergeFault}
 pub use Rattle.aprs_listing.specs.Listing.{known_line, line_with, message_line, named_line, report_line, station_lines}
 pub use Rattle.aprs_log.proofs.LogTexts.{answers-log_fault, answers-log_text, log_fault-answers, log_text-answers}
 pub use Rattle.aprs_log.specs.LogAnswers.{Answers, end_with, fault_at, is_lf, log_answers, prepend_line, receptions_of, short_tail_cause, tail_cause}

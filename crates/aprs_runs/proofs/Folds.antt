@@ -3,12 +3,12 @@ use Rattle.aprs_runs.proofs.Common.{◌≡◌, ◌∙◌, ◌<◌, ℕ, List, Re
 use Rattle.std.specs.Prelude.{Err, IfSome, OnOk, Result}
 use Rattle.aprs_io.specs.Input.{Gets}
 use Rattle.aprs_io.specs.declared.input.InputEnd.{InputEnd}
-use Rattle.aprs_laws.specs.Gap.{IsGap}
-use Rattle.aprs_laws.specs.Sound.{AreSoundRows, Sound}
-use Rattle.aprs_laws.specs.Together.{book_together}
-use Rattle.aprs_laws.specs.Witnesses.{witnesses, witnesses_of_row}
-use Rattle.aprs_laws.proofs.Soundness.{witnessed}
-use Rattle.aprs_laws.proofs.Together.{together}
+use Rattle.aprs_transmissions.specs.Gap.{IsGap}
+use Rattle.aprs_transmissions.specs.Sound.{AreSoundRows, Sound}
+use Rattle.aprs_transmissions.specs.Together.{book_together}
+use Rattle.aprs_transmissions.specs.Witnesses.{witnesses, witnesses_of_row}
+use Rattle.aprs_transmissions.proofs.Soundness.{witnessed}
+use Rattle.aprs_transmissions.proofs.Together.{together}
 use Rattle.aprs_bookfile.specs.BookAnswers.{ReadsBook}
 use Rattle.aprs_bookfile.specs.Text.{book_text, written_text}
 use Rattle.aprs_bookfile.specs.declared.version.Version.TheVariants.{Three}

@@ -1,7 +1,7 @@
 -- Lemmas on inputs, of which the first bytes are known.
 use Rattle.aprs_runs.proofs.Common.{◌≡◌, ℕ, zero, suc, get_or, ◌<◌, Bool, true, false, List, [], ◌∷◌, ◌++◌, length, map, take, drop, Option, None, Some, Ok, Err, IfSome, inl, inr, refl, ap, sym, ◌∙◌, append_assoc, length-append, subst, arith, take-append_seam, bytes_eq-Decides, Consumes, BookValue, single, book_of_nothing, millis_of, witnesses, Row, Sound, witnessed, Gets, end_with, log_answers, receptions_of, answers-log_fault, LogFault, book_text, IsBookRows, gap_of, IsVersion, Version, One, Two, Three, BookFault, OfGot}
 use Rattle.std.specs.Str.{bytes_eq}
-use Rattle.aprs_laws.proofs.Coalescing.{books_stand, singles_stand}
+use Rattle.aprs_transmissions.proofs.Coalescing.{books_stand, singles_stand}
 use Rattle.aprs_io.specs.declared.input.InputEnd.{InputEnd}
 use Rattle.aprs_io.specs.declared.input.InputEnd.TheVariants as ending
 use Rattle.aprs_bookfile.specs.BookAnswers.{ReadsBook}

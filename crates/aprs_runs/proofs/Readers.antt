@@ -1,7 +1,7 @@
 -- Lemmas on what was asked of the readers of inputs.
 use Rattle.aprs_runs.proofs.Common.{◌⊎◌, ◌≡◌, ℕ, zero, suc, List, [], ◌∷◌, length, drop, Some, Result, Ok, Err, inl, inr, slice_get, set, refl, sym, ap, subst, Calls, Going, Counted, Calls-then, MergeFault}
 use Rattle.aprs_io.specs.Device.{End}
-use Rattle.aprs_laws.specs.declared.merge_fault.MergeFault.TheVariants as merge
+use Rattle.aprs_transmissions.specs.declared.merge_fault.MergeFault.TheVariants as merge
 use Rattle.aprs_bookfile.specs.Asking.{AsksAt}
 use Rattle.aprs_bookfile.specs.declared.fault.BookCause.{BookCause}
 use Rattle.aprs_bookfile.specs.declared.fault.BookCause.TheVariants as why

@@ -3,11 +3,11 @@ use Rattle.aprs_runs.proofs.Common.{◌≡◌, ◌∙◌, ℕ, ◌<◌, ◌≤�
 use Rattle.aprs_log.specs.declared.InputEnd.{InputEnd}
 use Rattle.std.specs.declared.cmp.Ordering.{Ordering}
 use Rattle.std.specs.declared.cmp.Ordering.TheVariants.{Less, Equal, Greater}
-use Rattle.aprs_laws.specs.Coalescing.{StandFor}
-use Rattle.aprs_laws.specs.JoinRow.{choose, combine, compare_near}
-use Rattle.aprs_laws.proofs.BookValues.{widened_holds}
-use Rattle.aprs_laws.proofs.Joins.{some_millis}
-use Rattle.aprs_laws.proofs.TakenSteps.{taken_last}
+use Rattle.aprs_transmissions.specs.Coalescing.{StandFor}
+use Rattle.aprs_transmissions.specs.JoinRow.{choose, combine, compare_near}
+use Rattle.aprs_transmissions.proofs.BookValues.{widened_holds}
+use Rattle.aprs_transmissions.proofs.Joins.{some_millis}
+use Rattle.aprs_transmissions.proofs.TakenSteps.{taken_last}
 use Rattle.aprs_runs.specs.InputRows.{GivesRows}
 use Rattle.aprs_runs.specs.InputBook.{TakesInput}
 use Rattle.aprs_runs.specs.Inputs.{GivesSet}

@@ -1,7 +1,7 @@
 -- Lemmas on the text of a listing.
 use Rattle.aprs_runs.proofs.Common.{◌≡◌, ◌≢◌, ℕ, List, [], ◌∷◌, ◌++◌, Option, inl, inr, refl, ap, ap₂, sym, ◌∙◌, append_assoc, subst, codes, flat_map, flat_map-append, decimal, Call, call_cmp, call_text, known_once, BookOf, BookValue, millis_of, LastKnown, Passes, ◌∈◌, Ordered, Received, reports_position, known_line, line_with, message_line, named_line, station_lines}
 use Rattle.std.specs.declared.cmp.Ordering.TheVariants.{Less}
-use Rattle.aprs_laws.proofs.Orders.{call_total, not_both}
+use Rattle.aprs_transmissions.proofs.Orders.{call_total, not_both}
 use Rattle.aprs_summary.specs.Stations.{ComesBefore, IsSource}
 use Rattle.aprs_summary.specs.declared.lists.station.Station.{Station}
 use Rattle.aprs_runs.specs.Show.{IsListingOf, TellsPosition}

@@ -1,10 +1,10 @@
 -- Lemmas on the text of a table.
 use Rattle.aprs_runs.proofs.Common.{◌≡◌, ◌∙◌, ℕ, List, ap, subst, sym, BookOf, BookValue, millis_of, SameMembers, unique, Received}
-use Rattle.aprs_command.specs.declared.jobs.Table.{Table}
-use Rattle.aprs_command.specs.declared.jobs.Table.TheVariants as table
+use Rattle.aprs_arguments.specs.declared.jobs.Table.{Table}
+use Rattle.aprs_arguments.specs.declared.jobs.Table.TheVariants as table
 use Rattle.aprs_table.specs.Table.{table_text}
 use Rattle.std.proofs.Common.{None, Some}
-use Rattle.aprs_laws.specs.Row.{Row}
+use Rattle.aprs_transmissions.specs.Row.{Row}
 use Rattle.aprs_lists.proofs.OneNet.{one_net}
 use Rattle.aprs_lists.specs.Net.{AreNetMessages}
 use Rattle.aprs_lists.specs.Told.{told_table}

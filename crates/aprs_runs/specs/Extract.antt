@@ -1,7 +1,7 @@
 -- What is written of a book other than its text. No public clause cites this module.
 use Rattle.std.specs.Prelude.{ℕ, List}
 use Rattle.aprs_log.specs.Reception.{Received}
-use Rattle.aprs_laws.specs.BookValue.{BookValue}
+use Rattle.aprs_transmissions.specs.BookValue.{BookValue}
 use Rattle.aprs_listing.specs.Listing.{IsShown}
 use Rattle.aprs_runs.specs.HistoryOf.{IsHistoryOf}
 use Rattle.aprs_runs.specs.Show.{IsListingOf}

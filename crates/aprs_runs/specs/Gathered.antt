@@ -2,10 +2,10 @@
 use Rattle.std.specs.Prelude.{◌≡◌, ◌≢◌, ℕ, List, [], Option, Result, Ok, Err}
 use Rattle.aprs_io.specs.Device.{Sends}
 use Rattle.aprs_io.specs.declared.device.Counted.{Counted}
-use Rattle.aprs_laws.specs.BookValue.{BookValue}
-use Rattle.aprs_laws.specs.Gap.{millis_of}
-use Rattle.aprs_laws.specs.JoinRow.{merge}
-use Rattle.aprs_laws.specs.Row.{Row}
+use Rattle.aprs_transmissions.specs.BookValue.{BookValue}
+use Rattle.aprs_transmissions.specs.Gap.{millis_of}
+use Rattle.aprs_transmissions.specs.JoinRow.{merge}
+use Rattle.aprs_transmissions.specs.Row.{Row}
 use Rattle.aprs_bookfile.specs.Text.{written_text}
 use Rattle.aprs_runs.specs.Devices.{AsksEach}
 use Rattle.aprs_runs.specs.Merge.{IsBookOfAll}

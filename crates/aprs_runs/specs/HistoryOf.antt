@@ -5,12 +5,12 @@ use Rattle.aprs_report.specs.declared.place.Place.{Place}
 use Rattle.aprs_report.specs.declared.stamp.Stamp.{Stamp}
 use Rattle.aprs_report.specs.declared.symbol.Symbol.{Symbol}
 use Rattle.aprs_log.specs.Reception.{Received}
-use Rattle.aprs_laws.specs.Best.{LastKnown}
-use Rattle.aprs_laws.specs.BestLaws.{Passes}
-use Rattle.aprs_laws.specs.Book.{BookOf}
-use Rattle.aprs_laws.specs.Gap.{millis_of}
-use Rattle.aprs_laws.specs.Lists.{SameMembers}
-use Rattle.aprs_laws.specs.Row.{Row}
+use Rattle.aprs_transmissions.specs.Best.{LastKnown}
+use Rattle.aprs_transmissions.specs.BestLaws.{Passes}
+use Rattle.aprs_transmissions.specs.Book.{BookOf}
+use Rattle.aprs_transmissions.specs.Gap.{millis_of}
+use Rattle.aprs_transmissions.specs.Lists.{SameMembers}
+use Rattle.aprs_transmissions.specs.Row.{Row}
 use Rattle.aprs_summary.specs.Reports.{reports_item, reports_object, reports_position}
 use Rattle.aprs_listing.specs.History.{history_line, history_text, row_fields}
 use Rattle.aprs_listing.specs.OneLine.{HasOneLineEach}

@@ -4,12 +4,12 @@ use Rattle.aprs_io.specs.Input.{Gets}
 use Rattle.aprs_io.specs.declared.input.InputEnd.{InputEnd}
 use Rattle.aprs_log.specs.LogAnswers.{log_answers, receptions_of}
 use Rattle.aprs_log.specs.Reception.{Received}
-use Rattle.aprs_laws.specs.BookValue.{BookValue}
-use Rattle.aprs_laws.specs.Coalescing.{StandFor}
-use Rattle.aprs_laws.specs.JoinRow.{single}
-use Rattle.aprs_laws.specs.Row.{Row}
-use Rattle.aprs_laws.specs.declared.merge_fault.MergeFault.{MergeFault}
-use Rattle.aprs_laws.specs.declared.merge_fault.MergeFault.TheVariants as merge
+use Rattle.aprs_transmissions.specs.BookValue.{BookValue}
+use Rattle.aprs_transmissions.specs.Coalescing.{StandFor}
+use Rattle.aprs_transmissions.specs.JoinRow.{single}
+use Rattle.aprs_transmissions.specs.Row.{Row}
+use Rattle.aprs_transmissions.specs.declared.merge_fault.MergeFault.{MergeFault}
+use Rattle.aprs_transmissions.specs.declared.merge_fault.MergeFault.TheVariants as merge
 use Rattle.aprs_runs.specs.Gathered.{with_rows}
 use Rattle.aprs_runs.specs.InputBook.{IsGapOf}
 use Rattle.aprs_runs.specs.Inputs.{GivesSet}

@@ -29,6 +29,6 @@ pub use Rattle.aprs_convert.specs.Conversion
 pub use Rattle.aprs_convert.specs.Check
 pub use Rattle.aprs_convert.specs.Got
 pub use Rattle.aprs_convert.specs.Ends
-pub use Rattle.aprs_command.specs.Arguments
+pub use Rattle.aprs_arguments.specs.Arguments
 pub use Rattle.aprs_fold.specs.Fold as FoldedBooks
 pub use Rattle.aprs_fold.specs.News as FoldedNews

@@ -1,10 +1,10 @@
 -- What a merge writes, which depends on the set of all receptions alone.
 use Rattle.std.specs.Prelude.{◌≡◌, ℕ, List}
 use Rattle.aprs_log.specs.Reception.{Received}
-use Rattle.aprs_laws.specs.Book.{BookOf}
-use Rattle.aprs_laws.specs.Gap.{millis_of}
-use Rattle.aprs_laws.specs.Lists.{SameMembers}
-use Rattle.aprs_laws.specs.Row.{Row}
+use Rattle.aprs_transmissions.specs.Book.{BookOf}
+use Rattle.aprs_transmissions.specs.Gap.{millis_of}
+use Rattle.aprs_transmissions.specs.Lists.{SameMembers}
+use Rattle.aprs_transmissions.specs.Row.{Row}
 use Rattle.aprs_bookfile.specs.Text.{book_text}
 use Rattle.aprs_bookfile.specs.declared.version.Version.TheVariants.{Three}
 use Rattle.aprs_runs.specs.Several.{GiveUnion, GotOf}

@@ -4,8 +4,8 @@ use Rattle.aprs_io.specs.Input.{most_input}
 use Rattle.aprs_io.specs.declared.input.InputEnd.{InputEnd}
 use Rattle.aprs_log.specs.LogText.{HasLogFault}
 use Rattle.aprs_log.specs.Reception.{Received}
-use Rattle.aprs_laws.specs.declared.merge_fault.MergeFault.{MergeFault}
-use Rattle.aprs_laws.specs.declared.merge_fault.MergeFault.TheVariants as merge
+use Rattle.aprs_transmissions.specs.declared.merge_fault.MergeFault.{MergeFault}
+use Rattle.aprs_transmissions.specs.declared.merge_fault.MergeFault.TheVariants as merge
 use Rattle.aprs_bookfile.specs.TextFault.{HasBookFault}
 use Rattle.aprs_runs.specs.Inputs.{GivesSet, IsBookFileOf, has_book_mark}
 use Rattle.aprs_runs.specs.ExitStatus.{status_of_input}

@@ -4,7 +4,7 @@ use Rattle.aprs_io.specs.Input.{EndsSo}
 use Rattle.aprs_io.specs.declared.device.Counted.{Counted}
 use Rattle.aprs_io.specs.declared.input.InputEnd.{InputEnd}
 use Rattle.aprs_log.specs.Reception.{Received}
-use Rattle.aprs_laws.specs.Lists.{SameMembers}
+use Rattle.aprs_transmissions.specs.Lists.{SameMembers}
 use Rattle.aprs_runs.specs.Inputs.{GivesSet}
 use Rattle.aprs_runs.specs.Refused.{IsNotTaken}
 use Rattle.aprs_runs.specs.declared.fault.InputFault.{InputFault}

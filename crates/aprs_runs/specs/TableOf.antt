@@ -1,12 +1,12 @@
 -- A table of a set, which depends on the set of all receptions alone.
 use Rattle.std.specs.Prelude.{◌≡◌, ℕ, List, None, Some}
 use Rattle.aprs_log.specs.Reception.{Received}
-use Rattle.aprs_laws.specs.Book.{BookOf}
-use Rattle.aprs_laws.specs.Gap.{millis_of}
-use Rattle.aprs_laws.specs.Lists.{SameMembers}
-use Rattle.aprs_laws.specs.Row.{Row}
-use Rattle.aprs_command.specs.declared.jobs.Table.{Table}
-use Rattle.aprs_command.specs.declared.jobs.Table.TheVariants as table
+use Rattle.aprs_transmissions.specs.Book.{BookOf}
+use Rattle.aprs_transmissions.specs.Gap.{millis_of}
+use Rattle.aprs_transmissions.specs.Lists.{SameMembers}
+use Rattle.aprs_transmissions.specs.Row.{Row}
+use Rattle.aprs_arguments.specs.declared.jobs.Table.{Table}
+use Rattle.aprs_arguments.specs.declared.jobs.Table.TheVariants as table
 use Rattle.aprs_table.specs.Table.{table_text}
 use Rattle.aprs_summary.specs.Messages.{AreMessages}
 use Rattle.aprs_summary.specs.Names.{AreNamed}

@@ -3,11 +3,11 @@
 use Rattle.std.specs.Prelude.{◌≡◌, ℕ, List, Option, None, Some, Result, Ok, Err}
 use Rattle.aprs_io.specs.Device.{Sends}
 use Rattle.aprs_io.specs.declared.device.Counted.{Counted}
-use Rattle.aprs_laws.specs.BookValue.{BookValue}
+use Rattle.aprs_transmissions.specs.BookValue.{BookValue}
 use Rattle.aprs_listing.specs.History.{history_text}
 use Rattle.aprs_listing.specs.OneLine.{HasOneLineEach}
-use Rattle.aprs_command.specs.declared.jobs.Table.{Table}
-use Rattle.aprs_command.specs.declared.jobs.Table.TheVariants as table
+use Rattle.aprs_arguments.specs.declared.jobs.Table.{Table}
+use Rattle.aprs_arguments.specs.declared.jobs.Table.TheVariants as table
 use Rattle.aprs_table.specs.Table.{table_text}
 use Rattle.aprs_lists.specs.Messages.{IsMessagesTable}
 use Rattle.aprs_lists.specs.Net.{IsNetTable}

@@ -11,7 +11,7 @@ ghost use Rattle.aprs_runs.specs.Several.{GiveUnion, OfEach};
 use crate::fault::{InputFault, RunFault};
 use aprs_fold::{FoldFault, SourceRange, fold_books};
 use aprs_io::Counted;
-use aprs_laws::Gap;
+use aprs_transmissions::Gap;
 use std::alloc::Allocator;
 use std::io::{Read, Write};
 

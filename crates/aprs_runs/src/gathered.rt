@@ -1,7 +1,7 @@
 //! The book of inputs, as it is gathered.
 ghost use Rattle.std.specs.Prelude.{◌≡◌, ◌≢◌, [], IfOk, OnOk, OnErr};
-ghost use Rattle.aprs_laws.specs.BookValue.{BookValue};
-ghost use Rattle.aprs_laws.specs.Coalescing.{AreInOrder};
+ghost use Rattle.aprs_transmissions.specs.BookValue.{BookValue};
+ghost use Rattle.aprs_transmissions.specs.Coalescing.{AreInOrder};
 ghost use Rattle.aprs_runs.specs.Extract.{IsExtract, IsSummarized};
 ghost use Rattle.aprs_runs.specs.Gathered.{with_rows, WritesText};
 ghost use Rattle.aprs_runs.specs.ToldBook.{IsHistory, WritesTold, answer_of_output};
@@ -12,9 +12,9 @@ ghost use Rattle.aprs_lists.specs.Stations.{IsStationsTable};
 use crate::extract::{Extract, Summarized, write_summarized};
 use crate::fault::RunFault;
 use aprs_bookfile::write_rows;
-use aprs_command::Table;
+use aprs_arguments::Table;
 use aprs_io::{Counted, WriteFault};
-use aprs_laws::Gap;
+use aprs_transmissions::Gap;
 use aprs_listing::write_history;
 use aprs_lists::{HeardStations, Traffic, write_net_messages, write_stations};
 use aprs_rows::{BookStore, Memory, PackedRows, WalkRoom};
@@ -46,8 +46,8 @@ impl<A: Allocator> Drop for Gathered<A> {
 }
 
 impl<A: Allocator> Model for Gathered<A> {
-    ghost use Rattle.aprs_laws.specs.BookValue.{BookValue};
-    ghost use Rattle.aprs_laws.specs.Coalescing.{AreInOrder};
+    ghost use Rattle.aprs_transmissions.specs.BookValue.{BookValue};
+    ghost use Rattle.aprs_transmissions.specs.Coalescing.{AreInOrder};
     ghost use Rattle.aprs_runs.specs.Gathered.{with_rows};
 
     ghost Value = { BookValue };

@@ -9,7 +9,7 @@ ghost use Rattle.aprs_runs.specs.HistoryOf.{IsHistoryOf};
 use crate::extract::{Extract, extract_run};
 use crate::fault::RunFault;
 use aprs_io::Counted;
-use aprs_laws::Gap;
+use aprs_transmissions::Gap;
 use std::alloc::Allocator;
 use std::io::{Read, Write};
 

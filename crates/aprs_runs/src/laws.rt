@@ -2,7 +2,7 @@
 //! table and the positions in a listing. An input that stands for a set has no fault. The functions
 //! do nothing: what they ensure are the laws.
 ghost use Rattle.std.specs.Prelude.{ℕ};
-ghost use Rattle.aprs_command.specs.declared.jobs.Table.{Table};
+ghost use Rattle.aprs_arguments.specs.declared.jobs.Table.{Table};
 ghost use Rattle.aprs_runs.specs.HistoryOf.{HaveOneHistory, HistoriesTellItems, HistoriesTellObjects, HistoriesTellPlaces};
 ghost use Rattle.aprs_runs.specs.Merge.{AreBooksOfUnions, HaveOneMerge};
 ghost use Rattle.aprs_runs.specs.Refused.{HaveNoFault};

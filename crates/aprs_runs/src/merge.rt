@@ -11,7 +11,7 @@ use crate::fault::{InputFault, RunFault};
 use crate::gathered::{Gathered, OutputFault};
 use crate::input::read_into;
 use aprs_io::Counted;
-use aprs_laws::Gap;
+use aprs_transmissions::Gap;
 use std::alloc::Allocator;
 use std::io::{Read, Write};
 

@@ -1,7 +1,7 @@
 //! What of a fold is new to the first of its inputs.
 ghost use Rattle.std.specs.Prelude.{◌≡◌, ◌≤◌, IfErr, List, OnOk};
 ghost use Rattle.aprs_io.specs.Device.{Sends};
-ghost use Rattle.aprs_laws.specs.Row.{Row};
+ghost use Rattle.aprs_transmissions.specs.Row.{Row};
 ghost use Rattle.aprs_bookfile.specs.RowReader.{most_stream};
 ghost use Rattle.aprs_bookfile.specs.Text.{written_text};
 ghost use Rattle.aprs_fold.specs.Inputs.{AreAsked, AreBooks};
@@ -12,7 +12,7 @@ use crate::fault::RunFault;
 use crate::fold::run_fault_of;
 use aprs_fold::{SourceRange, fold_news};
 use aprs_io::Counted;
-use aprs_laws::Gap;
+use aprs_transmissions::Gap;
 use std::alloc::Allocator;
 use std::io::{Read, Write};
 

@@ -8,9 +8,9 @@ ghost use Rattle.aprs_runs.specs.TableOf.{IsTableOf};
 
 use crate::extract::{Extract, extract_run};
 use crate::fault::RunFault;
-use aprs_command::Table;
+use aprs_arguments::Table;
 use aprs_io::Counted;
-use aprs_laws::Gap;
+use aprs_transmissions::Gap;
 use std::alloc::Allocator;
 use std::io::{Read, Write};
 

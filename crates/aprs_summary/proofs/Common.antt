@@ -1,26 +1,26 @@
 -- What this crate's proofs cite of the crates below.
 pub use Rattle.aprs_ax25.specs.CallText.{SpellsCall}
 pub use Rattle.aprs_ax25.specs.Callsign.{Call, call_cmp, call_text, ssid_text}
-pub use Rattle.aprs_laws.proofs.Inserts.{inserted_is_book}
-pub use Rattle.aprs_laws.proofs.Joins.{greatest_laws, is_greater_of}
-pub use Rattle.aprs_laws.proofs.Known.{known_last, known_once, plain_known, rows_know, set_knows}
-pub use Rattle.aprs_laws.proofs.Lists.{each_of, from_map, in_either, in_left, in_map, in_right}
-pub use Rattle.aprs_laws.proofs.Orders.{bytes_exact, bytes_total, call_exact, call_total, heard_total, up_to_itself}
-pub use Rattle.aprs_laws.proofs.Soundness.{witnessed}
-pub use Rattle.aprs_laws.proofs.Views.{a_row, best_of_rows, none_of_rows}
-pub use Rattle.aprs_laws.specs.Best.{IsBest, LastKnown, greater_known, known_after, known_of}
-pub use Rattle.aprs_laws.specs.BestLaws.{Passes}
-pub use Rattle.aprs_laws.specs.Book.{BookOf}
-pub use Rattle.aprs_laws.specs.BookValue.{BookValue}
-pub use Rattle.aprs_laws.specs.Examples.{n0call}
-pub use Rattle.aprs_laws.specs.Gap.{millis_of}
-pub use Rattle.aprs_laws.specs.Inserted.{FitsInPlace, insert_heard}
-pub use Rattle.aprs_laws.specs.JoinRow.{greater}
-pub use Rattle.aprs_laws.specs.Key.{Key}
-pub use Rattle.aprs_laws.specs.Lists.{Ordered, ◌∈◌}
-pub use Rattle.aprs_laws.specs.Order.{IsBelow, IsUpTo}
-pub use Rattle.aprs_laws.specs.Row.{Row, last_moment, row_key}
-pub use Rattle.aprs_laws.specs.Sound.{Sound}
+pub use Rattle.aprs_transmissions.proofs.Inserts.{inserted_is_book}
+pub use Rattle.aprs_transmissions.proofs.Joins.{greatest_laws, is_greater_of}
+pub use Rattle.aprs_transmissions.proofs.Known.{known_last, known_once, plain_known, rows_know, set_knows}
+pub use Rattle.aprs_transmissions.proofs.Lists.{each_of, from_map, in_either, in_left, in_map, in_right}
+pub use Rattle.aprs_transmissions.proofs.Orders.{bytes_exact, bytes_total, call_exact, call_total, heard_total, up_to_itself}
+pub use Rattle.aprs_transmissions.proofs.Soundness.{witnessed}
+pub use Rattle.aprs_transmissions.proofs.Views.{a_row, best_of_rows, none_of_rows}
+pub use Rattle.aprs_transmissions.specs.Best.{IsBest, LastKnown, greater_known, known_after, known_of}
+pub use Rattle.aprs_transmissions.specs.BestLaws.{Passes}
+pub use Rattle.aprs_transmissions.specs.Book.{BookOf}
+pub use Rattle.aprs_transmissions.specs.BookValue.{BookValue}
+pub use Rattle.aprs_transmissions.specs.Examples.{n0call}
+pub use Rattle.aprs_transmissions.specs.Gap.{millis_of}
+pub use Rattle.aprs_transmissions.specs.Inserted.{FitsInPlace, insert_heard}
+pub use Rattle.aprs_transmissions.specs.JoinRow.{greater}
+pub use Rattle.aprs_transmissions.specs.Key.{Key}
+pub use Rattle.aprs_transmissions.specs.Lists.{Ordered, ◌∈◌}
+pub use Rattle.aprs_transmissions.specs.Order.{IsBelow, IsUpTo}
+pub use Rattle.aprs_transmissions.specs.Row.{Row, last_moment, row_key}
+pub use Rattle.aprs_transmissions.specs.Sound.{Sound}
 pub use Rattle.aprs_log.specs.Reception.{Received, bytes_cmp, heard_cmp}
 pub use Rattle.aprs_report.specs.Reader.{reading_of}
 pub use Rattle.aprs_report.specs.Reading.{Reads, Value, ack, item, message, object, position, raw, rej, status}

@@ -1,9 +1,9 @@
 -- What the indexes know after one more reception, one more row, or a merge.
 use Rattle.aprs_summary.proofs.Common.{◌≡◌, ◌∙◌, Bool, true, false, ◌&&◌, if◌then◌else◌, List, [], ◌∷◌, ◌++◌, Option, None, Some, map, refl, sym, ap, subst, arith, length, take, ℕ, ◌<◌, and-false, and-true, tied_itself, map-append, Less, Equal, Greater, by_order, is_eq, Call, call_cmp, call_text, ssid_text, Received, bytes_cmp, Value, position, object, item, message, ack, rej, status, raw, Key, Row, row_key, insert_heard, FitsInPlace, Sound, LastKnown, greater_known, known_after, Passes, witnessed, inserted_is_book, bytes_exact, bytes_total, call_exact, call_total, rows_know, set_knows, known_last}
-use Rattle.aprs_laws.specs.Key.{key_of}
+use Rattle.aprs_transmissions.specs.Key.{key_of}
 use Rattle.std.proofs.lemmas.List.{length-append}
 use Rattle.std.proofs.Math.Seq.{take-append_seam}
-use Rattle.aprs_laws.specs.Witnesses.{witnesses}
+use Rattle.aprs_transmissions.specs.Witnesses.{witnesses}
 use Rattle.aprs_summary.specs.declared.known.subject.Subject.{Subject}
 use Rattle.aprs_summary.specs.Reports.{report_of, is_position_report, is_status_report, is_object_named, is_item_named, has_source, reports_position, reports_status, reports_object, reports_item, without_spaces}
 use Rattle.aprs_summary.specs.LastKnown.{IsLastKnown}

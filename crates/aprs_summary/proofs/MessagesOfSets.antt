@@ -1,9 +1,9 @@
 -- What rows report of messages is what their set has.
 use Rattle.aprs_summary.proofs.Common.{◌≡◌, ◌∙◌, ℕ, Bool, true, false, inl, inr, List, [], ◌∷◌, Option, Some, None, sym, ap, refl, subst, Call, SpellsCall, Received, heard_cmp, ◌∈◌, Ordered, IsBelow, IsUpTo, Key, Row, row_key, BookOf, LastKnown, IsBest, a_row, best_of_rows, from_map, in_map, map, none_of_rows, Value, position, object, item, message, ack, rej, status, raw}
-use Rattle.aprs_laws.specs.Key.{key_of}
+use Rattle.aprs_transmissions.specs.Key.{key_of}
 use Rattle.aprs_summary.specs.Reports.{report_of}
 use Rattle.aprs_summary.specs.ReplyAcks.{IsReplyAckText}
-use Rattle.aprs_laws.proofs.Spans.{first_moment_is, last_moment_is}
+use Rattle.aprs_transmissions.proofs.Spans.{first_moment_is, last_moment_is}
 use Rattle.aprs_summary.specs.declared.lists.message.MessageRow.{MessageRow}
 use Rattle.aprs_summary.specs.declared.lists.message_key.MessageKey.{MessageKey}
 use Rattle.aprs_summary.specs.declared.lists.message_key.Span.{Span}

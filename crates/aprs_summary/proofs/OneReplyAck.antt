@@ -1,6 +1,6 @@
 -- Reply-acks say one thing of a message.
 use Rattle.aprs_summary.proofs.Common.{◌≡◌, ◌∙◌, ℕ, List, ap, sym, subst, inl, inr, Received, LastKnown, known_once}
-use Rattle.aprs_laws.specs.Lists.{SameMembers}
+use Rattle.aprs_transmissions.specs.Lists.{SameMembers}
 use Rattle.aprs_summary.specs.declared.lists.reply_ack.ReplyAck.{ReplyAck}
 use Rattle.aprs_summary.specs.Messages.{HasNumber, IsReplyAckOf, Message, RepliesTo, reply_ack_by}
 use Rattle.aprs_summary.proofs.ReplyTexts.{numbered_once}

@@ -1,6 +1,6 @@
 -- The objects and items that the indexes know.
 use Rattle.aprs_summary.proofs.Common.{◌≡◌, ◌∙◌, ℕ, Bool, true, false, List, [], ◌∷◌, ◌++◌, map, Option, Some, None, sym, ap, refl, subst, inl, inr, IsTrue, IsTotalOrder, bool_cmp_total, is_eq, ordering_then, bool_cmp, tied_itself, on_total, then_total, CmpEqualImpliesEq, exact_pairs, Call, Received, bytes_cmp, Value, position, object, item, message, ack, rej, status, raw, ◌∈◌, Ordered, IsBelow, Key, Row, BookOf, IsBest, LastKnown, Passes, in_left, in_right, in_either, in_map, from_map, bytes_total, bytes_exact, by_order}
-use Rattle.aprs_laws.specs.Key.{key_of}
+use Rattle.aprs_transmissions.specs.Key.{key_of}
 use Rattle.aprs_summary.specs.declared.lists.named.Named.{Named}
 use Rattle.aprs_summary.specs.Reports.{report_of}
 use Rattle.aprs_summary.specs.Names.{Thing, reported_thing, thing_cmp, ReportsOf, shown_report, shown_thing, IsNamedBefore, AreNamed, ReportsNamed}

@@ -1,7 +1,7 @@
 -- Worked examples.
 use Rattle.aprs_summary.proofs.Common.{◌≡◌, ℕ, ◌+◌, ◌<◌, true, false, Option, None, List, [], ◌∷◌, ◌++◌, codes, inl, inr, refl, sym, ap, ◌∙◌, arith, SpellsCall, Received, heard_cmp, message, ack, rej, IsUpTo, Key, IsBest, LastKnown, n0call, known_once, heard_total, up_to_itself, each_of}
 use Rattle.aprs_report.specs.Reader.{report_by_form, message_with, addressee_and_part_of, answer_at, text_and_id_of, object_of, item_of, item_field_of, stamp_at, place_of, plain_of, angle_of, minutes_of, numeral_of, cut_end}
-use Rattle.aprs_laws.specs.Key.{key_of}
+use Rattle.aprs_transmissions.specs.Key.{key_of}
 use Rattle.aprs_ax25.proofs.Calls.{ssid_text-one}
 use Rattle.aprs_summary.specs.declared.lists.message.MessageState.{MessageState}
 use Rattle.aprs_summary.specs.Reports.{report_of}

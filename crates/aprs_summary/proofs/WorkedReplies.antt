@@ -1,7 +1,7 @@
 -- Worked examples of reply-acks.
 use Rattle.aprs_summary.proofs.Common.{◌≡◌, ℕ, None, List, [], ◌∷◌, codes, inl, inr, refl, sym, subst, ap, ◌∙◌, Received, Key, Value, message, ack, IsBest, IsUpTo, LastKnown, heard_cmp, heard_total, up_to_itself, each_of}
 use Rattle.aprs_report.specs.Reader.{report_by_form, message_with, addressee_and_part_of, answer_at, text_and_id_of, cut_end}
-use Rattle.aprs_laws.specs.Key.{key_of}
+use Rattle.aprs_transmissions.specs.Key.{key_of}
 use Rattle.aprs_summary.specs.declared.lists.reply_ack.ReplyAck.{ReplyAck}
 use Rattle.aprs_summary.specs.Reports.{report_of}
 use Rattle.aprs_summary.specs.Messages.{HasNumber, IsReplyAckOf, RepliesTo}

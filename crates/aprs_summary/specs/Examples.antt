@@ -2,8 +2,8 @@
 use Rattle.std.specs.Prelude.{ℕ, ◌+◌, ◌*◌, Bool, List, [], ◌∷◌, Option, None, Some, codes}
 use denote.Ref.{Bor}
 use Rattle.aprs_log.specs.Reception.{Received}
-use Rattle.aprs_laws.specs.Row.{Row}
-use Rattle.aprs_laws.specs.Examples.{n0call, rx1, reception_at, example_row}
+use Rattle.aprs_transmissions.specs.Row.{Row}
+use Rattle.aprs_transmissions.specs.Examples.{n0call, rx1, reception_at, example_row}
 use Rattle.aprs_summary.specs.declared.lists.message.MessageRow.{MessageRow}
 use Rattle.aprs_summary.specs.declared.lists.message.MessageState.{MessageState}
 use Rattle.aprs_summary.specs.declared.lists.named.Named.{Named}

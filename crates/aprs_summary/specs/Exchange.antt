@@ -1,6 +1,6 @@
 -- When messages were reported, and how they were answered, by key.
 use Rattle.std.specs.Prelude.{List}
-use Rattle.aprs_laws.specs.Row.{Row}
+use Rattle.aprs_transmissions.specs.Row.{Row}
 use Rattle.aprs_summary.specs.declared.lists.exchange.Exchange.{Exchange}
 use Rattle.aprs_summary.specs.MessageRows.{AreAnswers, AreSpans}
 

@@ -7,11 +7,11 @@ use Rattle.std.specs.BTreeMap.{is_at}
 use Rattle.aprs_ax25.specs.Callsign.{Call, call_text}
 use Rattle.aprs_log.specs.Reception.{Received, bytes_cmp}
 use Rattle.aprs_report.specs.Reading.{Value, position, status, object, item}
-use Rattle.aprs_laws.specs.Order.{IsBelow}
-use Rattle.aprs_laws.specs.Key.{Key}
-use Rattle.aprs_laws.specs.Row.{Row}
-use Rattle.aprs_laws.specs.Best.{LastKnown, greater_known}
-use Rattle.aprs_laws.specs.BestLaws.{Passes}
+use Rattle.aprs_transmissions.specs.Order.{IsBelow}
+use Rattle.aprs_transmissions.specs.Key.{Key}
+use Rattle.aprs_transmissions.specs.Row.{Row}
+use Rattle.aprs_transmissions.specs.Best.{LastKnown, greater_known}
+use Rattle.aprs_transmissions.specs.BestLaws.{Passes}
 use Rattle.aprs_summary.specs.declared.known.subject.Subject.{Subject}
 use Rattle.aprs_summary.specs.declared.known.subject.Subject.TheVariants.{Position, Status, Object, Item}
 use Rattle.aprs_summary.specs.Reports.{report_of}

@@ -16,16 +16,16 @@ pub mod NamedRows
 pub mod StationRows
 -- What public clauses cite of lower crates.
 pub use Rattle.aprs_log.specs.Reception
-pub use Rattle.aprs_laws.specs.Lists
-pub use Rattle.aprs_laws.specs.Order
-pub use Rattle.aprs_laws.specs.Gap
-pub use Rattle.aprs_laws.specs.Key
-pub use Rattle.aprs_laws.specs.Row
-pub use Rattle.aprs_laws.specs.Book
-pub use Rattle.aprs_laws.specs.BookValue
-pub use Rattle.aprs_laws.specs.Best
-pub use Rattle.aprs_laws.specs.BestLaws
-pub use Rattle.aprs_laws.specs.Spans
+pub use Rattle.aprs_transmissions.specs.Lists
+pub use Rattle.aprs_transmissions.specs.Order
+pub use Rattle.aprs_transmissions.specs.Gap
+pub use Rattle.aprs_transmissions.specs.Key
+pub use Rattle.aprs_transmissions.specs.Row
+pub use Rattle.aprs_transmissions.specs.Book
+pub use Rattle.aprs_transmissions.specs.BookValue
+pub use Rattle.aprs_transmissions.specs.Best
+pub use Rattle.aprs_transmissions.specs.BestLaws
+pub use Rattle.aprs_transmissions.specs.Spans
 pub use Rattle.aprs_ax25.specs.CallText
 pub use Rattle.aprs_report.specs.Bytes
 pub use Rattle.aprs_report.specs.Reading

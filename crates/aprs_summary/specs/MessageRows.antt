@@ -12,11 +12,11 @@ use Rattle.aprs_ax25.specs.Scan.{call_fault, ssid_of}
 use Rattle.aprs_ax25.specs.declared.fault.CallFault.{CallFault}
 use Rattle.aprs_log.specs.Reception.{Received, bytes_cmp, heard_cmp}
 use Rattle.aprs_report.specs.Reading.{Value, ack, rej}
-use Rattle.aprs_laws.specs.Lists.{◌∈◌}
-use Rattle.aprs_laws.specs.Order.{IsBelow, IsUpTo}
-use Rattle.aprs_laws.specs.Key.{Key}
-use Rattle.aprs_laws.specs.Row.{Row, row_key, last_moment}
-use Rattle.aprs_laws.specs.Spans.{IsLeastFirst, IsGreatestLast}
+use Rattle.aprs_transmissions.specs.Lists.{◌∈◌}
+use Rattle.aprs_transmissions.specs.Order.{IsBelow, IsUpTo}
+use Rattle.aprs_transmissions.specs.Key.{Key}
+use Rattle.aprs_transmissions.specs.Row.{Row, row_key, last_moment}
+use Rattle.aprs_transmissions.specs.Spans.{IsLeastFirst, IsGreatestLast}
 use Rattle.aprs_summary.specs.declared.lists.message_key.MessageKey.{MessageKey}
 use Rattle.aprs_summary.specs.declared.lists.message_key.AnswerKey.{AnswerKey}
 use Rattle.aprs_summary.specs.declared.lists.message_key.Span.{Span}

@@ -7,13 +7,13 @@ use Rattle.aprs_ax25.specs.Callsign.{Call, call_cmp}
 use Rattle.aprs_ax25.specs.CallText.{SpellsCall}
 use Rattle.aprs_log.specs.Reception.{Received, bytes_cmp}
 use Rattle.aprs_report.specs.Reading.{Value, message, ack, rej}
-use Rattle.aprs_laws.specs.Lists.{◌∈◌, Ordered}
-use Rattle.aprs_laws.specs.Order.{IsBelow}
-use Rattle.aprs_laws.specs.Key.{Key, key_of}
-use Rattle.aprs_laws.specs.Row.{Row}
-use Rattle.aprs_laws.specs.Book.{BookOf}
-use Rattle.aprs_laws.specs.Best.{LastKnown}
-use Rattle.aprs_laws.specs.Spans.{IsFirstMoment, IsLastMoment}
+use Rattle.aprs_transmissions.specs.Lists.{◌∈◌, Ordered}
+use Rattle.aprs_transmissions.specs.Order.{IsBelow}
+use Rattle.aprs_transmissions.specs.Key.{Key, key_of}
+use Rattle.aprs_transmissions.specs.Row.{Row}
+use Rattle.aprs_transmissions.specs.Book.{BookOf}
+use Rattle.aprs_transmissions.specs.Best.{LastKnown}
+use Rattle.aprs_transmissions.specs.Spans.{IsFirstMoment, IsLastMoment}
 use Rattle.aprs_summary.specs.declared.lists.message.MessageRow.{MessageRow}
 use Rattle.aprs_summary.specs.declared.lists.message.MessageState.{MessageState}
 use Rattle.aprs_summary.specs.declared.lists.message.MessageState.TheVariants.{Unnumbered, Unanswered, Acknowledged, Rejected}

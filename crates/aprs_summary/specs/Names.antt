@@ -4,12 +4,12 @@ use Rattle.std.specs.Ordering.{on, then_cmp, bool_cmp}
 use Rattle.std.specs.declared.cmp.Ordering.{Ordering}
 use Rattle.aprs_log.specs.Reception.{Received, bytes_cmp}
 use Rattle.aprs_report.specs.Reading.{Value, object, item}
-use Rattle.aprs_laws.specs.Lists.{◌∈◌, Ordered}
-use Rattle.aprs_laws.specs.Order.{IsBelow}
-use Rattle.aprs_laws.specs.Key.{Key, key_of}
-use Rattle.aprs_laws.specs.Row.{Row}
-use Rattle.aprs_laws.specs.Book.{BookOf}
-use Rattle.aprs_laws.specs.Best.{IsBest}
+use Rattle.aprs_transmissions.specs.Lists.{◌∈◌, Ordered}
+use Rattle.aprs_transmissions.specs.Order.{IsBelow}
+use Rattle.aprs_transmissions.specs.Key.{Key, key_of}
+use Rattle.aprs_transmissions.specs.Row.{Row}
+use Rattle.aprs_transmissions.specs.Book.{BookOf}
+use Rattle.aprs_transmissions.specs.Best.{IsBest}
 use Rattle.aprs_summary.specs.declared.lists.named.Named.{Named}
 use Rattle.aprs_summary.specs.Reports.{report_of}
 

@@ -1,9 +1,9 @@
 -- What is noted of rows, one after another.
 use Rattle.std.specs.Prelude.{ℕ, List, Option, Some, None, if◌then◌else◌, map}
 use Rattle.aprs_log.specs.Reception.{Received}
-use Rattle.aprs_laws.specs.Row.{Row}
-use Rattle.aprs_laws.specs.Best.{LastKnown, greater_known}
-use Rattle.aprs_laws.specs.BestLaws.{Passes}
+use Rattle.aprs_transmissions.specs.Row.{Row}
+use Rattle.aprs_transmissions.specs.Best.{LastKnown, greater_known}
+use Rattle.aprs_transmissions.specs.BestLaws.{Passes}
 use Rattle.aprs_summary.specs.declared.known.notes.Notes.{Notes}
 use Rattle.aprs_summary.specs.declared.known.notes.Streak.{Streak}
 use Rattle.aprs_summary.specs.Known.{FourIndexes, Topic, index_of, has_bytes, known_at, subject_bytes, topic_bytes, is_report_on, greatest_of}

@@ -4,10 +4,10 @@ use Rattle.std.specs.Map.{lookup}
 use Rattle.std.specs.BTreeMap.{is_at, insert_entry}
 use Rattle.std.specs.List.{count_by}
 use Rattle.aprs_ax25.specs.Callsign.{Call, call_cmp}
-use Rattle.aprs_laws.specs.Lists.{◌∈◌}
-use Rattle.aprs_laws.specs.Order.{IsBelow}
-use Rattle.aprs_laws.specs.Key.{Key}
-use Rattle.aprs_laws.specs.Row.{Row, row_key}
+use Rattle.aprs_transmissions.specs.Lists.{◌∈◌}
+use Rattle.aprs_transmissions.specs.Order.{IsBelow}
+use Rattle.aprs_transmissions.specs.Key.{Key}
+use Rattle.aprs_transmissions.specs.Row.{Row, row_key}
 use Rattle.aprs_summary.specs.declared.lists.station.Station.{Station}
 use Rattle.aprs_summary.specs.declared.lists.tally.Tally.{Tally}
 use Rattle.aprs_summary.specs.Reports.{has_source}

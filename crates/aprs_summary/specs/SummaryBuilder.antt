@@ -3,7 +3,7 @@ use Rattle.std.specs.Prelude.{List}
 use Rattle.std.specs.Map.{keys_of}
 use Rattle.std.specs.List.Sorted.{IsStrictlySortedBy}
 use Rattle.aprs_ax25.specs.Callsign.{call_cmp}
-use Rattle.aprs_laws.specs.Row.{Row}
+use Rattle.aprs_transmissions.specs.Row.{Row}
 use Rattle.aprs_summary.specs.declared.lists.summary_builder.SummaryBuilder.{SummaryBuilder}
 use Rattle.aprs_summary.specs.Exchange.{IsExchangeOf}
 use Rattle.aprs_summary.specs.Notes.{AreNotesOf}

@@ -2,7 +2,7 @@
 use Rattle.std.specs.List.{join_with_byte}
 use Rattle.std.specs.Prelude.{List, ℕ, map, codes, ◌≡◌, ◌∷◌, ◌++◌, ◌*◌, [], if◌then◌else◌}
 use Rattle.std.specs.Str.{bytes_eq}
-use Rattle.aprs_laws.specs.Row.{Row}
+use Rattle.aprs_transmissions.specs.Row.{Row}
 use Rattle.aprs_table.specs.Table.{columns, table_line}
 
 -- An address of these six characters, each shifted left by one bit, and this last octet.

@@ -1,7 +1,7 @@
 //! Writes below a buffer that are interrupted.
 
 use aprs_fixtures::{Flushing, Halting};
-use aprs_program::{Retried, write_some};
+use aprs_host::{Retried, write_some};
 use std::io::{ErrorKind, Write};
 
 #[test]

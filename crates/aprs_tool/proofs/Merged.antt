@@ -1,7 +1,7 @@
 -- Lemmas on an input's book that is merged into another.
 use Rattle.aprs_tool.proofs.Common.{◌≡◌, ℕ, List, [], ◌∷◌, ◌++◌, length, Ok, Err, inr, sym, subst, arith, BookOf, BookValue, millis_of, Row, book_carries, around, merged, MergeFault}
 use Rattle.aprs_book.specs.Changes.{MergesInto}
-use Rattle.aprs_laws.specs.declared.merge_fault.MergeFault.TheVariants as fault
+use Rattle.aprs_transmissions.specs.declared.merge_fault.MergeFault.TheVariants as fault
 use Rattle.aprs_log.specs.declared.InputEnd.{InputEnd}
 use Rattle.aprs_runs.specs.InputBook.{ReadsInput, TakesInput}
 use Rattle.aprs_runs.specs.InputRows.{RefusesGaps}

@@ -1,7 +1,7 @@
 -- What contracts see of a desk.
 use Rattle.std.specs.Prelude.{ℕ, List}
-use Rattle.aprs_laws.specs.BookValue.{BookValue}
-use Rattle.aprs_laws.specs.Row.{Row}
+use Rattle.aprs_transmissions.specs.BookValue.{BookValue}
+use Rattle.aprs_transmissions.specs.Row.{Row}
 use Rattle.aprs_tool.specs.declared.desk.Desk.{Desk}
 
 -- The desk's book.

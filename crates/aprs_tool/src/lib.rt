@@ -4,7 +4,7 @@
 
 mod desk;
 
-pub use aprs_command::{
+pub use aprs_arguments::{
     FoldJob, HistoryJob, Job, JobFault, Table, TableJob, command_is_simple, fold_command_is_simple,
     fold_job, history_command_is_simple, history_job, job, table_command_is_simple, table_job,
 };

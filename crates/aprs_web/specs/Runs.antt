@@ -5,8 +5,8 @@ use Rattle.aprs_io.specs.Input.{most_input}
 use Rattle.aprs_log.specs.Reception.{Received}
 use Rattle.aprs_log.specs.declared.InputEnd.{InputEnd}
 use Rattle.aprs_log.specs.declared.fault.LogFault.{LogFault}
-use Rattle.aprs_laws.specs.Gap.{IsGap}
-use Rattle.aprs_command.specs.declared.jobs.Table.{Table}
+use Rattle.aprs_transmissions.specs.Gap.{IsGap}
+use Rattle.aprs_arguments.specs.declared.jobs.Table.{Table}
 use Rattle.aprs_convert.specs.Ends.{Ends}
 use Rattle.aprs_convert.specs.Got.{OfGot}
 use Rattle.aprs_runs.specs.HistoryOf.{IsHistoryOf}

@@ -3,12 +3,12 @@
 //! than 1,073,741,824 bytes is at fault. Where memory for the output is refused (status 3), a
 //! prefix of the text is put there.
 ghost use Rattle.std.specs.Prelude.{◌≡◌, ℕ, None, Some, IfNone, IfSome};
-ghost use Rattle.aprs_command.specs.Arguments.{named_table};
-ghost use Rattle.aprs_command.specs.declared.jobs.Table.{Table};
+ghost use Rattle.aprs_arguments.specs.Arguments.{named_table};
+ghost use Rattle.aprs_arguments.specs.declared.jobs.Table.{Table};
 ghost use Rattle.aprs_convert.specs.Check.{Checks};
 ghost use Rattle.aprs_convert.specs.Conversion.{Converts};
 ghost use Rattle.aprs_convert.specs.declared.form.Form.TheVariants as form;
-ghost use Rattle.aprs_laws.specs.Gap.{IsGap};
+ghost use Rattle.aprs_transmissions.specs.Gap.{IsGap};
 ghost use Rattle.aprs_log.specs.MomentReading.{moment_of};
 ghost use Rattle.aprs_log.specs.Receiver.{IsName};
 ghost use Rattle.aprs_web.specs.Answer.{TellsNoRun, TellsRun};
@@ -18,9 +18,9 @@ use crate::answer::{Answer, answer_of, no_run};
 use crate::inputs::add_up;
 use crate::written::{check, convert, history, merge, show, tabulate, widen};
 use aprs_arena::{Arena, Region};
-use aprs_command::Table;
+use aprs_arguments::Table;
 use aprs_convert::Form;
-use aprs_laws::Gap;
+use aprs_transmissions::Gap;
 use aprs_log::{Moment, Receiver};
 
 /// Checks the log `input`: writes a line for each line in which no frame was heard, and the totals.

@@ -5,10 +5,10 @@ ghost use Rattle.aprs_convert.specs.Conversion.{Converts};
 ghost use Rattle.aprs_web.specs.Runs.{Merges, Shows, TellsHistory, TellsTable, Widens, WritesOver, input_texts};
 
 use crate::inputs::readers;
-use aprs_command::Table;
+use aprs_arguments::Table;
 use aprs_convert::Form;
 use aprs_io::Counted;
-use aprs_laws::Gap;
+use aprs_transmissions::Gap;
 use aprs_log::MAX_INPUT;
 use aprs_runs::{
     RunFault, check_run, convert_run, history_run, merge_run, show_run, table_run, widen_run,

@@ -2,8 +2,8 @@
 //! for how that went.
 #![tactic(auto)]
 
-use aprs_command::fold_job;
-use aprs_program::{Program, texts_of};
+use aprs_arguments::fold_job;
+use aprs_host::{Program, texts_of};
 use std::process::ExitCode;
 
 /// Reads the program's arguments and does what they ask for. Returns the exit status.

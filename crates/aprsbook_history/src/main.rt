@@ -2,8 +2,8 @@
 //! and exits with the status for how that went.
 #![tactic(auto)]
 
-use aprs_command::history_job;
-use aprs_program::{Gathering, Program, Work, texts_of};
+use aprs_arguments::history_job;
+use aprs_host::{Gathering, Program, Work, texts_of};
 use std::process::ExitCode;
 
 /// Reads the program's arguments and does what they ask for. Returns the exit status.

@@ -3,11 +3,11 @@ ghost use Rattle.std.specs.Prelude.{min, ◌≡◌, ◌↔◌, IsTrue, ◌+◌, 
 ghost use Rattle.std.specs.Ordering.{is_lt};
 ghost use Rattle.std.specs.declared.cmp.Ordering.TheVariants.{Less, Equal, Greater};
 ghost use Rattle.aprs_log.specs.Reception.{bytes_cmp};
-ghost use Rattle.aprs_laws.specs.Lists.{◌∈◌, Ordered};
-ghost use Rattle.aprs_laws.specs.Order.{IsBelow};
-ghost use Rattle.aprs_laws.specs.Row.{row_cmp};
-ghost use Rattle.aprs_laws.specs.JoinRow.{single, combine};
-ghost use Rattle.aprs_laws.specs.Inserted.{compare_near_to, grow_row};
+ghost use Rattle.aprs_transmissions.specs.Lists.{◌∈◌, Ordered};
+ghost use Rattle.aprs_transmissions.specs.Order.{IsBelow};
+ghost use Rattle.aprs_transmissions.specs.Row.{row_cmp};
+ghost use Rattle.aprs_transmissions.specs.JoinRow.{single, combine};
+ghost use Rattle.aprs_transmissions.specs.Inserted.{compare_near_to, grow_row};
 ghost use Rattle.aprs_rows.specs.Refusal.{is_too_near};
 
 use crate::rows::millis::Millis;
@@ -41,7 +41,7 @@ struct Sent<A: Allocator = Global> {
 }
 
 impl<A: Allocator> Model for KeptRow<A> {
-    ghost use Rattle.aprs_laws.specs.Row.{Row as RowValue};
+    ghost use Rattle.aprs_transmissions.specs.Row.{Row as RowValue};
 
     ghost Value = { RowValue };
 

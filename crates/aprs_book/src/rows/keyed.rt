@@ -2,8 +2,8 @@
 ghost use Rattle.std.specs.Prelude.{◌≡◌, ◌+◌, [], ◌∷◌, ◌++◌, length, true, IsOk, OnOk, OnErr};
 ghost use Rattle.aprs_book.specs.Keyed.{LastKeyIsUpTo, IsEndOf};
 ghost use Rattle.aprs_rows.specs.Refusal.{refusal};
-ghost use Rattle.aprs_laws.specs.Inserted.{insert_heard, has_place_for};
-ghost use Rattle.aprs_laws.specs.Sound.{Sound};
+ghost use Rattle.aprs_transmissions.specs.Inserted.{insert_heard, has_place_for};
+ghost use Rattle.aprs_transmissions.specs.Sound.{Sound};
 
 use crate::rows::kept_row::KeptRow;
 use crate::rows::millis::Millis;
@@ -40,7 +40,7 @@ impl<A: Allocator> Drop for KeyedRows<A> {
 
 impl<A: Allocator> Model for KeyedRows<A> {
     ghost use Rattle.std.specs.Prelude.{◌≡◌, List, length};
-    ghost use Rattle.aprs_laws.specs.Row.{Row as RowValue};
+    ghost use Rattle.aprs_transmissions.specs.Row.{Row as RowValue};
     ghost use Rattle.aprs_book.specs.Keyed.{rows_by_key, AreKept};
 
     ghost Value = { List RowValue };

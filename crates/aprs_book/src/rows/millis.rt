@@ -1,8 +1,8 @@
 //! The gap inside a transmission, as moments count.
 ghost use Rattle.std.specs.Prelude.{◌≡◌, ◌≤◌};
-ghost use Rattle.aprs_laws.specs.Gap.{IsGap, millis_of};
+ghost use Rattle.aprs_transmissions.specs.Gap.{IsGap, millis_of};
 
-use aprs_laws::Gap;
+use aprs_transmissions::Gap;
 use std::marker::Model;
 
 /// A gap in milliseconds, the unit of moments: at most an hour.

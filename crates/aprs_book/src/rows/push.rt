@@ -1,7 +1,7 @@
 //! One more row after those of a book.
 ghost use Rattle.std.specs.Prelude.{ℕ, [], ◌≡◌};
 ghost use Rattle.std.specs.List.{list_any};
-ghost use Rattle.aprs_laws.specs.Sound.{Sound};
+ghost use Rattle.aprs_transmissions.specs.Sound.{Sound};
 ghost use Rattle.aprs_rows.specs.Refusal.{refusal, is_of_last, is_out_of_order, is_too_near, is_ascending, is_same_name, RefusesUnsound, PrefixesAreSound};
 
 use crate::rows::kept_row::KeptRow;

@@ -30,7 +30,7 @@ pub struct Row<'a> {
 }
 
 impl<'a> Model for Row<'a> {
-    ghost use Rattle.aprs_laws.specs.Row.{Row as RowValue};
+    ghost use Rattle.aprs_transmissions.specs.Row.{Row as RowValue};
     ghost use Rattle.aprs_rows.specs.RowWith.{row_with};
     ghost use Rattle.aprs_book.specs.KeyedFrame.{IsKeyed};
 
@@ -44,7 +44,7 @@ impl<'a> Model for Row<'a> {
 impl<'a> Row<'a> {
     /// The row of this first moment, these receivers and this greatest reception. The other fields
     /// are read from the greatest reception.
-    #[tactic(auto, unfolding(aprs_laws::specs::Key::key_of))]
+    #[tactic(auto, unfolding(aprs_transmissions::specs::Key::key_of))]
     pub(crate) fn new(first: Moment, receivers: &'a [Receiver], greatest: &'a Reception) -> Row<'a>
         ensures { result
             ≡ record { first = first; receivers = receivers.now; greatest = greatest.now } }
@@ -71,7 +71,7 @@ pub struct Rows<'a, A: Allocator = Global> {
 
 impl<'a, A: Allocator> Model for Rows<'a, A> {
     ghost use Rattle.std.specs.Prelude.{List};
-    ghost use Rattle.aprs_laws.specs.Row.{Row as RowValue};
+    ghost use Rattle.aprs_transmissions.specs.Row.{Row as RowValue};
 
     ghost Value = { List RowValue };
 

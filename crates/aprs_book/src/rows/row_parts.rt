@@ -22,7 +22,7 @@ pub struct RowParts<A: Allocator = Global> {
 }
 
 impl<A: Allocator> Model for RowParts<A> {
-    ghost use Rattle.aprs_laws.specs.Row.{Row as RowValue};
+    ghost use Rattle.aprs_transmissions.specs.Row.{Row as RowValue};
     ghost use Rattle.aprs_rows.specs.RowWith.{row_with};
 
     ghost Value = { RowValue };

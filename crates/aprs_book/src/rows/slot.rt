@@ -1,8 +1,8 @@
 //! Where a reception goes in the rows.
 ghost use Rattle.std.specs.Prelude.{◌≡◌, ◌≤◌, ◌<◌, ◌+◌, ◌/◌, true, length, remove, IsOk, OnOk, OnErr};
 ghost use Rattle.std.specs.VecDeque.{deque_len, deque_capacity};
-ghost use Rattle.aprs_laws.specs.Inserted.{insert_heard, has_place_for};
-ghost use Rattle.aprs_laws.specs.Sound.{Sound};
+ghost use Rattle.aprs_transmissions.specs.Inserted.{insert_heard, has_place_for};
+ghost use Rattle.aprs_transmissions.specs.Sound.{Sound};
 ghost use Rattle.aprs_book.specs.Slots.{IsSlot};
 
 use crate::Memory;

@@ -22,7 +22,7 @@ pub(crate) struct Walk<'a, A: Allocator = Global> {
 impl<'a, A: Allocator> Model for Walk<'a, A> {
     ghost use Rattle.std.specs.Prelude.{List, ◌++◌};
     ghost use Rattle.std.specs.List.{flat_map};
-    ghost use Rattle.aprs_laws.specs.Row.{Row as RowValue};
+    ghost use Rattle.aprs_transmissions.specs.Row.{Row as RowValue};
 
     ghost Value = { List RowValue };
 

@@ -1,8 +1,8 @@
 //! The greatest reception.
 ghost use Rattle.std.specs.Prelude.{◌≡◌, IsOk, IfOk};
-ghost use Rattle.aprs_laws.specs.JoinRow.{greater};
-ghost use Rattle.aprs_laws.specs.Joining.{AreAny, IsAny, IsGreaterOf};
-ghost use Rattle.aprs_laws.proofs.Joins.{greatest_laws};
+ghost use Rattle.aprs_transmissions.specs.JoinRow.{greater};
+ghost use Rattle.aprs_transmissions.specs.Joining.{AreAny, IsAny, IsGreaterOf};
+ghost use Rattle.aprs_transmissions.proofs.Joins.{greatest_laws};
 
 use crate::{Join, Memory};
 use aprs_log::Reception;

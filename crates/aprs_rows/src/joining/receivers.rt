@@ -1,14 +1,14 @@
 //! Names of receivers in ascending order.
 ghost use Rattle.std.specs.Prelude.{◌≡◌, ℕ, ◌+◌, ◌≤◌, List, [], ◌∷◌, ◌++◌, length, insert, IsOk, OnOk, OnErr, IfOk, MatchResult, vec_len, vec_capacity};
 ghost use Rattle.aprs_log.specs.Reception.{bytes_cmp};
-ghost use Rattle.aprs_laws.specs.Lists.{◌∈◌, Ordered};
-ghost use Rattle.aprs_laws.specs.Order.{IsBelow};
-ghost use Rattle.aprs_laws.specs.JoinRow.{add, union};
-ghost use Rattle.aprs_laws.specs.Merged.{ascending_union};
-ghost use Rattle.aprs_laws.specs.Joining.{AreAny, IsUnited};
+ghost use Rattle.aprs_transmissions.specs.Lists.{◌∈◌, Ordered};
+ghost use Rattle.aprs_transmissions.specs.Order.{IsBelow};
+ghost use Rattle.aprs_transmissions.specs.JoinRow.{add, union};
+ghost use Rattle.aprs_transmissions.specs.Merged.{ascending_union};
+ghost use Rattle.aprs_transmissions.specs.Joining.{AreAny, IsUnited};
 ghost use Rattle.aprs_rows.specs.KeptNames.{names_kept};
-ghost use Rattle.aprs_laws.proofs.Orders.{bytes_total, bytes_exact};
-ghost use Rattle.aprs_laws.proofs.Joins.{receivers_laws};
+ghost use Rattle.aprs_transmissions.proofs.Orders.{bytes_total, bytes_exact};
+ghost use Rattle.aprs_transmissions.proofs.Joins.{receivers_laws};
 
 use crate::joining::kept_names::KeptNames;
 use crate::row::names::cut_name;

@@ -2,9 +2,9 @@
 ghost use Rattle.std.specs.Prelude.{◌≡◌, ◌&&◌, List, None, IfNone, IfSome, true, false};
 ghost use Rattle.std.specs.List.{last_or, list_any};
 ghost use Rattle.std.specs.Option.{option_copied};
-ghost use Rattle.aprs_laws.specs.Gap.{millis_of};
-ghost use Rattle.aprs_laws.specs.Row.{Row};
-ghost use Rattle.aprs_laws.specs.Sound.{IsSoundRow};
+ghost use Rattle.aprs_transmissions.specs.Gap.{millis_of};
+ghost use Rattle.aprs_transmissions.specs.Row.{Row};
+ghost use Rattle.aprs_transmissions.specs.Sound.{IsSoundRow};
 ghost use Rattle.aprs_rows.specs.Names.{names_in};
 ghost use Rattle.aprs_rows.specs.Refusal as Spec;
 ghost use Rattle.aprs_rows.specs.Judging.{list_of};
@@ -12,7 +12,7 @@ ghost use Rattle.aprs_rows.specs.Judging.{list_of};
 use crate::row::names::cut_name;
 use crate::row::near::is_near;
 use crate::row::row_view::RowView;
-use aprs_laws::{Gap, RowCause};
+use aprs_transmissions::{Gap, RowCause};
 
 impl<'a> RowView<'a> {
     /// The first cause, in the order of `RowCause`, for which the row can't follow the rows of a

@@ -2,7 +2,7 @@
 ghost use Rattle.std.specs.Prelude.{◌≡◌, ℕ, ◌<◌, ◌%◌, length, slice_index};
 ghost use Rattle.std.specs.Int.{w64, from_be_bytes};
 ghost use Rattle.aprs_ax25.specs.FrameRef.{frame_bytes};
-ghost use Rattle.aprs_laws.specs.Key.{key_of, key_cmp};
+ghost use Rattle.aprs_transmissions.specs.Key.{key_of, key_cmp};
 ghost use Rattle.aprs_rows.specs.KeyPrefix.{HasKeyPrefix};
 ghost use Rattle.aprs_rows.specs.KeyPrefixSteps.{octets_number};
 
@@ -27,7 +27,7 @@ impl KeyPrefix {
     }
 
     /// The prefix of the key of a frame that is lent.
-    #[tactic(auto, unfolding(aprs_laws::specs::Key::key_of))]
+    #[tactic(auto, unfolding(aprs_transmissions::specs::Key::key_of))]
     pub(crate) fn of(frame: &FrameRef<'_>) -> KeyPrefix
         ensures { HasKeyPrefix result (frame_bytes frame.now) }
     {

@@ -1,10 +1,10 @@
 //! Nearness in time.
 ghost use Rattle.std.specs.Prelude.{◌≡◌, ◌+◌, nat_le};
-ghost use Rattle.aprs_laws.specs.Gap.{millis_of};
+ghost use Rattle.aprs_transmissions.specs.Gap.{millis_of};
 ghost use Rattle.aprs_rows.specs.Fronts.{IsByTest};
 
 use crate::row::row_view::RowView;
-use aprs_laws::Gap;
+use aprs_transmissions::Gap;
 use aprs_log::Moment;
 
 /// Whether what begins at `first` is near to what ended at `last`: it begins at most the gap after

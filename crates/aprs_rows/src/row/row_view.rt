@@ -3,9 +3,9 @@ ghost use Rattle.std.specs.Prelude.{◌≡◌, ◌<◌, ◌++◌, ◌∷◌, [],
 ghost use Rattle.std.specs.List.{join_with_byte};
 ghost use Rattle.aprs_ax25.specs.FrameRef.{frame_bytes};
 ghost use Rattle.aprs_log.specs.Receiver.{IsName};
-ghost use Rattle.aprs_laws.specs.Key.{key_cmp};
-ghost use Rattle.aprs_laws.specs.Row.{last_moment, row_cmp, row_key};
-ghost use Rattle.aprs_laws.specs.Sound.{IsSoundRow};
+ghost use Rattle.aprs_transmissions.specs.Key.{key_cmp};
+ghost use Rattle.aprs_transmissions.specs.Row.{last_moment, row_cmp, row_key};
+ghost use Rattle.aprs_transmissions.specs.Sound.{IsSoundRow};
 ghost use Rattle.aprs_rows.specs.Names.{names_in};
 ghost use Rattle.aprs_rows.specs.Packed.{IsMarked, IsShort, Notes, mark_row};
 
@@ -34,7 +34,7 @@ pub struct RowView<'a> {
 impl<'a> Model for RowView<'a> {
     ghost use Rattle.std.specs.Prelude.{All};
     ghost use Rattle.aprs_log.specs.Receiver.{IsName};
-    ghost use Rattle.aprs_laws.specs.Row.{Row as RowValue};
+    ghost use Rattle.aprs_transmissions.specs.Row.{Row as RowValue};
     ghost use Rattle.aprs_rows.specs.KeyPrefix.{HasKeyPrefix};
     ghost use Rattle.aprs_rows.specs.Names.{names_in};
 

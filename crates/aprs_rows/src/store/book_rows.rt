@@ -1,11 +1,11 @@
 //! The rows of a book, one after another.
 ghost use Rattle.std.specs.Prelude.{◌≡◌, ◌<◌, ◌≤◌, [], ◌∷◌, min, length, All, IfOk, IfSome, IfNone, OnErr};
 ghost use Rattle.std.specs.Iterator.{YieldsFirst, item_count};
-ghost use Rattle.aprs_laws.specs.BookValue.{IsSoundBook};
-ghost use Rattle.aprs_laws.specs.Gap.{millis_of};
-ghost use Rattle.aprs_laws.specs.JoinRow.{greater};
-ghost use Rattle.aprs_laws.specs.Sound.{AreSoundRows};
-ghost use Rattle.aprs_laws.specs.Together.{book_together};
+ghost use Rattle.aprs_transmissions.specs.BookValue.{IsSoundBook};
+ghost use Rattle.aprs_transmissions.specs.Gap.{millis_of};
+ghost use Rattle.aprs_transmissions.specs.JoinRow.{greater};
+ghost use Rattle.aprs_transmissions.specs.Sound.{AreSoundRows};
+ghost use Rattle.aprs_transmissions.specs.Together.{book_together};
 ghost use Rattle.aprs_rows.specs.Packed.{room_of};
 ghost use Rattle.aprs_rows.specs.Told.{IsTold};
 
@@ -13,7 +13,7 @@ use crate::Memory;
 use crate::row::name_room::NameRoom;
 use crate::row::row_view::RowView;
 use crate::store::merger::Merger;
-use aprs_laws::Gap;
+use aprs_transmissions::Gap;
 use aprs_log::Moment;
 use std::alloc::{Allocator, Global};
 use std::marker::Model;
@@ -28,9 +28,9 @@ pub struct BookRows<'a, A: Allocator = Global> {
 }
 
 impl<'a, A: Allocator> Model for BookRows<'a, A> {
-    ghost use Rattle.aprs_laws.specs.BookValue.{BookValue};
-    ghost use Rattle.aprs_laws.specs.Gap.{millis_of};
-    ghost use Rattle.aprs_laws.specs.Together.{book_together};
+    ghost use Rattle.aprs_transmissions.specs.BookValue.{BookValue};
+    ghost use Rattle.aprs_transmissions.specs.Gap.{millis_of};
+    ghost use Rattle.aprs_transmissions.specs.Together.{book_together};
     ghost use Rattle.aprs_rows.specs.BookRows.{AreToCome};
 
     ghost Value = { BookValue };

@@ -1,11 +1,11 @@
 //! The book of what is put into a store.
 ghost use Rattle.std.specs.Prelude.{◌≡◌, ◌≢◌, ◌-◌, ◌^◌, [], min, IfOk, OnOk, OnErr};
 ghost use Rattle.std.specs.List.{AllByRecursion};
-ghost use Rattle.aprs_laws.specs.BookValue.{IsSoundBook};
-ghost use Rattle.aprs_laws.specs.Coalescing.{AreInOrder};
-ghost use Rattle.aprs_laws.specs.Gap.{millis_of};
-ghost use Rattle.aprs_laws.specs.JoinRow.{join_row, merge, single};
-ghost use Rattle.aprs_laws.specs.Lists.{SameMembers};
+ghost use Rattle.aprs_transmissions.specs.BookValue.{IsSoundBook};
+ghost use Rattle.aprs_transmissions.specs.Coalescing.{AreInOrder};
+ghost use Rattle.aprs_transmissions.specs.Gap.{millis_of};
+ghost use Rattle.aprs_transmissions.specs.JoinRow.{join_row, merge, single};
+ghost use Rattle.aprs_transmissions.specs.Lists.{SameMembers};
 ghost use Rattle.aprs_rows.specs.BookStore.{all_rows};
 ghost use Rattle.aprs_rows.specs.Packed.{room_of};
 
@@ -15,7 +15,7 @@ use crate::store::book_rows::BookRows;
 use crate::store::merger::Merger;
 use crate::store::packed::PackedRows;
 use crate::store::walk_room::WalkRoom;
-use aprs_laws::Gap;
+use aprs_transmissions::Gap;
 use aprs_log::Reception;
 use std::alloc::{Allocator, Global};
 use std::marker::Model;
@@ -47,7 +47,7 @@ impl<A: Allocator> Drop for BookStore<A> {
 }
 
 impl<A: Allocator> Model for BookStore<A> {
-    ghost use Rattle.aprs_laws.specs.BookValue.{BookValue};
+    ghost use Rattle.aprs_transmissions.specs.BookValue.{BookValue};
     ghost use Rattle.aprs_rows.specs.BookStore.{book_stored, IsStored};
 
     ghost Value = { BookValue };

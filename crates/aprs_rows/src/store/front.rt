@@ -3,7 +3,7 @@ ghost use Rattle.std.specs.Prelude.{◌≡◌, IfSome, IfNone, []};
 ghost use Rattle.std.specs.Cmp.{back_total, on_total, eq_by_cmp_equiv, partial_equiv_from_equiv, partial_order_from_agreeing_total};
 ghost use Rattle.std.specs.Ordering.{eq_by_cmp, as_partial_cmp};
 ghost use Rattle.std.proofs.Common.{refl};
-ghost use Rattle.aprs_laws.proofs.Books.{row_total};
+ghost use Rattle.aprs_transmissions.proofs.Books.{row_total};
 ghost use Rattle.aprs_rows.specs.Fronts.{ahead_cmp, rows_ahead};
 
 use crate::row::row_view::RowView;

@@ -2,9 +2,9 @@
 ghost use Rattle.std.specs.Prelude.{◌≡◌, ◌≢◌, ◌++◌, ◌+◌, true, false, [], None, All, IfSome, IfNone, OnSome, OnOk, OnErr};
 ghost use Rattle.std.specs.BinaryHeap.{heap_items, IsHeap, IsUpperBound};
 ghost use Rattle.std.specs.List.Sorted.{IsPermutation};
-ghost use Rattle.aprs_laws.specs.Gap.{millis_of};
-ghost use Rattle.aprs_laws.specs.Lists.{SameMembers};
-ghost use Rattle.aprs_laws.specs.Sound.{AreSoundRows};
+ghost use Rattle.aprs_transmissions.specs.Gap.{millis_of};
+ghost use Rattle.aprs_transmissions.specs.Lists.{SameMembers};
+ghost use Rattle.aprs_transmissions.specs.Sound.{AreSoundRows};
 ghost use Rattle.aprs_rows.specs.Fronts.{ahead_cmp, fronts, IsAfterTop, IsByTest, IsRun, IsTakenOut, NoneIsNear, SettlesFirst, TakesFirst};
 ghost use Rattle.aprs_rows.specs.Packed.{room_of};
 ghost use Rattle.aprs_rows.specs.Told.{IsTold};
@@ -14,7 +14,7 @@ use crate::row::near::are_near;
 use crate::row::row_view::RowView;
 use crate::store::front::Front;
 use crate::store::packed::Unpacked;
-use aprs_laws::Gap;
+use aprs_transmissions::Gap;
 use aprs_log::Moment;
 use std::alloc::Allocator;
 use std::collections::BinaryHeap;
@@ -32,7 +32,7 @@ pub(crate) struct Merger<'a, A: Allocator> {
 impl<'a, A: Allocator> Model for Merger<'a, A> {
     ghost use Rattle.std.specs.Prelude.{List};
     ghost use Rattle.std.specs.BinaryHeap.{heap_items, IsHeap};
-    ghost use Rattle.aprs_laws.specs.Row.{Row};
+    ghost use Rattle.aprs_transmissions.specs.Row.{Row};
     ghost use Rattle.aprs_rows.specs.Fronts.{ahead_cmp, all_ahead, AreRuns, fronts, IsFirst};
 
     ghost Value = { List Row };

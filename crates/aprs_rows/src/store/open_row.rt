@@ -1,9 +1,9 @@
 //! A row that later ones may still join.
 ghost use Rattle.std.specs.Prelude.{◌≡◌, [], ◌∷◌, true, IfOk, IfSome, IfNone, OnOk};
 ghost use Rattle.std.specs.Ordering.{is_eq};
-ghost use Rattle.aprs_laws.specs.Gap.{IsGap, millis_of};
-ghost use Rattle.aprs_laws.specs.JoinRow.{combine, compare_near};
-ghost use Rattle.aprs_laws.specs.Sound.{IsSoundRow};
+ghost use Rattle.aprs_transmissions.specs.Gap.{IsGap, millis_of};
+ghost use Rattle.aprs_transmissions.specs.JoinRow.{combine, compare_near};
+ghost use Rattle.aprs_transmissions.specs.Sound.{IsSoundRow};
 ghost use Rattle.aprs_rows.specs.OpenRow.{JoinsOrNot};
 ghost use Rattle.aprs_rows.specs.Packed.{IsShort};
 
@@ -13,7 +13,7 @@ use crate::row::near::are_near;
 use crate::row::row_view::RowView;
 use crate::store::book_rows::grown;
 use crate::store::packed::PackedRows;
-use aprs_laws::Gap;
+use aprs_transmissions::Gap;
 use std::alloc::{Allocator, Global};
 use std::marker::Model;
 use std::mem::swap;
@@ -44,7 +44,7 @@ impl<A: Allocator> Drop for OpenRow<A> {
 
 impl<A: Allocator> Model for OpenRow<A> {
     ghost use Rattle.std.specs.Prelude.{List, ◌≤◌, length};
-    ghost use Rattle.aprs_laws.specs.Row.{Row};
+    ghost use Rattle.aprs_transmissions.specs.Row.{Row};
 
     ghost Value = { List Row };
 

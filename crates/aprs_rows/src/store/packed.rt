@@ -2,10 +2,10 @@
 ghost use Rattle.std.specs.Prelude.{◌≡◌, ◌≢◌, ◌↔◌, ◌<◌, ◌+◌, [], ◌∷◌, ◌++◌, None, Some, length, IfOk, IfSome, IfNone, IsTrue, OnOk, OnErr};
 ghost use Rattle.std.specs.Iterator.{YieldsFirst, item_count};
 ghost use Rattle.std.specs.List.{join_with_byte, last_or, AllByRecursion};
-ghost use Rattle.aprs_laws.specs.Coalescing.{AreInOrder};
-ghost use Rattle.aprs_laws.specs.JoinRow.{single};
-ghost use Rattle.aprs_laws.specs.Lists.{SameMembers};
-ghost use Rattle.aprs_laws.specs.Sound.{AreSoundRows, IsSoundRow};
+ghost use Rattle.aprs_transmissions.specs.Coalescing.{AreInOrder};
+ghost use Rattle.aprs_transmissions.specs.JoinRow.{single};
+ghost use Rattle.aprs_transmissions.specs.Lists.{SameMembers};
+ghost use Rattle.aprs_transmissions.specs.Sound.{AreSoundRows, IsSoundRow};
 ghost use Rattle.aprs_rows.specs.Packed.{AreShort, room_of};
 ghost use Rattle.aprs_rows.specs.Told.{IsTold};
 
@@ -42,7 +42,7 @@ impl<A: Allocator> Drop for PackedRows<A> {
 
 impl<A: Allocator> Model for PackedRows<A> {
     ghost use Rattle.std.specs.Prelude.{List, ◌≡◌};
-    ghost use Rattle.aprs_laws.specs.Row.{Row};
+    ghost use Rattle.aprs_transmissions.specs.Row.{Row};
     ghost use Rattle.aprs_rows.specs.Packed.{AreMarks, room_of, rows_of_marks};
 
     ghost Value = { List Row };
@@ -215,7 +215,7 @@ pub(crate) struct Unpacked<'a> {
 
 impl<'a> Model for Unpacked<'a> {
     ghost use Rattle.std.specs.Prelude.{List};
-    ghost use Rattle.aprs_laws.specs.Row.{Row as RowValue};
+    ghost use Rattle.aprs_transmissions.specs.Row.{Row as RowValue};
     ghost use Rattle.aprs_rows.specs.Packed.{AreMarks, rows_of_marks};
 
     ghost Value = { List RowValue };

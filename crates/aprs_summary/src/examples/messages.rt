@@ -1,7 +1,7 @@
 //! Worked examples of messages and of what answers them, and near misses.
 ghost use Rattle.std.specs.Prelude.{◌≡◌, [], ◌∷◌, Some, None, codes};
-ghost use Rattle.aprs_laws.specs.Order.{IsBelow};
-ghost use Rattle.aprs_laws.specs.Examples.{key_by};
+ghost use Rattle.aprs_transmissions.specs.Order.{IsBelow};
+ghost use Rattle.aprs_transmissions.specs.Examples.{key_by};
 ghost use Rattle.aprs_summary.specs.declared.lists.message.MessageState.TheVariants.{Unnumbered, Unanswered, Acknowledged, Rejected};
 ghost use Rattle.aprs_summary.specs.Messages as Spec;
 ghost use Rattle.aprs_summary.specs.Examples.{message_by, hi_message, one, asked_at, acknowledged_at, rejected_at, hi_listed, asked_again};

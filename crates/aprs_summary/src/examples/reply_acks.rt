@@ -1,6 +1,6 @@
 //! Worked examples of reply-acks (APRS 1.1), and near misses.
 ghost use Rattle.std.specs.Prelude.{[], ◌∷◌, codes};
-ghost use Rattle.aprs_laws.specs.Examples.{key_by};
+ghost use Rattle.aprs_transmissions.specs.Examples.{key_by};
 ghost use Rattle.aprs_summary.specs.declared.lists.reply_ack.ReplyAck.TheVariants.{NotAwaited, Awaited, Heard};
 ghost use Rattle.aprs_summary.specs.Messages as Spec;
 ghost use Rattle.aprs_summary.specs.ReplyAcks.{IsAckText, IsNumberedText, IsReplyAckText};

@@ -1,7 +1,7 @@
 //! Worked examples of what a key reports, and near misses.
 ghost use Rattle.std.specs.Prelude.{◌≡◌, true, false, codes};
-ghost use Rattle.aprs_laws.specs.Key.{key_of};
-ghost use Rattle.aprs_laws.specs.Examples.{n0call, key_by};
+ghost use Rattle.aprs_transmissions.specs.Key.{key_of};
+ghost use Rattle.aprs_transmissions.specs.Examples.{n0call, key_by};
 ghost use Rattle.aprs_summary.specs.Reports as Spec;
 ghost use Rattle.aprs_summary.specs.Examples.{killed_at, item_at};
 

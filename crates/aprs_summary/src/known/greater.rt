@@ -1,7 +1,7 @@
 //! The greater of two receptions.
 ghost use Rattle.std.specs.Prelude.{◌≡◌, false, true, Some};
 ghost use Rattle.std.specs.Option.{option_copied};
-ghost use Rattle.aprs_laws.specs.Best.{greater_known};
+ghost use Rattle.aprs_transmissions.specs.Best.{greater_known};
 
 use aprs_log::ReceptionRef;
 

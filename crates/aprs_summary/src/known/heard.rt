@@ -25,7 +25,7 @@ impl<'a> Model for Heard<'a> {
     ghost use Rattle.std.specs.Prelude.{◌≡◌};
     ghost use Rattle.aprs_log.specs.Reception.{Received};
     ghost use Rattle.aprs_report.specs.Reading.{view as value_of};
-    ghost use Rattle.aprs_laws.specs.Key.{key_of};
+    ghost use Rattle.aprs_transmissions.specs.Key.{key_of};
     ghost use Rattle.aprs_summary.specs.Reports.{report_of};
 
     ghost Value = { Received };
@@ -38,7 +38,7 @@ impl<'a> Model for Heard<'a> {
 
 impl<'a> Heard<'a> {
     /// This reception, with the report that its information says.
-    #[tactic(auto, unfolding(aprs_laws::specs::Key::key_of))]
+    #[tactic(auto, unfolding(aprs_transmissions::specs::Key::key_of))]
     pub(crate) fn of(x: &'a Reception) -> Heard<'a>
         ensures { result ≡ x.now }
     {

@@ -3,8 +3,8 @@ ghost use Rattle.std.specs.Prelude.{◌≡◌, ℕ, List, [], Some, IsOk, OnOk, 
 ghost use Rattle.std.specs.Option.{option_copied, option_map};
 ghost use Rattle.std.specs.Ordering.{is_eq};
 ghost use Rattle.aprs_log.specs.Reception.{bytes_cmp};
-ghost use Rattle.aprs_laws.specs.Best.{greater_known};
-ghost use Rattle.aprs_laws.specs.Lists.{Ordered};
+ghost use Rattle.aprs_transmissions.specs.Best.{greater_known};
+ghost use Rattle.aprs_transmissions.specs.Lists.{Ordered};
 ghost use Rattle.aprs_summary.specs.Known as Spec;
 
 use crate::known::greater::exceeds;

@@ -1,6 +1,6 @@
 //! What rows report, taken one after another.
 ghost use Rattle.std.specs.Prelude.{◌≡◌, ℕ, List, [], ◌∷◌, ◌++◌, IfOk, OnOk, OnErr};
-ghost use Rattle.aprs_laws.specs.Row.{Row, row_key};
+ghost use Rattle.aprs_transmissions.specs.Row.{Row, row_key};
 ghost use Rattle.aprs_summary.specs.Known as Spec;
 ghost use Rattle.aprs_summary.specs.Notes.{AreNotesOf, known_with};
 

@@ -1,7 +1,7 @@
 //! What a frame reports on.
 ghost use Rattle.std.specs.Prelude.{◌≡◌, true, None};
 ghost use Rattle.aprs_report.specs.Reader.{reading_of};
-ghost use Rattle.aprs_laws.specs.Key.{key_of};
+ghost use Rattle.aprs_transmissions.specs.Key.{key_of};
 ghost use Rattle.aprs_summary.specs.Known.{Topic, call_bytes, subject_bytes, report_bytes, topic_bytes};
 
 use aprs_ax25::Callsign;
@@ -43,7 +43,7 @@ impl<'a> Subject<'a> {
     }
 
     /// What the frame of a reception reports on.
-    #[tactic(auto, unfolding(aprs_laws::specs::Key::key_of))]
+    #[tactic(auto, unfolding(aprs_transmissions::specs::Key::key_of))]
     pub fn of_heard(heard: &ReceptionRef<'a>) -> Subject<'a>
         ensures { (topic : Topic)
             → subject_bytes topic result ≡ topic_bytes topic (key_of heard.now.frame) }
@@ -78,7 +78,7 @@ impl<'a> Subject<'a> {
 }
 
 /// The information of a reception's frame.
-#[tactic(auto, unfolding(aprs_laws::specs::Key::key_of))]
+#[tactic(auto, unfolding(aprs_transmissions::specs::Key::key_of))]
 pub fn info_of<'a>(heard: &ReceptionRef<'a>) -> &'a [u8]
     ensures { result.now ≡ (key_of heard.now.frame).info }
 {

@@ -1,7 +1,7 @@
 //! Messages and their answers, of rows that are taken one after another.
 ghost use Rattle.std.specs.Prelude.{◌≡◌, ◌↔◌, List, [], ◌∷◌, ◌++◌, Some, OnOk};
-ghost use Rattle.aprs_laws.specs.Key.{key_of};
-ghost use Rattle.aprs_laws.specs.Row.{Row, row_key, last_moment};
+ghost use Rattle.aprs_transmissions.specs.Key.{key_of};
+ghost use Rattle.aprs_transmissions.specs.Row.{Row, row_key, last_moment};
 ghost use Rattle.aprs_summary.specs.Messages.{message_in};
 ghost use Rattle.aprs_summary.specs.MessageRows as Spec;
 ghost use Rattle.aprs_summary.specs.Exchange.{IsExchangeOf};

@@ -1,6 +1,6 @@
 //! Messages that were heard.
 ghost use Rattle.std.specs.Prelude.{◌≡◌, ℕ, List, IfOk};
-ghost use Rattle.aprs_laws.specs.Row.{Row};
+ghost use Rattle.aprs_transmissions.specs.Row.{Row};
 ghost use Rattle.aprs_summary.specs.Messages.{state_text, ReportsMessages};
 ghost use Rattle.aprs_summary.specs.Exchange.{IsExchangeOf};
 

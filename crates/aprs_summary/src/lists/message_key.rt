@@ -1,7 +1,7 @@
 //! What makes messages one, and what answers them.
 ghost use Rattle.std.specs.Prelude.{◌≡◌, ◌↔◌, Some};
 ghost use Rattle.std.specs.Option.{option_map};
-ghost use Rattle.aprs_laws.specs.Key.{key_of};
+ghost use Rattle.aprs_transmissions.specs.Key.{key_of};
 ghost use Rattle.aprs_report.specs.Reader.{reading_of};
 ghost use Rattle.aprs_summary.specs.Messages.{HasNumber, message_in};
 ghost use Rattle.aprs_summary.specs.MessageRows as Spec;
@@ -55,7 +55,7 @@ pub(crate) struct AnswerKey<'a> {
 
 /// The message that a reception reports, or `None` where it reports none. `sender` has to be the
 /// source of its frame.
-#[tactic(auto, unfolding(aprs_laws::specs::Key::key_of))]
+#[tactic(auto, unfolding(aprs_transmissions::specs::Key::key_of))]
 pub(crate) fn message_in<'a>(sender: &Callsign, heard: &ReceptionRef<'a>) -> Option<MessageKey<'a>>
     requires { sender.now ≡ (key_of heard.now.frame).source }
     ensures { option_map Spec.message_of result ≡ message_in (key_of heard.now.frame) }

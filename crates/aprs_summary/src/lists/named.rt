@@ -1,8 +1,8 @@
 //! Objects and items that were heard of.
 ghost use Rattle.std.specs.Prelude.{◌≡◌, ◌++◌, ℕ, List, map, IfOk, OnOk};
-ghost use Rattle.aprs_laws.specs.Lists.{Ordered};
+ghost use Rattle.aprs_transmissions.specs.Lists.{Ordered};
 ghost use Rattle.aprs_summary.specs.Known.{AreIndexesOf, IsEntryBefore};
-ghost use Rattle.aprs_laws.specs.Row.{Row};
+ghost use Rattle.aprs_transmissions.specs.Row.{Row};
 ghost use Rattle.aprs_summary.specs.Names.{ReportsNamed, shown_report};
 ghost use Rattle.aprs_summary.specs.NamedRows.{reports_in};
 

@@ -1,6 +1,6 @@
 //! The walk over the objects and items of a summary.
 ghost use Rattle.std.specs.Prelude.{◌≡◌, Bool, true, false, [], ◌∷◌, ◌++◌, MatchOption};
-ghost use Rattle.aprs_laws.specs.Lists.{Ordered};
+ghost use Rattle.aprs_transmissions.specs.Lists.{Ordered};
 ghost use Rattle.aprs_summary.specs.Known.{IsEntryBefore, objects, items, index_of};
 ghost use Rattle.aprs_summary.specs.Names.{shown_report};
 ghost use Rattle.aprs_summary.specs.NamedRows.{reports_by, reports_in};

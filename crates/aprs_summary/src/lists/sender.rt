@@ -1,6 +1,6 @@
 //! The station that sent a frame.
 ghost use Rattle.std.specs.Prelude.{◌≡◌};
-ghost use Rattle.aprs_laws.specs.Key.{key_of};
+ghost use Rattle.aprs_transmissions.specs.Key.{key_of};
 
 use aprs_ax25::Callsign;
 use aprs_log::ReceptionRef;
@@ -29,7 +29,7 @@ impl<'a> Model for Sender<'a> {
 impl<'a> Sender<'a> {
     /// Who sent the frame of a reception. `before` is who sent the frame of the row before it, if
     /// there is one: where the address octets are equal, no callsign is read.
-    #[tactic(auto, unfolding(aprs_laws::specs::Key::key_of))]
+    #[tactic(auto, unfolding(aprs_transmissions::specs::Key::key_of))]
     pub fn after(before: Option<Sender<'a>>, x: &ReceptionRef<'a>) -> Sender<'a>
         ensures { result ≡ (key_of x.now.frame).source }
     {

@@ -1,7 +1,7 @@
 //! Stations that were heard.
 ghost use Rattle.std.specs.Prelude.{◌≡◌, ℕ, List, IfOk};
 ghost use Rattle.aprs_summary.specs.Known.{AreIndexesOf};
-ghost use Rattle.aprs_laws.specs.Row.{Row};
+ghost use Rattle.aprs_transmissions.specs.Row.{Row};
 ghost use Rattle.aprs_summary.specs.Stations.{ReportsStations};
 ghost use Rattle.aprs_summary.specs.StationRows.{AreTallies, station_in};
 

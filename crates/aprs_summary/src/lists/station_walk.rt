@@ -1,6 +1,6 @@
 //! The walk over the stations of a summary.
 ghost use Rattle.std.specs.Prelude.{◌≡◌, [], ◌∷◌, MatchOption, map};
-ghost use Rattle.aprs_laws.specs.Lists.{Ordered};
+ghost use Rattle.aprs_transmissions.specs.Lists.{Ordered};
 ghost use Rattle.aprs_summary.specs.StationRows.{IsStationBefore, station_in};
 
 use crate::Station;

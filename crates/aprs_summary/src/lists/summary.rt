@@ -1,6 +1,6 @@
 //! What the rows of a book say together.
 ghost use Rattle.std.specs.Prelude.{◌≡◌, List, IfOk, map};
-ghost use Rattle.aprs_laws.specs.Gap.{millis_of};
+ghost use Rattle.aprs_transmissions.specs.Gap.{millis_of};
 ghost use Rattle.aprs_summary.specs.declared.lists.named.Named.{Named};
 ghost use Rattle.aprs_summary.specs.Messages.{ReportsMessages};
 ghost use Rattle.aprs_summary.specs.Names.{ReportsNamed, shown_report};
@@ -42,7 +42,7 @@ impl<'t, A: Allocator> Drop for Summary<'t, A> {
 }
 
 impl<'t, A: Allocator> Model for Summary<'t, A> {
-    ghost use Rattle.aprs_laws.specs.BookValue.{BookValue};
+    ghost use Rattle.aprs_transmissions.specs.BookValue.{BookValue};
     ghost use Rattle.aprs_summary.specs.Exchange.{IsExchangeOf};
     ghost use Rattle.aprs_summary.specs.Known.{AreIndexesOf};
     ghost use Rattle.aprs_summary.specs.StationRows.{AreTallies};

@@ -1,7 +1,7 @@
 //! What rows say, in one pass over them.
 ghost use Rattle.std.specs.Prelude.{◌≡◌, ◌<◌, ◌≤◌, List, [], ◌∷◌, ◌++◌, IfOk, OnOk, length};
-ghost use Rattle.aprs_laws.specs.Key.{key_of};
-ghost use Rattle.aprs_laws.specs.Row.{Row};
+ghost use Rattle.aprs_transmissions.specs.Key.{key_of};
+ghost use Rattle.aprs_transmissions.specs.Row.{Row};
 ghost use Rattle.aprs_summary.specs.StationRows.{tally_of};
 ghost use Rattle.aprs_summary.specs.SummaryBuilder.{IsBuilderOf};
 

@@ -1,5 +1,5 @@
 use Rattle.aprs_book.proofs.Common.{◌∙◌, ◌+◌, ap, refl, arith, Received}
-use Rattle.aprs_laws.specs.Key.{key_of}
+use Rattle.aprs_transmissions.specs.Key.{key_of}
 use Rattle.aprs_summary.specs.StationRows.{tally_of}
 use Rattle.aprs_summary.proofs.Collected.{collected_first, walk_starts, walk_goes, walk_ends}
 use Rattle.aprs_summary.proofs.Stations.{all_counted, no_keys, room_for_one, stays_in_order, tallies_put}

@@ -1,8 +1,8 @@
 use Rattle.aprs_booktext.proofs.Common.{◌≡◌, ◌<◌, ◌∙◌, List, ap, arith, refl, IfOk-weaker, millis_of, BookValue, Row, witnesses, witnessed}
-use Rattle.aprs_laws.specs.JoinRow.{merge}
-use Rattle.aprs_laws.specs.Together.{book_together}
-use Rattle.aprs_laws.proofs.Books.{one_book}
-use Rattle.aprs_laws.proofs.Together.{together}
+use Rattle.aprs_transmissions.specs.JoinRow.{merge}
+use Rattle.aprs_transmissions.specs.Together.{book_together}
+use Rattle.aprs_transmissions.proofs.Books.{one_book}
+use Rattle.aprs_transmissions.proofs.Together.{together}
 use Rattle.aprs_rows.proofs.SoundOrder.{in_order}
 use Rattle.aprs_booktext.proofs.read.book_in.Goals as goal
 

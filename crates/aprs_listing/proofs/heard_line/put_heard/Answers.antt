@@ -1,5 +1,5 @@
 use Rattle.aprs_listing.proofs.Common.{◌≡◌, ◌∙◌, ◌++◌, ap, sym, codes, Received, view, Report, Puts-is}
-use Rattle.aprs_laws.specs.Key.{key_of}
+use Rattle.aprs_transmissions.specs.Key.{key_of}
 use Rattle.aprs_summary.specs.Reports.{report_of}
 use Rattle.aprs_listing.specs.Listing.{heard_fields, heard_line, name_fields, place_fields, report_line, line_with_text}
 use Rattle.aprs_listing.proofs.heard_line.put_heard.Goals as goal

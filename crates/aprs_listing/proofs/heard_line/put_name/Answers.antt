@@ -1,5 +1,5 @@
 use Rattle.aprs_listing.proofs.Common.{Puts-is}
-use Rattle.aprs_laws.specs.Key.{key_of}
+use Rattle.aprs_transmissions.specs.Key.{key_of}
 use Rattle.aprs_listing.proofs.Lines.{name_fields_of, placed}
 use Rattle.aprs_listing.proofs.heard_line.put_name.Goals as goal
 

@@ -1,5 +1,5 @@
 use Rattle.aprs_lists.proofs.Common.{◌∙◌, List, ap, subst, sym, ℕ, Call, Option}
-use Rattle.aprs_laws.specs.Key.{key_of}
+use Rattle.aprs_transmissions.specs.Key.{key_of}
 use Rattle.std.proofs.Common.{◌<◌}
 use Rattle.aprs_ax25.specs.FrameFault.{parts_of}
 use Rattle.aprs_lists.specs.Activity.{kept_of, passed_kept}

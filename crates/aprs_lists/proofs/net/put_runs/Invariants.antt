@@ -1,6 +1,6 @@
 use Rattle.std.proofs.Common.{map}
-use Rattle.aprs_laws.specs.Gap.{millis_of}
-use Rattle.aprs_messages.specs.Answers.{reply_of}
+use Rattle.aprs_transmissions.specs.Gap.{millis_of}
+use Rattle.aprs_lists.specs.Answers.{reply_of}
 use Rattle.aprs_lists.specs.Told.{found_line}
 use Rattle.aprs_lists.proofs.Common.{PutSoFar}
 use Rattle.aprs_lists.proofs.net.put_runs.Given as goal

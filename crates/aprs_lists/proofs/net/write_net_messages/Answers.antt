@@ -1,6 +1,6 @@
 use Rattle.aprs_lists.proofs.Common.{◌++◌, ℕ, List, flat_map, map, millis_of, subst, Sends}
 use Rattle.aprs_io.specs.declared.device.WriteFault.{WriteFault}
-use Rattle.aprs_messages.specs.Answers.{reply_of}
+use Rattle.aprs_lists.specs.Answers.{reply_of}
 use Rattle.aprs_lists.specs.Lines.{tabbed_line}
 use Rattle.aprs_lists.specs.Told.{found_line, message_columns}
 use Rattle.aprs_lists.proofs.NetTable.{net_table}

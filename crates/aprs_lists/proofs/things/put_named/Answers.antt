@@ -1,5 +1,5 @@
 use Rattle.aprs_lists.proofs.Common.{◌++◌, ◌∷◌, ap, map, Puts-is, cell_text}
-use Rattle.aprs_laws.specs.Key.{key_of}
+use Rattle.aprs_transmissions.specs.Key.{key_of}
 use Rattle.aprs_lists.specs.Lines.{tabbed_line}
 use Rattle.aprs_lists.proofs.ThingLines.{named_fields_of}
 use Rattle.aprs_lists.proofs.things.put_named.Goals as goal

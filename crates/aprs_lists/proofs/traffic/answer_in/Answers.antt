@@ -1,7 +1,7 @@
 use Rattle.aprs_lists.proofs.Common.{Some, ℕ, subst, sym}
 use Rattle.aprs_summary.proofs.ReplyTexts.{holds_as}
 use Rattle.aprs_summary.specs.ReplyTexts.{HoldsOnly}
-use Rattle.aprs_messages.specs.Answers.{reply_of}
+use Rattle.aprs_lists.specs.Answers.{reply_of}
 use Rattle.aprs_lists.specs.Said.{said_view}
 use Rattle.aprs_lists.specs.Traffic.{GivesNetReply, answering_of}
 use Rattle.aprs_lists.proofs.TrafficGiven.{no_call, no_reply, one_reply, replied}

@@ -1,6 +1,6 @@
 use Rattle.aprs_lists.proofs.Common.{ap, map, BookValue}
-use Rattle.aprs_messages.specs.Answers.{reply_of}
-use Rattle.aprs_messages.specs.Copies.{copy_of}
+use Rattle.aprs_lists.specs.Answers.{reply_of}
+use Rattle.aprs_lists.specs.Copies.{copy_of}
 use Rattle.aprs_summary.proofs.Collected.{last_added, walk_ends, walk_goes, walk_starts}
 use Rattle.aprs_lists.specs.Traffic.{AreGiven, GivesCopy, GivesNetReply}
 use Rattle.aprs_lists.proofs.TrafficGiven.{given_first, given_more, given_sorted}

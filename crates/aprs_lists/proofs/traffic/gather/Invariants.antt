@@ -1,6 +1,6 @@
 use Rattle.std.proofs.Common.{map}
-use Rattle.aprs_messages.specs.Answers.{reply_of}
-use Rattle.aprs_messages.specs.Copies.{copy_of}
+use Rattle.aprs_lists.specs.Answers.{reply_of}
+use Rattle.aprs_lists.specs.Copies.{copy_of}
 use Rattle.aprs_summary.proofs.Collected.{SoFar}
 use Rattle.aprs_lists.specs.Traffic.{AreGiven, GivesCopy, GivesNetReply}
 use Rattle.aprs_lists.proofs.traffic.gather.Given as goal

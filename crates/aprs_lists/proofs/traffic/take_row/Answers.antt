@@ -1,6 +1,6 @@
 use Rattle.std.specs.Option.{option_map}
-use Rattle.aprs_messages.specs.Answers.{reply_of}
-use Rattle.aprs_messages.specs.Copies.{copy_of}
+use Rattle.aprs_lists.specs.Answers.{reply_of}
+use Rattle.aprs_lists.specs.Copies.{copy_of}
 use Rattle.aprs_summary.proofs.Collected.{on_ok}
 use Rattle.aprs_lists.specs.Traffic.{GivesCopy, GivesNetReply}
 use Rattle.aprs_lists.proofs.TrafficGiven.{one_more}

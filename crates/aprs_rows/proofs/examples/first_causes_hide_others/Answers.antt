@@ -1,5 +1,5 @@
 use Rattle.aprs_rows.proofs.Common.{refl}
-use Rattle.aprs_laws.specs.Key.{key_of, key_cmp}
+use Rattle.aprs_transmissions.specs.Key.{key_of, key_cmp}
 use Rattle.aprs_rows.specs.Refusal.{refusal}
 use Rattle.aprs_rows.proofs.examples.first_causes_hide_others.Goals as goal
 

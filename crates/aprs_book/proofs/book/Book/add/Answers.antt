@@ -1,5 +1,5 @@
 use Rattle.aprs_book.proofs.Common.{◌≡◌, ◌∙◌, ◌∷◌, ◌++◌, [], None, sym, ap, refl, subst, Received, millis_of, Row, Sound, refusal, free_ascends, none_exactly}
-use Rattle.aprs_laws.specs.Key.{key_of}
+use Rattle.aprs_transmissions.specs.Key.{key_of}
 use Rattle.aprs_book.specs.Keyed.{LastKeyIsUpTo}
 use Rattle.aprs_summary.specs.Known.{topic_bytes}
 use Rattle.aprs_book.proofs.Taking.{refusal_is}

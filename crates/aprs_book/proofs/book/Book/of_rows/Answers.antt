@@ -1,5 +1,5 @@
 use Rattle.aprs_book.proofs.Common.{◌≡◌, ◌∙◌, List, ◌∷◌, ◌++◌, [], ℕ, None, append_assoc, ap, subst, sym, Received, BookValue, IsSoundBook, millis_of, Row, Sound, sound_prefix, reading_of, refusal, none_exactly, free_ascends}
-use Rattle.aprs_laws.specs.Key.{key_of}
+use Rattle.aprs_transmissions.specs.Key.{key_of}
 use Rattle.aprs_book.specs.Keyed.{LastKeyIsUpTo}
 use Rattle.aprs_summary.specs.Known.{report_bytes}
 use Rattle.aprs_summary.specs.Notes.{AreNotesOf}

@@ -1,5 +1,5 @@
 use Rattle.aprs_bookfile.proofs.Common.{List, Row, subst}
-use Rattle.aprs_laws.specs.Sound.{AreSoundRows}
+use Rattle.aprs_transmissions.specs.Sound.{AreSoundRows}
 use Rattle.aprs_bookfile.proofs.kept_rows.KeptRows.sound.Goals as goal
 
 pub returns-clause-sound : goal.returns-clause-sound

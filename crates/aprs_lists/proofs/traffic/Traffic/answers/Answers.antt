@@ -1,6 +1,6 @@
 use Rattle.aprs_lists.proofs.Common.{List, map, subst, sym, BookValue}
-use Rattle.aprs_messages.specs.Answers.{reply_of}
-use Rattle.aprs_messages.specs.declared.answers.Answer.{Answer}
+use Rattle.aprs_lists.specs.Answers.{reply_of}
+use Rattle.aprs_lists.specs.declared.net.answers.Answer.{Answer}
 use Rattle.aprs_lists.specs.Traffic.{AreGiven, GivesNetReply}
 use Rattle.aprs_lists.proofs.traffic.Traffic.answers.Goals as goal
 

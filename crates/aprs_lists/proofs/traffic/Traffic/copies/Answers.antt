@@ -1,6 +1,6 @@
 use Rattle.aprs_lists.proofs.Common.{List, map, subst, sym, BookValue}
-use Rattle.aprs_messages.specs.Copies.{copy_of}
-use Rattle.aprs_messages.specs.declared.copies.MessageCopy.{MessageCopy}
+use Rattle.aprs_lists.specs.Copies.{copy_of}
+use Rattle.aprs_lists.specs.declared.net.copies.MessageCopy.{MessageCopy}
 use Rattle.aprs_lists.specs.Traffic.{AreGiven, GivesCopy}
 use Rattle.aprs_lists.proofs.traffic.Traffic.copies.Goals as goal
 

@@ -1,5 +1,5 @@
 use Rattle.aprs_rows.proofs.Common.{◌≡◌, ◌∙◌, ◌+◌, ◌∷◌, [], ◌++◌, take, sym, subst, ap, inl, inr, arith, List, take_all, take_more, ◌∈◌, FoldsTo, in_either, in_place}
-use Rattle.aprs_laws.proofs.Folds.{fold_same, fold_more}
+use Rattle.aprs_transmissions.proofs.Folds.{fold_same, fold_more}
 use Rattle.aprs_rows.proofs.joining.join.join_all.Goals as goal
 
 pub loop-item-preserved : goal.loop-item-preserved

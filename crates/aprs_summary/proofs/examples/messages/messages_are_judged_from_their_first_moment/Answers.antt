@@ -1,5 +1,5 @@
 use Rattle.aprs_summary.proofs.Common.{◌≡◌, ◌≤◌, Option, None, Some, [], ◌∷◌, inl, inr, refl, sym, ap, ◌∙◌, arith, Received, ◌∈◌, each_of}
-use Rattle.aprs_laws.specs.Key.{key_of}
+use Rattle.aprs_transmissions.specs.Key.{key_of}
 use Rattle.aprs_summary.specs.declared.lists.message.MessageRow.{MessageRow}
 use Rattle.aprs_summary.specs.declared.lists.message.MessageState.TheVariants.{Unanswered, Acknowledged}
 use Rattle.aprs_summary.specs.Messages.{Message, ReportsIt, IsAnsweredAt, IsMessageRow, IsStateOf, reported_state, shown_message}

@@ -1,5 +1,5 @@
 use Rattle.aprs_summary.proofs.Common.{◌≡◌, Bool, true, false, Option, Some, List, [], ◌∷◌, codes, inl, inr, refl, sym, ap, ◌∙◌, Received, heard_cmp, IsUpTo, IsBest, ◌∈◌, each_of}
-use Rattle.aprs_laws.specs.Key.{key_of}
+use Rattle.aprs_transmissions.specs.Key.{key_of}
 use Rattle.aprs_summary.specs.declared.lists.named.Named.{Named}
 use Rattle.aprs_summary.specs.Names.{Thing, IsNamedBefore, ReportsOf, shown_thing}
 use Rattle.aprs_summary.specs.Examples.{object_at, killed_at, item_at, two_leaders, leader_listed}

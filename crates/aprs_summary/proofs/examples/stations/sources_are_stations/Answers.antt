@@ -1,6 +1,6 @@
 use Rattle.aprs_summary.proofs.Common.{◌≡◌, ℕ, Bool, Option, Some, None, List, [], ◌∷◌, inl, inr, refl, ap, subst, arith, option_map_or, Call, Received, Key, LastKnown, known_of, Passes, n0call, plain_known, known_once, ◌∈◌, each_of}
 use Rattle.aprs_report.specs.Reader.{report_by_form, utc_at, stamp_at, position_of, place_of, plain_of, angle_of, minutes_of, numeral_of, cut_end}
-use Rattle.aprs_laws.specs.Key.{key_of}
+use Rattle.aprs_transmissions.specs.Key.{key_of}
 use Rattle.aprs_summary.specs.declared.lists.station.Station.{Station}
 use Rattle.aprs_summary.specs.Reports.{reports_position, reports_status}
 use Rattle.aprs_summary.specs.Stations.{ComesBefore, IsSource, IsStation}

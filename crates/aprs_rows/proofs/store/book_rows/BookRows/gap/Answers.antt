@@ -1,6 +1,6 @@
 use Rattle.aprs_rows.proofs.Common.{subst, All, BookValue, recursion_from_All, some_millis, millis_of}
-use Rattle.aprs_laws.specs.BookValue.{IsSoundBook}
-use Rattle.aprs_laws.proofs.Together.{book_is_sound}
+use Rattle.aprs_transmissions.specs.BookValue.{IsSoundBook}
+use Rattle.aprs_transmissions.proofs.Together.{book_is_sound}
 use Rattle.aprs_rows.specs.Told.{IsTold}
 use Rattle.aprs_rows.proofs.Told.{told_together}
 use Rattle.aprs_rows.proofs.store.book_rows.BookRows.gap.Goals as goal

@@ -1,5 +1,5 @@
 use Rattle.aprs_rows.proofs.Common.{◌∙◌, ◌∷◌, ◌++◌, [], List, Row, ap, sym, subst, BookValue, millis_of}
-use Rattle.aprs_laws.specs.JoinRow.{merge}
+use Rattle.aprs_transmissions.specs.JoinRow.{merge}
 use Rattle.aprs_rows.specs.BookStore.{IsStored}
 use Rattle.aprs_rows.proofs.InStore.{more_rows}
 use Rattle.aprs_rows.proofs.store.book_store.BookStore.add.Goals as goal

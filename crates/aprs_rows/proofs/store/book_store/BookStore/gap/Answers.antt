@@ -1,6 +1,6 @@
 use Rattle.aprs_rows.proofs.Common.{subst, BookValue, some_millis, millis_of}
-use Rattle.aprs_laws.specs.BookValue.{IsSoundBook}
-use Rattle.aprs_laws.proofs.Together.{book_is_sound}
+use Rattle.aprs_transmissions.specs.BookValue.{IsSoundBook}
+use Rattle.aprs_transmissions.proofs.Together.{book_is_sound}
 use Rattle.aprs_rows.specs.BookStore.{all_rows}
 use Rattle.aprs_rows.proofs.store.book_store.BookStore.gap.Goals as goal
 

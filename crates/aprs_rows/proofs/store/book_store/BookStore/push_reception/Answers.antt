@@ -1,5 +1,5 @@
 use Rattle.aprs_rows.proofs.Common.{◌∙◌, ap, BookValue, single, millis_of}
-use Rattle.aprs_laws.specs.JoinRow.{join_row}
+use Rattle.aprs_transmissions.specs.JoinRow.{join_row}
 use Rattle.aprs_rows.specs.BookStore.{book_stored}
 use Rattle.aprs_rows.proofs.InStore.{pushed, pushed_still}
 use Rattle.aprs_rows.proofs.Rows.{on_ok}

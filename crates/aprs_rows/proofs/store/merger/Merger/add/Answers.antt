@@ -1,6 +1,6 @@
 use Rattle.std.proofs.Common.{List, subst}
 use Rattle.std.specs.BinaryHeap.{heap_items}
-use Rattle.aprs_laws.specs.Row.{Row}
+use Rattle.aprs_transmissions.specs.Row.{Row}
 use Rattle.aprs_rows.specs.Fronts.{all_ahead, fronts}
 use Rattle.aprs_rows.proofs.Fronts.{HasAdded, come, stay}
 use Rattle.aprs_rows.proofs.store.merger.Merger.add.Goals as goal

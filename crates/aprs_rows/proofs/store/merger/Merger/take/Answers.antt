@@ -1,7 +1,7 @@
 use Rattle.std.proofs.Common.{List, subst}
 use Rattle.std.specs.BinaryHeap.{heap_items}
-use Rattle.aprs_laws.specs.Row.{Row}
-use Rattle.aprs_laws.specs.Sound.{AreSoundRows}
+use Rattle.aprs_transmissions.specs.Row.{Row}
+use Rattle.aprs_transmissions.specs.Sound.{AreSoundRows}
 use Rattle.aprs_rows.specs.Fronts.{fronts}
 use Rattle.aprs_rows.proofs.Fronts.{keeps, sound_ahead, taken_alone}
 use Rattle.aprs_rows.proofs.store.merger.Merger.take.Goals as goal

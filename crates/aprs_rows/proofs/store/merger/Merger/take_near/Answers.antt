@@ -1,7 +1,7 @@
 use Rattle.std.proofs.Common.{◌∙◌, false, true, inr, refl, sym, ap, subst, Option}
 use Rattle.std.specs.BinaryHeap.{heap_items}
-use Rattle.aprs_laws.specs.Gap.{millis_of}
-use Rattle.aprs_laws.specs.Row.{Row}
+use Rattle.aprs_transmissions.specs.Gap.{millis_of}
+use Rattle.aprs_transmissions.specs.Row.{Row}
 use Rattle.aprs_rows.specs.Fronts.{Ahead, AreRuns, IsByTest, IsFirst, all_ahead, fronts}
 use Rattle.aprs_rows.proofs.Fronts.{first_out, keeps, same_front, taken}
 use Rattle.aprs_rows.proofs.store.merger.Merger.take_near.Goals as goal

@@ -1,5 +1,5 @@
 use Rattle.aprs_rows.proofs.Common.{List, Row, subst, AllByRecursion}
-use Rattle.aprs_laws.specs.Sound.{AreSoundRows}
+use Rattle.aprs_transmissions.specs.Sound.{AreSoundRows}
 use Rattle.aprs_rows.specs.Packed.{AreShort}
 use Rattle.aprs_rows.specs.Told.{IsTold}
 use Rattle.aprs_rows.proofs.Packed.{marks_short, marks_sound, marks_told}

@@ -1,5 +1,5 @@
 use Rattle.aprs_summary.proofs.Common.{◌≡◌, ◌∙◌, ◌↔◌, Some, None, sym, ap, subst, option_map, Received, row_key}
-use Rattle.aprs_laws.specs.Key.{key_of}
+use Rattle.aprs_transmissions.specs.Key.{key_of}
 use Rattle.aprs_summary.specs.Messages.{message_in}
 use Rattle.aprs_summary.specs.MessageRows.{IsOfAnswer, answer_of, begins_with_colon, message_of}
 use Rattle.aprs_summary.proofs.Addressed.{no_message_in}

@@ -1,5 +1,5 @@
 use Rattle.aprs_summary.proofs.Common.{◌∙◌, ◌+◌, [], ◌∷◌, ◌++◌, ap, refl, Received, reading_of}
-use Rattle.aprs_laws.specs.Key.{key_of}
+use Rattle.aprs_transmissions.specs.Key.{key_of}
 use Rattle.aprs_summary.specs.Known.{report_bytes}
 use Rattle.aprs_summary.specs.StationRows.{tally_of}
 use Rattle.aprs_summary.proofs.Collected.{adds_last, on_ok}

@@ -1,0 +1,14 @@
+use Rattle.aprs_arguments.proofs.Common.{◌≡◌, rules, ap₂, codes, ◌∙◌, IfOk-weaker, app_of, with_rule}
+use Rattle.aprs_arguments.specs.Arguments.{versioned_app}
+use Rattle.aprs_arguments.proofs.table.table_command.Goals as goal
+
+pub returns : goal.returns
+returns c =
+    let named : app_of c.after_long_help.result ≡ versioned_app (codes "aprsbook-table") =
+    search rules in
+    let with_inputs = c.in_ok-with_inputs.ensures.shape c.inputs_arg-inputs.ensures.local
+    ∙ ap₂ with_rule named c.inputs_arg-inputs.ensures.rule in
+    let with_gap = c.in_ok-with_gap.ensures.shape c.gap_arg-gap.ensures.local
+    ∙ ap₂ with_rule with_inputs c.gap_arg-gap.ensures.rule in
+    IfOk-weaker c.arg-3.result _ _ (λ m h. h.shape c.message_gap_arg-message_gap.ensures.local
+    ∙ ap₂ with_rule with_gap c.message_gap_arg-message_gap.ensures.rule) c.arg-3.ensures

@@ -1,4 +1,0 @@
-pub mod Folding
-pub mod News
-pub mod Steps
-pub mod Beside

@@ -1,5 +1,0 @@
-use Rattle.aprs_folding.proofs.Beside.{last_decides}
-use Rattle.aprs_folding.proofs.news_laws.old_rows_are_seen.Goals as goal
-
-pub returns : goal.returns
-returns c = λ gap pos. last_decides gap pos

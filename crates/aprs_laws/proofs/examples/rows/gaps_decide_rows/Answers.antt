@@ -1,8 +1,0 @@
-use Rattle.aprs_laws.proofs.Worked.{near_plain, far_plain}
-use Rattle.aprs_laws.proofs.examples.rows.gaps_decide_rows.Goals as goal
-
-pub returns-clause-thirty_joins : goal.returns-clause-thirty_joins
-returns-clause-thirty_joins c = near_plain
-
-pub returns-clause-a_millisecond_more_does_not : goal.returns-clause-a_millisecond_more_does_not
-returns-clause-a_millisecond_more_does_not c = far_plain

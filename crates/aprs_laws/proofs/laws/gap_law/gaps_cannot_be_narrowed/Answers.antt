@@ -1,5 +1,0 @@
-use Rattle.aprs_laws.proofs.Narrowing.{narrows_not}
-use Rattle.aprs_laws.proofs.laws.gap_law.gaps_cannot_be_narrowed.Goals as goal
-
-pub returns : goal.returns
-returns c = narrows_not

@@ -1,5 +1,0 @@
-use Rattle.aprs_laws.proofs.Pushes.{push_exactly}
-use Rattle.aprs_laws.proofs.laws.step_law.last_row_decides.Goals as goal
-
-pub returns : goal.returns
-returns c = push_exactly

@@ -1,5 +1,0 @@
-use Rattle.aprs_laws.proofs.NearRows.{two_of_three}
-use Rattle.aprs_laws.proofs.laws.step_law.two_rows_are_near_at_most.Goals as goal
-
-pub returns : goal.returns
-returns c = two_of_three

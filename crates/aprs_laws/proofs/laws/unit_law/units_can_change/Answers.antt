@@ -1,5 +1,0 @@
-use Rattle.aprs_laws.proofs.Scaling.{scales_book}
-use Rattle.aprs_laws.proofs.laws.unit_law.units_can_change.Goals as goal
-
-pub returns : goal.returns
-returns c = scales_book

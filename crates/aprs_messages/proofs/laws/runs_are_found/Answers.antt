@@ -1,5 +1,0 @@
-use Rattle.aprs_messages.proofs.SentRuns.{plain_is_sent}
-use Rattle.aprs_messages.proofs.laws.runs_are_found.Goals as goal
-
-pub returns : goal.returns
-returns c = plain_is_sent

@@ -1,6 +1,0 @@
-use Rattle.aprs_range.proofs.Frames.{frame_read}
-use Rattle.aprs_range.proofs.judge.frame_of.Goals as goal
-
-pub returns-clause-frame : goal.returns-clause-frame
-returns-clause-frame c = frame_read c.ok.result c.read.result c.args.bytes.now c.ok.ensures.value
-    c.read.ensures.exact
