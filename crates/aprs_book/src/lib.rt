@@ -10,12 +10,12 @@ mod rows;
 mod steps;
 mod stored;
 
-pub use aprs_transmissions::{Gap, MergeFault, RowCause, WidenFault};
 pub use aprs_rows::{Greatest, Join, Memory, Receivers, all_fit, join_all};
 pub use aprs_summary::{
     Heard, HeardRoom, MessageRow, MessageState, MessageWalk, Named, NamedWalk, ReplyAck, Station,
     StationWalk, Summary,
 };
+pub use aprs_transmissions::{Gap, MergeFault, RowCause, WidenFault};
 pub use book::Book;
 pub use from_parts::{RowsFault, from_rows, rows_are_sound_or_have_one_fault};
 pub use rows::push::sound_rows_are_pushed;

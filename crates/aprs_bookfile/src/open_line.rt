@@ -6,8 +6,8 @@ ghost use Rattle.aprs_rows.specs.OpenRow.{JoinsOrNot};
 ghost use Rattle.aprs_rows.specs.Packed.{IsShort};
 
 use crate::lent_row::LentRow;
-use aprs_transmissions::Gap;
 use aprs_rows::{Memory, OpenRow};
+use aprs_transmissions::Gap;
 use std::alloc::Allocator;
 use std::marker::Model;
 

@@ -16,8 +16,8 @@ use crate::fault::BookFault;
 use crate::row_reader::Keeping;
 use crate::row_stream::RowStream;
 use aprs_io::Counted;
-use aprs_transmissions::Gap;
 use aprs_rows::PackedRows;
+use aprs_transmissions::Gap;
 use std::alloc::Allocator;
 use std::io::Read;
 

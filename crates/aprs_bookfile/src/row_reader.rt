@@ -22,9 +22,9 @@ use crate::row_line::read_row;
 use crate::stage::{Stage, ending_cause, is_done, judge_end, judge_header, may_end};
 use crate::version::Version;
 use aprs_io::InputEnd;
-use aprs_transmissions::Gap;
 use aprs_log::MomentForm;
 use aprs_rows::{Memory, PackedRows, RowView};
+use aprs_transmissions::Gap;
 use std::alloc::Allocator;
 use std::mem::replace;
 

@@ -18,8 +18,8 @@ use crate::lent_row::LentRow;
 use crate::piece::Piece;
 use crate::row_reader::{Keeping, RowReader};
 use aprs_io::Counted;
-use aprs_transmissions::Gap;
 use aprs_rows::{Memory, PackedRows, RowView};
+use aprs_transmissions::Gap;
 use std::alloc::Allocator;
 use std::io::Read;
 

@@ -5,8 +5,8 @@ ghost use Rattle.aprs_transmissions.specs.Gap.{IsGap};
 ghost use Rattle.aprs_bookfile.specs.Version.{form_of, gap_of, header_of, IsVersion};
 
 use aprs_io::push_all;
-use aprs_transmissions::Gap;
 use aprs_log::MomentForm;
+use aprs_transmissions::Gap;
 use arrayvec::ArrayVec;
 use itoa::Buffer;
 

@@ -16,9 +16,9 @@ use crate::end_line::{END_LINE, end_line};
 use crate::version::{MAX_HEADER, Version};
 use crate::written_row::WrittenRow;
 use aprs_io::{Outlet, WriteFault, push_all, put, put_hex};
-use aprs_transmissions::Gap;
 use aprs_log::{Moment, MomentWriter};
 use aprs_rows::RowView;
+use aprs_transmissions::Gap;
 use arrayvec::ArrayVec;
 use std::io::Write;
 

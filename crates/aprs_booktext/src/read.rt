@@ -11,8 +11,8 @@ ghost use Rattle.aprs_bookfile.specs.Seconds.{ReadsSeconds};
 use aprs_book::Book;
 use aprs_bookfile::{BookFault, RowStream};
 use aprs_io::Counted;
-use aprs_transmissions::Gap;
 use aprs_rows::{BookStore, Memory, PackedRows, WalkRoom};
+use aprs_transmissions::Gap;
 use std::alloc::Allocator;
 use std::io::Read;
 

@@ -5,8 +5,7 @@ ghost use Rattle.aprs_ax25.specs.FrameFault.{parts_of};
 ghost use Rattle.aprs_convert.specs.Monitor.{monitor_text};
 
 use crate::text::{Text, push_shown};
-use aprs_ax25::{Frame, FrameRef};
-use aprs_ax25::push_hops_text;
+use aprs_ax25::{Frame, FrameRef, push_hops_text};
 
 /// Puts the frame as a monitor prints it at the end of `out`: source, destination, digipeaters and
 /// information. `out` holds at most 10 bytes before, which leaves room for every frame.

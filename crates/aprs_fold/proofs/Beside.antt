@@ -130,9 +130,9 @@ last_decides gap pos read front written last old rest x f within sound h ahead =
     | inl j ↦ elim (last_or_before gap old x
         (front_ordered (IsBelow row_cmp) old rest sound.ascending)
         (front_ordered (IsFar gap) old rest sound.apart) j) [
-      | inl i ↦ i
-      | inr t ↦ absurd (none_beyond gap pos read front written last f x t.0 h (within t.0 t.1) t.2)
-    ]
+          | inl i ↦ i
+          | inr t ↦ absurd (none_beyond gap pos read front written last f x t.0 h (within t.0 t.1) t.2)
+        ]
     | inr j ↦ absurd (not_both row_total x x (ahead x j) (ahead x j))
   ],
   λ k. in_left x old rest (last_in old x k),

@@ -155,10 +155,10 @@ module _ {R W A : Type 0} (remaining : R → Option (List ℕ)) (contents : W �
           let kept = rows_of_sources range rows in
           let decided : new_rows (old ++ rest) kept ≡ new_rows (last_of old) kept =
           new_same (old ++ rest) (last_of old) kept (λ z h.
-              let here = in_within range z rows h in
-              last_decides (millis_of gap) (some_millis gap is_gap) (all_of w.taken)
-              (fronts_of streams) w.final last old rest z w.folding (first_in w.taken) sound
-              (own z here) (λ y k. below z y here k)) in
+          let here = in_within range z rows h in
+          last_decides (millis_of gap) (some_millis gap is_gap) (all_of w.taken)
+          (fronts_of streams) w.final last old rest z w.folding (first_in w.taken) sound
+          (own z here) (λ y k. below z y here k)) in
           (λ i. w.are_new rest sound ahead i
           ++ (ap (λ (l : List Row). new_rows l kept) w.keeps ∙ sym decided) i)
           ∙ sym (filter-append (is_new (old ++ rest)) (rows_of_sources range w.final) kept)
@@ -289,10 +289,10 @@ module _ {R W A : Type 0} (remaining : R → Option (List ℕ)) (contents : W �
               ] in
               new_with (rows_put closed last) (own ++ rest) (subst (Sound (millis_of gap)) whole s)
               all_ahead (put_last closed last) (λ z y h k.
-                  let a = all_ahead y k in
-                  below_upto z f.row y (closed_below z h) (upto row_total f.row a.0 y
-                  (none_before remaining limit gap first now streams w.taken w.reading i f a.0 a.1)
-                  a.2))
+              let a = all_ahead y k in
+              below_upto z f.row y (closed_below z h) (upto row_total f.row a.0 y
+              (none_before remaining limit gap first now streams w.taken w.reading i f a.0 a.1)
+              a.2))
               ∙ ap (λ (l : List Row). new_rows l
               (rows_of_sources range (w.final ++ rows_put closed last))) (sym whole)
 
@@ -324,7 +324,7 @@ module _ {R W A : Type 0} (remaining : R → Option (List ℕ)) (contents : W �
           ends_as_book (millis_of gap) (some_millis gap is_gap) (all_of w.taken)
           (fronts_of streams) w.final last w.folding in
           let same : w.written ++ new_rows known (rows_of_sources range last)
-              ≡ (news_of_sources range gap w.taken).rows =
+          ≡ (news_of_sources range gap w.taken).rows =
           new_so_far last (λ z h. h)
           ∙ (λ i. new_rows (append-nil old i) (rows_of_sources range (book i))) in (
             w.taken,

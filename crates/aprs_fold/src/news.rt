@@ -20,8 +20,8 @@ use crate::taking_new::{put_last_new, take_front_new};
 use crate::tournament::Tournament;
 use aprs_bookfile::{OpenLine, WrittenRow, end_line_and_lf};
 use aprs_io::{Counted, Outlet};
-use aprs_transmissions::Gap;
 use aprs_rows::OpenRow;
+use aprs_transmissions::Gap;
 use std::alloc::Allocator;
 use std::io::{Read, Write};
 
@@ -120,8 +120,9 @@ fn put_news<R: Read, W: Write, A: Allocator + Copy>(
     let mut known = OpenRow::new(alloc);
     let mut count = 0;
     while let Some(index) = tournament.first(streams) {
-        let wrote =
-            take_front_new(gap, range, streams, index, &mut last, &mut known, out, &mut room)?;
+        let wrote = take_front_new(
+            gap, range, streams, index, &mut last, &mut known, out, &mut room,
+        )?;
         count = count_after(count, wrote)?;
         advance(index, streams, inputs)?;
         tournament.play_again(streams, index);

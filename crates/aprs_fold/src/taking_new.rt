@@ -15,8 +15,8 @@ use crate::known::is_kept;
 use crate::range::SourceRange;
 use aprs_bookfile::{LentRow, OpenLine, RowStream, WrittenRow};
 use aprs_io::Outlet;
-use aprs_transmissions::Gap;
 use aprs_rows::OpenRow;
+use aprs_transmissions::Gap;
 use std::alloc::Allocator;
 use std::io::Write;
 

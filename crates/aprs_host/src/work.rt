@@ -10,11 +10,11 @@ ghost use Rattle.aprs_host.specs.Work as Spec;
 use aprs_arguments::{Job, Table};
 use aprs_convert::Form;
 use aprs_io::Counted;
-use aprs_transmissions::Gap;
 use aprs_log::MAX_INPUT;
 use aprs_runs::{
     RunFault, check_run, convert_run, history_run, merge_run, show_run, table_run, widen_run,
 };
+use aprs_transmissions::Gap;
 use std::alloc::Allocator;
 use std::io::{Read, Write};
 

@@ -18,10 +18,10 @@ use crate::net::answers::{Answer, Question};
 use crate::net::copies::{MessageCopy, MessageName};
 use crate::net::sort::{sort_answers, sort_copies};
 use crate::said::{Said, call_in, said_in};
-use aprs_transmissions::Gap;
 use aprs_report::Report;
 use aprs_rows::{BookRows, BookStore, Memory, RowView, WalkRoom};
 use aprs_summary::acknowledged_in;
+use aprs_transmissions::Gap;
 use std::alloc::{Allocator, Global};
 use std::marker::Model;
 

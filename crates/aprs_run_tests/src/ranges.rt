@@ -1,8 +1,7 @@
 //! The rows of a range of sources, of texts in memory.
 
 use aprs_fixtures::{MERGED_TEXT, OLD_MERGED_TEXT, callsign};
-use aprs_fold::SourceRange;
-use aprs_fold::BookRange;
+use aprs_fold::{BookRange, SourceRange};
 use std::alloc::Global;
 use std::io::Read;
 use std::test::Fail;

@@ -12,10 +12,10 @@ use crate::gathered::answer_of;
 use crate::merge::read_all;
 use aprs_arguments::Table;
 use aprs_io::{Counted, WriteFault};
-use aprs_transmissions::Gap;
 use aprs_listing::write_listing;
 use aprs_lists::{write_messages, write_things};
 use aprs_summary::Summary;
+use aprs_transmissions::Gap;
 use std::alloc::Allocator;
 use std::io::{Read, Write};
 

@@ -5,9 +5,9 @@ ghost use Rattle.aprs_runs.specs.ExitStatus.{status_of_fault, status_of_input};
 use aprs_bookfile::{BookCause, BookFault};
 use aprs_convert::ConvertFault;
 use aprs_io::WriteFault;
-use aprs_transmissions::MergeFault;
 use aprs_log::{LogCause, LogFault};
 use aprs_rows::Memory;
+use aprs_transmissions::MergeFault;
 use thiserror::Error;
 
 /// What is wrong with an input.

@@ -11,15 +11,15 @@ ghost use Rattle.aprs_lists.specs.Stations.{IsStationsTable};
 
 use crate::extract::{Extract, Summarized, write_summarized};
 use crate::fault::RunFault;
-use aprs_bookfile::write_rows;
 use aprs_arguments::Table;
+use aprs_bookfile::write_rows;
 use aprs_io::{Counted, WriteFault};
-use aprs_transmissions::Gap;
 use aprs_listing::write_history;
 use aprs_lists::{HeardStations, Traffic, write_net_messages, write_stations};
 use aprs_rows::{BookStore, Memory, PackedRows, WalkRoom};
 use aprs_summary::Summary;
 use aprs_table::write_table;
+use aprs_transmissions::Gap;
 use std::alloc::{Allocator, Global};
 use std::io::Write;
 use std::marker::Model;

@@ -15,9 +15,9 @@ ghost use Rattle.aprs_runs.specs.InputRows.{RefusesGaps};
 use aprs_book::Book;
 use aprs_booktext::read_book;
 use aprs_io::Counted;
-use aprs_transmissions::{Gap, MergeFault};
 use aprs_rows::{BookStore, WalkRoom};
 use aprs_runs::{BOOK_MARK, InputFault, read_head, read_log, read_short};
+use aprs_transmissions::{Gap, MergeFault};
 use std::alloc::{Allocator, Global};
 use std::io::Read;
 

@@ -20,8 +20,8 @@ use crate::written::{check, convert, history, merge, show, tabulate, widen};
 use aprs_arena::{Arena, Region};
 use aprs_arguments::Table;
 use aprs_convert::Form;
-use aprs_transmissions::Gap;
 use aprs_log::{Moment, Receiver};
+use aprs_transmissions::Gap;
 
 /// Checks the log `input`: writes a line for each line in which no frame was heard, and the totals.
 /// At a fault of the log what is reported of the lines before it is written, and no totals.

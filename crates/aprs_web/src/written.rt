@@ -8,11 +8,11 @@ use crate::inputs::readers;
 use aprs_arguments::Table;
 use aprs_convert::Form;
 use aprs_io::Counted;
-use aprs_transmissions::Gap;
 use aprs_log::MAX_INPUT;
 use aprs_runs::{
     RunFault, check_run, convert_run, history_run, merge_run, show_run, table_run, widen_run,
 };
+use aprs_transmissions::Gap;
 use std::alloc::Allocator;
 
 /// A check of a log, and what it wrote.

@@ -6,8 +6,8 @@ ghost use Rattle.aprs_lists.specs.Copies.{copy_of, message_named};
 ghost use Rattle.aprs_lists.specs.Runs as Spec;
 
 use crate::net::copies::MessageCopy;
-use aprs_transmissions::Gap;
 use aprs_log::Moment;
+use aprs_transmissions::Gap;
 use std::marker::Model;
 
 /// A message that was sent once, however often it was repeated.

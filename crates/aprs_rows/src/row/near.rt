@@ -4,8 +4,8 @@ ghost use Rattle.aprs_transmissions.specs.Gap.{millis_of};
 ghost use Rattle.aprs_rows.specs.Fronts.{IsByTest};
 
 use crate::row::row_view::RowView;
-use aprs_transmissions::Gap;
 use aprs_log::Moment;
+use aprs_transmissions::Gap;
 
 /// Whether what begins at `first` is near to what ended at `last`: it begins at most the gap after
 /// that, or before it.

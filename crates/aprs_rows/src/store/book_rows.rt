@@ -13,8 +13,8 @@ use crate::Memory;
 use crate::row::name_room::NameRoom;
 use crate::row::row_view::RowView;
 use crate::store::merger::Merger;
-use aprs_transmissions::Gap;
 use aprs_log::Moment;
+use aprs_transmissions::Gap;
 use std::alloc::{Allocator, Global};
 use std::marker::Model;
 

@@ -15,8 +15,8 @@ use crate::store::book_rows::BookRows;
 use crate::store::merger::Merger;
 use crate::store::packed::PackedRows;
 use crate::store::walk_room::WalkRoom;
-use aprs_transmissions::Gap;
 use aprs_log::Reception;
+use aprs_transmissions::Gap;
 use std::alloc::{Allocator, Global};
 use std::marker::Model;
 

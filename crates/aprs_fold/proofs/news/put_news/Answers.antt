@@ -157,9 +157,9 @@ loop-index-preserved g c =
     c.loop-index.invariant.newing.taken c.loop-index.invariant.newing.reading in
     record {
       newing = news_on g.R.Read.remaining g.W.Write.contents c.args.limit
-    c.args.gap c.args.range.now c.args.inputs.now c.args.out.now c.requires.gap
-    c.loop-index.inputs c.loop-index.streams c.loop-index.out c.loop-index.last
-    c.loop-index.known c.loop-index.count c.loop-index.invariant.newing
+          c.args.gap c.args.range.now c.args.inputs.now c.args.out.now c.requires.gap
+          c.loop-index.inputs c.loop-index.streams c.loop-index.out c.loop-index.last
+          c.loop-index.known c.loop-index.count c.loop-index.invariant.newing
           t.2.closed c.in_ok-wrote.wrote c.take_front_new.new.out t.2.puts c.in-Some.index f t.0
           c.take_front_new.new.last t.2.takes c.advance.new.inputs c.advance.new.streams one.0
           one.1 c.take_front_new.new.known c.in_ok-count.count t.1 c.in_ok-count.ensures.counts;

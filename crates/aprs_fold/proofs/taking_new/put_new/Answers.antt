@@ -28,7 +28,7 @@ pub returns-clause-wrote : goal.returns-clause-wrote
 returns-clause-wrote g c = (
   c.args.row.now,
   new_one c.args.known.now c.args.row.now (λ h. c.is_kept.ensures.other
-    c.if-is_kept.false (subst (λ (x : Row). x ∈ c.args.known.now) (sym c.row.ensures) h)),
+      c.if-is_kept.false (subst (λ (x : Row). x ∈ c.args.known.now) (sym c.row.ensures) h)),
 )
 
 pub returns-clause-puts : goal.returns-clause-puts
