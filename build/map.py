@@ -48,7 +48,7 @@ def drawn() -> List[str]:
     """The lines of the map."""
     lines = ["```text"]
     for n, name, here in floors():
-        lines.append(f"{n:<2} {name:<19} {' '.join(f'{crate:<17}' for crate in here)}".rstrip())
+        lines.append(f"{n:<2} {name:<19} {' '.join(f'{crate:<18}' for crate in here)}".rstrip())
     return lines + ["```"]
 
 
