@@ -30,7 +30,7 @@ while IFS= read -r line; do
 done < "$scratch/cited"
 
 # the known ones: no other may come, and what is mended goes from these lists
-known_names='first_of number_of'
+known_names=''
 known_twice=''
 # are WHAT KNOWN FOUND: what is found is what is known
 are() {

@@ -1,6 +1,6 @@
 -- The first answer is where a search in order finds it.
 use Rattle.aprs_lists.proofs.Common.{◌≡◌, ◌∙◌, ◌<◌, ◌≤◌, ◌⊎◌, ℕ, Bool, true, false, List, [], ◌∷◌, Option, None, Some, drop, length, get_or, map, suc, zero, ap, arith, refl, subst, sym, inl, inr, Call, call_cmp, call_total, call_exact, bytes_cmp, bytes_total, bytes_exact, bool_cmp, bool_cmp_total, nat_cmp, nat_cmp_total, exact_pairs, CmpEqualImpliesEq, IsTotalOrder, MatchOrdering, ranks, IsPartitionedBy, is_eq, is_gt, is_lt, and_from, and_parts, lt-ltb, ltb-true, on, on_total, then_total, ordering_then, Ordered, Ordering, Less, Equal, Greater, IsUpTo, same_greatest, up_to_itself, tied_itself, place_of, in_place, cases_lt, option_map, if◌then◌else◌, from_map, in_map, ◌∈◌}
-use Rattle.aprs_lists.specs.Answers.{AnswersInTime, AskedAnswer, IsFirstAnswer, Reply, asked_cmp, chosen_of, first_of, is_before, reply_cmp, reply_of}
+use Rattle.aprs_lists.specs.Answers.{AnswersInTime, AskedAnswer, IsFirstAnswer, Reply, asked_cmp, chosen_of, first_in_time, is_before, reply_cmp, reply_of}
 use Rattle.aprs_lists.specs.Chosen.{chosen, is_early, is_timely}
 use Rattle.aprs_lists.specs.declared.net.answers.Answer.{Answer}
 use Rattle.aprs_lists.proofs.Orders.{not_after, ordered_drop, dropped_in}
@@ -247,12 +247,12 @@ module _ (least : Answer) (until : Option ℕ) where
       → ((k : ℕ) (d : Answer) → 0 ≤ k → k < at → is_early least (get_or xs k d) ≡ true)
       → ((x : Answer) → x ∈ drop at xs → is_early least x ≡ false)
       → option_map reply_of (chosen least until (drop at xs))
-      ≡ first_of (reply_of least) until (map reply_of xs)
+      ≡ first_in_time (reply_of least) until (map reply_of xs)
   found_so [] zero e l = refl
   found_so [] (suc n) e l = refl
   found_so (x ∷ xs) zero e l =
       chosen_alike (is_timely least until x)
-      ∙ sym (ap (λ b. if b then first_of (reply_of least) until (map reply_of xs)
+      ∙ sym (ap (λ b. if b then first_in_time (reply_of least) until (map reply_of xs)
       else chosen_of (reply_of least) until (map reply_of (x ∷ xs))) (l x (inl refl))) where
         chosen_alike : (b : Bool) → option_map reply_of (if b then Some x else None)
             ≡ (if b then Some (reply_of x) else None)
@@ -260,6 +260,6 @@ module _ (least : Answer) (until : Option ℕ) where
         chosen_alike false = refl
   found_so (x ∷ xs) (suc n) e l =
       found_so xs n (λ k d p q. e (suc k) d (omega arith) (omega (arith, q))) l
-      ∙ sym (ap (λ b. if b then first_of (reply_of least) until (map reply_of xs)
+      ∙ sym (ap (λ b. if b then first_in_time (reply_of least) until (map reply_of xs)
       else chosen_of (reply_of least) until (map reply_of (x ∷ xs)))
       (e 0 x (omega arith) (omega arith)))

@@ -1,6 +1,6 @@
 -- One answer after another, in order, gives the first that counts.
 use Rattle.aprs_lists.proofs.Common.{◌≡◌, ◌∙◌, ℕ, Bool, true, false, List, [], ◌∷◌, Option, None, Some, ap, refl, subst, sym, inl, inr, bool_cmp, nat_cmp, is_eq, is_lt, and_from, and_parts, if◌then◌else◌, ordering_then, Ordered, IsUpTo, same_greatest, up_to_itself, tied_itself, ◌∈◌}
-use Rattle.aprs_lists.specs.Answers.{AnswersInTime, AskedAnswer, IsFirstAnswer, PlainIsFirst, Reply, asked_cmp, chosen_of, first_of, is_before, is_early, is_timely, reply_cmp}
+use Rattle.aprs_lists.specs.Answers.{AnswersInTime, AskedAnswer, IsFirstAnswer, PlainIsFirst, Reply, asked_cmp, chosen_of, first_in_time, is_before, is_early, is_timely, reply_cmp}
 use Rattle.aprs_lists.proofs.FirstAnswers.{asked_exact, asked_total, asked_up_to, earlier_before, equal_so, moments_up_to, not_early, reply_total}
 use Rattle.aprs_lists.proofs.Orders.{not_after}
 
@@ -88,12 +88,12 @@ module _ (least : Reply) (acknowledges : least.is_rejection ≡ false) (until : 
         )
 
   first_is : (replies : List Reply) → Ordered (IsUpTo reply_cmp) replies
-      → Is replies (first_of least until replies)
+      → Is replies (first_in_time least until replies)
   first_is [] o = λ a m t. absurd m
   first_is (x ∷ xs) o = by_test (is_early least x) refl (first_is xs o.1) where
-    by_test : (b : Bool) → is_early least x ≡ b → Is xs (first_of least until xs)
-        → Is (x ∷ xs) (if b then first_of least until xs else chosen_of least until (x ∷ xs))
-    by_test true e h = passed x xs (first_of least until xs) e h
+    by_test : (b : Bool) → is_early least x ≡ b → Is xs (first_in_time least until xs)
+        → Is (x ∷ xs) (if b then first_in_time least until xs else chosen_of least until (x ∷ xs))
+    by_test true e h = passed x xs (first_in_time least until xs) e h
     by_test false e h = chosen_so x xs o e (is_timely least until x) refl
 
 pub plain_is_first : PlainIsFirst

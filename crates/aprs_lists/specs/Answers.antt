@@ -87,13 +87,13 @@ chosen_of least until [] = None
 chosen_of least until (x ∷ xs) = if is_timely least until x then Some x else None
 
 -- Among answers in order, the first that isn't early, if it is timely.
-abbrev pub first_of : Reply → Option ℕ → List Reply → Option Reply
-first_of least until [] = None
-first_of least until (x ∷ xs) =
-    if is_early least x then first_of least until xs else chosen_of least until (x ∷ xs)
+abbrev pub first_in_time : Reply → Option ℕ → List Reply → Option Reply
+first_in_time least until [] = None
+first_in_time least until (x ∷ xs) =
+    if is_early least x then first_in_time least until xs else chosen_of least until (x ∷ xs)
 
 -- Among answers in order, that is the first answer.
 abbrev pub PlainIsFirst : Type 0
 PlainIsFirst = (replies : List Reply) (least : Reply) (until : Option ℕ)
     → Ordered (IsUpTo reply_cmp) replies → least.is_rejection ≡ false
-    → IsFirstAnswer replies least.asked least.moment until (first_of least until replies)
+    → IsFirstAnswer replies least.asked least.moment until (first_in_time least until replies)

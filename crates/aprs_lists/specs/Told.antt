@@ -5,11 +5,11 @@ use Rattle.std.specs.Option.{option_map}
 use Rattle.aprs_ax25.specs.Callsign.{Call, call_text}
 use Rattle.aprs_io.specs.Shown.{shown_text}
 use Rattle.aprs_log.specs.Moment.{moment_text}
-use Rattle.aprs_lists.specs.Answers.{AskedAnswer, IsFirstAnswer, Reply, first_of}
+use Rattle.aprs_lists.specs.Answers.{AskedAnswer, IsFirstAnswer, Reply, first_in_time}
 use Rattle.aprs_lists.specs.Runs.{Sent}
 use Rattle.aprs_summary.specs.MessageRows.{spelled_call}
 use Rattle.aprs_summary.specs.Messages.{Message, state_text}
-use Rattle.aprs_summary.specs.ReplyTexts.{number_of}
+use Rattle.aprs_summary.specs.ReplyTexts.{trailing_number}
 use Rattle.aprs_summary.specs.declared.lists.message.MessageRow.{MessageRow}
 use Rattle.aprs_summary.specs.declared.lists.message.MessageState.{MessageState}
 use Rattle.aprs_summary.specs.declared.lists.message.MessageState.TheVariants.{Unnumbered, Unanswered, Acknowledged, Rejected}
@@ -57,7 +57,7 @@ told_of x = record {
 -- The id, or without one the number that the text has for reply-acks; none without both.
 abbrev pub number_by : Option (List ℕ) → List ℕ → Option (List ℕ)
 number_by (Some id) text = Some id
-number_by None text = number_of text
+number_by None text = trailing_number text
 
 -- The number of a message: what answers name.
 abbrev pub message_number : Message → Option (List ℕ)
@@ -185,7 +185,7 @@ reply_ack_with (Some number) (Some a) = Heard a.moment
 -- The number for reply-acks: none where the message has an id.
 abbrev pub reply_number : Option (List ℕ) → List ℕ → Option (List ℕ)
 reply_number (Some id) text = None
-reply_number None text = number_of text
+reply_number None text = trailing_number text
 
 -- The earlier of two answers, and of two at one moment the first.
 abbrev pub earlier_answer : Option Reply → Option Reply → Option Reply
@@ -255,7 +255,7 @@ least_reply gap r number call is_reply = record {
 
 abbrev pub found_by : ℕ → List Reply → Sent → Bool → Option (List ℕ) → Option Call → Option Reply
 found_by gap replies r is_reply (Some number) (Some call) =
-    first_of (least_reply gap r number call is_reply) r.until replies
+    first_in_time (least_reply gap r number call is_reply) r.until replies
 found_by gap replies r is_reply (Some number) None = None
 found_by gap replies r is_reply None call = None
 

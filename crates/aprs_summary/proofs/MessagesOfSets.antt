@@ -10,7 +10,7 @@ use Rattle.aprs_summary.specs.declared.lists.message_key.Span.{Span}
 use Rattle.aprs_summary.specs.declared.lists.message_key.AnswerKey.{AnswerKey}
 use Rattle.aprs_summary.specs.Messages.{Message, message_cmp, ReportsIt, AnswersIt, RepliesTo, IsAnsweredAt, IsReplyAckOf, IsStateOf, message_in, reported_message, shown_message, IsMessageRow, AreMessages, HasNumber, IsListedBefore, ReportsMessages}
 use Rattle.aprs_summary.specs.MessageRows.{message_of, Answer, answer_from, answer_of, answer_to, answered_in, GivesAnswer, AreSpans, AreAnswers, IsKeyBefore, number_without, reply_ack_in, reply_ack_to, row_in, state_in}
-use Rattle.aprs_summary.specs.ReplyTexts.{HoldsOnly, number_of}
+use Rattle.aprs_summary.specs.ReplyTexts.{HoldsOnly, trailing_number}
 use Rattle.aprs_summary.proofs.GreatestAnswers.{IsFor, ReportsAnswer, answer_reported}
 use Rattle.aprs_summary.proofs.ReplyTexts.{held_so, none_held}
 use Rattle.aprs_summary.proofs.TextNumbers.{message_number}
@@ -148,7 +148,7 @@ module _ (gap : ℕ) (S : List Received) (rows : List Row) (b : BookOf gap S row
     )
 
     replied : IsReplyAckOf S m first (reply_ack_in rs m first)
-    replied = replied_to (number_without m.id (number_of m.text)) (message_number m)
+    replied = replied_to (number_without m.id (trailing_number m.text)) (message_number m)
 
   module _ (es : List (MessageKey × Span)) (rs : List (AnswerKey × Received))
       (cs : AreSpans rows es) (ca : AreAnswers rows rs) (o : Ordered IsKeyBefore es) where

@@ -6,7 +6,7 @@ use Rattle.aprs_report.specs.Reader.{value_when}
 use Rattle.aprs_summary.specs.Messages.{HasNumber, Message}
 use Rattle.aprs_summary.specs.MessageRows.{number_without}
 use Rattle.aprs_summary.specs.ReplyAcks.{is_message_number, is_number_or_nothing}
-use Rattle.aprs_summary.specs.ReplyTexts.{HoldsOnly, closed_number, number_of, number_of_two}
+use Rattle.aprs_summary.specs.ReplyTexts.{HoldsOnly, closed_number, trailing_number, number_of_two}
 use Rattle.aprs_summary.proofs.ReplyTexts.{Has, letters, not_empty, numbered_once}
 
 either_some : {A : Type 0} (o p : Option A) (x : A) → option_or o p ≡ Some x
@@ -71,7 +71,7 @@ closed_there (x ∷ y ∷ z ∷ n) a p q h =
 
 -- ---- of a text
 
-number_found : (text n : List ℕ) → number_of text ≡ Some n → Has text n
+number_found : (text n : List ℕ) → trailing_number text ≡ Some n → Has text n
 number_found [] n h = absurd cc
 number_found (b ∷ text) n h = elim (either_some _ _ n h) [
   | inl e ↦ (let g = if_some (eqb b 123) (closed_number text) n e in
@@ -97,15 +97,15 @@ number_found (b ∷ text) n h = elim (either_some _ _ n h) [
 ]
 
 number_there : (n a body : List ℕ) → is_message_number n ≡ true → is_number_or_nothing a ≡ true
-    → number_of (body ++ 123 ∷ (n ++ 125 ∷ a)) ≡ None → ⊥
+    → trailing_number (body ++ 123 ∷ (n ++ 125 ∷ a)) ≡ None → ⊥
 number_there n a [] p q h = closed_there n a p q (both_none _ _ h).0
 number_there n a (b ∷ body) p q h = number_there n a body p q (both_none _ _ h).1
 
-text_number : (text : List ℕ) → HoldsOnly (Has text) (number_of text)
-text_number text n = (number_found text n, λ h. there (number_of text) refl h) where
-  there : (o : Option (List ℕ)) → number_of text ≡ o → Has text n → number_of text ≡ Some n
+text_number : (text : List ℕ) → HoldsOnly (Has text) (trailing_number text)
+text_number text n = (number_found text n, λ h. there (trailing_number text) refl h) where
+  there : (o : Option (List ℕ)) → trailing_number text ≡ o → Has text n → trailing_number text ≡ Some n
   there None e h = absurd (number_there n h.0 h.1.body h.1.a_number h.1.a_number_or_nothing
-      (ap number_of (sym h.1.whole) ∙ e))
+      (ap trailing_number (sym h.1.whole) ∙ e))
   there (Some m) e h = let f = number_found text m e in
       e ∙ ap (λ (p : List ℕ × List ℕ). Some p.0)
       (numbered_once text (m, f.0) (n, h.0) f.1 h.1)
@@ -116,10 +116,10 @@ without_id None number n h = (refl, h)
 without_id (Some i) number n h = absurd cc
 
 -- the number that a message has is this alone
-pub message_number : (m : Message) → HoldsOnly (HasNumber m) (number_without m.id (number_of m.text))
+pub message_number : (m : Message) → HoldsOnly (HasNumber m) (number_without m.id (trailing_number m.text))
 message_number m n = (
-  λ e. (let w = without_id m.id (number_of m.text) n e in
+  λ e. (let w = without_id m.id (trailing_number m.text) n e in
       (w.0, (text_number m.text n).0 w.1)),
-  λ h. ap (λ (o : Option (List ℕ)). number_without o (number_of m.text)) h.0
+  λ h. ap (λ (o : Option (List ℕ)). number_without o (trailing_number m.text)) h.0
       ∙ (text_number m.text n).1 h.1,
 )

@@ -28,7 +28,7 @@ use Rattle.aprs_summary.specs.declared.lists.reply_ack.ReplyAck.{ReplyAck}
 use Rattle.aprs_summary.specs.declared.lists.reply_ack.ReplyAck.TheVariants.{NotAwaited}
 use Rattle.aprs_summary.specs.Messages.{Message, ReportsIt, answered_by, message_cmp, message_in, reply_ack_by, state_by}
 use Rattle.aprs_summary.specs.ReplyAcks.{IsReplyAckText}
-use Rattle.aprs_summary.specs.ReplyTexts.{number_of}
+use Rattle.aprs_summary.specs.ReplyTexts.{trailing_number}
 
 -- Whether information begins with a colon, as that of messages and their answers does.
 abbrev pub begins_with_colon : List ℕ → Bool
@@ -191,7 +191,7 @@ reply_ack_to entries m first (Some number) = reply_ack_by first (answer_to entri
 -- What reply-acks say of a message of this first moment, by its number.
 abbrev pub reply_ack_in : List (AnswerKey × Received) → Message → ℕ → ReplyAck
 reply_ack_in entries m first =
-    reply_ack_to entries m first (number_without m.id (number_of m.text))
+    reply_ack_to entries m first (number_without m.id (trailing_number m.text))
 
 -- The row of a message and its span.
 abbrev pub row_in : List (AnswerKey × Received) → MessageKey × Span → MessageRow

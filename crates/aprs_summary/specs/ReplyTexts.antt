@@ -49,6 +49,6 @@ closed_number (x ∷ y ∷ rest) = option_or
 
 -- The number that a text has between braces, or none. At most two letters or digits, and nothing
 -- else, may follow them.
-abbrev pub number_of : List ℕ → Option (List ℕ)
-number_of [] = None
-number_of (b ∷ text) = option_or (if b == octet "{" then closed_number text else None) (number_of text)
+abbrev pub trailing_number : List ℕ → Option (List ℕ)
+trailing_number [] = None
+trailing_number (b ∷ text) = option_or (if b == octet "{" then closed_number text else None) (trailing_number text)

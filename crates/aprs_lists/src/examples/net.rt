@@ -1,7 +1,7 @@
 //! Worked examples of runs of copies and of first answers, and near misses.
 ghost use Rattle.std.specs.Prelude.{◌≡◌, [], ◌∷◌, None, Some, codes, true, false};
 ghost use Rattle.aprs_transmissions.specs.Order.{IsBelow};
-ghost use Rattle.aprs_lists.specs.Answers.{first_of, reply_cmp};
+ghost use Rattle.aprs_lists.specs.Answers.{first_in_time, reply_cmp};
 ghost use Rattle.aprs_lists.specs.Copies.{copy_cmp};
 ghost use Rattle.aprs_lists.specs.NetExamples.{ack_at, other_at, rej_at, reply_at, said, sent};
 ghost use Rattle.aprs_lists.specs.Runs.{runs_of};
@@ -32,14 +32,14 @@ pub fn copies_are_in_order()
 
 /// The first answer counts from the start on and before the end of its time.
 pub fn first_answers_are_in_time()
-    ensures none { first_of (ack_at 100) None [] ≡ None }
-    ensures at_the_start { first_of (ack_at 100) None (ack_at 100 ∷ []) ≡ Some (ack_at 100) }
-    ensures before_the_start { first_of (ack_at 100) None (ack_at 99 ∷ []) ≡ None }
-    ensures before_the_end { first_of (ack_at 100) (Some 200) (ack_at 199 ∷ []) ≡ Some (ack_at 199) }
-    ensures at_the_end { first_of (ack_at 100) (Some 200) (ack_at 200 ∷ []) ≡ None }
-    ensures first_of_two { first_of (ack_at 100) None (ack_at 99 ∷ rej_at 101 ∷ ack_at 102 ∷ [])
+    ensures none { first_in_time (ack_at 100) None [] ≡ None }
+    ensures at_the_start { first_in_time (ack_at 100) None (ack_at 100 ∷ []) ≡ Some (ack_at 100) }
+    ensures before_the_start { first_in_time (ack_at 100) None (ack_at 99 ∷ []) ≡ None }
+    ensures before_the_end { first_in_time (ack_at 100) (Some 200) (ack_at 199 ∷ []) ≡ Some (ack_at 199) }
+    ensures at_the_end { first_in_time (ack_at 100) (Some 200) (ack_at 200 ∷ []) ≡ None }
+    ensures first_of_two { first_in_time (ack_at 100) None (ack_at 99 ∷ rej_at 101 ∷ ack_at 102 ∷ [])
         ≡ Some (rej_at 101) }
-    ensures of_another_form { first_of (ack_at 100) None (reply_at 100 ∷ []) ≡ None }
+    ensures of_another_form { first_in_time (ack_at 100) None (reply_at 100 ∷ []) ≡ None }
     ensures ack_before_rej { IsBelow reply_cmp (ack_at 100) (rej_at 100) }
     ensures misses_later { IsBelow reply_cmp (ack_at 101) (rej_at 100) → ⊥ }
 {}

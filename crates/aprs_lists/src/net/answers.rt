@@ -48,7 +48,7 @@ pub fn first_answer<'s, 't>(
     ensures first { Spec.IsFirstAnswer (map Spec.reply_of answers.now) (Spec.reply_of least.now).asked
         least.now.moment until (option_map Spec.reply_of (option_copied result)) }
     ensures found { option_map Spec.reply_of (option_copied result)
-        ≡ Spec.first_of (Spec.reply_of least.now) until (map Spec.reply_of answers.now) }
+        ≡ Spec.first_in_time (Spec.reply_of least.now) until (map Spec.reply_of answers.now) }
 {
     let at = answers.partition_point(|answer| answer.cmp(least).is_lt());
     let (_, later) = answers.split_at(at);
