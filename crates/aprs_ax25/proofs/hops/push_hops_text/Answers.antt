@@ -3,7 +3,7 @@ use Rattle.aprs_io.proofs.Shows.{shown-each}
 use Rattle.aprs_ax25.specs.FrameFault.{parts_of}
 use Rattle.aprs_ax25.specs.FrameRef.{frame_bytes}
 use Rattle.aprs_ax25.specs.Hop.{hop_of, hop_text}
-use Rattle.aprs_ax25.proofs.hops_text.push_hops_text.Goals as goal
+use Rattle.aprs_ax25.proofs.hops.push_hops_text.Goals as goal
 
 pub loop-i-preserved : goal.loop-i-preserved
 loop-i-preserved g c =

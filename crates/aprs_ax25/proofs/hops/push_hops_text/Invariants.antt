@@ -3,7 +3,7 @@ use Rattle.std.specs.List.{flat_map}
 use Rattle.aprs_ax25.specs.FrameFault.{parts_of}
 use Rattle.aprs_ax25.specs.FrameRef.{frame_bytes}
 use Rattle.aprs_ax25.specs.Hop.{hop_of, hop_text}
-use Rattle.aprs_ax25.proofs.hops_text.push_hops_text.Given as goal
+use Rattle.aprs_ax25.proofs.hops.push_hops_text.Given as goal
 
 abbrev pub invariant-loop-i : goal.invariant-loop-i
 invariant-loop-i g l = record {
