@@ -5,11 +5,11 @@ ghost use Rattle.aprs_bookfile.specs.RowLines.{ended_by_lf};
 ghost use Rattle.aprs_bookfile.specs.Version.{header_of};
 ghost use Rattle.aprs_fold.specs.Lent as Spec;
 
+use crate::range::SourceRange;
 use crate::range::cut::count_lines;
 use crate::range::find::{Stretch, find_stretch};
 use crate::range::read_at::ReadAt;
 use aprs_bookfile::{Version, end_line_and_lf};
-use aprs_fold::SourceRange;
 use aprs_io::push_all;
 use arrayvec::ArrayVec;
 use std::alloc::Allocator;

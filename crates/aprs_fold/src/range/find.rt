@@ -5,13 +5,13 @@ ghost use Rattle.aprs_fold.specs.Cuts.{BeginsLine, CutsRows, HasStretch, IsLow};
 ghost use Rattle.aprs_fold.specs.Lent.{EndsWithLast};
 ghost use Rattle.aprs_fold.specs.Lines.{ReadsLine};
 
+use crate::range::SourceRange;
 use crate::range::judge::is_before;
 use crate::range::line::read_line;
 use crate::range::read_at::ReadAt;
 use crate::range::tail::last_line;
 use aprs_ax25::Callsign;
 use aprs_bookfile::Version;
-use aprs_fold::SourceRange;
 use std::alloc::Allocator;
 
 /// Where the lines of a range's rows stand in a book file.
