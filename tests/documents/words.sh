@@ -54,6 +54,9 @@ awk '/^words_of / && !/UTF-8/ && match($0, /codes ".*"$/) {
     print "aprsbook: " ($0 ~ /\.now/ ? "PLACE" : "") substr($0, RSTART + 7, RLENGTH - 8)
 }' crates/aprs_host/specs/Complaint.antt > "$scratch/program/messages"
 echo 'aprsbook: PLACE: line N: CAUSE' >> "$scratch/program/messages"
+# and those of a note
+calls aprs_host/src/note.rt put_two | sed -n 's/^\(: is [a-z]*\).*/aprsbook: PLACE\1/p' \
+    >> "$scratch/program/messages"
 # those of the program of histories, which has no capture and widens nothing
 calls aprs_listing/src/history.rt 'put_[a-z]*_line' > "$scratch/program/history_lines"
 # the tables, and the columns as their definition has them

@@ -5,16 +5,17 @@ usage: tests/programs/arguments.py PROGRAM
 
 No input is dropped, opened under another's name, or taken out of order; `-` is a path; a path that
 is given twice is opened twice; options may stand between inputs; help and the version end with 0;
-what was written before a fault goes out; and memory that is refused is never `cannot open`. What is
-expected is worked out here from the formats. aprsbook-history, aprsbook-table and aprsbook-fold are
-tried too, where they lie beside the program or in the crates beside its own. The fold gets a book
-of each input, also where it has a range or only checks, and writes what `merge` does. Needs Python
-3.9.
+what was written before a fault goes out; a terminal may be input and output; and memory that is
+refused is never `cannot open`. What is expected is worked out here from the formats.
+aprsbook-history, aprsbook-table and aprsbook-fold are tried too, where they lie beside the program
+or in the crates beside its own. The fold gets a book of each input, also where it has a range or
+only checks, and writes what `merge` does. Needs Python 3.9.
 """
 import datetime
 import itertools
 import os
 import pathlib
+import pty
 import resource
 import subprocess
 import sys
@@ -272,6 +273,22 @@ def minus_is_a_path(it: Program) -> None:
     pathlib.Path("-").unlink()
 
 
+def terminals_serve(it: Program) -> None:
+    """A terminal may be both input and output: nothing that is written there is read again."""
+    own, terminal = pty.openpty()
+    try:
+        os.write(own, it.text(5).encode() + b"\x04")  # which ends it
+        ended = subprocess.run(
+            it.command, stdin=terminal, stdout=terminal, stderr=subprocess.PIPE, check=False,
+            timeout=120,
+        )
+    finally:
+        os.close(own)
+        os.close(terminal)
+    if (ended.returncode, ended.stderr) != (0, b""):
+        fail(f"{it.name} on a terminal: {ended.returncode} {ended.stderr.decode()}")
+
+
 def tables_are_words(it: Program) -> None:
     """The name of a table is one where it stands first, and elsewhere the path of an input."""
     expects_seen(it, ["rows", "1.log", "2.log"], [1, 2])
@@ -450,6 +467,7 @@ def main() -> None:
             options_anywhere(it)
             opens_twice(it)
             minus_is_a_path(it)
+            terminals_serve(it)
             memory_is_named(it)
             if it.name == "aprsbook-table":
                 tables_are_words(it)

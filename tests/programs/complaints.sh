@@ -1,11 +1,12 @@
 #!/bin/sh
 # Tries what each program complains of, word for word, and the exit status that comes with it: inputs
-# that can't be opened, faults of an input by its path and of standard input, wrong words, refused
-# outputs and refused memory. Needs a POSIX system; what needs more says so where it is left out.
+# that can't be opened, or that the output goes to, faults of an input by its path and of standard
+# input, wrong words, refused outputs and refused memory; and what it notes of empty books. Needs a POSIX system; what needs more says so where it is left out.
 # usage: tests/programs/complaints.sh PROGRAM HISTORY TABLE
 . "$(dirname "$0")/program.sh"
 [ -n "$history" ] || fail "there is no program of histories"
 [ -n "$table" ] || fail "there is no program of tables"
+[ -x "$scratch/bin/aprsbook-fold" ] || fail 'there is no program of folds'
 cd "$scratch"
 printf '%s\n' \
     '2024-05-01T12:00:00Z RX1 c00082a0a4a64040e09c60868298986f03f03e4869c0' \
@@ -71,6 +72,97 @@ complains 1 'aprsbook-table: wide.book: other gap' aprsbook-table good.log wide.
 complains 1 'aprsbook: standard input: other gap' sh -c 'aprsbook show < wide.book'
 complains 1 'aprsbook: wide.book: narrower' aprsbook widen 30 wide.book
 complains 1 'aprsbook: standard input: narrower' sh -c 'aprsbook widen 30 < wide.book'
+
+# ---- an input that the output goes to ----
+
+cp good.log io.log
+ln -s io.log soft.log
+ln io.log hard.log
+cp good.book io.book
+ln -s io.book soft.book
+# keeps_both: the last run wrote nothing into what was to be its input
+keeps_both() {
+    cmp -s io.log good.log || fail "the log that is its own output is: $(cat io.log)"
+    cmp -s io.book good.book || fail "the book that is its own output is: $(cat io.book)"
+}
+for it in io.log ./io.log soft.log hard.log; do
+    for command in check 'convert log' 'convert text' merge show 'widen 60'; do
+        complains 1 "aprsbook: $it: input is output" sh -c "aprsbook $command $it >> io.log"
+        keeps_both
+    done
+    complains 1 "aprsbook: $it: input is output" sh -c "aprsbook merge good.log $it 1<> io.log"
+    complains 1 "aprsbook-history: $it: input is output" sh -c "aprsbook-history $it >> io.log"
+    complains 1 "aprsbook-table: $it: input is output" sh -c "aprsbook-table good.log $it >> io.log"
+    keeps_both
+done
+for it in io.book soft.book; do
+    complains 1 "aprsbook: $it: input is output" sh -c "aprsbook merge good.log $it >> io.book"
+    complains 1 "aprsbook-fold: $it: input is output" sh -c "aprsbook-fold good.book $it >> io.book"
+    complains 1 "aprsbook-fold: $it: input is output" \
+        sh -c "aprsbook-fold --from N1 $it >> io.book"
+    complains 1 "aprsbook-fold: $it: input is output" \
+        sh -c "aprsbook-fold --new-to $it good.book >> io.book"
+    complains 1 "aprsbook-fold: $it: input is output" \
+        sh -c "aprsbook-fold --new-to good.book $it >> io.book"
+    keeps_both
+    # a check writes nothing
+    complains 0 '' sh -c "aprsbook-fold --check $it >> io.book"
+    keeps_both
+done
+said='standard input: input is output'
+for command in check 'convert log' merge show 'widen 60'; do
+    complains 1 "aprsbook: $said" sh -c "aprsbook $command < io.log >> io.log"
+done
+complains 1 "aprsbook-history: $said" sh -c 'aprsbook-history < soft.log >> io.log'
+complains 1 "aprsbook-table: $said" sh -c 'aprsbook-table < io.log >> hard.log'
+complains 1 "aprsbook-fold: $said" sh -c 'aprsbook-fold < io.book >> io.book'
+complains 1 "aprsbook-fold: $said" sh -c 'aprsbook-fold --new-to good.book < io.book >> io.book'
+keeps_both
+# the first path that can't serve is named
+complains 1 'aprsbook: io.log: input is output' sh -c 'aprsbook merge io.log no.log >> io.log'
+complains 1 'aprsbook: no.log: cannot open' sh -c 'aprsbook merge no.log io.log >> io.log'
+# a file that the shell has emptied is no empty log
+cp good.log emptied.log
+complains 1 'aprsbook: emptied.log: input is output' sh -c 'aprsbook merge emptied.log > emptied.log'
+[ ! -s emptied.log ] || fail 'a run writes into an emptied input'
+# what is no regular file may be both, and so may files of the same bytes
+complains 0 '' sh -c 'aprsbook merge /dev/null > /dev/null'
+complains 0 '' sh -c 'aprsbook merge < /dev/null > /dev/null'
+complains 0 '' sh -c 'aprsbook-fold --check none.book > /dev/null'
+complains 0 '' sh -c 'aprsbook convert log good.log > other.log && cmp good.log other.log'
+complains 0 '' sh -c 'cat good.log | aprsbook convert log | cat >> hard.log'
+cp good.log io.log
+mkfifo pipe
+exec 3<> pipe
+cat bad.log >&3
+complains 1 'aprsbook: pipe: line 3: Hex' sh -c 'aprsbook check pipe >&3'
+exec 3>&-
+
+# ---- an empty file with the name of a book ----
+
+: > gone.book
+: > gone.log
+ln -s gone.book gone
+note='aprsbook: gone.book: is empty'
+complains 0 "$note" aprsbook merge good.log gone.book
+cmp -s written good.book || fail 'an empty input is no empty log'
+complains 0 "$note" aprsbook merge gone.book good.book gone.log gone
+complains 0 "$note
+$note" aprsbook merge gone.book gone.book
+complains 0 "$note" aprsbook show gone.book good.log
+complains 0 'aprsbook-history: gone.book: is empty' aprsbook-history gone.book good.log
+complains 0 'aprsbook-table: gone.book: is empty' aprsbook-table good.book gone.book
+complains 1 "$note
+aprsbook: bad.log: line 3: Hex" aprsbook merge gone.book bad.log
+# not of one input, which may be meant so, nor of a book or a pipe
+complains 0 '' aprsbook merge gone.book
+complains 0 '' aprsbook merge good.book none.book
+mkfifo pipe.book
+: > pipe.book &
+complains 0 '' aprsbook merge good.log pipe.book
+wait
+complains 0 '' sh -c 'aprsbook merge good.log gone.book 2>&-'
+cmp -s written good.book || fail 'without standard error a note stops a run'
 
 # a KISS stream of more than 1 GiB has no lines
 complains 1 'aprsbook: standard input: line 0: TooLong' sh -c 'head -c 1073741825 /dev/zero |

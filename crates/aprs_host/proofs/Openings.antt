@@ -58,7 +58,7 @@ module _ {Z : Type 0} (paths : List (String Z)) (i : ℕ) (path : String Z)
   pub stops_at : (old mid new : Option (List Asked)) (complaint : Complaint) (text : List ℕ)
       (answer : Option OpenFault) → AsksFor old mid (opened (take i paths))
       → AsksFor mid new ((text, answer) ∷ []) → text ≡ string_bytes path
-      → ComplainsOf path answer complaint → StopsAtPath old new paths complaint
+      → ComplainsOf (string_bytes path) answer complaint → StopsAtPath old new paths complaint
   stops_at old mid new complaint text answer before here t says = record {
     at = i;
     path = path;

@@ -14,11 +14,16 @@ use Rattle.aprs_runs.specs.declared.fault.RunFault.TheVariants as run
 use Rattle.aprs_host.specs.declared.complaint.Complaint.{Complaint}
 use Rattle.aprs_host.specs.declared.complaint.Complaint.TheVariants as why
 
+-- The place of an input that has no path.
+abbrev pub standard_input : List ℕ
+standard_input = codes "standard input"
+
 -- The words of a complaint: what its line says after who speaks, a colon and a space.
 abbrev pub words_of : Complaint → List ℕ
 words_of why.NotUtf8 = codes "invalid UTF-8 was detected in one or more arguments"
 words_of why.BadCaptureOptions = codes "bad capture options"
 words_of (why.CannotOpen path) = path.now ++ codes ": cannot open"
+words_of (why.IsOutput place) = place.now ++ codes ": input is output"
 words_of (why.Line place line cause) =
     place.now ++ (codes ": line " ++ (decimal line ++ (codes ": " ++ cause.now)))
 words_of (why.OtherGap place) = place.now ++ codes ": other gap"

@@ -1,5 +1,6 @@
 -- Definitions that contracts of a program cite.
 pub mod Complaint
 pub mod Ending
+pub mod Note
 pub mod Opening
 pub mod Work

@@ -4,13 +4,14 @@ use Rattle.std.specs.declared.string.String.{String}
 use Rattle.std.specs.Borrow.{Bor}
 use Rattle.aprs_io.specs.Device.{device_of}
 use Rattle.aprs_io.specs.declared.device.Counted.{Counted}
+use Rattle.aprs_host.specs.Complaint.{standard_input}
 use Rattle.aprs_host.specs.declared.complaint.Complaint.{Complaint}
 use Rattle.aprs_host.specs.declared.complaint.Complaint.TheVariants as why
 use Rattle.aprs_host.specs.declared.opening.OpenFault.{OpenFault}
 use Rattle.aprs_host.specs.declared.opening.OpenFault.TheVariants as fault
 
--- What an opener was asked for and its answer: a path, and why its input can't be opened, or
--- `None` where it is open.
+-- What an opener was asked for and its answer: a path or the name of standard input, and why that
+-- can't be opened, or `None` where it is open.
 abbrev pub Asked : Type 0
 Asked = List ℕ × Option OpenFault
 
@@ -39,17 +40,23 @@ AreAt path_of inputs paths = ⊥
 abbrev pub opened : {Z : Type 0} → List (String Z) → List Asked
 opened paths = map (λ path. (string_bytes path, None)) paths
 
--- What is complained of where the input of this path can't be opened.
-abbrev pub complaint_at : Bor (List ℕ) → OpenFault → Complaint
-complaint_at path fault.Refused = why.CannotOpen path
-complaint_at path fault.Memory = why.OutOfMemory
+-- The same of the inputs of these paths, or of standard input where there is none.
+abbrev pub opened_inputs : {Z : Type 0} → List (String Z) → List Asked
+opened_inputs [] = (standard_input, None) ∷ []
+opened_inputs (path ∷ paths) = opened (path ∷ paths)
 
--- What is complained of after this answer for this path: that its input can't be opened, and why;
+-- What is complained of where the input of this place can't be opened.
+abbrev pub complaint_at : Bor (List ℕ) → OpenFault → Complaint
+complaint_at place fault.Refused = why.CannotOpen place
+complaint_at place fault.IsOutput = why.IsOutput place
+complaint_at place fault.Memory = why.OutOfMemory
+
+-- What is complained of after this answer for this place: that its input can't be opened, and why;
 -- or, where it is open, that memory was refused.
-abbrev pub ComplainsOf : {Z : Type 0} → String Z → Option OpenFault → Complaint → Type 0
-ComplainsOf path None complaint = complaint ≡ why.OutOfMemory
-ComplainsOf path (Some refused) complaint =
-    (it : Bor (List ℕ)) × (it.now ≡ string_bytes path) × (complaint ≡ complaint_at it refused)
+abbrev pub ComplainsOf : List ℕ → Option OpenFault → Complaint → Type 0
+ComplainsOf place None complaint = complaint ≡ why.OutOfMemory
+ComplainsOf place (Some refused) complaint =
+    (it : Bor (List ℕ)) × (it.now ≡ place) × (complaint ≡ complaint_at it refused)
 
 -- The path of number `at`, from 0, is the last that the opener was asked for, and the inputs of all
 -- before it are open. The opener's answer for it decides what is complained of.
@@ -60,11 +67,16 @@ pub record StopsAtPath {Z : Type 0} (old new : Option (List Asked)) (paths : Lis
   pub answer : Option OpenFault
   pub is_there : slice_get paths at ≡ Some path
   pub asked : AsksFor old new (opened (take at paths) ++ (string_bytes path, answer) ∷ [])
-  pub says : ComplainsOf path answer complaint
+  pub says : ComplainsOf (string_bytes path) answer complaint
 
--- Where there is no path, memory was refused, and nothing was asked for. Otherwise a path is the
--- last that the opener was asked for.
+-- The opener was asked for standard input alone, and its answer decides what is complained of.
+abbrev pub StopsAtStandard : Option (List Asked) → Option (List Asked) → Complaint → Type 0
+StopsAtStandard old new complaint = (answer : Option OpenFault)
+    × AsksFor old new ((standard_input, answer) ∷ []) × ComplainsOf standard_input answer complaint
+
+-- Where there is no path, that is standard input. Otherwise a path is the last that the opener was
+-- asked for.
 abbrev pub StopsAtInput : {Z : Type 0} → Option (List Asked) → Option (List Asked)
     → List (String Z) → Complaint → Type 0
-StopsAtInput old new [] complaint = AsksFor old new [] × (complaint ≡ why.OutOfMemory)
+StopsAtInput old new [] complaint = StopsAtStandard old new complaint
 StopsAtInput old new (path ∷ paths) complaint = StopsAtPath old new (path ∷ paths) complaint

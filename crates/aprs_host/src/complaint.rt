@@ -15,6 +15,8 @@ use aprs_runs::{InputFault, RunFault};
 use itoa::Buffer;
 use std::io::{self, ErrorKind, Write};
 
+/// The place of an input that has no path.
+pub(crate) const STANDARD_INPUT: &str = "standard input";
 /// What is said of an argument that isn't UTF-8.
 const NOT_UTF8: &[u8] = b"invalid UTF-8 was detected in one or more arguments";
 /// The exit status where an input can't be opened or is refused.
@@ -35,6 +37,8 @@ pub enum Complaint<'a> {
     BadCaptureOptions,
     /// The input of this path can't be opened.
     CannotOpen(&'a [u8]),
+    /// This input is the file that the output goes to.
+    IsOutput(&'a [u8]),
     /// A line of an input, counted from 1, and the name of what is wrong with it. The line is 0
     /// for a KISS stream.
     Line {
@@ -62,6 +66,7 @@ pub fn complaint_status(complaint: &Complaint<'_>) -> u8
         Complaint::CannotWrite => EXIT_OUTPUT,
         Complaint::OutOfMemory => EXIT_MEMORY,
         Complaint::CannotOpen(_)
+        | Complaint::IsOutput(_)
         | Complaint::Line { .. }
         | Complaint::OtherGap(_)
         | Complaint::Narrower(_) => EXIT_INPUT,
@@ -117,6 +122,7 @@ fn put_words<W: Write>(out: &mut Outlet<'_, W>, complaint: Complaint<'_>) -> Res
         Complaint::NotUtf8 => out.put(NOT_UTF8),
         Complaint::BadCaptureOptions => out.put(b"bad capture options"),
         Complaint::CannotOpen(path) => put_two(out, path, b": cannot open"),
+        Complaint::IsOutput(place) => put_two(out, place, b": input is output"),
         Complaint::Line { place, line, cause } => put_line(out, place, line, cause),
         Complaint::OtherGap(place) => put_two(out, place, b": other gap"),
         Complaint::Narrower(place) => put_two(out, place, b": narrower"),
@@ -126,7 +132,11 @@ fn put_words<W: Write>(out: &mut Outlet<'_, W>, complaint: Complaint<'_>) -> Res
 }
 
 /// Puts two texts.
-fn put_two<W: Write>(out: &mut Outlet<'_, W>, first: &[u8], second: &[u8]) -> Result<(), WriteFault>
+pub(crate) fn put_two<W: Write>(
+    out: &mut Outlet<'_, W>,
+    first: &[u8],
+    second: &[u8],
+) -> Result<(), WriteFault>
     ensures { Puts W.contents result out.old out.new (first.now ++ second.now) }
 {
     out.put(first)?;

@@ -2,11 +2,8 @@
 ghost use Rattle.std.specs.Prelude.{◌≡◌, map, string_bytes};
 ghost use Rattle.aprs_host.specs.Ending as Spec;
 
-use crate::complaint::{Complaint, complaint_of};
+use crate::complaint::{Complaint, STANDARD_INPUT, complaint_of};
 use aprs_runs::RunFault;
-
-/// What a complaint names where an input has no path.
-const STANDARD_INPUT: &str = "standard input";
 
 /// What is complained of after a run over inputs of these paths, none for standard input. It is the
 /// run's own fault, with the name of the input at fault, or else the output's, or nothing. The

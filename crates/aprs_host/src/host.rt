@@ -4,7 +4,9 @@ use crate::complaint::{
 };
 use crate::digested::Digested;
 use crate::ending::{complaint_after, input_name};
-use crate::opening::{OpenFault, Opener, open_inputs};
+use crate::host_opener::HostOpener;
+use crate::note::{is_book_name, note_empty};
+use crate::opening::open_inputs;
 use crate::retried::Retried;
 use crate::work::{Work, run_work};
 use aprs_arguments::{FoldJob, JobFault};
@@ -14,7 +16,7 @@ use aprs_runs::{InputFault, RunFault, fold_range_run};
 use aprs_transmissions::Gap;
 use std::alloc::{Allocator, Global};
 use std::env;
-use std::fs::File;
+use std::fs::{self, File};
 use std::io::{self, BufWriter, Read, Seek, Stdin, Write};
 use std::process::ExitCode;
 
@@ -75,21 +77,6 @@ pub struct Program<'a> {
     pub(crate) name: &'a str,
 }
 
-impl Opener for Program<'_> {
-    type Input = HostInput;
-
-    fn open(&mut self, path: &str) -> Result<HostInput, OpenFault> {
-        match File::open(self.rt, path) {
-            Ok(file) => Ok(HostInput::File(file)),
-            Err(error) => Err(OpenFault::of(&error)),
-        }
-    }
-
-    fn standard_input(&mut self) -> HostInput {
-        HostInput::Standard(self.rt.stdin())
-    }
-}
-
 impl<'a> Program<'a> {
     /// The program of this name on this host. Takes no memory.
     pub fn new(rt: &'a HostRuntime, name: &'a str) -> Program<'a> {
@@ -110,14 +97,16 @@ impl<'a> Program<'a> {
 
     /// Does the work over inputs of these paths, or over standard input where there are none, and
     /// reports a fault to standard error. A run over one input reads the first alone. Where an
-    /// input can't be opened, none is read. The output is flushed, also after a run's fault.
-    /// Returns the exit status.
-    pub fn do_work(&mut self, work: Work, paths: &[String]) -> ExitCode {
+    /// input can't be opened, or is the file of the output, none is read. The output is flushed,
+    /// also after a run's fault. Of several inputs it is noted which is an empty file with the name
+    /// of a book. Returns the exit status.
+    pub fn do_work(&self, work: Work, paths: &[String]) -> ExitCode {
         let alloc = self.rt.alloc();
-        let mut inputs = match open_inputs(self, alloc, paths) {
+        let mut inputs = match open_inputs(&mut HostOpener::new(self.rt), alloc, paths) {
             Ok(inputs) => inputs,
             Err(complaint) => return self.report(complaint),
         };
+        self.note_empty_books(paths);
         let output = match BufWriter::new(alloc, Retried::new(self.rt.stdout())) {
             Ok(output) => output,
             Err(_) => return self.report(Complaint::OutOfMemory),
@@ -131,13 +120,36 @@ impl<'a> Program<'a> {
         }
     }
 
+    /// Notes on standard error which of several inputs is an empty file with the name of a book:
+    /// it is taken for an empty log.
+    fn note_empty_books(&self, paths: &[String]) {
+        if paths.len() < 2 {
+            return;
+        }
+        for path in paths {
+            if is_book_name(path.as_str()) && self.is_empty(path.as_str()) {
+                let mut w = Counted::new(self.rt.stderr());
+                // Where standard error takes nothing, the work is done all the same.
+                let _ = note_empty(&mut w, self.name.as_bytes(), path.as_bytes());
+            }
+        }
+    }
+
+    /// Whether this path is that of a regular file of no bytes.
+    fn is_empty(&self, path: &str) -> bool {
+        match fs::metadata(self.rt, path) {
+            Ok(metadata) => metadata.is_file() && metadata.len() == 0,
+            Err(_) => false,
+        }
+    }
+
     /// Folds the book files of a job, or standard input where it has none, and reports a fault to
-    /// standard error. Where a file can't be opened, none is read and nothing is written. Where the
-    /// job has a range, its rows alone are read of a file in which bisection finds them. The output
+    /// standard error. Where a file can't be opened, or is the file of the output, none is read and
+    /// nothing is written. Where the job has a range, its rows alone are read of a file in which bisection finds them. The output
     /// has no buffer of its own, so that its header is there as soon as the fold sends it. Where
     /// the books are only checked, they are read whole, and nothing is written. Returns the exit
     /// status. Where the job has an old book, it does as `do_news` says.
-    pub fn do_fold(&mut self, job: FoldJob) -> ExitCode {
+    pub fn do_fold(&self, job: FoldJob) -> ExitCode {
         let FoldJob {
             gap,
             from,
@@ -151,7 +163,8 @@ impl<'a> Program<'a> {
             return self.do_news(gap, &range, old, inputs, is_check);
         }
         let paths = inputs.as_slice();
-        let mut inputs = match open_inputs(self, self.rt.alloc(), paths) {
+        let mut opener = HostOpener::of_fold(self.rt, is_check);
+        let mut inputs = match open_inputs(&mut opener, self.rt.alloc(), paths) {
             Ok(inputs) => inputs,
             Err(complaint) => return self.report(complaint),
         };

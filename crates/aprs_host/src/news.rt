@@ -3,7 +3,8 @@ use crate::complaint::Complaint;
 use crate::digested::Digested;
 use crate::ending::{complaint_after, input_name};
 use crate::host::{HostInput, Program, has_bounds, parts_of};
-use crate::opening::{Opener, open_all};
+use crate::host_opener::HostOpener;
+use crate::opening::{open_all, open_standard};
 use crate::retried::Retried;
 use aprs_fold::{MAX_BOOK, SourceRange};
 use aprs_io::Counted;
@@ -20,7 +21,7 @@ impl Program<'_> {
     /// number of the old one's rows and its digest are told on standard error. For the rest it does
     /// as `do_fold` says.
     pub(crate) fn do_news(
-        &mut self,
+        &self,
         gap: Gap,
         range: &SourceRange,
         old: String,
@@ -46,15 +47,19 @@ impl Program<'_> {
     /// they are only checked, the old book has its digest taken. Otherwise the rows of the range
     /// alone are read of a file in which bisection finds them.
     fn open_books<'t>(
-        &mut self,
+        &self,
         paths: &'t [String],
         range: &SourceRange,
         is_check: bool,
     ) -> Result<Vec<Counted<HostInput>>, Complaint<'t>> {
         let alloc = self.rt.alloc();
-        let mut inputs = open_all(self, alloc, paths)?;
-        if paths.len() < 2 && inputs.push(Counted::new(self.standard_input())).is_err() {
-            return Err(Complaint::OutOfMemory);
+        let mut opener = HostOpener::of_fold(self.rt, is_check);
+        let mut inputs = open_all(&mut opener, alloc, paths)?;
+        if paths.len() < 2 {
+            let standard = Counted::new(open_standard(&mut opener)?);
+            if inputs.push(standard).is_err() {
+                return Err(Complaint::OutOfMemory);
+            }
         }
         if is_check {
             return with_digest(alloc, inputs);

@@ -2,9 +2,10 @@
 ghost use Rattle.std.specs.Prelude.{◌≡◌, ◌≢◌, ◌∷◌, ◌≤◌, [], ℕ, IfErr, IfOk, OnOk, List, Option, None, length};
 ghost use Rattle.std.specs.IoError.{error_kind};
 ghost use Rattle.std.specs.Result.{result_err};
-ghost use Rattle.aprs_host.specs.Opening.{AreAt, Asked, AsksFor, IsKnownAs, StopsAtInput, StopsAtPath, complaint_at, opened};
+ghost use Rattle.aprs_host.specs.Opening.{AreAt, Asked, AsksFor, IsKnownAs, StopsAtInput, StopsAtPath, StopsAtStandard, complaint_at, opened, opened_inputs};
+ghost use Rattle.aprs_host.specs.Complaint.{standard_input};
 
-use crate::complaint::Complaint;
+use crate::complaint::{Complaint, STANDARD_INPUT};
 use aprs_io::Counted;
 use std::alloc::Allocator;
 use std::io::{self, ErrorKind, Read};
@@ -14,6 +15,8 @@ use std::io::{self, ErrorKind, Read};
 pub enum OpenFault {
     /// The system refuses it.
     Refused,
+    /// It is the file that the output goes to.
+    IsOutput,
     /// An allocation failed.
     Memory,
 }
@@ -45,15 +48,16 @@ pub trait Opener {
     /// The path at which an input is open, where it is known.
     ghost path_of: { Self.Input → Option (List ℕ) } = { λ _. None };
 
-    /// Opens the input of this path.
+    /// Opens the input of this path, or answers why it can't be.
     fn open(&mut self, path: &str) -> Result<Self::Input, OpenFault>
         ensures asks { AsksFor (asked self.old) (asked self.new)
             ((path.now, result_err result) ∷ []) }
         ensures at_path { IfOk result (λ input. IsKnownAs (path_of input) path.now) };
 
-    /// Standard input, where no path is given.
-    fn standard_input(&mut self) -> Self::Input
-        ensures asks { AsksFor (asked self.old) (asked self.new) [] };
+    /// Standard input, where no path is given, or why it can't be taken.
+    fn standard_input(&mut self) -> Result<Self::Input, OpenFault>
+        ensures asks { AsksFor (asked self.old) (asked self.new)
+            ((standard_input, result_err result) ∷ []) };
 }
 
 /// Opens all inputs, in the order of their paths. Where one can't be opened, or an allocation
@@ -88,7 +92,7 @@ pub fn open_all<'t, O: Opener, A: Allocator>(
 
 /// Opens all inputs, in the order of their paths, or takes standard input alone where there is no
 /// path. So there is at least one input. What is complained of is as `open_all` says, and without a
-/// path that memory was refused.
+/// path why standard input can't be taken, or that memory was refused.
 pub fn open_inputs<'t, O: Opener, A: Allocator>(
     opener: &mut O,
     alloc: A,
@@ -99,7 +103,7 @@ pub fn open_inputs<'t, O: Opener, A: Allocator>(
     ensures at_paths { IfOk result (λ inputs. (paths.entry.now ≡ [] → ⊥)
         → AreAt O.path_of inputs.items paths.entry.now) }
     ensures in_order { OnOk result (AsksFor (O.asked opener.old) (O.asked opener.new)
-        (opened paths.entry.now)) }
+        (opened_inputs paths.entry.now)) }
     ensures stops { IfErr result (StopsAtInput (O.asked opener.old) (O.asked opener.new)
         paths.entry.now) }
 {
@@ -107,18 +111,31 @@ pub fn open_inputs<'t, O: Opener, A: Allocator>(
         return open_all(opener, alloc, paths);
     }
     let mut inputs = Vec::new(alloc);
-    match inputs.push(Counted::new(opener.standard_input())) {
+    match inputs.push(Counted::new(open_standard(opener)?)) {
         Ok(()) => Ok(inputs),
         Err(_) => Err(Complaint::OutOfMemory),
     }
 }
 
-/// What is complained of where the input of this path can't be opened.
-pub(crate) fn complaint_of_open<'t>(path: &'t [u8], fault: OpenFault) -> Complaint<'t>
-    ensures { result ≡ complaint_at path.entry fault }
+/// Standard input, or what is complained of where it can't be taken.
+pub(crate) fn open_standard<O: Opener>(opener: &mut O) -> Result<O::Input, Complaint<'static>>
+    ensures asks { OnOk result (AsksFor (O.asked opener.old) (O.asked opener.new)
+        ((standard_input, None) ∷ [])) }
+    ensures stops { IfErr result (StopsAtStandard (O.asked opener.old) (O.asked opener.new)) }
+{
+    match opener.standard_input() {
+        Ok(input) => Ok(input),
+        Err(fault) => Err(complaint_of_open(STANDARD_INPUT.as_bytes(), fault)),
+    }
+}
+
+/// What is complained of where the input of this place can't be opened.
+pub(crate) fn complaint_of_open<'t>(place: &'t [u8], fault: OpenFault) -> Complaint<'t>
+    ensures { result ≡ complaint_at place.entry fault }
 {
     match fault {
-        OpenFault::Refused => Complaint::CannotOpen(path),
+        OpenFault::Refused => Complaint::CannotOpen(place),
+        OpenFault::IsOutput => Complaint::IsOutput(place),
         OpenFault::Memory => Complaint::OutOfMemory,
     }
 }

@@ -8,7 +8,7 @@ use std::process::ExitCode;
 
 /// Reads the program's arguments and does what they ask for. Returns the exit status.
 fn main(rt: HostRuntime) -> ExitCode {
-    let mut program = Program::new(&rt, "aprsbook-fold");
+    let program = Program::new(&rt, "aprsbook-fold");
     let arguments = match program.arguments() {
         Ok(arguments) => arguments,
         Err(complaint) => return program.report(complaint),

@@ -7,6 +7,10 @@ pub returns-in-CannotOpen : goal.returns-in-CannotOpen
 returns-in-CannotOpen g c = Puts-is c.put_two.ensures
     (sym (ap (λ (x : Complaint). words_of x) c.in-CannotOpen.is))
 
+pub returns-in-IsOutput : goal.returns-in-IsOutput
+returns-in-IsOutput g c = Puts-is c.put_two-in-IsOutput.ensures
+    (sym (ap (λ (x : Complaint). words_of x) c.in-IsOutput.is))
+
 pub returns-in-OtherGap : goal.returns-in-OtherGap
 returns-in-OtherGap g c = Puts-is c.put_two-in-OtherGap.ensures
     (sym (ap (λ (x : Complaint). words_of x) c.in-OtherGap.is))

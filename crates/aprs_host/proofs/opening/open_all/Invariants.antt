@@ -1,4 +1,4 @@
-use Rattle.aprs_host.proofs.Common.{◌≡◌, take, length}
+use Rattle.aprs_host.proofs.Common.{take}
 use Rattle.aprs_host.specs.Opening.{AreAt, AsksFor, opened}
 use Rattle.aprs_host.proofs.opening.open_all.Given as goal
 
