@@ -108,10 +108,10 @@ limits:
 reading:
 	build/reading.py
 
-# what is tried with the program: 0 to 100 inputs, 200,000 receptions, tables of random logs, the README
-# from its top, the old club's book, gaps, outputs that take nothing, what happens to books, folds, the
-# units, and each awk; and with all programs: what they complain of, the history, the tables, the version,
-# the packages, and the same on other machines
+# what is tried with the program: 0 to 100 inputs, 200,000 receptions, lines without an end, tables of
+# random logs, the README from its top, the old club's book, gaps, outputs that take nothing, what happens
+# to books, folds, the units, and each awk; and with all programs: what they complain of, the history, the
+# tables, the version, the packages, and the same on other machines
 of_programs = $(1:%=programs/%)
 TRIED = documents/readme $(call of_programs,old_book gaps full_output books fold) packages/units \
     programs/awks
@@ -120,6 +120,7 @@ TRIED_ALL = $(call of_programs,complaints history table) documents/version packa
 passes = { $(1) || { echo 'failed: $(1)' >&2; exit 1; }; } &&
 tries = $(call passes,tests/programs/arguments.py $(PROGRAM)) \
     $(call passes,tests/programs/ample.py $(PROGRAM)) \
+    $(call passes,tests/programs/endless_lines.py $(PROGRAM)) \
     $(call passes,tests/programs/table.py $(TABLE) 100) \
     $(foreach it,$(TRIED),$(call passes,tests/$(it).sh $(PROGRAM))) \
     $(foreach it,$(TRIED_ALL),$(call passes,tests/$(it).sh $(PROGRAM) $(HISTORY) $(TABLE)))

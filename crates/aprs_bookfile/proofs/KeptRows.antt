@@ -12,7 +12,7 @@ use Rattle.aprs_bookfile.specs.Text.{end_line, row_line, IsBookRow}
 use Rattle.aprs_bookfile.specs.TextFault.{is_end, IsWrong}
 use Rattle.aprs_bookfile.specs.Version.{form_of, gap_of}
 use Rattle.aprs_bookfile.specs.declared.fault.BookCause.TheVariants as cause
-use Rattle.aprs_bookfile.specs.Reader.{HasReadLines, HoldsIn, IsFault, JudgesHeader, JudgesLine, is_done, line_number}
+use Rattle.aprs_bookfile.specs.Reader.{HasReadLines, HoldsIn, IsFault, JudgesHeader, JudgesLine, is_done, is_first, line_number}
 use Rattle.aprs_bookfile.specs.ReadRows.{IsNextLine, StopsAfter}
 use Rattle.aprs_bookfile.specs.RowReader.{count_after, is_row_between, kept_after, list_of_row, row_at_stage, row_lent, rows_kept, HasReadTo, JudgesKept, KeepsRows, ReadsOne}
 use Rattle.aprs_bookfile.specs.declared.fault.BookCause.{BookCause}
@@ -22,6 +22,7 @@ use Rattle.aprs_bookfile.specs.declared.row_reader.Keeping.{Keeping}
 use Rattle.aprs_bookfile.specs.declared.row_reader.Keeping.TheVariants.{Each, Last}
 use Rattle.aprs_bookfile.specs.declared.row_reader.RowReader.{RowReader}
 use Rattle.aprs_bookfile.specs.declared.version.Version.{Version}
+use Rattle.aprs_bookfile.proofs.HeldLines.{nothing_held, nothing_lean}
 use Rattle.aprs_bookfile.proofs.Standing.{ended_fault, ended_stands, next_line}
 
 last_pushed : (rows : List Row) (x : Row) → last_or None (rows ++ x ∷ []) ≡ Some x
@@ -49,15 +50,17 @@ module _ {A : Type 0} (reader : RowReader A) (rows : List Row) (line t : List �
   reads_none : (stage next : Stage) → is_row_between stage next ≡ false
       → HasReadLines stage rows line t → count ≡ length rows
       → JudgesKept reader.keeping stage (Ok next) rows line reader.rows → reader.stage ≡ next
-      → reader.line.items ≡ [] → reader.count ≡ count → HasReadTo reader rows (t ++ 10 ∷ [])
+      → reader.line ≡ [] → reader.count ≡ count → HasReadTo reader rows (t ++ 10 ∷ [])
   reads_none stage next is s same j e f g =
       let new : j.new ≡ rows = none stage next is j.judged in
       let lines : HasReadLines next j.new [] (t ++ 10 ∷ []) =
       ended_stands stage next rows j.new line t j.judged s in
       record {
-        lines = subst (λ (u : Stage). HasReadLines u rows reader.line.items (t ++ 10 ∷ [])) (sym e)
-            (subst (λ (l : List ℕ). HasReadLines next rows l (t ++ 10 ∷ [])) (sym f)
-            (subst (λ (r : List Row). HasReadLines next r [] (t ++ 10 ∷ [])) new lines));
+        line = [];
+        lines = subst (λ (u : Stage). HasReadLines u rows [] (t ++ 10 ∷ [])) (sym e)
+            (subst (λ (r : List Row). HasReadLines next r [] (t ++ 10 ∷ [])) new lines);
+        held = nothing_held (is_first reader.stage) reader.line f;
+        lean = nothing_lean (is_first reader.stage) reader.line f;
         count = g ∙ same;
         kept = j.keeps ∙ ap (rows_kept reader.keeping) new;
       } where
@@ -74,7 +77,7 @@ module _ {A : Type 0} (reader : RowReader A) (rows : List Row) (line t : List �
   -- one row more, where both stages are of rows
   reads_row : (v w : Version) → HasReadLines (Rows v) rows line t → count ≡ length rows
       → JudgesKept reader.keeping (Rows v) (Ok (Rows w)) rows line reader.rows
-      → reader.stage ≡ Rows w → reader.line.items ≡ [] → reader.count ≡ count + 1
+      → reader.stage ≡ Rows w → reader.line ≡ [] → reader.count ≡ count + 1
       → ReadsOne true reader rows (t ++ 10 ∷ [])
   reads_row v w s same j e f g =
       let x = j.judged.1 in
@@ -91,10 +94,11 @@ module _ {A : Type 0} (reader : RowReader A) (rows : List Row) (line t : List �
         own,
         ap is_done e,
         record {
-          lines = subst (λ (u : Stage). HasReadLines u (rows ++ x ∷ []) reader.line.items
-              (t ++ 10 ∷ [])) (sym e)
-              (subst (λ (l : List ℕ). HasReadLines (Rows w) (rows ++ x ∷ []) l (t ++ 10 ∷ [])) (sym f)
-              (subst (λ (r : List Row). HasReadLines (Rows w) r [] (t ++ 10 ∷ [])) new lines));
+          line = [];
+          lines = subst (λ (u : Stage). HasReadLines u (rows ++ x ∷ []) [] (t ++ 10 ∷ [])) (sym e)
+              (subst (λ (r : List Row). HasReadLines (Rows w) r [] (t ++ 10 ∷ [])) new lines);
+          held = nothing_held (is_first reader.stage) reader.line f;
+          lean = nothing_lean (is_first reader.stage) reader.line f;
           count = g ∙ ap (λ n. n + 1) same ∙ sym (length-append rows (x ∷ []));
           kept = kept;
         },
@@ -103,7 +107,7 @@ module _ {A : Type 0} (reader : RowReader A) (rows : List Row) (line t : List �
   reads_between : (stage next : Stage) (b : Bool) → is_row_between stage next ≡ b
       → HasReadLines stage rows line t → count ≡ length rows
       → JudgesKept reader.keeping stage (Ok next) rows line reader.rows → reader.stage ≡ next
-      → reader.line.items ≡ [] → reader.count ≡ count_after b count
+      → reader.line ≡ [] → reader.count ≡ count_after b count
       → ReadsOne b reader rows (t ++ 10 ∷ [])
   reads_between stage next false is s same j e f g = reads_none stage next is s same j e f g
   reads_between Header next true is s same j e f g = absurd (let h : false ≡ true = is in cc)
@@ -117,7 +121,7 @@ module _ {A : Type 0} (reader : RowReader A) (rows : List Row) (line t : List �
       → reader.keeping ≡ keeping → reader.rows ≡ kept → b ≡ is_row_between stage next
       → HasReadLines stage rows line t → count ≡ length rows
       → JudgesKept keeping stage (Ok next) rows line kept → reader.stage ≡ next
-      → reader.line.items ≡ [] → reader.count ≡ count_after b count
+      → reader.line ≡ [] → reader.count ≡ count_after b count
       → ReadsOne b reader rows (t ++ 10 ∷ [])
   reads_line keeping kept stage next b k r is s same j =
       reads_between stage next b (sym is) s same

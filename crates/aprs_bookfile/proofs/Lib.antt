@@ -8,6 +8,7 @@ pub mod Deciding
 pub mod Digits
 pub mod Spellings
 pub mod Standing
+pub mod HeldLines
 pub mod Inputs
 pub mod KeptLines
 pub mod KeptRows
@@ -16,6 +17,7 @@ pub mod LastRows
 pub mod OneCause
 pub mod OneFault
 pub mod OneText
+pub mod RowPlaces
 pub mod RowReading
 pub mod RowStreams
 pub mod SameFaults

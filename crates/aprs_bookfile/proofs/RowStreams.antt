@@ -124,7 +124,7 @@ module _ {R A : Type 0} (remaining : R → Option (List ℕ)) (limit : ℕ) (hea
         (λ g held. (
           held.0,
           held.1,
-          record { lines = held.2.lines; count = held.2.count },
+          record { line = held.2.line; lines = held.2.lines; count = held.2.count },
         )) h.got;
     calls = h.calls;
   }
@@ -217,7 +217,7 @@ faulty_end remaining now next old reader e going reads ends calls = λ limit hea
       line = line_number reader.stage n;
       cause = ending_cause e;
     })) (sym k.count)
-    (cut_fault reader.stage rows reader.line.items t e (may_end-going reader.stage e going) k.lines)))
+    (cut_fault reader.stage rows k.line t e (may_end-going reader.stage e going) k.lines)))
 
 -- ---- after the last line
 
@@ -238,7 +238,7 @@ after_is reader rows t bytes done some few h =
     (t ++ bytes)) (sym h.count)
     (fault_near (length bytes + 0) most_ahead _ (t ++ bytes) (omega (arith, few))
     (subst (IsFault (length bytes + 0) _) (append-nil (t ++ bytes))
-    (after_fault reader.stage rows reader.line.items t bytes [] done some h.lines)))
+    (after_fault reader.stage rows h.line t bytes [] done some h.lines)))
 
 -- an allocation fails in the last line
 pub last_refused : {R A : Type 0} (remaining : R → Option (List ℕ)) (limit : ℕ) (head : List ℕ)
@@ -255,7 +255,7 @@ last_refused remaining limit head first now stream rows f is done none few h =
     subst (λ (x : BookFault). IsFault most_ahead x g) (sym is)
     (subst (λ n. IsFault most_ahead (record { line = n + 2; cause = cause.Memory }) g) (sym k.count)
     (fault_near 1 most_ahead _ g (omega arith) (done_refused stream.reader.stage rows
-    stream.reader.line.items g done (omega (arith, few, k.count)) k.lines)))) h.got)
+    k.line g done (omega (arith, few, k.count)) k.lines)))) h.got)
 
 -- What is answered of all that was got is this.
 abbrev pub EndsAs : {R A : Type 0} → (R → Option (List ℕ)) → Counted R → Counted R → RowStream A

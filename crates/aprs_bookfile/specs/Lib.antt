@@ -9,6 +9,7 @@ pub mod RowLines
 pub mod Reader
 pub mod Reading
 pub mod ReadRows
+pub mod HeldLine
 pub mod KeptLine
 pub mod RowFields
 pub mod Seconds
@@ -16,5 +17,6 @@ pub mod Text
 pub mod TextFault
 pub mod Version
 pub mod Piece
+pub mod RowPlace
 pub mod RowReader
 pub mod RowStream

@@ -55,6 +55,12 @@ gap_in Header = standard_gap
 gap_in (Rows v) = gap_of v
 gap_in (Done v) = gap_of v
 
+-- Whether the line that comes next is the first one.
+abbrev pub is_first : Stage → Bool
+is_first Header = true
+is_first (Rows v) = false
+is_first (Done v) = false
+
 -- Whether the last line was read.
 abbrev pub is_done : Stage → Bool
 is_done Header = false

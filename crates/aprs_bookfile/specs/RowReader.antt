@@ -3,7 +3,8 @@ use Rattle.std.specs.Prelude.{◌≡◌, ℕ, ◌+◌, Bool, true, false, List, 
 use Rattle.std.specs.List.{last_or}
 use Rattle.aprs_transmissions.specs.BookValue.{BookValue}
 use Rattle.aprs_transmissions.specs.Row.{Row}
-use Rattle.aprs_bookfile.specs.Reader.{HasReadLines, is_done, JudgesLine}
+use Rattle.aprs_bookfile.specs.HeldLine.{IsHeldOf, IsLean}
+use Rattle.aprs_bookfile.specs.Reader.{HasReadLines, is_done, is_first, JudgesLine}
 use Rattle.aprs_bookfile.specs.ReadRows.{StopsAfter}
 use Rattle.aprs_bookfile.specs.declared.fault.BookCause.{BookCause}
 use Rattle.aprs_bookfile.specs.declared.fault.BookFault.{BookFault}
@@ -81,24 +82,30 @@ pub record JudgesKept (keeping : Keeping) (stage : Stage) (answer : Result Stage
 abbrev pub most_stream : ℕ
 most_stream = 9223372036854775807
 
--- How many rows there were, and how many bytes of a line the reader keeps, together.
+-- How many rows there were, and how many bytes of a line the reader holds, together.
 abbrev pub size_read : {A : Type 0} → RowReader A → ℕ
-size_read reader = reader.count + length reader.line.items
+size_read reader = reader.count + length reader.line
 
 -- The row that is lent, or none.
 abbrev pub row_lent : {A : Type 0} → RowReader A → List Row
 row_lent reader = row_at_stage reader.stage reader.rows
 
--- The reader has read this text, which has these rows, whatever it keeps of them.
+-- The reader has read this text, which has these rows, whatever it keeps of them. `line` is the
+-- beginning of the next line.
 pub record HasReadText {A : Type 0} (reader : RowReader A) (rows : List Row) (text : List ℕ)
     : Type 0 where
-  pub lines : HasReadLines reader.stage rows reader.line.items text
+  pub line : List ℕ
+  pub lines : HasReadLines reader.stage rows line text
   pub count : reader.count ≡ length rows
 
--- The reader has read this text, and keeps of its rows those that it is to keep.
+-- The reader has read this text, and keeps of its rows those that it is to keep. It holds of the
+-- next line's beginning, `line`, no more than decides what that line is.
 pub record HasReadTo {A : Type 0} (reader : RowReader A) (rows : List Row) (text : List ℕ)
     : Type 0 where
-  pub lines : HasReadLines reader.stage rows reader.line.items text
+  pub line : List ℕ
+  pub lines : HasReadLines reader.stage rows line text
+  pub held : IsHeldOf (is_first reader.stage) reader.line line
+  pub lean : IsLean (is_first reader.stage) reader.line
   pub count : reader.count ≡ length rows
   pub kept : reader.rows ≡ rows_kept reader.keeping rows
 

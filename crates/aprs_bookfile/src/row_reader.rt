@@ -15,11 +15,12 @@ ghost use Rattle.aprs_bookfile.specs.RowReader.{answer_read, count_after, is_row
 
 use crate::end_line::end_line;
 use crate::fault::{BookCause, BookFault};
+use crate::held_line::HeldLine;
 use crate::kept_rows::KeptRows;
 use crate::lent_row::LentRow;
 use crate::row_buffers::RowBuffers;
 use crate::row_line::read_row;
-use crate::stage::{Stage, ending_cause, is_done, judge_end, judge_header, may_end};
+use crate::stage::{Stage, ending_cause, is_done, is_first, judge_end, judge_header, may_end};
 use crate::version::Version;
 use aprs_io::InputEnd;
 use aprs_log::MomentForm;
@@ -45,7 +46,7 @@ pub enum Keeping {
 /// the beginning of the next line.
 #[derive(Drop)]
 pub struct RowReader<A: Allocator> {
-    line: Vec<u8, A>,
+    line: HeldLine<A>,
     stage: Stage,
     buffers: RowBuffers,
     keeping: Keeping,
@@ -59,10 +60,11 @@ impl<A: Allocator + Copy> RowReader<A> {
     /// A reader that has read nothing of a text, and is to keep these rows of it.
     pub fn new(alloc: A, keeping: Keeping) -> RowReader<A>
         ensures reads { HasReadTo result [] [] }
+        ensures size { size_read result ≡ 0 }
         ensures keeping { result.keeping ≡ keeping }
     {
         RowReader {
-            line: Vec::new(alloc),
+            line: HeldLine::new(alloc),
             stage: Stage::Header,
             buffers: RowBuffers::new(),
             keeping,
@@ -130,13 +132,14 @@ impl<A: Allocator + Copy> RowReader<A> {
         replace(&mut self.rows, KeptRows::new(alloc)).into_rows()
     }
 
-    /// Keeps bytes, none of them an LF, after those that are kept of the line.
+    /// Takes bytes, none of them an LF, after those that were taken of the line. They are held as
+    /// far as they decide what the line is: once it is wrong whatever follows, no more are.
     pub fn append(&mut self, bytes: &[u8]) -> Result<(), BookFault>
         requires few { size_read self.old ≤ most_stream }
         requires going { Spec.is_done self.old.stage ≡ false }
         ensures stands { OnOk result ((rows : List Row) (t : List ℕ) → HasReadTo self.old rows t
             → Lacks 10 bytes.now → HasReadTo self.new rows (t ++ bytes.now)) }
-        ensures size { OnOk result (size_read self.new ≡ size_read self.old + length bytes.now) }
+        ensures size { OnOk result (size_read self.new ≤ size_read self.old + length bytes.now) }
         ensures stage { self.new.stage ≡ self.old.stage }
         ensures keeping { self.new.keeping ≡ self.old.keeping }
         ensures fault { IfErr result (λ fault. (rows : List Row) (t more : List ℕ)
@@ -146,15 +149,15 @@ impl<A: Allocator + Copy> RowReader<A> {
             → HasReadTo self.old rows t → StopsHere fault self.new) }
         ensures cause { IfErr result (λ fault. Spec.IsOfText fault.cause) }
     {
-        match self.line.extend_from_slice(bytes) {
+        match self.line.extend(is_first(self.stage), bytes) {
             Ok(()) => Ok(()),
             Err(_) => Err(self.fault(BookCause::Memory)),
         }
     }
 
-    /// Judges the line that is the kept bytes and then `part`. Returns whether it is a row's, which
-    /// then is the last row; and then no bytes are kept. Fails where the line is wrong, or with
-    /// `Memory` as `BookCause` says it. After a fault bytes may still be kept.
+    /// Judges the line that is the bytes taken and then `part`. Returns whether it is a row's, which
+    /// then is the last row; and then no bytes are held. Fails where the line is wrong, or with
+    /// `Memory` as `BookCause` says it. After a fault bytes may still be held.
     pub fn end_line(&mut self, part: &[u8]) -> Result<bool, BookFault>
         requires few { size_read self.old + length part.now ≤ most_stream }
         requires going { Spec.is_done self.old.stage ≡ false }
@@ -180,10 +183,10 @@ impl<A: Allocator + Copy> RowReader<A> {
         self.take_kept_line()
     }
 
-    /// Judges a whole line, where no bytes are kept, and returns whether it is a row's.
+    /// Judges a whole line, where no bytes are held, and returns whether it is a row's.
     fn take_line(&mut self, line: &[u8]) -> Result<bool, BookFault>
         requires few { size_read self.old + length line.now ≤ most_stream }
-        requires none { self.old.line.items ≡ [] }
+        requires none { self.old.line ≡ [] }
         requires going { Spec.is_done self.old.stage ≡ false }
         ensures reads { IfOk result (λ is_row. (rows : List Row) (t : List ℕ)
             → HasReadTo self.old rows t → Lacks 10 line.now
@@ -212,8 +215,8 @@ impl<A: Allocator + Copy> RowReader<A> {
         }
     }
 
-    /// Judges the kept bytes as a whole line, and returns whether it is a row's. Then none are
-    /// kept; after a fault they stay.
+    /// Judges the bytes held as a whole line, and returns whether it is a row's. Then none are
+    /// held; after a fault they stay.
     fn take_kept_line(&mut self) -> Result<bool, BookFault>
         requires few { size_read self.old ≤ most_stream }
         requires going { Spec.is_done self.old.stage ≡ false }
@@ -251,7 +254,7 @@ impl<A: Allocator + Copy> RowReader<A> {
         ensures row { result ≡ is_row_between self.old.stage stage }
         ensures stage { self.new.stage ≡ stage }
         ensures count { self.new.count ≡ count_after result self.old.count }
-        ensures line { self.new.line.items ≡ self.old.line.items }
+        ensures line { self.new.line ≡ self.old.line }
         ensures rows { self.new.rows ≡ self.old.rows }
         ensures keeping { self.new.keeping ≡ self.old.keeping }
     {

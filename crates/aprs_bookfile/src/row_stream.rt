@@ -45,9 +45,9 @@ impl<A: Allocator + Copy> RowStream<A> {
         RowStream::with_head(alloc, limit, &[], Keeping::Last)
     }
 
-    /// The rows of a text of at most `limit` bytes, which begins with `head`. Each row is kept. Fails
-    /// with `Memory` in the first line where an allocation failed. Requires a head of at most 8
-    /// bytes and at most `limit`.
+    /// The rows of a text of at most `limit` bytes, which begins with `head`. Each row is kept.
+    /// Fails with `Memory` in the first line where an allocation failed. Requires a head of at most
+    /// 8 bytes and at most `limit`.
     pub fn keeping_each(alloc: A, limit: u64, head: &[u8]) -> Result<RowStream<A>, BookFault>
         requires few { length head.now ≤ 8 }
         requires within { length head.now ≤ limit }
@@ -146,9 +146,9 @@ impl<A: Allocator + Copy> RowStream<A> {
         self.end(source)
     }
 
-    /// Reads on to the end of the last line. The stream has to keep each row. Fails with the text's first fault,
-    /// or with `Memory` where an allocation failed. After `Memory` the rows are those of the lines
-    /// before the one that the fault names.
+    /// Reads on to the end of the last line. The stream has to keep each row. Fails with the text's
+    /// first fault, or with `Memory` where an allocation failed. After `Memory` the rows are those
+    /// of the lines before the one that the fault names.
     pub fn read_lines<R: Read>(&mut self, source: &mut Counted<R>) -> Result<(), BookFault>
         requires few { Spec.stream_size self.old ≤ most_stream }
         requires each { self.old.reader.keeping ≡ Keeping.Each }

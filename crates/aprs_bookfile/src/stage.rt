@@ -21,6 +21,16 @@ pub enum Stage {
     Done(Version),
 }
 
+/// Whether the line that comes next is the first one.
+pub fn is_first(stage: Stage) -> bool
+    ensures { result ≡ Spec.is_first stage }
+{
+    match stage {
+        Stage::Header => true,
+        Stage::Rows(_) | Stage::Done(_) => false,
+    }
+}
+
 /// Whether the last line was read.
 pub fn is_done(stage: Stage) -> bool
     ensures { result ≡ Spec.is_done stage }

@@ -101,8 +101,8 @@ fn precision_at(text: &[u8]) -> Option<Precision>
 }
 
 /// An angle of hundredths of a minute, counted in smaller parts: a hundredth has `parts` of them.
-/// `more` of them are added away from 0: downwards in the negative half of the globe, also where the
-/// angle is 0.
+/// `more` of them are added away from 0: downwards in the negative half of the globe, also where
+/// the angle is 0.
 fn finer(parts: u8, more: u8, is_negative: bool, angle: i32) -> i64
     requires few { parts < 92 }
     ensures exact { result ≡ Spec.finer parts more is_negative angle }
@@ -177,8 +177,8 @@ impl SignedPrecision {
         Some(SignedPrecision { digits, halves })
     }
 
-    /// The first further digits in the comment of a Mic-E position, with the halves that the letters
-    /// of its destination name. `None` where the comment has none. Takes no memory.
+    /// The first further digits in the comment of a Mic-E position, with the halves that the
+    /// letters of its destination name. `None` where the comment has none. Takes no memory.
     pub fn of_mic_e(letters: &[u8], comment: &[u8]) -> Option<SignedPrecision>
         ensures { result ≡ Spec.mic_e_signed_precision_of letters.now comment.now }
     {
