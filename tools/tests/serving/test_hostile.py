@@ -245,6 +245,27 @@ def test_idle_connections_do_not_keep_others_out(net: Served) -> None:
         it.close()
 
 
+def test_a_token_has_so_many_connections(net: Served) -> None:
+    """One more of it is told so, and others aren't held up."""
+    words = head(net, "GET", "/who")
+    with contextlib.ExitStack() as stack:
+        held = [stack.enter_context(socket.create_connection(("127.0.0.1", net.port), timeout=20))
+                for _ in range(16)]
+        for it in held * 2:  # a connection counts once, however often it shows the token
+            it.sendall(words)
+            assert it.recv(65536).startswith(b"HTTP/1.1 200")
+        answer = net.ask("GET", "/who", token="GUEST")
+        assert answer.status == 429
+        assert answer.body == b"429 Too Many Connections Of One Token\n"
+        assert net.said.count("read GUEST has too many connections (--each-token)") == 1
+        assert net.ask("GET", "/who", token="BASE").status == 200
+        # a connection that shows another token is that one's
+        held[0].sendall(head(net, "GET", "/who", token="BASE"))
+        assert held[0].recv(65536).startswith(b"HTTP/1.1 200")
+        assert net.ask("GET", "/who", token="GUEST").status == 200
+    wait_for(lambda: net.ask("GET", "/who", token="GUEST").status == 200, "room again")
+
+
 def test_bodies_of_strangers_take_no_memory(tmp_path: pathlib.Path) -> None:
     with serving(tmp_path) as net, contextlib.ExitStack() as stack:
         assert net.process

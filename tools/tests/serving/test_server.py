@@ -19,7 +19,7 @@ from aprsbook_tools.serving import server  # noqa: E402
 def served(ask: Callable[[int], Awaitable[None]], tls: Optional[ssl.SSLContext] = None) -> None:
     """Asks a server of nothing, which lends patience for half a second."""
     async def run() -> None:
-        its = server.server_of(tornado.web.Application([]), tls, 10, 5, False)
+        its = server.server_of(tornado.web.Application([]), tls, server.Bounds(10, 5, 3), False)
         port = server.listen(its, tcp.Place("127.0.0.1", 0))
         try:
             await asyncio.wait_for(ask(port), 20)

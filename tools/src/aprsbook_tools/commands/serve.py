@@ -107,6 +107,8 @@ def add_bounds(parser: argparse.ArgumentParser) -> None:
                         metavar="N", help="so many at most (500)")
     parser.add_argument("--each", type=arguments.whole_number(1, 60_000), default=200,
                         metavar="N", help="so many of one address (200)")
+    parser.add_argument("--each-token", type=arguments.whole_number(1, 60_000), default=16,
+                        metavar="N", help="so many of who show one token (16)")
     parser.add_argument("--quota", type=arguments.whole_number(1, 1024), default=256, metavar="MB",
                         help="so large a log of a day, or a journal, may become by pushing (256)")
 
@@ -158,9 +160,8 @@ async def serve(args: argparse.Namespace) -> None:
     store = Store(args.logs, args.quota << 20, say, hub.look_at)
     net = Net(store, hub, tokens, page, settings, args.connections, say)
     net.is_secure = tls is not None or args.behind_proxy
-    its = server.server_of(application(net), tls, args.connections,
-                           args.connections if args.behind_proxy else args.each,
-                           args.behind_proxy)
+    bounds = server.Bounds(args.connections, args.each, args.each_token)
+    its = server.server_of(application(net), tls, bounds, args.behind_proxy)
     net.know = its.know
     port = server.listen(its, args.listen)
     net.hosts = server.hosts_of(args.listen, port, args.hosts, net.is_secure)

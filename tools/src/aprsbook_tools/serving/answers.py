@@ -47,7 +47,9 @@ class Answer(tornado.web.RequestHandler):
         if not self.is_allowed(grant):
             raise tornado.web.HTTPError(403, reason="Not Yours")
         self.granted = grant
-        self.net.know(self.request.connection)
+        if not self.net.know(self.request.connection, grant):
+            self.net.say_hourly(f"{grant} has too many connections (--each-token)")
+            raise tornado.web.HTTPError(429, reason="Too Many Connections Of One Token")
         self.net.meet(grant, self.address)
 
     @property

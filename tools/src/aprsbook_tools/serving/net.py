@@ -61,7 +61,8 @@ class Net:
         self.page, self.settings, self.most = page, settings, listeners
         self.hosts: List[str] = []  # by which names it is asked
         self.is_secure = False  # whether browsers reach it by TLS alone
-        self.know: Callable[[Any], None] = lambda connection: None
+        # takes a connection as one of who has shown this; whether there is room for it
+        self.know: Callable[[Any, Grant], bool] = lambda connection, grant: True
         self.listening = 0
         self.wrong = Wrong()
         self.sites: Dict[str, Site] = {}
@@ -83,13 +84,17 @@ class Net:
             it()
 
     def meet(self, grant: Grant, address: str) -> None:
-        """Says who connects, once an hour."""
-        key, now = f"{grant} {address}", time.monotonic()
-        if now - self._seen.get(key, -HOUR) >= HOUR:
-            self.say(f"{grant if grant.token else 'somebody'} is there, from {address}")
+        """Says who connects."""
+        self.say_hourly(f"{grant if grant.token else 'somebody'} is there, from {address}")
+
+    def say_hourly(self, words: str) -> None:
+        """Says something of who comes again and again, and again where an hour went by without."""
+        now = time.monotonic()
+        if now - self._seen.get(words, -HOUR) >= HOUR:
+            self.say(words)
         if len(self._seen) > 10_000:
             self._seen.clear()
-        self._seen[key] = now
+        self._seen[words] = now
 
     def hear_of(self, name: str, day: str, clock: Optional[float], refused: int) -> None:
         """What a push says of a site: its clock, and a day that no page shows."""

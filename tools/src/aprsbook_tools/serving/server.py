@@ -1,11 +1,12 @@
 """The server: where it listens, for how many, and with what bounds."""
 import asyncio
+import collections
 import ipaddress
 import re
 import signal
 import socket
 import ssl
-from typing import Any, Dict, List, Optional, Tuple
+from typing import Any, Counter, Dict, List, NamedTuple, Optional, Tuple, TypeVar
 
 import tornado.httpserver
 import tornado.httputil
@@ -14,6 +15,7 @@ import tornado.web
 
 from aprsbook_tools.errors import ExitStatus, Fault, said
 from aprsbook_tools.frame_sources import tcp
+from aprsbook_tools.serving.tokens import Grant
 
 BODY = 1 << 20  # bytes of a request
 HEAD = 1 << 16
@@ -27,39 +29,63 @@ LOOPBACK = ["127.0.0.1", "::1"]
 REFUSAL = b"HTTP/1.1 %s\r\nConnection: close\r\nContent-Length: 0\r\n\r\n"
 
 Stream = tornado.iostream.IOStream
+Key = TypeVar("Key")
+
+
+class Bounds(NamedTuple):
+    """How many connections there are at most: of all, of an address, and of a token."""
+    all: int
+    address: int
+    token: int
 
 
 class Server(tornado.httpserver.HTTPServer):
-    """Holds so many connections at most, of all and of an address. For one more, the oldest that
-    has shown no token goes, and where each has, the new one."""
+    """Holds so many connections at most. For one more of all or of an address, the oldest that has
+    shown no token goes, and where each has, the new one; one more of a token is refused."""
 
     def initialize(  # type: ignore[override] # as Tornado has it made, with more words
-            self, *args: Any, most: int, each: int, **named: Any) -> None:
+            self, *args: Any, bounds: Bounds, **named: Any) -> None:
         super().initialize(*args, **named)
-        self.most, self.each = most, each
-        self.addresses: Dict[str, int] = {}
+        self.bounds = bounds
+        self.addresses: Counter[str] = collections.Counter()
+        self.holders: Counter[Grant] = collections.Counter()
+        self.shown: Dict[Stream, Grant] = {}  # what was shown last
         self.hosts: Dict[Stream, str] = {}
         self.strangers: Dict[Stream, str] = {}  # the oldest first
         self.bodies: Dict[Stream, int] = {}  # bytes that strangers send
 
     def handle_stream(self, stream: Stream, address: Tuple[Any, ...]) -> None:
         host = str(address[0])
-        is_full = len(self.hosts) >= self.most
-        if is_full or self.addresses.get(host, 0) >= self.each:
+        is_full = len(self.hosts) >= self.bounds.all
+        if is_full or self.addresses[host] >= self.bounds.address:
             oldest = next((it for it, of in self.strangers.items() if is_full or of == host), None)
             if oldest is None:
                 stream.close()
                 return
             self.forget(oldest)
             oldest.close()
-        self.addresses[host] = self.addresses.get(host, 0) + 1
+        self.addresses[host] += 1
         self.strangers[stream] = host
         self.hosts[stream] = host
         super().handle_stream(stream, address)
 
-    def know(self, connection: Any) -> None:
-        """Who holds this connection has shown a token."""
-        self.strangers.pop(connection.stream, None)
+    def know(self, connection: Any, grant: Grant) -> bool:
+        """Who holds this connection has shown a token; whether that has room for it."""
+        stream = connection.stream
+        if stream in self.hosts and self.shown.get(stream) != grant:
+            if grant.token and self.holders[grant] >= self.bounds.token:
+                return False
+            self.leave(stream)
+            self.shown[stream] = grant
+            self.holders[grant] += 1
+        self.strangers.pop(stream, None)
+        return True
+
+    def leave(self, stream: Stream) -> None:
+        """A connection is no longer one of what was shown by it."""
+        grant = self.shown.pop(stream, None)
+        if grant is not None:
+            less(self.holders, grant)
 
     def admits(self, stream: Stream, size: int) -> bool:
         """Whether there is room for a body of so many bytes, which a stranger's takes until `had`
@@ -77,11 +103,10 @@ class Server(tornado.httpserver.HTTPServer):
     def forget(self, stream: Stream) -> None:
         self.strangers.pop(stream, None)
         self.had(stream)
+        self.leave(stream)
         host = self.hosts.pop(stream, None)
         if host is not None:
-            self.addresses[host] -= 1
-            if not self.addresses[host]:
-                del self.addresses[host]
+            less(self.addresses, host)
 
     def on_close(self, server_conn: Any) -> None:
         self.forget(server_conn.stream)
@@ -89,6 +114,13 @@ class Server(tornado.httpserver.HTTPServer):
 
     def start_request(self, server_conn: object, request_conn: Any) -> "Strict":
         return Strict(super().start_request(server_conn, request_conn), request_conn.stream, self)
+
+
+def less(counts: Counter[Key], key: Key) -> None:
+    """There is one less of a key."""
+    counts[key] -= 1
+    if not counts[key]:
+        del counts[key]
 
 
 class Strict(tornado.httputil.HTTPMessageDelegate):
@@ -127,11 +159,13 @@ class Strict(tornado.httputil.HTTPMessageDelegate):
         self.own.on_connection_close()
 
 
-def server_of(application: tornado.web.Application, tls: Optional[ssl.SSLContext], most: int,
-              each: int, behind_proxy: bool) -> Server:
+def server_of(application: tornado.web.Application, tls: Optional[ssl.SSLContext], bounds: Bounds,
+              behind_proxy: bool) -> Server:
     """A server with its bounds. Behind a proxy, which is on this machine, it is the proxy that says
-    who asks, and how."""
-    return Server(application, ssl_options=tls, most=most, each=each, max_body_size=BODY,
+    who asks, and how; all connections are of its address."""
+    if behind_proxy:
+        bounds = bounds._replace(address=bounds.all)
+    return Server(application, ssl_options=tls, bounds=bounds, max_body_size=BODY,
                   max_header_size=HEAD, max_buffer_size=2 * BODY, chunk_size=HEAD,
                   idle_connection_timeout=IDLE, body_timeout=BODY_TIME, xheaders=behind_proxy,
                   trusted_downstream=LOOPBACK if behind_proxy else None)
