@@ -3,7 +3,7 @@ import asyncio
 import os
 import pathlib
 import random
-from typing import Dict, List, Set
+from typing import Callable, Dict, List, Set, Tuple
 
 import pytest
 from hypothesis import given, settings
@@ -37,6 +37,31 @@ def test_a_torn_record_is_none(payloads: List[bytes], at: int, other: bytes) -> 
     octets[at:at + len(other)] = bytes(a ^ b for a, b in zip(octets[at:], other))
     found = [it.payload for it in records_in(bytes(octets))]
     assert found == payloads[:len(found)]
+
+
+def test_a_record_that_is_cut_at_each_byte(tmp_path: pathlib.Path, monkeypatch: pytest.MonkeyPatch
+                                           ) -> None:
+    """The power fails while a record is written over those of long ago: any of its first bytes are
+    on the disk. It is whole or none, and those before it stand."""
+    monkeypatch.setattr(journal, "SIZE", 4 * BLOCK)
+    it = Journal(str(tmp_path), lambda names: None)
+    it.begin()
+    for _ in range(10):
+        it.put([("old", b"x\n" * 100)])
+    it.freeing.result()
+    begin, file = it.halves[0].end, it.halves[0]
+    before = file.read()
+    it.put([("new", b"y\n" * 2500)])
+    assert it.halves[0] is file
+    now, whole = file.read(), len(Record(it.number, b"new 5000\n" + b"y\n" * 2500).write())
+    own = [of.payload for of in records_in(before[:begin])]
+    assert own and begin + whole == file.end
+    size = len(now[begin:begin + whole].rstrip(b"\0"))
+    for cut in range(size + 1):
+        found = records_in(now[:begin + cut] + before[begin + cut:])
+        assert [of.payload for of in found][:len(own)] == own
+        assert len(found) == len(own) + (cut == size), cut
+    it.end()
 
 
 def test_both_halves_are_used_in_turn(tmp_path: pathlib.Path, monkeypatch: pytest.MonkeyPatch
@@ -80,12 +105,16 @@ class Disk:
 
     def __init__(self, folder: pathlib.Path, monkeypatch: pytest.MonkeyPatch) -> None:
         self.folder, self.synced = folder, {}  # type: pathlib.Path, Dict[pathlib.Path, bytes]
+        self.on_sync: Callable[[], object] = lambda: None
         own = line_file.sync_data
 
         def sync(file: int) -> None:
-            own(file)
             path = pathlib.Path(os.readlink(f"/proc/self/fd/{file}"))
-            self.synced[path] = path.read_bytes()
+            octets = path.read_bytes()
+            own(file)
+            if len(octets) >= len(self.synced.get(path, b"")):  # of two threads the later one
+                self.synced[path] = octets
+            self.on_sync()
         for module in line_file, journal:
             monkeypatch.setattr(module, "sync_data", sync)
 
@@ -106,6 +135,15 @@ class Disk:
                 if chance.random() < .5:
                     octets[at:at + 512] = now[at:min(at + 512, size)]
             path.write_bytes(octets)
+
+
+    def lay(self, folder: pathlib.Path, synced: Dict[pathlib.Path, bytes]) -> pathlib.Path:
+        """A folder with nothing but what was synced."""
+        for path, octets in synced.items():
+            it = folder / path.relative_to(self.folder)
+            it.parent.mkdir(parents=True, exist_ok=True)
+            it.write_bytes(octets)
+        return folder
 
 
 def day_of(number: int) -> str:
@@ -136,6 +174,30 @@ def test_what_was_acknowledged_outlives_power_failures(
         check(folder, acknowledged)
         assert {path.name for path in (folder / HIDDEN).iterdir()} == {
             "journal-0", "journal-1", "lock"}
+
+
+def test_the_power_fails_behind_each_sync(tmp_path: pathlib.Path, monkeypatch: pytest.MonkeyPatch
+                                          ) -> None:
+    """Nothing is on the disk but what was synced by then: what was acknowledged before is there."""
+    chance, acknowledged = random.Random(89), {}  # type: random.Random, Dict[str, List[bytes]]
+    for module, name, size in ((journal, "SIZE", 8 * BLOCK), (store, "SIZE", 8 * BLOCK),
+                               (store, "LARGE", 3000), (store, "FREE", 0)):
+        monkeypatch.setattr(module, name, size)
+    disk = Disk(tmp_path / "net", monkeypatch)
+    failures: List[Tuple[Dict[str, List[bytes]], Dict[pathlib.Path, bytes]]] = []
+    disk.on_sync = lambda: failures.append((
+        {name: [*lines] for name, lines in acknowledged.items()}, {**disk.synced}))
+    it = Store(str(disk.folder), 1 << 20, lambda text: None, lambda path: None)
+    for _ in range(25):
+        asyncio.run(add_some(it, chance, acknowledged))
+    it.end()
+    disk.on_sync = lambda: None
+    assert len(failures) > 30
+    for number, (before, synced) in enumerate(failures):
+        folder = disk.lay(tmp_path / str(number), synced)
+        Store(str(folder), 1 << 20, lambda text: None, lambda path: None).end()
+        check(folder, before)
+    check(folder, acknowledged)
 
 
 async def add_some(it: Store, chance: random.Random, acknowledged: Dict[str, List[bytes]]) -> None:
