@@ -6,6 +6,7 @@ import os
 import pathlib
 import shutil
 import sqlite3
+from collections import Counter
 from typing import Dict, List
 
 import pytest
@@ -116,17 +117,17 @@ def test_a_line_is_made_simpler_by_no_more_than_is_said() -> None:
 
 def test_the_box_of_an_event_leaves_out_what_is_far_from_all() -> None:
     spots = [Spot(54.5 + k / 100, -3.5) for k in range(8)]
-    box = gshhg.box_around(spots)
-    assert box == gshhg.box_around([*spots, Spot(10, 20)]) and box is not None
+    box = gshhg.box_around(Counter(spots))
+    assert box == gshhg.box_around(Counter([*spots, Spot(10, 20)])) and box is not None
     assert box.south < 544_500 and box.north > 546_200
     assert box.west < -36_500 and box.east > -33_500
     # over the date line, and too wide, too far north, nothing
-    over = gshhg.box_around([Spot(-16.5, 179.9), Spot(-16.8, -179.9)])
+    over = gshhg.box_around(Counter([Spot(-16.5, 179.9), Spot(-16.8, -179.9)]))
     assert over is not None and over.west < 1_799_000 and over.east > 1_801_000
     nothing: List[List[Spot]] = [[], [Spot(40, 0), Spot(46.1, 0)], [Spot(85.1, 0)]]
-    assert [gshhg.box_around(it) for it in nothing] == [None] * 3
+    assert [gshhg.box_around(Counter(it)) for it in nothing] == [None] * 3
     # where a degree east is short, so many of them are an event
-    svalbard = gshhg.box_around([Spot(78.2, 15.6), Spot(78.6, 12.0)])
+    svalbard = gshhg.box_around(Counter([Spot(78.2, 15.6), Spot(78.6, 12.0)]))
     assert svalbard is not None and svalbard.east - svalbard.west > 10 * gshhg.UNIT
 
 
@@ -146,7 +147,7 @@ def is_installed() -> bool:
 @pytest.mark.skipif(not is_installed(), reason="needs gmt and gmt-gshhg-high")
 def test_a_fine_coast_has_land_and_sea_where_they_are() -> None:
     """St Bees Head and Skiddaw's foot; the Solway Firth, and the sea off St Bees."""
-    box = gshhg.box_around([Spot(54.45, -3.62), Spot(54.7, -3.2)])
+    box = gshhg.box_around(Counter([Spot(54.45, -3.62), Spot(54.7, -3.2)]))
     assert box is not None
     found = gshhg.rings_in(box, "h")
     for spot, wanted in ((Spot(54.513, -3.62), True), (Spot(54.75, -3.71), False),
@@ -182,7 +183,7 @@ def test_a_coast_that_gmt_has_not_is_said_and_the_page_made(
 
 def squares(at: Spot, levels: int) -> Dict[str, bytes]:
     """A square for each of the first levels, by its way, and others far away."""
-    box = gshhg.box_around([at])
+    box = gshhg.box_around(Counter([at]))
     assert box is not None
     made = {}
     for z in range(levels):
@@ -267,7 +268,7 @@ def test_squares_of_pmtiles_are_numbered_as_the_specification_has_them() -> None
 
 
 def test_pmtiles_that_are_damaged_are_refused(tmp_path: pathlib.Path) -> None:
-    box = gshhg.box_around([Spot(54.5, -3.6)])
+    box = gshhg.box_around(Counter([Spot(54.5, -3.6)]))
     assert box is not None
     whole = archive(squares(Spot(54.5, -3.6), 5))
     # a head of another version, vector squares, cut within head, directory and squares, no gzip
@@ -285,7 +286,7 @@ def test_a_level_that_has_no_room_is_left_out_and_said(
     for way, data in made.items():
         (tmp_path / way).parent.mkdir(parents=True, exist_ok=True)
         (tmp_path / (way + ".png")).write_bytes(data)
-    box = gshhg.box_around([Spot(54.5, -3.6)])
+    box = gshhg.box_around(Counter([Spot(54.5, -3.6)]))
     assert box is not None
     one = len(base64.b64encode(PNG + bytes(1000)))
     before = sum(way < "5" for way in made)

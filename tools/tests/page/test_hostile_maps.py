@@ -3,6 +3,7 @@ import gzip
 import pathlib
 import sqlite3
 import time
+from collections import Counter
 from typing import Any, Dict, List
 
 import pytest
@@ -18,7 +19,7 @@ SPOT = Spot(54.5, -3.6)
 
 
 def tiles_in(path: pathlib.Path, most: int = 10**7) -> Dict[str, str]:
-    box = gshhg.box_around([SPOT])
+    box = gshhg.box_around(Counter([SPOT]))
     assert box is not None
     return basemap.tiles_in(str(path), box, most)
 

@@ -67,8 +67,9 @@ def make(args: argparse.Namespace) -> bool:
     with atomic.writing(place, read, is_named=False) as new:
         merged_inputs.write_book(new.file, [], args.gap, found.log)
     below = functools.partial(basemap.of, args)
-    page = options.page_of(place, args.gap, said, below, found.notes)
-    atomic.write(text, page.encode("utf-8", "surrogateescape"), read, is_named=False)
+    with options.page_of(place, args.gap, said, below, found.notes) as pieces, \
+            atomic.writing(text, read, is_named=False) as new:
+        new.file.writelines(pieces)
     return not found.is_faulty
 
 

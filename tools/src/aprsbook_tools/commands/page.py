@@ -10,7 +10,7 @@ from aprsbook_tools.page.options import brought, files_of, page_of
 from aprsbook_tools.reports.roster import read_roster, text_of
 from aprsbook_tools.serving import desk_options
 from aprsbook_tools.serving.entries import Journals
-from aprsbook_tools.system import atomic
+from aprsbook_tools.system import atomic, streams
 
 DESCRIPTION = """A page of logs and books in one file that asks for nothing else: open it as it is,
 mail it, or put it on a web server. The same inputs in any order give the same bytes. All that came
@@ -49,7 +49,7 @@ def run(args: argparse.Namespace) -> int:
     said, gap = brought(args), table_output.gap_of(args)
     if args.desks is not None:
         said = with_desks(said, desk_options.read(args.desks))
-    with merged_inputs.book(args.inputs, gap) as book:
-        text = page_of(book, gap, said, functools.partial(basemap.of, args))
-    atomic.put(args.output, text, [*args.inputs, *files_of(args)])
+    with merged_inputs.book(args.inputs, gap) as book, \
+            page_of(book, gap, said, functools.partial(basemap.of, args)) as pieces:
+        streams.put(args.output, pieces, [*args.inputs, *files_of(args)])
     return 0

@@ -1,13 +1,15 @@
 """What lies below the marks of a page: a fine coast, and squares of a web map."""
 import argparse
 import base64
+import collections
 import contextlib
 import functools
 import math
 import os
 import re
 import sqlite3
-from typing import Any, Callable, Dict, Iterator, List, NamedTuple, Optional, Sequence, Tuple
+from typing import (
+    Any, Callable, Counter, Dict, Iterable, Iterator, NamedTuple, Optional, Sequence, Tuple)
 
 from aprsbook_tools import arguments, stderr
 from aprsbook_tools.errors import Fault
@@ -225,9 +227,18 @@ def quoted(path: str) -> str:
     return path.replace("%", "%25").replace("?", "%3f").replace("#", "%23")
 
 
-def spots_of(rows: str) -> List[Spot]:
-    """The places of a table of rows."""
-    return [it.spot for it in tracks.places_of(table.read(table.Row, rows.splitlines()))]
+def spots_of(rows: Iterable[str]) -> Counter[Spot]:
+    """The places in the lines of a table of rows, and how many rows have each."""
+    spots: Counter[Spot] = collections.Counter()
+    shown = collections.Counter(table.tuples(table.Row, rows, ("latitude", "longitude")))
+    try:
+        for (north, east), count in shown.items():
+            if north and east:
+                spots[Spot(float(north), float(east))] += count
+    except ValueError as fault:
+        raise Fault(f"the table of rows: {fault}") from fault
+    del spots[tracks.NO_FIX]
+    return spots
 
 
 @functools.lru_cache(maxsize=None)
@@ -236,10 +247,10 @@ def say(words: str) -> None:
     stderr.note(words)
 
 
-def of(args: argparse.Namespace, rows: str) -> Dict[str, Any]:
-    """What a page of this table has below its marks."""
+def of(args: argparse.Namespace, rows: Iterable[str]) -> Dict[str, Any]:
+    """What a page of the lines of this table has below its marks."""
     ground: Dict[str, Any] = {}
-    spots = spots_of(rows) if args.coast == "fine" or args.tiles else []
+    spots = spots_of(rows) if args.coast == "fine" or args.tiles else collections.Counter()
     if args.coast == "fine":
         try:
             coast = gshhg.around(spots, event_page.world_coast())

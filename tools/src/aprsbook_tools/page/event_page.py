@@ -1,13 +1,15 @@
 """The page of an event: a template that is filled, and maps that are drawn below all else."""
+import contextlib
 import functools
 import html
 import json
 import pathlib
 import pkgutil
 import re
+import tempfile
 import xml.etree.ElementTree
 import zipfile
-from typing import Any, Dict, List, Optional
+from typing import IO, Any, Dict, Iterator, List, Mapping, Optional
 
 import aprsbook_tools
 from aprsbook_tools.books import inputs
@@ -68,21 +70,52 @@ def world_coast() -> str:
     return found[1].strip()
 
 
+def in_html(json_text: str) -> str:
+    """JSON that can stand in HTML."""
+    return json_text.replace("&", "\\u0026").replace("<", "\\u003c").replace(">", "\\u003e")
+
+
 def as_data(value: Any) -> str:
     """A value as JSON that can stand in HTML."""
-    text = json.dumps(value, ensure_ascii=False, separators=(",", ":"))
-    return text.replace("&", "\\u0026").replace("<", "\\u003c").replace(">", "\\u003e")
+    return in_html(json.dumps(value, ensure_ascii=False, separators=(",", ":")))
+
+
+def data_pieces(data: Dict[str, Any], tables: Mapping[str, IO[bytes]]) -> Iterator[str]:
+    """Data as JSON that can stand in HTML, and behind them tables, however long these are."""
+    text = as_data(data)
+    if not tables:
+        yield text
+        return
+    before = text[:-1]
+    for name, file in tables.items():
+        yield f'{before},"{name}":"'
+        file.seek(0)
+        for block in iter(lambda: file.read(programs.BLOCK), b""):
+            yield in_html(json.dumps(block.decode("ascii"), ensure_ascii=False)[1:-1])
+        before = '"'
+    yield '"}'
+
+
+def pieces(page: str, data: Dict[str, Any], tables: Mapping[str, IO[bytes]]) -> Iterator[str]:
+    """A page with these data: title, live, silent, gap, maps, roster, notes; of a book the tables
+    rows and messages. One that is live may ask its server for more."""
+    values = {
+        "TITLE": html.escape(data["title"]),
+        "CONNECT": "; connect-src 'self'" if data["live"] else "",
+    }
+    texts = iter(MARKS.split(page))
+    yield next(texts)
+    for mark in texts:
+        if mark == "DATA":
+            yield from data_pieces(data, tables)
+        else:
+            yield values[mark]
+        yield next(texts)
 
 
 def filled(page: str, data: Dict[str, Any]) -> str:
-    """A page with these data: title, live, silent, gap, maps, roster, notes; of a book the tables
-    rows and messages. One that is live may ask its server for more."""
-    values: Dict[str, str] = {
-        "TITLE": html.escape(data["title"]),
-        "DATA": as_data(data),
-        "CONNECT": "; connect-src 'self'" if data["live"] else "",
-    }
-    return MARKS.sub(lambda it: values[it[1]], page)
+    """The same as a text, of data that have the tables too."""
+    return "".join(pieces(page, data, {}))
 
 
 def check_spot(north: Any, east: Any) -> None:
@@ -152,16 +185,13 @@ def read_map(path: str) -> str:
     return text
 
 
-def texts_of(book: str, gap: Optional[int]) -> Dict[str, str]:
-    """What the page has of a book: two of its tables, as they are."""
-    texts = {}
-    with inputs.named([book]) as names:
+@contextlib.contextmanager
+def tables_of(book: str, gap: Optional[int]) -> Iterator[Dict[str, IO[bytes]]]:
+    """What the page has of a book: two of its tables, in files that go away."""
+    with contextlib.ExitStack() as stack, inputs.named([book]) as names:
+        files: Dict[str, IO[bytes]] = {}
         for name in "rows", "messages":
+            files[name] = stack.enter_context(tempfile.TemporaryFile())
             command = programs.with_gap(["aprsbook-table", name], gap, names)
-            texts[name] = programs.run(*command).decode("ascii")
-    return texts
-
-
-def page_of(data: Dict[str, Any]) -> str:
-    """The page of these data."""
-    return filled(template(), data)
+            programs.run(*command, into=files[name])
+        yield files

@@ -4,7 +4,7 @@ import math
 import os
 import subprocess
 import tempfile
-from typing import Iterator, List, Optional, Sequence
+from typing import Counter, Iterable, Iterator, List, Optional, Sequence, Tuple
 
 from aprsbook_tools.errors import Fault
 from aprsbook_tools.geo import DEGREE_METRES, Spot, eastward, metres_between
@@ -24,26 +24,36 @@ MOST_BYTES = 60_000
 SECONDS = 60
 
 
-def near(spots: Sequence[Spot]) -> List[Spot]:
+def in_order(values: Iterable[Tuple[float, int]], number: int) -> float:
+    """What stands at a place in the order of values, each of which is there so often."""
+    for value, count in sorted(values):
+        number -= count
+        if number < 0:
+            return value
+    raise IndexError("no value stands there")
+
+
+def near(spots: Counter[Spot]) -> List[Spot]:
     """Most of these places; a few that lie far from all others may be damaged."""
-    if len(spots) < 4:
+    count = sum(spots.values())
+    if count < 4:
         return list(spots)
-    half = len(spots) // 2
-    middle = Spot(sorted(it.north for it in spots)[half], sorted(it.east for it in spots)[half])
-    apart = [metres_between(middle, it) for it in spots]
-    most = max(10 * sorted(apart)[(3 * len(spots) - 3) // 4], 20_000.0)
-    return [it for it, metres in zip(spots, apart) if metres <= most]
+    middle = Spot(in_order(((it.north, of) for it, of in spots.items()), count // 2),
+                  in_order(((it.east, of) for it, of in spots.items()), count // 2))
+    apart = {it: metres_between(middle, it) for it in spots}
+    usual = in_order(((apart[it], of) for it, of in spots.items()), (3 * count - 3) // 4)
+    return [it for it in spots if apart[it] <= max(10 * usual, 20_000.0)]
 
 
-def box_around(spots: Sequence[Spot]) -> Optional[Box]:
+def box_around(spots: Counter[Spot]) -> Optional[Box]:
     """A box around most of these places that is three times as wide and as high, for any window, or
     None where that is too wide. Its east may lie beyond 180 degrees."""
-    spots = near(spots)
-    if not spots:
+    places = near(spots)
+    if not places:
         return None
-    first = spots[0].east
-    east = [first + eastward(first, it.east) for it in spots]
-    north = [it.north for it in spots]
+    first = places[0].east
+    east = [first + eastward(first, it.east) for it in places]
+    north = [it.north for it in places]
     low, high, west, right = min(north), max(north), min(east), max(east)
     if max(-low, high) > MOST_NORTH:
         return None
@@ -133,7 +143,7 @@ def is_near_rough(box: Box, text: str) -> bool:
     return False
 
 
-def around(spots: Sequence[Spot], rough: str) -> str:
+def around(spots: Counter[Spot], rough: str) -> str:
     """The fine coast around these places, as text for a page. It is empty where they are all over
     the world. A Fault says why there is none, where `rough`, that of the world, is near."""
     box = box_around(spots)

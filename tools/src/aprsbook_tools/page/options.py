@@ -1,13 +1,15 @@
 """What a page is told beside its inputs, and the page of it."""
 import argparse
+import contextlib
+import itertools
 import os
-from typing import Any, Callable, Dict, List, Optional, Sequence
+from typing import Any, Callable, Dict, Iterable, Iterator, List, Optional, Sequence
 
 from aprsbook_tools import arguments, stderr
 from aprsbook_tools.formats import book_file
 from aprsbook_tools.page import basemap, event_page
 from aprsbook_tools.reports.roster import read_roster
-from aprsbook_tools.system import atomic, user_text
+from aprsbook_tools.system import atomic, programs, user_text
 
 
 def add_options(parser: argparse.ArgumentParser) -> None:
@@ -67,21 +69,24 @@ def brought(args: argparse.Namespace) -> Dict[str, Any]:
     }
 
 
+@contextlib.contextmanager
 def page_of(
     book: str,
     gap: Optional[int],
     said: Dict[str, Any],
-    below: Callable[[str], Dict[str, Any]],
+    below: Callable[[Iterable[str]], Dict[str, Any]],
     notes: Sequence[str] = (),
-) -> str:
-    """The page of a book; what lies below its marks is made of the table of rows."""
+) -> Iterator[Iterator[bytes]]:
+    """The page of a book in pieces, however large it is; what lies below its marks is made of the
+    lines of the table of rows."""
     # in the order of a page that the page saves
     data: Dict[str, Any] = {"title": said["title"], "gap": gap or book_file.GAP, **said}
     data["notes"] = [*said["notes"], *notes]
-    texts = event_page.texts_of(book, gap)
-    data.update(below(texts["rows"]))
-    data.update(texts)
-    return event_page.page_of(data)
+    with event_page.tables_of(book, gap) as tables:
+        tables["rows"].seek(0)
+        data.update(below(itertools.chain.from_iterable(programs.lines_in(tables["rows"]))))
+        pieces = event_page.pieces(event_page.template(), data, tables)
+        yield (it.encode("utf-8", "surrogateescape") for it in pieces)
 
 
 def files_of(args: argparse.Namespace) -> List[str]:
