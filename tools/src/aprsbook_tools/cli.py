@@ -1,4 +1,5 @@
 """The command aprs-net: finds the subcommand, runs it, and says what went wrong."""
+import gc
 import os
 import signal
 import sys
@@ -28,6 +29,7 @@ Write a log of the TNC at port 8001, and make a page of it:
 
 
 LEAST_PYTHON = (3, 9)
+OBJECTS = 50_000  # new ones, after which rings of them are looked for: rows of tables are none
 
 
 class Ended(BaseException):
@@ -144,6 +146,7 @@ def main(arguments: Optional[Sequence[str]] = None) -> int:
         stderr.warn("it needs Python %d.%d or later, and this is %d.%d" % (
             *LEAST_PYTHON, *sys.version_info[:2]))
         return ExitStatus.MISSING
+    gc.set_threshold(OBJECTS)
     signals.heed(end, "SIGTERM", "SIGHUP")
     try:
         status = run(arguments)

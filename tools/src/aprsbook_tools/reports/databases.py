@@ -70,11 +70,11 @@ def columns_of(kind: Type[Any]) -> Dict[str, str]:
     }
 
 
-def converter_of(name: str, read: Callable[[str], Any]) -> table_files.ConvertColumn:
+def converter_of(name: str, read: Callable[[str], Any]) -> table.ConvertColumn:
     """What makes the values of a column of what is shown there; nothing stays an empty text."""
     if name in SENT:
         return lambda values: values
-    return table_files.converter(read, lambda cell: cell, "", table_files.is_escaped)
+    return table_files.converter(read, lambda cell: cell, "", table.is_escaped)
 
 
 def is_null(name: str, read: Callable[[str], Any]) -> bool:

@@ -15,6 +15,8 @@ from aprsbook_tools.system import programs
 
 T = TypeVar("T")
 Columns = List[Sequence[Any]]  # the values of each column of some rows
+ConvertColumn = Callable[[Sequence[str]], Sequence[Any]]
+Changes = Callable[[str], bool]  # says of the lines of a column whether one has to be written anew
 SHOWN = re.compile(r"((?:\\x[0-9a-f]{2})+)|\\\\")
 BIDI = frozenset("\u061c\u200e\u200f\u202a\u202b\u202c\u202d\u202e\u2066\u2067\u2068\u2069")
 
@@ -302,38 +304,52 @@ def tuples(kind: Type[Any], lines: Iterable[str], names: Sequence[str],
         yield from map(layout.pick, rows)
 
 
-def columns(kind: Type[Any], lines: Iterable[str], time: Time = ALWAYS) -> Iterator[Columns]:
-    """All columns of the table's lines, as they are shown, of those of a time: of many lines at
-    once."""
+def columns(kind: Type[Any], lines: Iterable[str], time: Time = ALWAYS,
+            names: Sequence[str] = ()) -> Iterator[Columns]:
+    """All columns of the table's lines, or those of these names, as they are shown, of the lines of
+    a time: of many lines at once."""
     lines = iter(lines)
-    layout = Layout(kind, next(lines, ""), columns_of(kind), time)
-    for rows in layout.rows(lines):
-        if rows:
-            turned = [*zip(*rows)]
-            yield [turned[it] for it in layout.at]
+    layout = Layout(kind, next(lines, ""), names or columns_of(kind), time)
+    for rows in filter(None, layout.rows(lines)):
+        turned = [*zip(*rows)]
+        yield [turned[it] for it in layout.at]
+
+
+def converter(read: Callable[[str], Any], empty: Any, changes: Optional[Changes] = None
+              ) -> ConvertColumn:
+    """What converts a column that is shown: what is alike is read once, and one that is empty is
+    `empty`. All stand as they are where nothing changes one of them."""
+    def convert(values: Sequence[str]) -> Sequence[Any]:
+        if not any(values):
+            return [empty] * len(values)
+        if changes is not None and not changes("\n".join(values)):
+            return values
+        known = {it: read(it) for it in {*values}}
+        known[""] = empty
+        return [*map(known.__getitem__, values)]
+    return convert
+
+
+def is_escaped(lines: str) -> bool:
+    """Whether a line of what is shown isn't what it stands for."""
+    return "\\" in lines
 
 
 def read(kind: Type[T], lines: Iterable[str], names: Sequence[str] = (),
          time: Time = ALWAYS) -> Iterator[T]:
     """The table's lines as dataclasses of a kind, or as named tuples of some of its columns."""
-    make: Callable[[List[Any]], Any] = lambda values: kind(*values)
+    make: Callable[..., Any] = kind
     if names:
-        make = cast(Any, collections.namedtuple(kind.__name__, names))._make
+        make = cast(Any, collections.namedtuple(kind.__name__, names))
     names = names or columns_of(kind)
-    readers = [*enumerate(map(readers_of(kind).__getitem__, names))]
-    texts = [at for at, reads in readers if reads is text_of]
-    others = [(at, reads) for at, reads in readers if reads is not text_of]
-    for values in tuples(kind, lines, names, time):
-        row: List[Any] = [*values]
-        for at in texts:
-            if "\\" in row[at]:
-                row[at] = text_of(row[at])
+    own = [converter(it, it(""), is_escaped if it is text_of else None)
+           for it in map(readers_of(kind).__getitem__, names)]
+    for shown in columns(kind, lines, time, names):
         try:
-            for at, reads in others:
-                row[at] = reads(row[at])
+            values = [convert(it) for convert, it in zip(own, shown)]
         except ValueError as fault:
             raise Fault(f"the table of {WORDS[kind]}: {fault}") from fault
-        yield make(row)
+        yield from map(make, *values)
 
 
 def lines_of(kind: Type[Any], inputs: Sequence[str], gap: Optional[int] = None,

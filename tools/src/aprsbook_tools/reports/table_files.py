@@ -10,11 +10,9 @@ from aprsbook_tools.books import merged_inputs
 from aprsbook_tools.formats.spreadsheet import Cell, cell_text, quoted
 from aprsbook_tools.reports import table, tactical
 from aprsbook_tools.reports.roster import Roster
-from aprsbook_tools.reports.table import Columns
+from aprsbook_tools.reports.table import Changes, Columns, ConvertColumn, is_escaped
 
 Convert = Callable[[Any], Any]
-ConvertColumn = Callable[[Sequence[str]], Sequence[Any]]
-Changes = Callable[[str], bool]  # says of the lines of a column whether one has to be written anew
 TEXTS = (table.text_of, table.names, table.yes)  # what reads texts
 SAME = re.compile(r"-?(?:[1-9][0-9]{0,4}\.|0\.(?!000))[0-9]{0,9}[1-9]")
 BEGIN = re.compile(r"\n[^0-9A-Za-z\n]")  # of what begins no word and no number
@@ -32,11 +30,6 @@ def csv_field(cell: Cell) -> str:
     return quoted(cell_text(cell))
 
 
-def is_escaped(lines: str) -> bool:
-    """Whether a line of what is shown isn't what it stands for."""
-    return "\\" in lines
-
-
 def is_unlike_csv(lines: str) -> bool:
     """Whether CSV may have a line in another way: escaped, in quotes, or as a formula."""
     return any(it in lines for it in '\\",\r') or BEGIN.search(f"\n{lines}") is not None
@@ -45,15 +38,9 @@ def is_unlike_csv(lines: str) -> bool:
 def converter(read: Convert, write: Convert, empty: Any, changes: Changes) -> ConvertColumn:
     """What converts a column that is shown: each value is read and written, and one that is empty
     is `empty`. Texts stand as they are, unless that changes one of them."""
-    def convert(values: Sequence[str]) -> Sequence[Any]:
-        if not any(values):
-            return [empty] * len(values)
-        if read in TEXTS and empty == "" and not changes("\n".join(values)):
-            return values
-        known = {it: write(cell_of(read(it))) for it in {*values}}
-        known[""] = empty
-        return [known[it] for it in values]
-    return convert
+    are_texts = read in TEXTS and empty == ""
+    return table.converter(lambda shown: write(cell_of(read(shown))), empty,
+                           changes if are_texts else None)
 
 
 def decimals(write: Callable[[Cell], str]) -> ConvertColumn:

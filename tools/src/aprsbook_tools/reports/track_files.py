@@ -92,7 +92,7 @@ def markup(text: str) -> str:
         octets = found[0].encode("utf-8", "surrogatepass")
         return "".join(f"\\x{it:02x}" for it in octets)
 
-    return escape(NO_XML.sub(put, text)).replace('"', "&quot;")
+    return escape(text if text.isprintable() else NO_XML.sub(put, text)).replace('"', "&quot;")
 
 
 def with_tracks(

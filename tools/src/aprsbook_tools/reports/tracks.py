@@ -10,6 +10,7 @@ from aprsbook_tools.reports.table import Row
 from aprsbook_tools.system import sorting
 
 KINDS = ("station", "object", "item")
+OF_NAME = {"object": 1, "item": 2}  # the kinds of rows that give the place of what has a name
 NO_FIX = Spot(0, 0)
 # the columns that are read
 COLUMNS = (
@@ -58,8 +59,7 @@ class Thing:
     @property
     def now(self) -> Place:
         """The place that was heard last."""
-        number = max(range(len(self.places)), key=lambda it: (*heard(self.places[it]), it))
-        return self.places[number]
+        return max(reversed(self.places), key=heard)  # of those of one moment the last
 
     @property
     def has_moved(self) -> bool:
@@ -97,25 +97,19 @@ def spoken_of(row: Row) -> "Place | None":
     return Place("station", row.source, spot, row)
 
 
-def places_of(rows: Iterable[Row]) -> Iterator[Place]:
-    """Each place of rows, as they stand."""
-    for row in rows:
-        place = place_of(row)
-        if place:
-            yield place
-
-
 def things_of(rows: Iterable[Row]) -> List[Thing]:
     """Stations, then objects, then items, each kind by name, with their places."""
-    return [*each_thing(rows)]
+    return [*each_thing(SortedRow(*VALUES(it)) for it in rows)]
 
 
 def each_thing(rows: Iterable[Row]) -> Iterator[Thing]:
-    """The same one by one, of however many rows: of each thing the places are in memory, by the
-    moment when each was first heard; those of one moment as they stand."""
+    """The same one by one, of however many rows, which are named tuples of COLUMNS: of each thing
+    the places are in memory, by the moment when each was first heard; those of one moment as they
+    stand."""
     places = sorting.in_order(sortable(rows))
     for (kind, name), own in itertools.groupby(places, key=lambda it: it[:2]):
-        found = settled(spoken for *_, values in own if (spoken := spoken_of(SortedRow(*values))))
+        rows = (SortedRow(*values) for *_, values in own)
+        found = settled(filter(None, map(spoken_of, rows)))
         if found:
             yield Thing(KINDS[kind], name, found)
 
@@ -127,8 +121,9 @@ def sortable(rows: Iterable[Row]) -> Iterator[Tuple[int, str, str, int, Tuple[An
         if north is None or east is None:
             continue
         if north or east or row.state == "killed":
-            kind = KINDS.index(row.kind) if row.kind in KINDS else 0
-            yield kind, row.name if kind else row.source, row.first, number, VALUES(row)
+            kind = OF_NAME.get(row.kind, 0)
+            values = tuple(cast(Tuple[Any, ...], row))
+            yield kind, row.name if kind else row.source, row.first, number, values
 
 
 def settled(places: Iterable[Place]) -> Tuple[Place, ...]:
