@@ -8,7 +8,7 @@ from typing import List, Optional, Set
 import pytest
 
 from aprsbook_tools.formats import log_file
-from conftest import EVENING, HERE, environment, tried
+from conftest import EVENING, HERE, environment, lay_script, tried
 
 PATH = os.environ["PATH"]
 ALL = "hill", "coast", "north"
@@ -66,8 +66,7 @@ def club(request: pytest.FixtureRequest, tmp_path_factory: pytest.TempPathFactor
             pytest.skip("needs aprsbook")
         return Club(folder, PATH)
     for name in "aprsbook", "aprsbook-fold", "aprsbook-table":
-        shutil.copy(HERE / "stand_in.py", bin / name)
-        (bin / name).chmod(0o755)
+        lay_script(bin / name, (HERE / "stand_in.py").read_text())
     rest = [it for it in PATH.split(os.pathsep)
             if not os.path.exists(os.path.join(it, "aprsbook-fold"))]
     return Club(folder, os.pathsep.join([str(bin), *rest]), bin)

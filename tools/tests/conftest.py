@@ -1,15 +1,18 @@
 """What the tests share: the command, the examples, and what is left out without a program."""
 import csv
+import functools
 import io
 import os
 import pathlib
 import shutil
 import subprocess
 import sys
+import tempfile
 import time
 from typing import Any, Callable, Dict, List, Optional
 
 import pytest
+from forking import Forking
 from hypothesis import settings
 
 pytest_plugins = ["clubs", "standing"]  # their fixtures `club` and `programs`
@@ -19,10 +22,20 @@ SOURCES = HERE.parent / "src"
 SAMPLES = HERE / "samples"  # what other programs wrote themselves
 EXAMPLES = HERE.parent.parent / "examples"
 EVENING = sorted(str(it) for it in EXAMPLES.glob("evening/*.log"))
+KEPT = "PYTHONPYCACHEPREFIX"  # says where Python keeps what it has compiled
 SHARING = {"test_cluster": 2, "test_hostile": 1, "test_serving": 1}
 
 settings.register_profile("net", deadline=None, max_examples=100)
 settings.load_profile("net")
+
+
+def pytest_configure(config: pytest.Config) -> None:
+    """What Python compiles of the sources is kept for all processes that tests begin: to compile is
+    half of a start."""
+    if KEPT not in os.environ:
+        folder = tempfile.mkdtemp(prefix="aprs-net-compiled-")
+        os.environ[KEPT] = folder  # also that of the processes of pytest-xdist
+        config.add_cleanup(lambda: shutil.rmtree(folder, ignore_errors=True))
 
 
 def pytest_collection_modifyitems(items: List[pytest.Item]) -> None:
@@ -36,8 +49,9 @@ def pytest_collection_modifyitems(items: List[pytest.Item]) -> None:
 
 def environment(**more: str) -> Dict[str, str]:
     """The environment in which the command runs from its sources, buffered as a user's is."""
-    own = {name: it for name, it in os.environ.items() if name != "PYTHONUNBUFFERED"}
-    return {**own, "PYTHONPATH": str(SOURCES), "PYTHONDONTWRITEBYTECODE": "1", **more}
+    own = {name: it for name, it in os.environ.items()
+           if name not in ("PYTHONUNBUFFERED", "PYTHONDONTWRITEBYTECODE")}
+    return {**own, "PYTHONPATH": str(SOURCES), **more}
 
 
 def command(*arguments: object) -> List[str]:
@@ -45,11 +59,20 @@ def command(*arguments: object) -> List[str]:
     return [sys.executable, "-m", "aprsbook_tools", *map(str, arguments)]
 
 
+@functools.lru_cache(maxsize=None)
+def forking() -> Forking:
+    """A process that has aprs-net imported."""
+    return Forking(environment())
+
+
 def tried(*arguments: object, given: bytes = b"", status: int = 0,
           **keywords: Any) -> "subprocess.CompletedProcess[bytes]":
     """What aprs-net, which ends so, prints and says."""
     keywords.setdefault("env", environment())
-    done = subprocess.run(command(*arguments), input=given, capture_output=True, **keywords)
+    if forking().can_run(keywords):
+        done = forking().run([*map(str, arguments)], given, **keywords)
+    else:
+        done = subprocess.run(command(*arguments), input=given, capture_output=True, **keywords)
     assert b"Traceback" not in done.stderr, done.stderr.decode()
     assert done.returncode == status, (arguments, done)
     return done
@@ -79,6 +102,12 @@ def wait_for(condition: Callable[[], Any], words: str = "", seconds: float = 20)
             return value
         assert time.monotonic() < end, f"waited in vain: {words}"
         time.sleep(0.02)
+
+
+def lay_script(path: pathlib.Path, text: str) -> None:
+    """Writes a script of Python, which begins quickly: it finds the standard library alone."""
+    path.write_text(f"#!{sys.executable} -SE\n{text}")
+    path.chmod(0o755)
 
 
 def program(name: str) -> str:

@@ -2,11 +2,10 @@
 import dataclasses
 import os
 import pathlib
-import stat
-import sys
 from typing import Any, Dict, Iterable, Iterator, List, Sequence
 
 import pytest
+from conftest import lay_script
 
 from aprsbook_tools import cli, table_output
 from aprsbook_tools.reports import track_files, tracks
@@ -14,19 +13,19 @@ from aprsbook_tools.reports.roster import Roster
 from aprsbook_tools.reports.table import WORDS, Message, Row, Station, Thing, columns_of
 
 # prints the table that is asked for, and as a book what it is given; it notes how it was called
-SCRIPT = """#!{python}
-import os, pathlib, sys
-here = pathlib.Path({folder!r})
+SCRIPT = """\
+import os, sys
 name = os.path.basename(sys.argv[0])
 words = [it for it in sys.argv[1:] if it in {words!r}]
 given = sys.argv[sys.argv.index("--") + 1:] if "--" in sys.argv else []
-read = b"".join(pathlib.Path(it).read_bytes() for it in given) if given else sys.stdin.buffer.read()
-with open(here / "calls", "a") as calls:
+read = b"".join(open(it, "rb").read() for it in given or [0])
+with open({folder!r} + "/calls", "a") as calls:
     calls.write(" ".join([name, *sys.argv[1:]]) + "\\n")
 if read.startswith(b"faulty"):
     sys.exit(f"{{name}}: {{given[0] if given else 'standard input'}}: line 1: Moment")
 if name == "aprsbook-table":
-    sys.stdout.buffer.write((here / ((words or ["rows"])[0] + ".tsv")).read_bytes())
+    path = {folder!r} + "/" + (words or ["rows"])[0] + ".tsv"
+    sys.stdout.buffer.write(open(path, "rb").read())
 elif sys.argv[1:2] == ["merge"]:
     sys.stdout.buffer.write(b"APRSBOOK 3 30\\n" + read)
 else:
@@ -136,9 +135,7 @@ class Programs:
         bin_folder.mkdir()
         words = [*WORDS.values()]
         for name in "aprsbook", "aprsbook-table":
-            script = bin_folder / name
-            script.write_text(SCRIPT.format(python=sys.executable, folder=str(folder), words=words))
-            script.chmod(script.stat().st_mode | stat.S_IXUSR)
+            lay_script(bin_folder / name, SCRIPT.format(folder=str(folder), words=words))
         patch.setenv("PATH", f"{bin_folder}{os.pathsep}{os.environ['PATH']}")
         self.say()
 

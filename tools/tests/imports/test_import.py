@@ -548,7 +548,7 @@ class Endless(io.RawIOBase):
 
 @pytest.mark.parametrize("name", ["monitor", "aprx", "yaac", "xastir", "direwolf-csv", "atest"])
 def test_no_line_is_held_without_a_bound(name: str) -> None:
-    file = io.BufferedReader(Endless(64 << 20))
+    file = io.BufferedReader(Endless(16 << 20))
     options = Options(start=0)
     tracemalloc.start()
     try:

@@ -9,7 +9,6 @@ import shutil
 import signal
 import socket
 import subprocess
-import sys
 import time
 from typing import Any, Dict, Iterator, List, Optional, Tuple
 
@@ -17,7 +16,7 @@ import pytest
 
 from aprsbook_tools.formats import moments
 from aprsbook_tools.serving import tokens
-from conftest import HERE, environment, started, wait_for
+from conftest import HERE, environment, lay_script, started, wait_for
 
 pytest.importorskip("tornado", reason="needs Tornado (Debian: python3-tornado)")
 
@@ -139,15 +138,12 @@ class Served:
 
 
 def stand_in(folder: pathlib.Path) -> str:
-    """A folder with a stand-in for aprsbook, which is begun quickly; nothing where it is there."""
+    """A folder with a stand-in for aprsbook; nothing where it is there."""
     if shutil.which("aprsbook"):
         return ""
     bin_folder = folder / "bin"
     bin_folder.mkdir(exist_ok=True)
-    text = (HERE / "stand_in.py").read_text().splitlines(keepends=True)
-    text[0] = f"#!{sys.executable} -S\n"
-    (bin_folder / "aprsbook").write_text("".join(text))
-    (bin_folder / "aprsbook").chmod(0o755)
+    lay_script(bin_folder / "aprsbook", (HERE / "stand_in.py").read_text())
     return str(bin_folder)
 
 
