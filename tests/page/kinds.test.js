@@ -118,6 +118,10 @@ test("the moments of one receiver are moved, in each spelling and over midnight"
   assert.equal(moved, "2024-06-22T00:00:10.000Z RX1 c0\n2024-06-22T00:00:10.250Z RX1 c0\n" +
     "2024-06-21T23:59:50Z RX2 c0\n");
   assert.deepEqual(movedIn(bytesOf(log), new Map([["RX1", 1], ["RX", 1]])), ["RX1"]);
+  // to the millisecond, whose thousandth part no number has
+  const fine = "2024-06-21T18:00:00.003Z RX1 c0\n";
+  assert.equal(textOf(shifted(bytesOf(fine), new Map([["RX1", 0.001]]))),
+    "2024-06-21T18:00:00.004Z RX1 c0\n");
   // what would be before 1970 stays
   const early = "1970-01-01T00:00:05Z RX1 c0\n";
   assert.equal(textOf(shifted(bytesOf(early), new Map([["RX1", -6]]))), early);

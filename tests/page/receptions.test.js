@@ -33,6 +33,11 @@ test("each line of logs is there once, in order, with a moment that no other is 
   assert.equal(textOf(apartLog(logs)),
     "1970-01-01T00:00:00.000Z A c1\n1970-01-01T00:00:02.000Z B c0\n");
 });
+test("what stands behind a moment stays byte by byte, whatever spelling the moment has", () => {
+  const log = bytesOf("2024-06-21T18:00:01Z A c1 c2\n2024-06-21T18:00:01.500Z B C1\n");
+  assert.equal(textOf(apartLog([log])),
+    "1970-01-01T00:00:00.000Z B C1\n1970-01-01T00:00:02.000Z A c1 c2\n");
+});
 test("receptions are counted of logs alone that aren't too large, and as long as it is wanted",
   async () => {
     await beginWorkers("", null, () => {});

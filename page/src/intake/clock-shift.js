@@ -2,20 +2,14 @@
 // Receivers' clocks that are put right: the moments of their lines of a log are moved.
 
 import { joined } from "../formats/gunzip.js";
-import { Words } from "../net/interning.js";
-
-const MOMENT = /^(\d{4}-\d\d-\d\dT\d\d:\d\d:\d\d(?:\.\d{3})?Z) ([A-Za-z0-9_-]{1,16}) /;
-/** The last moment of a log, in milliseconds since 1970. */
-const LAST = 4102444799999;
+import { hasName, linesOf } from "../formats/log-line.js";
+import { textIn, Words } from "../net/interning.js";
+import { LAST_MILLISECOND } from "../util/limits.js";
 
 /** So many bytes become text at once. */
 const PIECE = 2 ** 18;
-const LINE = 10, SPACE = 32;
-/** A receiver's name has so many bytes at most. */
-const LONGEST = 16;
+const LINE = 10;
 
-/** @param {Uint8Array} bytes */
-const textOf = bytes => new TextDecoder("latin1").decode(bytes);
 /**
  * The receivers of lines.
  * @param {Uint8Array} bytes
@@ -23,11 +17,7 @@ const textOf = bytes => new TextDecoder("latin1").decode(bytes);
 function namesIn(bytes) {
   /** @type {Set<string>} */
   const found = new Set(), names = new Words(bytes, it => { found.add(it); });
-  for (let at = 0; at < bytes.length; at = bytes.indexOf(LINE, at) + 1 || bytes.length) {
-    const begin = bytes.indexOf(SPACE, at) + 1, end = bytes.indexOf(SPACE, begin);
-    if (!begin || end < 0) break;
-    if (end - begin <= LONGEST) names.of(begin, end);
-  }
+  for (const it of linesOf(bytes)) if (hasName(it)) names.of(it.nameBegin, it.nameEnd);
   return found;
 }
 /**
@@ -53,13 +43,20 @@ export const movedIn = (bytes, shifts) =>
   [...shifts.keys()].filter(it => receiversIn(bytes).has(it));
 /**
  * Lines with each receiver's moments moved by so many seconds.
- * @param {string} text @param {Map<string, number>} shifts
+ * @param {Uint8Array} bytes @param {Map<string, number>} shifts
  */
-const movedText = (text, shifts) => text.split("\n").map(line => {
-  const [, moment, name] = MOMENT.exec(line) || [], by = name && shifts.get(name);
-  const to = by ? Date.parse(moment) + Math.round(1000 * by) : NaN;
-  return to >= 0 && to <= LAST ? new Date(to).toISOString() + line.slice(moment.length) : line;
-}).join("\n");
+function movedText(bytes, shifts) {
+  const names = new Words(bytes, it => shifts.get(it) || 0);
+  let text = "";
+  for (const it of linesOf(bytes)) {
+    const by = hasName(it) ? names.of(it.nameBegin, it.nameEnd) : 0;
+    const moment = by ? Date.parse(textIn(bytes, it.begin, it.momentEnd)) : NaN;
+    const to = moment + Math.round(1000 * by), isMoved = to >= 0 && to <= LAST_MILLISECOND;
+    text += isMoved ? new Date(to).toISOString() + textIn(bytes, it.momentEnd, it.next)
+      : textIn(bytes, it.begin, it.next);
+  }
+  return text;
+}
 /**
  * A log, which is ASCII, with each receiver's moments moved by so many seconds; what has no such
  * moment, or would leave the years that a log can have, stays as it is.
@@ -74,7 +71,7 @@ export function* shifting(bytes, shifts) {
     end = bytes.indexOf(LINE, at + PIECE) + 1 || bytes.length;
     const piece = bytes.subarray(at, end), names = namesIn(piece);
     const has = [...shifts.keys()].some(it => names.has(it));
-    parts.push(has ? encoder.encode(movedText(textOf(piece), shifts)) : piece);
+    parts.push(has ? encoder.encode(movedText(piece, shifts)) : piece);
     isMoved ||= has;
     yield;
   }

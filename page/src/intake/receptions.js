@@ -3,23 +3,29 @@
 // a frame is known of each copy alone. The n-th line has a moment two seconds after the one before
 // it, under a gap of one second, so that no two are copies of one transmission.
 
+import { hasName, linesOf } from "../formats/log-line.js";
+import { textIn } from "../net/interning.js";
 import { repeatsIn } from "../net/repeats.js";
 import { tableOf } from "../net/table-lines.js";
 import { inSlices } from "../util/tasks.js";
+import { isoText } from "../util/time.js";
 import { run } from "../worker/pool.js";
 import { limits, sizeOfAll } from "../worker/sources.js";
 
-/** Milliseconds from one line to the next. */
-const APART = 2000;
+/** Seconds of the gap, and from one line to the next. */
+const GAP = 1, APART = 2;
 /**
  * The lines of logs, each once, as a log in which no two are near each other.
  * @param {Uint8Array[]} logs
  */
 export function apartLog(logs) {
-  const decoder = new TextDecoder("latin1"), all = new Set();
-  for (const it of logs) for (const line of decoder.decode(it).split("\n")) if (line) all.add(line);
-  return tableOf([...all].sort().map((line, n) =>
-    `${new Date(APART * n).toISOString()}${line.slice(line.indexOf(" "))}\n`).join(""));
+  /** @type {Map<string, string>} what stands behind the moment of a line, by its text */
+  const all = new Map();
+  for (const log of logs)
+    for (const it of linesOf(log))
+      if (hasName(it)) all.set(textIn(log, it.begin, it.end), textIn(log, it.momentEnd, it.end));
+  return tableOf([...all.keys()].sort().map((line, n) =>
+    `${isoText(APART * n)}${all.get(line)}\n`).join(""));
 }
 /**
  * Who repeated whom by all receptions of these files; null where one of them is no log, or they are
@@ -32,6 +38,6 @@ export async function repeatsBy(files, isWanted) {
     it.kind !== "book" && it.taken instanceof Uint8Array ? [it.taken] : []);
   if (logs.length < files.length || sizeOfAll(logs) > limits.alone) return null;
   const apart = apartLog(logs);
-  const got = await run("rows", 1, [apart], { lent: [apart] });
+  const got = await run("rows", GAP, [apart], { lent: [apart] });
   return got.status ? null : (await inSlices(repeatsIn(got.bytes), isWanted)) ?? null;
 }
