@@ -8,7 +8,7 @@ import { inOrder } from "../../page/src/lists/messages.js";
 import { isExcusedOf } from "../../page/src/lists/stations.js";
 import { homeOf, needOf, silenceOf, unansweredOf } from "../../page/src/net/alarms.js";
 import { entriesOf } from "../../page/src/net/log-entries.js";
-import { hearings } from "../../page/src/net/net.js";
+import { hearings } from "../../page/src/net/hearings.js";
 import { expectedOf, Names } from "../../page/src/net/roster.js";
 import { placesOfWord } from "../../page/src/net/table-reader.js";
 import { tableOf } from "../../page/src/net/table-lines.js";

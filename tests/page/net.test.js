@@ -1,7 +1,7 @@
 import assert from "node:assert/strict";
 import { test } from "node:test";
 import { apartText, clockWords } from "../../page/src/net/clock-words.js";
-import { hearings } from "../../page/src/net/net.js";
+import { hearings } from "../../page/src/net/hearings.js";
 import { needsOf, newsOf } from "../../page/src/app/alerts.js";
 import { expectedOf } from "../../page/src/net/roster.js";
 import { waysFor } from "../../page/src/lists/stations.js";

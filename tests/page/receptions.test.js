@@ -2,7 +2,7 @@ import assert from "node:assert/strict";
 import { test } from "node:test";
 import { answering, bytesOf, textOf } from "./stand.js";
 import { apartLog, repeatsBy } from "../../page/src/intake/receptions.js";
-import { repeatsOf } from "../../page/src/net/net.js";
+import { repeatsOf } from "../../page/src/net/hearings.js";
 import { digipeatersOf, repeatsIn } from "../../page/src/net/repeats.js";
 import { tableOf } from "../../page/src/net/table-lines.js";
 import { atOnce } from "../../page/src/util/tasks.js";

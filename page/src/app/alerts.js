@@ -8,7 +8,7 @@ import { apartText, clockWords } from "../net/clock-words.js";
 import { count, namesText } from "../util/text.js";
 import { timeText } from "../util/time.js";
 
-/** @typedef {import("../net/net.js").Thing} Thing */
+/** @typedef {import("../net/things.js").Thing} Thing */
 /** @typedef {import("../net/message-table.js").Message} Message */
 /** @typedef {import("../net/settings.js").Settings} Settings */
 /** @typedef {import("../lists/dealt.js").Marking} Marking */
@@ -76,7 +76,7 @@ function mostOf(needs) {
 }
 /**
  * Wrong clocks, each in words. A pair that disagrees is said once.
- * @param {import("../net/net.js").Receiver[]} receivers
+ * @param {import("../net/receivers.js").Receiver[]} receivers
  * @param {number} gap
  * @returns {Word[]}
  */
@@ -101,7 +101,7 @@ function clocksOff(receivers, gap) {
 const AHEAD = 60;
 /**
  * Who heard something that is still to come, in words.
- * @param {import("../net/net.js").Receiver[]} receivers
+ * @param {import("../net/receivers.js").Receiver[]} receivers
  * @param {number} now by this computer's clock, in seconds
  * @returns {Word[]}
  */

@@ -8,7 +8,7 @@ import { count } from "../util/text.js";
 import { later } from "../util/task-queue.js";
 import { once } from "../util/tasks.js";
 
-/** @typedef {import("../net/net.js").Thing} Thing */
+/** @typedef {import("../net/things.js").Thing} Thing */
 
 /**
  * What `find` looks in, as long as its thing is there, which is made anew for each drawing.

@@ -1,7 +1,7 @@
 // @ts-check
 // What is new in a page that goes on: what wasn't there when the reader looked last.
 
-/** @typedef {import("../net/net.js").Thing} Thing */
+/** @typedef {import("../net/things.js").Thing} Thing */
 /** @typedef {import("../net/message-table.js").Message} Message */
 /** @typedef {{ things: Thing[], messages: Message[], bulletins: Message[],
  *   end: number }} Net until when something was heard */

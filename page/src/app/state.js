@@ -15,7 +15,7 @@ import { byId } from "../util/dom.js";
  */
 /** @typedef {import("../net/net.js").All} All */
 /** @typedef {import("../net/net.js").Net} Net */
-/** @typedef {import("../net/net.js").Thing} Thing */
+/** @typedef {import("../net/things.js").Thing} Thing */
 /** @typedef {import("../net/message-table.js").Message} Message */
 /** @typedef {import("../net/roster.js").Roster} Roster */
 /** @typedef {import("../desks/journal.js").Journal} Journal */
@@ -56,7 +56,7 @@ import { byId } from "../util/dom.js";
  * The lists of the page; the last ones are made anew for each net.
  * @typedef {{ messages: List<Message>, bulletins: List<Message>, things: List<Thing>,
  *   places: List<number>, frames: List<number>,
- *   receivers: List<import("../net/net.js").Receiver>,
+ *   receivers: List<import("../net/receivers.js").Receiver>,
  *   roster: List<import("../lists/stations.js").Waited>, heard?: List<string>,
  *   repeated?: List<string>, timeline?: List<string>,
  *   passed?: List<import("../lists/passed.js").Line>,

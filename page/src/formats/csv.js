@@ -7,7 +7,7 @@ import { said } from "../util/text.js";
 import { isoText } from "../util/time.js";
 
 /** @typedef {import("../net/net.js").Net} Net */
-/** @typedef {import("../net/net.js").Thing} Thing */
+/** @typedef {import("../net/things.js").Thing} Thing */
 /** @typedef {import("../net/rows.js").Place} Place */
 /**
  * What an operator wrote, and who is known.

@@ -6,7 +6,7 @@ import { said } from "../util/text.js";
 import { isoText } from "../util/time.js";
 
 /** @typedef {import("../net/net.js").Net} Net */
-/** @typedef {import("../net/net.js").Thing} Thing */
+/** @typedef {import("../net/things.js").Thing} Thing */
 /** @typedef {import("../net/rows.js").Place} Place */
 /** @typedef {Generator<string>} Pieces of a text */
 /** @typedef {[number, number]} Spot east and north, in degrees */

@@ -1,7 +1,7 @@
 // @ts-check
 // What files of places have in common: their pieces, runs, and texts for XML.
 
-/** @typedef {import("../net/net.js").Thing} Thing */
+/** @typedef {import("../net/things.js").Thing} Thing */
 /** @typedef {import("../net/rows.js").Place} Place */
 /** @typedef {Generator<string>} Pieces of a text */
 

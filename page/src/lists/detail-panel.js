@@ -16,7 +16,7 @@ import { channelsOf } from "../net/telemetry.js";
 import { air, byId, make, momentOf } from "../util/dom.js";
 import { namesText } from "../util/text.js";
 
-/** @typedef {import("../net/net.js").Thing} Thing */
+/** @typedef {import("../net/things.js").Thing} Thing */
 /** @typedef {import("../net/rows.js").Place} Place */
 /** @typedef {import("./station-facts.js").Fact} Fact */
 /** @typedef {import("../net/settings.js").Settings} Settings */

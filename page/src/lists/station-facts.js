@@ -5,7 +5,7 @@ import { weatherWords } from "../net/details.js";
 import { detailsOf } from "../net/rows.js";
 import { momentOf } from "../util/dom.js";
 
-/** @typedef {import("../net/net.js").Thing} Thing */
+/** @typedef {import("../net/things.js").Thing} Thing */
 /** @typedef {import("../net/telemetry.js").Channel} Channel */
 /** @typedef {[string, ...(string | Node)[]]} Fact a name and its value */
 

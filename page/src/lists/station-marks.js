@@ -8,7 +8,7 @@ import { homeOf, needOf, otherCallOf, silenceOf } from "../net/alarms.js";
 import { momentOf } from "../util/dom.js";
 import { printable, said } from "../util/text.js";
 
-/** @typedef {import("../net/net.js").Thing} Thing */
+/** @typedef {import("../net/things.js").Thing} Thing */
 /** @typedef {import("./station-facts.js").Fact} Fact */
 /** @typedef {import("./dealt.js").Marking} Marking */
 /**

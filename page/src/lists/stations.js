@@ -12,8 +12,8 @@ import { nameIn } from "../net/rows.js";
 import { air, callIn, letters, make } from "../util/dom.js";
 import { printable, said } from "../util/text.js";
 
-/** @typedef {import("../net/net.js").Thing} Thing */
-/** @typedef {import("../net/net.js").Receiver} Receiver */
+/** @typedef {import("../net/things.js").Thing} Thing */
+/** @typedef {import("../net/receivers.js").Receiver} Receiver */
 /** @typedef {import("../net/rows.js").Place} Place */
 /** @typedef {import("../net/settings.js").Settings} Settings */
 /** @typedef {import("./dealt.js").Marking} Marking */
@@ -126,7 +126,7 @@ export function haystack(it, settings) {
 /**
  * A table of stations by receivers or digipeaters; `tell` says what a pair stands for.
  * @param {HTMLElement} box
- * @param {{ id: string, caption: string, pairs: import("../net/net.js").Pairs,
+ * @param {{ id: string, caption: string, pairs: import("../net/hearings.js").Pairs,
  *   sent: Map<string, number>,
  *   tell: (source: string, name: string, n: number, of: number) => string }} of
  */

@@ -1,7 +1,7 @@
 // @ts-check
 // What the colours of marks and tracks mean: each thing's own, its age, its receiver or its kind.
 
-/** @typedef {import("../net/net.js").Thing} Thing */
+/** @typedef {import("../net/things.js").Thing} Thing */
 /** @typedef {{ colour: string, text: string }} Key a colour of the style, and its words */
 /** @typedef {"own" | "age" | "receiver" | "kind"} Way */
 

@@ -1,7 +1,7 @@
 // @ts-check
 // The mark of a thing on the map, and in which order marks lie above one another.
 
-/** @typedef {import("../net/net.js").Thing} Thing */
+/** @typedef {import("../net/things.js").Thing} Thing */
 /** @typedef {import("../net/rows.js").Place} Place */
 /** @typedef {{ thing: Thing, place: Place, picked: boolean, colour: string, x: number,
  *   y: number }} Mark */

@@ -16,7 +16,7 @@ import { wordsOf } from "../net/details.js";
 import { make } from "../util/dom.js";
 import { timeText } from "../util/time.js";
 
-/** @typedef {import("../net/net.js").Thing} Thing */
+/** @typedef {import("../net/things.js").Thing} Thing */
 /** @typedef {import("../geo/projection.js").Projection} Projection */
 /** @typedef {import("./layers/layer.js").Context} Context */
 /** @typedef {import("./layers/layer.js").Surface} Surface */

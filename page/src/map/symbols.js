@@ -88,7 +88,7 @@ export function pathOf(shape) {
 }
 /**
  * A thing's mark for a table: its symbol in the colour of its track.
- * @param {import("../net/net.js").Thing} thing
+ * @param {import("../net/things.js").Thing} thing
  * @param {import("../net/rows.js").Place} place
  */
 export function markOf(thing, place) {

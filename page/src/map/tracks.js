@@ -6,7 +6,7 @@ import { byColour } from "./mark.js";
 import { hourText } from "../util/time.js";
 
 /** @typedef {import("../geo/projection.js").Projection} Projection */
-/** @typedef {import("../net/net.js").Thing} Thing */
+/** @typedef {import("../net/things.js").Thing} Thing */
 /** @typedef {import("./mark.js").Mark} Mark */
 /** @typedef {CanvasRenderingContext2D} Pen */
 

@@ -6,7 +6,7 @@
 
 import { chordOf, metresBetween } from "../geo/chord.js";
 
-/** @typedef {import("./net.js").Thing} Thing */
+/** @typedef {import("./things.js").Thing} Thing */
 /** @typedef {import("../geo/chord.js").Spot} Spot */
 /** @typedef {Spot & { name: string, metres: number }} Checkpoint with the radius that counts */
 /**

@@ -48,6 +48,7 @@ function symbolIn(shown) {
  *   receivers: string[], source: string, state: string, vector: number[] } & Details} Place
  */
 
+/** @typedef {ArrayLike<number>} Picks numbers of rows */
 /** The transmissions of a table: numbers of rows, in `order` by their first moments. */
 export class Rows {
   /** @param {import("./table-reader.js").Read} read */
