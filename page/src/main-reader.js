@@ -3,9 +3,11 @@
 // workers.
 
 import "./main-event.js";
+import { add } from "./intake/adding.js";
+import { madeNow } from "./intake/book.js";
 import { files } from "./intake/file-table.js";
 import { beginFollowing, pace } from "./intake/follow.js";
-import { add, beginReading, madeNow } from "./intake/reader-app.js";
+import { beginReading } from "./intake/reader-app.js";
 import { beginRereading } from "./intake/reread.js";
 import { eventPage } from "./intake/save-event-page.js";
 import { beginServed } from "./intake/served.js";

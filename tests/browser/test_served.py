@@ -17,7 +17,7 @@ from typing import Any, Dict, Iterator
 
 import pytest
 
-from browser import Browser
+from browser import Browser, Chromium
 from given import REPOSITORY, TEXTS, picture
 from test_page_alone import page_text, place
 
@@ -325,3 +325,27 @@ def test_while_the_server_is_away(page: Browser, live: Live) -> None:
     assert not [it for it in page.problems() if it["level"] == "SEVERE" and
                 "ERR_CONNECTION_REFUSED" not in it["message"] and
                 "ERR_INCOMPLETE_CHUNKED" not in it["message"]]
+
+
+@pytest.mark.browsers("Chromium")
+def test_tabs_have_one_stream(page: Chromium, live: Live) -> None:
+    """Eight tabs of one browser, which opens six connections, are told at once what is new; and the
+    others go on where the one is closed that listens."""
+    enter(page, live)
+    first = page.driver.current_window_handle
+    for _ in range(7):
+        page.driver.switch_to.new_window("tab")
+        page.driver.get(live.url)
+        page.wait(f"{CONNECTION}.includes('connected as desk BASE')", 20)
+    live.push(line(1))
+    assert page.driver.window_handles[0] == first and len(page.driver.window_handles) == 8
+    for handle in page.driver.window_handles:
+        page.driver.switch_to.window(handle)
+        page.wait(f"globalThis.aprsbook.all && {ROWS} === 1", 20)
+    page.driver.switch_to.window(first)
+    page.driver.close()
+    live.push(line(2))
+    live.write(1, "line", time="1718992800000", **{"from": "A", "to": "B", "number": "", "text": "x"})
+    for handle in page.driver.window_handles:
+        page.driver.switch_to.window(handle)
+        page.wait(f"{ROWS} === 2 && {LINES} === 'x'", 20)

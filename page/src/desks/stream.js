@@ -7,6 +7,8 @@
  * without a word then, the server is away; and how often it is asked where no stream comes through.
  */
 export const patience = { again: 2000, first: 8000, silent: 40000, ask: 5000 };
+/** An answer of fewer letters is whole: the server cuts off what has four times as many. */
+const WHOLE = 2 ** 20;
 /** After so many streams without a word it is asked instead. */
 const VAIN = 2;
 
@@ -78,6 +80,8 @@ export class Stream {
     this.open = open;
     this.ask = ask;
     this.isOpen = false;
+    /** Hears each event, before it is taken. */
+    this.onTold = (/** @type {string} */ _kind, /** @type {string} */ _data) => {};
     /** How many streams ended one after another without a word. */
     this.vain = 0;
     /** @type {ReturnType<typeof setTimeout> | undefined} */
@@ -99,6 +103,15 @@ export class Stream {
     const all = [...isOnce ? ["once=1"] : [], ...have].join("&");
     return `events${all ? "?" : ""}${all}`;
   }
+  /**
+   * Takes an event.
+   * @param {string} kind
+   * @param {string} data
+   */
+  tell(kind, data) {
+    this.onTold(kind, data);
+    this.kinds[kind]?.(data);
+  }
   begin() {
     if (this.vain >= VAIN) return this.askOnce();
     const source = this.open(this.url());
@@ -112,11 +125,11 @@ export class Stream {
       this.hear();
       this.timer = setTimeout(end, patience.silent);
     };
-    for (const [kind, run] of Object.entries(this.kinds))
+    for (const kind of Object.keys(this.kinds))
       source.addEventListener(kind, event => {
         isHeard = true;
         hear();
-        run(/** @type {MessageEvent<string>} */ (event).data);
+        this.tell(kind, /** @type {MessageEvent<string>} */ (event).data);
       });
     this.timer = setTimeout(end, patience.first);
     source.onerror = end; // what the browser would do by itself doesn't say how far it has read
@@ -134,12 +147,24 @@ export class Stream {
     this.listener.alive(false);
     this.timer = setTimeout(() => this.begin(), patience.again * (0.5 + Math.random()));
   }
+  /** Takes what is new now, as far as an answer has room for it; how long that was. */
+  async takeOnce() {
+    const text = await this.ask(this.url(true));
+    this.hear();
+    for (const [kind, data] of eventsIn(text)) this.tell(kind, data);
+    return text.length;
+  }
+  /** Takes all that is new now. */
+  async takeAll() {
+    for (let isWhole = false; !isWhole;) {
+      const before = this.url();
+      isWhole = await this.takeOnce() < WHOLE || this.url() === before;
+    }
+  }
   /** Asks for what is new, as a stream says it, and again after a while. */
   async askOnce() {
     try {
-      const text = await this.ask(this.url(true));
-      this.hear();
-      for (const [kind, data] of eventsIn(text)) this.kinds[kind]?.(data);
+      await this.takeOnce();
       this.timer = setTimeout(() => this.begin(), patience.ask);
     } catch {
       this.end();

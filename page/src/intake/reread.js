@@ -5,10 +5,10 @@
 import { goOnFromHere } from "../app/header.js";
 import { alive, tick } from "../app/live.js";
 import { page } from "../app/state.js";
+import { add } from "./adding.js";
 import { files } from "./file-table.js";
 import { fileBy } from "./folders.js";
 import { markOf } from "./intake.js";
-import { add } from "./reader-app.js";
 
 /** How often handles are asked, in milliseconds. */
 export const pace = { each: 5000 };

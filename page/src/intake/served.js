@@ -8,14 +8,15 @@ import { drawNetPanel, nowOf } from "../app/net-panel.js";
 import { drawMarks } from "../app/render.js";
 import { page, tell } from "../app/state.js";
 import { Journal } from "../desks/journal.js";
-import { goneOn, Stream } from "../desks/stream.js";
+import { SharedStream, tabsAt } from "../desks/shared-stream.js";
+import { goneOn } from "../desks/stream.js";
 import { storeOf } from "../ics309/own-lines.js";
 import { byId } from "../util/dom.js";
 import { messageOf } from "../util/text.js";
+import { work } from "./book.js";
 import { files } from "./file-table.js";
 import { drawServed } from "./served-tiles.js";
 import { followed, followedOf, followOne, mark, takeWhole, told } from "./follow.js";
-import { work } from "./reader-app.js";
 
 /** @typedef {import("../desks/stream.js").Told} Told */
 /** @typedef {import("../desks/stream.js").NetTold} NetTold */
@@ -43,6 +44,7 @@ function sizes() {
     const name = decodeURIComponent(url.slice(urlOf("").length));
     all.set(name, bytesOf(name).length);
   }
+  for (const [name, whole] of fresh) all.set(name, whole.length);
   return all;
 }
 /** @param {Told} it */
@@ -180,7 +182,7 @@ export async function beginServed() {
   net = who.net;
   if (who.name) share(new Journal(who.name, send, storeOf()));
   applySettings();
-  const stream = new Stream({ sizes, take, anew: ask, gone() {},
+  const stream = new SharedStream({ sizes, take, anew: ask, gone() {},
     net(text) {
       net = JSON.parse(text);
       applySettings();
@@ -193,7 +195,7 @@ export async function beginServed() {
       if (isThere) page.journal?.sendAll();
       drawPanel();
       tick();
-    } });
+    } }, tabsAt(new URL(".", location.href).href));
   page.follows = true;
   byId("follow").value ||= "logs.txt"; // so that it is asked where no stream comes through
   stream.begin();
