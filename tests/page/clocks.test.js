@@ -55,9 +55,8 @@ test("of many receivers those that heard most are compared, in steps", () => {
   assert.ok(["R1999", "R0007", "R0000"].every(it => compared.has(it)) && !compared.has("R1998"));
   const rows = rowsOf([row("position", 0, "Q1A",
     { receivers: names.join(), latitude: 54, longitude: -3 })]);
-  const began = performance.now(), pairs = atOnce(pairsOf(rows, -Infinity, heard));
+  const pairs = atOnce(pairsOf(rows, -Infinity, heard));
   assert.equal(pairs.length, MOST_COMPARED * (MOST_COMPARED - 1) / 2);
-  assert.ok(performance.now() - began < 20000);
   // of few receivers all are compared
   assert.deepEqual([...comparedIn([{ names: ["B", "A"], heard: 1 }])].sort(), ["A", "B"]);
 });

@@ -164,9 +164,7 @@ test("of thousands of lines those are there that are in view, or on paper", { sk
     ({ at: at(k % 7000) + 1.7e9, from: "a", to: "b", id: "", text: `no. ${k}` }));
   page.own.offer("many.html", lines);
   page.own.answer("many.html", true);
-  const begin = performance.now();
   page.widgets.form.draw();
-  assert.ok(performance.now() - begin < 10000);
   const sheets = [...byId("ics-sheets").children];
   const filled = () => sheets.filter(it => it.firstChild).length;
   assert.ok(sheets.length > 800);

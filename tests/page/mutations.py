@@ -146,6 +146,14 @@ def survives(change: Change, browser: bool) -> bool:
         return not browser or passes([*pytest, *tried], copy)
 
 
+def check_tests() -> None:
+    """Refuses to begin where a test fails by itself: it would see each change."""
+    tests = sorted(f"tests/page/{it.name}" for it in TESTS.glob("*.test.js"))
+    failing = [it for it in tests if not passes(["node", "--test", it], REPOSITORY)]
+    if failing:
+        sys.exit(f"fails without a change: {', '.join(failing)}")
+
+
 def reason(change: Change) -> str:
     return next((why for (module, begin), why in SURVIVORS.items()
                  if module == change.module and change.before.strip().startswith(begin)), "")
@@ -162,6 +170,8 @@ def main() -> int:
     args = parser.parse_args()
     changes = drawn(args.lines, args.seed, args.modules)
     left = []
+    if not args.list:
+        check_tests()
     with concurrent.futures.ThreadPoolExecutor(args.jobs) as pool:
         tried = changes if not args.list else []
         for change, alive in zip(tried, pool.map(lambda it: survives(it, args.browser), tried)):

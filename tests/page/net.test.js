@@ -5,7 +5,7 @@ import { hearings } from "../../page/src/net/hearings.js";
 import { needsOf, newsOf } from "../../page/src/app/alerts.js";
 import { expectedOf } from "../../page/src/net/roster.js";
 import { waysFor } from "../../page/src/lists/stations.js";
-import { Alarm } from "../../page/src/app/alarm.js";
+import { Alarm } from "../../page/src/app/alarm-sound.js";
 import { atOnce } from "../../page/src/util/tasks.js";
 import {
   message, messageTable, moment, netOfLines, place, readMessages, row, rowsOf, SETTINGS,

@@ -1,7 +1,7 @@
 // @ts-check
 // What wants doing: how bad it is, and in words.
 
-import { markWords } from "../lists/dealt.js";
+import { markWords } from "../lists/dealt-mark.js";
 import { isMine, isOpen } from "../lists/messages.js";
 import { needOf } from "../net/alarms.js";
 import { apartText, clockWords } from "../net/clock-words.js";
@@ -11,7 +11,7 @@ import { timeText } from "../util/time.js";
 /** @typedef {import("../net/things.js").Thing} Thing */
 /** @typedef {import("../net/message-table.js").Message} Message */
 /** @typedef {import("../net/settings.js").Settings} Settings */
-/** @typedef {import("../lists/dealt.js").Marking} Marking */
+/** @typedef {import("../lists/dealt-mark.js").Marking} Marking */
 /** @typedef {Pick<Marking, "markOf"> & { settings: Settings }} Known what is known of alarms */
 /**
  * A word of news: where it stands, or what it is about; how bad it is; what it says; whether some

@@ -1,7 +1,7 @@
 // @ts-check
 // Makes the map, the lists and the form into which the page is drawn, with what was chosen before.
 
-import { isMute } from "./alarm.js";
+import { isMute } from "./alarm-sound.js";
 import { listenToControls } from "./controls.js";
 import { reveal } from "./reveal.js";
 import { drawSaves, saveNow } from "./save-menu.js";

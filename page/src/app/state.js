@@ -1,7 +1,7 @@
 // @ts-check
 // What the page has of the net, and what the reader chose.
 
-import { Alarm } from "./alarm.js";
+import { Alarm } from "./alarm-sound.js";
 import { Looked } from "./seen.js";
 import { OwnLines } from "../ics309/own-lines.js";
 import { homeOf, otherCallOf, silenceOf } from "../net/alarms.js";
@@ -140,7 +140,7 @@ export const view = {
   get ownCall() { return page.choices.call; },
   keyOf: (/** @type {string} */ call) =>
     page.shown?.all.rows.things.includes(`station ${call}`) ? `station ${call}` : null,
-  /** @returns {import("../lists/dealt.js").Mark | null} */
+  /** @returns {import("../lists/dealt-mark.js").Mark | null} */
   markOf(/** @type {string} */ alarm) {
     const mark = page.marks?.dealtWith(alarm)[0];
     return mark ? { desk: mark.desk, at: mark.at, note: String(mark.note) } : null;

@@ -6,7 +6,7 @@ import { fromBase64 } from "../formats/base64.js";
 import { unpacked } from "../formats/gunzip.js";
 import { add, lookAgain } from "./adding.js";
 import { drawAgain, drawEmpty, drawnShiftOf, madeNow, work } from "./book.js";
-import { contents } from "./bundle.js";
+import { contents } from "./page-parts.js";
 import { receiversIn } from "./clock-shift.js";
 import { files } from "./file-table.js";
 import { filesOf } from "./folders.js";

@@ -4,7 +4,7 @@
 import { marksText } from "../app/dealt.js";
 import { page, shownNow, widgets } from "../app/state.js";
 import { unpacked } from "../formats/gunzip.js";
-import { contents } from "./bundle.js";
+import { contents } from "./page-parts.js";
 import { boxAround, carriedIn, nearIn } from "./embedded-tiles.js";
 import { rosterText } from "../net/roster.js";
 import { textsOf } from "../net/table-lines.js";

@@ -1,7 +1,7 @@
 // @ts-check
 // Messages and bulletins.
 
-import { dealtNodes } from "./dealt.js";
+import { dealtNodes } from "./dealt-mark.js";
 import { cell, List, newMark, timeCell } from "./table-view.js";
 import { unansweredOf } from "../net/alarms.js";
 import { air, callIn, make } from "../util/dom.js";
@@ -10,7 +10,7 @@ import { fullText } from "../util/time.js";
 
 /** @typedef {import("../net/message-table.js").Message} Message */
 /** @typedef {import("../net/settings.js").Settings} Settings */
-/** @typedef {import("./dealt.js").Marking} Marking */
+/** @typedef {import("./dealt-mark.js").Marking} Marking */
 /** @typedef {(key: string) => unknown} OnPick */
 /**
  * What lists of messages have to know of the page: what is new, the reader's own call, the key of a

@@ -2,7 +2,7 @@
 // What is known of a station's alarms: whether it is in need or silent, whether it is awaited, and
 // under which call it goes on.
 
-import { dealtNodes } from "./dealt.js";
+import { dealtNodes } from "./dealt-mark.js";
 import { GONE } from "./stations.js";
 import { homeOf, needOf, otherCallOf, silenceOf } from "../net/alarms.js";
 import { momentOf } from "../util/dom.js";
@@ -10,7 +10,7 @@ import { printable, said } from "../util/text.js";
 
 /** @typedef {import("../net/things.js").Thing} Thing */
 /** @typedef {import("./station-facts.js").Fact} Fact */
-/** @typedef {import("./dealt.js").Marking} Marking */
+/** @typedef {import("./dealt-mark.js").Marking} Marking */
 /**
  * What has to be known of the page for that, and the call that each had before.
  * @typedef {Marking & { isLongAgo: (heardAt: number) => boolean, before: Map<string, string>,

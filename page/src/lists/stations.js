@@ -2,7 +2,7 @@
 // Stations, objects and items; receivers; who heard whom, and who repeated whom.
 
 import { placeText } from "../geo/coordinate-formats.js";
-import { dealtNodes, markWords } from "./dealt.js";
+import { dealtNodes, markWords } from "./dealt-mark.js";
 import { ageCell, cell, heardCell, List, newMark, number, timeCell } from "./table-view.js";
 import { markOf, symbolOf } from "../map/symbols.js";
 import { homeOf, needOf, otherCallOf, silenceOf } from "../net/alarms.js";
@@ -16,7 +16,7 @@ import { printable, said } from "../util/text.js";
 /** @typedef {import("../net/receivers.js").Receiver} Receiver */
 /** @typedef {import("../net/rows.js").Place} Place */
 /** @typedef {import("../net/settings.js").Settings} Settings */
-/** @typedef {import("./dealt.js").Marking} Marking */
+/** @typedef {import("./dealt-mark.js").Marking} Marking */
 /**
  * Who is expected, when that was heard last, and its key.
  * @typedef {import("../net/roster.js").Expected & { heardAt: number, key: string }} Waited
