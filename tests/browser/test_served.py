@@ -333,6 +333,7 @@ def test_tabs_have_one_stream(page: Chromium, live: Live) -> None:
     others go on where the one is closed that listens."""
     enter(page, live)
     first = page.driver.current_window_handle
+    page.driver.set_page_load_timeout(60)
     for _ in range(7):
         page.driver.switch_to.new_window("tab")
         page.driver.get(live.url)

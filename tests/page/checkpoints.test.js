@@ -52,6 +52,7 @@ test("a visit is heard, or the way alone leads through", () => {
   assert.deepEqual(came([north(0, -300), north(901, 300)]), []);
   assert.deepEqual(came([north(0, -3000), north(10, 3000)]), []);
   assert.equal(came([north(0, -3000, { altitude_m: 3001 }), north(10, 3000)]).length, 1);
+  assert.equal(came([north(0, -3000), north(10, 3000, { altitude_m: 3001 })]).length, 1);
 });
 test("another lap begins twice the radius away, and a kill ends a way", () => {
   const laps = far => came([north(0, 0), north(60, far), north(120, 0)]).map(it => it[2]);

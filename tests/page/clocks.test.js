@@ -5,6 +5,7 @@ import {
 } from "../../page/src/net/clock-offsets.js";
 import { hashOf, isSamePart, Parts, textIn, viewOf, Words } from "../../page/src/net/interning.js";
 import { tableOf } from "../../page/src/net/table-lines.js";
+import { clockWords } from "../../page/src/net/clock-words.js";
 import { atOnce } from "../../page/src/util/tasks.js";
 import { row, rowsOf } from "./tables.js";
 
@@ -59,4 +60,12 @@ test("of many receivers those that heard most are compared, in steps", () => {
   assert.equal(pairs.length, MOST_COMPARED * (MOST_COMPARED - 1) / 2);
   // of few receivers all are compared
   assert.deepEqual([...comparedIn([{ names: ["B", "A"], heard: 1 }])].sort(), ["A", "B"]);
+});
+test("of two clocks those are named that differ by more than the gap, ahead or behind", () => {
+  const pairs = by => [{ a: "A", b: "B", by, of: 3 }];
+  assert.deepEqual(clocksOf(pairs(30), 30).get("A"), { by: 30, of: 3, from: [] });
+  const words = by => clockWords({ clock: clocksOf(pairs(by), 30).get("A") }, 30).text;
+  assert.deepEqual([words(31), words(-90)], ["+31 s from B", "\u22121 min 30 s from B"]);
+  const clock = { by: NaN, of: 3, from: [{ b: "B", by: 0.6 }] };
+  assert.equal(clockWords({ clock }, 30).text, "+1 s from B");
 });

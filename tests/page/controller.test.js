@@ -137,6 +137,21 @@ test("a line of one's own has now as its time, which goes on until it is begun",
   form.goOn();
   assert.match(byId("own-at").value, /^2024-06-21T18:00:07/);
 });
+test("what another window of this net adds is in the form, and of another net nothing", { skip },
+  () => {
+    const { own } = page, text = "written in the other window";
+    const hear = key => dispatchEvent(new window.StorageEvent("storage", { key }));
+    const kept = JSON.parse(localStorage.getItem(own.key) || "null");
+    const has = () => own.lines.some(it => it.text === text);
+    const line = { at: Math.round(Date.now() / 1000), from: "A", to: "B", id: "", text };
+    localStorage.setItem(own.key, JSON.stringify({ ...kept, lines: [...kept?.lines || [], line] }));
+    hear("aprsbook lines of another net");
+    assert.equal(has(), false);
+    hear(own.key);
+    assert.equal(has(), true);
+    own.remove(own.lines.find(it => it.text === text));
+    page.widgets.form.draw();
+  });
 test("whose lines there are is said, and they go at once after a question", { skip }, () => {
   const desks = () => textsOf("#own-desks li");
   assert.deepEqual(desks(),

@@ -242,6 +242,48 @@ test("a tap picks, what is measured is said, and keys move the map", { skip }, (
   assert.deepEqual([map.isFull, byId("fill").getAttribute("aria-pressed")], [true, "true"]);
   key("f");
 });
+/** An event of a pointer, which this window has none of. */
+const pointer = (kind, of) => Object.assign(new Event(kind, { bubbles: true, cancelable: true }),
+  { pointerId: 7, button: 0, clientX: 0, clientY: 0, ...of });
+test("the edge of the map follows the pointer that took it, and keys", { skip }, () => {
+  const edge = byId("edge"), { style } = document.documentElement, held = new Set();
+  Object.assign(edge, { setPointerCapture: id => held.add(id),
+    hasPointerCapture: id => held.has(id) });
+  edge.dispatchEvent(pointer("pointermove", { clientY: 300 }));
+  assert.equal(style.getPropertyValue("--map-high"), "");
+  edge.dispatchEvent(pointer("pointerdown"));
+  edge.dispatchEvent(pointer("pointermove", { clientY: 300 }));
+  assert.equal(style.getPropertyValue("--map-high"), "300px");
+  edge.dispatchEvent(pointer("pointermove", { pointerId: 8, clientY: 350 }));
+  assert.equal(style.getPropertyValue("--map-high"), "300px");
+  assert.match(location.hash, /high=300/);
+  edge.dispatchEvent(new KeyboardEvent("keydown", { key: "Home", bubbles: true }));
+  assert.equal(style.getPropertyValue("--map-high"), "");
+});
+test("Escape closes a menu first, and then leaves the map that fills the window", { skip }, () => {
+  const { map } = aprsbook, menu = byId("looks");
+  const escape = () => dispatchEvent(new KeyboardEvent("keydown", { key: "Escape" }));
+  map.fill(true);
+  menu.open = true;
+  escape();
+  assert.deepEqual([menu.open, map.isFull], [false, true]);
+  escape();
+  assert.equal(map.isFull, false);
+  escape();
+  assert.equal(map.isFull, false);
+});
+test("the button of the map fits what is near first, and then all", { skip }, () => {
+  const { map } = aprsbook, fits = [], own = map.fit;
+  map.fit = of => { fits.push(of); };
+  for (const [fitted, isAll, far] of [[false, false, 3], [true, false, 3], [true, true, 3],
+    [true, false, 0]]) {
+    Object.assign(map, { fitted, isAll, far });
+    byId("fit").click();
+  }
+  map.fit = own;
+  assert.deepEqual(fits, [false, true, false, false]);
+  map.fit();
+});
 test("the clock goes back, and forth again to all", { skip }, () => {
   enter("clock", "300", "input");
   assert.deepEqual([byId("then").textContent, aprsbook.layers.stations.until],
@@ -266,6 +308,15 @@ test("what is saved is what is shown, and the menu has all of it", { skip }, () 
     "table (TSV)"]);
   assert.match(aprsbook.savedText("messages (CSV)"), /Q1RUN-7,.*,Leader,/);
   assert.equal(aprsbook.savedText("table (TSV)"), DATA.rows);
+});
+test("a button saves a file with a name of its own", { skip }, async () => {
+  const saved = [], { prototype } = window.HTMLAnchorElement, { click } = prototype;
+  prototype.click = function save() { saved.push(this.download); };
+  for (const it of document.querySelectorAll("#saves button")) it.click();
+  await until(() => saved.length === 6);
+  prototype.click = click;
+  assert.deepEqual(saved, ["places.csv", "messages.csv", "net.gpx", "net.geojson", "net.kml",
+    "table.tsv"]);
 });
 test("maps and rosters that are brought are said, drawn and taken away", { skip }, async () => {
   const bring = async (name, text) => {

@@ -115,6 +115,15 @@ test("of two looks at a file the one that was asked last stays", async () => {
     assert.equal(textOf(file.taken), line("19:00:00", "RX1"));
   });
 });
+test("of a book, and of what can't be read, no line is said to be passed over", async () => {
+  const book = fileOf("a.book", "book", bytesOf("APRSBOOK stand-in\nEND 0\n"));
+  const none = fileOf("x.pdf", "a PDF", bytesOf("%PDF"), { unread: "is a PDF, which no log is" });
+  for (const it of [book, none]) {
+    await look(it, 30);
+    assert.deepEqual([it.over, it.passed], [0, []]);
+  }
+  assert.equal(none.fault, "is a PDF, which no log is");
+});
 test("of very many lines that are passed over the first are kept, and a count", async () => {
   const says = Array.from({ length: 300 }, (_, k) => `line ${k}: no AX.25\n`).join("");
   const check = async (status, bytes) => {

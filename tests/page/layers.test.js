@@ -169,12 +169,26 @@ test("a mark has the shape of its kind, a beak where it goes, and a ring of digi
   assert.deepEqual(moving.of("lineTo"), [[0, -18], [6, -8]]);
   assert.deepEqual(painted({ symbol: "A#" }).texts, [["A", 104, 45]]);
   // two digits left out: 926 m, which is 8.7 pixels here, and 13 at least
-  assert.deepEqual(painted({ ambiguity: 2 }).of("arc")[0].slice(0, 3), [100, 50, 13]);
+  const open = painted({ ambiguity: 2 });
+  assert.deepEqual(open.of("arc")[0].slice(0, 3), [100, 50, 13]);
+  // its ring alone is of dashes
+  assert.deepEqual(open.of("setLineDash"), [[[3, 3]], [[]]]);
   const far = painted({ ambiguity: 3 }).of("arc")[0][2];
   assert.ok(Math.abs(far - 9260 / 6371008.8 * 60000) < 1e-6);
   const dots = told(() => new MarkPainter(pen, view, COLOURS, context.writer)
     .paintDots([{ colour: "t1", x: 10.4, y: 20.6 }]));
   assert.deepEqual(dots.of("fillRect"), [[7, 18, 6, 6]]);
+});
+test("an object is a square, and an item an arch as wide and as high", () => {
+  const painted = (kind, fields) => {
+    const [mark] = marksOf([row(kind, 0, "Q1A", { name: "X", latitude: 54, longitude: -3,
+      symbol: "/-", ...fields })]);
+    return told(() => new MarkPainter(pen, viewOf(), COLOURS, new Writer(pen, COLOURS)).paint(mark));
+  };
+  assert.deepEqual(painted("object").of("rect"), [[91, 41, 18, 18]]);
+  const item = painted("item");
+  assert.deepEqual([item.of("arc")[0].slice(0, 3), item.of("lineTo").slice(0, 2)],
+    [[100, 50, 9.5], [[109.5, 59], [90.5, 59]]]);
 });
 test("symbols have shapes and words, and marks for tables", { skip }, () => {
   const of = (table, code) => symbolOf({ table, code });
@@ -220,6 +234,15 @@ test("the map knows layers alone: it paints, fits, asks and taps them", { skip }
   assert.deepEqual(map.view.middle, [54.5, -3.5]);
   map.reach(vectorOf(10, 10));
   assert.deepEqual(map.view.middle.map(it => Math.round(it)), [10, 10]);
+  // what lies within 20 pixels of the edge is brought to the middle
+  for (const [x, y, isNear] of [[20.5, 200, true], [19.5, 200, false], [300, 20.5, true],
+    [300, 19.5, false], [579.5, 200, true], [580.5, 200, false], [300, 379.5, true],
+    [300, 380.5, false]]) {
+    map.look("54.5,-3.5,20");
+    map.reach(map.view.at(x, y));
+    assert.equal(map.view.middle[0] === 54.5 && map.view.middle[1] === -3.5, isNear, `${x} ${y}`);
+  }
+  map.look("10,10,20");
   map.look("x,1,2");
   assert.deepEqual(map.view.middle.map(it => Math.round(it)), [10, 10]);
 });

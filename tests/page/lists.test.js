@@ -82,6 +82,12 @@ test("what is sorted or sought is shown from its first row on", () => {
   list.show(names(50));
   assert.deepEqual([box.scrollTop, body.children.length], [0, 26]);
 });
+test("texts are sorted by the numbers in them", () => {
+  const list = nameList(element());
+  list.show(["Q1A-10", "Q1A-2", "Q1A-1"]);
+  list.turn(0);
+  assert.deepEqual(list.body.rows.map(it => it.dataset.key), ["Q1A-10", "Q1A-2", "Q1A-1"]);
+});
 test("a list that is made anew stands where that before it in its box stood", () => {
   for (const many of [100, 3000]) {
     const box = element(), before = nameList(box);

@@ -63,6 +63,25 @@ test("the map opens on what is near most, and not on a few places far away", () 
   const world = line([[54, -3], [40, -74], [-33, 151], [35, 139], [-23, -43], [64, -22]]);
   assert.ok([0, 1, 2, 3, 4, 5].every(k => capOf([world])(world, k)));
 });
+test("the place under the pointer stays there while one zooms, and the zoom has ends", () => {
+  const view = Object.assign(new Projection(), { width: 600, height: 400, scale: 60000 });
+  view.look(54.5, -3.5);
+  for (const [x, y] of [[450, 100], [20, 390], [300, 200]])
+    for (const by of [2, 0.5, 8]) {
+      const under = view.at(x, y);
+      view.zoom(by, x, y);
+      view.put(under);
+      assert.ok(Math.hypot(view.x - x, view.y - y) < 1, `${view.x} ${view.y}`);
+    }
+  view.zoom(1e-9);
+  assert.equal(view.scale, 60);
+});
+test("a map of no places shows where the equator and Greenwich meet", () => {
+  const view = Object.assign(new Projection(), { width: 600, height: 400 });
+  view.look(54, -3);
+  view.fit([]);
+  assert.deepEqual(view.middle.map(it => Math.round(it) + 0), [0, 0]);
+});
 test("a view of the whole earth has all of its parallels and meridians", () => {
   const view = Object.assign(new Projection(), { width: 569, height: 462, scale: 100 });
   view.look(50, 10);

@@ -103,6 +103,7 @@ test("a page stays where its server answers with a fault, or with another page",
     ["the server answers with another page", false, 0]);
   assert.deepEqual(await said(null), ["", true, 0]);
   assert.deepEqual(await said({ tree: tree("own", "{}") }), ["", false, 0]);
+  assert.equal(alive.away, 0);
   // another version of the page
   assert.deepEqual(await said({ tree: tree("newer", "{}") }), ["", false, 1]);
 });

@@ -77,3 +77,28 @@ test("tiles that are no pictures are counted, and the page is told", async t => 
   tiles.clear();
   assert.equal(tiles.damaged.size, 0);
 });
+test("a page that is drawn anew with other tiles of its own shows these", async () => {
+  const tiles = new TileLayer(), view = viewOf(300, 200, 0), drawn = [];
+  const { createImageBitmap } = globalThis;
+  globalThis.createImageBitmap = async blob => ({ width: 256, height: 256, of: blob.size });
+  const pen = new Proxy({}, { set: () => true,
+    get: (_, op) => (...of) => op === "drawImage" && drawn.push(of[0].of) });
+  const paint = async () => {
+    drawn.length = 0;
+    for (let k = 0; k < 20; k++) {
+      tiles.paint({ pen, again() {} }, view);
+      await pause();
+    }
+    return new Set(drawn);
+  };
+  const keys = [];
+  tiles.open("x", { least: 12, most: 12,
+    read: async (...tile) => { keys.push(tile.join("/")); return null; } });
+  await paint();
+  tiles.close("x");
+  for (const bytes of ["p", "pp"]) {
+    tiles.carry(Object.fromEntries(keys.map(it => [it, btoa(bytes)])));
+    assert.deepEqual([...await paint()].slice(-1), [bytes.length]);
+  }
+  globalThis.createImageBitmap = createImageBitmap;
+});
