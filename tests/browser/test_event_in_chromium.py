@@ -513,6 +513,22 @@ def test_needs(page: Chromium, folder: pathlib.Path) -> None:
     is_(page.problems(), [])
 
 
+def test_sheets_are_numbered(page: Chromium, folder: pathlib.Path) -> None:
+    """On paper each sheet says which of how many it is."""
+    if not shutil.which("pdftotext"):
+        pytest.skip("needs Debian's poppler-utils")
+    rows = "".join(place(n, f"Q1A-{n}", 54.5 + n / 1000, -3.5) for n in range(200))
+    page.open(page_of(folder / "paper.html", rows))
+    page.wait("document.querySelectorAll('#timeline tbody tr').length")
+    (folder / "paper.pdf").write_bytes(page.pdf())
+    done = subprocess.run(["pdftotext", "-layout", folder / "paper.pdf", "-"],
+                          stdout=subprocess.PIPE, check=True)
+    sheets = done.stdout.decode().split("\f")[:-1]
+    assert len(sheets) > 2
+    for n, sheet in enumerate(sheets, 1):
+        assert sheet.rstrip().endswith(f"{n} of {len(sheets)}"), sheet[-300:]
+
+
 def test_mute(page: Chromium, folder: pathlib.Path) -> None:
     """A page that was loaded again says that its sound isn't heard, until somebody clicks in it."""
     url = page_of(folder / "mute.html", place(0, "Q1A", 54.5, -3.5))

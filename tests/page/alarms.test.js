@@ -154,6 +154,14 @@ test("what a gate passes is said of its sender, and the gate was heard", () => {
     { gate: "Q1GATE" })], [], { since: seconds(9500) });
   assert.equal(some.whole.stations.find(it => it.name === "Q1GATE").heardAt, seconds(9000));
 });
+test("an emergency by Mic-E that a gate passes is its sender's, and not the gate's", () => {
+  const net = netOfLines([place(0, "Q1GATE", 54, -3), row("mic-e", 60, "Q1FAR", { gate: "Q1GATE",
+    says: "emergency", latitude: 50, longitude: 8, symbol: "/a" })]);
+  assert.deepEqual(["Q1FAR", "Q1GATE"].map(it => [thing(net, it).urgent, thing(net, it).needSince]),
+    [["emergency", seconds(60)], ["", NaN]]);
+  assert.deepEqual(needsOf(net.things, known()).map(it => it.text),
+    ["EMERGENCY: Q1FAR, 18:01:00"]);
+});
 test("telemetry's names, queries and answers are no traffic, and bulletins go to all", () => {
   const of = (kind, second) => message("Q1A", "Q1B", kind, "unanswered", second,
     { class: kind, id: second });

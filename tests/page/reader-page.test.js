@@ -32,6 +32,13 @@ const rows = () => [...document.querySelectorAll("#files tbody tr")];
 const verdicts = () => Object.fromEntries(rows().map(it =>
   [it.querySelector("th").textContent, it.querySelector(".verdict").textContent]));
 
+/** Takes files of these names away. */
+function takeAway(...names) {
+  for (const name of names)
+    rows().find(it => it.querySelector("th").textContent === name)
+      .querySelector("td:last-child button").click();
+}
+
 test("the page begins without a log, and says that it is ready", { skip }, () => {
   assert.deepEqual([byId("choose").disabled, byId("status").textContent, byId("net").hidden],
     [false, "", true]);
@@ -53,6 +60,43 @@ test("logs are checked, merged and drawn, and what is none says why", { skip }, 
   await aprsfiles.add([fileOf("coast.log", logOf("18:00:02", "COAST"))]);
   assert.equal(aprsfiles.files.length, 3);
 });
+test("a log that was packed twice says so, and one that was packed once is read", { skip },
+  async () => {
+    const packed = times => {
+      let bytes = Buffer.from(logOf("18:07:00", "PACKED"));
+      for (let k = 0; k < times; k++) bytes = zlib.gzipSync(bytes);
+      return new File([bytes], `${times}.log.gz`);
+    };
+    await aprsfiles.add([packed(1), packed(2)]);
+    const { "1.log.gz": once, "2.log.gz": twice } = verdicts();
+    assert.deepEqual([once, twice], ["heard 1 passed 0", "is packed by gzip twice: unpack it once"]);
+    takeAway("1.log.gz", "2.log.gz");
+    await until(() => aprsbook.data.notes.length === 1);
+  });
+test("a picture that the browser can't unpack says why it is no map", { skip }, async () => {
+  const { createImageBitmap } = globalThis;
+  globalThis.createImageBitmap = async () => { throw new Error("out of memory"); };
+  const png = Uint8Array.from([0x89, 80, 78, 71, 13, 10, 26, 10, 0, 0, 0, 0]);
+  await aprsfiles.add([new File([png], "huge.png")]);
+  globalThis.createImageBitmap = createImageBitmap;
+  assert.equal(verdicts()["huge.png"], "is a picture, which no log is, and can\u2019t be drawn as " +
+    "a map: this browser can\u2019t unpack it, which is damaged or too large");
+  takeAway("huge.png");
+  await until(() => aprsbook.data.notes.length === 1);
+});
+test("how large the saved map may be is asked for where there is one, be it of one level", { skip },
+  () => {
+    const { layers: { tiles } } = aprsbook, menu = byId("saves");
+    const field = byId("most").closest("label"), own = { least: tiles.least, most: tiles.most };
+    const isHiddenAt = (least, most) => {
+      Object.assign(tiles, { least, most });
+      menu.dispatchEvent(new Event("toggle"));
+      return field.hidden;
+    };
+    assert.deepEqual([isHiddenAt(12, 11), isHiddenAt(12, 12), isHiddenAt(11, 12)],
+      [true, false, false]);
+    Object.assign(tiles, own);
+  });
 test("the page of the event has what is drawn, and its title", { skip }, async () => {
   enter("name", "Fell <race>");
   await until(() => aprsbook.data.title === "Fell <race>");
