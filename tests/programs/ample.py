@@ -7,15 +7,16 @@ The runs get 200,000 receptions in 70 inputs, receivers' names of 3 MB, a row of
 200,000 messages and as many objects. The inputs are logs, of which a store makes 25 sorted lists of
 8,192 receptions, and books, of which each is a list. Each run has to end well and to write what is
 worked out here from the formats: one that gave up at some size, as if memory were refused, would be
-found. Programs that don't lie beside the first one are left out. Needs Python 3.9, and takes some
-40 seconds.
+found. A fold, and what of it is new to a book, get a million rows in 65 books and 64 MiB. Programs
+that don't lie beside the first one are left out. Needs Python 3.9, and takes a minute.
 """
 import datetime
 import os
 import pathlib
+import resource
 import sys
 import tempfile
-from typing import Callable, Dict, Iterable, List, Sequence
+from typing import Callable, Dict, Iterable, List, Optional, Sequence
 
 import arguments
 from arguments import address, beside, fail
@@ -23,6 +24,9 @@ from arguments import address, beside, fail
 ROWS = 200_000
 INPUTS = 70
 LISTENERS = 60_000
+FOLDED_ROWS = 1_000_000
+FOLDED_BOOKS = 65
+FOLD_MEMORY = 64 << 20
 NOON = datetime.datetime(2024, 5, 1, 12)
 
 
@@ -31,7 +35,7 @@ NOON = datetime.datetime(2024, 5, 1, 12)
 
 def call(n: int) -> str:
     """The station of reception n, which sends nothing else. Later calls have greater numbers."""
-    return f"{'QR'[n // 100_000]}{n % 100_000:05}"
+    return f"{'QRSTUVWXYZ'[n // 100_000]}{n % 100_000:05}"
 
 
 def receiver(n: int) -> str:
@@ -89,13 +93,20 @@ def write_books(path: str, logs: List[str]) -> List[str]:
     return [str(each) for each in books]
 
 
+def row(n: int) -> str:
+    """The row of reception n, a status."""
+    at, name = moment(n), receiver(n)
+    return f"T {at} {at} {name} {name} {frame(call(n), status(n))}\n"
+
+
+def book_of(rows: Sequence[str], gap: int = 30) -> str:
+    """The book of these rows."""
+    return f"APRSBOOK 3 {gap}\n{''.join(rows)}END {len(rows)}\n"
+
+
 def book(gap: int = 30) -> Iterable[str]:
     """The book of all receptions."""
-    yield f"APRSBOOK 3 {gap}\n"
-    for n in range(ROWS):
-        at, name = moment(n), receiver(n)
-        yield f"T {at} {at} {name} {name} {frame(call(n), status(n))}\n"
-    yield f"END {ROWS}\n"
+    yield book_of([row(n) for n in range(ROWS)], gap)
 
 
 def listing() -> Iterable[str]:
@@ -114,9 +125,10 @@ def history() -> Iterable[str]:
 # ---- runs
 
 
-def written(command: Sequence[str]) -> str:
-    """What a command that ends well writes."""
-    ended, text, said = arguments.run(command)
+def written(command: Sequence[str], memory: Optional[int] = None) -> str:
+    """What a command that ends well writes, in so many bytes of addresses where they are given."""
+    limits = {resource.RLIMIT_AS: memory} if memory is not None else None
+    ended, text, said = arguments.run(command, limits=limits)
     if (ended, said) != (0, ""):
         fail(f"{' '.join(command)[:120]}: status {ended}, {said!r:.200}")
     return text
@@ -169,6 +181,21 @@ def tries_a_long_row(path: str, scratch: pathlib.Path) -> None:
     expects([path, "merge", *logs], ["APRSBOOK 3 30\n", row, "END 1\n"])
 
 
+def tries_folds(fold: str, scratch: pathlib.Path) -> None:
+    """A million rows in 65 books: their fold, and what of it is new to the first of them."""
+    rows = [row(n) for n in range(FOLDED_ROWS)]
+    books = []
+    for first in range(FOLDED_BOOKS):
+        path = scratch / f"folded{first}.book"
+        path.write_text(book_of(rows[first::FOLDED_BOOKS]), encoding="utf8")
+        books.append(str(path))
+    if written([fold, *books], FOLD_MEMORY) != book_of(rows):
+        fail(f"the fold of {FOLDED_ROWS:,} rows in {FOLDED_BOOKS} books is another book")
+    news = [it for n, it in enumerate(rows) if n % FOLDED_BOOKS]
+    if written([fold, "--new-to", *books], FOLD_MEMORY) != book_of(news):
+        fail(f"the news of {FOLDED_ROWS:,} rows in {FOLDED_BOOKS} books are another book")
+
+
 def tries_tables(table: str, inputs: Dict[str, List[str]]) -> None:
     """The four tables, each of receptions that it tells."""
     calls = [call(n) for n in range(ROWS)]
@@ -214,6 +241,7 @@ def main() -> None:
             print("left out: aprsbook-fold with ample memory (it isn't there)")
         else:
             expects([str(fold), *books["status"]], book())
+            tries_folds(str(fold), scratch)
     print(f"with ample memory the runs take {ROWS:,} receptions in {INPUTS} inputs")
 
 
