@@ -49,7 +49,7 @@ got_begins : {A : Type 0} (gap limit : ℕ) (s : RowStream A) (known after : Opt
 got_begins gap limit s None after before x left going is h = tt
 got_begins gap limit s (Some text) None before x left going is h = absurd h.took
 got_begins gap limit s (Some text) (Some rest) before x left going is h =
-    let b = begins_in gap s.reader.stage (before ++ x ∷ []) s.reader.line.items h.stands.0 x before
+    let b = begins_in gap s.reader.stage (before ++ x ∷ []) h.stands.2.line h.stands.0 x before
     refl going is h.stands.2.lines in
     let whole : text ≡ h.stands.0 ++ (bytes_left s.piece ++ rest) =
     h.took ∙ ap (λ l. l ++ rest) h.stands.1

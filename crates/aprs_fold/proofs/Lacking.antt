@@ -83,7 +83,7 @@ pub sound_front : {R A : Type 0} (remaining : R → Option (List ℕ)) (limit ga
 sound_front remaining limit gap f n s t known h = elim h.gets [
   | inl one ↦ subst (λ (l : List Row). Sound (millis_of gap) (t ++ l)) (sym one.1)
       (subst (λ (g : ℕ). Sound (millis_of g) (t ++ one.0 ∷ [])) h.gap_is
-      (sound_rows s.reader.stage (t ++ one.0 ∷ []) s.reader.line.items one.0 t refl
+      (sound_rows s.reader.stage (t ++ one.0 ∷ []) one.3.got.stands.2.line one.0 t refl
       one.3.got.stands.2.lines.holds))
   | inr none ↦ subst (λ (l : List Row). Sound (millis_of gap) (t ++ l)) (sym none.0)
       (subst (Sound (millis_of gap)) (sym (append-nil t)) known)

@@ -125,7 +125,7 @@ module _ {R A : Type 0} (remaining : R → Option (List ℕ)) (limit gap : ℕ) 
         let same : one.0 ≡ y = (let e : Some one.0 ≡ Some y
         = ap (last_or None) (sym one.1) ∙ is in cc) in
         let got = one.3.got.stands in
-        let rows = rows_of_stage s.reader.stage ((t ++ x ∷ []) ++ one.0 ∷ []) s.reader.line.items
+        let rows = rows_of_stage s.reader.stage ((t ++ x ∷ []) ++ one.0 ∷ []) got.2.line
         one.0 (t ++ x ∷ []) refl got.2.lines.holds in
         let below = last_two (IsBelow row_cmp) t x one.0
         (rows_sound rows.0 ((t ++ x ∷ []) ++ one.0 ∷ []) rows.1).ascending in

@@ -79,7 +79,7 @@ module _ {R A : Type 0} (remaining : R → Option (List ℕ)) (limit gap : ℕ) 
   got_other s None after x left unlike h = tt
   got_other s (Some text) None x left unlike h = absurd h.took
   got_other s (Some text) (Some rest) x left unlike h =
-      let b = began s.reader.stage (x ∷ []) s.reader.line.items h.stands.0 x refl
+      let b = began s.reader.stage (x ∷ []) h.stands.2.line h.stands.0 x refl
       h.stands.2.lines in
       let whole : text ≡ h.stands.0 ++ (bytes_left s.piece ++ rest) =
       h.took ∙ ap (λ l. l ++ rest) h.stands.1
