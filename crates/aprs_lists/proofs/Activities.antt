@@ -1,13 +1,12 @@
 -- What is kept of stations says how active they were in the rows so far.
 use Rattle.aprs_lists.proofs.Common.{◌≡◌, ◌∙◌, ◌++◌, ◌∷◌, [], ℕ, Bool, List, None, Option, Some, ap, append-nil, arith, length, map, refl, subst, sym, call_total, Row}
-use Rattle.std.proofs.Common.{◌+◌, ◌<◌, ◌≤◌, cond, false, max, true, if◌then◌else◌, length-append}
+use Rattle.std.proofs.Common.{◌+◌, ◌<◌, ◌≤◌, cond, false, true, if◌then◌else◌, length-append}
 use Rattle.std.proofs.lemmas.Cmp.{tied_itself}
 use Rattle.std.proofs.lemmas.List.{map-append}
 use Rattle.std.proofs.lemmas.List.Elements.{filter-append}
 use Rattle.std.proofs.lemmas.List.Sums.{count_by-le-length, sum_by-append}
-use Rattle.std.specs.BTreeMap.{insert_entry, is_at}
+use Rattle.std.specs.BTreeMap.{insert_entry}
 use Rattle.std.specs.List.{count_by, filter}
-use Rattle.std.specs.Map.{lookup}
 use Rattle.std.specs.Ordering.{is_eq, ordering_reverse}
 use Rattle.std.specs.declared.cmp.Ordering.{Ordering}
 use Rattle.std.specs.declared.cmp.Ordering.TheVariants.{Equal, Greater, Less}
@@ -15,10 +14,11 @@ use Rattle.aprs_ax25.specs.Callsign.{Call, call_cmp}
 use Rattle.aprs_transmissions.proofs.Orders.{call_exact}
 use Rattle.aprs_transmissions.specs.Row.{last_moment, row_key}
 use Rattle.aprs_rows.proofs.Cases.{by_order}
-use Rattle.aprs_summary.proofs.Collected.{Adds, SoFar}
+use Rattle.aprs_summary.proofs.Collected.{SoFar}
 use Rattle.aprs_summary.specs.Reports.{has_source}
 use Rattle.aprs_summary.specs.StationRows.{source_of}
-use Rattle.aprs_lists.specs.Activity.{AreActivities, frames_passed, heard_kept, heard_last, kept_of, later, latest, passed_kept, passes_on, rows_from, with_row}
+use Rattle.aprs_lists.specs.Activity.{AreActivities, frames_passed, heard_kept, heard_last, kept_of, later, latest, passed_kept, passes_on, rows_from, with_last, with_one_more, with_row}
+use Rattle.aprs_lists.specs.declared.activity.Active.{Active}
 use Rattle.aprs_lists.specs.declared.activity.Activity.{Activity}
 
 -- ---- one moment more
@@ -92,7 +92,7 @@ either_way Greater = refl
 turned_call : (a b : Call) → is_eq (call_cmp b a) ≡ is_eq (call_cmp a b)
 turned_call a b = ap is_eq (call_total.antisymm b a) ∙ either_way (call_cmp a b)
 
-same_call : (a b : Call) → is_eq (call_cmp a b) ≡ true → a ≡ b
+pub same_call : (a b : Call) → is_eq (call_cmp a b) ≡ true → a ≡ b
 same_call a b e = by_order (call_cmp a b)
     (λ o. absurd (let f : false ≡ true = sym (ap is_eq o) ∙ e in cc))
     (λ o. call_exact a b o)
@@ -114,6 +114,34 @@ put_other call other (e ∷ es) a n = by_order (call_cmp call e.0)
     (λ o. by_test (is_eq (call_cmp other e.0))
     (λ t. rw (o, t) refl)
     (λ t. rw (o, t) (put_other call other es a n)))
+
+put_twice : (call : Call) (es : List (Call × Activity)) (a b : Activity)
+    → insert_entry call_cmp (insert_entry call_cmp es call a) call b ≡ insert_entry call_cmp es call b
+put_twice call [] a b = rw (tied_itself call_total call) refl
+put_twice call (e ∷ es) a b = by_order (call_cmp call e.0)
+    (λ o. rw (o, tied_itself call_total call) refl)
+    (λ o. rw (o, o) refl)
+    (λ o. rw (o, o) (ap (λ l. e ∷ l) (put_twice call es a b)))
+
+-- ---- the station that was counted last
+
+module _ (es : List (Call × Activity)) (call : Call) (t : Active) (last : Option Active)
+    (now : List (Call × Activity)) (is : with_last last es ≡ now) (some : last ≡ Some t)
+    (own : t.station ≡ call) where
+  entries_now : now ≡ insert_entry call_cmp es call t.activity
+  entries_now = sym is ∙ (λ i. with_last (some i) es)
+      ∙ ap (λ c. insert_entry call_cmp es c t.activity) own
+
+  pub kept_of_last : kept_of call now ≡ Some t.activity
+  kept_of_last = ap (kept_of call) entries_now ∙ put_own call es t.activity
+
+  pub more_of_last : (moment : ℕ) (passes : Bool)
+      → insert_entry call_cmp es call (with_row (Some t.activity) moment passes)
+      ≡ with_one_more call moment passes now
+  more_of_last moment passes =
+      sym (put_twice call es t.activity (with_row (Some t.activity) moment passes))
+      ∙ sym (λ i. insert_entry call_cmp (entries_now i) call
+      (with_row (kept_of_last i) moment passes))
 
 -- ---- the entries so far
 

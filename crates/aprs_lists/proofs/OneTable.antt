@@ -1,5 +1,5 @@
 -- Sets with the same members have one text of each table.
-use Rattle.aprs_lists.proofs.Common.{◌≡◌, ◌∙◌, ◌++◌, ◌∷◌, [], ℕ, List, None, Option, Some, ap, arith, refl, subst, sym, call_text, bytes_total, bool_cmp_total, on_total, then_total, IsTotalOrder, BookOf, Received, Row, SameMembers, ◌∈◌, Key, call_total, known_once, not_both}
+use Rattle.aprs_lists.proofs.Common.{◌≡◌, ◌∙◌, ◌++◌, [], ℕ, List, None, Option, Some, ap, arith, refl, subst, sym, bytes_total, bool_cmp_total, on_total, then_total, IsTotalOrder, BookOf, Received, Row, SameMembers, ◌∈◌, Key, call_total, known_once, not_both}
 use Rattle.std.specs.List.{count_by}
 use Rattle.aprs_ax25.specs.Callsign.{Call, call_cmp}
 use Rattle.aprs_transmissions.proofs.Books.{unique}

@@ -1,6 +1,6 @@
 -- How active stations were: when each was heard last, and how many frames of others it passed on.
 use Rattle.std.specs.Prelude.{◌≡◌, ℕ, ◌+◌, max, Bool, if◌then◌else◌, List, [], ◌∷◌, map, Option, None, Some}
-use Rattle.std.specs.BTreeMap.{is_at}
+use Rattle.std.specs.BTreeMap.{insert_entry, is_at}
 use Rattle.std.specs.List.{count_by, filter}
 use Rattle.std.specs.Map.{lookup}
 use Rattle.std.specs.Option.{is_some, option_map}
@@ -8,6 +8,7 @@ use Rattle.aprs_ax25.specs.Callsign.{Call, call_cmp}
 use Rattle.aprs_details.specs.ThirdParty.{passed_of}
 use Rattle.aprs_transmissions.specs.Row.{Row, last_moment, row_key}
 use Rattle.aprs_summary.specs.Reports.{has_source}
+use Rattle.aprs_lists.specs.declared.activity.Active.{Active}
 use Rattle.aprs_lists.specs.declared.activity.Activity.{Activity}
 
 -- The rows of a station, those of frames that it passed on too.
@@ -57,6 +58,16 @@ with_row known moment passes = record {
   heard = later moment (heard_kept known);
   passed = passed_kept known + (if passes then 1 else 0);
 }
+
+-- What is kept after one more row of a station, of this last moment.
+abbrev pub with_one_more : Call → ℕ → Bool → List (Call × Activity) → List (Call × Activity)
+with_one_more call moment passes es =
+    insert_entry call_cmp es call (with_row (kept_of call es) moment passes)
+
+-- What is kept, with that of the station that was counted last, if there is one.
+abbrev pub with_last : Option Active → List (Call × Activity) → List (Call × Activity)
+with_last None es = es
+with_last (Some a) es = insert_entry call_cmp es a.station a.activity
 
 -- The entries say of each station how active it was in these rows.
 pub record AreActivities (rows : List Row) (es : List (Call × Activity)) : Type 0 where

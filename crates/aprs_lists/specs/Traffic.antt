@@ -1,7 +1,6 @@
 -- What the rows of a book hold of messages: their copies, and the answers to them.
 use Rattle.std.specs.Prelude.{◌≡◌, ◌↔◌, ℕ, Bool, true, false, List, [], ◌∷◌, ◌++◌, map, Option, None, Some}
 use Rattle.std.specs.Ordering.{on}
-use Rattle.aprs_ax25.specs.Callsign.{Call}
 use Rattle.aprs_ax25.specs.CallText.{SpellsCall}
 use Rattle.aprs_report.specs.Reader.{reading_of}
 use Rattle.aprs_report.specs.Reading.{Value, message, ack, rej}

@@ -1,8 +1,6 @@
 //! How active stations were.
-ghost use Rattle.std.specs.Prelude.{◌≡◌, ◌<◌, ◌≤◌, IfOk, OnOk, length};
-ghost use Rattle.std.specs.BTreeMap.{insert_entry};
+ghost use Rattle.std.specs.Prelude.{◌≡◌, ◌<◌, ◌≤◌, [], IfOk, OnOk, length};
 ghost use Rattle.std.specs.Option.{option_copied};
-ghost use Rattle.aprs_ax25.specs.Callsign.{call_cmp};
 ghost use Rattle.aprs_transmissions.specs.Row.{last_moment};
 ghost use Rattle.aprs_summary.specs.StationRows.{source_of};
 ghost use Rattle.aprs_lists.specs.Activity as Spec;
@@ -13,6 +11,7 @@ use aprs_log::Moment;
 use aprs_rows::{BookRows, Memory, RowView};
 use std::alloc::Allocator;
 use std::collections::BTreeMap;
+use std::marker::Model;
 
 /// When a station was heard last, and how many frames of others it passed on.
 #[derive(Drop)]
@@ -21,6 +20,97 @@ pub(crate) struct Activity {
     pub heard: Moment,
     /// How many of its transmissions pass on the frame of another station.
     pub passed: u64,
+}
+
+/// A station, and how active it was.
+#[derive(Drop)]
+pub(crate) struct Active {
+    station: Callsign,
+    activity: Activity,
+}
+
+/// How active each station was by the rows that were counted. The station that was counted last is
+/// put into the map where another follows it, since most rows follow one of their own station.
+struct Activities<A: Allocator> {
+    map: BTreeMap<Callsign, Activity, A>,
+    last: Option<Active>,
+}
+
+impl<A: Allocator> Drop for Activities<A> {
+    fn drop(self) {
+        let Activities { map, last: _ } = self;
+        drop(map);
+    }
+}
+
+impl<A: Allocator> Model for Activities<A> {
+    ghost use Rattle.std.specs.Prelude.{List};
+    ghost use Rattle.aprs_ax25.specs.Callsign.{Call};
+    ghost use Rattle.aprs_lists.specs.Activity.{with_last};
+    ghost use Rattle.aprs_lists.specs.declared.activity.Activity.{Activity as ActivityValue};
+
+    ghost Value = { List (Call × ActivityValue) };
+
+    ghost view = { λ a. with_last a.last a.map.entries };
+}
+
+impl<A: Allocator + Copy> Activities<A> {
+    /// No rows were counted yet. Takes no memory.
+    fn new(alloc: A) -> Activities<A>
+        ensures { result ≡ [] }
+    {
+        Activities {
+            map: BTreeMap::new(alloc),
+            last: None,
+        }
+    }
+
+    /// Counts one more row of this station, which has to have passed on fewer than 2^64 - 1 frames
+    /// so far. After `Memory` what is kept of the last station may be lost.
+    fn add(&mut self, station: &Callsign, moment: Moment, passes: bool) -> Result<(), Memory>
+        requires { Spec.passed_kept (Spec.kept_of station.now self.old) < 18446744073709551615 }
+        ensures { OnOk result (self.new ≡ Spec.with_one_more station.now moment passes self.old) }
+    {
+        let last = match self.last.take() {
+            Some(last) if last.station.cmp(station).is_eq() => {
+                self.last = Some(Active {
+                    activity: with_row(Some(&last.activity), moment, passes),
+                    station: last.station,
+                });
+                return Ok(());
+            }
+            last => last,
+        };
+        put(&mut self.map, last)?;
+        let activity = with_row(self.map.get(station), moment, passes);
+        self.last = Some(Active {
+            station: station.copy(),
+            activity,
+        });
+        Ok(())
+    }
+
+    /// How active each station was, ascending by callsign.
+    fn into_map(self) -> Result<BTreeMap<Callsign, Activity, A>, Memory>
+        ensures { IfOk result (λ map. map.entries ≡ self) }
+    {
+        let Activities { mut map, last } = self;
+        put(&mut map, last)?;
+        Ok(map)
+    }
+}
+
+/// Puts the station that was counted last into the map. Without such a station the map stays.
+fn put<A: Allocator + Copy>(
+    map: &mut BTreeMap<Callsign, Activity, A>,
+    last: Option<Active>,
+) -> Result<(), Memory>
+    ensures { OnOk result (map.new.entries ≡ Spec.with_last last map.old.entries) }
+{
+    if let Some(Active { station, activity }) = last {
+        map.insert(station, activity)?;
+    }
+    Ok(())
 }
 
 /// How active each station of these rows was, in one pass over them. At most `most` of them may
@@ -33,32 +123,29 @@ pub(crate) fn activities_of<A: Allocator + Copy>(
     requires { length rows.rows ≤ most }
     ensures { IfOk result (λ map. Spec.AreActivities rows.entry.rows map.entries) }
 {
-    let mut map = BTreeMap::new(alloc);
+    let mut activities = Activities::new(alloc);
     for row in rows {
-        count_row(&mut map, &row)?;
+        count_row(&mut activities, &row)?;
     }
-    Ok(map)
+    activities.into_map()
 }
 
 /// Adds one more row to what is kept of its station, which has to have passed on fewer than
 /// 2^64 - 1 frames so far.
 #[tactic(auto, unfolding(aprs_transmissions::specs::Key::key_of))]
 fn count_row<A: Allocator + Copy>(
-    map: &mut BTreeMap<Callsign, Activity, A>,
+    activities: &mut Activities<A>,
     row: &RowView<'_>,
 ) -> Result<(), Memory>
-    requires { Spec.passed_kept (Spec.kept_of (source_of row.now) map.old.entries)
+    requires { Spec.passed_kept (Spec.kept_of (source_of row.now) activities.old)
         < 18446744073709551615 }
-    ensures { OnOk result (map.new.entries ≡ insert_entry call_cmp map.old.entries
-        (source_of row.now) (Spec.with_row (Spec.kept_of (source_of row.now) map.old.entries)
-        (last_moment row.now) (Spec.passes_on row.now))) }
+    ensures { OnOk result (activities.new ≡ Spec.with_one_more (source_of row.now)
+        (last_moment row.now) (Spec.passes_on row.now) activities.old) }
 {
     let frame = row.frame();
     let source = frame.source();
     let passes = ThirdParty::read(frame.info()).is_some();
-    let activity = with_row(map.get(&source), row.last(), passes);
-    map.insert(source, activity)?;
-    Ok(())
+    activities.add(&source, row.last(), passes)
 }
 
 /// What is kept of a station after one more row that was heard last at this moment.

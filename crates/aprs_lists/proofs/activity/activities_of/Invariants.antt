@@ -4,4 +4,4 @@ use Rattle.aprs_lists.proofs.activity.activities_of.Given as goal
 
 abbrev pub invariant-loop-row : goal.invariant-loop-row
 invariant-loop-row g l =
-    SoFar (λ done. AreActivities done l.map.entries) l.fn.rows.rows l.row-iterator.rows
+    SoFar (λ done. AreActivities done l.activities) l.fn.rows.rows l.row-iterator.rows
