@@ -129,7 +129,7 @@ complains 1 'aprsbook: emptied.log: input is output' sh -c 'aprsbook merge empti
 complains 0 '' sh -c 'aprsbook merge /dev/null > /dev/null'
 complains 0 '' sh -c 'aprsbook merge < /dev/null > /dev/null'
 complains 0 '' sh -c 'aprsbook-fold --check none.book > /dev/null'
-complains 0 '' sh -c 'aprsbook convert log good.log > other.log && cmp good.log other.log'
+complains 0 '' sh -c 'cp good.log twin.log && aprsbook convert log good.log >> twin.log'
 complains 0 '' sh -c 'cat good.log | aprsbook convert log | cat >> hard.log'
 cp good.log io.log
 mkfifo pipe
