@@ -1,4 +1,4 @@
--- What is held of a line that is read. No public clause cites this module.
+-- What is held of a line that is read.
 use Rattle.std.specs.Prelude.{◌≡◌, ℕ, ◌+◌, ◌<◌, ◌≤◌, ◌&&◌, ◌⊎◌, Bool, true, false, List, ◌++◌, length, Option, None, Some, nat_le, take}
 use Rattle.aprs_bookfile.specs.RowPlace.{place_in}
 use Rattle.aprs_bookfile.specs.declared.row_place.Place.{Place}

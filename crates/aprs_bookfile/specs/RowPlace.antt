@@ -1,4 +1,4 @@
--- How far a line begins as a row's line does. No public clause cites this module.
+-- How far a line begins as a row's line does.
 use Rattle.std.specs.Prelude.{ℕ, ◌+◌, ◌==◌, ◌||◌, ◌&&◌, if◌then◌else◌, Bool, List, [], ◌∷◌, Option, None, Some, nat_le, nat_lt}
 use Rattle.aprs_log.specs.Receiver.{is_name_byte}
 use Rattle.aprs_bookfile.specs.declared.row_place.Field.{Field}
