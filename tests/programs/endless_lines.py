@@ -18,9 +18,10 @@ HEADER, MOMENT = "APRSBOOK 3 30\n", "2024-05-01T12:00:00.000Z"
 START = f"T {MOMENT} {MOMENT} "
 FRAME = "82a0a4a64040e09c60868298986f03f03e4869"
 GIB, MIB = 1 << 30, 1 << 20
-ADDRESSES = 64 * MIB
-LONG = 96 * MIB
+LONG = 96 * MIB  # of a line; the longest have 1 GiB
+LEFT = 64 * MIB  # addresses that a program has for such a line
 RECEIVERS = 1_000_000
+LEFT_FOR_ROW = 192 * MIB  # addresses for a row of so many receivers, whose line has 9 MB
 
 
 class Endless(NamedTuple):
@@ -35,7 +36,7 @@ class Endless(NamedTuple):
 
 ENDLESS = [
     Endless("zeros as a first line", "", b"\0", 1, "Header"),
-    Endless("a header that goes on", "APRSBOOK 3 30", b"0", 1, "Header"),
+    Endless("a header that goes on", "APRSBOOK 3 3000", b"0", 1, "Header"),
     Endless("a row as a first line", START, b"RX,", 1, "Header"),
     Endless("zeros as a row", HEADER, b"\0", 2, "RowSyntax", GIB - MIB),
     Endless("digits as a row", HEADER, b"0123456789", 2, "RowSyntax", GIB - MIB),
@@ -46,7 +47,7 @@ ENDLESS = [
     Endless("zeros among names", HEADER + START + "RX,", b"\0", 2, "RowSyntax"),
     Endless("an endless receiver", HEADER + START + "RX ", b"RX", 2, "RowSyntax"),
     Endless("two names of a receiver", HEADER + START + "RX ", b"RX,", 2, "RowSyntax"),
-    Endless("endless digits of a frame", HEADER + START + "RX RX ", b"82a0", 2, "RowSyntax"),
+    Endless("endless digits of a frame", HEADER + START + "RX RX ", b"82a", 2, "RowSyntax"),
     Endless("capitals as digits", HEADER + START + "RX RX ", b"A0", 2, "RowSyntax"),
     Endless("fields without an end", HEADER + START + "RX RX 82a0", b" 82a0", 2, "RowSyntax"),
 ]
@@ -57,16 +58,16 @@ def fail(said: str) -> NoReturn:
     sys.exit(f"tests/programs/endless_lines.py: {said}")
 
 
-def limit() -> None:
+def leave(addresses: int) -> None:
     """Leaves the program so few addresses."""
-    resource.setrlimit(resource.RLIMIT_AS, (ADDRESSES, ADDRESSES))
+    resource.setrlimit(resource.RLIMIT_AS, (addresses, addresses))
 
 
 def said_of(command: Sequence[str], endless: Endless, size: int, end: str) -> str:
     """Status and complaint of a command with such an input of this size on standard input."""
     piece = (endless.more * MIB)[:MIB]
-    ran = subprocess.Popen(command, preexec_fn=limit, stdin=subprocess.PIPE, stdout=subprocess.DEVNULL,
-                           stderr=subprocess.PIPE)
+    ran = subprocess.Popen(command, preexec_fn=lambda: leave(LEFT), stdin=subprocess.PIPE,
+                           stdout=subprocess.DEVNULL, stderr=subprocess.PIPE)
     assert ran.stdin and ran.stderr
     try:
         ran.stdin.write(endless.start.encode() + endless.more)
@@ -97,9 +98,10 @@ def try_endless(commands: Sequence[List[str]]) -> None:
 def try_long_row(commands: Sequence[List[str]]) -> None:
     """A row of a million receivers is written as it is."""
     names = ",".join(f"RX{number:06}" for number in range(RECEIVERS))
-    book = f"{HEADER}{START}{names} RX000000 {FRAME}\nEND 1\n".encode()
+    book = f"{HEADER}{START}{names} RX{RECEIVERS - 1:06} {FRAME}\nEND 1\n".encode()
     for command in commands:
-        ran = subprocess.run(command, input=book, stdout=subprocess.PIPE, check=False)
+        ran = subprocess.run(command, preexec_fn=lambda: leave(LEFT_FOR_ROW), input=book, stdout=subprocess.PIPE,
+                             check=False)
         if ran.returncode or ran.stdout != book:
             fail(f"a row of {RECEIVERS} receivers: {' '.join(command)}: {ran.returncode}")
 
