@@ -2,7 +2,7 @@
 """Kills aprs-net at random moments of log, book, follow, watch, sqlite and page, runs it again, and
 says whether that ended right. Needs the programs in the PATH.
 
-usage: tests/kills.py [KILLS]    so many in all (200)
+usage: tests/kills.py [KILLS [COMMAND..]]    so many of each command (200), or of these
 """
 import json
 import os
@@ -157,17 +157,16 @@ def try_log(kills: int, place: pathlib.Path) -> List[str]:
 
 def main() -> int:
     kills = int(sys.argv[1]) if len(sys.argv) > 1 else 200
+    names = sys.argv[2:] or ["log", *RUNS]
     random.seed()
     wrong: List[str] = []
-    with tempfile.TemporaryDirectory(prefix="kills-") as name:
-        place = pathlib.Path(name)
-        each = -(-kills // (len(RUNS) + 1))
-        wrong += try_log(each, place)
-        for name in RUNS:
-            wrong += try_run(name, each, place)
-            print(f"{name}: {each} kills, wrong: {sum(it.startswith(name) for it in wrong)}",
-                  flush=True)
-    print("\n".join(wrong) if wrong else f"{each * (len(RUNS) + 1)} kills, and all ended right")
+    with tempfile.TemporaryDirectory(prefix="kills-") as folder:
+        place = pathlib.Path(folder)
+        for name in names:
+            own = try_log(kills, place) if name == "log" else try_run(name, kills, place)
+            print(f"{name}: {kills} kills, wrong: {len(own)}", flush=True)
+            wrong += own
+    print("\n".join(wrong) if wrong else f"{kills * len(names)} kills, and all ended right")
     return 1 if wrong else 0
 
 

@@ -71,7 +71,7 @@ class Hosts:
                 os.mkdir(os.path.dirname(real))
                 shutil.copy(HERE / "stand_in.py", real)
                 os.chmod(real, 0o755)
-            text = f'#!/bin/sh\n[ "$1" != merge ] || sleep "${{SLOW:-0.3}}"\nexec {real} "$@"\n'
+            text = f'#!/bin/sh\n[ "$1" != merge ] || sleep "${{SLOW:-0.15}}"\nexec {real} "$@"\n'
             (self.bin / name).write_text(text)
             (self.bin / name).chmod(0o755)
         (self.bin / "aprs-net").symlink_to(HERE.parent / "bin/aprs-net")
@@ -210,7 +210,7 @@ def test_a_worker_is_killed(hosts: Hosts) -> None:
 
 
 def test_two_of_three_workers_are_frozen(hosts: Hosts) -> None:
-    run = hosts.merge("frozen", "frozen.book", patience=5)
+    run = hosts.merge("frozen", "frozen.book", patience=3)
     hosts.halfway("frozen")
     for it in hosts.workers[:2]:
         it.send_signal(signal.SIGSTOP)
@@ -220,7 +220,7 @@ def test_two_of_three_workers_are_frozen(hosts: Hosts) -> None:
     finally:
         for it in hosts.workers[:2]:
             it.send_signal(signal.SIGCONT)  # and what they do late does no harm
-    time.sleep(1)
+    time.sleep(0.5)
     hosts.ends(hosts.merge("frozen", "frozen.book"), 0)
     hosts.is_book("frozen.book")
 
@@ -280,7 +280,7 @@ def test_the_scheduler_is_killed(hosts: Hosts) -> None:
     for it in [hosts.scheduler, *hosts.workers]:
         it.kill()
         it.wait()
-    time.sleep(2)
+    time.sleep(0.5)
     hosts.workers.clear()
     hosts.begin()
     hosts.ends(run, 0)

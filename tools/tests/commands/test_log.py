@@ -116,6 +116,13 @@ def test_places_that_are_none_are_refused(tmp_path: pathlib.Path, place: str) ->
     assert "HOST:PORT" in said or "can't be a host's name" in said
 
 
+def test_seconds() -> None:
+    assert [log_command.seconds(it) for it in ("0.5", "1", "1s", "2m")] == [0.5, 1, 1, 120]
+    for it in "0", "0s", "-1", "1e6", "x":
+        with pytest.raises(argparse.ArgumentTypeError):
+            log_command.seconds(it)
+
+
 def test_places() -> None:
     assert tcp.place("[::1]:8001") == ("::1", 8001)
     assert tcp.place("localhost:65535") == ("localhost", 65535)

@@ -8,7 +8,7 @@ from conftest import tried
 from hypothesis import given
 from hypothesis import strategies as st
 
-from aprsbook_tools.reports.roster import Expected, call_of, read_roster, roster_of
+from aprsbook_tools.reports.roster import LONGEST, Expected, call_of, read_roster, roster_of
 
 CALLS = st.from_regex(r"[A-Z0-9]{1,6}(-([1-9]|1[0-5]|\*))?", fullmatch=True)
 NAMES = st.text(st.characters(blacklist_categories=("C", "Z")), min_size=1, max_size=12)
@@ -198,6 +198,13 @@ def test_heads_that_are_known_are_said() -> None:
     assert "no head, whose names are call, callsign, station, name," in str(fault)
     [fault] = read_roster("Q1NET;Control\nRufzeichen;Name\n").faults
     assert "no head" not in str(fault)
+
+
+def test_a_line_has_so_many_letters_at_most() -> None:
+    longest = "Q1RUN-7 " + "x" * (LONGEST - 8)
+    assert [it.call for it in read_roster(longest + "\n").expected] == ["Q1RUN-7"]
+    [fault] = read_roster(f"Q1NET\n{longest}x\n").faults
+    assert str(fault) == "line 2: longer than 100000 letters"
 
 
 def test_a_roster_of_many_lines_with_open_quotes_is_read_soon() -> None:

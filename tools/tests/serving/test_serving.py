@@ -47,6 +47,13 @@ def test_lines_are_taken_once(net: Served) -> None:
         "1999-01-01": "0-" + "0" * 32}
 
 
+def test_a_file_that_cannot_be_written_is_said(net: Served) -> None:
+    (net.logs / "1999-01-02" / "HILL.log").mkdir(parents=True)
+    answer = net.push(line(1, day="1999-01-02"), day="1999-01-02")
+    assert (answer.status, answer.says) == (500, {"fault": "Is a directory"})
+    assert "1999-01-02/HILL.log: Is a directory" in net.said
+
+
 def test_lines_that_are_refused_are_named(net: Served) -> None:
     it = net.push(line(11), b"no line\n", line(12, "COAST"), line(13, day="2024-06-21"),
                   b"%sT00:00:00Z HILL c\n" % DAY.encode(), line(14),

@@ -1,5 +1,6 @@
 """Files are written whole or not at all, and never over what must stay."""
 import concurrent.futures
+import fcntl
 import itertools
 import os
 import pathlib
@@ -7,7 +8,9 @@ import resource
 import stat
 import subprocess
 import sys
+import threading
 import time
+from typing import List
 
 import pytest
 
@@ -70,6 +73,37 @@ def test_threads_do_not_take_each_others_umask(
         assert os.umask(0o022) == 0o022
     finally:
         os.umask(before)
+
+
+def test_who_waits_for_a_lock_is_told(tmp_path: pathlib.Path, monkeypatch: pytest.MonkeyPatch
+                                      ) -> None:
+    path, waits = str(tmp_path / "net.book"), threading.Event()
+    told: List[bool] = []
+    flock = fcntl.flock
+
+    def seen(file: int, how: int) -> None:
+        try:
+            flock(file, how)
+        except BlockingIOError:
+            waits.set()
+            raise
+
+    def other() -> None:
+        with atomic.locked(path) as has_waited:
+            told.append(has_waited)
+
+    monkeypatch.setattr(fcntl, "flock", seen)
+    before = os.umask(0o022)
+    try:
+        with atomic.locked(path) as has_waited:
+            thread = threading.Thread(target=other)
+            thread.start()
+            assert not has_waited and waits.wait(60) and told == []
+        thread.join()
+    finally:
+        os.umask(before)
+    assert told == [True]
+    assert stat.S_IMODE((tmp_path / ".net.book.lock").stat().st_mode) == 0o644
 
 
 def test_a_link_to_nothing_makes_what_it_names(tmp_path: pathlib.Path) -> None:

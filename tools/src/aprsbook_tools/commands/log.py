@@ -130,7 +130,7 @@ def refusal(args: argparse.Namespace) -> Optional[str]:
 
 def source_of(args: argparse.Namespace) -> source.Source:
     if args.connect:
-        return tcp.Tcp(args.connect, args.idle or 900)
+        return tcp.Tcp(args.connect, args.idle or tcp.IDLE)
     if args.serial:
         return serial.Serial(args.serial, args.baud)
     if args.aprs_is:

@@ -135,7 +135,7 @@ def run(args: argparse.Namespace) -> int:
 
 def begin_loggers(args: argparse.Namespace, on_write: Callable[[str], object]) -> "List[Logger]":
     from aprsbook_tools.serving.loggers import Logger
-    tncs = [(tcp.Tcp(to, 900), name) for to, name in args.tncs]
+    tncs = [(tcp.Tcp(to, tcp.IDLE), name) for to, name in args.tncs]
     serials = [(serial.Serial(to, args.baud), name) for to, name in args.serials]
     return [Logger(source, name, args.logs, on_write, say).begin()
             for source, name in [*tncs, *serials]]

@@ -7,6 +7,7 @@ from aprsbook_tools.errors import said
 from aprsbook_tools.frame_sources.source import Input, Source, Waiting
 
 PATIENCE = 30.0  # seconds for a connection to be made
+IDLE = 900  # seconds without a frame, after which a TNC may be gone without a word
 
 
 class Place(NamedTuple):

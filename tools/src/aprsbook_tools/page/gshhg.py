@@ -63,7 +63,7 @@ def box_around(spots: Counter[Spot]) -> Optional[Box]:
     box = Box(*(round(it * UNIT) for it in (west - beside, low - above, right + beside,
                                             high + above)))
     wide = max((box.east - box.west) * level, box.north - box.south) > MOST_DEGREES * UNIT
-    return None if wide or max(-box.south, box.north) > 89 * UNIT else box
+    return None if wide else box
 
 
 def gmt(*words: str, given: str = "") -> str:

@@ -189,7 +189,7 @@ class Log:
             return False
         at = self.place.at if self.place else 0
         if it.st_ino != self.file or it.st_size < at:
-            self.file, self.place, self.before, at = it.st_ino, None, None, 0
+            self.file, self.place, self.before = it.st_ino, None, None
         return self.place is None or it.st_size > at
 
     def leave_out(self, why: str, line: bytes, say: Say) -> None:
