@@ -129,7 +129,7 @@ def survives(change: Change, folders: List[str]) -> bool:
     """Whether the tests pass with a change, in a copy of what they read."""
     inside = change.path.relative_to(REPOSITORY)
     with tempfile.TemporaryDirectory() as copy:
-        for name in "tools", "examples", "build", "page", "packaging":
+        for name in "tools", "examples", "build", "page", "packaging", "release":
             shutil.copytree(REPOSITORY / name, pathlib.Path(copy, name), symlinks=True)
         pathlib.Path(copy, inside).write_text(change.text, encoding="utf-8")
         tests = folders or tests_of(change)
