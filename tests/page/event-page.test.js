@@ -135,6 +135,12 @@ test("what is picked is told: where, what it says, its graphs, places and frames
   assert.deepEqual(textsOf("#one-graphs figcaption"),
     ["temperature \u00b0C, last 20 \u00b0C", "wind, and gusts m/s, last 0 m/s",
       "humidity %, last 70 %"]);
+  // the lines of a graph stay in its picture, and its points on its lines' scale
+  const [svg] = document.querySelectorAll("#one-graphs svg"), rules = svg.querySelectorAll(".rule");
+  const [, , wide, high] = svg.getAttribute("viewBox").split(" ").map(Number);
+  const spans = [...rules].map(it => /^M([\d.]+) ([\d.]+)H([\d.]+)$/.exec(it.getAttribute("d")));
+  assert.ok(rules.length > 1 && spans.every(it => it && Number(it[1]) < Number(it[3]) &&
+    Number(it[3]) <= wide && Number(it[2]) <= high), `${spans}`);
   assert.equal(facts().weather, "calm, 20 \u00b0C, humidity 70 % at 18:21:00");
   pick("Q1WX");
 });

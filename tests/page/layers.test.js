@@ -17,6 +17,7 @@ import { MarkPainter } from "../../page/src/map/markers.js";
 import { NetMap } from "../../page/src/map/map.js";
 import { scaleBar } from "../../page/src/map/scale-bar.js";
 import { colourOf, TRACKS } from "../../page/src/map/colours.js";
+import { Tracks } from "../../page/src/map/tracks.js";
 import { markOf, symbolOf } from "../../page/src/map/symbols.js";
 import { roundUp } from "../../page/src/util/numbers.js";
 
@@ -189,6 +190,25 @@ test("an object is a square, and an item an arch as wide and as high", () => {
   const item = painted("item");
   assert.deepEqual([item.of("arc")[0].slice(0, 3), item.of("lineTo").slice(0, 2)],
     [[100, 50, 9.5], [[109.5, 59], [90.5, 59]]]);
+});
+test("a track fades, has arrows on its way, and is pale beside one that is picked", () => {
+  const [mark] = marksOf([0, 1, 2, 3].map(k => place(600 * k, "Q1A", 54.5, -3.7 + k * 0.12)));
+  const painted = (of, isAnyPicked) => told(() =>
+    new Tracks(pen, viewOf(), { until: Infinity, isAnyPicked }).paint([{ ...mark, ...of }])).calls;
+  const alphas = calls => calls.filter(it => it.op === "stroke")
+    .map(it => Number(it.globalAlpha.toFixed(3)));
+  assert.deepEqual(alphas(painted({}, false)), [0.35, 0.55, 0.75, 0.95]);
+  assert.deepEqual(alphas(painted({}, true)), [0.105, 0.165, 0.225, 0.285]);
+  const picked = painted({ picked: true }, true).filter(it => it.op === "stroke");
+  assert.deepEqual(picked.map(it => [it.globalAlpha, it.lineWidth]),
+    [0.35, 0.55, 0.75, 0.95].map(it => [it, 4]));
+  // each arrow is filled, and points to the east
+  const calls = painted({}, false), tips = calls.flatMap((it, k) =>
+    it.op === "fill" ? [calls.slice(k - 3, k).map(one => [one.op, one.args[0]])] : []);
+  assert.ok(tips.length > 1);
+  for (const [[a, tip], [b, low], [c, high]] of tips)
+    assert.ok(a === "moveTo" && b === "lineTo" && c === "lineTo" && tip > low && tip > high);
+  assert.equal(pen.globalAlpha, 1);
 });
 test("symbols have shapes and words, and marks for tables", { skip }, () => {
   const of = (table, code) => symbolOf({ table, code });
