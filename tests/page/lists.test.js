@@ -82,6 +82,18 @@ test("what is sorted or sought is shown from its first row on", () => {
   list.show(names(50));
   assert.deepEqual([box.scrollTop, body.children.length], [0, 26]);
 });
+test("the arrow keys go on where the rows that are built end", () => {
+  const list = nameList(element());
+  list.show(names(100));
+  const press = (key, pick) => list.body.dispatchEvent({ type: "keydown", key, target: pick,
+    preventDefault() {} });
+  const last = list.body.rows.at(-1).querySelector(".pick"), { length } = list.body.rows;
+  last.focus();
+  press("ArrowDown", last);
+  press("ArrowDown", last);
+  assert.ok(length < 100);
+  assert.equal(document.activeElement, list.body.rows[length].querySelector(".pick"));
+});
 test("texts are sorted by the numbers in them", () => {
   const list = nameList(element());
   list.show(["Q1A-10", "Q1A-2", "Q1A-1"]);

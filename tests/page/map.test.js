@@ -5,11 +5,11 @@ import zlib from "node:zlib";
 import { capOf, distance, vectorOf } from "../../page/src/geo/sphere.js";
 import { locatorOf } from "../../page/src/geo/coordinate-formats.js";
 import { fromBase85 } from "../../page/src/formats/base85.js";
-import { Projection } from "../../page/src/geo/projection.js";
+import { NEAREST, Projection } from "../../page/src/geo/projection.js";
 import { rangeOf } from "../../page/src/map/layers/graticule.js";
 import { listenToMap, zoomOf } from "../../page/src/map/gestures.js";
 import { crossings, ringsOf } from "../../page/src/map/layers/coastline.js";
-import { StationPainter } from "../../page/src/map/station-layer.js";
+import { StationLayer, StationPainter } from "../../page/src/map/station-layer.js";
 import { nameOnMap, Room, Sides } from "../../page/src/map/label-placement.js";
 import { tileOf } from "../../page/src/map/layers/tile-layer.js";
 
@@ -108,6 +108,16 @@ test("who is in need has a whole mark among many dots", () => {
   assert.deepEqual(painted(300, 0), { whole: 0, dots: 300 });
   // nobody can fill the map
   assert.deepEqual(painted(3000, 2000), { whole: 0, dots: 3000 });
+});
+test("a large pile comes closer at a tap until that has an end, and then fans out", () => {
+  const layer = new StationLayer({ onPick() {}, onDense() {} }), closer = [];
+  const mapAt = scale => ({ view: { scale }, paintSoon() {}, closer: (...at) => closer.push(at) });
+  layer.marks = Array.from({ length: 41 }, (_, k) => ({ x: 100, y: 100, picked: false,
+    place: { vector: vectorOf(54.5, -3.5) }, thing: { key: `station Q1A-${k}` } }));
+  layer.tap(100, 100, mapAt(NEAREST / 2));
+  assert.deepEqual([closer, layer.fan.isOpen], [[[100, 100]], false]);
+  layer.tap(100, 100, mapAt(NEAREST));
+  assert.deepEqual([closer.length, layer.fan.keys.length], [1, 41]);
 });
 test("names stay on their side while the map moves, also above a lone mark", () => {
   const sides = new Sides(400, 300), name = { width: 60, reach: 10, isWanted: false };
