@@ -321,7 +321,7 @@ test("a button saves a file with a name of its own", { skip }, async () => {
   for (const it of document.querySelectorAll("#saves button")) it.click();
   await until(() => saved.length === 6);
   prototype.click = click;
-  assert.deepEqual(saved, ["places.csv", "messages.csv", "net.gpx", "net.geojson", "net.kml",
+  assert.deepEqual(saved.sort(), ["messages.csv", "net.geojson", "net.gpx", "net.kml", "places.csv",
     "table.tsv"]);
 });
 test("maps and rosters that are brought are said, drawn and taken away", { skip }, async () => {
@@ -341,3 +341,13 @@ test("maps and rosters that are brought are said, drawn and taken away", { skip 
   assert.deepEqual([aprsbook.layers.vectors.all.length, page.brought, byId("told").textContent],
     [1, [], ""]);
 });
+test("a large table is drawn in slices, and a drawing that is given up ends with the next", { skip },
+  async () => {
+    const rowsOf = stations => aprsbook.tableOf(table(Array.from({ length: 6000 }, (_, k) =>
+      place(k, `Q1A-${k % stations}`, 54 + k / 1e5, -3, { text: "x".repeat(100) }))));
+    const [first, second] = [5, 7].map(it => aprsbook.show({ ...aprsbook.data,
+      rows: rowsOf(it) }));
+    await first;
+    assert.deepEqual([aprsbook.net.things.length, aprsbook.net.rows.length], [7, 6000]);
+    await second;
+  });
