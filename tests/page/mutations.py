@@ -38,6 +38,11 @@ TURNS: List[Tuple[str, str]] = [
 SURVIVORS: Dict[Tuple[str, str], str] = {
     ("map/tracks.js", "if (way >= each"): "arrows of a way of just so many pixels are one more",
     ("map/layers/coastline.js", "const { x, y } = view, side"): "what is beside the view alone",
+    ("lists/station-facts.js", "for (let n = 0; n < picks"): "a row that isn't there is nobody's",
+    ("formats/pmtiles.js", "if (at >= bytes.length) throw"): "it is cut short a byte later",
+    ("main-node.js", "while (left > 0)"): "where no byte may follow none is read either",
+    ("map/map.js", "if (near && x > 20"): "a place that lies just 20 pixels from the edge",
+    ("app/net-panel.js", "const note = input"): "a field is a letter wider",
 }
 
 
