@@ -64,6 +64,9 @@ test("of many receivers those that heard most are compared, in steps", () => {
 test("of two clocks those are named that differ by more than the gap, ahead or behind", () => {
   const pairs = by => [{ a: "A", b: "B", by, of: 3 }];
   assert.deepEqual(clocksOf(pairs(30), 30).get("A"), { by: 30, of: 3, from: [] });
+  // two pairs of receivers agree, each to the gap: none of a pair is from the other
+  const four = [...pairs(30), { a: "C", b: "D", by: 0, of: 3 }, { a: "A", b: "C", by: 500, of: 3 }];
+  assert.deepEqual(clocksOf(four, 30).get("A").from.map(it => [it.b, it.by]), [["C", 500]]);
   const words = by => clockWords({ clock: clocksOf(pairs(by), 30).get("A") }, 30).text;
   assert.deepEqual([words(31), words(-90)], ["+31 s from B", "\u22121 min 30 s from B"]);
   const clock = { by: NaN, of: 3, from: [{ b: "B", by: 0.6 }] };

@@ -262,6 +262,14 @@ test("the map knows layers alone: it paints, fits, asks and taps them", { skip }
     map.reach(map.view.at(x, y));
     assert.equal(map.view.middle[0] === 54.5 && map.view.middle[1] === -3.5, isNear, `${x} ${y}`);
   }
+  for (const [x, isNear] of [[20, false], [20.1, true]]) {
+    map.fitted = true;
+    const { put } = map.view;
+    map.view.put = () => Object.assign(map.view, { x, y: 200 }) !== null;
+    map.reach(vectorOf(54.5, -3.5));
+    map.view.put = put;
+    assert.equal(map.fitted, isNear);
+  }
   map.look("10,10,20");
   map.look("x,1,2");
   assert.deepEqual(map.view.middle.map(it => Math.round(it)), [10, 10]);

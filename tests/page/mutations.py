@@ -41,7 +41,7 @@ SURVIVORS: Dict[Tuple[str, str], str] = {
     ("lists/station-facts.js", "for (let n = 0; n < picks"): "a row that isn't there is nobody's",
     ("formats/pmtiles.js", "if (at >= bytes.length) throw"): "it is cut short a byte later",
     ("main-node.js", "while (left > 0)"): "where no byte may follow none is read either",
-    ("map/map.js", "if (near && x > 20"): "a place that lies just 20 pixels from the edge",
+    ("net/clock-offsets.js", "const below = list"): "a zero stands among others in either way",
     ("app/net-panel.js", "const note = input"): "a field is a letter wider",
 }
 
