@@ -38,7 +38,7 @@ TURNS: List[Tuple[str, str]] = [
 SURVIVORS: Dict[Tuple[str, str], str] = {
     ("map/tracks.js", "if (way >= each"): "arrows of a way of just so many pixels are one more",
     ("map/layers/coastline.js", "const { x, y } = view, side"): "what is beside the view alone",
-    ("lists/station-facts.js", "for (let n = 0; n < picks"): "a row that isn't there is nobody's",
+    ("net/table-reader.js", "const cut = 2 **"): "of two million rows and more alone",
     ("formats/pmtiles.js", "if (at >= bytes.length) throw"): "it is cut short a byte later",
     ("main-node.js", "while (left > 0)"): "where no byte may follow none is read either",
     ("net/clock-offsets.js", "const below = list"): "a zero stands among others in either way",

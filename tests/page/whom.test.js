@@ -4,6 +4,7 @@ import { Colouring, wayFor } from "../../page/src/map/colours.js";
 import { densityOf, isDense } from "../../page/src/map/density.js";
 import { Fan, pilesOf, spotsAround } from "../../page/src/map/spiderfy.js";
 import { numbersOf, restOf, wayOf } from "../../page/src/lists/frames.js";
+import { kindsOf } from "../../page/src/lists/station-facts.js";
 import { graphsOf, partsOf, ticksOf } from "../../page/src/lists/charts.js";
 import { Looked } from "../../page/src/app/seen.js";
 import { channelsOf, isBattery } from "../../page/src/net/telemetry.js";
@@ -107,6 +108,14 @@ test("telemetry has the names, units and equations that messages to its station 
   assert.deepEqual(["Battery", "batt", "Bat1 V", "Vbat", "Bath", "combat"].map(name =>
     isBattery({ name, unit: "x", of: Number })), [true, true, true, true, false, false]);
   assert.ok(isBattery({ name: "A1", unit: "mV", of: Number }));
+});
+test("kinds are counted of a station's own rows, and of those that are shown alone", () => {
+  const net = netOfLines([place(0, "Q1A", 1, 2), row("status", 1, "Q1A"), row("new", 2, "Q1A"),
+    place(3, "Q1B", 1, 2), row("status", 4, "Q1A")]);
+  const of = picks => Object.fromEntries(kindsOf(thing(net, "Q1A"), picks));
+  assert.deepEqual(of(net.rows), { position: 1, status: 2, "other (new)": 1 });
+  // a list of three that has room for more
+  assert.deepEqual(of({ ...net.rows, length: 3 }), { position: 1, status: 1, "other (new)": 1 });
 });
 test("a gap isn't joined", () => {
   const line = [0, 60, 120, 180, 500, 560, 2000].map(at => ({ at, value: 1 }));
