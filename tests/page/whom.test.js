@@ -114,8 +114,8 @@ test("kinds are counted of a station's own rows, and of those that are shown alo
     place(3, "Q1B", 1, 2), row("status", 4, "Q1A")]);
   const of = picks => Object.fromEntries(kindsOf(thing(net, "Q1A"), picks));
   assert.deepEqual(of(net.rows), { position: 1, status: 2, "other (new)": 1 });
-  // a list of three that has room for more
-  assert.deepEqual(of({ ...net.rows, length: 3 }), { position: 1, status: 1, "other (new)": 1 });
+  // a list of four that has room for more
+  assert.deepEqual(of({ ...net.rows, length: 4 }), { position: 1, status: 1, "other (new)": 1 });
 });
 test("a gap isn't joined", () => {
   const line = [0, 60, 120, 180, 500, 560, 2000].map(at => ({ at, value: 1 }));
