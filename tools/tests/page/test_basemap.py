@@ -12,7 +12,7 @@ from typing import Dict, List
 import pytest
 from hypothesis import given
 from hypothesis import strategies as st
-from standing import Programs, place
+from standing import Programs, place, row, table_text
 from test_event_page import data_of
 
 from aprsbook_tools.errors import Fault
@@ -20,6 +20,7 @@ from aprsbook_tools.formats import pmtiles
 from aprsbook_tools.geo import Spot
 from aprsbook_tools.page import basemap, coast_polygons, gshhg
 from aprsbook_tools.page.coast_polygons import Box, Line, Point
+from aprsbook_tools.reports.table import Row
 
 BOX = Box(0, 0, 160, 160)
 PNG = b"\x89PNG\r\n\x1a\n"
@@ -129,6 +130,16 @@ def test_the_box_of_an_event_leaves_out_what_is_far_from_all() -> None:
     # where a degree east is short, so many of them are an event
     svalbard = gshhg.box_around(Counter([Spot(78.2, 15.6), Spot(78.6, 12.0)]))
     assert svalbard is not None and svalbard.east - svalbard.west > 10 * gshhg.UNIT
+
+
+def test_a_place_counts_as_often_as_it_was_sent() -> None:
+    at, away = Spot(54.5, -3.5), Spot(10, 20)
+    assert gshhg.box_around(Counter({at: 8, away: 1})) == gshhg.box_around(Counter([at]))
+    rows = [place("18:00", "Q1A", *at), place("18:01", "Q1B", *at), place("18:02", "Q1C", *away),
+            place("18:03", "Q1D", 0, 0), row("status", "18:04", "Q1E")]
+    assert basemap.spots_of(table_text(Row, rows).splitlines()) == {at: 2, away: 1}
+    with pytest.raises(Fault, match="the table of rows: "):
+        basemap.spots_of(["latitude\tlongitude", "x\ty"])
 
 
 def test_lines_of_gmt_over_the_date_line_are_whole() -> None:

@@ -1,5 +1,6 @@
 """The page of an event, and the book and the page of a net that runs."""
 import gzip
+import io
 import json
 import os
 import pathlib
@@ -21,6 +22,7 @@ import aprsbook_tools
 from aprsbook_tools.books import net_logs
 from aprsbook_tools.errors import Fault
 from aprsbook_tools.page import event_page
+from aprsbook_tools.system import programs
 
 DATA = re.compile('<script type="application/json" id="data">(.*?)</script>', re.S)
 BUILD = pathlib.Path(__file__).resolve().parents[3] / "build" / "pyz.py"
@@ -86,6 +88,16 @@ def test_what_is_filled() -> None:
         "</script> @OTHER@"
     )
     assert "policy; connect-src 'self' " in event_page.filled(page, {"title": "", "live": 60})
+
+
+def test_tables_are_filled_in_piece_by_piece() -> None:
+    """However long they are, no piece is, and the page is the same."""
+    rows, data = 'a\t"<b>\\x41&\n' * 20_000, {"title": "net", "live": 0}
+    tables = {"rows": io.BytesIO(rows.encode()), "messages": io.BytesIO(b"one\n")}
+    found = [*event_page.pieces("<@DATA@>", data, tables)]
+    assert "".join(found) == event_page.filled("<@DATA@>", {**data, "rows": rows,
+                                                            "messages": "one\n"})
+    assert len(found) > 5 and max(map(len, found)) < 6 * programs.BLOCK
 
 
 def test_a_roster_s_fault_doesn_t_end_a_page(programs: Programs, tmp_path: pathlib.Path) -> None:
