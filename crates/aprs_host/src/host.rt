@@ -145,10 +145,11 @@ impl<'a> Program<'a> {
 
     /// Folds the book files of a job, or standard input where it has none, and reports a fault to
     /// standard error. Where a file can't be opened, or is the file of the output, none is read and
-    /// nothing is written. Where the job has a range, its rows alone are read of a file in which bisection finds them. The output
-    /// has no buffer of its own, so that its header is there as soon as the fold sends it. Where
-    /// the books are only checked, they are read whole, and nothing is written. Returns the exit
-    /// status. Where the job has an old book, it does as `do_news` says.
+    /// nothing is written. Where the job has a range, its rows alone are read of a file in which
+    /// bisection finds them. The output has no buffer of its own, so that its header is there as
+    /// soon as the fold sends it. Where the books are only checked, they are read whole, whatever
+    /// the output is, and nothing is written. Returns the exit status. Where the job has an old
+    /// book, it does as `do_news` says.
     pub fn do_fold(&self, job: FoldJob) -> ExitCode {
         let FoldJob {
             gap,

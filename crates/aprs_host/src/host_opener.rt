@@ -10,7 +10,7 @@ const STANDARD_INPUT: &str = "/proc/self/fd/0";
 const STANDARD_OUTPUT: &str = "/proc/self/fd/1";
 
 /// Opens files and standard input, but not a regular file to which the output goes: what is
-/// written would be read again. Where the host tells nothing of standard streams, it opens that too.
+/// written would be read again. Where the host has no `/proc`, it can't tell, and opens that too.
 #[derive(Clone, Copy)]
 pub(crate) struct HostOpener<'a> {
     rt: &'a HostRuntime,
