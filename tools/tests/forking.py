@@ -1,6 +1,6 @@
-"""aprs-net, imported once, in a process that forks for each run, which begins in a tenth of the time
-so: forking.py SOCKET. A run is told by JSON: its words, its folder, its environment and its mask; its
-standard files come with that.
+"""aprs-net, imported once, in a process that forks for each run: forking.py SOCKET. A run begins in
+a tenth of the time so. JSON tells its words, its folder, its environment and its mask; its standard
+files come with that.
 """
 import atexit
 import json
