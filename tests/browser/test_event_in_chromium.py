@@ -246,7 +246,7 @@ def test_names(page: Chromium, folder: pathlib.Path) -> None:
     wanted = ("in out fit fill sound play clock colours map find kind live since looks local saves "
               "adds ics-open").split()
     assert reached >= {*wanted, "pick station"}, reached
-    page.js("document.querySelector('.pick').focus()")
+    page.js("document.querySelector('#things .pick').focus()")
     page.key("ArrowDown")
     is_(page.js("document.activeElement.textContent"), page.js(shown + "[1]"))
     page.key("End")
