@@ -65,11 +65,15 @@ def checked(path: pathlib.Path) -> str:
     return program(["check"], [path]).stdout.decode().splitlines()[-1]
 
 
+def event_of(page: Browser) -> str:
+    """The page of an event that the page makes, but for who repeated whom, which it alone counts by
+    all receptions, a while after it was drawn."""
+    return str(page.js("(delete aprsbook.data.repeats, aprsfiles.eventPage())"))
+
+
 def same_page(page: Browser, own: bytes) -> bool:
-    """Whether the page of an event that the page makes is that of aprs-net page, but for who
-    repeated whom, which the page alone counts by all receptions, a while after it was drawn."""
-    made = page.js("(delete aprsbook.data.repeats, aprsfiles.eventPage())")
-    return bool(made == own.decode())
+    """Whether the page of an event that the page makes is that of aprs-net page."""
+    return event_of(page) == own.decode()
 
 
 def base64_of(text: bytes) -> str:
@@ -134,12 +138,12 @@ def test_saves(page: Browser, folder: pathlib.Path) -> None:
                         ("history.txt", ["aprsbook-history"]), ("event.html", EVENT_PAGE)):
         button = {"net.book": "book", "net.txt": "listing (text)", "history.txt": "history (text)",
                   "event.html": "page of the event (HTML)"}[name]
-        page.js("[...document.querySelectorAll('#saves button')]"
-                f".find(it => it.textContent === {button!r}).click()")
+        page.js("(delete aprsbook.data.repeats, [...document.querySelectorAll('#saves button')]"
+                f".find(it => it.textContent === {button!r}).click())")
         own = subprocess.run([*words, *EVENING], stdout=subprocess.PIPE, check=True).stdout
         if name == "event.html":
             is_(same_page(page, own), True)
-            own = page.js("aprsfiles.eventPage()").encode()
+            own = event_of(page).encode()
         for _ in range(200):
             if (folder / name).exists() and (folder / name).read_bytes() == own:
                 break

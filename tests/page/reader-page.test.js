@@ -171,3 +171,26 @@ test("a log whose handle the browser gave is read again as it grows", { skip }, 
   await reread();
   assert.equal(verdicts()["coast.log"], "heard 2 passed 0");
 });
+test("logs beside the page are followed as a list names them, those of this server alone", { skip },
+  async () => {
+    const { fetch } = globalThis, asked = [], log = logOf("18:50:00", "HILL", "Q1F");
+    const texts = { "/logs.txt": "hill2.log\nhttps://elsewhere.example/x.log\n", "/hill2.log": log };
+    globalThis.fetch = async (url, { method } = {}) => {
+      const bytes = new TextEncoder().encode(texts[new URL(url).pathname] ?? "");
+      asked.push(String(url));
+      return new Response(method === "HEAD" ? null : bytes, { status: bytes.length ? 200 : 404,
+        headers: { "content-length": String(bytes.length) } });
+    };
+    enter("follow", "logs.txt");
+    await until(() => verdicts()["hill2.log"]?.startsWith("heard"));
+    assert.equal(verdicts()["hill2.log"], "heard 1 passed 0");
+    assert.deepEqual([...new Set(asked)], ["http://localhost/logs.txt", "http://localhost/hill2.log"]);
+    assert.equal(aprsbook.alive.refused,
+      "logs.txt: no log of this server: https://elsewhere.example/x.log");
+    // with no list nothing is asked for any more
+    const { length } = asked;
+    enter("follow", "");
+    await new Promise(done => setTimeout(done, 50));
+    globalThis.fetch = fetch;
+    assert.deepEqual([asked.length, aprsbook.page.follows], [length, false]);
+  });
