@@ -1,17 +1,15 @@
 # The commands of this repository. The kit's `rt` does the work.
 unexport CDPATH # by which a script's cd goes elsewhere
 PREFIX ?= /usr/local
-PROGRAM = crates/aprsbook/out/aprsbook
-HISTORY = crates/aprsbook_history/out/aprsbook_history
-TABLE = crates/aprsbook_table/out/aprsbook_table
-FOLD = crates/aprsbook_fold/out/aprsbook_fold
-
-# the programs that are installed and packed: each has a crate (with _ for -), a manual page and
-# completions of its name
+# the names of the program that is installed and packed: it does what belongs to the one that it is called
+# by; each has a manual page and completions
 PROGRAMS = aprsbook aprsbook-history aprsbook-table aprsbook-fold
-crate = $(subst -,_,$(1))
-# as `make build` made them
-BUILT = $(foreach it,$(PROGRAMS),crates/$(call crate,$(it))/out/$(call crate,$(it)))
+# as `make build` made it, and links to it by its other names
+BUILT = $(PROGRAMS:%=crates/aprsbook/out/%)
+PROGRAM = crates/aprsbook/out/aprsbook
+HISTORY = $(PROGRAM)-history
+TABLE = $(PROGRAM)-table
+FOLD = $(PROGRAM)-fold
 
 .PHONY: build run test prove check edits words map limits reading recipes cookbook bench hostile page-tests
 .PHONY: arm64 static elsewhere install uninstall deb tarball release wasm clib
@@ -31,7 +29,7 @@ test:
 prove:
 	@build/gate.py prove
 
-# the four programs, proved, over what was proved before
+# the program, proved, over what was proved before
 build:
 	@build/gate.py build
 
@@ -201,28 +199,30 @@ OUT = out
 there = @for it in $(2); do if [ ! -x "$$it" ]; then \
     echo "there is no program $$it yet: make $(1)" >&2; exit 1; fi; done
 
-# the programs for 64-bit ARM, such as a Raspberry Pi, proved again for that processor
+# the program for 64-bit ARM, such as a Raspberry Pi, proved again for that processor, by each name
 ARM = $(PROGRAMS:%=out/arm64/%)
-arm64: $(ARM)
-out/arm64/%: out/arm64/%.o packaging/system.c packaging/link
+arm64: out/arm64/aprsbook
+out/arm64/aprsbook: out/arm64/aprsbook.o packaging/system.c packaging/link
 	packaging/link arm64 shared $< $@
-out/arm64/%.o: $(BUILT) packaging/prove-for
-	$(call there,build,$(BUILT))
+	@build/names.sh $(@D) > /dev/null
+out/arm64/aprsbook.o: $(PROGRAM) packaging/prove-for
+	$(call there,build,$(PROGRAM))
 	packaging/link arm64
-	packaging/prove-for aarch64-unknown-linux-gnu $(call crate,$*) $@
-$(BUILT):
-	$(call there,build,$(BUILT))
+	packaging/prove-for aarch64-unknown-linux-gnu aprsbook $@
+$(PROGRAM):
+	$(call there,build,$(PROGRAM))
 
-# the same programs without shared libraries, which any Linux runs; for ARM where its compiler is there
-static: $(PROGRAMS:%=out/static/amd64/%)
+# the same program without shared libraries, which any Linux runs; for ARM where its compiler is there
+static: out/static/amd64/aprsbook
 	@if packaging/link arm64 2> /dev/null; then \
-	    $(MAKE) --no-print-directory $(PROGRAMS:%=out/static/arm64/%); \
+	    $(MAKE) --no-print-directory out/static/arm64/aprsbook; \
 	else echo "left out: static programs for ARM ($$(packaging/link arm64 2>&1))"; fi
-out/static/amd64/%: $(BUILT) packaging/system.c packaging/link
-	packaging/link amd64 static crates/$(call crate,$*)/out/$(call crate,$*).o $@
-out/static/arm64/%: out/arm64/%.o packaging/system.c packaging/link
+out/static/amd64/aprsbook: $(PROGRAM) packaging/system.c packaging/link
+	packaging/link amd64 static $(PROGRAM).o $@
+	@build/names.sh $(@D) > /dev/null
+out/static/arm64/aprsbook: out/arm64/aprsbook.o packaging/system.c packaging/link
 	packaging/link arm64 static $< $@
-.PRECIOUS: out/arm64/%.o
+	@build/names.sh $(@D) > /dev/null
 
 # those of them whose tools are there
 elsewhere:

@@ -130,7 +130,7 @@ def main(words: List[str]) -> int:
         return 2
     if shutil.which("valgrind") is None:
         sys.exit("bench/counts.py: valgrind isn't there (Debian: apt install valgrind)")
-    programs = {name: pathlib.Path(it).resolve() for name, it in zip(NAMES, words)}
+    programs = {name: pathlib.Path(it).absolute() for name, it in zip(NAMES, words)}
     before, counts, lines, slower = written(), {}, [], []
     print(f"{'run':<28}{'a line':>8}{'written':>9}{'ratio':>7}  beside")
     with tempfile.TemporaryDirectory() as folder:

@@ -137,13 +137,10 @@ def measure_cluster(folder: pathlib.Path) -> None:
 def main() -> None:
     made_alone = sys.argv[1] == "--inputs"
     program, folder = map(pathlib.Path, sys.argv[2:4] if made_alone else sys.argv[1:3])
-    program = program.resolve()
+    program = program.absolute()
     with tempfile.TemporaryDirectory() as bin_folder:
         for name in NAMES:
-            crate = name.replace("-", "_")
-            for path in program.parent / name, program.parents[2] / crate / "out" / crate:
-                if path.is_file() and not pathlib.Path(bin_folder, name).exists():
-                    pathlib.Path(bin_folder, name).symlink_to(path)
+            pathlib.Path(bin_folder, name).symlink_to(program.parent / name)
         os.environ["PATH"] = f"{bin_folder}:{HERE.parent}/tools/bin:" + os.environ["PATH"]
         for text in sys.argv[4 if made_alone else 3:]:
             make_inputs(folder / text, int(text))

@@ -7,7 +7,7 @@
 set -euo pipefail
 export LC_ALL=C
 program=$(realpath "$1")
-history=$(realpath "$2")
+history=$(realpath -s "$2")
 shift 2
 [ $# -gt 0 ] || set -- 200000 2000000
 here=$(dirname "$(realpath "$0")")

@@ -4,7 +4,7 @@
 usage: build/gate.py prove    the gate: every proof from nothing, every edit that must fail, every test but
                               those of aprs-net
        build/gate.py check    the same over what was proved before
-       build/gate.py build    the proofs of the programs and of what they stand on, over those before
+       build/gate.py build    the proofs of the program and of what it stands on, over those before
        build/gate.py test     every test, and no proof; with programs of these sources those of programs
 
 Prints a line for each job, all that a failed one said, the minutes of processors that it took, and
@@ -32,6 +32,8 @@ ASIDE = TOP / "out" / "before"
 EDIT, LINK, TEST, LINE_OF_TEST = 160, 2_500, 4_000, 3
 # the target that makes the page of an event, where that can be done
 PAGE = "event-page-here"
+# the crate of the program that is installed, by whatever name it is called
+PROGRAM = "aprsbook"
 
 
 def size_of(crate: str) -> int:
@@ -59,7 +61,7 @@ def is_program(crate: str) -> bool:
 
 
 def proofs(names: Sequence[str]) -> Iterator[Job]:
-    """The proofs of these crates. Programs and tests then run."""
+    """The proofs of these crates, and the runs of the program."""
     every = crates.rows()
     for name in names:
         row = every[name]
@@ -67,8 +69,8 @@ def proofs(names: Sequence[str]) -> Iterator[Job]:
         command = ["build/prove.sh", name, jobs.JOBS]
         most = 1 if is_program(name) or is_of_tests(name) else 4
         yield Job(name, command, after, size_of(name), most)
-        if is_program(name):
-            yield Job(f"run of {name}", ["build/stored_run.sh", name], frozenset([name]))
+        if name == PROGRAM:
+            yield Job("stored runs", ["build/stored_run.sh"], frozenset([name]))
 
 
 def trials() -> Iterator[Job]:
@@ -86,12 +88,6 @@ def make(target: str, *after: str) -> Job:
     return Job(target, command, frozenset(after), TEST)
 
 
-def tests_of_programs(programs: Sequence[str]) -> Iterator[Job]:
-    """What is tried with the programs, once these are built, and with the page of an event."""
-    yield make("tried", *programs, PAGE)
-    yield make("tools", *programs, PAGE)
-
-
 def tests_of_sources() -> Iterator[Job]:
     """What is tried without any program."""
     yield make(PAGE)
@@ -106,20 +102,17 @@ def tests_of_crates() -> Iterator[Job]:
 
 
 def build() -> List[Job]:
-    """The programs that are installed, and what they stand on."""
-    programs = [it for it in crates.rows() if is_program(it) and it.startswith("aprsbook")]
-    wanted = {it for program in programs for it in [*crates.below(program), program]}
-    return list(proofs([it for it in crates.rows() if it in wanted]))
+    """The program that is installed, and what it stands on."""
+    return list(proofs([*crates.below(PROGRAM), PROGRAM]))
 
 
 def prove() -> List[Job]:
     """The gate."""
     every = [it for it in crates.rows() if not is_tried(it)]
-    programs = [it for it in every if is_program(it)]
-    release = Job("release", ["build/objects.sh", "--compare"], frozenset(programs))
+    release = Job("release", ["build/objects.sh", "--compare"], frozenset([PROGRAM]))
     # of aprs-net the types alone: its tests wait for clocks and servers, and are those of `make test`
     tools = Job("types of tools", ["tests/sources/tools.sh"], frozenset(), TEST)
-    of_programs = [make("tried", *programs, PAGE), release]
+    of_programs = [make("tried", PROGRAM, PAGE), release]
     of_sources = [*tests_of_crates(), *tests_of_sources(), tools]
     return [*proofs(every), *trials(), *of_sources, *of_programs]
 
@@ -132,7 +125,7 @@ def test() -> List[Job]:
     found = subprocess.run(["build/programs.sh"], cwd=TOP, capture_output=True, check=False)
     if found.returncode:
         print(f"left out: the tests of programs ({found.stderr.decode().strip()})", flush=True)
-    of_programs = [make("tools", PAGE)] if found.returncode else list(tests_of_programs([]))
+    of_programs = [make("tools", PAGE)] if found.returncode else [make("tried", PAGE), make("tools", PAGE)]
     of_crates = list(tests_of_crates()) if has_kit else []
     return [*of_crates, *tests_of_sources(), *of_programs]
 

@@ -14,7 +14,7 @@ fi
 rm -rf out/named
 mkdir -p out/named
 for it in $programs; do
-    ln -s "$PWD/$it" "out/named/$(basename "$it" | tr _ -)"
+    ln -s "$PWD/$it" out/named
 done
 build/command.py "$module" out/named > out/aprsbook.mjs.new
 mv out/aprsbook.mjs.new out/aprsbook.mjs

@@ -1,25 +1,20 @@
 #!/bin/sh
-# build/programs.sh: finds the four programs of these sources, and prints their paths from the top:
-# aprsbook, aprsbook-history, aprsbook-table and aprsbook-fold. They are those that are built, if no
-# source is newer, or those of the release in release/, if it is of the same sources; these are unpacked
-# into out/. Says on standard error which they are, or why there are none, and ends with 1 then. Needs a
+# build/programs.sh: finds the program of these sources, and prints its paths from the top by each of its
+# names: aprsbook, aprsbook-history, aprsbook-table and aprsbook-fold. It is the one that is built, if no
+# source is newer, or that of the release in release/, if it is of the same sources; this is unpacked
+# into out/. Says on standard error which it is, or why there is none, and ends with 1 then. Needs a
 # POSIX system, and for a release sha256sum, GNU tar and xz.
 set -eu
 export LC_ALL=C
 cd "$(dirname "$0")/.."
-names='aprsbook aprsbook_history aprsbook_table aprsbook_fold'
-built() {
-    for name in $names; do
-        program=crates/$name/out/$name
-        if [ ! -x "$program" ]; then return 1; fi
-        if find crates.txt crates -name out -prune -o \
-            \( -name '*.rt' -o -name '*.antt' -o -name crates.txt \) -newer "$program" -print |
-            grep -q .; then return 1; fi
-    done
+built=crates/aprsbook/out
+is_built() {
+    [ -x $built/aprsbook ] && ! find crates.txt crates -name out -prune -o \
+        \( -name '*.rt' -o -name '*.antt' -o -name crates.txt \) -newer $built/aprsbook -print | grep -q .
 }
-if built; then
+if is_built; then
     echo 'the programs are proved, and built of these sources' >&2
-    for name in $names; do echo "crates/$name/out/$name"; done
+    build/names.sh $built | sed "s,^,$built/,"
     exit 0
 fi
 none() {
@@ -50,4 +45,4 @@ if [ ! -f "out/$name/$sum" ]; then
     mv "out/$name.new" "out/$name"
 fi
 echo "the programs are those of release $version, proved of these sources" >&2
-for it in $names; do echo "out/$name/bin/$it" | tr _ -; done
+build/names.sh | sed "s,^,out/$name/bin/,"

@@ -54,5 +54,6 @@ if [ -f "crates/$crate/src/main.rt" ]; then
     given=$PWD/crates/$crate/stdin
 fi
 (cd "$view/crates/$crate" && "${command[@]}" 2>&1 < "$given") | sed -u "s/^/$crate: /"
+if [ "$crate" = aprsbook ]; then build/names.sh "$view/crates/$crate/out" > /dev/null; fi
 mkdir -p out/proved
 printf '%s\n' "$sum" > "out/proved/$crate"

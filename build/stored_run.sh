@@ -1,9 +1,13 @@
 #!/bin/sh
-# build/stored_run.sh CRATE: runs a program that is built on its file stdin: it has to print its file
-# stdout, and to end with 0.
+# build/stored_run.sh: runs the program that is built, by each of its names, on a file stdin: it has to
+# print the file stdout that lies beside it, and to end with 0.
 set -eu
-cd "$(dirname "$0")/../crates/$1"
+cd "$(dirname "$0")/.."
 scratch=$(mktemp)
 trap 'rm "$scratch"' EXIT
-"out/$1" < stdin > "$scratch"
-cmp "$scratch" stdout
+for name in $(build/names.sh crates/aprsbook/out); do
+    stored=tests/programs/stored/$name
+    if [ "$name" = aprsbook ]; then stored=crates/aprsbook; fi
+    "crates/aprsbook/out/$name" < "$stored/stdin" > "$scratch"
+    cmp "$scratch" "$stored/stdout"
+done

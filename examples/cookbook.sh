@@ -43,15 +43,9 @@ if [ -e "$work" ]; then fail "$work is there already"; fi
 mkdir -p "$work/logs/2024-06-21" "$work/output" "$work/evening/output" "$scratch/bin"
 work=$(realpath "$work")
 ln -s "$program" "$scratch/bin/aprsbook"
-# the program for histories, beside the other or in its own crate
-for it in "${program%/*}/aprsbook-history" "${program%/*/out/*}/aprsbook_history/out/aprsbook_history"; do
-    if [ -x "$it" ]; then ln -sf "$(realpath "$it")" "$scratch/bin/aprsbook-history"; fi
-done
-# and those for tables and folds
-for name in table fold; do
-    for it in "${program%/*}/aprsbook-$name" "${program%/*/out/*}/aprsbook_$name/out/aprsbook_$name"; do
-        if [ -x "$it" ]; then ln -sf "$(realpath "$it")" "$scratch/bin/aprsbook-$name"; fi
-    done
+# the programs for histories, tables and folds, beside the other
+for name in aprsbook-history aprsbook-table aprsbook-fold; do
+    if [ -x "${program%/*}/$name" ]; then ln -sf "$(realpath "${program%/*}/$name")" "$scratch/bin/$name"; fi
 done
 tools=$(dirname "$here")/tools
 export PATH="$scratch/bin:$tools/bin:$here/recipes:$PATH"

@@ -19,9 +19,7 @@ for program; do
         echo "tests/documents/version.sh: there is no program '$program'" >&2
         exit 1
     fi
-    # a crate has _ where its program has -
-    name=$(basename "$program" | tr _ -)
-    is "$program --version" "$name $version" "$("$program" --version)"
+    is "$program --version" "${program##*/} $version" "$("$program" --version)"
 done
 cd "$repository"
 is tools/src/aprsbook_tools/__init__.py "$version" \

@@ -414,9 +414,9 @@ def faults_flush(path: str) -> None:
 
 
 def beside(path: pathlib.Path, name: str) -> Optional[pathlib.Path]:
-    """Another program: it lies beside this one, or where its crate has it."""
-    crate = path.parent.parent.parent / name.replace("-", "_") / "out" / name.replace("-", "_")
-    return next((it for it in (path.parent / name, crate) if os.access(it, os.X_OK)), None)
+    """Another program, which lies beside this one."""
+    other = path.parent / name
+    return other if os.access(other, os.X_OK) else None
 
 
 def write_inputs() -> None:

@@ -108,7 +108,7 @@ def try_long_row(commands: Sequence[List[str]]) -> None:
 
 def main() -> None:
     """Tries the merge and the fold."""
-    program = pathlib.Path(sys.argv[1]).resolve()
+    program = pathlib.Path(sys.argv[1]).absolute()
     fold = beside(program, "aprsbook-fold")
     if not fold:
         print("tests/programs/endless_lines.py: left out, there is no program of folds")

@@ -30,16 +30,12 @@ scratch=$(mktemp -d)
 trap 'rm -rf "$scratch"' EXIT
 mkdir "$scratch/bin"
 ln -s "$program" "$scratch/bin/aprsbook"
-# the other programs lie beside it, or where they are built
-for it in "$history" "${program%/*}/aprsbook-history" "${program%/aprsbook/out/*}"/*/out/aprsbook_history; do
-    if [ -x "$it" ]; then ln -sf "$it" "$scratch/bin/aprsbook-history" && break; fi
+# the other programs lie beside it
+for it in aprsbook-history aprsbook-table aprsbook-fold; do
+    if [ -x "${program%/*}/$it" ]; then ln -sf "${program%/*}/$it" "$scratch/bin/$it"; fi
 done
-for it in "$table" "${program%/*}/aprsbook-table" "${program%/aprsbook/out/*}"/*/out/aprsbook_table; do
-    if [ -x "$it" ]; then ln -sf "$it" "$scratch/bin/aprsbook-table" && break; fi
-done
-for it in "${program%/*}/aprsbook-fold" "${program%/aprsbook/out/*}"/*/out/aprsbook_fold; do
-    if [ -x "$it" ]; then ln -sf "$it" "$scratch/bin/aprsbook-fold" && break; fi
-done
+if [ -n "$history" ]; then ln -sf "$history" "$scratch/bin/aprsbook-history"; fi
+if [ -n "$table" ]; then ln -sf "$table" "$scratch/bin/aprsbook-table"; fi
 PATH=$scratch/bin:$repository/tools/bin:$repository/examples/recipes:$PATH
 export PATH PYTHONDONTWRITEBYTECODE=1
 # same FILE FILE: they have the same bytes

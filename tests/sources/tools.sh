@@ -69,15 +69,9 @@ if [ -n "$program" ]; then
     esac
     names=$work/bin
     mkdir "$names"
-    for built in "${program%/*}"/aprsbook* "${program%/*/out/*}"/aprsbook*/out/aprsbook*; do
-        name=$(basename "$built" | tr _ -)
-        case $name in
-        *.*) ;;
-        *) if [ -x "$built" ] && [ -f "$built" ]; then ln -sf "$built" "$names/$name"; fi ;;
-        esac
-    done
-    for name in aprsbook aprsbook-table aprsbook-fold; do
-        if [ ! -e "$names/$name" ]; then echo "left out: tests with $name (none is built)"; fi
+    for name in aprsbook aprsbook-history aprsbook-table aprsbook-fold; do
+        if [ -x "${program%/*}/$name" ]; then ln -s "${program%/*}/$name" "$names/$name"
+        else echo "left out: tests with $name (none is built)"; fi
     done
     PATH=$names:$PATH
 fi

@@ -3,4 +3,5 @@ pub mod Complaint
 pub mod Ending
 pub mod Note
 pub mod Opening
+pub mod ProgramName
 pub mod Work

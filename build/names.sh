@@ -1,0 +1,11 @@
+#!/bin/sh
+# build/names.sh [FOLDER]: prints the names of the program, which does what belongs to the name that it is
+# called by. In FOLDER, where it lies as aprsbook, each other name becomes a link to it.
+set -eu
+folder=${1-}
+if [ -n "$folder" ]; then folder=$(cd "$folder" && pwd); fi
+cd "$(dirname "$0")/.."
+for name in $(sed -n 's/^PROGRAMS = //p' Makefile); do
+    if [ -n "$folder" ] && [ "$name" != aprsbook ]; then ln -sf aprsbook "$folder/$name"; fi
+    echo "$name"
+done
