@@ -5,7 +5,8 @@ set -eu
 folder=${1-}
 if [ -n "$folder" ]; then folder=$(cd "$folder" && pwd); fi
 cd "$(dirname "$0")/.."
-for name in $(sed -n 's/^PROGRAMS = //p' Makefile); do
+names=$(sed -n 's/^PROGRAMS = //p' Makefile)
+for name in $names; do
     if [ -n "$folder" ] && [ "$name" != aprsbook ]; then ln -sf aprsbook "$folder/$name"; fi
     echo "$name"
 done

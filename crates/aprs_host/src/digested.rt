@@ -5,7 +5,7 @@ use std::io::{self, Read};
 /// A reader, with the SHA-256 digest of all bytes that were read of it, and the number of their
 /// LFs.
 #[derive(Drop)]
-pub(crate) struct Digested<R> {
+pub struct Digested<R> {
     input: R,
     hasher: Sha256,
     lines: u64,
