@@ -28,6 +28,7 @@ pub(crate) fn readers<'a, A: Allocator + Copy>(
     inputs: &'a [u8],
     lengths: &[usize],
 ) -> Result<Vec<Counted<&'a [u8]>, A>, AllocError>
+    // `Some`, since of a reader over bytes it is always known what is left.
     ensures { IfOk result (λ v. map (λ r. Some r.device.now) v.items
         ≡ map (λ input. Some input) (input_texts lengths.now inputs.now)) }
 {
