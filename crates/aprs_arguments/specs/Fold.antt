@@ -60,8 +60,8 @@ abbrev pub HasBadSource : List Row → Type 0
 HasBadSource rows =
     SpellsNone (first_of (codes "from") rows) ⊎ SpellsNone (first_of (codes "until") rows)
 
--- The job has the gap, the sources, the old book and the inputs that these matches ask for, and only
--- checks if they say so.
+-- The job has the gap, the sources, the old book and the inputs that these matches ask for, and
+-- only checks if they say so.
 pub record IsFoldJobOf (rows : List Row) (j : FoldJob) : Type 0 where
   pub gap : chosen_gap rows ≡ Some j.gap
   pub from : IsSourceIn (first_of (codes "from") rows) j.from

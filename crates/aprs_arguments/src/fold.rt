@@ -36,14 +36,15 @@ pub struct FoldJob {
     pub is_check: bool,
 }
 
-/// What the arguments of `aprsbook-fold` ask for, the program's name being the first, which are
-/// `[--gap SECONDS] [--from SOURCE] [--until SOURCE] [--new-to OLD] [--check] [BOOK]...`: the gap,
-/// which is 30 seconds where it is not given, the sources, the path of the old book, the inputs'
-/// paths in the order of the arguments, and whether `--check` is among them. SECONDS is 1 to 3,600, and SOURCE the text of a callsign, and
-/// else it is a fault of `JobFault::Clap`. Where the arguments ask for help or the version, its
-/// text is that of `JobFault::Clap`. `JobFault::Memory` where an allocation failed. By `asked` the
-/// job is the one that the definition of the command reads from the arguments; by `judged` clap's
-/// refusal is for a fault that this definition finds in them, or for such a SOURCE.
+/// What the arguments of `aprsbook-fold` ask for, the program's name being the first. They are
+/// `[--gap SECONDS] [--from SOURCE] [--until SOURCE] [--new-to OLD] [--check] [BOOK]...`. The job
+/// has the gap, which is 30 seconds where it isn't given, both sources and the path of the old
+/// book. It also has the inputs' paths in the order of the arguments, and says whether `--check` is
+/// among these. SECONDS is 1 to 3,600, and SOURCE the text of a callsign; else it is a fault of
+/// `JobFault::Clap`. Where the arguments ask for help or the version, its text is that of
+/// `JobFault::Clap`. `JobFault::Memory` where an allocation failed. By `asked` the job is the one
+/// that the definition of the command reads from the arguments. By `judged` clap's refusal is for a
+/// fault that this definition finds in them, or for such a SOURCE.
 pub fn fold_job(alloc: Global, arguments: &[&str]) -> Result<FoldJob, JobFault>
     ensures asked { Spec.AnswersFold (map (λ a. a.now) arguments.now) result }
     ensures judged { Spec.JudgesFold (map (λ a. a.now) arguments.now) result }
