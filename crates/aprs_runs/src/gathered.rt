@@ -178,8 +178,8 @@ impl<A: Allocator + Copy> Gathered<A> {
         Ok(write_stations(w, &stations)?)
     }
 
-    /// Writes the table of the messages of a net in the book, under this message gap. At `Memory` an
-    /// allocation failed, and nothing was written; at `Write` a prefix of the table was written.
+    /// Writes the table of the messages of a net in the book, under this message gap. At `Memory`
+    /// an allocation failed, and nothing was written; at `Write` a prefix of the table was written.
     fn net_messages<W: Write>(self, message_gap: Gap, w: &mut Counted<W>) -> Result<(), OutputFault>
         ensures { WritesTold (IsNetTable message_gap) W.contents result self w.old w.new }
     {

@@ -41,6 +41,7 @@ pub(crate) fn read_into<R: Read, A: Allocator + Copy>(
     r: &mut Counted<R>,
 ) -> Result<(), InputFault>
     requires { limit ≤ most_input }
+    // Where the input's bytes are known, this holds of what was got of it, and of its ending.
     ensures reads { OfGot limit (R.remaining (device_of r.old)) (R.remaining (device_of r.new))
         (TakesInput gathered.old.gap result gathered.old.rows gathered.new.rows) }
     ensures gap { gathered.new.gap ≡ gathered.old.gap }
@@ -136,13 +137,15 @@ fn push_heard<A: Allocator + Copy>(store: &mut BookStore<A>, line: &Line) -> Res
     }
 }
 
-/// The answer for an input of which fewer than eight bytes came, none of them an LF, as for a log:
-/// `Ok` where it ended without any byte, and else a fault of line 1.
+/// The answer, as for a log, for an input of which fewer than eight bytes came, none of them an LF.
+/// It is `Ok` where the input ended without any byte, and else a fault of line 1.
 pub fn read_short(short: &ShortInput) -> Result<(), LogFault>
     requires few { length short.now.bytes.items < HEAD_LEN }
     requires one { list_any is_lf short.now.bytes.items ≡ false }
+    // A log of these bytes that ends so has no line, and this fault or none.
     ensures answers { log_answers short.now.bytes.items short.now.ending
         ≡ end_with (result_err result) }
+    // From the answer alone one sees what the reader answered last, as the ending says it.
     ensures last { last_of_short result ≡ last_of_ending short.now.ending }
 {
     match short.ending {

@@ -32,8 +32,9 @@ pub fn widen_run<R: Read, W: Write, A: Allocator + Copy>(
 ) -> Result<(), RunFault>
     requires { limit ≤ most_input }
 
-    // At `Ok` and `Write` the input stands for a set, and its own gap isn't greater; of any such
-    // set, what was written is the book's text, whole at `Ok`, a prefix of it at `Write`.
+    // If the input's bytes are known, `text` was got of it, and `ending` says how it then ended.
+    // At `Ok` and `Write` the input stands for a set, and its own gap isn't greater. Of any such
+    // set, what was written is the book's text: whole at `Ok`, a prefix of it at `Write`.
     ensures writes { OfGot limit (R.remaining (device_of r.old)) (R.remaining (device_of r.new))
         (λ text ending. WritesFor (IsToldOf (GivesSetWithin gap text ending) (IsTextOfBook gap))
         W.contents result w.old w.new) }
@@ -44,7 +45,7 @@ pub fn widen_run<R: Read, W: Write, A: Allocator + Copy>(
         (λ text ending. RefusesFor (GivesSetWithin gap text ending)
         (IsNotWidened gap text ending) result w.old w.new) }
 
-    // The input isn't asked after its end or a fault; the output isn't asked after a fault, nor at
+    // The input isn't asked after its end or a fault. The output isn't asked after a fault, nor at
     // all where the input is refused or at `Memory`.
     ensures asks { AsksEach result (r.old ∷ []) (r.new ∷ []) }
     ensures calls { CallsOutput result w.old w.new }
