@@ -20,6 +20,7 @@ impl<A: Allocator + Copy> Book<A> {
         let mut before = None;
         for row in rows {
             let heard = row.greatest();
+            // The row's source. It isn't read again where the row before has the same octets.
             let sender = Sender::after(before, &heard);
             notes.take(Subject::of(sender.call(), info_of(&heard)), heard)?;
             kept.append(KeptRow::of_view(alloc, &row)?)?;
