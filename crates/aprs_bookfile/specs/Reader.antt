@@ -37,8 +37,9 @@ pub record HasReadLines (stage : Stage) (rows : List Row) (line text : List ℕ)
   pub one : Lacks 10 line
   pub holds : HoldsIn stage rows line
 
--- The fault is that of this text, whatever follows it; where an allocation failed, at most `most`
--- bytes of the text were not looked at.
+-- The fault is the first one of this text (`FirstFault`), however its input ends. Or an allocation
+-- failed in the line that the fault names (`IsMemoryAt`), when at most `most` bytes of the text
+-- weren't looked at.
 abbrev pub IsFault : ℕ → BookFault → List ℕ → Type 0
 IsFault most fault text =
     IsMemoryAt most text fault ⊎ ((ending : InputEnd) → FirstFault text ending fault)

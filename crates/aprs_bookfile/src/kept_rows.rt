@@ -73,8 +73,9 @@ impl<A: Allocator + Copy> KeptRows<A> {
         self.rows.sound();
     }
 
-    /// Puts a row after the others. Requires what `PackedRows::push` does. After `Memory` the rows
-    /// are as before.
+    /// Puts a row after the others. Requires that it is sound by itself, and that its receivers'
+    /// names with commas between have fewer than 4,294,967,296 bytes (`IsShort`). After `Memory`
+    /// the rows are as before.
     pub(crate) fn push(&mut self, row: &RowView<'_>) -> Result<(), Memory>
         requires sound { IsSoundRow row.now }
         requires short { IsShort row.now }
@@ -86,8 +87,8 @@ impl<A: Allocator + Copy> KeptRows<A> {
     }
 
     /// Puts a row, whose line in this form is `line`, in the place of all rows. The line is kept
-    /// where the form is `Millis`, in which rows are written. Requires what `PackedRows::push`
-    /// does. After `Memory` there may be any rows.
+    /// where the form is `Millis`, in which rows are written. Requires what `push` does. After
+    /// `Memory` there may be any rows.
     pub(crate) fn set(
         &mut self,
         row: &RowView<'_>,

@@ -59,7 +59,9 @@ pub struct RowReader<A: Allocator> {
 impl<A: Allocator + Copy> RowReader<A> {
     /// A reader that has read nothing of a text, and is to keep these rows of it.
     pub fn new(alloc: A, keeping: Keeping) -> RowReader<A>
+        // By `HasReadTo` these rows and this text were read, and what is to be kept is kept.
         ensures reads { HasReadTo result [] [] }
+        // `size_read` counts the rows that were read and the bytes held of a line, together.
         ensures size { size_read result ≡ 0 }
         ensures keeping { result.keeping ≡ keeping }
     {
@@ -124,6 +126,7 @@ impl<A: Allocator + Copy> RowReader<A> {
     /// The rows that are kept, which then are kept no more.
     pub fn take_rows(&mut self, alloc: A) -> PackedRows<A>
         ensures rows { result ≡ self.old.rows }
+        // By `HasReadText` these rows and this text were read, whatever is kept of them.
         ensures reads { (rows : List Row) (t : List ℕ) → HasReadText self.old rows t
             → HasReadText self.new rows t }
         ensures stage { self.new.stage ≡ self.old.stage }
@@ -155,9 +158,9 @@ impl<A: Allocator + Copy> RowReader<A> {
         }
     }
 
-    /// Judges the line that is the bytes taken and then `part`. Returns whether it is a row's, which
-    /// then is the last row; and then no bytes are held. Fails where the line is wrong, or with
-    /// `Memory` as `BookCause` says it. After a fault bytes may still be held.
+    /// Judges the line that is the bytes taken and then `part`. Returns whether it is a row's,
+    /// which then is the last row; and then no bytes are held. Fails where the line is wrong, or
+    /// with `Memory` as `BookCause` says it. After a fault bytes may still be held.
     pub fn end_line(&mut self, part: &[u8]) -> Result<bool, BookFault>
         requires few { size_read self.old + length part.now ≤ most_stream }
         requires going { Spec.is_done self.old.stage ≡ false }
@@ -270,8 +273,10 @@ impl<A: Allocator + Copy> RowReader<A> {
     /// of a text that ends in this way.
     pub fn finish(&self, ending: InputEnd) -> Result<(), BookFault>
         requires { self.now.count ≤ most_stream }
+        // The text `t` that was read is that of a book with the rows `rows`, or it has the fault.
         ensures reads { (rows : List Row) (t : List ℕ) → HasReadText self.now rows t
             → IsAnswerFor (answer_read result (Spec.gap_in self.now.stage) rows) t ending }
+        // `Ok` comes only at `End`, and a fault has the cause of the ending.
         ensures ending { Spec.AgreesWithEnding ending result }
     {
         if may_end(self.stage, ending) {

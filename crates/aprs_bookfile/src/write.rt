@@ -50,6 +50,7 @@ pub fn put_row<W: Write>(
 pub fn row_start(moments: &mut MomentWriter, first: Moment, last: Moment) -> [u8; ROW_START]
     ensures text { result
         ≡ codes "T " ++ moment_text first ++ 32 ∷ moment_text last ++ 32 ∷ [] }
+    // Each moment lies before the year 2100, so that it can be written.
     ensures moments { IsWritable Millis first × IsWritable Millis last }
 {
     let mut text = [b' '; ROW_START];
