@@ -9,7 +9,8 @@ use Rattle.aprs_report.specs.Reader.{reading_of}
 use Rattle.aprs_io.specs.Shown.{shown_text}
 
 -- SOURCE>DESTINATION,DIGIPEATER*,..:INFORMATION. A star stands only after a digipeater that has
--- repeated the frame. The bytes of the information are shown as `shown_text` says.
+-- repeated the frame. In the information a backslash, and each byte outside 20 to 7E, is shown as a
+-- backslash, x and two hexadecimal digits (`shown_text`).
 abbrev pub monitor_text : Parts → List ℕ
 monitor_text p = call_text p.source.call ++ codes ">" ++ call_text p.destination.call
     ++ flat_map hop_text (map hop_of p.digipeaters) ++ codes ":" ++ shown_text p.info
