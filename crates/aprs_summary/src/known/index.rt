@@ -110,8 +110,9 @@ impl<X: Kept, A: Allocator + Copy> Index<X, A> {
         }
     }
 
-    /// The entries, ascending by their bytes, empty ones too. Takes no memory, nor does walking
-    /// over them.
+    /// The entries, ascending by their bytes, empty ones too. By `plain_entries` each has the bytes
+    /// of its key, and the reception that it keeps, or none. Takes no memory, nor does walking over
+    /// them.
     pub(crate) fn iter(&self) -> Iter<'_, Vec<u8, A>, Option<X>>
         ensures entries { Spec.plain_entries (λ key. key.items) X.received result ≡ self.now }
         ensures ascending { Ordered Spec.IsEntryBefore self.now }

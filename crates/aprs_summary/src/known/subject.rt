@@ -28,7 +28,9 @@ pub enum Subject<'a> {
 }
 
 impl<'a> Subject<'a> {
-    /// What a frame from this station with this information reports on.
+    /// What a frame from this station with this information reports on. The topics are positions,
+    /// statuses, objects and items. Under the topic of the report the subject has the bytes of the
+    /// callsign or the name (`subject_bytes`), and under any other it has none.
     pub fn of(source: &Callsign, info: &'a [u8]) -> Subject<'a>
         ensures { (topic : Topic) → subject_bytes topic result
             ≡ report_bytes topic source.now (reading_of info.now) }
