@@ -26,7 +26,7 @@ import tempfile
 from typing import Iterator, List, NamedTuple, Tuple
 
 # modules of specs/ that hold examples and laws alone
-NOT_CHANGED = re.compile(r"^(Lib|Examples?|\w*Laws?|MonitorExample)\.antt$")
+NOT_CHANGED = re.compile(r"^(Lib|\w*Examples?|\w*Laws?)\.antt$")
 # what is said otherwise, and how
 WORDS = {
     "&&": "||", "nat_le": "nat_lt", "nat_lt": "nat_le", "≤": "<", "<": "≤",
@@ -74,11 +74,13 @@ def changes_of(path: str) -> Iterator[Change]:
         return Change(f"{os.path.basename(path)}: {said}", [(path, before, "\n".join(changed))])
 
     # numbers of faults and their names are held to docs/formats.md by tests/documents/numbers.sh
-    numbered = re.findall(r"^(\w+)_number ", before, re.M)
+    numbered = [
+        it for it in re.findall(r"^(\w+)_number ", before, re.M) if f"\n{it}_name " in before
+    ]
     for at, line in enumerate(lines):
         if any(line.startswith((f"{it}_number ", f"{it}_name ")) for it in numbered):
             continue
-        if re.match(r"--|(pub )?(use|mod|module|infix)|\s*--|.* : .*Type", line):
+        if re.match(r"--|(pub )?(use|mod|module|infix)|\s*--|.* : .*Type|\s*→ .*Type \d$", line):
             continue
         if " : " in line and not re.match(r"  pub ", line):
             continue
