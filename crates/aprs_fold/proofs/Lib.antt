@@ -1,4 +1,6 @@
 pub mod Common
+pub mod InErr
+pub mod Points
 pub mod Folding
 pub mod NewRows
 pub mod Steps
@@ -13,6 +15,7 @@ pub mod Parts
 pub mod Puttings
 pub mod PuttingNew
 pub mod Walking
+pub mod Worked
 pub mod Texts
 pub mod Lacking
 pub mod Newing

@@ -1,5 +1,5 @@
--- The rows of several streams are taken, and those are put that are new to the first one, until none
--- is left.
+-- The rows of several streams are taken, and those are put that are new to the first one, until
+-- none is left.
 use Rattle.aprs_fold.proofs.Common.{◌≡◌, ◌∙◌, ◌+◌, ℕ, zero, suc, Bool, true, false, cond, List, [], ◌∷◌, ◌++◌, append-nil, append_assoc, length, length-append, map, Option, Some, None, inl, inr, refl, sym, ap, subst, upto, up_to_itself, in_either, in_left, in_right, Counted, Row, row_cmp, row_total, IsBelow, IsUpTo, IsSoundRow, Sound, IsGap, millis_of, ◌∈◌}
 use Rattle.std.proofs.lemmas.List.Elements.{filter-append}
 use Rattle.aprs_io.specs.declared.outlet.Outlet.{Outlet}
@@ -22,10 +22,11 @@ use Rattle.aprs_fold.specs.declared.fault.FoldFault.{FoldFault}
 use Rattle.aprs_fold.specs.declared.range.SourceRange.{SourceRange}
 use Rattle.aprs_fold.proofs.Kept.{in_within, sound_within, within_both}
 use Rattle.aprs_fold.proofs.Lacking.{across, below_upto, front_some, sound_front}
+use Rattle.aprs_fold.proofs.Points.{by_memory, by_write, Point}
 use Rattle.aprs_fold.proofs.Puttings.{HasPut-fails, HasPut-none, HasPut-then}
 use Rattle.aprs_fold.proofs.Reading.{AreReading-ended, AreReading-front, AreReading-in}
 use Rattle.aprs_fold.proofs.Streamed.{memory_own}
-use Rattle.aprs_fold.proofs.Walking.{all_none, count_put, front_sound, len_there, memory_refuses, none_before, parts_by, read_sound, some_millis, sound_whole, takes_here, takes_there, write_refuses}
+use Rattle.aprs_fold.proofs.Walking.{all_none, count_put, front_sound, len_there, none_before, parts_by, read_sound, some_millis, sound_whole, takes_here, takes_there}
 
 sound_none : (gap : ℕ) → Sound gap []
 sound_none gap = record { ascending = tt; apart = tt; each = λ x h. absurd h }
@@ -35,9 +36,9 @@ none_whole gap is_gap =
     sound_whole gap [] is_gap (sound_none (millis_of gap)) (λ x h. absurd h)
 
 -- before the first row nothing was put
-pub leaves_begun : {W : Type 0} (contents : W → Option (List ℕ)) (gap : ℕ) (fault : FoldFault)
-    (o : Outlet W) → IsGap gap → IsOfInputs fault → LeavesNews contents gap fault o o
-leaves_begun contents gap fault o is_gap is =
+pub leaves_begun : {W : Type 0} (contents : W → Option (List ℕ)) (gap : ℕ) (o : Outlet W)
+    → IsGap gap → (fault : FoldFault) → IsOfInputs fault → LeavesNews contents gap fault o o
+leaves_begun contents gap o is_gap fault is =
     let none = HasPut-none {contents = contents} o in (
       [],
       [],
@@ -104,8 +105,8 @@ put_last : (closed : Bool) (last : List Row) (z : Row) → z ∈ rows_put closed
 put_last true last z h = h
 put_last false last z h = absurd h
 
-module _ {R W A : Type 0} (remaining : R → Option (List ℕ)) (contents : W → Option (List ℕ))
-    (limit gap : ℕ) (range : SourceRange) (first : List (Counted R)) (begun : Outlet W) where
+module _ {R W A : Type 0} {remaining : R → Option (List ℕ)} {contents : W → Option (List ℕ)}
+    {limit gap : ℕ} {range : SourceRange} {first : List (Counted R)} {begun : Outlet W} where
   pub news_begins : (now : List (Counted R)) (streams : List (RowStream A))
       → AreReading remaining limit gap first now streams (map (λ (s : RowStream A). []) streams)
       → IsNewing remaining contents limit gap range first now streams begun begun [] [] 0
@@ -123,10 +124,14 @@ module _ {R W A : Type 0} (remaining : R → Option (List ℕ)) (contents : W �
     counted = refl;
   }
 
-  module _ (is_gap : IsGap gap) (now : List (Counted R)) (streams : List (RowStream A))
-      (out : Outlet W) (last known : List Row) (count : ℕ)
+  -- at a point of the walk
+  module _ (is_gap : IsGap gap) {now : List (Counted R)} {streams : List (RowStream A)}
+      {out : Outlet W} {last known : List Row} {count : ℕ}
       (w : IsNewing remaining contents limit gap range first now streams begun out last known count)
     where
+      pub point : Point remaining limit gap first now streams
+      point = record { taken = w.taken; reading = w.reading }
+
       abbrev old : List Row
       old = first_of w.taken
 
@@ -177,17 +182,8 @@ module _ {R W A : Type 0} (remaining : R → Option (List ℕ)) (contents : W �
           (new_are_sound (millis_of gap) (old ++ []) (rows_of_sources range w.final)
           (sound_within (millis_of gap) range w.final final_sound))) w.put.spelled
 
-      pub leaves_here : (fault : FoldFault) → IsOfInputs fault
-          → LeavesNews contents gap fault begun out
-      leaves_here fault is = (
-        w.written,
-        [],
-        written_whole,
-        parts_by contents fault w.written [] begun out is w.put.puts,
-      )
-
       -- of the last row what is new is put
-      module _ (closed wrote : Bool) (next : Outlet W)
+      module _ (closed : Bool) {wrote : Bool} {next : Outlet W}
           (p : PutsNew contents range wrote known out next (rows_put closed last)) where
         abbrev more : List Row
         more = new_rows known (rows_of_sources range (rows_put closed last))
@@ -218,7 +214,7 @@ module _ {R W A : Type 0} (remaining : R → Option (List ℕ)) (contents : W �
             (len_there wrote more p.is_there) ∙ sym (length-append w.written more)
 
         -- it goes on
-        module _ (i : ℕ) (f : IsFirst streams i) (sound : IsSoundRow f.row) (new : List Row)
+        module _ {i : ℕ} (f : IsFirst streams i) (sound : IsSoundRow f.row) (new : List Row)
             (takes : TakesNext closed (millis_of gap) last f.row new)
             (after : List (Counted R)) (others : List (RowStream A))
             (reading : AreReading remaining limit gap first after others
@@ -330,9 +326,9 @@ module _ {R W A : Type 0} (remaining : R → Option (List ℕ)) (contents : W �
             w.taken,
             AreReading-ended remaining limit gap first now streams w.taken none w.reading,
             subst (λ (l : List Row). PutsNews contents gap n begun next l) same (record {
-              put = put_all true some next p;
-              counted = counts true some next p n e;
-              whole = whole_new true some next p;
+              put = put_all true p;
+              counted = counts true p n e;
+              whole = whole_new true p;
             }),
           )
 
@@ -342,7 +338,7 @@ module _ {R W A : Type 0} (remaining : R → Option (List ℕ)) (contents : W �
           → FailsNew contents range fault known out next last
           → LeavesNews contents gap fault begun next
       fails_left fault next fails = elim fails [
-        | inl m ↦ leaves_put m.1.0 m.1.1 next m.1.2 fault (memory_own fault m.0)
+        | inl m ↦ leaves_put m.1.0 m.1.2 fault (memory_own fault m.0)
         | inr write ↦ subst (λ (g : FoldFault). LeavesNews contents gap g begun next)
             (sym write.0) (
               w.written,
@@ -352,10 +348,10 @@ module _ {R W A : Type 0} (remaining : R → Option (List ℕ)) (contents : W �
             )
       ]
 
-      pub fails_refused : (fault : FoldFault) (next : Outlet W) (after : List (Counted R))
+      pub fails_refused : (fault : FoldFault) (next : Outlet W)
           → FailsNew contents range fault known out next last
-          → IsRefused remaining limit gap fault first after
-      fails_refused fault next after fails = elim fails [
-        | inl m ↦ memory_refuses remaining limit gap first after fault m.0
-        | inr write ↦ write_refuses remaining limit gap first after fault write.0
+          → IsRefused remaining limit gap fault first now
+      fails_refused fault next fails = elim fails [
+        | inl m ↦ by_memory point fault m.0
+        | inr write ↦ by_write point fault write.0
       ]

@@ -18,12 +18,13 @@ use Rattle.aprs_fold.specs.Fronts.{row_at, IsFirst, NotAfter}
 use Rattle.aprs_fold.specs.Range.{book_of_sources, rows_of_sources}
 use Rattle.aprs_fold.specs.Inputs.{all_of, AreBooks, IsRefused}
 use Rattle.aprs_fold.specs.Streams.{fronts_of, taken_at, AreReading, ChangesAt, GoesOn, IsOfInputs}
-use Rattle.aprs_fold.specs.Taking.{lines_of_rows, AreSpelled, ClosesFor, FailsTaking, HasPut, IsThere}
+use Rattle.aprs_fold.specs.Taking.{lines_of_rows, AreSpelled, ClosesFor, FailsPut, FailsTaking, HasPut, IsThere}
 use Rattle.aprs_fold.specs.declared.fault.FoldFault.{FoldFault}
 use Rattle.aprs_fold.specs.declared.fault.FoldFault.TheVariants.{Input, OtherGap, Memory, Write}
 use Rattle.aprs_fold.specs.declared.range.SourceRange.{SourceRange}
 use Rattle.aprs_fold.proofs.Begun.{folded_all, folded_one, ChangesAt-none}
 use Rattle.aprs_fold.proofs.Kept.{sound_within, within_both}
+use Rattle.aprs_fold.proofs.Points.{Point}
 use Rattle.aprs_fold.proofs.Puttings.{HasPut-fails, HasPut-none, HasPut-then}
 use Rattle.aprs_fold.proofs.Reading.{AreReading-ended, AreReading-front, AreReading-in, AreReading-taken}
 
@@ -163,11 +164,11 @@ parts_by contents Memory rows last old new is put = put
 parts_by contents Write rows last old new is put = absurd is
 
 -- before the first row nothing was put
-pub leaves_none : {R W : Type 0} (remaining : R → Option (List ℕ))
-    (contents : W → Option (List ℕ)) (limit gap : ℕ) (range : SourceRange)
-    (first now : List (Counted R)) (fault : FoldFault) (o : Outlet W) → IsGap gap
+pub leaves_none : {R W : Type 0} {remaining : R → Option (List ℕ)}
+    {contents : W → Option (List ℕ)} {limit gap : ℕ} {range : SourceRange}
+    {first now : List (Counted R)} {o : Outlet W} → IsGap gap → (fault : FoldFault)
     → IsOfInputs fault → LeavesRows remaining contents limit gap range fault first now o o
-leaves_none remaining contents limit gap range first now fault o is_gap is = record {
+leaves_none {contents = contents} {gap = gap} {range = range} {o = o} is_gap fault is = record {
   rows = [];
   last = [];
   begun = inl (refl, refl);
@@ -175,31 +176,6 @@ leaves_none remaining contents limit gap range first now fault o is_gap is = rec
       (λ x h. absurd h);
   put = parts_by contents fault [] [] o o is (HasPut-none {contents = contents} o).puts;
 }
-
--- a fault that is none of an input refuses none
-pub taking_refuses : {R W : Type 0} (remaining : R → Option (List ℕ)) (limit gap : ℕ)
-    (range : SourceRange) (old new : List (Counted R)) (contents : W → Option (List ℕ))
-    (millis : ℕ) (fault : FoldFault) (o p : Outlet W) (last : List Row) (x : Row)
-    → FailsTaking contents range millis fault o p last x
-    → IsRefused remaining limit gap fault old new
-taking_refuses remaining limit gap range old new contents millis (Input index fault) o p last x h =
-    absurd h
-taking_refuses remaining limit gap range old new contents millis (OtherGap index) o p last x h =
-    absurd h
-taking_refuses remaining limit gap range old new contents millis Memory o p last x h = tt
-taking_refuses remaining limit gap range old new contents millis Write o p last x h = tt
-
-pub memory_refuses : {R : Type 0} (remaining : R → Option (List ℕ)) (limit gap : ℕ)
-    (old new : List (Counted R)) (fault : FoldFault) → fault ≡ Memory
-    → IsRefused remaining limit gap fault old new
-memory_refuses remaining limit gap old new fault e =
-    subst (λ (f : FoldFault). IsRefused remaining limit gap f old new) (sym e) tt
-
-pub write_refuses : {R : Type 0} (remaining : R → Option (List ℕ)) (limit gap : ℕ)
-    (old new : List (Counted R)) (fault : FoldFault) → fault ≡ Write
-    → IsRefused remaining limit gap fault old new
-write_refuses remaining limit gap old new fault e =
-    subst (λ (f : FoldFault). IsRefused remaining limit gap f old new) (sym e) tt
 
 -- the lines of more rows were put
 put_more : {W : Type 0} (contents : W → Option (List ℕ)) (range : SourceRange)
@@ -211,8 +187,8 @@ put_more contents range begun out next rows more first then =
     subst (λ (l : List Row). HasPut contents begun next l) (sym (within_both range rows more))
     (HasPut-then begun out next (rows_of_sources range rows) (rows_of_sources range more) first then)
 
-module _ {R W A : Type 0} (remaining : R → Option (List ℕ)) (contents : W → Option (List ℕ))
-    (limit gap : ℕ) (range : SourceRange) (first : List (Counted R)) (begun : Outlet W) where
+module _ {R W A : Type 0} {remaining : R → Option (List ℕ)} {contents : W → Option (List ℕ)}
+    {limit gap : ℕ} {range : SourceRange} {first : List (Counted R)} {begun : Outlet W} where
   pub walk_begins : (now : List (Counted R)) (streams : List (RowStream A))
       → AreReading remaining limit gap first now streams (map (λ (s : RowStream A). []) streams)
       → Walking remaining contents limit gap range first now streams begun begun [] 0
@@ -226,9 +202,13 @@ module _ {R W A : Type 0} (remaining : R → Option (List ℕ)) (contents : W �
     counted = refl;
   }
 
-  module _ (is_gap : IsGap gap) (now : List (Counted R)) (streams : List (RowStream A))
-      (out : Outlet W) (last : List Row) (count : ℕ)
+  -- at a point of the walk
+  module _ (is_gap : IsGap gap) {now : List (Counted R)} {streams : List (RowStream A)}
+      {out : Outlet W} {last : List Row} {count : ℕ}
       (w : Walking remaining contents limit gap range first now streams begun out last count) where
+    pub point : Point remaining limit gap first now streams
+    point = record { taken = w.taken; reading = w.reading }
+
     -- a fault of the inputs, where no row was taken any more
     here : IsBegun remaining limit gap first now w.written last
     here = inr (folded_all remaining limit gap first now streams w.taken w.written last w.reading
@@ -260,20 +240,21 @@ module _ {R W A : Type 0} (remaining : R → Option (List ℕ)) (contents : W �
     }
 
     -- the output was refused within the last row's line
-    pub leaves_write : (next : Outlet W)
-        → Puts {E = FoldFault} contents (Err Write) out next
-        (lines_of_rows (rows_of_sources range last))
-        → LeavesRows remaining contents limit gap range Write first now begun next
-    leaves_write next put = record {
+    pub leaves_write : (fault : FoldFault) (next : Outlet W)
+        → FailsPut contents fault out next (rows_of_sources range last)
+        → LeavesRows remaining contents limit gap range fault first now begun next
+    leaves_write fault next fails = record {
       rows = w.written;
       last = last;
       begun = here;
       rows_are = whole_here;
-      put = HasPut-fails begun out next (rows_of_sources range w.written)
-          (rows_of_sources range last) w.put put;
+      put = subst (λ (f : FoldFault). PutsPart contents f (rows_of_sources range w.written)
+          (rows_of_sources range last) begun next) (sym fails.0)
+          (HasPut-fails begun out next (rows_of_sources range w.written)
+          (rows_of_sources range last) w.put fails.1);
     }
 
-    module _ (i : ℕ) (f : IsFirst streams i) where
+    module _ {i : ℕ} (f : IsFirst streams i) where
       module _ (closed : Bool) (next : Outlet W) (sound : IsSoundRow f.row)
           (put : HasPut contents out next (rows_of_sources range (rows_put closed last))) where
         put_here : HasPut contents begun next
@@ -337,11 +318,20 @@ module _ {R W A : Type 0} (remaining : R → Option (List ℕ)) (contents : W �
             (put_more contents range begun out next w.written [] w.put put).puts);
       }
 
+      -- such a fault refuses no input
+      pub taking_refuses : (fault : FoldFault) (next : Outlet W)
+          → FailsTaking contents range (millis_of gap) fault out next last f.row
+          → IsRefused remaining limit gap fault first now
+      taking_refuses (Input index fault) next fails = absurd fails
+      taking_refuses (OtherGap index) next fails = absurd fails
+      taking_refuses Memory next fails = tt
+      taking_refuses Write next fails = tt
+
       -- a fault as it was taken
       pub leaves_taking : (fault : FoldFault) (next : Outlet W) → IsSoundRow f.row
           → FailsTaking contents range (millis_of gap) fault out next last f.row
           → LeavesRows remaining contents limit gap range fault first now begun next
-      leaves_taking Write next sound fails = leaves_write next fails
+      leaves_taking Write next sound fails = leaves_write Write next (refl, fails)
       leaves_taking (Input index fault) next sound fails = absurd fails
       leaves_taking (OtherGap index) next sound fails = absurd fails
       leaves_taking Memory next sound fails =

@@ -1,5 +1,6 @@
--- Ranges and rows that the worked examples are about.
-use Rattle.std.specs.Prelude.{[], ◌∷◌, None, Some}
+-- Ranges, rows and devices that the worked examples are about.
+use Rattle.std.specs.Prelude.{ℕ, List, [], ◌∷◌, ◌++◌, codes, None, Some}
+use Rattle.aprs_io.specs.declared.device.Counted.{Counted}
 use Rattle.aprs_transmissions.specs.Examples.{example_row, hi_frame, n0call, of_other, reception_at, rx1}
 use Rattle.aprs_transmissions.specs.Row.{Row}
 use Rattle.aprs_fold.specs.declared.range.SourceRange.{SourceRange}
@@ -22,3 +23,11 @@ of_seven = example_row 0 (rx1 ∷ []) (reception_at 0 rx1 hi_frame)
 
 abbrev pub of_eight : Row
 of_eight = example_row 0 (rx1 ∷ []) (reception_at 0 rx1 of_other)
+
+-- A device that has these bytes, and was never called.
+abbrev pub uncalled : List ℕ → Counted (List ℕ)
+uncalled bytes = record { device = bytes; failed = 0; answered = 0; ended = 0 }
+
+-- What begins as a book file of the gap 31.
+abbrev pub begun_under_31 : List ℕ
+begun_under_31 = codes "APRSBOOK 3 31" ++ 10 ∷ codes "T"

@@ -1,36 +1,29 @@
-use Rattle.aprs_fold.proofs.Common.{[], List, Row, map, sym, subst, arith, err_from_is_err_and}
+use Rattle.aprs_fold.proofs.Common.{[], List, Row, map, sym, subst, arith}
 use Rattle.aprs_bookfile.specs.declared.row_stream.RowStream.{RowStream}
 use Rattle.aprs_fold.specs.Streams.{AreReading}
 use Rattle.aprs_fold.specs.declared.fault.FoldFault.TheVariants.{Memory}
 use Rattle.aprs_fold.proofs.Begun.{ChangesAt-none}
+use Rattle.aprs_fold.proofs.InErr.{in_err}
 use Rattle.aprs_fold.proofs.Matches.{opened_again}
-use Rattle.aprs_fold.proofs.Reading.{AreReading-asked, AreReading-len, AreReading-ready}
+use Rattle.aprs_fold.proofs.Points.{asked, by_memory, by_write, is_ready, is_within}
 use Rattle.aprs_fold.proofs.Streamed.{memory_own, AreOpened-all}
-use Rattle.aprs_fold.proofs.Walking.{leaves_here, leaves_none, leaves_taken, leaves_taking, leaves_write, memory_refuses, taking_refuses, walk_begins, walk_ends, walks_on, write_refuses, Walking}
+use Rattle.aprs_fold.proofs.Walking.{leaves_here, leaves_none, leaves_taken, leaves_taking, leaves_write, point, taking_refuses, walk_begins, walk_ends, walks_on, Walking}
 use Rattle.aprs_fold.proofs.fold.put_rows.Goals as goal
 
 pub returns-in_err-opened-clause-left : goal.returns-in_err-opened-clause-left
 returns-in_err-opened-clause-left g c =
-    let p = err_from_is_err_and c.from_residual.result c.from_residual.ensures.1 in
-    rw (p.1, p.2) (leaves_none g.R.Read.remaining g.W.Write.contents c.args.limit c.args.gap
-    c.args.range.now c.args.inputs.now c.open_all.new.inputs _ c.args.out.now c.requires.gap
-    c.in_err-opened.ensures.own)
+    in_err _ _ c.from_residual.ensures.1 (leaves_none c.requires.gap _ c.in_err-opened.ensures.own)
 
 pub returns-in_err-tournament-clause-left : goal.returns-in_err-tournament-clause-left
 returns-in_err-tournament-clause-left g c =
-    let p = err_from_is_err_and c.from_residual-in_err-tournament.result
-    c.from_residual-in_err-tournament.ensures.1 in
-    rw (p.1, p.2) (leaves_none g.R.Read.remaining g.W.Write.contents c.args.limit c.args.gap
-    c.args.range.now c.args.inputs.now c.open_all.new.inputs Memory c.args.out.now c.requires.gap tt)
+    in_err _ _ c.from_residual-in_err-tournament.ensures.1 (leaves_none c.requires.gap Memory tt)
 
 pub loop-index-init : goal.loop-index-init
 loop-index-init g c = record {
   walks = subst (λ (last : List Row). Walking g.R.Read.remaining g.W.Write.contents c.args.limit
-      c.args.gap c.args.range.now c.args.inputs.now c.open_all.new.inputs c.as_mut_slice-streams.result.now
-      c.args.out.now c.args.out.now last 0) (sym c.new-last.ensures)
-      (walk_begins g.R.Read.remaining g.W.Write.contents c.args.limit c.args.gap c.args.range.now
-      c.args.inputs.now
-      c.args.out.now _ _ (subst (λ (l : List (RowStream _)). AreReading
+      c.args.gap c.args.range.now c.args.inputs.now c.open_all.new.inputs
+      c.as_mut_slice-streams.result.now c.args.out.now c.args.out.now last 0)
+      (sym c.new-last.ensures) (walk_begins _ _ (subst (λ (l : List (RowStream _)). AreReading
       g.R.Read.remaining c.args.limit c.args.gap c.args.inputs.now c.open_all.new.inputs l
       (map (λ (s : RowStream _). []) l)) (sym c.as_mut_slice-streams.ensures.value)
       (AreOpened-all g.R.Read.remaining c.args.limit c.args.gap c.args.inputs.now
@@ -41,88 +34,67 @@ loop-index-init g c = record {
 
 pub returns-in_err-wrote-clause-refuses : goal.returns-in_err-wrote-clause-refuses
 returns-in_err-wrote-clause-refuses g c =
-    let p = err_from_is_err_and c.from_residual-in_err-wrote.result
-    c.from_residual-in_err-wrote.ensures.1 in
     let f = c.in-Some.ensures.some in
-    rw (p.1, p.2) (taking_refuses g.R.Read.remaining c.args.limit c.args.gap c.args.range.now c.args.inputs.now c.loop-index.inputs
-    g.W.Write.contents _ _ c.loop-index.out c.take_front.new.out c.loop-index.last f.row
-    (c.in_err-wrote.ensures.fails f.row f.is).1)
+    in_err _ _ c.from_residual-in_err-wrote.ensures.1
+    (taking_refuses c.requires.gap c.loop-index.invariant.walks f _
+    c.take_front.new.out (c.in_err-wrote.ensures.fails f.row f.is).1)
 
 pub returns-in_err-wrote-clause-left : goal.returns-in_err-wrote-clause-left
 returns-in_err-wrote-clause-left g c =
-    let p = err_from_is_err_and c.from_residual-in_err-wrote.result
-    c.from_residual-in_err-wrote.ensures.1 in
     let f = c.in-Some.ensures.some in
     let t = c.in_err-wrote.ensures.fails f.row f.is in
-    rw (p.1, p.2) (leaves_taking g.R.Read.remaining g.W.Write.contents c.args.limit c.args.gap c.args.range.now
-    c.args.inputs.now c.args.out.now c.requires.gap c.loop-index.inputs c.loop-index.streams
-    c.loop-index.out c.loop-index.last c.loop-index.count c.loop-index.invariant.walks c.in-Some.index f _ c.take_front.new.out t.0 t.1)
+    in_err _ _ c.from_residual-in_err-wrote.ensures.1
+    (leaves_taking c.requires.gap c.loop-index.invariant.walks f _
+    c.take_front.new.out t.0 t.1)
 
 pub returns-in_err-wrote-clause-asks : goal.returns-in_err-wrote-clause-asks
-returns-in_err-wrote-clause-asks g c =
-    AreReading-asked g.R.Read.remaining c.args.limit c.args.gap c.args.inputs.now c.loop-index.inputs
-    c.loop-index.streams c.loop-index.invariant.walks.taken c.loop-index.invariant.walks.reading
+returns-in_err-wrote-clause-asks g c = asked (point c.requires.gap c.loop-index.invariant.walks)
 
 pub returns-in_err-count-clause-refuses : goal.returns-in_err-count-clause-refuses
 returns-in_err-count-clause-refuses g c =
-    let p = err_from_is_err_and c.from_residual-in_err-count.result
-    c.from_residual-in_err-count.ensures.1 in
-    rw (p.1, p.2) (memory_refuses g.R.Read.remaining c.args.limit c.args.gap c.args.inputs.now c.loop-index.inputs _
+    in_err _ _ c.from_residual-in_err-count.ensures.1
+    (by_memory (point c.requires.gap c.loop-index.invariant.walks) _
     c.in_err-count.ensures.fails)
 
 pub returns-in_err-count-clause-left : goal.returns-in_err-count-clause-left
 returns-in_err-count-clause-left g c =
-    let p = err_from_is_err_and c.from_residual-in_err-count.result
-    c.from_residual-in_err-count.ensures.1 in
     let f = c.in-Some.ensures.some in
     let t = c.in_ok-wrote.ensures.takes f.row f.is in
-    rw (p.1, p.2) (leaves_taken g.R.Read.remaining g.W.Write.contents c.args.limit c.args.gap c.args.range.now
-    c.args.inputs.now c.args.out.now c.requires.gap c.loop-index.inputs c.loop-index.streams
-    c.loop-index.out c.loop-index.last c.loop-index.count c.loop-index.invariant.walks c.in-Some.index f t.1.closed c.take_front.new.out t.0 t.1.puts
-    c.take_front.new.last t.1.takes _ (memory_own _ c.in_err-count.ensures.fails) c.loop-index.inputs
+    in_err _ _ c.from_residual-in_err-count.ensures.1
+    (leaves_taken c.requires.gap c.loop-index.invariant.walks f t.1.closed
+    c.take_front.new.out t.0 t.1.puts c.take_front.new.last t.1.takes _
+    (memory_own _ c.in_err-count.ensures.fails) c.loop-index.inputs
     (ChangesAt-none c.in-Some.index c.loop-index.inputs))
 
 pub returns-in_err-count-clause-asks : goal.returns-in_err-count-clause-asks
-returns-in_err-count-clause-asks g c =
-    AreReading-asked g.R.Read.remaining c.args.limit c.args.gap c.args.inputs.now c.loop-index.inputs
-    c.loop-index.streams c.loop-index.invariant.walks.taken c.loop-index.invariant.walks.reading
+returns-in_err-count-clause-asks g c = asked (point c.requires.gap c.loop-index.invariant.walks)
 
 pub advance-requires-clause-ready : goal.advance-requires-clause-ready
 advance-requires-clause-ready g c =
-    let f = c.in-Some.ensures.some in
-    AreReading-ready g.R.Read.remaining c.args.limit c.args.gap c.in-Some.index c.args.inputs.now c.loop-index.inputs
-    c.loop-index.streams c.loop-index.invariant.walks.taken f.row f.is c.loop-index.invariant.walks.reading
+    is_ready (point c.requires.gap c.loop-index.invariant.walks) c.in-Some.ensures.some
 
 pub advance-requires-clause-within : goal.advance-requires-clause-within
 advance-requires-clause-within g c =
-    let len = AreReading-len g.R.Read.remaining c.args.limit c.args.gap c.args.inputs.now c.loop-index.inputs
-    c.loop-index.streams c.loop-index.invariant.walks.taken c.loop-index.invariant.walks.reading in
-    let within = c.in-Some.ensures.some.within in
-    omega (arith, len, within)
+    is_within (point c.requires.gap c.loop-index.invariant.walks) c.in-Some.ensures.some
 
 pub returns-in_err-advance-clause-refuses : goal.returns-in_err-advance-clause-refuses
 returns-in_err-advance-clause-refuses g c =
-    let p = err_from_is_err_and c.from_residual-in_err-advance.result
-    c.from_residual-in_err-advance.ensures.1 in
-    rw (p.1, p.2) (c.in_err-advance.ensures.fault c.args.limit c.args.gap c.args.inputs.now
-    c.loop-index.invariant.walks.taken c.loop-index.invariant.walks.reading).0
+    in_err _ _ c.from_residual-in_err-advance.ensures.1
+    ((c.in_err-advance.ensures.fault c.args.limit c.args.gap c.args.inputs.now
+    c.loop-index.invariant.walks.taken c.loop-index.invariant.walks.reading).0)
 
 pub returns-in_err-advance-clause-left : goal.returns-in_err-advance-clause-left
 returns-in_err-advance-clause-left g c =
-    let p = err_from_is_err_and c.from_residual-in_err-advance.result
-    c.from_residual-in_err-advance.ensures.1 in
     let f = c.in-Some.ensures.some in
     let t = c.in_ok-wrote.ensures.takes f.row f.is in
-    rw (p.1, p.2) (leaves_taken g.R.Read.remaining g.W.Write.contents c.args.limit c.args.gap c.args.range.now
-    c.args.inputs.now c.args.out.now c.requires.gap c.loop-index.inputs c.loop-index.streams
-    c.loop-index.out c.loop-index.last c.loop-index.count c.loop-index.invariant.walks c.in-Some.index f t.1.closed c.take_front.new.out t.0 t.1.puts
-    c.take_front.new.last t.1.takes _ c.in_err-advance.ensures.own c.advance.new.inputs
-    c.in_err-advance.ensures.changes)
+    in_err _ _ c.from_residual-in_err-advance.ensures.1
+    (leaves_taken c.requires.gap c.loop-index.invariant.walks f t.1.closed
+    c.take_front.new.out t.0 t.1.puts c.take_front.new.last t.1.takes _
+    c.in_err-advance.ensures.own c.advance.new.inputs c.in_err-advance.ensures.changes)
 
 pub returns-in_err-advance-clause-asks : goal.returns-in_err-advance-clause-asks
-returns-in_err-advance-clause-asks g c =
-    (c.in_err-advance.ensures.fault c.args.limit c.args.gap c.args.inputs.now
-    c.loop-index.invariant.walks.taken c.loop-index.invariant.walks.reading).1
+returns-in_err-advance-clause-asks g c = (c.in_err-advance.ensures.fault c.args.limit c.args.gap
+    c.args.inputs.now c.loop-index.invariant.walks.taken c.loop-index.invariant.walks.reading).1
 
 pub play_again-requires-clause-there : goal.play_again-requires-clause-there
 play_again-requires-clause-there g c =
@@ -143,66 +115,47 @@ loop-index-preserved g c =
     let one = c.in_ok-advance.ensures.one c.args.limit c.args.gap c.args.inputs.now
     c.loop-index.invariant.walks.taken c.loop-index.invariant.walks.reading in
     record {
-      walks = walks_on g.R.Read.remaining g.W.Write.contents c.args.limit c.args.gap
-          c.args.range.now c.args.inputs.now c.args.out.now c.requires.gap c.loop-index.inputs
-          c.loop-index.streams c.loop-index.out c.loop-index.last c.loop-index.count
-          c.loop-index.invariant.walks c.in-Some.index f t.1.closed c.take_front.new.out t.0
-          t.1.puts c.take_front.new.last c.advance.new.inputs c.advance.new.streams
-          c.in_ok-wrote.wrote c.in_ok-count.count t.1.takes t.1.is_there
+      walks = walks_on c.requires.gap c.loop-index.invariant.walks f t.1.closed
+          c.take_front.new.out t.0 t.1.puts c.take_front.new.last c.advance.new.inputs
+          c.advance.new.streams c.in_ok-wrote.wrote c.in_ok-count.count t.1.takes t.1.is_there
           c.in_ok-count.ensures.counts one.0 one.1;
       played = c.play_again.ensures;
     }
 
 pub returns-in_err-all-clause-refuses : goal.returns-in_err-all-clause-refuses
 returns-in_err-all-clause-refuses g c =
-    let p = err_from_is_err_and c.from_residual-in_err-all.result
-    c.from_residual-in_err-all.ensures.1 in
-    rw (p.1, p.2) (memory_refuses g.R.Read.remaining c.args.limit c.args.gap c.args.inputs.now c.loop-index.inputs _
+    in_err _ _ c.from_residual-in_err-all.ensures.1
+    (by_memory (point c.requires.gap c.loop-index.invariant.walks) _
     c.in_err-all.ensures.fails)
 
 pub returns-in_err-all-clause-left : goal.returns-in_err-all-clause-left
 returns-in_err-all-clause-left g c =
-    let p = err_from_is_err_and c.from_residual-in_err-all.result
-    c.from_residual-in_err-all.ensures.1 in
-    rw (p.1, p.2) (leaves_here g.R.Read.remaining g.W.Write.contents c.args.limit c.args.gap c.args.range.now
-    c.args.inputs.now c.args.out.now c.requires.gap c.loop-index.inputs c.loop-index.streams
-    c.loop-index.out c.loop-index.last c.loop-index.count c.loop-index.invariant.walks _ (memory_own _ c.in_err-all.ensures.fails))
+    in_err _ _ c.from_residual-in_err-all.ensures.1
+    (leaves_here c.requires.gap c.loop-index.invariant.walks _
+    (memory_own _ c.in_err-all.ensures.fails))
 
 pub returns-in_err-all-clause-asks : goal.returns-in_err-all-clause-asks
-returns-in_err-all-clause-asks g c =
-    AreReading-asked g.R.Read.remaining c.args.limit c.args.gap c.args.inputs.now c.loop-index.inputs
-    c.loop-index.streams c.loop-index.invariant.walks.taken c.loop-index.invariant.walks.reading
+returns-in_err-all-clause-asks g c = asked (point c.requires.gap c.loop-index.invariant.walks)
 
 pub returns-in_err-put_last-clause-refuses : goal.returns-in_err-put_last-clause-refuses
 returns-in_err-put_last-clause-refuses g c =
-    let p = err_from_is_err_and c.from_residual-in_err-put_last.result
-    c.from_residual-in_err-put_last.ensures.1 in
-    rw (p.1, p.2) (write_refuses g.R.Read.remaining c.args.limit c.args.gap c.args.inputs.now c.loop-index.inputs _
+    in_err _ _ c.from_residual-in_err-put_last.ensures.1
+    (by_write (point c.requires.gap c.loop-index.invariant.walks) _
     c.in_err-put_last.ensures.fails.0)
 
 pub returns-in_err-put_last-clause-left : goal.returns-in_err-put_last-clause-left
 returns-in_err-put_last-clause-left g c =
-    let p = err_from_is_err_and c.from_residual-in_err-put_last.result
-    c.from_residual-in_err-put_last.ensures.1 in
-    rw (p.1, p.2, c.in_err-put_last.ensures.fails.0) (leaves_write g.R.Read.remaining g.W.Write.contents c.args.limit c.args.gap c.args.range.now
-    c.args.inputs.now c.args.out.now c.requires.gap c.loop-index.inputs c.loop-index.streams
-    c.loop-index.out c.loop-index.last c.loop-index.count c.loop-index.invariant.walks c.put_last.new.out
-    c.in_err-put_last.ensures.fails.1)
+    in_err _ _ c.from_residual-in_err-put_last.ensures.1
+    (leaves_write c.requires.gap c.loop-index.invariant.walks _
+    c.put_last.new.out c.in_err-put_last.ensures.fails)
 
 pub returns-in_err-put_last-clause-asks : goal.returns-in_err-put_last-clause-asks
-returns-in_err-put_last-clause-asks g c =
-    AreReading-asked g.R.Read.remaining c.args.limit c.args.gap c.args.inputs.now c.loop-index.inputs
-    c.loop-index.streams c.loop-index.invariant.walks.taken c.loop-index.invariant.walks.reading
+returns-in_err-put_last-clause-asks g c = asked (point c.requires.gap c.loop-index.invariant.walks)
 
 pub returns-clause-folds : goal.returns-clause-folds
-returns-clause-folds g c =
-    walk_ends g.R.Read.remaining g.W.Write.contents c.args.limit c.args.gap c.args.range.now
-    c.args.inputs.now c.args.out.now c.requires.gap c.loop-index.inputs c.loop-index.streams
-    c.loop-index.out c.loop-index.last c.loop-index.count c.loop-index.invariant.walks
+returns-clause-folds g c = walk_ends c.requires.gap c.loop-index.invariant.walks
     c.in_default.ensures.none c.has_line.result c.put_last.new.out c.in_ok-all.all
     c.has_line.ensures c.in_ok-put_last.ensures.puts c.in_ok-all.ensures.counts
 
 pub returns-clause-asks : goal.returns-clause-asks
-returns-clause-asks g c =
-    AreReading-asked g.R.Read.remaining c.args.limit c.args.gap c.args.inputs.now c.loop-index.inputs
-    c.loop-index.streams c.loop-index.invariant.walks.taken c.loop-index.invariant.walks.reading
+returns-clause-asks g c = asked (point c.requires.gap c.loop-index.invariant.walks)

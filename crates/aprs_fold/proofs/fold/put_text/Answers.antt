@@ -1,4 +1,5 @@
-use Rattle.aprs_fold.proofs.Common.{Err, Ok, err_from_is_err_and, Puts-is}
+use Rattle.aprs_fold.proofs.Common.{Err, Ok, Puts-is}
+use Rattle.aprs_fold.proofs.InErr.{in_err}
 use Rattle.aprs_fold.proofs.Puttings.{Puts-ok}
 use Rattle.aprs_fold.proofs.Streamed.{AreAsked-none}
 use Rattle.aprs_fold.proofs.Texts.{leaves_all, leaves_header, leaves_rows, text_ends}
@@ -6,8 +7,7 @@ use Rattle.aprs_fold.proofs.fold.put_text.Goals as goal
 
 pub returns-in_err-put_header-clause-left : goal.returns-in_err-put_header-clause-left
 returns-in_err-put_header-clause-left g c =
-    let p = err_from_is_err_and c.from_residual.result c.from_residual.ensures.1 in
-    rw (p.1, p.2) (leaves_header g.R.Read.remaining g.W.Write.contents c.args.limit c.args.gap
+    in_err _ _ c.from_residual.ensures.1 (leaves_header g.R.Read.remaining g.W.Write.contents c.args.limit c.args.gap
     c.args.range.now c.args.inputs.now c.args.inputs.now c.args.out.now c.put_header.new.out
     c.requires.gap c.in_err-put_header.ensures.puts)
 
@@ -17,19 +17,15 @@ returns-in_err-put_header-clause-asks g c =
 
 pub returns-in_err-count-clause-left : goal.returns-in_err-count-clause-left
 returns-in_err-count-clause-left g c =
-    let p = err_from_is_err_and c.from_residual-in_err-count.result
-    c.from_residual-in_err-count.ensures.1 in
-    rw (p.1, p.2) (leaves_rows g.R.Read.remaining g.W.Write.contents c.args.limit c.args.gap
+    in_err _ _ c.from_residual-in_err-count.ensures.1 (leaves_rows g.R.Read.remaining g.W.Write.contents c.args.limit c.args.gap
     c.args.range.now c.args.inputs.now c.put_rows.new.inputs c.args.out.now c.put_header.new.out
     c.put_rows.new.out (Puts-ok c.in_ok-put_header.ensures.puts) _ c.in_ok-put_header.ensures.empty
     c.in_err-count.ensures.left)
 
 pub returns-in_err-put-clause-left : goal.returns-in_err-put-clause-left
 returns-in_err-put-clause-left g c =
-    let p = err_from_is_err_and c.from_residual-in_err-put.result
-    c.from_residual-in_err-put.ensures.1 in
     let h = c.in_ok-count.ensures.folds in
-    rw (p.1, p.2) (leaves_all g.R.Read.remaining g.W.Write.contents c.args.limit c.args.gap
+    in_err _ _ c.from_residual-in_err-put.ensures.1 (leaves_all g.R.Read.remaining g.W.Write.contents c.args.limit c.args.gap
     c.args.range.now c.args.inputs.now c.put_rows.new.inputs c.args.out.now c.put.new.self _ h.2.book
     (text_ends g.R.Read.remaining g.W.Write.contents c.args.limit c.args.gap
     c.args.range.now c.args.inputs.now c.put_rows.new.inputs (Err c.in_err-put.field-0.0) c.args.out.now

@@ -1,29 +1,28 @@
-use Rattle.aprs_fold.proofs.Common.{◌∷◌, [], ◌∙◌, List, ap, sym, subst, arith, get_or, set, length, length-append, slice_get-get_or, err_from_is_err_and}
+use Rattle.aprs_fold.proofs.Common.{◌∷◌, [], ◌∙◌, List, ap, sym, subst, arith, get_or, set, length, length-append, slice_get-get_or}
 use Rattle.aprs_bookfile.specs.declared.row_stream.RowStream.{RowStream}
 use Rattle.aprs_fold.specs.Streams.{AreOpened}
 use Rattle.aprs_fold.specs.declared.fault.FoldFault.TheVariants.{Memory}
+use Rattle.aprs_fold.proofs.InErr.{in_err}
 use Rattle.aprs_fold.proofs.Reading.{reading_asked}
 use Rattle.aprs_fold.proofs.Streamed.{memory_own, one_own, AreOpened-asked, AreOpened-dropped, AreOpened-more, AreOpened-refused, AreOpened-refused_asked}
-use Rattle.aprs_fold.proofs.Walking.{memory_refuses}
+use Rattle.aprs_fold.proofs.Points.{memory_refuses}
 use Rattle.aprs_fold.proofs.opening.open_all.Goals as goal
 
 pub returns-in_err-stream-clause-own : goal.returns-in_err-stream-clause-own
 returns-in_err-stream-clause-own g c =
-    let p = err_from_is_err_and c.from_residual.result c.from_residual.ensures.1 in
     let now = c.loop-index.inputs in
-    rw (p.1, p.2) (one_own g.R.Read.remaining c.args.limit c.args.gap c.loop-index.index _
+    in_err _ _ c.from_residual.ensures.1 (one_own g.R.Read.remaining c.args.limit c.args.gap c.loop-index.index _
     (get_or now c.loop-index.index c.index-inputs-index.result) c.open_one.new.input
     c.in_err-stream.ensures.refuses)
 
 pub returns-in_err-stream-clause-refuses : goal.returns-in_err-stream-clause-refuses
 returns-in_err-stream-clause-refuses g c =
-    let p = err_from_is_err_and c.from_residual.result c.from_residual.ensures.1 in
     let i = c.loop-index.index in
     let now = c.loop-index.inputs in
     let r = get_or now i c.index-inputs-index.result in
     let here = slice_get-get_or now i c.index-inputs-index.result
     (omega (arith, c.loop-index-test.true, c.loop-index.auto.inputs)) in
-    rw (p.1, p.2) (AreOpened-refused g.R.Read.remaining c.args.limit c.args.gap _ r
+    in_err _ _ c.from_residual.ensures.1 (AreOpened-refused g.R.Read.remaining c.args.limit c.args.gap _ r
     c.open_one.new.input c.args.inputs.now now c.loop-index.streams.items i
     c.loop-index.invariant.count here c.in_err-stream.ensures.refuses c.loop-index.invariant.opened)
 
@@ -40,15 +39,11 @@ returns-in_err-stream-clause-asks g c =
 
 pub returns-in_err-keep-clause-own : goal.returns-in_err-keep-clause-own
 returns-in_err-keep-clause-own g c =
-    let p = err_from_is_err_and c.from_residual-in_err-keep.result
-    c.from_residual-in_err-keep.ensures.1 in
-    rw (p.1, p.2) (memory_own _ c.in_err-keep.ensures.memory)
+    in_err _ _ c.from_residual-in_err-keep.ensures.1 (memory_own _ c.in_err-keep.ensures.memory)
 
 pub returns-in_err-keep-clause-refuses : goal.returns-in_err-keep-clause-refuses
 returns-in_err-keep-clause-refuses g c =
-    let p = err_from_is_err_and c.from_residual-in_err-keep.result
-    c.from_residual-in_err-keep.ensures.1 in
-    rw (p.1, p.2) (memory_refuses g.R.Read.remaining c.args.limit c.args.gap c.args.inputs.now _ _
+    in_err _ _ c.from_residual-in_err-keep.ensures.1 (memory_refuses g.R.Read.remaining c.args.limit c.args.gap c.args.inputs.now _ _
     c.in_err-keep.ensures.memory)
 
 pub returns-in_err-keep-clause-asks : goal.returns-in_err-keep-clause-asks

@@ -1,5 +1,6 @@
-use Rattle.aprs_fold.proofs.Common.{[], ◌∙◌, refl, sym, arith, err_from_is_err_and}
+use Rattle.aprs_fold.proofs.Common.{[], ◌∙◌, refl, sym, arith}
 use Rattle.aprs_bookfile.proofs.RowStreams.{begun}
+use Rattle.aprs_fold.proofs.InErr.{in_err}
 use Rattle.aprs_fold.proofs.Streamed.{begins_other, differing_gap, same_gap, IsAsked-none}
 use Rattle.aprs_fold.proofs.Reading.{gets_asked}
 use Rattle.aprs_fold.proofs.opening.open_one.Goals as goal
@@ -35,5 +36,4 @@ returns-clause-reads g c =
 
 pub returns-in_err-stream-clause-refuses : goal.returns-in_err-stream-clause-refuses
 returns-in_err-stream-clause-refuses g c =
-    let p = err_from_is_err_and c.from_residual.result c.from_residual.ensures.1 in
-    rw (p.1, p.2) (IsAsked-none g.R.Read.remaining c.args.limit c.args.input.now)
+    in_err _ _ c.from_residual.ensures.1 (IsAsked-none g.R.Read.remaining c.args.limit c.args.input.now)

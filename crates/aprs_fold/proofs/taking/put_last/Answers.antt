@@ -1,6 +1,7 @@
-use Rattle.aprs_fold.proofs.Common.{◌∙◌, [], Err, List, Row, refl, sym, ap, subst, Puts-fails, Puts-is, err_from_is_err_and}
+use Rattle.aprs_fold.proofs.Common.{◌∙◌, [], Err, List, Row, refl, sym, ap, subst, Puts-fails, Puts-is}
 use Rattle.aprs_fold.specs.Taking.{lines_of_rows, HasPut}
 use Rattle.aprs_fold.specs.declared.fault.FoldFault.TheVariants.{Write}
+use Rattle.aprs_fold.proofs.InErr.{in_err}
 use Rattle.aprs_fold.proofs.Kept.{is_row_within}
 use Rattle.aprs_fold.proofs.Puttings.{one_within, one_without, HasPut-none, HasPut-one}
 use Rattle.aprs_fold.proofs.taking.put_last.Goals as goal
@@ -21,8 +22,7 @@ returns-then-not-contains_row-clause-puts g c =
 
 pub returns-in_err-put-clause-fails : goal.returns-in_err-put-clause-fails
 returns-in_err-put-clause-fails g c =
-    let p = err_from_is_err_and c.from_residual.result c.from_residual.ensures.1 in
-    rw (p.1, p.2) (
+    in_err _ _ c.from_residual.ensures.1 (
       refl,
       Puts-is (Puts-fails (Err Write) refl c.in_err-put.ensures.puts [])
           (ap lines_of_rows (sym (one_within c.args.range.now c.in-Some.row c.args.last.now

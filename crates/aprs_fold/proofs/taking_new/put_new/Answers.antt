@@ -1,6 +1,7 @@
-use Rattle.aprs_fold.proofs.Common.{[], Err, List, Row, refl, sym, subst, Puts-fails, err_from_is_err_and, ◌∈◌}
+use Rattle.aprs_fold.proofs.Common.{[], Err, List, Row, refl, sym, subst, Puts-fails, ◌∈◌}
 use Rattle.aprs_fold.specs.Taking.{HasPut}
 use Rattle.aprs_fold.specs.declared.fault.FoldFault.TheVariants.{Write}
+use Rattle.aprs_fold.proofs.InErr.{in_err}
 use Rattle.aprs_fold.proofs.Lacking.{new_none, new_one}
 use Rattle.aprs_fold.proofs.Puttings.{HasPut-none, HasPut-one}
 use Rattle.aprs_fold.proofs.taking_new.put_new.Goals as goal
@@ -21,8 +22,7 @@ returns-then-is_kept-clause-puts g c =
 
 pub returns-in_err-put-clause-fails : goal.returns-in_err-put-clause-fails
 returns-in_err-put-clause-fails g c =
-    let p = err_from_is_err_and c.from_residual.result c.from_residual.ensures.1 in
-    rw (p.1, p.2) (refl, Puts-fails (Err Write) refl c.in_err-put.ensures.puts [])
+    in_err _ _ c.from_residual.ensures.1 (refl, Puts-fails (Err Write) refl c.in_err-put.ensures.puts [])
 
 pub returns-clause-wrote : goal.returns-clause-wrote
 returns-clause-wrote g c = (
