@@ -11,16 +11,22 @@ use Rattle.aprs_fold.proofs.fold.fold_books.Goals as goal
 
 pub returns-in_err-put_text-clause-left : goal.returns-in_err-put_text-clause-left
 returns-in_err-put_text-clause-left g c =
-    in_err _ _ c.from_residual.ensures.1 (subst (λ w. IsLeft g.R.Read.remaining g.W.Write.contents c.args.limit c.args.gap c.args.range.now
-    c.in_err-put_text.field-0.0 c.args.inputs.now c.put_text.new.inputs c.args.w.now w) (search rules) (leaves_text g.R.Read.remaining
-    g.W.Write.contents c.args.limit c.args.gap c.args.range.now c.args.inputs.now c.put_text.new.inputs c.args.w.now
+    in_err _ _ c.from_residual.ensures.1
+    (subst (λ w. IsLeft g.R.Read.remaining g.W.Write.contents c.args.limit c.args.gap
+    c.args.range.now
+    c.in_err-put_text.field-0.0 c.args.inputs.now c.put_text.new.inputs c.args.w.now w) (search
+    rules) (leaves_text g.R.Read.remaining
+    g.W.Write.contents c.args.limit c.args.gap c.args.range.now c.args.inputs.now
+    c.put_text.new.inputs c.args.w.now
     c.new-out.result c.put_text.new.out c.new-out.ensures.nothing c.in_err-put_text.field-0.0
     c.in_err-put_text.ensures.left))
 
 pub returns-in_err-flush-clause-left : goal.returns-in_err-flush-clause-left
 returns-in_err-flush-clause-left g c =
     let h = c.in_ok-put_text.ensures.folds in
-    in_err _ _ c.from_residual-in_err-flush.ensures.1 (subst (λ w. IsLeft g.R.Read.remaining g.W.Write.contents c.args.limit c.args.gap c.args.range.now Write
+    in_err _ _ c.from_residual-in_err-flush.ensures.1
+    (subst (λ w. IsLeft g.R.Read.remaining g.W.Write.contents c.args.limit c.args.gap
+    c.args.range.now Write
     c.args.inputs.now c.put_text.new.inputs c.args.w.now w)
     (search rules) (leaves_sent g.R.Read.remaining g.W.Write.contents c.args.limit
     c.args.gap c.args.range.now c.args.inputs.now c.put_text.new.inputs c.args.w.now _ _ h.3

@@ -19,7 +19,8 @@ returns-in_err-put_news_text-clause-left g c =
 pub returns-in_err-flush-clause-left : goal.returns-in_err-flush-clause-left
 returns-in_err-flush-clause-left g c =
     let h = c.in_ok-put_news_text.ensures.news in
-    in_err _ _ c.from_residual-in_err-flush.ensures.1 (subst (λ w. LeavesPart g.W.Write.contents c.args.gap Write c.args.w.now w)
+    in_err _ _ c.from_residual-in_err-flush.ensures.1
+    (subst (λ w. LeavesPart g.W.Write.contents c.args.gap Write c.args.w.now w)
     (search rules) (news_unsent g.W.Write.contents c.args.gap c.args.w.now _
     (news_of_sources c.args.range.now c.args.gap h.0).rows h.3
     (Sends-put c.new-out.ensures.nothing h.2 c.in_err-flush.ensures.sent)))

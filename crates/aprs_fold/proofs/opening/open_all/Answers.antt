@@ -11,7 +11,8 @@ use Rattle.aprs_fold.proofs.opening.open_all.Goals as goal
 pub returns-in_err-stream-clause-own : goal.returns-in_err-stream-clause-own
 returns-in_err-stream-clause-own g c =
     let now = c.loop-index.inputs in
-    in_err _ _ c.from_residual.ensures.1 (one_own g.R.Read.remaining c.args.limit c.args.gap c.loop-index.index _
+    in_err _ _ c.from_residual.ensures.1
+    (one_own g.R.Read.remaining c.args.limit c.args.gap c.loop-index.index _
     (get_or now c.loop-index.index c.index-inputs-index.result) c.open_one.new.input
     c.in_err-stream.ensures.refuses)
 
@@ -22,7 +23,8 @@ returns-in_err-stream-clause-refuses g c =
     let r = get_or now i c.index-inputs-index.result in
     let here = slice_get-get_or now i c.index-inputs-index.result
     (omega (arith, c.loop-index-test.true, c.loop-index.auto.inputs)) in
-    in_err _ _ c.from_residual.ensures.1 (AreOpened-refused g.R.Read.remaining c.args.limit c.args.gap _ r
+    in_err _ _ c.from_residual.ensures.1
+    (AreOpened-refused g.R.Read.remaining c.args.limit c.args.gap _ r
     c.open_one.new.input c.args.inputs.now now c.loop-index.streams.items i
     c.loop-index.invariant.count here c.in_err-stream.ensures.refuses c.loop-index.invariant.opened)
 
@@ -43,7 +45,8 @@ returns-in_err-keep-clause-own g c =
 
 pub returns-in_err-keep-clause-refuses : goal.returns-in_err-keep-clause-refuses
 returns-in_err-keep-clause-refuses g c =
-    in_err _ _ c.from_residual-in_err-keep.ensures.1 (memory_refuses g.R.Read.remaining c.args.limit c.args.gap c.args.inputs.now _ _
+    in_err _ _ c.from_residual-in_err-keep.ensures.1
+    (memory_refuses g.R.Read.remaining c.args.limit c.args.gap c.args.inputs.now _ _
     c.in_err-keep.ensures.memory)
 
 pub returns-in_err-keep-clause-asks : goal.returns-in_err-keep-clause-asks

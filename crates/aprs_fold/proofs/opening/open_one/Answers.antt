@@ -36,4 +36,5 @@ returns-clause-reads g c =
 
 pub returns-in_err-stream-clause-refuses : goal.returns-in_err-stream-clause-refuses
 returns-in_err-stream-clause-refuses g c =
-    in_err _ _ c.from_residual.ensures.1 (IsAsked-none g.R.Read.remaining c.args.limit c.args.input.now)
+    in_err _ _ c.from_residual.ensures.1
+    (IsAsked-none g.R.Read.remaining c.args.limit c.args.input.now)

@@ -26,7 +26,8 @@ returns-in_err-put-clause-fails g c =
       refl,
       Puts-is (Puts-fails (Err Write) refl c.in_err-put.ensures.puts [])
           (ap lines_of_rows (sym (one_within c.args.range.now c.in-Some.row c.args.last.now
-          c.in-Some.ensures.some (ap (is_row_within c.args.range.now) (sym c.row-2.ensures) ∙ sym c.contains_row.ensures
+          c.in-Some.ensures.some (ap (is_row_within c.args.range.now) (sym c.row-2.ensures) ∙ sym
+          c.contains_row.ensures
           ∙ c.if-not-contains_row.false)))),
     )
 

@@ -22,7 +22,8 @@ returns-then-is_kept-clause-puts g c =
 
 pub returns-in_err-put-clause-fails : goal.returns-in_err-put-clause-fails
 returns-in_err-put-clause-fails g c =
-    in_err _ _ c.from_residual.ensures.1 (refl, Puts-fails (Err Write) refl c.in_err-put.ensures.puts [])
+    in_err _ _ c.from_residual.ensures.1
+    (refl, Puts-fails (Err Write) refl c.in_err-put.ensures.puts [])
 
 pub returns-clause-wrote : goal.returns-clause-wrote
 returns-clause-wrote g c = (
