@@ -20,5 +20,5 @@ named (Some text) =
     if bytes_eq text (text_of name.Fold) then name.Fold else name.Book
 
 -- The name that a program of this path has by the path's last component.
-abbrev pub name_of : List ℕ → ProgramName
-name_of path = named (path_file_name path)
+abbrev pub program_name_of : List ℕ → ProgramName
+program_name_of path = named (path_file_name path)

@@ -21,7 +21,7 @@ impl ProgramName {
     /// The name by which a program is called whose path this is: the path's last component. It is
     /// `aprsbook` where that component is none of the names. Takes no memory.
     pub fn of(path: &str) -> ProgramName
-        ensures { result ≡ Spec.name_of path.now }
+        ensures { result ≡ Spec.program_name_of path.now }
     {
         match Path::new(path).file_name() {
             Some("aprsbook-history") => ProgramName::History,
