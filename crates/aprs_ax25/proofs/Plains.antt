@@ -6,7 +6,7 @@ use Rattle.std.proofs.lemmas.Bool.{and_parts, and_from, eqb-true, ne_eqb, le-leb
 use Rattle.aprs_ax25.specs.Callsign.{is_callsign_byte}
 use Rattle.aprs_ax25.specs.FrameFault.{ends_field, field_len, field_of, after_field, is_field_len, sevens, has_callsign, is_no_letter, is_space_octet, letters_len, has_frame_fault, frame_fault}
 use Rattle.aprs_ax25.specs.declared.fault.FrameFault.TheVariants.{Address, Callsign}
-use Rattle.aprs_ax25.specs.Plain.{is_letter_octet, letters_then_spaces, may_follow, IsPlainAddress}
+use Rattle.aprs_ax25.specs.Plain.{is_callsign_octet, letters_then_spaces, may_follow, IsPlainAddress}
 use Rattle.aprs_ax25.specs.Scan.{fault_after_field}
 use Rattle.aprs_ax25.proofs.Addresses.{are_even}
 use Rattle.aprs_ax25.proofs.Fields.{position-past}
@@ -25,7 +25,7 @@ callsign_byte-most b h =
           omega arith
     ] refl
 
-letter-is : (o : ℕ) → is_letter_octet o ≡ true → (is_callsign_byte (o / 2) ≡ true) × (o % 2 ≡ 0)
+letter-is : (o : ℕ) → is_callsign_octet o ≡ true → (is_callsign_byte (o / 2) ≡ true) × (o % 2 ≡ 0)
 letter-is o h =
     let most = callsign_byte-most (o / 2 + 128 * (o % 2)) h in
     let even : o % 2 ≡ 0 = omega arith in
@@ -35,21 +35,21 @@ letter-is o h =
 even-goes_on : (o : ℕ) → o % 2 ≡ 0 → not (ends_field o) ≡ true
 even-goes_on o h = ap (λ n. not (n == 1)) h
 
-letter-no_end : (o : ℕ) → is_letter_octet o ≡ true → not (ends_field o) ≡ true
+letter-no_end : (o : ℕ) → is_callsign_octet o ≡ true → not (ends_field o) ≡ true
 letter-no_end o h = even-goes_on o (letter-is o h).1
 
 space-no_end : (o : ℕ) → (o == 64) ≡ true → not (ends_field o) ≡ true
 space-no_end o h = ap (λ n. not (ends_field n)) (eqb-true o 64 h)
 
 -- one of these stands where a space or a letter may
-octet-even : (o : ℕ) (p : Bool) → (o == 64 || (p && is_letter_octet o)) ≡ true → not (ends_field o)
+octet-even : (o : ℕ) (p : Bool) → (o == 64 || (p && is_callsign_octet o)) ≡ true → not (ends_field o)
     ≡ true
 octet-even o p h =
     elim (o == 64) as (λ t. (o == 64) ≡ t → not (ends_field o) ≡ true) [
       | true ↦ λ e. space-no_end o e
       | false ↦ λ e.
-          let letter : (p && is_letter_octet o) ≡ true =
-          ap (λ t. t || (p && is_letter_octet o)) (sym e) ∙ h in
+          let letter : (p && is_callsign_octet o) ≡ true =
+          ap (λ t. t || (p && is_callsign_octet o)) (sym e) ∙ h in
           letter-no_end o (and_parts _ _ letter).1
     ] refl
 
@@ -57,10 +57,10 @@ pub plain-even : (p : Bool) (os : List ℕ) → letters_then_spaces p os ≡ tru
 plain-even p [] h = refl
 plain-even p (o ∷ os) h =
     let q = and_parts _ _ h in
-    and_from _ _ (octet-even o p q.0) (plain-even (is_letter_octet o) os q.1)
+    and_from _ _ (octet-even o p q.0) (plain-even (is_callsign_octet o) os q.1)
 
 -- after a space
-only-space : (o : ℕ) → (o == 64 || (false && is_letter_octet o)) ≡ true → o ≡ 64
+only-space : (o : ℕ) → (o == 64 || (false && is_callsign_octet o)) ≡ true → o ≡ 64
 only-space o h =
     elim (o == 64) as (λ t. (o == 64) ≡ t → o ≡ 64) [
       | true ↦ λ e. eqb-true o 64 e
@@ -74,17 +74,17 @@ spaces-only (o ∷ os) h =
     let q = and_parts _ _ h in
     let is = only-space o q.0 in
     let more : letters_then_spaces false os ≡ true =
-    ap (λ n. letters_then_spaces (is_letter_octet n) os) (sym is) ∙ q.1 in
+    ap (λ n. letters_then_spaces (is_callsign_octet n) os) (sym is) ∙ q.1 in
     and_from _ _ (ap is_space_octet is) (spaces-only os more)
 
 -- after a letter
-space-or-letter : (o : ℕ) → (o == 64 || (true && is_letter_octet o)) ≡ true → is_letter_octet o
+space-or-letter : (o : ℕ) → (o == 64 || (true && is_callsign_octet o)) ≡ true → is_callsign_octet o
     ≡ false → o ≡ 64
 space-or-letter o h other =
     elim (o == 64) as (λ t. (o == 64) ≡ t → o ≡ 64) [
       | true ↦ λ e. eqb-true o 64 e
       | false ↦ λ e. absurd
-          (let bad : false ≡ true = sym other ∙ (ap (λ t. t || is_letter_octet o) (sym e) ∙ h) in
+          (let bad : false ≡ true = sym other ∙ (ap (λ t. t || is_callsign_octet o) (sym e) ∙ h) in
           cc)
     ] refl
 
@@ -95,7 +95,7 @@ letters-first : (os : List ℕ) → letters_then_spaces true os ≡ true → spa
 letters-first [] h = refl
 letters-first (o ∷ os) h =
     let q = and_parts _ _ h in
-    elim (is_letter_octet o) as (λ t. is_letter_octet o ≡ t → spaces_after (o ∷ os) ≡ true) [
+    elim (is_callsign_octet o) as (λ t. is_callsign_octet o ≡ t → spaces_after (o ∷ os) ≡ true) [
       | true ↦ λ e.
           let letter = (letter-is o e).0 in
           let next : 1 + position_or_len is_no_letter os ≡ suc (position_or_len is_no_letter os) =
@@ -112,7 +112,7 @@ letters-first (o ∷ os) h =
           ap (λ n. spaces_after (n ∷ os)) is ∙ spaces-only os more
     ] refl
 
-first-counts : (os : List ℕ) → 0 < length os → is_letter_octet (slice_index os 0) ≡ true
+first-counts : (os : List ℕ) → 0 < length os → is_callsign_octet (slice_index os 0) ≡ true
     → 0 < position_or_len is_no_letter os
 first-counts [] some h = absurd (omega arith)
 first-counts (o ∷ os) some h =
@@ -121,14 +121,14 @@ first-counts (o ∷ os) some h =
     = ap (λ t. cond (not (not t)) (1 + position_or_len is_no_letter os) 0) letter in
     omega arith
 
-pub plain-address : (octets : List ℕ) → length octets ≡ 7 → is_letter_octet (slice_index octets 0)
+pub plain-address : (octets : List ℕ) → length octets ≡ 7 → is_callsign_octet (slice_index octets 0)
     ≡ true
     → letters_then_spaces true (take 6 octets) ≡ true → IsPlainAddress octets
 plain-address octets seven first all =
     let six = take 6 octets in
     let len : length six ≡ 6 = length-take-le 6 octets (omega arith) in
-    let start : is_letter_octet (slice_index six 0) ≡ true =
-    ap is_letter_octet (get_or-take 6 octets 0 0 (omega arith)) ∙ first in
+    let start : is_callsign_octet (slice_index six 0) ≡ true =
+    ap is_callsign_octet (get_or-take 6 octets 0 0 (omega arith)) ∙ first in
     record {
       callsign = and_from _ _ (lt-ltb 0 (letters_len octets) (first-counts six (omega arith) start))
           (letters-first six all);
@@ -140,17 +140,17 @@ plain-address octets seven first all =
 -- what is looked at inside a callsign
 inside : (i before octet : ℕ) → (i == 5) ≡ false → nat_le 12 i ≡ false → (i == 6) ≡ false
     → may_follow i before octet ≡ true
-    → (octet == 64 || (is_letter_octet before && is_letter_octet octet)) ≡ true
+    → (octet == 64 || (is_callsign_octet before && is_callsign_octet octet)) ≡ true
 inside i before octet a b d h =
-    let e : ((is_letter_octet octet && is_letter_octet before) || octet == 64) ≡ true
-    = ap (λ t. ((false || false) || (is_letter_octet octet && (t || is_letter_octet before))) ||
+    let e : ((is_callsign_octet octet && is_callsign_octet before) || octet == 64) ≡ true
+    = ap (λ t. ((false || false) || (is_callsign_octet octet && (t || is_callsign_octet before))) ||
     (not t && octet == 64)) (sym d)
-    ∙ ap (λ t. ((false || t) || (is_letter_octet octet && (i == 6 || is_letter_octet before))) ||
+    ∙ ap (λ t. ((false || t) || (is_callsign_octet octet && (i == 6 || is_callsign_octet before))) ||
     (not (i == 6) && octet == 64)) (sym b)
-    ∙ ap (λ t. ((t || nat_le 12 i) || (is_letter_octet octet && (i == 6 || is_letter_octet before)))
+    ∙ ap (λ t. ((t || nat_le 12 i) || (is_callsign_octet octet && (i == 6 || is_callsign_octet before)))
     || (not (i == 6) && octet == 64)) (sym a)
     ∙ h in
-    turned (is_letter_octet octet) (is_letter_octet before) (octet == 64) e
+    turned (is_callsign_octet octet) (is_callsign_octet before) (octet == 64) e
   where
     turned : (x y z : Bool) → ((x && y) || z) ≡ true → (z || (y && x)) ≡ true
     turned true true true h = refl
@@ -163,10 +163,10 @@ inside i before octet a b d h =
     turned false false false h = h
 
 -- and at a callsign's first octet
-begins : (before octet : ℕ) → may_follow 6 before octet ≡ true → is_letter_octet octet ≡ true
+begins : (before octet : ℕ) → may_follow 6 before octet ≡ true → is_callsign_octet octet ≡ true
 begins before octet h =
-    elim (is_letter_octet octet)
-    as (λ t. is_letter_octet octet ≡ t → is_letter_octet octet ≡ true) [
+    elim (is_callsign_octet octet)
+    as (λ t. is_callsign_octet octet ≡ t → is_callsign_octet octet ≡ true) [
       | true ↦ λ e. e
       | false ↦ λ e. absurd
           (let no : false ≡ true = ap (λ t. (false || (t && true)) || false) (sym e) ∙ h in cc)
@@ -175,20 +175,20 @@ begins before octet h =
 follow : (o : ℕ) (os : List ℕ)
     → ((k : ℕ) → k < length os
     → (get_or os k 0 == 64 ||
-    (is_letter_octet (get_or (o ∷ os) k 0) && is_letter_octet (get_or os k 0))) ≡ true)
-    → letters_then_spaces (is_letter_octet o) os ≡ true
+    (is_callsign_octet (get_or (o ∷ os) k 0) && is_callsign_octet (get_or os k 0))) ≡ true)
+    → letters_then_spaces (is_callsign_octet o) os ≡ true
 follow o [] h = refl
 follow o (x ∷ os) h =
     and_from _ _ (h 0 (omega arith)) (follow x os (λ k lt. h (suc k) (omega arith)))
 
-starts-with : (o : ℕ) → is_letter_octet o ≡ true → (o == 64 || (true && is_letter_octet o)) ≡ true
-starts-with o h = elim (o == 64) as (λ t. (t || is_letter_octet o) ≡ true)
+starts-with : (o : ℕ) → is_callsign_octet o ≡ true → (o == 64 || (true && is_callsign_octet o)) ≡ true
+starts-with o h = elim (o == 64) as (λ t. (t || is_callsign_octet o) ≡ true)
     [ true ↦ refl | false ↦ h ]
 
 -- seven octets, each of which may stand after the one before
-seven-plain : (a : List ℕ) → length a ≡ 7 → is_letter_octet (slice_index a 0) ≡ true
+seven-plain : (a : List ℕ) → length a ≡ 7 → is_callsign_octet (slice_index a 0) ≡ true
     → ((k : ℕ) → k < 5 → (slice_index a (k + 1) == 64 ||
-    (is_letter_octet (slice_index a k) && is_letter_octet (slice_index a (k + 1)))) ≡ true)
+    (is_callsign_octet (slice_index a k) && is_callsign_octet (slice_index a (k + 1)))) ≡ true)
     → IsPlainAddress a
 seven-plain a seven first h =
     let six = take 6 a in
@@ -196,9 +196,9 @@ seven-plain a seven first h =
     let o = slice_index six 0 in
     let os = drop 1 six in
     let is : six ≡ o ∷ os = drop_more six 0 0 (omega arith) in
-    let start : is_letter_octet o ≡ true = ap is_letter_octet (get_or-take 6 a 0 0 (omega arith))
+    let start : is_callsign_octet o ≡ true = ap is_callsign_octet (get_or-take 6 a 0 0 (omega arith))
     ∙ first in
-    let more : letters_then_spaces (is_letter_octet o) os ≡ true
+    let more : letters_then_spaces (is_callsign_octet o) os ≡ true
     = follow o os (λ k lt.
     let small : k < 5 = omega (arith, length-drop 1 six) in
     let here : get_or (o ∷ os) k 0 ≡ slice_index a k = ap (λ l. get_or l k 0) (sym is)
@@ -206,9 +206,9 @@ seven-plain a seven first h =
     let one : 1 + k ≡ k + 1 = omega arith in
     let next : get_or os k 0 ≡ slice_index a (k + 1)
     = get_or-drop 1 six k 0 ∙ ap (slice_index six) one ∙ get_or-take 6 a (k + 1) 0 (omega arith) in
-    ap (λ x. x == 64 || (is_letter_octet (get_or (o ∷ os) k 0) && is_letter_octet x)) next
+    ap (λ x. x == 64 || (is_callsign_octet (get_or (o ∷ os) k 0) && is_callsign_octet x)) next
     ∙ ap (λ x. slice_index a (k + 1) == 64 ||
-    (is_letter_octet x && is_letter_octet (slice_index a (k + 1)))) here
+    (is_callsign_octet x && is_callsign_octet (slice_index a (k + 1)))) here
     ∙ h k small) in
     plain-address a seven first
     (ap (letters_then_spaces true) is
@@ -222,22 +222,22 @@ Follows octets n = (k : ℕ) → k < n
 module _ (octets : List ℕ) (many : 17 ≤ length octets) (all : Follows octets 16) where
   inside-at : (k : ℕ) → k < 16 → (k ≡ 5 → ⊥) → k < 12 → (k ≡ 6 → ⊥)
       → (slice_index octets (k + 1) == 64 ||
-      (is_letter_octet (slice_index octets k) && is_letter_octet (slice_index octets (k + 1))))
+      (is_callsign_octet (slice_index octets k) && is_callsign_octet (slice_index octets (k + 1))))
       ≡ true
   inside-at k lt a b d =
       inside k (slice_index octets k) (slice_index octets (k + 1)) (ne_eqb k 5 a) (lt-leb 12 k b)
       (ne_eqb k 6 d) (all k lt)
 
-  pub first-plain : is_letter_octet (slice_index octets 0) ≡ true → IsPlainAddress (take 7 octets)
+  pub first-plain : is_callsign_octet (slice_index octets 0) ≡ true → IsPlainAddress (take 7 octets)
   first-plain h =
       let a = take 7 octets in
       seven-plain a (length-take-le 7 octets (omega arith))
-      (ap is_letter_octet (get_or-take 7 octets 0 0 (omega arith)) ∙ h)
+      (ap is_callsign_octet (get_or-take 7 octets 0 0 (omega arith)) ∙ h)
       (λ k lt.
-      ap (λ x. x == 64 || (is_letter_octet (slice_index a k) && is_letter_octet x))
+      ap (λ x. x == 64 || (is_callsign_octet (slice_index a k) && is_callsign_octet x))
       (get_or-take 7 octets (k + 1) 0 (omega arith))
       ∙ ap (λ x. slice_index octets (k + 1) == 64 ||
-      (is_letter_octet x && is_letter_octet (slice_index octets (k + 1))))
+      (is_callsign_octet x && is_callsign_octet (slice_index octets (k + 1))))
       (get_or-take 7 octets k 0 (omega arith))
       ∙ inside-at k (omega arith) (λ e. omega arith) (omega arith) (λ e. omega arith))
 
@@ -248,19 +248,19 @@ module _ (octets : List ℕ) (many : 17 ≤ length octets) (all : Follows octets
   second-plain =
       let a = take 7 (drop 7 octets) in
       seven-plain a (length-take-le 7 (drop 7 octets) (omega (arith, length-drop 7 octets)))
-      (ap is_letter_octet (at-second 0 (omega arith))
+      (ap is_callsign_octet (at-second 0 (omega arith))
       ∙ begins (slice_index octets 6) (slice_index octets 7) (all 6 (omega arith)))
       (λ k lt.
       let next : 7 + (k + 1) ≡ (7 + k) + 1 = omega arith in
-      ap (λ x. x == 64 || (is_letter_octet (slice_index a k) && is_letter_octet x))
+      ap (λ x. x == 64 || (is_callsign_octet (slice_index a k) && is_callsign_octet x))
       (at-second (k + 1) (omega arith) ∙ ap (slice_index octets) next)
       ∙ ap (λ x. slice_index octets ((7 + k) + 1) == 64 ||
-      (is_letter_octet x && is_letter_octet (slice_index octets ((7 + k) + 1))))
+      (is_callsign_octet x && is_callsign_octet (slice_index octets ((7 + k) + 1))))
       (at-second k (omega arith))
       ∙ inside-at (7 + k) (omega arith) (λ e. omega arith) (omega arith) (λ e. omega arith))
 
 pub first-of-window : (octets : List ℕ) → 17 ≤ length octets
-    → is_letter_octet (slice_index (take 17 octets) 0) ≡ true → Follows (take 17 octets) 16
+    → is_callsign_octet (slice_index (take 17 octets) 0) ≡ true → Follows (take 17 octets) 16
     → IsPlainAddress (take 7 octets)
 first-of-window octets many first all =
     let len = length-take-le 17 octets many in

@@ -6,22 +6,22 @@ use Rattle.aprs_ax25.specs.Callsign.{is_callsign_byte}
 use Rattle.aprs_ax25.specs.FrameFault.{ends_field, has_callsign}
 
 -- The octet is a capital or a digit, shifted left by one bit.
-abbrev pub is_letter_octet : ℕ → Bool
-is_letter_octet octet = is_callsign_byte (octet / 2 + 128 * (octet % 2))
+abbrev pub is_callsign_octet : ℕ → Bool
+is_callsign_octet octet = is_callsign_byte (octet / 2 + 128 * (octet % 2))
 
 -- After a letter the octets are letters and then spaces; otherwise they are spaces alone.
 abbrev pub letters_then_spaces : Bool → List ℕ → Bool
 letters_then_spaces after_letter [] = true
 letters_then_spaces after_letter (octet ∷ more) =
-    (octet == 64 || (after_letter && is_letter_octet octet))
-    && letters_then_spaces (is_letter_octet octet) more
+    (octet == 64 || (after_letter && is_callsign_octet octet))
+    && letters_then_spaces (is_callsign_octet octet) more
 
 -- An octet that may stand after octet i of two addresses, as far as callsigns go: a letter or
 -- digit at the second callsign's start, after octet 6, and after another one; a space anywhere
 -- but at that start; any octet after octet 5 and from octet 12 on.
 abbrev pub may_follow : ℕ → ℕ → ℕ → Bool
 may_follow i before octet =
-    ((i == 5 || nat_le 12 i) || (is_letter_octet octet && (i == 6 || is_letter_octet before)))
+    ((i == 5 || nat_le 12 i) || (is_callsign_octet octet && (i == 6 || is_callsign_octet before)))
     || (not (i == 6) && octet == 64)
 
 -- The first six octets are a callsign, and none of them ends the field.

@@ -1,7 +1,7 @@
 //! Frames that are seen to be fine in one pass over their addresses, as nearly all are.
 ghost use Rattle.std.specs.Prelude.{◌≡◌, ◌≤◌, length, take, drop, slice_index, true, None, IfSome};
 ghost use Rattle.aprs_ax25.specs.FrameFault.{ends_field, field_len, frame_fault};
-ghost use Rattle.aprs_ax25.specs.Plain.{is_letter_octet, may_follow, IsPlainAddress};
+ghost use Rattle.aprs_ax25.specs.Plain.{is_callsign_octet, may_follow, IsPlainAddress};
 ghost use Rattle.aprs_ax25.specs.Scan.{fault_after_field};
 
 use crate::scan::{CONTROL_UI, PID_NONE, is_callsign_byte};
@@ -68,10 +68,10 @@ fn is_plain_callsign(octets: &[u8]) -> bool
     requires { length octets.now ≡ 7 }
     ensures { result ≡ true → IsPlainAddress octets.now }
 {
-    let mut is_fine = is_letter_octet(octets[0]);
+    let mut is_fine = is_callsign_octet(octets[0]);
     let mut after_letter = true;
     for octet in &octets[..6] {
-        let is_letter = is_letter_octet(*octet);
+        let is_letter = is_callsign_octet(*octet);
         is_fine &= (*octet == SPACE_OCTET) | (after_letter & is_letter);
         after_letter = is_letter;
     }
@@ -88,7 +88,7 @@ fn are_plain_callsigns(octets: &[u8]) -> bool
     ensures second { result ≡ true → IsPlainAddress (take 7 (drop 7 octets.now)) }
 {
     let looked_at = &octets[..17];
-    let mut are_fine = is_letter_octet(looked_at[0]);
+    let mut are_fine = is_callsign_octet(looked_at[0]);
     for i in 0..16 {
         are_fine &= may_follow(i, looked_at[i], looked_at[i + 1]);
     }
@@ -104,7 +104,7 @@ fn may_follow(i: usize, before: u8, octet: u8) -> bool
 {
     let is_first = i == 6;
     let is_other = (i == 5) | (i >= 12);
-    let is_letter = is_letter_octet(octet) & (is_first | is_letter_octet(before));
+    let is_letter = is_callsign_octet(octet) & (is_first | is_callsign_octet(before));
     is_other | is_letter | (!is_first & (octet == SPACE_OCTET))
 }
 
@@ -112,8 +112,8 @@ fn may_follow(i: usize, before: u8, octet: u8) -> bool
 const SPACE_OCTET: u8 = 64;
 
 /// Whether the octet is twice the byte of a capital or a digit, so that bit 0 is clear.
-fn is_letter_octet(octet: u8) -> bool
-    ensures { result ≡ is_letter_octet octet }
+fn is_callsign_octet(octet: u8) -> bool
+    ensures { result ≡ is_callsign_octet octet }
 {
     // Bit 0 becomes bit 7, which no letter has.
     is_callsign_byte(octet / 2 + 128 * (octet % 2))

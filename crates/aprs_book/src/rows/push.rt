@@ -64,7 +64,7 @@ fn is_too_near<A: Allocator + Copy>(gap: Millis, rows: &[KeptRow<A>], parts: &Ro
     ensures { result ≡ is_of_last (λ l. is_too_near gap l parts.now) rows.now }
 {
     match rows.last() {
-        Some(last) => last.reaches(gap, parts),
+        Some(last) => last.is_too_near_to(gap, parts),
         None => false,
     }
 }

@@ -72,14 +72,14 @@ impl<'a> RowView<'a> {
             (list_of (option_copied before.entry)) }
     {
         match before {
-            Some(last) => last.reaches(gap, self),
+            Some(last) => last.is_too_near_to(gap, self),
             None => false,
         }
     }
 
     /// Whether `other` has the key of this row, and begins at most the gap after this one ends, or
     /// earlier.
-    fn reaches(&self, gap: Gap, other: &RowView<'_>) -> bool
+    fn is_too_near_to(&self, gap: Gap, other: &RowView<'_>) -> bool
         ensures { result ≡ Spec.is_too_near (millis_of gap) self.now other.now }
     {
         is_near(gap, self.last(), other.first()) && self.key_order(other).is_eq()

@@ -175,11 +175,11 @@ impl<A: Allocator + Copy> PackedRows<A> {
             rows.push(row)?;
         }
         rows.sort_unstable_by(|row, other| row.order(other));
-        self.of_sorted(rows.as_slice())
+        self.repack(rows.as_slice())
     }
 
     /// The same rows as `rows` has them, in no more memory than they need.
-    fn of_sorted(&self, rows: &[RowView<'_>]) -> Result<PackedRows<A>, Memory>
+    fn repack(&self, rows: &[RowView<'_>]) -> Result<PackedRows<A>, Memory>
         requires sound { AreSoundRows rows.now }
         requires short { AreShort rows.now }
         ensures { IfOk result (λ packed. packed ≡ rows.now) }

@@ -4,8 +4,8 @@ use Rattle.aprs_rows.proofs.Orders.{ordered_by_sort, same_members}
 use Rattle.aprs_rows.proofs.Rows.{if_ok}
 use Rattle.aprs_rows.proofs.store.packed.PackedRows.in_order.Goals as goal
 
-pub of_sorted-requires : goal.of_sorted-requires
-of_sorted-requires g c =
+pub repack-requires : goal.repack-requires
+repack-requires g c =
     let all = sym (append-nil c.loop-row.rows.items)
     ∙ ap (λ rs. c.loop-row.rows.items ++ rs) (sym c.in-None.ensures.steps.0)
     ∙ c.loop-row.invariant in
@@ -24,18 +24,18 @@ returns-clause-same g c =
     let all = sym (append-nil c.loop-row.rows.items)
     ∙ ap (λ rs. c.loop-row.rows.items ++ rs) (sym c.in-None.ensures.steps.0)
     ∙ c.loop-row.invariant in
-    if_ok c.of_sorted.result
+    if_ok c.repack.result
     (λ packed e. subst (λ (rs : List Row). SameMembers c.args.self.now rs)
     (sym (e ∙ c.as_slice.ensures.value))
     (subst (λ (rs : List Row). SameMembers rs c.sort_unstable_by.new.self.items) all
     (same_members c.loop-row.rows.items c.sort_unstable_by.new.self.items
     c.sort_unstable_by.ensures.permutation)))
-    c.of_sorted.ensures
+    c.repack.ensures
 
 pub returns-clause-ordered : goal.returns-clause-ordered
 returns-clause-ordered g c =
-    if_ok c.of_sorted.result
+    if_ok c.repack.result
     (λ packed e. subst (λ (rs : List Row). AreInOrder rs) (sym (e ∙ c.as_slice.ensures.value))
     (ordered_by_sort c.sort_unstable_by.new.self.items c.sort_unstable_by.ensures.sorted
     (λ a r q k. search rules)))
-    c.of_sorted.ensures
+    c.repack.ensures

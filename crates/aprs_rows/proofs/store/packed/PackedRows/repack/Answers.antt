@@ -1,6 +1,6 @@
 use Rattle.aprs_rows.proofs.Common.{sym, subst, Row, IsSoundRow, in_place}
 use Rattle.aprs_rows.specs.Packed.{IsShort}
-use Rattle.aprs_rows.proofs.store.packed.PackedRows.of_sorted.Goals as goal
+use Rattle.aprs_rows.proofs.store.packed.PackedRows.repack.Goals as goal
 
 pub push-requires : goal.push-requires
 push-requires g c =
