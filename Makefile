@@ -20,12 +20,13 @@ LOG = examples/sample.log
 run:
 	@build/run.sh $(LOG)
 
-# every test, and no proof; with programs of these sources, built or released, also those of programs
+# the tests of crates, page, aprs-net and documents, and no proof; with programs of these sources, built or
+# released, also those of programs
 test:
 	@build/gate.py test
 
-# the gate: every proof from nothing, every edit that must fail, and every test with the programs that
-# this made, but those of aprs-net
+# the gate: every proof from nothing, every edit that must fail, and these tests with the program that this
+# made, but those of aprs-net
 prove:
 	@build/gate.py prove
 

@@ -48,18 +48,20 @@ def below(crate: str) -> List[str]:
     return [name for name in every if name in wanted and name != crate]
 
 
-def files_of(crate: str) -> List[pathlib.Path]:
-    """The files that a check reads of a crate, in their order."""
+def files_of(crate: str, parts: Sequence[str] = PARTS) -> List[pathlib.Path]:
+    """The files that a check reads of these parts of a crate, in their order."""
     folder = TOP / "crates" / crate
-    return sorted(it for part in PARTS for it in (folder / part).rglob("*") if it.is_file())
+    return sorted(it for part in parts for it in (folder / part).rglob("*") if it.is_file())
 
 
-def sum_of(crates: Sequence[str], of: Callable[[bytes], bytes] = bytes) -> str:
-    """A checksum over the rows of these crates, and over what is read of each of their files."""
+def sum_of(
+    crates: Sequence[str], of: Callable[[bytes], bytes] = bytes, parts: Sequence[str] = PARTS,
+) -> str:
+    """A checksum over the rows of these crates, and over what is read of each file of these parts."""
     every, found = rows(), hashlib.sha256()
     for crate in crates:
         found.update(every[crate].line.encode())
-        for path in files_of(crate):
+        for path in files_of(crate, parts):
             content = hashlib.sha256(of(path.read_bytes())).hexdigest()
             found.update(f"{path.relative_to(TOP)} {content}\n".encode())
     return found.hexdigest()

@@ -14,8 +14,8 @@ goal of a function that it changes. What isn't refused so, and what shares no ch
 is tried alone. Before them the copy is checked as it stands, and has to be proved, unless build/prove.sh
 noted that it proved these very files.
 
-What was refused is kept in out/edits, by the kit and a checksum of the crate and of those below it, but
-for comments, and of the edit.
+What was refused is kept in out/edits, by the kit and a checksum of the crate, of what it can know of those
+below it, and of the edit, each without its comments.
 Prints a line for each crate and each edit that isn't refused, and last `N passed, M failed`. Needs rt.
 """
 import argparse
@@ -175,8 +175,15 @@ def kit() -> str:
 
 
 def meaning_of(crate: str) -> str:
-    """A checksum over a crate and those below it, but for comments."""
-    return crates.sum_of([*crates.below(crate), crate], crates.without_comments)
+    """A checksum over a crate, and over what its proofs can know of those below: their definitions, and
+    their sources but for bodies. Comments don't count."""
+    def source(text: bytes) -> bytes:
+        return crates.without_comments(wrong_bodies.without_bodies(text))
+
+    lower = crates.below(crate)
+    own = crates.sum_of([crate], crates.without_comments)
+    definitions = crates.sum_of(lower, crates.without_comments, ["specs"])
+    return f"{own} {definitions} {crates.sum_of(lower, source, ['src'])}"
 
 
 class Kept:

@@ -70,6 +70,18 @@ def functions_of(file: str, text: str) -> List[Function]:
     return found
 
 
+def without_bodies(source: bytes) -> bytes:
+    """A source file without the bodies of its functions, of which other crates know the clauses alone."""
+    text = source.decode("utf-8")
+    code, kept, end = rattle_text.masked(text), "", 0
+    for head in FUNCTION.finditer(code):
+        _, at = rattle_text.clauses_after(text, code, head.end())
+        if at >= end and at < len(code) and code[at] == "{":
+            kept += text[end:at]
+            end = rattle_text.closing(code, at) + 1
+    return (kept + text[end:]).encode("utf-8")
+
+
 def function_at(functions: Sequence[Function], line: int) -> Optional[Function]:
     """The innermost function that has this line."""
     held = [it for it in functions if it.first <= line <= it.last]

@@ -70,6 +70,17 @@ class Edits(unittest.TestCase):
         """The names of the functions that this edit changes."""
         return {it.name for it in self.edit(*pairs).changed}
 
+    def test_what_other_crates_know(self) -> None:
+        def known(text: str) -> bytes:
+            return wrong_bodies.without_bodies(text.encode())
+
+        for old, new in (("count > TWICE", "count < TWICE"), ("self.bytes[0]", "self.bytes[1]")):
+            self.assertEqual(known(SOURCE.replace(old, new)), known(SOURCE))
+        for old, new in (("usize = 8", "usize = 9"), ("count: usize", "count: u8"), ("    1, 2,", "    2, 1,"),
+                         ("u8 {\n        let", "u8\n        ensures { a }\n    {\n        let")):
+            self.assertNotEqual(SOURCE.replace(old, new), SOURCE)
+            self.assertNotEqual(known(SOURCE.replace(old, new)), known(SOURCE))
+
     def test_a_body_is_its_function(self) -> None:
         self.assertEqual(self.changed("count > TWICE", "count < TWICE"), {"is_long"})
 
