@@ -12,6 +12,9 @@ pub then_some : {A B : Type 0} (o : Option A) (x : A) (f : A → Option B) (r : 
     o ≡ Some x → f x ≡ r → (o >>= f) ≡ r
 then_some o x f r e h = ap (λ o. o >>= f) e ∙ h
 
+pub none_some : {A : Type 0} (x : A) → ◌≡◌ {A = Option A} None (Some x) → ⊥
+none_some x e = absurd cc
+
 pub lacks_append : (stop : ℕ) (a b : List ℕ) → Lacks stop a → Lacks stop b → Lacks stop (a ++ b)
 lacks_append stop [] b h k = k
 lacks_append stop (x ∷ a) b h k = (h.0, lacks_append stop a b h.1 k)

@@ -2,11 +2,10 @@
 use Rattle.aprs_details.proofs.Common.{◌≡◌, true, ℕ, List, ◌∷◌, ◌++◌, Option, Some, None, refl, sym, ap, subst, ◌∙◌, eqb-true, after_some, some_is, byte_found}
 use Rattle.aprs_io.specs.Cut.{Cut, cut_at}
 use Rattle.aprs_io.proofs.Cuts.{cut_at-parts, cut_at-append}
-use Rattle.aprs_report.specs.Reader.{◌>>=◌, byte_where}
 use Rattle.aprs_details.specs.ThirdParty.{Passed, IsPath, by, direct, IsPassedFrame, is_brace, cut_or_all, passed_of}
-use Rattle.aprs_details.proofs.Lacking.{cut_at-before, cut_at-none, cut_at-lacks, then_some}
+use Rattle.aprs_details.proofs.Lacking.{cut_at-before, cut_at-none, cut_at-lacks}
 
--- the steps of reading
+-- what is passed on
 abbrev made : (source path info : List ℕ) → Passed
 made source path info = record {
   source = source;
@@ -14,15 +13,6 @@ made source path info = record {
   via = (cut_or_all path (cut_at 44 path)).after;
   info = info;
 }
-
-abbrev after_source : List ℕ → Cut → Option Passed
-after_source info ends = Some (made ends.before ends.after info)
-
-abbrev after_addresses : Cut → Option Passed
-after_addresses parts = cut_at 62 parts.before >>= after_source parts.after
-
-abbrev after_brace : ℕ × List ℕ → Option Passed
-after_brace mark = cut_at 58 mark.1 >>= after_addresses
 
 path_found : (path : List ℕ) (o : Option Cut) → cut_at 44 path ≡ o →
     IsPath (cut_or_all path o).before (cut_or_all path o).after path
@@ -36,11 +26,8 @@ whole_is info rest addresses inner b e h r = rw (e, eqb-true b 125 h, r) refl
 -- a frame that is read
 pub passed_found : (info : List ℕ) (x : Passed) → passed_of info ≡ Some x → IsPassedFrame x info
 unfolding passed_of
-passed_found info x e =
-    let P : Type 0 = IsPassedFrame x info in
-    after_some (byte_where is_brace info) after_brace x P e (λ mark e1 r1.
-    after_some (cut_at 58 mark.1) after_addresses x P r1 (λ parts e2 r2.
-    after_some (cut_at 62 parts.before) (after_source parts.after) x P r2 (λ ends e3 r3.
+passed_found info x e = after_some _ _ _ _ e (λ mark e1 r1. after_some _ _ _ _ r1 (λ parts e2 r2.
+    after_some _ _ _ _ r2 (λ ends e3 r3.
     let f = byte_found is_brace info mark e1 in
     subst (λ (x : Passed). IsPassedFrame x info)
     (some_is (made ends.before ends.after parts.after) x r3) (record {
@@ -65,23 +52,12 @@ path_takes destination via path (direct lacks e n) =
     ∙ ap (cut_or_all destination) (cut_at-lacks 44 destination lacks)
     ∙ ap (λ (l : List ℕ). (record { before = destination; after = l })) (sym n)
 
-made_is : (x : Passed) (path : List ℕ) → IsPath x.destination x.via path → made x.source path x.info ≡ x
-made_is x path h =
-    ap (λ (c : Cut). (record {
-      source = x.source;
-      destination = c.before;
-      via = c.after;
-      info = x.info;
-    })) (path_takes x.destination x.via path h)
-
 pub passed_takes : (info : List ℕ) (x : Passed) → IsPassedFrame x info → passed_of info ≡ Some x
 unfolding passed_of
 passed_takes info x h =
-    let rest : List ℕ = h.addresses ++ 58 ∷ x.info in
-    let addressed : Cut = record { before = h.addresses; after = x.info } in
-    let ends : Cut = record { before = x.source; after = h.path } in
-    then_some (byte_where is_brace info) (125, rest) after_brace (Some x) (ap (byte_where is_brace) h.whole)
-    (then_some (cut_at 58 rest) addressed after_addresses (Some x) (cut_at-append 58 h.addresses x.info h.colon)
-    (then_some (cut_at 62 h.addresses) ends (after_source x.info) (Some x)
-    (ap (cut_at 62) h.parts ∙ cut_at-append 62 x.source h.path h.end)
-    (ap (λ (x : Passed). Some x) (made_is x h.path h.path_parts))))
+    ap passed_of h.whole
+    ∙ rw (
+      cut_at-append 58 h.addresses x.info h.colon,
+      ap (cut_at 62) h.parts ∙ cut_at-append 62 x.source h.path h.end,
+      path_takes x.destination x.via h.path h.path_parts,
+    ) refl

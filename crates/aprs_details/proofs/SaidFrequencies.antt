@@ -1,18 +1,16 @@
 -- A frequency that is read is said so, and what is said so is read.
-use Rattle.aprs_details.proofs.Common.{◌≡◌, ◌&&◌, ◌∙◌, ℕ, ℤ, ◌*◌, Bool, true, false, cond, List, [], ◌∷◌, ◌++◌, length, Option, Some, None, refl, sym, ap, subst, eqb, eqb-true, and_parts, after_some, guarded_some, some_is, byte_found, chunk_found, chunk_takes, arith}
+use Rattle.aprs_details.proofs.Common.{◌≡◌, ◌&&◌, ◌∙◌, ℕ, ℤ, ◌*◌, Bool, true, false, cond, List, [], ◌∷◌, ◌++◌, length, Option, Some, None, refl, sym, ap, subst, eqb, eqb-true, after_some, guarded_some, some_is, byte_found, chunk_found, chunk_takes, arith}
 use Rattle.aprs_report.specs.Bytes.{is_space}
 use Rattle.aprs_report.specs.Numeral.{is_digit_of}
-use Rattle.aprs_report.specs.Reader.{◌>>=◌, value_when, byte_where, chunk_of, numeral_of}
+use Rattle.aprs_report.specs.Reader.{◌>>=◌, numeral_of}
 use Rattle.aprs_report.proofs.Steps.{if_some}
 use Rattle.aprs_details.specs.Details.{without_mark}
 use Rattle.aprs_details.specs.Value.{is_dot}
-use Rattle.aprs_details.specs.Frequency.{Tuned, is_megahertz, tens_of, thousandths_of, khz_at, word_at, is_tone, tone_in, tone_at, offset_of, offset_at, tuned_after, tuned_at, is_extension, after_extension, extended, frequency_of, after_altitude, mic_e_frequency_of}
+use Rattle.aprs_details.specs.Frequency.{Tuned, tens_of, thousandths_of, khz_at, word_at, is_tone, tone_in, tone_at, offset_of, offset_at, tuned_after, tuned_at, is_extension, after_extension, extended, frequency_of, after_altitude, mic_e_frequency_of}
 use Rattle.aprs_details.specs.SaidFrequency.{IsThousandths, three, two, BeginsWithKilohertz, BeginsWithWord, IsNextTone, toned, untoned, IsNextOffset, worded, wordless, BeginsWithFrequency, HasNoFrequency, HasExtension, HasFrequency, beginning, following, HasMicEFrequency, unmarked, marked}
-use Rattle.aprs_details.proofs.Lacking.{then_some}
+use Rattle.aprs_details.proofs.Lacking.{none_some, then_some}
+use Rattle.aprs_details.proofs.Marks.{three_are}
 use Rattle.aprs_details.specs.First.{or_other}
-
-none_some : {A : Type 0} (x : A) → ◌≡◌ {A = Option A} None (Some x) → ⊥
-none_some x e = absurd cc
 
 true_false : (b : Bool) → b ≡ true → b ≡ false → ⊥
 true_false b e h = absurd cc
@@ -78,16 +76,6 @@ three_places places n (two tens m len e value parts) = ap length parts ∙ three
 
 -- ---- the frequency
 
-unit_is : (unit : List ℕ) → length unit ≡ 3 → is_megahertz unit ≡ true → unit ≡ 77 ∷ 72 ∷ 122 ∷ []
-unit_is [] len h = absurd cc
-unit_is (a ∷ []) len h = absurd cc
-unit_is (a ∷ b ∷ []) len h = absurd cc
-unit_is (a ∷ b ∷ c ∷ d ∷ more) len h = absurd (omega (arith, len))
-unit_is (a ∷ b ∷ c ∷ []) len h =
-    let p = and_parts (eqb a 77 && eqb b 72) (eqb c 122) h in
-    let q = and_parts (eqb a 77) (eqb b 72) p.0 in
-    rw (eqb-true a 77 q.0, eqb-true b 72 q.1, eqb-true c 122 p.1) refl
-
 khz_parts : (text megahertz c1 c2 places c3 unit rest : List ℕ) (b : ℕ) → text ≡ megahertz ++ c1 →
     c1 ≡ b ∷ c2 → is_dot b ≡ true → c2 ≡ places ++ c3 → c3 ≡ unit ++ rest →
     unit ≡ 77 ∷ 72 ∷ 122 ∷ [] → text ≡ megahertz ++ 46 ∷ (places ++ 77 ∷ 72 ∷ 122 ∷ rest)
@@ -111,7 +99,7 @@ khz_found text x e = after_some _ _ _ _ e (λ megahertz e1 r1. after_some _ _ _ 
       thousandths = thousandths;
       parts =
           khz_parts text megahertz.0 megahertz.1 dot.1 places.0 places.1 unit.0 unit.1 dot.0
-          f1.parts f2.0 f2.1 f3.parts f4.parts (unit_is unit.0 f4.len g.0);
+          f1.parts f2.0 f2.1 f3.parts f4.parts (three_are 77 72 122 unit.0 f4.len g.0);
       three = f1.len;
       at_megahertz = e5;
       at_places = thousandths_found places.0 thousandths f3.len e6;
@@ -141,13 +129,7 @@ word_parts text rest word later b e h r = rw (e, eqb-true b 32 h, r) refl
 
 word_found : (text : List ℕ) (x : List ℕ × List ℕ) → word_at text ≡ Some x → BeginsWithWord x.0 x.1 text
 unfolding word_at
-word_found text x e =
-    after_some (byte_where is_space text)
-    (λ (s : ℕ × List ℕ). chunk_of 4 s.1 >>= λ (w : List ℕ × List ℕ). Some (w.0, w.1)) x
-    (BeginsWithWord x.0 x.1 text) e
-    (λ space e1 r1. after_some (chunk_of 4 space.1) (λ (w : List ℕ × List ℕ). Some (w.0, w.1)) x
-    (BeginsWithWord x.0 x.1 text) r1
-    (λ word e2 r2.
+word_found text x e = after_some _ _ _ _ e (λ space e1 r1. after_some _ _ _ _ r1 (λ word e2 r2.
     let f1 = byte_found is_space text space e1 in
     let f2 = chunk_found 4 space.1 word e2 in
     subst (λ (x : List ℕ × List ℕ). BeginsWithWord x.0 x.1 text) (some_is (word.0, word.1) x r2)
@@ -263,10 +245,7 @@ none_read text (Some x) e never = absurd (never x (tuned_found text x e))
 
 extension_found : (rest comment : List ℕ) → after_extension comment ≡ Some rest → HasExtension rest comment
 unfolding after_extension
-extension_found rest comment e =
-    after_some (chunk_of 7 comment) (λ (f : List ℕ × List ℕ). value_when (is_extension f.0) f.1) rest
-    (HasExtension rest comment) e
-    (λ field e1 r1.
+extension_found rest comment e = after_some _ _ _ _ e (λ field e1 r1.
     let f = chunk_found 7 comment field e1 in
     let g = guarded_some (is_extension field.0) field.1 rest r1 in
     record {

@@ -1,28 +1,18 @@
 -- A telemetry report that is read is spelled so, and what is spelled so is read.
-use Rattle.aprs_details.proofs.Common.{◌≡◌, ◌&&◌, ◌∙◌, ap, Bool, ℕ, true, List, [], ◌∷◌, ◌++◌, length, Option, Some, None, refl, sym, subst, eqb, eqb-true, and_parts, after_some, guarded_some, some_is, chunk_found, arith, false, not, cond, list_all, chunk_takes}
+use Rattle.aprs_details.proofs.Common.{◌≡◌, ◌∙◌, ap, Bool, ℕ, true, List, [], ◌∷◌, ◌++◌, length, Option, Some, None, refl, sym, subst, eqb, eqb-true, and_parts, after_some, guarded_some, some_is, chunk_found, arith, false, not, cond, list_all, chunk_takes}
 use Rattle.std.proofs.Common.{append-nil}
 use Rattle.aprs_io.specs.Cut.{Cut, Lacks, cut_at, is_byte}
 use Rattle.std.proofs.lemmas.Bool.Decides.{nat_tests}
 use Rattle.aprs_io.proofs.Cuts.{cut_at-parts, cut_at-append}
 use Rattle.aprs_report.specs.Bytes.{is_digit}
 use Rattle.aprs_report.proofs.Steps.{StartsWith, guarded_takes}
-use Rattle.aprs_details.proofs.Lacking.{cut_at-lacks, lacks_append, then_some}
+use Rattle.aprs_details.proofs.Lacking.{cut_at-lacks, lacks_append}
+use Rattle.aprs_details.proofs.Marks.{three_are}
 use Rattle.aprs_report.specs.Reader.{◌>>=◌, value_when, chunk_of}
 use Rattle.aprs_details.specs.Value.{is_number, is_whole, is_unsigned_in}
-use Rattle.aprs_details.specs.Telemetry.{Measured, IsTelemetry, BeginsWithNumber, numbered, unnumbered, IsNextValue, comma_before, without_comma, bits_in, is_mic, is_telemetry_mark, after_mic, sequence_with, sequence_at, numbered_in, value_in, value_at, telemetry_of}
+use Rattle.aprs_details.specs.Telemetry.{Measured, IsTelemetry, BeginsWithNumber, numbered, unnumbered, IsNextValue, comma_before, without_comma, is_mic, is_telemetry_mark, after_mic, sequence_with, sequence_at, numbered_in, value_in, value_at, telemetry_of}
 
 -- ---- the number
-
--- three bytes that pass the test are these
-mic_is : (word : List ℕ) → length word ≡ 3 → is_mic word ≡ true → word ≡ 77 ∷ 73 ∷ 67 ∷ []
-mic_is [] three h = absurd cc
-mic_is (a ∷ []) three h = absurd cc
-mic_is (a ∷ b ∷ []) three h = absurd cc
-mic_is (a ∷ b ∷ c ∷ d ∷ more) three h = absurd (omega (arith, three))
-mic_is (a ∷ b ∷ c ∷ []) three h =
-    let p = and_parts (eqb a 77 && eqb b 73) (eqb c 67) h in
-    let q = and_parts (eqb a 77) (eqb b 73) p.0 in
-    rw (eqb-true a 77 q.0, eqb-true b 73 q.1, eqb-true c 67 p.1) refl
 
 mic_parts : (text word more : List ℕ) → text ≡ word ++ more → word ≡ 77 ∷ 73 ∷ 67 ∷ [] →
     text ≡ 77 ∷ 73 ∷ 67 ∷ more
@@ -30,14 +20,11 @@ mic_parts text word more e1 e2 = rw (e1, e2) refl
 
 mic_found : (text rest : List ℕ) → after_mic text ≡ Some rest → text ≡ 77 ∷ 73 ∷ 67 ∷ rest
 unfolding after_mic
-mic_found text rest e =
-    after_some (chunk_of 3 text) (λ (w : List ℕ × List ℕ). value_when (is_mic w.0) w.1) rest
-    (text ≡ 77 ∷ 73 ∷ 67 ∷ rest) e
-    (λ word e1 r1.
+mic_found text rest e = after_some _ _ _ _ e (λ word e1 r1.
     let f = chunk_found 3 text word e1 in
     let g = guarded_some (is_mic word.0) word.1 rest r1 in
     subst (λ (l : List ℕ). text ≡ 77 ∷ 73 ∷ 67 ∷ l) g.1
-    (mic_parts text word.0 word.1 f.parts (mic_is word.0 f.len g.0)))
+    (mic_parts text word.0 word.1 f.parts (three_are 77 73 67 word.0 f.len g.0)))
 
 numbered_found : (text : List ℕ) (o : Option Cut) (x : List ℕ × List ℕ) → cut_at 44 text ≡ o →
     numbered_in o ≡ Some x → BeginsWithNumber x.0 x.1 text
@@ -90,56 +77,16 @@ mark_parts : (info mark text : List ℕ) → info ≡ mark ++ text → mark ≡ 
     info ≡ 84 ∷ 35 ∷ text
 mark_parts info mark text e1 e2 = rw (e1, e2) refl
 
--- the steps of reading it
-abbrev made : (sequence a1 a2 a3 a4 a5 : List ℕ) → Option (List ℕ) → Measured
-made sequence a1 a2 a3 a4 a5 left = record {
-  sequence = sequence;
-  a1 = a1;
-  a2 = a2;
-  a3 = a3;
-  a4 = a4;
-  a5 = a5;
-  bits = bits_in left;
-}
-
-abbrev after5 : (mark sequence a1 a2 a3 a4 : List ℕ) → List ℕ × Option (List ℕ) → Option Measured
-after5 mark sequence a1 a2 a3 a4 x =
-    value_when (is_telemetry_mark mark) (made sequence a1 a2 a3 a4 x.0 x.1)
-
-abbrev after4 : (mark sequence a1 a2 a3 : List ℕ) → List ℕ × Option (List ℕ) → Option Measured
-after4 mark sequence a1 a2 a3 x = value_at x.1 >>= after5 mark sequence a1 a2 a3 x.0
-
-abbrev after3 : (mark sequence a1 a2 : List ℕ) → List ℕ × Option (List ℕ) → Option Measured
-after3 mark sequence a1 a2 x = value_at x.1 >>= after4 mark sequence a1 a2 x.0
-
-abbrev after2 : (mark sequence a1 : List ℕ) → List ℕ × Option (List ℕ) → Option Measured
-after2 mark sequence a1 x = value_at x.1 >>= after3 mark sequence a1 x.0
-
-abbrev after1 : (mark sequence : List ℕ) → List ℕ × Option (List ℕ) → Option Measured
-after1 mark sequence x = value_at x.1 >>= after2 mark sequence x.0
-
-abbrev after_sequence : List ℕ → List ℕ × List ℕ → Option Measured
-after_sequence mark x = value_at (Some x.1) >>= after1 mark x.0
-
-abbrev after_mark : List ℕ × List ℕ → Option Measured
-after_mark x = sequence_at x.1 >>= after_sequence x.0
-
 -- a report that is read is one
 pub telemetry_found : (info : List ℕ) (t : Measured) → telemetry_of info ≡ Some t →
     IsTelemetry t info
 unfolding telemetry_of
-telemetry_found info t e =
-    let P : Type 0 = IsTelemetry t info in
-    after_some (chunk_of 2 info) after_mark t P e (λ mark e1 r1.
-    after_some (sequence_at mark.1) (after_sequence mark.0) t P r1 (λ sequence e2 r2.
-    after_some (value_at (Some sequence.1)) (after1 mark.0 sequence.0) t P r2 (λ a1 e3 r3.
-    after_some (value_at a1.1) (after2 mark.0 sequence.0 a1.0) t P r3 (λ a2 e4 r4.
-    after_some (value_at a2.1) (after3 mark.0 sequence.0 a1.0 a2.0) t P r4 (λ a3 e5 r5.
-    after_some (value_at a3.1) (after4 mark.0 sequence.0 a1.0 a2.0 a3.0) t P r5 (λ a4 e6 r6.
-    after_some (value_at a4.1) (after5 mark.0 sequence.0 a1.0 a2.0 a3.0 a4.0) t P r6 (λ a5 e7 r7.
+telemetry_found info t e = after_some _ _ _ _ e (λ mark e1 r1.
+    after_some _ _ _ _ r1 (λ sequence e2 r2. after_some _ _ _ _ r2 (λ a1 e3 r3.
+    after_some _ _ _ _ r3 (λ a2 e4 r4. after_some _ _ _ _ r4 (λ a3 e5 r5.
+    after_some _ _ _ _ r5 (λ a4 e6 r6. after_some _ _ _ _ r6 (λ a5 e7 r7.
     let f = chunk_found 2 info mark e1 in
-    let g = guarded_some (is_telemetry_mark mark.0)
-    (made sequence.0 a1.0 a2.0 a3.0 a4.0 a5.0 a5.1) t r7 in
+    let g = guarded_some _ _ _ r7 in
     subst (λ (t : Measured). IsTelemetry t info) g.1 (record {
       text = mark.1;
       values = sequence.1;
@@ -189,10 +136,7 @@ no_mic (d ∷ digits) rest h =
 
 mic_takes : (more : List ℕ) → after_mic (77 ∷ 73 ∷ 67 ∷ more) ≡ Some more
 unfolding after_mic
-mic_takes more =
-    then_some (chunk_of 3 (77 ∷ 73 ∷ 67 ∷ more)) (77 ∷ 73 ∷ 67 ∷ [], more)
-    (λ (w : List ℕ × List ℕ). value_when (is_mic w.0) w.1) (Some more)
-    (chunk_takes 3 (77 ∷ 73 ∷ 67 ∷ []) more refl) refl
+mic_takes more = rw (chunk_takes 3 (77 ∷ 73 ∷ 67 ∷ []) more refl) refl
 
 -- numbers have no comma
 other_than_comma : (b : ℕ) → is_digit b ≡ true → is_byte 44 b ≡ false
@@ -262,27 +206,14 @@ pub telemetry_takes : (info : List ℕ) (t : Measured) → IsTelemetry t info �
     telemetry_of info ≡ Some t
 unfolding telemetry_of
 telemetry_takes info t h =
-    let mark : List ℕ = 84 ∷ 35 ∷ [] in
-    then_some (chunk_of 2 info) (mark, h.text) after_mark (Some t)
-    (ap (chunk_of 2) h.whole ∙ chunk_takes 2 mark h.text refl)
-    (then_some (sequence_at h.text) (t.sequence, h.values) (after_sequence mark) (Some t)
-    (number_takes t.sequence h.values h.text h.number)
-    (then_some (value_at (Some h.values)) (t.a1, h.after_a1) (after1 mark t.sequence) (Some t)
-    (value_takes t.a1 (Some h.values) h.after_a1 h.first)
-    (then_some (value_at h.after_a1) (t.a2, h.after_a2) (after2 mark t.sequence t.a1) (Some t)
-    (value_takes t.a2 h.after_a1 h.after_a2 h.second)
-    (then_some (value_at h.after_a2) (t.a3, h.after_a3) (after3 mark t.sequence t.a1 t.a2) (Some t)
-    (value_takes t.a3 h.after_a2 h.after_a3 h.third)
-    (then_some (value_at h.after_a3) (t.a4, h.after_a4) (after4 mark t.sequence t.a1 t.a2 t.a3) (Some t)
-    (value_takes t.a4 h.after_a3 h.after_a4 h.fourth)
-    (then_some (value_at h.after_a4) (t.a5, h.after_a5) (after5 mark t.sequence t.a1 t.a2 t.a3 t.a4) (Some t)
-    (value_takes t.a5 h.after_a4 h.after_a5 h.fifth)
-    (ap (λ (bits : List ℕ). Some (record {
-      sequence = t.sequence;
-      a1 = t.a1;
-      a2 = t.a2;
-      a3 = t.a3;
-      a4 = t.a4;
-      a5 = t.a5;
-      bits = bits;
-    })) (sym h.bits))))))))
+    ap telemetry_of h.whole
+    ∙ rw (
+      chunk_takes 2 (84 ∷ 35 ∷ []) h.text refl,
+      number_takes t.sequence h.values h.text h.number,
+      value_takes t.a1 (Some h.values) h.after_a1 h.first,
+      value_takes t.a2 h.after_a1 h.after_a2 h.second,
+      value_takes t.a3 h.after_a2 h.after_a3 h.third,
+      value_takes t.a4 h.after_a3 h.after_a4 h.fourth,
+      value_takes t.a5 h.after_a4 h.after_a5 h.fifth,
+      ← h.bits,
+    ) refl

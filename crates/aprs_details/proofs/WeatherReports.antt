@@ -11,14 +11,11 @@ use Rattle.aprs_details.specs.Extension.{IsPair, pair_of}
 use Rattle.aprs_details.specs.Weather.{field_at, places_in, number_of, temperature_of, humidity_of, luminosity_of, bright_of, fahrenheit, percent, direction_in, weather_with, weather_of_fields, weather_after, weather_of_comment, weather_after_cst, weather_of_cst, is_underscore, fields_of_info, weather_of_info}
 use Rattle.aprs_details.specs.WeatherReport.{IsWeatherField, HasField, here, later, Says, field, missing, percent_in, bright_in, SaysWeather, SaysWind, IsWeatherReport, IsWeatherComment, IsCompressedWeather, with_wind, in_fields, after_wind, in_bytes}
 use Rattle.aprs_details.proofs.Pairs.{pair_found, pair_takes}
-use Rattle.aprs_details.proofs.Lacking.{then_some}
+use Rattle.aprs_details.proofs.Lacking.{none_some, then_some}
 use Rattle.aprs_details.proofs.Fields.{field_found, field_takes, walk_stops, walk_goes_on, walk_ends}
 use Rattle.aprs_details.specs.First.{or_other}
 
 -- ---- the first field of a letter
-
-none_some : {A : Type 0} (x : A) → ◌≡◌ {A = Option A} None (Some x) → ⊥
-none_some x e = absurd cc
 
 at_field : (letter : ℕ) (places text : List ℕ) (o : Option (ℕ × List ℕ × List ℕ)) (b : Bool) →
     field_at text ≡ o → ((x : ℕ × List ℕ × List ℕ) → o ≡ Some x → eqb x.0 letter ≡ b) →

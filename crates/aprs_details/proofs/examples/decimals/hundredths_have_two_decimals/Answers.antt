@@ -1,7 +1,0 @@
-use Rattle.aprs_details.proofs.Common.{refl}
-use Rattle.std.specs.Fmt.{digits}
-use Rattle.aprs_details.proofs.examples.decimals.hundredths_have_two_decimals.Goals as goal
-
-pub returns : goal.returns
-unfolding digits
-returns c = record { reads = refl }

@@ -1,7 +1,0 @@
-use Rattle.aprs_details.proofs.Common.{refl}
-use Rattle.std.specs.Fmt.{digits}
-use Rattle.aprs_details.proofs.examples.decimals.metres_have_four_decimals.Goals as goal
-
-pub returns : goal.returns
-unfolding digits
-returns c = record { reads = refl }
