@@ -126,14 +126,14 @@ sent_course field = whole_of field >>= course_from_north
 
 -- The altitude in ten-thousandths of a metre, nearest: a number that may have a minus. A half is
 -- rounded away from 0.
-abbrev pub metres_of : List ℕ → Option ℤ
-metres_of field =
+abbrev pub signed_altitude_of : List ℕ → Option ℤ
+signed_altitude_of field =
     number_in_millionths (without_minus field)
     >>= λ n. Some (with_sign (slice_index field 0 == octet "-") (nearest n 100))
 
 -- The altitude, if its unit is the metre.
 abbrev pub altitude_in : (field unit : List ℕ) → Option ℤ
-altitude_in field unit = if bytes_eq unit (codes "M") then metres_of field else None
+altitude_in field unit = if bytes_eq unit (codes "M") then signed_altitude_of field else None
 
 -- ---- sentences
 

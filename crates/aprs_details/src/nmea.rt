@@ -236,8 +236,8 @@ fn course_in(field: &[u8]) -> Option<u32>
 
 /// The altitude in ten-thousandths of a metre, nearest: a number that may have a minus. A half is
 /// rounded away from 0. `None` for any other text.
-fn metres(field: &[u8]) -> Option<i64>
-    ensures { result ≡ Spec.metres_of field.now }
+fn signed_altitude(field: &[u8]) -> Option<i64>
+    ensures { result ≡ Spec.signed_altitude_of field.now }
 {
     let n = number(without_minus(field))?;
     let parts = nearest(n, 100) as i64;
@@ -253,7 +253,7 @@ fn altitude(field: &[u8], unit: &[u8]) -> Option<i64>
     ensures { result ≡ Spec.altitude_in field.now unit.now }
 {
     if unit == b"M".as_slice() {
-        metres(field)
+        signed_altitude(field)
     } else {
         None
     }

@@ -1,6 +1,6 @@
 //! Worked examples of altitudes, and near misses.
 ghost use Rattle.std.specs.Prelude.{codes, Some, None, pos, neg_ℤ, ◌≡◌, ◌∷◌, []};
-ghost use Rattle.aprs_details.specs.Altitude.{feet_of, metres_of_feet};
+ghost use Rattle.aprs_details.specs.Altitude.{feet_of, altitude_of_feet};
 ghost use Rattle.aprs_details.specs.Details.{mic_e_altitude_of, is_radio_mark};
 ghost use Rattle.aprs_details.specs.Examples.{Gives, Misses, of_car, moves, bytes_where};
 ghost use Rattle.aprs_details.specs.GgaAltitude.{feet_of_cs, feet_of_cst};
@@ -58,7 +58,7 @@ pub fn first_altitudes_count()
         (codes "/A=0012345", Some 1234) ∷  -- six digits count
         (codes "/A=00001/A=000002/A=000003", Some 2) ∷  -- the first of six
         (codes "/A=000002/A=000003", Some 2) ∷ []) }
-    ensures metres { Gives metres_of_feet (
+    ensures metres { Gives altitude_of_feet (
         (0, pos 0) ∷
         (1, pos 3048) ∷
         (1234, pos 3761232) ∷ []) }

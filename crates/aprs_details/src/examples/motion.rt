@@ -2,7 +2,7 @@
 ghost use Rattle.std.specs.Prelude.{codes, Some, None, true, false, pos, ◌≡◌, ◌∷◌, ◌++◌, []};
 ghost use Rattle.aprs_details.specs.Compressed.{knots_of, course_of_cst, speed_of_cst, is_gga};
 ghost use Rattle.aprs_details.specs.Examples.{Gives, of_car, moves, of_compressed_car, says, bytes_with, numbers_from, bytes_where};
-ghost use Rattle.aprs_details.specs.Extension.{course_of, direction_of};
+ghost use Rattle.aprs_details.specs.Extension.{course_of, wind_direction_of};
 
 /// The comment of a plain position may begin with a course and a speed: as the standard shows them,
 /// unknown, north and past it. Each is digits, dots or spaces alone.
@@ -80,7 +80,7 @@ pub fn courses_are_no_more_than_north()
         (1, Some 1) ∷
         (360, Some 360) ∷
         (361, None) ∷ []) }
-    ensures directions { Gives direction_of (
+    ensures directions { Gives wind_direction_of (
         (0, Some 0) ∷
         (1, Some 1) ∷
         (360, Some 360) ∷

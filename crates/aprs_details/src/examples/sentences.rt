@@ -1,7 +1,7 @@
 //! Worked examples of sentences of GPS receivers, and near misses.
 ghost use Rattle.std.specs.Prelude.{codes, pos, neg_ℤ, None, Some, List, ℕ, false, true, ◌∷◌, []};
 ghost use Rattle.aprs_details.specs.Examples.{Gives, fix_at, Misses, placed_by};
-ghost use Rattle.aprs_details.specs.Nmea.{fix_of, sent_course, metres_of, altitude_in, is_quality, is_valid, digits_of, number_in_millionths, sent_half};
+ghost use Rattle.aprs_details.specs.Nmea.{fix_of, sent_course, signed_altitude_of, altitude_in, is_quality, is_valid, digits_of, number_in_millionths, sent_half};
 
 /// Three sentences as the standard shows them.
 pub fn sentences_tell_a_fix()
@@ -121,7 +121,7 @@ pub fn courses_are_rounded()
 
 /// An altitude in ten-thousandths of a metre, nearest, may have a minus.
 pub fn altitudes_are_rounded()
-    ensures reads { Gives metres_of (
+    ensures reads { Gives signed_altitude_of (
         (codes "75.7", Some (pos 757000)) ∷  -- shown
         (codes "-12", Some (neg_ℤ (pos 120000))) ∷  -- below
         (codes "0.5", Some (pos 5000)) ∷  -- half a metre
@@ -133,7 +133,7 @@ pub fn altitudes_are_rounded()
         (codes "0", Some (pos 0)) ∷  -- the sea
         (codes "-0", Some (pos 0)) ∷ [])  -- likewise
     }
-    ensures misses { Misses metres_of (
+    ensures misses { Misses signed_altitude_of (
         [] ∷  -- unknown
         codes "-" ∷  -- a minus alone
         codes "--12" ∷  -- two signs
