@@ -9,11 +9,10 @@ names have this word. Without a CRATE all crates that have edits are tried.
 
 A crate's edits of different functions are put into one copy of it, which is checked over what was
 proved of the crate before (`make build`). A goal of a function rests on the function's own code, and
-on contracts and definitions, which no edit changes. So only the functions that are changed are checked,
-and an edit is refused where the check refuses a goal of one that it changes. What isn't refused so, and
-what shares no check, as a constant, is tried alone, and the whole crate is checked then. Before them the
-copy is checked as it stands, and has to be proved, unless build/prove.sh noted that it proved these very
-files.
+on contracts and definitions, which no edit changes. So an edit is refused where the check refuses a
+goal of a function that it changes. What isn't refused so, and what shares no check, as a constant,
+is tried alone. Before them the copy is checked as it stands, and has to be proved, unless build/prove.sh
+noted that it proved these very files.
 
 What was refused is kept in out/edits, by the kit and a checksum of the crate, of what it can know of those
 below it, and of the edit, each without its comments.
@@ -59,7 +58,7 @@ class Check(NamedTuple):
     @property
     def is_judged(self) -> bool:
         """Whether the prover came to a verdict, and didn't stop at what doesn't compile."""
-        return any(it.startswith(("logic=", "only=")) for it in self.lines)
+        return any(it.startswith("logic=") for it in self.lines)
 
 
 class Told(NamedTuple):
@@ -90,9 +89,8 @@ class View:
         if (TOP / "HANDLES").is_file():
             shutil.copy(TOP / "HANDLES", place)
 
-    def check(self, edits: Sequence[Edit], is_whole: bool) -> Tuple[Check, Dict[str, str]]:
-        """Checks the crate with these edits, or only what they change. Returns what was said, and the
-        texts that were read."""
+    def check(self, edits: Sequence[Edit], jobs: int = 1) -> Tuple[Check, Dict[str, str]]:
+        """Checks the crate with these edits. Returns what was said, and the texts that were read."""
         shutil.rmtree(self.folder / "out", ignore_errors=True)
         crates.linked(TOP / "crates" / self.crate / "out", self.folder / "out")
         files = {file for edit in edits for file in edit.lines}
@@ -100,10 +98,7 @@ class View:
         texts = wrong_bodies.with_edits(before, edits)
         for file, text in texts.items():
             (self.folder / file).write_text(text, encoding="utf-8")
-        command = ["rt", "check", "--jobs", "1"]
-        if not is_whole:
-            for path in sorted({it.path for edit in edits for it in edit.changed}):
-                command += ["--only", path]
+        command = ["rt", "check", "--jobs", str(jobs)]
         ran = subprocess.run(
             command, cwd=self.folder, stdin=subprocess.DEVNULL, stdout=subprocess.PIPE,
             stderr=subprocess.STDOUT, encoding="utf-8", errors="replace", check=False,
@@ -115,7 +110,8 @@ class View:
 
 def is_proof_of(file: str, function: Function) -> bool:
     """Whether this file of proofs/ has answers to the goals of a function."""
-    module = function.modules
+    module = function.file[len("src/"):-len(".rt")].split("/")
+    module = [it for it in module if it not in ("lib", "main", "mod")]
     parts = file.split("/")[1:-1]
     rest = parts[len(module):]
     if parts[:len(module)] != module or not rest or rest[-1] != function.name:
@@ -238,12 +234,11 @@ class Trial:
             except wrong_bodies.Unfit as why:
                 self.told[path.name] = Told(False, str(why))
 
-    def checked(self, edits: Sequence[Edit], is_whole: bool) -> Tuple[Check, Dict[str, str]]:
-        """A check of the crate with these edits, or only of what they change, in a view of its own, at
-        its turn."""
+    def checked(self, edits: Sequence[Edit]) -> Tuple[Check, Dict[str, str]]:
+        """A check of the crate with these edits, in a view of its own, at its turn."""
         with self.turns, tempfile.TemporaryDirectory(prefix="edits-") as place:
             self.checks += 1
-            return View(self.crate, pathlib.Path(place)).check(edits, is_whole)
+            return View(self.crate, pathlib.Path(place)).check(edits)
 
     def note(self, edit: Edit, told: Told) -> None:
         """Notes what is told of an edit."""
@@ -254,7 +249,7 @@ class Trial:
 
     def try_lot(self, lot: Sequence[Edit]) -> None:
         """Tries these in one check, without those that don't compile."""
-        check, texts = self.checked(lot, False)
+        check, texts = self.checked(lot)
         if not check.is_judged and len(lot) > 1:
             hurt = [it for it in lot if said_of(it, check, texts, self.crate)]
             if hurt and len(hurt) < len(lot):
@@ -267,7 +262,7 @@ class Trial:
 
     def try_alone(self, edit: Edit) -> None:
         """Tries an edit in a check of its own."""
-        check, texts = self.checked([edit], True)
+        check, texts = self.checked([edit])
         self.note(edit, judged_alone(edit, check, texts, self.crate))
 
     def run(self) -> None:
@@ -277,7 +272,7 @@ class Trial:
         left = [it for it in self.edits if it not in known]
         if not left:
             return
-        if not crates.is_proved(self.crate) and self.checked([], True)[0].status:
+        if not crates.is_proved(self.crate) and self.checked([])[0].status:
             why = Told(False, "the crate isn't proved as it stands: make build")
             self.told.update((it.name, why) for it in left)
             return

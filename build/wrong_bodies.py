@@ -19,28 +19,13 @@ CONSTANT = re.compile(r"^ *(?:pub(?:\([a-z ]+\))? )?(?:const|static) (\w+):", re
 
 
 class Function(NamedTuple):
-    """A function of a file: its lines, from its comment to its last brace, its names, and whether it
-    is a trait's."""
+    """A function of a file: its lines, from its comment to its last brace, and its names."""
 
     file: str
     first: int
     last: int
     owner: str
     name: str
-    is_of_trait: bool
-
-    @property
-    def modules(self) -> List[str]:
-        """The names of the modules in which it stands, from the crate's root."""
-        names = self.file[len("src/"):-len(".rt")].split("/")
-        return [it for it in names if it not in ("lib", "main", "mod")]
-
-    @property
-    def path(self) -> str:
-        """The path by which `rt check --only` finds it; for a trait's function that of its type."""
-        within = [self.owner] if self.owner else []
-        own = [] if self.is_of_trait else [self.name]
-        return "::".join([*self.modules, *within, *own])
 
 
 class Pair(NamedTuple):
@@ -79,11 +64,9 @@ def functions_of(file: str, text: str) -> List[Function]:
         first = len(lines)
         while first > 1 and re.match(r"\s*(///|#\[)", lines[first - 2]):
             first -= 1
-        held = [it for it in owners if it[0] < start < it[1]]
-        owner = held[-1][2] if held else ""
-        is_of_trait = bool(held) and (held[-1][3] == "trait" or bool(held[-1][4]))
-        last_line = text.count("\n", 0, last) + 1
-        found.append(Function(file, first, last_line, owner, head.group(1), is_of_trait))
+        held = [it[2] for it in owners if it[0] < start < it[1]]
+        owner = held[-1] if held else ""
+        found.append(Function(file, first, text.count("\n", 0, last) + 1, owner, head.group(1)))
     return found
 
 
