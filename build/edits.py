@@ -45,8 +45,8 @@ SAID = re.compile(r"(note: )?(?:\./)?((?:src|proofs|specs)/\S+?):(\d+):(\d+): ?(
 # what is said of a declaration for want of another, and not of a goal of its own
 RESTS = re.compile(r"was not admitted|is not in scope|has no field|has no `|rests on|depends on")
 ERROR = re.compile(r"\berror\[[\w-]+\]")
-# at most so many edits in one check: more would leave the last one without another beside it
-MOST = 30
+# at most so many edits in one check
+MOST = 60
 
 
 class Check(NamedTuple):
