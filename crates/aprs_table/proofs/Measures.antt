@@ -9,7 +9,7 @@ use Rattle.aprs_report.specs.Reader.{chunk_of}
 use Rattle.aprs_details.specs.Value.{is_number, is_unsigned_in, is_whole}
 use Rattle.aprs_details.specs.Telemetry.{Measured, IsTelemetry, BeginsWithNumber, numbered, unnumbered, IsNextValue, is_bit, bits_with, bits_in}
 use Rattle.aprs_table.specs.Cells as cells
-use Rattle.aprs_table.proofs.Frees.{Free, AreFree, high, free_append, free_digits_alone, free_bits}
+use Rattle.aprs_table.proofs.Frees.{Free, AreFree, ◌&◌, high, free_append, free_digits_alone, free_bits}
 
 whole_free : (text : List ℕ) → is_whole text ≡ true → Free text
 whole_free text h = free_digits_alone text (and_parts _ _ h).1
@@ -58,25 +58,11 @@ bits_free (Some text) = bits_with_free (chunk_of 8 text)
 
 pub measured_free : (info : List ℕ) (t : Measured) → IsTelemetry t info →
     AreFree (cells.telemetry_cells t)
-measured_free info t h = (
-  sequence_free t.sequence h.values h.text h.number,
-  (
-    next_free t.a1 (Some h.values) h.after_a1 h.first,
-    (
-      next_free t.a2 h.after_a1 h.after_a2 h.second,
-      (
-        next_free t.a3 h.after_a2 h.after_a3 h.third,
-        (
-          next_free t.a4 h.after_a3 h.after_a4 h.fourth,
-          (
-            next_free t.a5 h.after_a4 h.after_a5 h.fifth,
-            (subst Free (sym h.bits) (bits_free h.after_a5), tt),
-          ),
-        ),
-      ),
-    ),
-  ),
-)
+measured_free info t h = sequence_free t.sequence h.values h.text h.number
+    & next_free t.a1 (Some h.values) h.after_a1 h.first
+    & next_free t.a2 h.after_a1 h.after_a2 h.second & next_free t.a3 h.after_a2 h.after_a3 h.third
+    & next_free t.a4 h.after_a3 h.after_a4 h.fourth & next_free t.a5 h.after_a4 h.after_a5 h.fifth
+    & subst Free (sym h.bits) (bits_free h.after_a5) & tt
 
 -- without telemetry they are empty
 pub nothing_free : AreFree (cells.telemetry_cells (cells.telemetry_in None))

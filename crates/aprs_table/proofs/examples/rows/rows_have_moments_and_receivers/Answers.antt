@@ -2,10 +2,6 @@ use Rattle.aprs_table.proofs.Common.{refl}
 use Rattle.aprs_table.proofs.Steps.{line_of}
 use Rattle.aprs_table.proofs.examples.rows.rows_have_moments_and_receivers.Goals as goal
 
-pub returns-clause-twice : goal.returns-clause-twice
+pub returns : goal.returns
 unfolding line_of
-returns-clause-twice c = refl
-
-pub returns-clause-once : goal.returns-clause-once
-unfolding line_of
-returns-clause-once c = refl
+returns c = record { twice = refl; once = refl }
