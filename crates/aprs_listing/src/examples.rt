@@ -1,4 +1,6 @@
 //! Worked examples of the lines of a history, and near misses. Their functions do nothing.
+#![tactic(auto, unfolding(aprs_table::proofs::Steps::line_of))]
+
 ghost use Rattle.std.specs.Prelude.{◌≡◌, ◌∷◌, ◌++◌, [], codes};
 ghost use Rattle.aprs_transmissions.specs.Examples.{early_row, near_row};
 ghost use Rattle.aprs_listing.specs.Examples.{ended, heard_once, jeep_info, line_once, reported_once};

@@ -8,6 +8,7 @@ use aprs_ax25::Callsign;
 use aprs_io::{Outlet, WriteFault, push_all, put_shown, shown_byte};
 use aprs_log::Moment;
 use aprs_report::{Fraction, Place, Stamp, Symbol};
+use aprs_table::stamp_text;
 use arrayvec::ArrayVec;
 use itoa::Buffer;
 use std::io::Write;
@@ -53,7 +54,7 @@ pub fn put_field<W: Write>(out: &mut Outlet<'_, W>, field: &Field<'_>) -> Result
         Field::Call(call) => out.put(call.text().as_slice()),
         Field::Count(n) => out.put(Buffer::new().format(*n).as_bytes()),
         Field::Moment(moment) => out.put(&moment.text()),
-        Field::Stamp(stamp) => out.put(stamp_text(stamp).as_slice()),
+        Field::Stamp(stamp) => out.put(stamp_or_dash(stamp).as_slice()),
         Field::Degrees(fraction) => out.put(degrees_text(fraction).as_slice()),
         Field::Ambiguity(place) => out.put(ambiguity_text(place).as_slice()),
         Field::Symbol(symbol) => put_shown(out, &[symbol.table, symbol.code]),
@@ -61,18 +62,17 @@ pub fn put_field<W: Write>(out: &mut Outlet<'_, W>, field: &Field<'_>) -> Result
 }
 
 /// The stamp's six digits and its mark, or `-` without a stamp.
-fn stamp_text(stamp: &Option<Stamp>) -> ArrayVec<u8, 7>
+fn stamp_or_dash(stamp: &Option<Stamp>) -> ArrayVec<u8, 7>
     ensures { result.items ≡ Spec.stamp_text stamp.now }
 {
-    let mut text = ArrayVec::new();
     match stamp {
-        Some(stamp) => {
-            push_all(&mut text, &stamp.digits);
-            text.push(stamp.mark);
+        Some(stamp) => stamp_text(stamp),
+        None => {
+            let mut text = ArrayVec::new();
+            text.push(b'-');
+            text
         }
-        None => text.push(b'-'),
     }
-    text
 }
 
 /// The fraction's numerator, `/` and its denominator, in decimal. There is room for two numbers
