@@ -21,9 +21,11 @@ pub use Rattle.aprs_log.specs.Reception.{Received, bytes_cmp}
 pub use Rattle.aprs_report.specs.Reading.{Value, view}
 pub use Rattle.aprs_report.specs.declared.report.Report.{Report}
 pub use Rattle.aprs_summary.specs.Reports.{report_of}
+pub use Rattle.aprs_table.proofs.Chains.{◌before◌, cells_put, refused}
 pub use Rattle.aprs_table.proofs.Lines.{tabbed_cells}
 pub use Rattle.aprs_table.specs.Cells.{cell_text, tabbed_cell}
 pub use Rattle.aprs_table.specs.Table.{after_tab}
+pub use Rattle.aprs_table.specs.declared.cell.Cell.{Cell}
 pub use Rattle.std.proofs.Common.{Bool, Err, List, None, Ok, Option, Result, Some, [], ap, append-nil, append_assoc, ap₂, arith, codes, inl, inr, length, map, refl, rules, subst, sym, take, ℕ, ◌++◌, ◌∙◌, ◌∷◌, ◌≡◌, Bor, drop, eqb, eqb-true, false, get_or, if◌then◌else◌, leb, leb-true, ltb, max, suc, true, zero, ◌&&◌, ◌+◌, ◌<◌, ◌≤◌, ◌⊎◌}
 pub use Rattle.std.proofs.lemmas.Bool.{and_from, and_parts, cases_lt, le-leb, lt-ltb, ltb-true}
 pub use Rattle.std.proofs.lemmas.Cmp.{on_total, then_total, tied_itself, upto}

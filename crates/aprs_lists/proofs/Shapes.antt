@@ -1,19 +1,13 @@
 -- Each line of the tables has all fields.
 use Rattle.aprs_lists.proofs.Common.{◌≡◌, ◌∙◌, ◌∷◌, ◌++◌, [], ℕ, Bool, List, None, Option, Some, ap, ap₂, codes, length, refl, Received, Row, Value, key_of, report_of}
-use Rattle.std.specs.Prelude.{All, true, false, if◌then◌else◌}
+use Rattle.std.specs.Prelude.{true, false, if◌then◌else◌}
 use Rattle.std.proofs.Common.{suc, ◌+◌}
 use Rattle.std.proofs.lemmas.List.{length-append}
-use Rattle.std.specs.List.{AllByRecursion}
-use Rattle.std.proofs.lemmas.List.Elements.{All-from_recursion}
 use Rattle.aprs_ax25.specs.Callsign.{Call, IsCall}
 use Rattle.aprs_log.specs.Receiver.{IsName}
-use Rattle.aprs_report.specs.Object.{live_text}
 use Rattle.aprs_report.specs.Place.{latitude_of, longitude_of}
-use Rattle.aprs_report.specs.Position.{IsOptionalStamp}
 use Rattle.aprs_report.specs.Reading.{Reads, position, object, item, message, ack, rej, status, raw}
-use Rattle.aprs_report.specs.Status.{IsStatus}
 use Rattle.aprs_report.specs.declared.place.Place.{Place}
-use Rattle.aprs_report.specs.declared.place.Place.TheVariants as place
 use Rattle.aprs_report.specs.declared.stamp.Stamp.{Stamp}
 use Rattle.aprs_report.specs.declared.symbol.Symbol.{Symbol}
 use Rattle.aprs_report.proofs.Readings.{reads_as}
@@ -25,9 +19,9 @@ use Rattle.aprs_summary.specs.declared.lists.named.Named.{Named}
 use Rattle.aprs_summary.specs.declared.lists.reply_ack.ReplyAck.{ReplyAck}
 use Rattle.aprs_summary.specs.declared.lists.reply_ack.ReplyAck.TheVariants.{NotAwaited, Awaited, Heard}
 use Rattle.aprs_summary.specs.declared.lists.station.Station.{Station}
-use Rattle.aprs_table.specs.Cells.{ambiguity_field, compressed_field, stamp_field}
-use Rattle.aprs_table.specs.Shape.{IsField}
-use Rattle.aprs_table.proofs.Frees.{AreFree, Free, Plain, free_call, free_decimal, free_degrees, free_moment, free_name, free_shown, free_stamp, free_word}
+use Rattle.aprs_table.specs.Cells.{stamp_field}
+use Rattle.aprs_table.proofs.Shapes.{ambiguity_free, compressed_free, optional_stamp, state_free, status_stamp}
+use Rattle.aprs_table.proofs.Frees.{AreFree, Free, ◌&◌, are_append, are_fields, free_call, free_decimal, free_degrees, free_moment, free_name, free_shown, free_stamp, free_word}
 use Rattle.aprs_lists.specs.Lines.{tabbed_line}
 use Rattle.aprs_lists.specs.Class.{class_text, is_announcement, is_answer, is_bulletin, is_query, is_telemetry, is_weather_bulletin}
 use Rattle.aprs_lists.specs.Told.{Told, answer_fields, bytes_or_nothing, call_or_nothing, message_columns, message_number, moment_or_nothing, net_fields, reply_ack_fields, told_fields, told_message_line}
@@ -41,24 +35,13 @@ record AreSo (n : ℕ) (fields : List (List ℕ)) : Type 0 where
   count : length fields ≡ n
   free : AreFree fields
 
-are_append : (a b : List (List ℕ)) → AreFree a → AreFree b → AreFree (a ++ b)
-are_append [] b h k = k
-are_append (x ∷ a) b h k = (h.0, are_append a b h.1 k)
-
-as_fields : (fields : List (List ℕ)) → AreFree fields → AllByRecursion IsField fields
-as_fields [] h = tt
-as_fields (x ∷ fields) h = (All-from_recursion Plain x h.0, as_fields fields h.1)
-
-are_fields : (fields : List (List ℕ)) → AreFree fields → All IsField fields
-are_fields fields h = All-from_recursion IsField fields (as_fields fields h)
-
 -- ---- messages
 
-state_free : (s : MessageState) → Free (state_text s)
-state_free Unnumbered = free_word (codes "unnumbered") refl
-state_free Unanswered = free_word (codes "unanswered") refl
-state_free Acknowledged = free_word (codes "acknowledged") refl
-state_free Rejected = free_word (codes "rejected") refl
+outcome_free : (s : MessageState) → Free (state_text s)
+outcome_free Unnumbered = free_word (codes "unnumbered") refl
+outcome_free Unanswered = free_word (codes "unanswered") refl
+outcome_free Acknowledged = free_word (codes "acknowledged") refl
+outcome_free Rejected = free_word (codes "rejected") refl
 
 answer_free : (o : Option ℕ) (to : List ℕ) → AreFree (answer_fields o to)
 answer_free None to = (tt, (tt, tt))
@@ -92,16 +75,9 @@ moment_free None = tt
 moment_free (Some moment) = free_moment moment
 
 net_free : (t : Told) → HasCall t.gate → AreFree (net_fields t)
-net_free t gate = (
-  gate_free t.gate gate,
-  (
-    class_free t.message,
-    (
-      free_shown (bytes_or_nothing (message_number t.message)),
-      (state_free t.outcome, (moment_free t.settled, tt)),
-    ),
-  ),
-)
+net_free t gate = gate_free t.gate gate & class_free t.message
+    & free_shown (bytes_or_nothing (message_number t.message)) & outcome_free t.outcome
+    & moment_free t.settled & tt
 
 nine : (o : Option ℕ) (to : List ℕ) (r : ReplyAck) (t : Told)
     → length (answer_fields o to ++ (reply_ack_fields r ++ net_fields t)) ≡ 9
@@ -121,67 +97,23 @@ message_line t call gate =
       count =
           ap (λ (n : ℕ). suc (suc (suc (suc (suc (suc (suc n)))))))
           (nine t.answered to t.reply_ack t);
-      are_fields = are_fields (told_fields t) (
-        free_call t.message.source call,
-        (
-          free_shown to,
-          (
-            free_shown (bytes_or_nothing t.message.id),
-            (
-              free_shown t.message.text,
-              (
-                state_free t.state,
-                (
-                  free_moment t.first,
-                  (
-                    free_moment t.last,
-                    are_append (answer_fields t.answered to)
-                        (reply_ack_fields t.reply_ack ++ net_fields t) (answer_free t.answered to)
-                        (are_append (reply_ack_fields t.reply_ack) (net_fields t)
-                        (reply_free t.reply_ack) (net_free t gate)),
-                  ),
-                ),
-              ),
-            ),
-          ),
-        ),
-      );
+      are_fields = are_fields (told_fields t) (free_call t.message.source call & free_shown to
+          & free_shown (bytes_or_nothing t.message.id) & free_shown t.message.text
+          & outcome_free t.state & free_moment t.first & free_moment t.last
+          & are_append (answer_fields t.answered to) (reply_ack_fields t.reply_ack ++ net_fields t)
+          (answer_free t.answered to)
+          (are_append (reply_ack_fields t.reply_ack) (net_fields t) (reply_free t.reply_ack)
+          (net_free t gate)));
       whole = refl;
     }
 
 -- ---- places
 
-ambiguity : (p : Place) → Free (ambiguity_field (Some p))
-ambiguity (place.Plain lat lon n) = free_decimal n
-ambiguity (place.Base91 y x cst) = tt
-
-compressed : (p : Place) → Free (compressed_field (Some p))
-compressed (place.Plain lat lon n) = free_word (codes "no") refl
-compressed (place.Base91 y x cst) = free_word (codes "yes") refl
-
 placed_free : (stamp : Option Stamp) (p : Place) (symbol : Symbol) (text : List ℕ)
     → Free (stamp_field stamp) → AreFree (placed_fields stamp p symbol text)
-placed_free stamp p symbol text h = (
-  h,
-  (
-    free_degrees (latitude_of p),
-    (
-      free_degrees (longitude_of p),
-      (
-        ambiguity p,
-        (compressed p, (free_shown (symbol.table ∷ symbol.code ∷ []), (free_shown text, tt))),
-      ),
-    ),
-  ),
-)
-
-optional_stamp : (s : Option Stamp) (text : List ℕ) → IsOptionalStamp s text → Free (stamp_field s)
-optional_stamp None text h = tt
-optional_stamp (Some s) text h = free_stamp s h.0
-
-status_stamp : (s : Option Stamp) (text info : List ℕ) → IsStatus s text info → Free (stamp_field s)
-status_stamp None text info h = tt
-status_stamp (Some s) text info h = free_stamp s h.1.stamped
+placed_free stamp p symbol text h = h & free_degrees (latitude_of p) & free_degrees (longitude_of p)
+    & ambiguity_free (Some p) & compressed_free (Some p)
+    & free_shown (symbol.table ∷ symbol.code ∷ []) & free_shown text & tt
 
 -- ---- stations
 
@@ -195,13 +127,8 @@ position_so : (x : Received) (v : Value) (info : List ℕ) → IsName x.receiver
     → AreSo 9 (position_in x v)
 position_so x (position messaging stamp p symbol comment) info n is = record {
   count = refl;
-  free = (
-    free_moment x.moment,
-    (
-      free_name x.receiver n,
-      placed_free stamp p symbol comment (optional_stamp stamp _ is.at_stamp),
-    ),
-  );
+  free = free_moment x.moment & free_name x.receiver n
+      & placed_free stamp p symbol comment (optional_stamp stamp _ is.at_stamp);
 }
 position_so x (object a b c d e f) info n is = record { count = refl; free = no_place }
 position_so x (item a b c d e) info n is = record { count = refl; free = no_place }
@@ -215,10 +142,8 @@ status_so : (x : Received) (v : Value) (info : List ℕ) → IsName x.receiver �
     → AreSo 4 (status_in x v)
 status_so x (status stamp text) info n is = record {
   count = refl;
-  free = (
-    free_moment x.moment,
-    (free_name x.receiver n, (status_stamp stamp text info is, (free_shown text, tt))),
-  );
+  free = free_moment x.moment & free_name x.receiver n & status_stamp stamp text info is
+      & free_shown text & tt;
 }
 status_so x (position a b c d e) info n is = record { count = refl; free = nothing tt }
 status_so x (object a b c d e f) info n is = record { count = refl; free = nothing tt }
@@ -253,36 +178,20 @@ station_line rows x call p s =
           ∙ ap₂ (λ (m n : ℕ). m + n) at.count
           (length-append (status_fields x.status) (activity_fields heard passed)
           ∙ ap (λ (n : ℕ). n + 2) of.count));
-      are_fields = are_fields (station_fields x (activity_fields heard passed)) (
-        free_call x.call call,
-        (
-          free_decimal x.transmissions,
-          are_append (position_fields x.position) status at.free
-              (are_append (status_fields x.status) (activity_fields heard passed) of.free
-              (moment_free heard, (free_decimal passed, tt))),
-        ),
-      );
+      are_fields = are_fields (station_fields x (activity_fields heard passed))
+          (free_call x.call call & free_decimal x.transmissions
+          & are_append (position_fields x.position) status at.free
+          (are_append (status_fields x.status) (activity_fields heard passed) of.free
+          (moment_free heard & free_decimal passed & tt)));
       whole = refl;
     }
 
 -- ---- objects and items
 
-live_free : (live : Bool) → Free (live_text live)
-live_free true = free_word (codes "live") refl
-live_free false = free_word (codes "killed") refl
-
 named_free : (name : List ℕ) (live : Bool) (x : Received) → IsCall (key_of x.frame).source
     → IsName x.receiver → AreFree (named_fields name live x)
-named_free name live x call n = (
-  free_shown name,
-  (
-    live_free live,
-    (
-      free_moment x.moment,
-      (free_name x.receiver n, (free_call (key_of x.frame).source call, tt)),
-    ),
-  ),
-)
+named_free name live x call n = free_shown name & state_free live & free_moment x.moment
+    & free_name x.receiver n & free_call (key_of x.frame).source call & tt
 
 named_line : (kind name : List ℕ) (live : Bool) (x : Received) (stamp : Option Stamp) (p : Place)
     (symbol : Symbol) (text : List ℕ) → Free kind → Free (stamp_field stamp)
@@ -292,11 +201,9 @@ named_line : (kind name : List ℕ) (live : Bool) (x : Received) (stamp : Option
 named_line kind name live x stamp p symbol text k s call n = record {
   fields = kind ∷ named_fields name live x ++ placed_fields stamp p symbol text;
   count = refl;
-  are_fields = are_fields (kind ∷ named_fields name live x ++ placed_fields stamp p symbol text) (
-    k,
-    are_append (named_fields name live x) (placed_fields stamp p symbol text)
-        (named_free name live x call n) (placed_free stamp p symbol text s),
-  );
+  are_fields = are_fields (kind ∷ named_fields name live x ++ placed_fields stamp p symbol text)
+      (k & are_append (named_fields name live x) (placed_fields stamp p symbol text)
+      (named_free name live x call n) (placed_free stamp p symbol text s));
   whole = refl;
 }
 
