@@ -97,13 +97,13 @@ module _ {W : Type 0} (contents : W → Option (List ℕ)) (gap : ℕ) where
 
 -- ---- the text of a fold
 
-module _ {R W : Type 0} (remaining : R → Option (List ℕ)) (contents : W → Option (List ℕ))
-    (limit gap : ℕ) (range : SourceRange) (begun now : List (Counted R)) where
+module _ {R W : Type 0} {remaining : R → Option (List ℕ)} {contents : W → Option (List ℕ)}
+    {limit gap : ℕ} {range : SourceRange} {begun now : List (Counted R)} where
   -- the header was refused
-  pub leaves_header : {E : Type 0} {e : E} (old new : Outlet W) → IsGap gap
+  pub leaves_header : {E : Type 0} {e : E} {old new : Outlet W} → IsGap gap
       → Puts {E = E} contents (Err e) old new (header_text gap)
       → LeavesText remaining contents limit gap range Write begun now old new
-  leaves_header old new is_gap put = record {
+  leaves_header is_gap put = record {
     rows = [];
     last = [];
     begun = inl (refl, refl);
@@ -113,7 +113,7 @@ module _ {R W : Type 0} (remaining : R → Option (List ℕ)) (contents : W → 
         (sym (text_is gap [] 0 refl));
   }
 
-  module _ (old mid new : Outlet W) (header : Puts {E = Unit {0}} contents (Ok tt) old mid
+  module _ {old mid new : Outlet W} (header : Puts {E = Unit {0}} contents (Ok tt) old mid
       (header_text gap)) where
     -- the fold ended within the rows
     pub leaves_rows : (fault : FoldFault) → held_of mid ≡ []
@@ -129,20 +129,20 @@ module _ {R W : Type 0} (remaining : R → Option (List ℕ)) (contents : W → 
     }
 
   -- the last line was put, or not
-  pub text_ends : {E : Type 0} (r : Result (Unit {0}) E) (old mid put new : Outlet W) (count : ℕ)
-      (rows : List Row) → Puts {E = Unit {0}} contents (Ok tt) old mid (header_text gap)
+  pub text_ends : {E : Type 0} {r : Result (Unit {0}) E} {old mid put new : Outlet W} {count : ℕ}
+      {rows : List Row} → Puts {E = Unit {0}} contents (Ok tt) old mid (header_text gap)
       → PutsRows remaining contents limit gap range begun now count mid put rows
       → Puts contents r put new (ended_by_lf (end_line count))
       → Puts contents r old new (written_text (book_of gap rows))
-  text_ends r old mid put new count rows header lines end =
+  text_ends {r = r} {old} {mid} {put} {new} {count} {rows} header lines end =
       whole_text contents gap r old mid put new count rows header lines.puts lines.counted end
 
   -- where the output was refused after all rows, a prefix of the text went out
-  pub leaves_all : {E : Type 0} {e : E} (old new : Outlet W) (rows : List Row)
+  pub leaves_all : {E : Type 0} {e : E} {old new : Outlet W} {rows : List Row}
       → IsFoldedBook remaining limit gap range begun now rows
       → Puts {E = E} contents (Err e) old new (written_text (book_of gap rows))
       → LeavesText remaining contents limit gap range Write begun now old new
-  leaves_all old new rows book put = record {
+  leaves_all {rows = rows} book put = record {
     rows = book.written;
     last = book.last;
     begun = book.begun;
@@ -168,11 +168,11 @@ module _ {R W : Type 0} (remaining : R → Option (List ℕ)) (contents : W → 
     }
 
   -- the whole text was put, but not sent
-  pub leaves_sent : {E : Type 0} {e : E} (first last : Counted W) (rows : List Row)
+  pub leaves_sent : {E : Type 0} {e : E} {first last : Counted W} {rows : List Row}
       → IsFoldedBook remaining limit gap range begun now rows
       → Sends {E = E} contents (Err e) first last (written_text (book_of gap rows))
       → IsLeft remaining contents limit gap range Write begun now first last
-  leaves_sent first last rows book sent = record {
+  leaves_sent {first = first} {last} book sent = record {
     rows = book.written;
     last = book.last;
     begun = book.begun;

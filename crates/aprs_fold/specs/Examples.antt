@@ -1,7 +1,8 @@
--- Ranges, rows and devices that the worked examples are about.
+-- Ranges, rows and devices that the worked examples are about, and what these unfold.
 use Rattle.std.specs.Prelude.{ℕ, List, [], ◌∷◌, ◌++◌, codes, None, Some}
 use Rattle.aprs_io.specs.declared.device.Counted.{Counted}
 use Rattle.aprs_transmissions.specs.Examples.{example_row, hi_frame, n0call, of_other, reception_at, rx1}
+unfoldable pub use Rattle.aprs_transmissions.specs.Key.{key_cmp, key_of}
 use Rattle.aprs_transmissions.specs.Row.{Row}
 use Rattle.aprs_fold.specs.declared.range.SourceRange.{SourceRange}
 

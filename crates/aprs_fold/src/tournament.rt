@@ -110,8 +110,8 @@ fn winner_of(winners: &[usize], number: usize) -> usize
     }
 }
 
-/// Of two streams the one whose row comes before the other's: the first one where neither does. A
-/// stream without a row comes after all others.
+/// Of two streams one whose row doesn't come after the other's. A stream without a row comes after
+/// all others.
 fn earlier<A: Allocator + Copy>(streams: &[RowStream<A>], one: usize, other: usize) -> usize
     requires one { one < length streams.now }
     requires other { other < length streams.now }

@@ -6,7 +6,7 @@ ghost use Rattle.aprs_fold.specs.Inputs.{all_of, book_of_all};
 ghost use Rattle.aprs_fold.specs.Range.{book_of_sources};
 
 /// Several books are one book under a gap in seconds, in whatever order they come.
-#[tactic(auto, unfolding(aprs_transmissions::specs::Key::key_of, aprs_transmissions::specs::Key::key_cmp))]
+#[tactic(auto, unfolding(crate::specs::Examples::key_of, crate::specs::Examples::key_cmp))]
 pub fn books_are_one_book()
     ensures none { book_of_all 30 [] ≡ record { gap = 30; rows = [] } }
     ensures near { book_of_all 30 ((row_at 30000 ∷ []) ∷ [] ∷ (row_at 0 ∷ []) ∷ [])
@@ -20,7 +20,7 @@ pub fn books_are_one_book()
 {}
 
 /// A range has those rows of that book whose sources are within it.
-#[tactic(auto, unfolding(aprs_transmissions::specs::Key::key_of, aprs_transmissions::specs::Key::key_cmp))]
+#[tactic(auto, unfolding(crate::specs::Examples::key_of, crate::specs::Examples::key_cmp))]
 pub fn books_have_ranges()
     ensures both { book_of_sources until_eight 30 ((of_eight ∷ []) ∷ (of_seven ∷ []) ∷ [])
         ≡ record { gap = 30; rows = of_seven ∷ [] } }

@@ -8,7 +8,7 @@ ghost use Rattle.aprs_fold.specs.Range.{all_sources};
 
 /// The first book is the old one, which is folded with the others. So a row that a new receiver
 /// makes, and one that a new row joins, are new. What the old one has taken is not.
-#[tactic(auto, unfolding(aprs_transmissions::specs::Key::key_of, aprs_transmissions::specs::Key::key_cmp))]
+#[tactic(auto, unfolding(crate::specs::Examples::key_of, crate::specs::Examples::key_cmp))]
 pub fn news_are_of_the_fold()
     ensures first { first_of ((row_at 0 ∷ []) ∷ (row_at 1 ∷ []) ∷ []) ≡ row_at 0 ∷ [] }
     ensures none { first_of [] ≡ [] }
@@ -38,7 +38,7 @@ pub fn news_are_of_the_fold()
 {}
 
 /// Of a range those are new whose sources are within it.
-#[tactic(auto, unfolding(aprs_transmissions::specs::Key::key_of, aprs_transmissions::specs::Key::key_cmp))]
+#[tactic(auto, unfolding(crate::specs::Examples::key_of, crate::specs::Examples::key_cmp))]
 pub fn news_have_ranges()
     ensures within { news_of_sources until_eight 30 ([] ∷ (of_seven ∷ of_eight ∷ []) ∷ [])
         ≡ record { gap = 30; rows = of_seven ∷ [] } }

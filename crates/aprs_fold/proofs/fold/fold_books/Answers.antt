@@ -13,24 +13,17 @@ pub returns-in_err-put_text-clause-left : goal.returns-in_err-put_text-clause-le
 returns-in_err-put_text-clause-left g c =
     in_err _ _ c.from_residual.ensures.1
     (subst (λ w. IsLeft g.R.Read.remaining g.W.Write.contents c.args.limit c.args.gap
-    c.args.range.now
-    c.in_err-put_text.field-0.0 c.args.inputs.now c.put_text.new.inputs c.args.w.now w) (search
-    rules) (leaves_text g.R.Read.remaining
-    g.W.Write.contents c.args.limit c.args.gap c.args.range.now c.args.inputs.now
-    c.put_text.new.inputs c.args.w.now
-    c.new-out.result c.put_text.new.out c.new-out.ensures.nothing c.in_err-put_text.field-0.0
-    c.in_err-put_text.ensures.left))
+    c.args.range.now c.in_err-put_text.field-0.0 c.args.inputs.now c.put_text.new.inputs
+    c.args.w.now w) (search rules) (leaves_text c.args.w.now c.new-out.result c.put_text.new.out
+    c.new-out.ensures.nothing c.in_err-put_text.field-0.0 c.in_err-put_text.ensures.left))
 
 pub returns-in_err-flush-clause-left : goal.returns-in_err-flush-clause-left
 returns-in_err-flush-clause-left g c =
     let h = c.in_ok-put_text.ensures.folds in
     in_err _ _ c.from_residual-in_err-flush.ensures.1
     (subst (λ w. IsLeft g.R.Read.remaining g.W.Write.contents c.args.limit c.args.gap
-    c.args.range.now Write
-    c.args.inputs.now c.put_text.new.inputs c.args.w.now w)
-    (search rules) (leaves_sent g.R.Read.remaining g.W.Write.contents c.args.limit
-    c.args.gap c.args.range.now c.args.inputs.now c.put_text.new.inputs c.args.w.now _ _ h.3
-    (Sends-put c.new-out.ensures.nothing h.2 c.in_err-flush.ensures.sent)))
+    c.args.range.now Write c.args.inputs.now c.put_text.new.inputs c.args.w.now w) (search rules)
+    (leaves_sent h.3 (Sends-put c.new-out.ensures.nothing h.2 c.in_err-flush.ensures.sent)))
 
 pub returns-clause-folds : goal.returns-clause-folds
 returns-clause-folds g c =

@@ -1,4 +1,4 @@
-use Rattle.aprs_fold.proofs.Common.{Err, Ok, Puts-is}
+use Rattle.aprs_fold.proofs.Common.{Puts-is}
 use Rattle.aprs_fold.proofs.InErr.{in_err}
 use Rattle.aprs_fold.proofs.Puttings.{Puts-ok}
 use Rattle.aprs_fold.proofs.Streamed.{AreAsked-none}
@@ -8,9 +8,7 @@ use Rattle.aprs_fold.proofs.fold.put_text.Goals as goal
 pub returns-in_err-put_header-clause-left : goal.returns-in_err-put_header-clause-left
 returns-in_err-put_header-clause-left g c =
     in_err _ _ c.from_residual.ensures.1
-    (leaves_header g.R.Read.remaining g.W.Write.contents c.args.limit c.args.gap
-    c.args.range.now c.args.inputs.now c.args.inputs.now c.args.out.now c.put_header.new.out
-    c.requires.gap c.in_err-put_header.ensures.puts)
+    (leaves_header c.requires.gap c.in_err-put_header.ensures.puts)
 
 pub returns-in_err-put_header-clause-asks : goal.returns-in_err-put_header-clause-asks
 returns-in_err-put_header-clause-asks g c =
@@ -19,22 +17,13 @@ returns-in_err-put_header-clause-asks g c =
 pub returns-in_err-count-clause-left : goal.returns-in_err-count-clause-left
 returns-in_err-count-clause-left g c =
     in_err _ _ c.from_residual-in_err-count.ensures.1
-    (leaves_rows g.R.Read.remaining g.W.Write.contents c.args.limit c.args.gap
-    c.args.range.now c.args.inputs.now c.put_rows.new.inputs c.args.out.now c.put_header.new.out
-    c.put_rows.new.out (Puts-ok c.in_ok-put_header.ensures.puts) _ c.in_ok-put_header.ensures.empty
+    (leaves_rows (Puts-ok c.in_ok-put_header.ensures.puts) _ c.in_ok-put_header.ensures.empty
     c.in_err-count.ensures.left)
 
 pub returns-in_err-put-clause-left : goal.returns-in_err-put-clause-left
 returns-in_err-put-clause-left g c =
     let h = c.in_ok-count.ensures.folds in
-    in_err _ _ c.from_residual-in_err-put.ensures.1
-    (leaves_all g.R.Read.remaining g.W.Write.contents c.args.limit c.args.gap
-    c.args.range.now c.args.inputs.now c.put_rows.new.inputs c.args.out.now c.put.new.self _
-    h.2.book
-    (text_ends g.R.Read.remaining g.W.Write.contents c.args.limit c.args.gap
-    c.args.range.now c.args.inputs.now c.put_rows.new.inputs (Err c.in_err-put.field-0.0)
-    c.args.out.now
-    c.put_header.new.out c.put_rows.new.out c.put.new.self c.in_ok-count.count _
+    in_err _ _ c.from_residual-in_err-put.ensures.1 (leaves_all h.2.book (text_ends
     (Puts-ok c.in_ok-put_header.ensures.puts) h.2 (Puts-is c.in_err-put.ensures (cc))))
 
 pub returns-clause-folds : goal.returns-clause-folds
@@ -42,10 +31,7 @@ returns-clause-folds g c =
     let h = c.in_ok-count.ensures.folds in (
       h.0,
       h.1,
-      Puts-ok (text_ends g.R.Read.remaining g.W.Write.contents c.args.limit c.args.gap
-          c.args.range.now c.args.inputs.now c.put_rows.new.inputs (Ok tt) c.args.out.now
-          c.put_header.new.out
-          c.put_rows.new.out c.put.new.self c.in_ok-count.count _
-          (Puts-ok c.in_ok-put_header.ensures.puts) h.2 (Puts-is c.in_ok-put.ensures (cc))),
+      Puts-ok (text_ends (Puts-ok c.in_ok-put_header.ensures.puts) h.2
+          (Puts-is c.in_ok-put.ensures (cc))),
       h.2.book,
     )
