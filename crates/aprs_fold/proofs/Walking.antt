@@ -1,5 +1,5 @@
 -- The rows of several streams are taken and written, until none is left.
-use Rattle.aprs_fold.proofs.Common.{◌≡◌, ◌<◌, ◌+◌, ◌∙◌, ℕ, Bool, true, false, cond, List, [], ◌∷◌, ◌++◌, append-nil, length, length-append, map, Option, Some, None, Ok, Err, inl, inr, refl, sym, ap, subst, arith, All, Puts, Counted, Row, row_cmp, IsBelow, Ordered, Sound, IsSoundRow, IsGap, millis_of, in_left, ◌∈◌}
+use Rattle.aprs_fold.proofs.Common.{◌≡◌, ◌<◌, ◌+◌, ◌∙◌, ℕ, Bool, true, false, cond, List, [], ◌∷◌, ◌++◌, append-nil, length, length-append, map, Option, Some, None, Ok, inl, inr, refl, sym, ap, subst, arith, All, Puts, Counted, Row, row_cmp, IsBelow, Ordered, Sound, IsSoundRow, IsGap, millis_of, in_left, ◌∈◌}
 use Rattle.std.proofs.lemmas.List.Elements.{All-cons, All-nil}
 use Rattle.aprs_io.specs.declared.outlet.Outlet.{Outlet}
 use Rattle.aprs_log.specs.declared.moment_form.MomentForm.TheVariants.{Millis}

@@ -1,4 +1,4 @@
-use Rattle.aprs_fold.proofs.Common.{◌≡◌, ℕ, List, [], ◌++◌, append-nil, refl, sym, subst, arith}
+use Rattle.aprs_fold.proofs.Common.{◌≡◌, [], ◌++◌, append-nil, refl, sym, subst, arith}
 use Rattle.std.specs.Fmt.{digits}
 use Rattle.aprs_bookfile.proofs.CutRows.{lack_an_end}
 use Rattle.aprs_bookfile.specs.declared.version.Version.TheVariants.{Three}
