@@ -191,21 +191,54 @@ function bytesOf(file) {
   }
   return { bytes: new Uint8Array(Buffer.concat(pieces)), isWhole };
 }
+/** The place of an input that has no path. */
+const STANDARD_INPUT = "standard input";
 /**
- * Opens all inputs before any is read, and reads them.
- * @param {string[]} paths
- * @param {(place: string) => End} cannotOpen
+ * Which regular file is open here, by its device and its number there; nothing where it is none, or
+ * where the system doesn't tell.
+ * @param {number} file
  */
-function inputsOf(paths, cannotOpen) {
-  const files = paths.map(path => {
+function regularFileOf(file) {
+  try {
+    const told = fs.fstatSync(file, { bigint: true });
+    return told.isFile() ? `${told.dev} ${told.ino}` : "";
+  } catch {
+    return "";
+  }
+}
+/**
+ * Opens all inputs before any is read, or takes standard input where no path is given. None of them
+ * may be a regular file that the output goes to: what is written would be read again.
+ * @param {string[]} paths
+ * @param {(words: string) => Error} refusal
+ * @param {number} output
+ * @returns {number[]}
+ */
+export function inputsOf(paths, refusal, output = 1) {
+  const taken = regularFileOf(output);
+  const unlessOutput = (/** @type {number} */ file, /** @type {string} */ place) => {
+    if (taken && regularFileOf(file) === taken) throw refusal(`${place}: input is output`);
+    return file;
+  };
+  const opened = (/** @type {string} */ path) => {
     try {
       return fs.openSync(path, "r");
     } catch {
-      throw cannotOpen(path);
+      throw refusal(`${path}: cannot open`);
     }
-  });
-  return (files.length ? files : [0]).map(bytesOf);
+  };
+  if (!paths.length) return [unlessOutput(0, STANDARD_INPUT)];
+  return paths.map(path => unlessOutput(opened(path), path));
 }
+/**
+ * Of several inputs, the paths of empty files that have the name of a book: these are taken for
+ * empty logs.
+ * @param {string[]} paths @param {number[]} files open at these paths
+ */
+export const emptyBooks = (paths, files) => paths.length < 2 ? [] : paths.filter((path, n) => {
+  const told = path.endsWith(".book") && fs.fstatSync(files[n]);
+  return told && told.isFile() && told.size === 0;
+});
 /**
  * Writes all bytes; says whether the output took them.
  * @param {number} file
@@ -272,9 +305,9 @@ function work(program, words, parts) {
   if (words.some(it => it.includes("\ufffd")))
     throw new End("error: invalid UTF-8 was detected in one or more arguments\n", STATUS.words);
   const job = jobOf(program, words, parts);
-  const inputs = inputsOf(job.paths, place =>
-    new End(`${program}: ${place}: cannot open\n`, STATUS.input));
-  const got = gotOf(moduleOf(parts.module), job, inputs);
+  const files = inputsOf(job.paths, it => new End(`${program}: ${it}\n`, STATUS.input));
+  for (const path of emptyBooks(job.paths, files)) say(`${path}: is empty`);
+  const got = gotOf(moduleOf(parts.module), job, files.map(bytesOf));
   if (got.status === STATUS.words) {
     say("bad capture options");
     return STATUS.words;
@@ -282,7 +315,7 @@ function work(program, words, parts) {
   const isTaken = write(1, got.bytes || new Uint8Array());
   if (got.status === STATUS.input) {
     const line = /^[A-Z]/.test(got.fault) ? `line ${got.line}: ` : "";
-    say(`${job.paths[got.input] ?? "standard input"}: ${line}${got.fault}`);
+    say(`${job.paths[got.input] ?? STANDARD_INPUT}: ${line}${got.fault}`);
   } else if (got.status) say("out of memory");
   else if (!isTaken) say("cannot write");
   return got.status ? got.status : isTaken ? 0 : STATUS.output;

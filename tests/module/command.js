@@ -4,6 +4,7 @@
 // usage: node tests/module/command.js COMMAND.mjs COUNT SEED FILE..    the programs are in the PATH
 import { spawnSync } from "node:child_process";
 import fs from "node:fs";
+import os from "node:os";
 import path from "node:path";
 import { changedBy, picksBy } from "./changed.js";
 
@@ -60,12 +61,40 @@ function compare(words, input) {
       JSON.stringify(wanted.stderr.toString().slice(0, 300)));
 }
 
+/** The same where the output goes to a file with this text, which is compared too. */
+function compareInto(words, text, input) {
+  const [wanted, got] = [words, [process.execPath, command, ...words]].map(([program, ...rest]) => {
+    fs.writeFileSync("io.log", text);
+    const output = fs.openSync("io.log", "a"), given = fs.openSync(input, "r");
+    const done = spawnSync(program, rest, { stdio: [given, output, "pipe"] });
+    [output, given].forEach(it => fs.closeSync(it));
+    return [done.status, done.stderr.toString(), fs.readFileSync("io.log", "latin1")];
+  });
+  if (got.join("\n") === wanted.join("\n")) return;
+  faults++;
+  console.error("tests/module/command.js:", JSON.stringify(words), "into a file: it ends so:",
+    got.slice(0, 2), "and not so:", wanted.slice(0, 2));
+}
+
 for (const words of HELPS) compare(["aprsbook", ...words], "");
 for (const program of ["aprsbook-history", "aprsbook-table"])
   for (const word of ["-h", "--help", "-V", "--version"]) compare([program, word], "");
 compare(["aprsbook", "check", path.resolve(".")], "");
 compare(["aprsbook", "merge", files[0], path.resolve(".")], "");
 compare(["aprsbook"], texts[0]);
+// a file that is both input and output, and empty files with the name of a book
+const log = Buffer.from(texts[0]).toString("latin1");
+fs.symlinkSync("io.log", "soft.log");
+fs.writeFileSync("gone.book", "");
+for (const name of ["io.log", "./io.log", "soft.log", "nowhere", "gone.book", files[0]])
+  for (const words of [["check"], ["convert", "log"], ["merge", files[0]], ["widen", "60"]])
+    compareInto(["aprsbook", ...words, name], log, os.devNull);
+for (const words of [["aprsbook", "check"], ["aprsbook", "merge"], ["aprsbook-history"],
+  ["aprsbook-table", "stations"]])
+  for (const input of ["io.log", "soft.log", files[0]]) compareInto(words, log, input);
+for (const names of [["gone.book"], ["gone.book", files[0]], ["gone.book", "gone.book", "nowhere"]])
+  for (const words of [["aprsbook", "merge"], ["aprsbook", "show"], ["aprsbook-table"]])
+    compare([...words, ...names], "");
 const names = ["input-0", "input-1", "input-2"];
 for (let k = 0; k < Number(count); k++) {
   for (const name of names) fs.writeFileSync(name, random(3) ? changed(pick(texts)) : pick(texts));

@@ -1,6 +1,10 @@
 import assert from "node:assert/strict";
+import { spawnSync } from "node:child_process";
+import fs from "node:fs";
+import os from "node:os";
+import path from "node:path";
 import { test } from "node:test";
-import { jobOf } from "../../page/src/main-node.js";
+import { emptyBooks, inputsOf, jobOf } from "../../page/src/main-node.js";
 
 const row = (words, of = {}) => ({ words, options: [], required: [], seconds: false, many: false,
   ...of });
@@ -54,4 +58,57 @@ test("wrong words end with 2, and help and the version with 0", () => {
   // what is wrong comes before help that is asked for behind it
   assert.equal(ended(["widen", "x", "--help"])[0], 2);
   assert.equal(ended(["widen", "--help", "x"])[0], 0);
+});
+
+/** A folder of these files with their texts, which goes away. */
+function folderOf(t, texts) {
+  const folder = fs.mkdtempSync(path.join(os.tmpdir(), "aprsbook-"));
+  t.after(() => fs.rmSync(folder, { recursive: true }));
+  for (const [name, text] of Object.entries(texts))
+    fs.writeFileSync(path.join(folder, name), text);
+  return name => path.join(folder, name);
+}
+/** Opens a file in a way, until the test ends. */
+function openFor(t, path, way) {
+  const file = fs.openSync(path, way);
+  t.after(() => fs.closeSync(file));
+  return file;
+}
+test("an input isn't the file that the output goes to, by whichever name", t => {
+  const at = folderOf(t, { "io.log": "a", "twin.log": "a" });
+  const output = openFor(t, at("io.log"), "a");
+  fs.symlinkSync(at("io.log"), at("soft.log"));
+  fs.linkSync(at("io.log"), at("hard.log"));
+  const open = (names, to = output) => inputsOf(names.map(at), words => new Error(words), to);
+  for (const name of ["io.log", "soft.log", "hard.log"])
+    assert.throws(() => open(["twin.log", name, "none.log"]),
+      new Error(`${at(name)}: input is output`));
+  // the first path that can't serve is named
+  assert.throws(() => open(["none.log", "io.log"]), new Error(`${at("none.log")}: cannot open`));
+  assert.equal(open(["twin.log", "twin.log"]).length, 2);
+  // what is no regular file may be both
+  const none = openFor(t, os.devNull, "r+");
+  assert.equal(inputsOf([os.devNull], words => new Error(words), none).length, 1);
+});
+test("standard input isn't the file that the output goes to either", t => {
+  const at = folderOf(t, { "io.log": "a" }), input = openFor(t, at("io.log"), "r");
+  const output = openFor(t, at("io.log"), "a");
+  const module = new URL("../../page/src/main-node.js", import.meta.url).href;
+  const script = `import { command } from ${JSON.stringify(module)};
+    process.argv = ["node", "command", "check"];
+    command(${JSON.stringify(PARTS)});`;
+  const done = spawnSync(process.execPath, ["--input-type=module", "-e", script],
+    { stdio: [input, output, "pipe"] });
+  assert.deepEqual([done.status, done.stderr.toString(), fs.readFileSync(at("io.log"), "utf8")],
+    [1, "aprsbook: standard input: input is output\n", "a"]);
+});
+test("of several inputs it is said which is empty with the name of a book", t => {
+  const at = folderOf(t, { "gone.book": "", "gone.log": "", "a.book": "x" });
+  fs.symlinkSync(at("gone.book"), at("gone"));
+  const said = names => emptyBooks(names.map(at), names.map(it => openFor(t, at(it), "r")))
+    .map(it => path.basename(it));
+  assert.deepEqual(said(["gone.book", "a.book", "gone.log", "gone", "gone.book"]),
+    ["gone.book", "gone.book"]);
+  // not of one input, which may be meant so
+  assert.deepEqual(said(["gone.book"]), []);
 });
