@@ -3,7 +3,7 @@
 import assert from "node:assert/strict";
 import { test } from "node:test";
 import { chordOf, metresBetween } from "../../page/src/geo/chord.js";
-import { linesOf, passedWords, turnsOf } from "../../page/src/lists/passed.js";
+import { linesOf, passagesOf, passedWords, turnsOf } from "../../page/src/lists/passed.js";
 import { passedOf, readCheckpoints } from "../../page/src/net/checkpoints.js";
 import { atOnce } from "../../page/src/util/tasks.js";
 import { moment, netOfLines, place, row, SETTINGS, settingsFor } from "./tables.js";
@@ -81,4 +81,19 @@ test("who passed stands by number, with a time for each checkpoint and lap", () 
     [[1, "Q1A"], [2, "Q1B"], [3, "Q1C"]]);
   assert.match(passedWords(all, { points, settings: SETTINGS }),
     /^Nobody passed Moor: Q1\w was nearest, \d{4} km away\. ~ marks/);
+});
+test("a table of visits has all checkpoints, and of later laps those that were passed", () => {
+  const of = (points, ...visits) => passagesOf(points, visits.map(([lap, checkpoint]) =>
+    ({ lap, checkpoint }))).map(it => [it.lap, it.checkpoint]);
+  assert.deepEqual(of(2), [[1, 0], [1, 1]]);
+  assert.deepEqual(of(0), []);
+  // by number, and not by letters
+  assert.deepEqual(of(1, [10, 0], [2, 11], [2, 9], [2, 9], [1, 0]),
+    [[1, 0], [2, 9], [2, 11], [10, 0]]);
+});
+test("a visit stands by its lap and its checkpoint", () => {
+  const all = passed([north(0, 0), north(60, 301), north(120, 0)]), [line] =
+    linesOf(all.visits, SETTINGS);
+  assert.deepEqual([...line.by].map(([lap, by]) => [lap, [...by.keys()]]), [[1, [0]], [2, [0]]]);
+  assert.equal(line.by.get(2).get(0), all.visits[1]);
 });

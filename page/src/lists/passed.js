@@ -12,16 +12,30 @@ import { timeText } from "../util/time.js";
 /** @typedef {import("../net/checkpoints.js").Visit} Visit */
 /** @typedef {import("../net/settings.js").Settings} Settings */
 /** @typedef {{ points: Checkpoint[], settings: Settings }} View */
+/** @typedef {{ lap: number, checkpoint: number }} Passage of a checkpoint in a lap */
 /**
- * One who passed, and the visits by lap and checkpoint.
- * @typedef {{ bib: string, name: string, key: string, by: Map<string, Visit> }} Line
+ * One who passed, and the visits by lap and then by checkpoint.
+ * @typedef {{ bib: string, name: string, key: string, by: Map<number, Map<number, Visit>> }} Line
  */
 
 /** A moment that is between two beacons has a mark, as `aprs-net passed` has it. */
 const cameText = (/** @type {Visit} */ it, /** @type {Settings} */ settings) =>
   (it.isHeard ? "" : "~") + timeText(it.came, settings);
-const keyOf = (/** @type {{ lap: number, checkpoint: number }} */ it) =>
-  `${String(it.lap).padStart(4, "0")} ${String(it.checkpoint).padStart(4, "0")}`;
+/** @param {Line} line @param {Passage} passage */
+const visitOf = (line, { lap, checkpoint }) => line.by.get(lap)?.get(checkpoint);
+/**
+ * What a table of visits has columns of, lap by lap: each of so many checkpoints in the first lap,
+ * and of other laps those that somebody passed.
+ * @param {number} points @param {Passage[]} visits
+ * @returns {Passage[]}
+ */
+export function passagesOf(points, visits) {
+  const laps = new Map([[1, new Set(Array(points).keys())]]);
+  for (const { lap, checkpoint } of visits)
+    laps.set(lap, (laps.get(lap) || new Set()).add(checkpoint));
+  return [...laps].sort(([a], [b]) => a - b).flatMap(([lap, passed]) =>
+    [...passed].sort((a, b) => a - b).map(checkpoint => ({ lap, checkpoint })));
+}
 /**
  * Who passed, each with the visits, those with a number first.
  * @param {Visit[]} visits @param {Settings} settings
@@ -33,7 +47,7 @@ export function linesOf(visits, { names }) {
     const bib = kind === "station" ? names.of(name)?.bib || "" : "";
     const line = lines.get(key) || { bib, name: label, key, by: new Map() };
     lines.set(key, line);
-    line.by.set(keyOf(it), it);
+    line.by.set(it.lap, (line.by.get(it.lap) || new Map()).set(it.checkpoint, it));
   }
   const collator = new Intl.Collator("en", { numeric: true });
   return [...lines.values()].sort((a, b) => Number(!a.bib) - Number(!b.bib) ||
@@ -45,25 +59,23 @@ export function linesOf(visits, { names }) {
  * @param {(key: string) => unknown} onPick
  */
 export function passedList(box, visits, { points, settings }, onPick) {
-  const columns = [...new Set([...points.map((_, checkpoint) => keyOf({ lap: 1, checkpoint })),
-    ...visits.map(keyOf)])].sort();
+  const passages = passagesOf(points.length, visits);
   const hasLaps = visits.some(it => it.lap > 1);
   const row = (/** @type {Line} */ it) => make("tr", { data: { key: it.key } },
     cell("num", letters(printable(it.bib))), make("th", { scope: "row" },
       make("button", { type: "button", className: "pick", title: "show on the map",
         onclick: () => onPick(it.key) }, callIn(it.name))),
-    ...columns.map(key => {
-      const visit = it.by.get(key);
+    ...passages.map(passage => {
+      const visit = visitOf(it, passage);
       return cell("num time", visit ? cameText(visit, settings) : "");
     }));
-  const titleOf = (/** @type {string} */ key) => {
-    const [lap, checkpoint] = key.split(" ").map(Number);
-    return printable(points[checkpoint].name) + (hasLaps ? ` ${lap}` : "");
-  };
+  const titleOf = (/** @type {Passage} */ { lap, checkpoint }) =>
+    printable(points[checkpoint].name) + (hasLaps ? ` ${lap}` : "");
   return new List(box, { id: "passed", caption: "passing times", row, keyOf: it => it.key,
     none: "nobody passed", columns: [{ title: "no.", value: it => it.bib },
-      { title: "name", value: it => it.name }, ...columns.map(key => ({ title: titleOf(key),
-        number: true, value: (/** @type {Line} */ it) => it.by.get(key)?.came ?? Infinity }))] });
+      { title: "name", value: it => it.name }, ...passages.map(passage => ({
+        title: titleOf(passage), number: true,
+        value: (/** @type {Line} */ it) => visitOf(it, passage)?.came ?? Infinity }))] });
 }
 /**
  * Each visit, by checkpoint and moment.
