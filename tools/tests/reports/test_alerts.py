@@ -92,10 +92,12 @@ def test_what_came_of_it_is_by_any_answer() -> None:
 def test_a_moment_that_moves_a_little_is_the_same() -> None:
     """As where a wrong clock, whose median moves while a net runs, is allowed for."""
     alert = alerts.Alert("silent", "Q1A", at("18:00:30"), "")
-    assert alert.is_since_about(at("18:00:01")) and alert.is_since_about(at("18:01:29"))
-    assert not alert.is_since_about(at("18:01:30")) and not alert.is_since_about("never")
-    assert not alerts.Alert("silent", "Q1A", "never", "").is_since_about(at("18:00"))
-    assert not alerts.Alert("emergency", "Q1A", at("18:00"), "").is_since_about(at("18:00"))
+    assert alert.is_since(at("18:00:01")) and alert.is_since(at("18:01:29"))
+    assert not alert.is_since(at("18:01:30")) and not alert.is_since("never")
+    never = alerts.Alert("silent", "Q1A", "never", "")
+    assert never.is_since("never") and not never.is_since(at("18:00"))
+    emergency = alerts.Alert("emergency", "Q1A", at("18:00"), "")
+    assert emergency.is_since(at("18:00")) and not emergency.is_since(at("18:00:01"))
 
 
 def said(clock: str, says: str) -> Row:
@@ -265,6 +267,26 @@ def test_another_file_is_no_state(net: Programs, tmp_path: pathlib.Path) -> None
     (tmp_path / "notes").write_text("mine")
     net.run(*WORDS, "--state", "notes", "logs", status=2)
     assert (tmp_path / "notes").read_text() == "mine"
+
+
+def test_a_state_says_of_what_and_since_when(net: Programs) -> None:
+    net.run(*WORDS, "--state", "told", "logs")
+    state = json.loads((net.folder / "told").read_text())
+    assert state == [["emergency Q1A-9", at("18:40")], ["silent Q1A", at("18:00")],
+                     ["unanswered Q1A Q1B 1", at("18:00")]]
+    # one less is told again, and that alone
+    (net.folder / "told").write_text(json.dumps(state[1:]))
+    assert net.run(*WORDS, "--state", "told", "logs").startswith("emergency: ")
+    assert json.loads((net.folder / "told").read_text()) == state
+
+
+def test_what_an_older_version_told_is_told_again(net: Programs) -> None:
+    (net.folder / "told").write_text(json.dumps([f"silent Q1A {at('18:00')}"]))
+    assert len(net.run(*WORDS, "--state", "told", "logs").splitlines()) == 3
+    for state in ([["silent Q1A"]], [["silent Q1A", 5]], [5], {"silent Q1A": at("18:00")}):
+        (net.folder / "told").write_text(json.dumps(state))
+        net.run(*WORDS, "--state", "told", "logs", status=2)
+        assert json.loads((net.folder / "told").read_text()) == state
 
 
 def test_a_pipe_is_no_state(net: Programs) -> None:

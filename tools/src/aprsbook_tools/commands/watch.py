@@ -19,6 +19,7 @@ from aprsbook_tools.system import atomic
 from aprsbook_tools.system.clock import CLOCK
 
 PATIENCE = 60  # seconds that the user's command may take
+Told = Set[Tuple[str, str]]  # what alerts were about, and since when
 
 DESCRIPTION = """\
 Tells, once each, of the logs LOGS/DAY/NAME.log: who of those expected (or of all that were heard)
@@ -141,34 +142,42 @@ def fault_of_command(alert: Alert, command: str) -> str:
     return f"{command}: ended with status {done.returncode}" if done.returncode else ""
 
 
-def read_state(path: Optional[str]) -> Set[str]:
-    """What was told before."""
+def is_told(it: object) -> bool:
+    """Whether something of a state is what an alert was about, and since when."""
+    return isinstance(it, list) and len(it) == 2 and all(isinstance(text, str) for text in it)
+
+
+def read_state(path: Optional[str]) -> Told:
+    """What was told before. What an older version kept, a list of texts, is told again."""
     if path is None or not os.path.exists(path):
         return set()
     told = None
     if os.path.isfile(path):  # who opens a pipe waits for ever
         with contextlib.suppress(ValueError), open(path, encoding="utf-8") as file:
             told = json.load(file)
-    if not isinstance(told, list) or not all(isinstance(it, str) for it in told):
+    if not isinstance(told, list) or not all(isinstance(it, str) or is_told(it) for it in told):
         raise Fault(f"{path} isn't what was told before, and isn't replaced", ExitStatus.ARGUMENTS)
-    return set(told)
+    return {(it[0], it[1]) for it in told if not isinstance(it, str)}
 
 
-def turn(args: argparse.Namespace, told: Set[str]) -> Tuple[Set[str], bool]:
+def turn(args: argparse.Namespace, told: Told) -> Tuple[Told, bool]:
     """Tells what is new: what is told now, and whether all could be. What is over and comes again
     is told again."""
-    now, went_well = set(), True
-    since = dict(it.rsplit(" ", 1) for it in told if " " in it)
+    now: Told = set()
+    went_well = True
+    moments: Dict[str, List[str]] = {}
+    for about, since in told:
+        moments.setdefault(about, []).append(since)
     for alert in alerts_of(args):
-        is_told = alert.key in told or alert.is_since_about(since.get(alert.about, ""))
-        if is_told or tell(alert, args.command):
-            now.add(alert.key)
+        before = moments.get(alert.about, [])
+        if any(map(alert.is_since, before)) or tell(alert, args.command):
+            now.add((alert.about, alert.since))
         else:
             went_well = False
     return now, went_well
 
 
-def turn_of_state(args: argparse.Namespace, told: Set[str]) -> bool:
+def turn_of_state(args: argparse.Namespace, told: Told) -> bool:
     """A turn of those runs that share what was told; whether all could be told. `told` is what this
     run told, also where that can't be written."""
     atomic.check(args.state, [args.logs])
@@ -197,7 +206,7 @@ def run(args: argparse.Namespace) -> int:
     check(args)
     args.gap = arguments.gap_of(args)
     read_state(args.state)  # refuses at once what is none
-    told: Set[str] = set()
+    told: Told = set()
     if args.every is None:
         went_well = turn_of_state(args, told) if args.state else turn(args, told)[1]
         return 0 if went_well else ExitStatus.INPUT

@@ -14,8 +14,8 @@ COLUMNS = ("first", "last", "source", "latitude", "longitude", "says", "text")  
 
 @dataclass(frozen=True)
 class Alert:
-    """Something to tell: its kind, whom it is about, since when, and in words. Two alerts of one
-    `key` are the same."""
+    """Something to tell: its kind, whom it is about, since when, and in words. Two alerts `about`
+    one thing since one moment are the same."""
 
     kind: str
     call: str
@@ -26,15 +26,11 @@ class Alert:
     def about(self) -> str:
         return f"{self.kind} {self.call}"
 
-    @property
-    def key(self) -> str:
-        return f"{self.about} {self.since}"
-
-    def is_since_about(self, since: str) -> bool:
-        """Whether it is the one that began at another moment, less than a minute apart: where a
-        wrong clock is allowed for, moments move a little. An emergency is told rather twice."""
-        if self.kind == EMERGENCY:
-            return False
+    def is_since(self, since: str) -> bool:
+        """Whether it is the one that began at a moment, or less than a minute apart: where a wrong
+        clock is allowed for, moments move a little. An emergency is told rather twice."""
+        if self.kind == EMERGENCY or self.since == since:
+            return self.since == since
         try:
             apart = moments.milliseconds(self.since) - moments.milliseconds(since)
         except ValueError:  # never
