@@ -29,7 +29,11 @@ export function beginFollowing() {
   byId("follow-label").hidden = false;
   const box = byId("follow");
   box.value = chosen.get("logs") || "";
-  box.addEventListener("change", () => { choose("logs", box.value); follow(); });
+  box.addEventListener("change", () => {
+    choose("logs", box.value);
+    if (!box.value) endFollowing();
+    follow();
+  });
   setInterval(follow, pace.each * 1000);
   setInterval(() => page.follows && tick(), 1000);
   return box.value ? follow() : Promise.resolve();
@@ -45,37 +49,46 @@ export const followed = new Map();
 const missed = new Map();
 let following = false;
 
-/** Asks for all logs of the list once. */
-async function follow() {
+/** Nothing is followed any more, and nothing is said of it. */
+function endFollowing() {
+  page.follows = false;
+  Object.assign(alive, { answered: 0, away: 0, refused: "" });
+  byId("stale").textContent = "";
+}
+/**
+ * Asks for all logs of the list once; for those of another one that was chosen meanwhile too.
+ * @returns {Promise<void>}
+ */
+export async function follow() {
   const list = byId("follow").value;
-  page.follows = list !== "";
-  if (!list) {
-    alive.answered = 0;
-    byId("stale").textContent = "";
-  }
+  if (list) page.follows = true;
   if (!list || following || told.now) return;
   following = true;
   try {
-    const base = new URL(list, location.href), names = await namesOf(base);
-    const logs = addressesOf(names, base), strange = names.find(it => !addressOf(it, base));
-    const refused = strange ? `${list}: no log of this server: ${printable(strange)}` : "";
-    Object.assign(alive, { away: 0, refused });
-    await followAll(logs);
+    await followList(list);
   } catch (fault) {
     const why = reasonOf(fault);
     if (why) alive.refused = `${list}: ${sinceOf(list, why)}`;
     else alive.away ||= Date.now();
   }
   following = false;
+  const isOther = byId("follow").value !== list;
+  // a stream that came meanwhile tells of all logs
+  if (isOther || told.now) Object.assign(alive, { away: 0, refused: "" });
+  if (isOther) return follow();
   tick();
 }
-/** @param {URL} base */
-async function namesOf(base) {
-  const asked = Date.now(), { answer, bytes } = await askFor(base.href, pace.limit);
+/** @param {string} list */
+async function followList(list) {
+  const base = new URL(list, location.href), asked = Date.now();
+  const { answer, bytes } = await askFor(base.href, pace.limit);
   heard(answer, asked);
   const names = namesIn(bytes);
-  missed.delete(byId("follow").value);
-  return names;
+  missed.delete(list);
+  const strange = names.find(it => !addressOf(it, base));
+  const refused = strange ? `${list}: no log of this server: ${printable(strange)}` : "";
+  Object.assign(alive, { away: 0, refused });
+  await followAll(addressesOf(names, base));
 }
 /** @param {Map<string, string>} logs names by addresses */
 async function followAll(logs) {

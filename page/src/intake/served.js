@@ -190,7 +190,8 @@ export async function beginServed() {
     },
     alive(isThere) {
       told.now = isThere;
-      if (isThere) Object.assign(alive, { answered: Date.now(), away: 0 });
+      // what was refused before it told of all logs is so no more
+      if (isThere) Object.assign(alive, { answered: Date.now(), away: 0, refused: "" });
       else alive.away ||= Date.now();
       if (isThere) page.journal?.sendAll();
       drawPanel();
