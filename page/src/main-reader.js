@@ -21,4 +21,5 @@ beginReading().then(async can => {
   beginRereading();
 });
 // for tests
-globalThis.aprsfiles = Object.freeze({ files, made: madeNow, run, eventPage, add, pace, limits });
+globalThis.aprsfiles = Object.freeze({ files, made: madeNow, run, add, pace, limits,
+  eventPage: (/** @type {Record<string, string>} */ tiles) => eventPage(madeNow(), tiles) });

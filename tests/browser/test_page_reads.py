@@ -66,9 +66,8 @@ def checked(path: pathlib.Path) -> str:
 
 
 def event_of(page: Browser) -> str:
-    """The page of an event that the page makes, but for who repeated whom, which it alone counts by
-    all receptions, a while after it was drawn."""
-    return str(page.js("(delete aprsbook.data.repeats, aprsfiles.eventPage())"))
+    """The page of an event that the page makes."""
+    return str(page.js("aprsfiles.eventPage()"))
 
 
 def same_page(page: Browser, own: bytes) -> bool:
@@ -138,8 +137,8 @@ def test_saves(page: Browser, folder: pathlib.Path) -> None:
                         ("history.txt", ["aprsbook-history"]), ("event.html", EVENT_PAGE)):
         button = {"net.book": "book", "net.txt": "listing (text)", "history.txt": "history (text)",
                   "event.html": "page of the event (HTML)"}[name]
-        page.js("(delete aprsbook.data.repeats, [...document.querySelectorAll('#saves button')]"
-                f".find(it => it.textContent === {button!r}).click())")
+        page.js("[...document.querySelectorAll('#saves button')]"
+                f".find(it => it.textContent === {button!r}).click()")
         own = subprocess.run([*words, *EVENING], stdout=subprocess.PIPE, check=True).stdout
         if name == "event.html":
             is_(same_page(page, own), True)

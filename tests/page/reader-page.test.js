@@ -1,7 +1,8 @@
 import assert from "node:assert/strict";
 import { test } from "node:test";
 import zlib from "node:zlib";
-import { line } from "./stand.js";
+import { answering, bytesOf, line } from "./stand.js";
+import { place, table } from "./tables.js";
 import { filesOf } from "../../page/src/intake/folders.js";
 import { byId, enter, open, skip, textsOf, until } from "./window.js";
 
@@ -113,6 +114,34 @@ test("the page of the event has what is drawn, and its title", { skip }, async (
     ["Fell <race>", 4, { "1/0/0": "cA==" }, 0, 30, 30]);
   assert.ok(!data.includes("<"));
 });
+test("the page of the event says who repeated whom, also where it is saved at once", { skip },
+  async () => {
+    const repeated = table([place(0, "Q1A", 1, 2, { via: "Q1DIG*" })]), asked = [];
+    const answer = ({ command, options }) => {
+      if (command === "rows" && options === 1) asked.push(command);
+      return command === "rows" && options === 1 && { status: 0, bytes: bytesOf(repeated) };
+    };
+    await answering({ answer }, async () => {
+      await aprsfiles.add([fileOf("hill2.log", logOf("18:09:00", "HILL"))]);
+      takeAway("x.pdf");
+      await until(() => aprsbook.data.notes.length === 0 && !byId("event").disabled);
+      const page = await aprsfiles.eventPage(), [, , data] = page.split("|");
+      assert.equal(JSON.parse(data).repeats, "Q1DIG\tQ1A\t1\n");
+      const told = "Counted by all copies that were heard.";
+      await until(() => byId("repeated-told").textContent === told);
+      assert.equal(byId("repeated-told").textContent, told);
+      // it was counted for that page, and isn't counted again
+      const { length } = asked;
+      await aprsfiles.eventPage();
+      assert.equal(await aprsfiles.made().countRepeats(), "Q1DIG\tQ1A\t1\n");
+      assert.equal(asked.length, length);
+    });
+    // behind the tables, where the page of the tool has it too
+    const keys = Object.keys(JSON.parse((await aprsfiles.eventPage()).split("|")[2]));
+    assert.deepEqual(keys.slice(keys.indexOf("rows")).slice(0, 3), ["rows", "messages", "repeats"]);
+    takeAway("hill2.log");
+    await aprsfiles.add([fileOf("x.pdf", "%PDF-1.7")]);
+  });
 test("a gap that is none is said, and files go when they are taken away", { skip }, async () => {
   enter("gap", "0");
   await until(() => byId("status").textContent.includes("gap"));
@@ -166,6 +195,10 @@ test("a log whose handle the browser gave is read again as it grows", { skip }, 
   await reread();
   assert.equal(verdicts()["coast.log"], "heard 2 passed 0");
   assert.equal(aprsbook.page.follows, true);
+  // also where no list of logs is followed
+  const { follow } = await import("../../page/src/intake/follow.js");
+  await follow();
+  assert.equal(aprsbook.page.follows, true);
   // one that is gone stays as it was read
   handle.getFile = () => Promise.reject(new Error("NotFoundError"));
   await reread();
@@ -193,4 +226,28 @@ test("logs beside the page are followed as a list names them, those of this serv
     await new Promise(done => setTimeout(done, 50));
     globalThis.fetch = fetch;
     assert.deepEqual([asked.length, aprsbook.page.follows], [length, false]);
+  });
+test("a list is asked for once at a time, and the one that was chosen meanwhile after it", { skip },
+  async () => {
+    const { fetch } = globalThis, asked = [];
+    let answer = () => {};
+    const isAnswered = new Promise(done => { answer = done; });
+    globalThis.fetch = async url => {
+      asked.push(new URL(url).pathname);
+      await isAnswered;
+      return new Response("", { status: 503 });
+    };
+    enter("follow", "slow.txt");
+    await until(() => asked.length);
+    for (const list of ["slow.txt", "next.txt"]) enter("follow", list);
+    assert.deepEqual(asked, ["/slow.txt"]);
+    answer();
+    await until(() => aprsbook.alive.refused.startsWith("next.txt"));
+    assert.deepEqual(asked, ["/slow.txt", "/next.txt"]);
+    assert.match(aprsbook.alive.refused, /^next.txt: the server answers 503, since 2\d{3}-/);
+    assert.match(byId("stale").textContent, /^next.txt: the server answers 503/);
+    // nothing is said of a list once there is none
+    enter("follow", "");
+    assert.deepEqual([aprsbook.alive.refused, byId("stale").textContent], ["", ""]);
+    globalThis.fetch = fetch;
   });

@@ -36,7 +36,13 @@ test("each line of logs is there once, in order, with a moment that no other is 
 test("what stands behind a moment stays byte by byte, whatever spelling the moment has", () => {
   const log = bytesOf("2024-06-21T18:00:01Z A c1 c2\n2024-06-21T18:00:01.500Z B C1\n");
   assert.equal(textOf(apartLog([log])),
-    "1970-01-01T00:00:00.000Z B C1\n1970-01-01T00:00:02.000Z A c1 c2\n");
+    "1970-01-01T00:00:00.000Z A c1 c2\n1970-01-01T00:00:02.000Z B C1\n");
+});
+test("a reception is one in both spellings of its moment, and another frame is another", () => {
+  const logs = ["2024-06-21T18:00:01Z A c1\n2024-06-21T18:00:01Z A c2\n",
+    "2024-06-21T18:00:01.000Z A c1\n2024-06-21T18:00:01.001Z A c1\n"].map(bytesOf);
+  assert.deepEqual(textOf(apartLog(logs)).split("\n").map(it => it.slice(24)),
+    [" A c1", " A c2", " A c1", ""]);
 });
 test("receptions are counted of logs alone that aren't too large, and as long as it is wanted",
   async () => {
@@ -49,14 +55,15 @@ test("receptions are counted of logs alone that aren't too large, and as long as
     await answering({ answer }, async () => {
       assert.equal(await repeatsBy([log], () => true), "Q1D\tQ1A\t1\n");
       assert.deepEqual(asked, [["rows", 1]]);
-      assert.equal(await repeatsBy([log], () => false), null);
-      assert.equal(await repeatsBy([log, { ...log, kind: "book" }], () => true), null);
-      assert.equal(await repeatsBy([{ ...log, taken: new Blob(["x"]) }], () => true), null);
+      assert.equal(await repeatsBy([log], () => false), undefined);
+      assert.equal(await repeatsBy([log, { ...log, kind: "book" }], () => true), undefined);
+      assert.equal(await repeatsBy([{ ...log, taken: new Blob(["x"]) }], () => true),
+        undefined);
       const { alone } = limits;
       limits.alone = 5;
-      assert.equal(await repeatsBy([log], () => true), null);
+      assert.equal(await repeatsBy([log], () => true), undefined);
       limits.alone = alone;
     });
     await answering({ answer: () => ({ status: 1, bytes: bytesOf("") }) }, async () =>
-      assert.equal(await repeatsBy([log], () => true), null));
+      assert.equal(await repeatsBy([log], () => true), undefined));
   });

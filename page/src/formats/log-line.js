@@ -41,3 +41,6 @@ export function* linesOf(log) {
 }
 /** @param {LogLine} line */
 export const hasName = line => line.nameEnd > line.nameBegin;
+/** A moment of a line with its milliseconds, also where it is in whole seconds. */
+export const longMoment = (/** @type {string} */ moment) =>
+  moment.length === SHORT ? `${moment.slice(0, -1)}.000Z` : moment;

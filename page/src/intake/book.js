@@ -15,6 +15,7 @@ import { aMoment } from "../worker/pool.js";
 
 /** @typedef {import("./intake.js").Given} Given */
 /** @typedef {import("./runs.js").Made} Made */
+/** @typedef {import("./runs.js").Texts} Texts */
 /**
  * The texts of the files as they stand, once they are made.
  * @type {Made | null}
@@ -39,7 +40,7 @@ const optionsOf = () => ({ title: byId("name").value || "APRS net", gap: numberI
   notes: [...files.flatMap(notesOf), ...shiftNotes(drawnShifts)] });
 /**
  * Draws these texts, with the options as they stand.
- * @param {Made} texts
+ * @param {Texts & { repeats?: string }} texts
  */
 function draw({ rows, messages, read, shifts: by, repeats }) {
   drawnShifts = by;
@@ -85,11 +86,11 @@ export async function work() {
     if (mine !== turn) return;
     await draw(texts);
     if (mine !== turn) return;
-    made = texts;
+    made = { ...texts, countRepeats: counterOf(good, mine) };
     enableSaves(true);
     tellProgress(1);
     const { rows: { length } } = shownNow().all;
-    countRepeats(good, mine);
+    countSoon(made);
     told = `${count(length, "transmission")} of ${count(good.length, "file")}, ` +
       `in ${((performance.now() - begin) / 1000).toFixed(1)} s`;
     say(told);
@@ -105,18 +106,30 @@ export async function work() {
 const wait = { timer: /** @type {ReturnType<typeof setTimeout> | undefined} */ (undefined),
   still: 500, goesOn: 30000 };
 /**
- * Counts who repeated whom by all receptions, once nothing else is to be done.
+ * What counts who repeated whom by all receptions of the files of a book, once, and draws it;
+ * nothing is counted where there are other files, or receptions aren't known.
  * @param {Given[]} good
  * @param {number} mine
  */
-function countRepeats(good, mine) {
-  clearTimeout(wait.timer);
-  wait.timer = setTimeout(async () => {
-    const repeats = await repeatsBy(good, () => mine === turn).catch(() => null);
-    if (mine !== turn || repeats === null || !made) return;
+function counterOf(good, mine) {
+  const count = async () => {
+    const repeats = await repeatsBy(good, () => mine === turn).catch(() => undefined);
+    if (mine !== turn || repeats === undefined || !made) return undefined;
     made.repeats = shownNow().data.repeats = repeats;
     drawRepeats();
-  }, page.follows ? wait.goesOn : wait.still);
+    return repeats;
+  };
+  /** @type {Promise<string | undefined> | undefined} */
+  let counted;
+  return () => counted ||= count();
+}
+/**
+ * Counts who repeated whom once nothing else is to be done.
+ * @param {Made} of
+ */
+function countSoon(of) {
+  clearTimeout(wait.timer);
+  wait.timer = setTimeout(of.countRepeats, page.follows ? wait.goesOn : wait.still);
 }
 /** The book is what it was. */
 export function tellAgain() {

@@ -6,7 +6,7 @@ import { widgets } from "../app/state.js";
 import { numberIn } from "./file-table.js";
 import { placeOf } from "./intake.js";
 import { say } from "./progress.js";
-import { dataOf, eventPieces, readShell, tilesWithin } from "./save-event-page.js";
+import { dataWithRepeats, eventPieces, readShell, tilesWithin } from "./save-event-page.js";
 import { byId, make, save } from "../util/dom.js";
 import { gathered, inSlices } from "../util/tasks.js";
 import { count, messageOf } from "../util/text.js";
@@ -49,7 +49,8 @@ async function saveRun(made, command, name) {
  * @param {() => Made | null} madeNow
  */
 async function saveEvent(made, madeNow) {
-  const most = byId("most").validity.valid ? +byId("most").value : 0, data = dataOf();
+  const most = byId("most").validity.valid ? +byId("most").value : 0;
+  const data = await dataWithRepeats(made);
   const { tiles, leftOut } = await tilesWithin(most), many = Object.keys(tiles).length;
   const shell = await readShell();
   const pieces = await inSlices(gathered(eventPieces(tiles, data, shell)), () => true);

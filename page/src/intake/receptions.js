@@ -3,7 +3,7 @@
 // a frame is known of each copy alone. The n-th line has a moment two seconds after the one before
 // it, under a gap of one second, so that no two are copies of one transmission.
 
-import { hasName, linesOf } from "../formats/log-line.js";
+import { hasName, linesOf, longMoment } from "../formats/log-line.js";
 import { textIn } from "../net/interning.js";
 import { repeatsIn } from "../net/repeats.js";
 import { tableOf } from "../net/table-lines.js";
@@ -15,29 +15,33 @@ import { limits, sizeOfAll } from "../worker/sources.js";
 /** Seconds of the gap, and from one line to the next. */
 const GAP = 1, APART = 2;
 /**
- * The lines of logs, each once, as a log in which no two are near each other.
+ * The lines of logs, each once in whichever spelling of its moment, as a log in which no two are
+ * near each other.
  * @param {Uint8Array[]} logs
  */
 export function apartLog(logs) {
   /** @type {Map<string, string>} what stands behind the moment of a line, by its text */
   const all = new Map();
   for (const log of logs)
-    for (const it of linesOf(log))
-      if (hasName(it)) all.set(textIn(log, it.begin, it.end), textIn(log, it.momentEnd, it.end));
+    for (const it of linesOf(log)) {
+      if (!hasName(it)) continue;
+      const rest = textIn(log, it.momentEnd, it.end);
+      all.set(longMoment(textIn(log, it.begin, it.momentEnd)) + rest, rest);
+    }
   return tableOf([...all.keys()].sort().map((line, n) =>
     `${isoText(APART * n)}${all.get(line)}\n`).join(""));
 }
 /**
- * Who repeated whom by all receptions of these files; null where one of them is no log, or they are
- * too large for that.
+ * Who repeated whom by all receptions of these files; undefined where one of them is no log, they
+ * are too large for that, or it isn't wanted any more.
  * @param {{ kind: string, taken: import("../worker/sources.js").Source | null }[]} files
  * @param {() => boolean} isWanted
  */
 export async function repeatsBy(files, isWanted) {
   const logs = files.flatMap(it =>
     it.kind !== "book" && it.taken instanceof Uint8Array ? [it.taken] : []);
-  if (logs.length < files.length || sizeOfAll(logs) > limits.alone) return null;
+  if (logs.length < files.length || sizeOfAll(logs) > limits.alone) return undefined;
   const apart = apartLog(logs);
   const got = await run("rows", GAP, [apart], { lent: [apart] });
-  return got.status ? null : (await inSlices(repeatsIn(got.bytes), isWanted)) ?? null;
+  return got.status ? undefined : inSlices(repeatsIn(got.bytes), isWanted);
 }

@@ -13,11 +13,13 @@ import { limits, sizeOfAll } from "../worker/sources.js";
 /** @typedef {"merge" | "rows" | "messages"} Command */
 /** @typedef {Partial<Record<Command, Promise<Got | null>>>} Begun */
 /**
- * A book, its tables, and the columns of its rows; how the clocks of its receivers were put right;
- * and who repeated whom, once that is counted.
+ * A book, its tables, and the columns of its rows; how the clocks of its receivers were put right.
  * @typedef {{ book: Uint8Array, rows: Uint8Array, messages: Uint8Array,
- *   read: import("../net/table-reader.js").Read | null, shifts: Map<string, number>,
- *   repeats?: string }} Made
+ *   read: import("../net/table-reader.js").Read | null, shifts: Map<string, number> }} Texts
+ */
+/**
+ * These, and who repeated whom: once that is counted, and what counts it.
+ * @typedef {Texts & { repeats?: string, countRepeats: () => Promise<string | undefined> }} Made
  */
 /** A run of all files that was refused: for which of them, or -1 where it is for none. */
 export class Refused extends Error {
@@ -138,7 +140,7 @@ const sourcesOf = good => new Map(good.map(it => [it, it.taken || it.bytes]));
  * @param {Given[]} good
  * @param {number} gap
  * @param {(share: number) => void} tellShare
- * @returns {Promise<Made>}
+ * @returns {Promise<Texts>}
  */
 export async function textsOf(good, gap, tellShare) {
   const begun = begunOf(good, gap);

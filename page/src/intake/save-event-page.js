@@ -88,6 +88,19 @@ export function* eventPieces(tiles, data, shell) {
 /** The page of an event that is in this one, with marks for what is filled. */
 export const readShell = async () =>
   new TextDecoder().decode(await unpacked(contents.event));
-/** The page of the event as a text. */
-export const eventPage = async (/** @type {Record<string, string>} */ tiles = {}) =>
-  [...eventPieces(tiles, dataOf(), await readShell())].join("");
+/**
+ * The data of the page as they are now, with who repeated whom, which may not be counted yet.
+ * @param {import("./runs.js").Made | null} made
+ */
+export async function dataWithRepeats(made) {
+  const data = dataOf();
+  data.repeats ??= await made?.countRepeats();
+  return data;
+}
+/**
+ * The page of the event as a text.
+ * @param {import("./runs.js").Made | null} made
+ * @param {Record<string, string>} tiles
+ */
+export const eventPage = async (made, tiles = {}) =>
+  [...eventPieces(tiles, await dataWithRepeats(made), await readShell())].join("");

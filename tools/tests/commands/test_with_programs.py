@@ -2,6 +2,7 @@
 import json
 import pathlib
 import random
+import re
 import sqlite3
 from typing import Any, Dict, Iterable, List, Tuple, Type, TypeVar
 
@@ -59,6 +60,14 @@ def table_of(kind: Type[T], *inputs: str, given: bytes = b"") -> List[T]:
     """The table itself."""
     text = run("aprsbook-table", table.WORDS[kind], *inputs, given=given).decode()
     return [*table.read(kind, text.splitlines())]
+
+
+def test_who_repeated_whom_is_the_same_in_the_page_and_of_keeper() -> None:
+    keeper = picked(told("keeper", "--part", "repeats", *EVENING), "digipeater", "from", "frames")
+    page = tried("page", "--coast", "rough", *EVENING).stdout.decode()
+    [data] = re.findall('<script type="application/json" id="data">(.*?)</script>', page, re.S)
+    assert json.loads(data)["repeats"] == "".join("\t".join(it) + "\n" for it in keeper)
+    assert len(keeper) > 1
 
 
 def test_an_ack_of_an_earlier_message_is_none_of_a_later_one() -> None:

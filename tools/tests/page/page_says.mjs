@@ -10,6 +10,7 @@ const { allOf, netOf } = await page("net/net");
 const { messagesOf } = await page("net/message-table");
 const { tableOf } = await page("net/table-lines");
 const { columnsOf } = await page("net/table-reader");
+const { repeatsIn } = await page("net/repeats");
 const { expectedOf, Names, readRoster } = await page("net/roster");
 const { Rows } = await page("net/rows");
 
@@ -30,6 +31,7 @@ function saidOf({ rows, messages, roster }) {
   said.expected = expectedOf(list, net.things).map(it => [it.call, it.name, it.group, it.bib,
     it.heardAt === -Infinity ? "never" : new Date(Math.round(it.heardAt * 1000)).toISOString()]);
   said.faults = faults.map(it => it.line);
+  said.repeats = ended(repeatsIn(table));
   said.named = saved("messages (CSV)", new Names(list));
   const count = n => read.heard.filter(it => it === n).length;
   const heard = read.lists.map((names, n) => ({ names, heard: count(n) }));

@@ -16,12 +16,12 @@ import pytest
 from conftest import started, wait_for
 from hypothesis import given
 from hypothesis import strategies as st
-from standing import Programs, place
+from standing import Programs, place, row
 
 import aprsbook_tools
-from aprsbook_tools.books import net_logs
+from aprsbook_tools.books import merged_inputs, net_logs
 from aprsbook_tools.errors import Fault
-from aprsbook_tools.page import event_page
+from aprsbook_tools.page import event_page, repeats
 from aprsbook_tools.system import programs
 
 DATA = re.compile('<script type="application/json" id="data">(.*?)</script>', re.S)
@@ -154,6 +154,39 @@ def test_what_is_no_map_is_refused(programs: Programs, tmp_path: pathlib.Path, t
     assert (tmp_path / "page.html").read_text() == "before"
 
 
+def test_a_page_of_logs_says_who_repeated_whom(programs: Programs, tmp_path: pathlib.Path) -> None:
+    """By all receptions, as keeper has it; a book has one copy of each transmission."""
+    programs.say(row("status", "18:00", "Q1A", via=("Q1DIG*", "Q1TOP*")),
+                 row("status", "18:01", "Q1B"))
+    (tmp_path / "a.log.gz").write_bytes(gzip.compress(LINE.encode()))
+    (tmp_path / "a.book").write_text("APRSBOOK 3 30\nEND 0\n")
+    data = data_of(programs.run("page", "a.log.gz", "net.log"))
+    assert data["repeats"] == "Q1DIG\tQ1A\t1\nQ1TOP\tQ1DIG\t1\n"
+    assert [*data][-3:] == ["rows", "messages", "repeats"]
+    assert "repeats" not in data_of(programs.run("page", "net.log", "a.book"))
+
+
+def test_large_logs_have_no_repeats(
+    programs: Programs, tmp_path: pathlib.Path, monkeypatch: pytest.MonkeyPatch
+) -> None:
+    programs.say(row("status", "18:00", "Q1A", via=("Q1DIG*",)))
+    (tmp_path / "net.log").write_text(LINE)
+    for most, is_there in (len(LINE), True), (len(LINE) - 1, False):
+        monkeypatch.setattr(repeats, "MOST", most)
+        assert ("repeats" in data_of(programs.run("page", "net.log"))) is is_there
+        assert (repeats.of_log(LINE.encode()) is not None) is is_there
+
+
+def test_a_log_that_grows_is_of_one_state(tmp_path: pathlib.Path) -> None:
+    log = tmp_path / "a.log"
+    log.write_text(LINE)
+    for most, is_copied in (len(LINE), True), (len(LINE) - 1, False):
+        with merged_inputs.plain([str(log)], most) as [file]:
+            assert (file != str(log)) is is_copied
+            assert pathlib.Path(file).read_text() == LINE
+        assert log.exists()
+
+
 @pytest.mark.parametrize("output", ["net.log", "other.log", "old", "net.book", "names", "course"])
 def test_an_input_or_a_log_is_never_replaced(
     programs: Programs, tmp_path: pathlib.Path, output: str
@@ -213,6 +246,12 @@ def test_a_book_and_a_page_are_made(net: Programs) -> None:
         net, "index.html"
     )
     assert sorted(os.listdir("out")) == ["index.html", "net.book"] and net.said == ""
+
+
+def test_the_page_of_a_net_says_who_repeated_whom(net: Programs) -> None:
+    net.say(row("status", "18:00", "Q1A", via=("Q1DIG*",)))
+    net.run(*NOW)
+    assert data_of(made(net, "index.html"))["repeats"] == "Q1DIG\tQ1A\t1\n"
 
 
 def test_neither_is_written_again_where_nothing_has_changed(net: Programs) -> None:

@@ -18,6 +18,7 @@ from aprsbook_tools import table_output
 from aprsbook_tools.commands.clocks import spans_of
 from aprsbook_tools.commands.ics_309 import in_order, table_of
 from aprsbook_tools.commands.roster import last_of
+from aprsbook_tools.page import repeats
 from aprsbook_tools.reports import table
 from aprsbook_tools.reports.last_heard import COLUMNS, heard_of
 from aprsbook_tools.reports.roster import Roster, read_roster
@@ -81,6 +82,8 @@ HEADS = [
     ",callsign,name",
     "number callsign",
 ]
+PATHS = ["", "", "WIDE1-1", "WIDE2*", "Q1DIG*", "Q1DIG*,WIDE2-1", "Q1DIG*,WIDE1*,Q1TOP*,WIDE2-1",
+         "RELAY*,TRACE3-2*", "Q1TOP*,Q1DIG*"]
 EASTS = [-180.0, -179.5, -3.5, 0.0, 3.25, 179.5, 180.0]
 
 
@@ -128,7 +131,9 @@ def row_of(some: random.Random) -> Row:
         it = place(time, source, *spot, kind=kind, says=says, **said)
     ears = some.choice([("RX1",), ("RX2",), ("RX1", "RX2")])
     later = at(time)[:20] + f"{some.randrange(1000):03}Z"
-    return dataclasses.replace(it, last=later, receivers=ears, receiver=ears[-1])
+    path = tuple(filter(None, some.choice(PATHS).split(",")))
+    return dataclasses.replace(it, last=later, receivers=ears, receiver=ears[-1], via=path,
+                               gate=some.choice(["", "", "", "Q1GATE"]))
 
 
 def roster_of(some: random.Random) -> str:
@@ -275,6 +280,12 @@ def test_roster(both: List[Any]) -> None:
             told.append([it.call, it.name, it.group, it.bib, last.order[0] if last else "never"])
         assert told == said["expected"], case
         assert [it.line for it in roster.faults] == said["faults"], case
+
+
+def test_who_repeated_whom(both: List[Any]) -> None:
+    for case, said in both:
+        assert repeats.text_of(case.rows) == said["repeats"], case
+    assert any(said["repeats"] for _, said in both) or both[0][0].log
 
 
 def test_clocks(both: List[Any], tmp_path: pathlib.Path) -> None:

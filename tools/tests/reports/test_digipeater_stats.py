@@ -47,7 +47,7 @@ def seen(clock: str, source: str, north: float, via: str = "") -> Reception:
     ],
 )
 def test_who_repeated_a_frame(via: str, wanted: List[str]) -> None:
-    assert digipeater_stats.digipeaters_of(heard("18:00", "Q1A", via)) == wanted
+    assert digipeater_stats.digipeaters_of(heard("18:00", "Q1A", via).row) == wanted
 
 
 def test_hops() -> None:
@@ -79,7 +79,8 @@ def test_who_repeats_whom() -> None:
         heard("18:01", "Q1A", "Q1DIG*", "RX2"),
         heard("18:02", "Q1A"),
     ]
-    assert digipeater_stats.repeats_of(some) == [("Q1DIG", "Q1A", 2), ("Q1TOP", "Q1DIG", 1)]
+    rows = [it.row for it in some]
+    assert digipeater_stats.repeats_of(rows) == [("Q1DIG", "Q1A", 2), ("Q1TOP", "Q1DIG", 1)]
 
 
 def late(*frames: "tuple[float, str]", receiver: str = "RX1") -> "list[list[object]]":
@@ -161,7 +162,8 @@ def test_each_line_has_a_moment_of_its_own(
     """A book has one row for the copies of a frame: it doesn't say who was heard direct."""
     given = []
 
-    def of(kind: type, inputs: List[str], gap: int, log: bytes) -> "list[table.Row]":
+    def of(kind: type, inputs: List[str], gap: int, log: bytes, names: "tuple[str, ...]"
+           ) -> "list[table.Row]":
         given.append((gap, [log_file.read_line(line) for line in log.splitlines()]))
         return [
             row("status", "18:00", f"Q1A-{line[20]}", first=line[:24], last=line[:24])

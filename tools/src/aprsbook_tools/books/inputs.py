@@ -203,11 +203,12 @@ def is_pipe(path: str) -> bool:
         return False
 
 
-def plain(items: Iterable[Input], folder: str) -> Iterator[str]:
+def plain(items: Iterable[Input], folder: str, is_copied: bool = False) -> Iterator[str]:
     """The paths of inputs as programs read them: compressed ones are unpacked into a folder, as is
-    what comes of a pipe, and where a path isn't UTF-8 there is a link to it."""
+    what comes of a pipe, and where a path isn't UTF-8 there is a link to it. Where all are copied,
+    so is what can be read."""
     for number, it in enumerate(items):
-        if it.packing or is_pipe(it.path):
+        if it.packing or is_pipe(it.path) or (is_copied and not it.fault):
             path = os.path.join(folder, f"{number:06}.unpacked")
             unpack(it, path)
             yield path

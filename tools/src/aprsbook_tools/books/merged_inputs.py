@@ -30,9 +30,10 @@ def spooled(paths: Sequence[str]) -> Iterator[List[str]]:
 
 
 @contextlib.contextmanager
-def plain(paths: Sequence[str]) -> Iterator[List[str]]:
+def plain(paths: Sequence[str], most_copied: int = 0) -> Iterator[List[str]]:
     """The files that programs read for these: those below folders too, and compressed ones
-    unpacked. Where there are no paths, or `-` alone, a program reads standard input."""
+    unpacked. Where there are no paths, or `-` alone, a program reads standard input. Inputs of no
+    more bytes than `most_copied` are copied: whoever reads them twice reads one state."""
     if list(paths) in ([], ["-"]):
         streams.say_what_is_awaited()
         yield []
@@ -48,7 +49,8 @@ def plain(paths: Sequence[str]) -> Iterator[List[str]]:
             stderr.warn_once(f"{it.path}: {it.fault}: left out")  # a link that leads nowhere
             found.remove(it)
         # what is named is read, also a pipe, as the shell's <(..)
-        files = list(inputs.plain(found, folder))
+        is_copied = sum(it.size for it in found) <= most_copied
+        files = list(inputs.plain(found, folder, is_copied))
         for it, file in zip(found, files):
             if it.is_book and it.packing and not os.path.getsize(file):
                 raise Fault(f"{it.path} is empty, which no book is: put back a copy")
@@ -68,8 +70,15 @@ def write_book(
     """Writes the book of logs and books, or of what is given where there are none."""
     nothing: ContextManager[List[str]] = contextlib.nullcontext([])
     with plain(paths) if given is None else nothing as files:
-        command = programs.with_gap(["aprsbook", "merge"], gap, files)
-        programs.write_book(into, *command, given=given)
+        write_book_of(into, files, gap, given)
+
+
+def write_book_of(
+    into: IO[bytes], files: Sequence[str], gap: Optional[int], given: programs.Given = None
+) -> None:
+    """The same of files that programs read."""
+    command = programs.with_gap(["aprsbook", "merge"], gap, files)
+    programs.write_book(into, *command, given=given)
     into.flush()
 
 
@@ -80,4 +89,14 @@ def book(paths: Sequence[str], gap: Optional[int], given: programs.Given = None)
         path = os.path.join(folder, "net.book")
         with open(path, "wb") as file:
             write_book(file, paths, gap, given)
+        yield path
+
+
+@contextlib.contextmanager
+def book_of(files: Sequence[str], gap: Optional[int]) -> Iterator[str]:
+    """The same of files that programs read."""
+    with tempfile.TemporaryDirectory(prefix="aprs-net-") as folder:
+        path = os.path.join(folder, "net.book")
+        with open(path, "wb") as file:
+            write_book_of(file, files, gap)
         yield path

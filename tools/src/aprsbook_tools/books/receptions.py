@@ -6,7 +6,7 @@ one second: no two are copies of one transmission then. The row's moment says wh
 """
 import io
 from dataclasses import dataclass
-from typing import List, Sequence
+from typing import Iterator, List, Sequence
 
 from aprsbook_tools import stderr
 from aprsbook_tools.books import inputs, one_name
@@ -42,11 +42,8 @@ def logs_of(paths: Sequence[str]) -> List[str]:
     return [it.path for it in found]
 
 
-def lines_of(path: str) -> List[Line]:
-    """The lines of a log, also of a compressed one, all of which are whole but for the last."""
-    octets, fault = octets_of(path)
-    if fault:
-        raise Fault(f"{path}: {fault}")
+def lines_in(octets: bytes, path: str) -> List[Line]:
+    """The lines of a log, all of which are whole but for the last."""
     if octets.startswith(book_file.BEGIN):
         raise Fault(f"{path} is a book, which has one copy of each transmission: name logs")
     found = []
@@ -59,12 +56,26 @@ def lines_of(path: str) -> List[Line]:
     return found
 
 
+def lines_of(path: str) -> List[Line]:
+    """The same of a file, also of a compressed one."""
+    octets, fault = octets_of(path)
+    if fault:
+        raise Fault(f"{path}: {fault}")
+    return lines_in(octets, path)
+
+
+def rows_of(lines: Sequence[Line], names: Sequence[str] = ()) -> Iterator[Row]:
+    """The row of each line that holds a frame, or these columns of it. Its moment says which line
+    that is."""
+    log = b"".join(
+        line._replace(moment=APART * number).write() for number, line in enumerate(lines)
+    )
+    return table.of(Row, [], 1, log, names)
+
+
 def receptions_of(paths: Sequence[str]) -> List[Reception]:
     """The receptions of logs, by moment. What two files have, as a log and its compressed copy, is
     one reception."""
     lines = sorted({line for path in logs_of(paths) for line in lines_of(path)})
-    log = b"".join(
-        line._replace(moment=APART * number).write() for number, line in enumerate(lines)
-    )
-    rows = {moments.milliseconds(row.first) // APART: row for row in table.of(Row, [], 1, log)}
+    rows = {moments.milliseconds(row.first) // APART: row for row in rows_of(lines)}
     return [Reception(lines[number].moment, rows[number]) for number in sorted(rows)]

@@ -7,7 +7,7 @@ from typing import List
 from aprsbook_tools import arguments, stderr
 from aprsbook_tools.books import inputs, merged_inputs, net_logs
 from aprsbook_tools.errors import ExitStatus, Fault, words_of
-from aprsbook_tools.page import basemap, options
+from aprsbook_tools.page import basemap, options, repeats
 from aprsbook_tools.system import atomic
 from aprsbook_tools.system.clock import CLOCK
 
@@ -67,7 +67,8 @@ def make(args: argparse.Namespace) -> bool:
     with atomic.writing(place, read, is_named=False) as new:
         merged_inputs.write_book(new.file, [], args.gap, found.log)
     below = functools.partial(basemap.of, args)
-    with options.page_of(place, args.gap, said, below, found.notes) as pieces, \
+    repeated = repeats.of_log(found.log)
+    with options.page_of(place, args.gap, said, below, found.notes, repeated) as pieces, \
             atomic.writing(text, read, is_named=False) as new:
         new.file.writelines(pieces)
     return not found.is_faulty

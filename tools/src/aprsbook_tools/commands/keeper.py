@@ -53,7 +53,8 @@ def hours(it: Asked) -> List[List[Cell]]:
 
 
 def repeats(it: Asked) -> List[List[Cell]]:
-    return [[*of] for of in digipeater_stats.repeats_of(it.receptions)]
+    rows = (of.row for of in it.receptions)
+    return [[*of] for of in digipeater_stats.repeats_of(rows)]
 
 
 def delays(it: Asked) -> List[List[Cell]]:

@@ -5,7 +5,7 @@ from typing import Any, Dict
 
 from aprsbook_tools import arguments, table_output
 from aprsbook_tools.books import merged_inputs
-from aprsbook_tools.page import basemap, options
+from aprsbook_tools.page import basemap, options, repeats
 from aprsbook_tools.page.options import brought, files_of, page_of
 from aprsbook_tools.reports.roster import read_roster, text_of
 from aprsbook_tools.serving import desk_options
@@ -49,7 +49,10 @@ def run(args: argparse.Namespace) -> int:
     said, gap = brought(args), table_output.gap_of(args)
     if args.desks is not None:
         said = with_desks(said, desk_options.read(args.desks))
-    with merged_inputs.book(args.inputs, gap) as book, \
-            page_of(book, gap, said, functools.partial(basemap.of, args)) as pieces:
+    below = functools.partial(basemap.of, args)
+    with merged_inputs.spooled(args.inputs) as named, \
+            merged_inputs.plain(named, repeats.MOST) as files, \
+            merged_inputs.book_of(files, gap) as book, \
+            page_of(book, gap, said, below, repeats=repeats.of_files(files)) as pieces:
         streams.put(args.output, pieces, [*args.inputs, *files_of(args)])
     return 0

@@ -98,7 +98,7 @@ def data_pieces(data: Dict[str, Any], tables: Mapping[str, IO[bytes]]) -> Iterat
 
 def pieces(page: str, data: Dict[str, Any], tables: Mapping[str, IO[bytes]]) -> Iterator[str]:
     """A page with these data: title, live, silent, gap, maps, roster, notes; of a book the tables
-    rows and messages. One that is live may ask its server for more."""
+    rows and messages, and of logs repeats. One that is live may ask its server for more."""
     values = {
         "TITLE": html.escape(data["title"]),
         "CONNECT": "; connect-src 'self'" if data["live"] else "",

@@ -1,6 +1,7 @@
 """What a page is told beside its inputs, and the page of it."""
 import argparse
 import contextlib
+import io
 import itertools
 import os
 from typing import Any, Callable, Dict, Iterable, Iterator, List, Optional, Sequence
@@ -76,15 +77,18 @@ def page_of(
     said: Dict[str, Any],
     below: Callable[[Iterable[str]], Dict[str, Any]],
     notes: Sequence[str] = (),
+    repeats: Optional[str] = None,
 ) -> Iterator[Iterator[bytes]]:
     """The page of a book in pieces, however large it is; what lies below its marks is made of the
-    lines of the table of rows."""
+    lines of the table of rows. It has who repeated whom by all receptions where that is known."""
     # in the order of a page that the page saves
     data: Dict[str, Any] = {"title": said["title"], "gap": gap or book_file.GAP, **said}
     data["notes"] = [*said["notes"], *notes]
     with event_page.tables_of(book, gap) as tables:
         tables["rows"].seek(0)
         data.update(below(itertools.chain.from_iterable(programs.lines_in(tables["rows"]))))
+        if repeats is not None:
+            tables["repeats"] = io.BytesIO(repeats.encode())
         pieces = event_page.pieces(event_page.template(), data, tables)
         yield (it.encode("utf-8", "surrogateescape") for it in pieces)
 

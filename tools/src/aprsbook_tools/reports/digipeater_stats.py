@@ -4,11 +4,12 @@ import re
 from collections import Counter, defaultdict
 from dataclasses import dataclass
 from statistics import median
-from typing import Dict, List, Optional, Sequence, Tuple
+from typing import Dict, Iterable, List, Optional, Sequence, Tuple
 
 from aprsbook_tools.books.receptions import Reception
 from aprsbook_tools.geo import Spot, bearing, metres_between
 from aprsbook_tools.reports.clock_offsets import transmission
+from aprsbook_tools.reports.table import Row
 from aprsbook_tools.reports.tracks import place_of
 
 # what stands for any digipeater, and names none
@@ -28,26 +29,32 @@ class Heard:
     spot: Optional[Spot]
 
 
-def digipeaters_of(reception: Reception) -> List[str]:
+def digipeaters_of(row: Row) -> List[str]:
     """Who repeated a frame, in order; what names no digipeater only where nothing else is there."""
-    used = [it[:-1] for it in reception.row.via if it.endswith("*")]
+    used = [it[:-1] for it in row.via if it.endswith("*")]
     named = [it for it in used if not ALIAS.fullmatch(it)]
     return named or used[-1:]
 
 
-def is_own(reception: Reception) -> bool:
+def is_own(row: Row) -> bool:
     """Whether the path of the row is that of the frame, and not of one that it passes on."""
-    return not reception.row.gate
+    return not row.gate
 
 
-def is_direct(reception: Reception) -> bool:
+def is_direct(row: Row) -> bool:
     """Whether a receiver heard the station itself."""
-    return is_own(reception) and not digipeaters_of(reception)
+    return is_own(row) and not digipeaters_of(row)
+
+
+def direct_in(receptions: Sequence[Reception]) -> List[Reception]:
+    """Those in which a receiver heard the station itself."""
+    return [it for it in receptions if is_direct(it.row)]
 
 
 def hops_of(receptions: Sequence[Reception]) -> List[Tuple[str, int, int]]:
     """Receiver, hops, frames."""
-    counts = Counter((it.row.receiver, len(digipeaters_of(it))) for it in receptions if is_own(it))
+    counts = Counter((row.receiver, len(digipeaters_of(row)))
+                     for row in (it.row for it in receptions) if is_own(row))
     return [(*key, n) for key, n in sorted(counts.items())]
 
 
@@ -57,18 +64,18 @@ def hours_of(receptions: Sequence[Reception]) -> List[Tuple[str, int, int, int]]
     for it in receptions:
         count = frames[it.row.receiver, it.moment // HOUR * HOUR]
         count[0] += 1
-        count[1] += is_direct(it)
+        count[1] += is_direct(it.row)
     return [(*key, n, direct) for key, (n, direct) in sorted(frames.items())]
 
 
-def repeats_of(receptions: Sequence[Reception]) -> List[Tuple[str, str, int]]:
-    """Digipeater, whom it repeated (a station, or the digipeater before it), frames: those that one
-    receiver heard, of the receiver that heard most."""
+def repeats_of(rows: Iterable[Row]) -> List[Tuple[str, str, int]]:
+    """Digipeater, whom it repeated (a station, or the digipeater before it), frames: of rows, one
+    for each reception, those that one receiver heard, of the receiver that heard most."""
     counts: Dict[Tuple[str, str], "Counter[str]"] = defaultdict(Counter)
-    for it in filter(is_own, receptions):
-        path = [it.row.source, *digipeaters_of(it)]
+    for row in filter(is_own, rows):
+        path = [row.source, *digipeaters_of(row)]
         for before, digipeater in zip(path, path[1:]):
-            counts[digipeater, before][it.row.receiver] += 1
+            counts[digipeater, before][row.receiver] += 1
     return [(*key, max(of.values())) for key, of in sorted(counts.items())]
 
 
@@ -90,8 +97,8 @@ def delays_of(receptions: Sequence[Reception], gap: int) -> List[Delayed]:
     copies: Dict[Tuple[object, ...], Dict[str, int]] = defaultdict(dict)  # the last by each
     frames: "Counter[Tuple[str, str]]" = Counter()
     late: Dict[Tuple[str, str], List[int]] = defaultdict(list)
-    for it in filter(is_own, receptions):
-        by = [*digipeaters_of(it), ""][-1 if is_direct(it) else -2]
+    for it in (it for it in receptions if is_own(it.row)):
+        by = [*digipeaters_of(it.row), ""][-1 if is_direct(it.row) else -2]
         last = copies[(it.row.receiver, *transmission(it.row))]
         before = max((moment for who, moment in last.items() if who != by), default=it.moment)
         frames[it.row.receiver, by] += 1
@@ -114,9 +121,9 @@ def last_spots(receptions: Sequence[Reception]) -> Dict[str, Spot]:
 
 def direct_of(receptions: Sequence[Reception]) -> List[Heard]:
     """The stations that each receiver heard direct, with the last place that was heard so."""
-    frames = Counter((it.row.receiver, it.row.source) for it in receptions if is_own(it))
+    frames = Counter((it.row.receiver, it.row.source) for it in receptions if is_own(it.row))
     groups: Dict[Tuple[str, str], List[Reception]] = defaultdict(list)
-    for it in filter(is_direct, receptions):
+    for it in direct_in(receptions):
         groups[it.row.receiver, it.row.source].append(it)
     return [
         Heard(*key, len(own), frames[key], own[-1].moment, last_spots(own).get(key[1]))
@@ -138,7 +145,7 @@ class Far:
 def farthest_of(receptions: Sequence[Reception], at: Dict[str, Spot]) -> List[Far]:
     """The farthest place of each station that a receiver, whose place is known, heard direct."""
     most: Dict[Tuple[str, str], Far] = {}
-    for it in filter(is_direct, receptions):
+    for it in direct_in(receptions):
         place, here = place_of(it.row), at.get(it.row.receiver)
         if here is None or place is None or place.kind != "station" or not place.is_exact:
             continue

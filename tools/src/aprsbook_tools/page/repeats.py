@@ -1,0 +1,50 @@
+"""Who repeated whom, as the page of an event has it and `aprs-net keeper` counts it: by all
+receptions of logs, since a book has one copy of each transmission."""
+import os
+from typing import Iterable, List, Optional, Sequence
+
+from aprsbook_tools.books.receptions import lines_in, rows_of
+from aprsbook_tools.formats import book_file
+from aprsbook_tools.formats.log_file import Line
+from aprsbook_tools.reports import digipeater_stats
+from aprsbook_tools.reports.table import Row
+
+COLUMNS = ("source", "via", "gate", "receiver")  # that are read
+MOST = 1 << 26  # bytes of logs: the page that reads logs counts of no more either
+
+
+def text_of(rows: Iterable[Row]) -> str:
+    """A line for each digipeater and whom it repeated: both, and how many frames."""
+    return "".join("\t".join(map(str, it)) + "\n" for it in digipeater_stats.repeats_of(rows))
+
+
+def of_lines(lines: Iterable[Line]) -> str:
+    """The same of the lines of logs, in which each counts once."""
+    return text_of(rows_of(sorted(set(lines)), COLUMNS))
+
+
+def of_log(octets: bytes) -> Optional[str]:
+    """The same of a log whose lines are whole; None where it is too large for that."""
+    return of_lines(lines_in(octets, "the log")) if len(octets) <= MOST else None
+
+
+def is_log(path: str) -> bool:
+    """Whether a file that was merged is a log, and no book."""
+    with open(path, "rb") as file:
+        return not file.read(len(book_file.BEGIN)).startswith(book_file.BEGIN)
+
+
+def are_small(paths: Sequence[str]) -> bool:
+    return sum(map(os.path.getsize, paths)) <= MOST
+
+
+def of_files(paths: Sequence[str]) -> Optional[str]:
+    """The same of files that were merged; None where one of them is no log, or they are too
+    large."""
+    if not are_small(paths) or not all(map(is_log, paths)):
+        return None
+    lines: List[Line] = []
+    for path in paths:
+        with open(path, "rb") as file:
+            lines += lines_in(file.read(), path)
+    return of_lines(lines)
