@@ -4,14 +4,17 @@
 usage: tests/page/mutations.py [--lines 60] [--seed 20261129] [--list] [--browser] [MODULE..]
 
 A comparison, a constant, an operator or a truth is turned, or a call is left out. Each change is
-tried in a copy, with the types (tsc) and with the tests that import the module, be it by others;
-with --browser those of Chromium too, where these pass. At most 5 of 60 may pass; each that does is
-explained in SURVIVORS below, by module and text of its line. The status is 1 if more do. With
-MODULE the lines are of these alone. Needs node, tsc and, for what is drawn, node-jsdom.
+tried in a copy, with the tests that import the module, be it by others, the nearest ones first, and
+with the types (tsc); with --browser in Chromium too, where these pass. At most 5 of 60 may pass;
+each that does is explained in SURVIVORS below, by module and text of its line. The status is 1 if
+more do. With MODULE the lines are of these alone. Needs node, tsc and, for what is drawn,
+node-jsdom.
 """
 import argparse
 import concurrent.futures
+import contextlib
 import pathlib
+import queue
 import random
 import re
 import shutil
@@ -24,7 +27,13 @@ REPOSITORY = pathlib.Path(__file__).resolve().parents[2]
 SOURCES = REPOSITORY / "page/src"
 TESTS = REPOSITORY / "tests/page"
 MOST = 5
-SECONDS = 300  # of the tests of a change: one that doesn't end is seen
+SECONDS = 600  # of the tests of a change: one that doesn't end is seen
+NEAR = 3  # the nearest tests, each by itself
+# the tests in Chromium, each with the rooms of modules that it is of first of all
+BROWSER: Dict[str, str] = {
+    "layers": "map", "event_in_chromium": "app lists ics309 net formats geo util",
+    "page_alone": "intake worker", "served": "desks"}
+PYTEST = ["/usr/bin/python3", "-m", "pytest", "-qx", "-p", "no:cacheprovider", "-k", "Chromium"]
 IMPORT = re.compile(r'from "(\.[^"]*)"|^import "(\.[^"]*)"|await import\("(\.[^"]*)"\)', re.M)
 # what is turned into what, in the order in which it is looked for
 TURNS: List[Tuple[str, str]] = [
@@ -128,33 +137,66 @@ def passes(command: List[str], folder: pathlib.Path) -> bool:
     return done.returncode == 0
 
 
-def survives(change: Change, browser: bool) -> bool:
-    """Whether all tests pass with a change."""
-    with tempfile.TemporaryDirectory() as name:
-        copy = pathlib.Path(name)
-        for it in "page", "tests", "examples", "completions", "build", "tools/src":
-            ignored = shutil.ignore_patterns("__pycache__")
-            shutil.copytree(REPOSITORY / it, copy / it, ignore=ignored)
-        shutil.copy(REPOSITORY / "package.json", copy)
+def browser_tests(module: str) -> List[str]:
+    """The files of tests in Chromium, those first that are of such a module."""
+    room = module.split("/")[0]
+    names = sorted(BROWSER, key=lambda it: room not in BROWSER[it].split())
+    return [f"tests/browser/test_{it}.py" for it in names]
+
+
+def trials(module: str, browser: bool) -> Iterator[Tuple[str, List[str]]]:
+    """What may see a change, each with its name and its command: the cheapest first."""
+    tests = [str(it.relative_to(REPOSITORY)) for it in tests_of(module)]
+    for it in tests[:NEAR]:
+        yield it, ["node", "--test", it]
+    if tests[NEAR:]:
+        yield "other tests", ["node", "--test", *tests[NEAR:]]
+    yield "types", ["tsc", "-p", "page"]
+    for it in browser_tests(module) if browser else []:
+        yield it, [*PYTEST, it]
+
+
+class Copies:
+    """Copies of what tests need, one for each that tries changes."""
+
+    def __init__(self, folder: pathlib.Path, count: int) -> None:
+        self.free: "queue.Queue[pathlib.Path]" = queue.Queue()
+        ignored = shutil.ignore_patterns("__pycache__")
+        for number in range(count):
+            copy = folder / str(number)
+            for it in "page", "tests", "examples", "completions", "build", "tools/src":
+                shutil.copytree(REPOSITORY / it, copy / it, ignore=ignored)
+            shutil.copy(REPOSITORY / "package.json", copy)
+            self.free.put(copy)
+
+    @contextlib.contextmanager
+    def changed(self, change: Change) -> Iterator[pathlib.Path]:
+        """A copy with a change, which is undone."""
+        copy = self.free.get()
         path = copy / "page/src" / change.module
-        lines = path.read_text(encoding="utf-8").split("\n")
+        text = path.read_text(encoding="utf-8")
+        lines = text.split("\n")
         lines[change.line] = change.after
         path.write_text("\n".join(lines), encoding="utf-8")
-        for test in tests_of(change.module):
-            if not passes(["node", "--test", str(test.relative_to(REPOSITORY))], copy):
-                return False
-        if not passes(["tsc", "-p", "page"], copy):
-            return False
-        tried = [f"tests/browser/test_{it}.py"
-                 for it in ("layers", "event_in_chromium", "page_alone")]
-        pytest = ["/usr/bin/python3", "-m", "pytest", "-q", "-x", "-p", "no:cacheprovider"]
-        return not browser or passes([*pytest, *tried], copy)
+        try:
+            yield copy
+        finally:
+            path.write_text(text, encoding="utf-8")
+            self.free.put(copy)
+
+    def seen_by(self, change: Change, browser: bool) -> str:
+        """What sees a change, or nothing."""
+        with self.changed(change) as copy:
+            return next((name for name, command in trials(change.module, browser)
+                         if not passes(command, copy)), "")
 
 
-def check_tests() -> None:
+def check_tests(browser: bool) -> None:
     """Refuses to begin where a test fails by itself: it would see each change."""
-    tests = sorted(f"tests/page/{it.name}" for it in TESTS.glob("*.test.js"))
-    failing = [it for it in tests if not passes(["node", "--test", it], REPOSITORY)]
+    trials = {it: ["node", "--test", it]
+              for it in sorted(f"tests/page/{it.name}" for it in TESTS.glob("*.test.js"))}
+    trials.update((it, [*PYTEST, it]) for it in browser_tests("") if browser)
+    failing = [it for it, command in trials.items() if not passes(command, REPOSITORY)]
     if failing:
         sys.exit(f"fails without a change: {', '.join(failing)}")
 
@@ -162,6 +204,20 @@ def check_tests() -> None:
 def reason(change: Change) -> str:
     return next((why for (module, begin), why in SURVIVORS.items()
                  if module == change.module and change.before.strip().startswith(begin)), "")
+
+
+def tried(changes: List[Change], jobs: int, browser: bool) -> List[Change]:
+    """Tries changes, and says what sees each; those that nothing sees."""
+    left = []
+    with tempfile.TemporaryDirectory() as folder, \
+            concurrent.futures.ThreadPoolExecutor(jobs) as pool:
+        copies = Copies(pathlib.Path(folder), jobs)
+        for change, name in zip(changes, pool.map(lambda it: copies.seen_by(it, browser), changes)):
+            print(f"seen by {name}:" if name else "survives:", f"{change.module}:{change.line + 1}",
+                  change.after.strip() or "(left out)", flush=True)
+            if not name:
+                left.append(change)
+    return left
 
 
 def main() -> int:
@@ -174,16 +230,10 @@ def main() -> int:
     parser.add_argument("modules", nargs="*", metavar="MODULE")
     args = parser.parse_args()
     changes = drawn(args.lines, args.seed, args.modules)
-    left = []
+    left: List[Change] = []
     if not args.list:
-        check_tests()
-    with concurrent.futures.ThreadPoolExecutor(args.jobs) as pool:
-        tried = changes if not args.list else []
-        for change, alive in zip(tried, pool.map(lambda it: survives(it, args.browser), tried)):
-            print("survives" if alive else "seen", f"{change.module}:{change.line + 1}",
-                  change.after.strip() or "(left out)", flush=True)
-            if alive:
-                left.append(change)
+        check_tests(args.browser)
+        left = tried(changes, args.jobs, args.browser)
     for change in left if not args.list else changes:
         print(f"{change.module}:{change.line + 1}\n- {change.before}\n+ {change.after}\n"
               f"  {reason(change)}")
