@@ -310,7 +310,7 @@ def test_the_map_the_course_and_the_roster_are_one_for_all(page: Browser, live: 
 def test_while_the_server_is_away(page: Browser, live: Live) -> None:
     live.push(line(1))
     enter(page, live)
-    page.wait(f"{ROWS} === 1")
+    page.wait(f"{ROWS} === 1 && {OWN_MAP} === 'Own map: lakes.mbtiles.'")
     live.end(signal.SIGKILL)
     page.wait(f"{CONNECTION}.startsWith('not connected')")
     page.wait("document.getElementById('stale').textContent.includes('server has been away')")

@@ -146,6 +146,19 @@ def lines_in(file: IO[bytes]) -> Iterator[List[str]]:
         yield [rest]
 
 
+def hold(file: IO[bytes], given: bytes) -> None:
+    """Writes what a program is to read into a file without a buffer, from its beginning."""
+    rest = memoryview(given)
+    try:
+        while rest:
+            rest = rest[file.write(rest):]
+        file.seek(0)
+    except OSError as fault:
+        folder = folder_of(file)
+        raise Fault(f"cannot write in {folder}{disk.room_words(folder)}",
+                    ExitStatus.OUTPUT) from fault
+
+
 def lines(*command: str, given: Given = None) -> Iterator[str]:
     """The lines that a program writes, as they come, each without its end. The Fault comes after
     the last: write nothing before all have been read."""
@@ -157,11 +170,10 @@ def blocks(*command: str, given: Given = None) -> Iterator[List[str]]:
     open_many_files()
     path = find(command[0])
     stderr.detail(f"runs {' '.join(command)}")
-    with tempfile.TemporaryFile() as complaint, tempfile.TemporaryFile() as held:
+    with tempfile.TemporaryFile() as complaint, tempfile.TemporaryFile(buffering=0) as held:
         stdin: Union[int, IO[bytes], None] = given if not isinstance(given, bytes) else held
         if isinstance(given, bytes):
-            held.write(given)
-            held.seek(0)
+            hold(held, given)
         process = subprocess.Popen(
             [path, *command[1:]], stdin=stdin, stdout=subprocess.PIPE, stderr=complaint)
         assert process.stdout is not None
