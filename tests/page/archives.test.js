@@ -72,6 +72,9 @@ test("directories are read as they are written", () => {
     { id: 300, run: 0, length: 7, offset: 2 ** 33 }];
   for (const joined of [true, false])
     assert.deepEqual(entriesOf(directory(entries, joined)), entries);
+  // one in which each number has one byte
+  const small = entries.slice(0, 1);
+  assert.deepEqual([entriesOf(directory(small)), directory(small).length], [small, 5]);
   for (let cut = 0; cut < directory(entries).length; cut++)
     assert.throws(() => entriesOf(directory(entries).subarray(0, cut)), /cut short/);
 });

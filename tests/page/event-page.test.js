@@ -156,7 +156,10 @@ test("miles, local time and forms of places stand wherever one is written", { sk
   enter("local", true);
   assert.match(byId("about").textContent, /^2024-06-22 03:00:00 to 04:06:40 UTC\+09:00/);
   assert.equal(byId("zone").textContent, "All times are UTC+09:00.");
+  // what was chosen outlives loading again
+  assert.equal(new URLSearchParams(location.hash.slice(1)).get("time"), "local");
   enter("local", false);
+  assert.equal(new URLSearchParams(location.hash.slice(1)).get("time"), null);
   process.env.TZ = TZ || "";
 });
 test("a part of the time is shown, and what wants doing is of all of it", { skip }, () => {

@@ -35,6 +35,9 @@ function viewOf(north = 54.5, east = -3.5, scale = 60000) {
 function told(run) {
   pen.calls.length = 0;
   const said = run();
+  // what is set for a while is taken back, so that nothing else is painted so
+  assert.equal(pen.of("save").length, pen.of("restore").length);
+  assert.deepEqual(pen.of("setLineDash").at(-1)?.args ?? [[]], [[]]);
   return { said, calls: [...pen.calls], texts: pen.texts, of: op => pen.of(op).map(it => it.args) };
 }
 
@@ -161,6 +164,13 @@ test("a mark has the shape of its kind, a beak where it goes, and a ring of digi
   const plain = painted({ symbol: "/>" });
   assert.deepEqual(plain.of("arc").map(it => it.slice(0, 3)), [[100, 50, 9.5]]);
   assert.deepEqual([plain.of("rotate"), plain.texts, plain.of("setLineDash")], [[], [], []]);
+  // a symbol is of 24 by 24, and stands within the mark, in paper; what is painted then doesn't
+  const [[left, top]] = plain.of("translate"), [[wide, high]] = plain.of("scale");
+  assert.deepEqual([left + 12 * wide, top + 12 * high].map(it => Math.round(it)), [100, 50]);
+  assert.ok(wide === high && 12 * Math.SQRT2 * wide < 9.5 + 1);
+  assert.deepEqual(plain.calls.filter(it => /^(save|scale|fill|restore)$/.test(it.op))
+    .map(it => [it.op, it.fillStyle]), [["fill", "t1"], ["save", "t1"], ["scale", "t1"],
+    ["fill", "paper"], ["restore", "paper"]]);
   const stroke = plain.calls.find(it => it.op === "stroke");
   assert.deepEqual([stroke.strokeStyle, stroke.lineWidth], ["paper", 1.5]);
   const picked = painted({}, { picked: true }).calls.find(it => it.op === "stroke");

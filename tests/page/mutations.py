@@ -4,15 +4,16 @@
 usage: tests/page/mutations.py [--lines 60] [--seed 20261129] [--list] [--browser] [MODULE..]
 
 A comparison, a constant, an operator or a truth is turned, or a call is left out. Each change is
-tried in a copy, with the tests that import the module, be it by others, the nearest ones first, and
-with the types (tsc); with --browser in Chromium too, where these pass. At most 5 of 60 may pass;
-each that does is explained in SURVIVORS below, by module and text of its line. The status is 1 if
-more do. With MODULE the lines are of these alone. Needs node, tsc and, for what is drawn,
-node-jsdom.
+tried in a copy, with the tests that run what is changed, the nearest ones first, and with the types
+(tsc); with --browser in Chromium too, where these pass. At most 5 of 60 may pass; each that does is
+explained in SURVIVORS below, by module and text of its line. The status is 1 if more do. With
+MODULE the lines are of these alone. Needs node, tsc and, for what is drawn, node-jsdom.
 """
 import argparse
 import concurrent.futures
 import contextlib
+import json
+import os
 import pathlib
 import queue
 import random
@@ -21,20 +22,18 @@ import shutil
 import subprocess
 import sys
 import tempfile
-from typing import Dict, Iterator, List, NamedTuple, Optional, Set, Tuple
+from typing import Dict, Iterator, List, NamedTuple, Optional, Tuple
 
 REPOSITORY = pathlib.Path(__file__).resolve().parents[2]
 SOURCES = REPOSITORY / "page/src"
 TESTS = REPOSITORY / "tests/page"
 MOST = 5
 SECONDS = 600  # of the tests of a change: one that doesn't end is seen
-NEAR = 3  # the nearest tests, each by itself
 # the tests in Chromium, each with the rooms of modules that it is of first of all
 BROWSER: Dict[str, str] = {
     "layers": "map", "event_in_chromium": "app lists ics309 net formats geo util",
     "page_alone": "intake worker", "served": "desks"}
 PYTEST = ["/usr/bin/python3", "-m", "pytest", "-qx", "-p", "no:cacheprovider", "-k", "Chromium"]
-IMPORT = re.compile(r'from "(\.[^"]*)"|^import "(\.[^"]*)"|await import\("(\.[^"]*)"\)', re.M)
 # what is turned into what, in the order in which it is looked for
 TURNS: List[Tuple[str, str]] = [
     (r" <= ", " < "), (r" >= ", " > "), (r" < ", " <= "), (r" > ", " >= "), (r" === ", " !== "),
@@ -56,21 +55,24 @@ SURVIVORS: Dict[Tuple[str, str], str] = {
 
 
 class Change(NamedTuple):
+    """Another line of a module, in place of the one that begins there."""
     module: str
     line: int
+    begin: int
     before: str
     after: str
 
 
-def code_lines(text: str) -> Iterator[Tuple[int, str]]:
-    """The lines that are code, by their numbers."""
-    inside = False
-    for number, line in enumerate(text.splitlines()):
+def code_lines(text: str) -> Iterator[Tuple[int, int, str]]:
+    """The lines that are code, by their numbers and where they begin."""
+    inside, begin = False, 0
+    for number, line in enumerate(text.split("\n")):
         bare = line.strip()
         inside = inside or bare.startswith("/*")
         if not inside and bare and not bare.startswith(("//", "import ", "} from")):
-            yield number, line
+            yield number, begin, line
         inside = inside and not bare.endswith("*/")
+        begin += len(line) + 1
 
 
 def turned(line: str, some: random.Random) -> Optional[str]:
@@ -92,40 +94,60 @@ def turned(line: str, some: random.Random) -> Optional[str]:
 def drawn(count: int, seed: int, modules: List[str]) -> List[Change]:
     """Changes by lot, each in a line of its own."""
     some = random.Random(seed)
-    lines = [(path.relative_to(SOURCES).as_posix(), number, line)
+    lines = [(path.relative_to(SOURCES).as_posix(), *at)
              for path in sorted(SOURCES.rglob("*.js"))
-             for number, line in code_lines(path.read_text(encoding="utf-8"))]
+             for at in code_lines(path.read_text(encoding="utf-8"))]
     some.shuffle(lines)
     changes: List[Change] = []
-    for module, number, line in lines:
+    for module, number, begin, line in lines:
         after = turned(line, some) if not modules or module in modules else None
         if after is not None and len(changes) < count:
-            changes.append(Change(module, number, line, after))
+            changes.append(Change(module, number, begin, line, after))
     return changes
 
 
-def imports_of(path: pathlib.Path) -> Set[pathlib.Path]:
-    found = IMPORT.findall(path.read_text(encoding="utf-8"))
-    return {(path.parent / next(filter(None, it))).resolve() for it in found}
+class Ran:
+    """Which parts of the page's modules a test runs, as the engine of Node counts them."""
+
+    def __init__(self, folder: pathlib.Path) -> None:
+        # of each process the parts of a module: where they begin and end, and how often they ran
+        self.modules: Dict[str, List[List[Tuple[int, int, int]]]] = {}
+        for path in folder.glob("*.json"):
+            for it in json.loads(path.read_text(encoding="utf-8"))["result"]:
+                module = it["url"].rpartition("/page/src/")[2]
+                parts = [(part["startOffset"], part["endOffset"], part["count"])
+                         for function in it["functions"] for part in function["ranges"]]
+                if module != it["url"]:
+                    self.modules.setdefault(module, []).append(parts)
+
+    def has(self, module: str, line: range) -> bool:
+        """Whether something of a line ran: at a place the smallest part around it counts."""
+        def count(parts: List[Tuple[int, int, int]], at: int) -> int:
+            around = [(end - begin, n) for begin, end, n in parts if begin <= at < end]
+            return min(around)[1] if around else 0
+        return any(count(it, at) for it in self.modules.get(module, []) for at in line)
+
+    @property
+    def size(self) -> int:
+        """Of how many modules it runs something: few are nearer to each of them."""
+        return len(self.modules)
 
 
-def steps_to(module: pathlib.Path, test: pathlib.Path) -> int:
-    """By how many imports a test comes to a module; -1 where it doesn't."""
-    steps, queue = {test: 0}, [test]
-    for path in queue:
-        if path == module:
-            return steps[path]
-        for it in imports_of(path):
-            if it not in steps and it.is_file():
-                steps[it] = steps[path] + 1
-                queue.append(it)
-    return -1
+def ran_by(test: pathlib.Path) -> Ran:
+    """What a test runs; refuses one that fails by itself, which would see each change."""
+    with tempfile.TemporaryDirectory() as folder:
+        done = subprocess.run(["node", "--test", str(test)], stdout=subprocess.DEVNULL,
+                              env={**os.environ, "NODE_V8_COVERAGE": folder}, check=False)
+        if done.returncode:
+            sys.exit(f"fails without a change: {test}")
+        return Ran(pathlib.Path(folder))
 
 
-def tests_of(module: str) -> List[pathlib.Path]:
-    """The tests that import a module, be it by others; the nearest ones first."""
-    far = {it: steps_to((SOURCES / module).resolve(), it) for it in TESTS.glob("*.test.js")}
-    return sorted((it for it, steps in far.items() if steps > 0), key=lambda it: (far[it], it))
+def tests_of(change: Change, ran: Dict[pathlib.Path, Ran]) -> List[pathlib.Path]:
+    """The tests that run what is changed; those first that run least else."""
+    line = range(change.begin, change.begin + len(change.before))
+    found = [it for it, of in ran.items() if of.has(change.module, line)]
+    return sorted(found, key=lambda it: (ran[it].size, it))
 
 
 def passes(command: List[str], folder: pathlib.Path) -> bool:
@@ -144,16 +166,14 @@ def browser_tests(module: str) -> List[str]:
     return [f"tests/browser/test_{it}.py" for it in names]
 
 
-def trials(module: str, browser: bool) -> Iterator[Tuple[str, List[str]]]:
+def trials(change: Change, ran: Dict[pathlib.Path, Ran], browser: bool
+           ) -> Iterator[Tuple[str, List[str]]]:
     """What may see a change, each with its name and its command: the cheapest first."""
-    tests = [str(it.relative_to(REPOSITORY)) for it in tests_of(module)]
-    for it in tests[:NEAR]:
-        yield it, ["node", "--test", it]
-    if tests[NEAR:]:
-        yield "other tests", ["node", "--test", *tests[NEAR:]]
+    for it in tests_of(change, ran):
+        yield it.name, ["node", "--test", str(it.relative_to(REPOSITORY))]
     yield "types", ["tsc", "-p", "page"]
-    for it in browser_tests(module) if browser else []:
-        yield it, [*PYTEST, it]
+    for name in browser_tests(change.module) if browser else []:
+        yield name, [*PYTEST, name]
 
 
 class Copies:
@@ -184,21 +204,11 @@ class Copies:
             path.write_text(text, encoding="utf-8")
             self.free.put(copy)
 
-    def seen_by(self, change: Change, browser: bool) -> str:
+    def seen_by(self, change: Change, ran: Dict[pathlib.Path, Ran], browser: bool) -> str:
         """What sees a change, or nothing."""
         with self.changed(change) as copy:
-            return next((name for name, command in trials(change.module, browser)
+            return next((name for name, command in trials(change, ran, browser)
                          if not passes(command, copy)), "")
-
-
-def check_tests(browser: bool) -> None:
-    """Refuses to begin where a test fails by itself: it would see each change."""
-    trials = {it: ["node", "--test", it]
-              for it in sorted(f"tests/page/{it.name}" for it in TESTS.glob("*.test.js"))}
-    trials.update((it, [*PYTEST, it]) for it in browser_tests("") if browser)
-    failing = [it for it, command in trials.items() if not passes(command, REPOSITORY)]
-    if failing:
-        sys.exit(f"fails without a change: {', '.join(failing)}")
 
 
 def reason(change: Change) -> str:
@@ -211,8 +221,14 @@ def tried(changes: List[Change], jobs: int, browser: bool) -> List[Change]:
     left = []
     with tempfile.TemporaryDirectory() as folder, \
             concurrent.futures.ThreadPoolExecutor(jobs) as pool:
+        tests = sorted(TESTS.glob("*.test.js"))
+        ran = dict(zip(tests, pool.map(ran_by, tests)))
+        for name in browser_tests("") if browser else []:
+            if not passes([*PYTEST, name], REPOSITORY):
+                sys.exit(f"fails without a change: {name}")
         copies = Copies(pathlib.Path(folder), jobs)
-        for change, name in zip(changes, pool.map(lambda it: copies.seen_by(it, browser), changes)):
+        for change, name in zip(changes, pool.map(
+                lambda it: copies.seen_by(it, ran, browser), changes)):
             print(f"seen by {name}:" if name else "survives:", f"{change.module}:{change.line + 1}",
                   change.after.strip() or "(left out)", flush=True)
             if not name:
@@ -230,10 +246,7 @@ def main() -> int:
     parser.add_argument("modules", nargs="*", metavar="MODULE")
     args = parser.parse_args()
     changes = drawn(args.lines, args.seed, args.modules)
-    left: List[Change] = []
-    if not args.list:
-        check_tests(args.browser)
-        left = tried(changes, args.jobs, args.browser)
+    left = tried(changes, args.jobs, args.browser) if not args.list else []
     for change in left if not args.list else changes:
         print(f"{change.module}:{change.line + 1}\n- {change.before}\n+ {change.after}\n"
               f"  {reason(change)}")

@@ -248,6 +248,7 @@ test("a list is asked for once at a time, and the one that was chosen meanwhile 
     assert.match(byId("stale").textContent, /^next.txt: the server answers 503/);
     // nothing is said of a list once there is none
     enter("follow", "");
-    assert.deepEqual([aprsbook.alive.refused, byId("stale").textContent], ["", ""]);
+    const { refused, away, answered } = aprsbook.alive;
+    assert.deepEqual([refused, away, answered, byId("stale").textContent], ["", 0, 0, ""]);
     globalThis.fetch = fetch;
   });

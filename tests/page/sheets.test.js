@@ -60,10 +60,23 @@ test("of sheets without world files the corners are asked for, one after the oth
   for (const [name, ...corners] of [["b.png", "47, 10", "47, 11", "46, 10"],
     ["a.png", "55, -4", "55, -3", "54, -4"]]) {
     assert.deepEqual([field("sheet").hidden, field("sheet-name").textContent], [false, name]);
+    // whoever types begins with the first corner
+    assert.equal(document.activeElement, field("corner-0"));
     corners.forEach((it, k) => { field(`corner-${k}`).value = it; });
     all.lay();
   }
   assert.deepEqual([whereIs(), field("sheet").hidden], [["a.png 55 -4", "b.png 47 10"], true]);
+});
+test("an archive of tiles that is taken away is no longer said, nor painted", () => {
+  const { all } = grounds();
+  let paints = 0;
+  all.paintSoon = () => { paints++; };
+  all.tiles.archives.set("a.pmtiles", {});
+  all.tiles.close = name => all.tiles.archives.delete(name);
+  all.show();
+  assert.deepEqual([field("own-map").textContent, paints], ["Own map: a.pmtiles.", 1]);
+  all.close("a.pmtiles");
+  assert.deepEqual([field("own-map").textContent, paints], ["", 2]);
 });
 test("a wrong world file refuses its own picture alone", async () => {
   const { all, whereIs } = grounds();

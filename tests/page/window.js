@@ -26,6 +26,9 @@ class Pen {
       "closePath", "fill", "stroke", "save", "restore", "translate", "scale", "rotate",
       "setLineDash", "setTransform", "drawImage", "fillText", "strokeText"])
       this[op] = (...args) => {
+        // a canvas passes over a place that is no number, and nothing else would say so
+        if (args.some(it => typeof it === "number" && !Number.isFinite(it)))
+          throw new Error(`${op}(${args.join(", ")})`);
         const { fillStyle, strokeStyle, lineWidth, globalAlpha, font } = this;
         this.calls.push({ op, args, fillStyle, strokeStyle, lineWidth, globalAlpha, font });
       };

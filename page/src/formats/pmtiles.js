@@ -47,7 +47,9 @@ export function entriesOf(bytes) {
     }
   };
   const count = next();
-  if (count > bytes.length) throw new Error("a directory of the archive is cut short");
+  // an entry is of four numbers, each of a byte or more
+  if (4 * count > bytes.length - at)
+    throw new Error("a directory of the archive is cut short");
   /** @type {Entry[]} */
   const entries = Array.from({ length: count }, () => ({ id: 0, offset: 0, length: 0, run: 0 }));
   let id = 0;
