@@ -1,9 +1,11 @@
 """Who was heard last, and who of those expected wasn't."""
+import dataclasses
 import pathlib
+from typing import List
 
-from standing import Programs, at, place, row
+from standing import Programs, at, place, row, table_text
 
-from aprsbook_tools.reports import table
+from aprsbook_tools.reports import last_heard, receiver_clocks, table
 
 
 def test_who_never_sent_a_position_was_heard(programs: Programs) -> None:
@@ -95,6 +97,28 @@ def test_one_clock_an_hour_ahead_makes_nobody_last(programs: Programs) -> None:
     ]
     assert programs.said == ("aprs-net: the clock of C is about 3600 seconds ahead of the others, "
                              "and that is allowed for (aprs-net clocks says it exactly)\n")
+
+
+def test_copies_that_came_another_way_say_that_a_clock_is_wrong(programs: Programs) -> None:
+    """What C heard through a digipeater is of the same text; of a time it wasn't."""
+    programs.say(*(dataclasses.replace(it, via=("Q1DIGI*",)) if it.receiver == "C" else it
+                   for it in HOUR_AHEAD))
+    heard = programs.lines("last-heard", "--from", "2024-06-21T18:09", "net.log")[1:]
+    assert [it[:4] for it in heard] == [[at("18:10"), "RX1", "Q1X", "2"]]
+
+
+def test_a_text_of_nine_rows_says_nothing_of_a_clock() -> None:
+    """It has no partner that would be sure; one of eight has."""
+    def beacons(text: str, names: str) -> List[table.Row]:
+        """One a minute, each heard by another receiver."""
+        return [by(name, f"18:{it:02}", f"Q1{text}", text) for it, name in enumerate(names)]
+    rows = [*beacons("X", "BA"), *beacons("Y", "BA"), *beacons("Z", "CDEFGHIJK"),
+            *beacons("W", "LMNOPQRS")]
+    pairs, names = receiver_clocks.Pairs(), last_heard.COLUMNS
+    shown = table.tuples(table.Row, table_text(table.Row, rows).splitlines(), names)
+    assert len([*pairs.noted(shown, names)]) == len(rows)
+    assert pairs.apart.pop(("A", "B")) == [60_000] * 2
+    assert len(pairs.apart) == 8 * 7 // 2 and pairs.apart["L", "S"] == [-7 * 60_000]
 
 
 def test_a_time_is_that_of_clocks_that_are_right(programs: Programs, tmp_path: pathlib.Path

@@ -14,8 +14,8 @@ from aprsbook_tools.formats import book_file, moments
 from aprsbook_tools.reports import clock_offsets, table
 from aprsbook_tools.reports.table import REST, Row
 
-# what is read of each row: when and by whom it was heard, and its text
-COLUMNS = ("first", "receivers", "source", "destination", REST)
+# what is read of each row: when and by whom it was heard, and its text, but for its digipeaters
+COLUMNS = ("first", "receivers", "source", "destination", "gate", REST)
 MOST = 8  # rows of one text: what is sent more often has no partner that would be sure
 FEWEST = 2  # transmissions that both heard: fewer say nothing of a clock
 
@@ -39,13 +39,13 @@ class Pairs:
     def noted(self, rows: Iterable[Tuple[str, ...]], names: Sequence[str]
               ) -> Iterator[Tuple[str, ...]]:
         """The rows as they come, which have these columns."""
-        first, receivers, source, destination, text = map(names.index, COLUMNS)
+        first, receivers, source, destination, gate, text = map(names.index, COLUMNS)
         group: List[Tuple[str, str]] = []
         before: Tuple[str, ...] = ("",) * len(names)
         said = ""
         for row in rows:
             if row[text] == said and row[source] == before[source] \
-                    and row[destination] == before[destination]:
+                    and row[destination] == before[destination] and row[gate] == before[gate]:
                 group = group or [(before[first], before[receivers])]
                 if len(group) <= MOST:
                     group.append((row[first], row[receivers]))
