@@ -228,6 +228,7 @@ class Time(NamedTuple):
 
 ALWAYS = Time()
 BATCH = 500  # lines
+FIELDS = operator.methodcaller("count", "\t")  # of a line, without the first
 REST = "*"  # in place of a column's name: what stands behind all others that are read
 
 
@@ -263,45 +264,54 @@ class Layout:
         self.at = places_of(kind, [it for it in names if it != REST], self.head)
         self.times = places_of(kind, MOMENTS[kind], self.head) if time != ALWAYS else []
         self.most = max([*self.at, *self.times]) + 1
-        self.lacks = len(self.head) in [*self.at, *self.times]
-        self.at += [self.most] if REST in names else []
-        # takes the columns out of a row; of one alone it would be no tuple
-        self.pick: Callable[[List[str]], Tuple[str, ...]] = operator.itemgetter(*self.at)
-        if len(self.at) == 1:
-            self.pick = lambda row: (row[self.at[0]],)
+        self.is_short = REST in names
+        self.at += [self.most] if self.is_short else []
 
-    def rows(self, lines: Iterator[str]) -> Iterator[List[List[str]]]:
-        """The rows of the lines behind the first, many at once: so each costs least."""
+    def columns(self, lines: Iterator[str]) -> Iterator[Columns]:
+        """The columns of the lines behind the first, of many lines at once: so each costs least."""
         number_ = 2
         for batch in iter(lambda: [*itertools.islice(lines, BATCH)], []):
-            rows = [line.split("\t", self.most) for line in batch]
-            self.check(batch, rows, number_)
-            if self.lacks:
-                rows = [row + [""] for row in rows]
-            yield [row for row in rows if self.is_within(row)] if self.times else rows
+            column_at = self.short(batch, number_) if self.is_short else self.whole(batch, number_)
+            columns_ = [*map(column_at, self.at)]
+            if self.times:
+                are = [*map(self.is_within, zip(*map(column_at, self.times)))]
+                columns_ = [[*itertools.compress(it, are)] for it in columns_]
+            if columns_[0]:
+                yield columns_
             number_ += len(batch)
 
-    def check(self, lines: Sequence[str], rows: Sequence[List[str]], number_: int) -> None:
-        """Refuses lines, of which the first has this number, without the columns that are read."""
-        size = min(self.most + 1, len(self.head))
-        if {*map(len, rows)} <= {size}:
-            return
-        at = next(at for at, row in enumerate(rows) if len(row) != size)
-        raise Fault(f"the table of {WORDS[self.kind]}: line {number_ + at} has "
-                    f"{lines[at].count(chr(9)) + 1} fields, and {len(self.head)} columns are named")
+    def whole(self, lines: Sequence[str], number_: int) -> Callable[[int], Sequence[str]]:
+        """The columns of lines, of which the first has this number, by their places."""
+        size, count = len(self.head), len(lines)
+        self.check(lines, [*map(FIELDS, lines)], size - 1, number_)
+        fields = "\t".join(lines).split("\t")
+        return lambda at: fields[at::size] if at < size else [""] * count
 
-    def is_within(self, row: Sequence[str]) -> bool:
-        """Whether a row is of the time."""
-        return any(self.time.since <= row[it] < self.time.until for it in self.times if row[it])
+    def short(self, lines: Sequence[str], number_: int) -> Callable[[int], Sequence[str]]:
+        """The same, of which the last one is all that stands behind those that are read."""
+        rows = [line.split("\t", self.most) for line in lines]
+        self.check(lines, [*map(len, rows)], min(self.most + 1, len(self.head)), number_)
+        turned = [*zip(*rows)]
+        return lambda at: turned[at] if at < len(turned) else [""] * len(rows)
+
+    def check(self, lines: Sequence[str], sizes: Sequence[int], size: int, number_: int) -> None:
+        """Refuses lines, of which the first has this number, that aren't all of a size."""
+        if {*sizes} <= {size}:
+            return
+        at = next(at for at, it in enumerate(sizes) if it != size)
+        raise Fault(f"the table of {WORDS[self.kind]}: line {number_ + at} has "
+                    f"{FIELDS(lines[at]) + 1} fields, and {len(self.head)} columns are named")
+
+    def is_within(self, moments: Sequence[str]) -> bool:
+        """Whether one of a row's moments is of the time."""
+        return any(self.time.since <= it < self.time.until for it in moments if it)
 
 
 def tuples(kind: Type[Any], lines: Iterable[str], names: Sequence[str],
            time: Time = ALWAYS) -> Iterator[Tuple[str, ...]]:
     """These columns of the table's lines, as they are shown, of those of a time."""
-    lines = iter(lines)
-    layout = Layout(kind, next(lines, ""), names, time)
-    for rows in layout.rows(lines):
-        yield from map(layout.pick, rows)
+    for shown in columns(kind, lines, time, names):
+        yield from zip(*shown)
 
 
 def columns(kind: Type[Any], lines: Iterable[str], time: Time = ALWAYS,
@@ -309,10 +319,7 @@ def columns(kind: Type[Any], lines: Iterable[str], time: Time = ALWAYS,
     """All columns of the table's lines, or those of these names, as they are shown, of the lines of
     a time: of many lines at once."""
     lines = iter(lines)
-    layout = Layout(kind, next(lines, ""), names or columns_of(kind), time)
-    for rows in filter(None, layout.rows(lines)):
-        turned = [*zip(*rows)]
-        yield [turned[it] for it in layout.at]
+    yield from Layout(kind, next(lines, ""), names or columns_of(kind), time).columns(lines)
 
 
 def converter(read: Callable[[str], Any], empty: Any, changes: Optional[Changes] = None
