@@ -38,9 +38,9 @@ def test_many_expected_and_many_heard_take_linear_time() -> None:
     """142 seconds of 20,000 entries and 5,000 stations, when each was compared with each."""
     expected = [Expected(f"Q{it:05}") for it in range(20_000)]
     stations = [heard("18:00", f"Q{it:05}") for it in range(0, 20_000, 4)]
-    begun = time.monotonic()
+    begun = time.process_time()
     assert len(alerts.silent(stations, Roster(expected), NOW, 30)) == 20_000
-    assert time.monotonic() - begun < 20
+    assert time.process_time() - begun < 20
 
 
 def test_who_is_silent_of_all() -> None:
