@@ -85,6 +85,33 @@ def test_telemetry_is_numbers_where_it_was_sent_so(programs: Programs) -> None:
     assert ",005,1.50,-3,007," in programs.run("csv", "--table", "rows", "net.log")
 
 
+def test_a_text_that_all_rows_have(programs: Programs, tmp_path: pathlib.Path) -> None:
+    """It isn't bound row by row, whatever it has; numbers and what isn't known stay so."""
+    (tmp_path / "names").write_bytes(b"Q1A It's \0 \"it\"\n")
+    said = [row("telemetry", f"18:0{it}", "Q1A", text="it's; --", a1="1.50", course=7, name=name)
+            for it, name in enumerate(["", "x", ""])]
+    programs.say(*said)
+    programs.run("sqlite", "--roster", "names", "net.db", "net.log")
+    names = "kind, text, a1, typeof(a1), course, latitude, name, source_name, cast(first as text)"
+    assert asked(tmp_path / "net.db", f"select {names} from transmissions order by first") == [
+        ("telemetry", "it's; --", 1.5, "real", 7, None, name, 'It\'s \0 "it"', at(f"18:0{it}"))
+        for it, name in enumerate(["", "x", ""])]
+
+
+def test_a_book_is_no_merge_and_is_named(programs: Programs, tmp_path: pathlib.Path) -> None:
+    (tmp_path / "net.book").write_text("APRSBOOK 3 30\nEND 0\n")
+    programs.say(place("18:00", "Q1A", 1, 2))
+    programs.run("sqlite", "net.db", "net.book")
+    assert not any(" merge " in it for it in programs.calls)
+    (tmp_path / "net.book").write_text("faulty\n")
+    programs.run("sqlite", "net.db", "net.book", status=1)
+    assert programs.said.startswith("aprsbook-table: net.book: line 1: Moment")
+    assert asked(tmp_path / "net.db", "select count(*) from transmissions") == [(1,)]
+    (tmp_path / "net.book").write_text("")
+    programs.run("sqlite", "net.db", "net.book", status=1)
+    assert programs.said == "aprs-net: net.book is empty, which no book is: put back a copy\n"
+
+
 def test_the_last_place_of_each(programs: Programs) -> None:
     path = fill(programs)
     assert asked(path, "select kind, name, latitude, first from places order by name") == [

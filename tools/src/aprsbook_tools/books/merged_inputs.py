@@ -82,14 +82,30 @@ def write_book_of(
     into.flush()
 
 
+def is_one_book(paths: Sequence[str]) -> bool:
+    """Whether inputs are one book file, which needs no merge."""
+    return len(paths) == 1 and paths[0].endswith(".book") and os.path.isfile(paths[0])
+
+
 @contextlib.contextmanager
 def book(paths: Sequence[str], gap: Optional[int], given: programs.Given = None) -> Iterator[str]:
-    """The path of the book of inputs, or of standard input, in a folder that goes away."""
+    """The path of the book of inputs, or of standard input, in a folder that goes away. A Fault of
+    it names the book that it is a copy of."""
     with tempfile.TemporaryDirectory(prefix="aprs-net-") as folder:
         path = os.path.join(folder, "net.book")
-        with open(path, "wb") as file:
-            write_book(file, paths, gap, given)
-        yield path
+        if given is not None or not is_one_book(paths):
+            with open(path, "wb") as file:
+                write_book(file, paths, gap, given)
+            yield path
+            return
+        programs.check_inputs(paths)
+        with streams.opened(paths[0]) as whole, open(path, "wb") as file:
+            shutil.copyfileobj(whole, file, programs.BLOCK)
+        try:
+            yield path
+        except Fault as fault:
+            fault.words = fault.words.replace(path, paths[0])
+            raise
 
 
 @contextlib.contextmanager

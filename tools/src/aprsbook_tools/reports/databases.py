@@ -82,18 +82,30 @@ def is_null(name: str, read: Callable[[str], Any]) -> bool:
     return name in SENT or table_files.cell_of(read("")) is None
 
 
+def literal(values: Sequence[Any]) -> str:
+    """SQL of the text that all values are; nothing where they aren't one text."""
+    first = values[0]
+    if not isinstance(first, str) or values.count(first) < len(values) or "\0" in first:
+        return ""  # SQL ends at a NUL
+    return "'" + first.replace("'", "''") + "'"
+
+
 def insert(base: sqlite3.Connection, name: str, tables: Iterable[Columns], count: int) -> None:
-    """Puts columns, of which so many are of names, into a table. Nulls and columns without a value
-    stand in the statement, since to bind a null costs most of all."""
+    """Puts columns, of which so many are of names, into a table. Nulls, and what is one text in all
+    rows, stand in the statement: to bind costs most, and to bind a null most of all."""
     readers = table.readers_of(TABLES[name])
     converters = [converter_of(*it) for it in readers.items()] + [converter_of("", str)] * count
     nulls = [is_null(*it) for it in readers.items()] + [False] * count
     for columns in tables:
-        full = [any(it) for it in columns]
-        values = [("nullif(?, '')" if null else "?") if any_ else "null" if null else "''"
-                  for any_, null in zip(full, nulls)]
-        bound = [convert(it) for convert, it, any_ in zip(converters, columns, full) if any_]
-        base.executemany(f"insert into {name} values ({', '.join(values)})", zip(*bound))
+        values, bound = [], []
+        for shown, convert, null in zip(columns, converters, nulls):
+            is_full = any(shown)
+            converted = convert(shown) if is_full else [""]
+            alike = "null" if null and not is_full else literal(converted)
+            values.append(alike or ("nullif(?, '')" if null else "?"))
+            bound += [] if alike else [converted]
+        rows: Iterable[Any] = zip(*bound) if bound else [()] * len(columns[0])
+        base.executemany(f"insert into {name} values ({', '.join(values)})", rows)
 
 
 def check(path: str, inputs: Sequence[str]) -> str:
