@@ -89,9 +89,9 @@ rm installed/bin/other
 # ---- packages: the same bytes of two folders, on two days ----
 
 mkdir copy
-# with the page of an event, where it is built
-(cd "$repository" && { git ls-files && find tools/src/aprsbook_tools -name event.html; } |
-    tar -cf - -T -) | tar -xf - -C copy
+# with the pages, where they are built
+(cd "$repository" && { git ls-files && find tools/src/aprsbook_tools -name event.html &&
+    ls out/aprsbook.html 2> /dev/null || true; } | tar -cf - -T -) | tar -xf - -C copy
 find copy -exec touch -h -t 202001020304 {} +
 # twice WORD..: packs the programs here, and in another folder, day, umask and time zone
 twice() {
