@@ -12,6 +12,7 @@ MODULE the lines are of these alone. Needs node, tsc and, for what is drawn, nod
 import argparse
 import concurrent.futures
 import contextlib
+import functools
 import json
 import os
 import pathlib
@@ -150,10 +151,20 @@ def tests_of(change: Change, ran: Dict[pathlib.Path, Ran]) -> List[pathlib.Path]
     return sorted(found, key=lambda it: (ran[it].size, it))
 
 
+@functools.lru_cache(maxsize=None)
+def environment() -> Dict[str, str]:
+    """With the file of the module that tests run, which isn't in a copy."""
+    done = subprocess.run([str(REPOSITORY / "build/module.py")], stdout=subprocess.PIPE,
+                          stderr=subprocess.DEVNULL, check=False)
+    file = REPOSITORY / done.stdout.decode().strip()
+    return {**os.environ, **({"MODULE": str(file)} if file.is_file() else {})}
+
+
 def passes(command: List[str], folder: pathlib.Path) -> bool:
     try:
         done = subprocess.run(command, cwd=str(folder), stdout=subprocess.DEVNULL,
-                              stderr=subprocess.DEVNULL, timeout=SECONDS, check=False)
+                              stderr=subprocess.DEVNULL, timeout=SECONDS, check=False,
+                              env=environment())
     except subprocess.TimeoutExpired:
         return False
     return done.returncode == 0

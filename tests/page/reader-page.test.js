@@ -252,3 +252,16 @@ test("a list is asked for once at a time, and the one that was chosen meanwhile 
     assert.deepEqual([refused, away, answered, byId("stale").textContent], ["", 0, 0, ""]);
     globalThis.fetch = fetch;
   });
+test("the focus goes to the file behind the one that is taken away, or before it", { skip },
+  async () => {
+    while (rows().length) rows()[0].querySelector("td:last-child button").click();
+    await aprsfiles.add(["a", "b", "c", "d"].map((it, k) =>
+      fileOf(`${it}.log`, logOf(`18:0${k}:00`, "HILL"))));
+    const focused = () => document.activeElement.closest("tr")?.querySelector("th").textContent;
+    takeAway("a.log");
+    assert.equal(focused(), "b.log");
+    takeAway("d.log");
+    assert.equal(focused(), "c.log");
+    takeAway("b.log", "c.log");
+    assert.equal(document.activeElement, byId("choose"));
+  });

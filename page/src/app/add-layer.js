@@ -1,7 +1,7 @@
 // @ts-check
 // What the reader brings to the page: maps, a roster, checkpoints, and lines of operators.
 
-import { readBrought } from "./basemaps.js";
+import { readBrought } from "./brought.js";
 import { refresh } from "./render.js";
 import { page, tell, widgets } from "./state.js";
 import { writtenIn } from "../formats/file-kinds.js";

@@ -1,7 +1,7 @@
 // @ts-check
 // Draws the page: its lists, its map and what stands above them.
 
-import { readBrought } from "./basemaps.js";
+import { readBrought } from "./brought.js";
 import { callsBefore, openMarks } from "./dealt.js";
 import { drawAbout, drawLooked, drawNews } from "./header.js";
 import { holdClock } from "./playback.js";

@@ -1,0 +1,66 @@
+// The module, by the host that the page and the command for Node run it in: where `make wasm` built
+// none, it is that of the release. MODULE in the environment is another file of it.
+import assert from "node:assert/strict";
+import { spawnSync } from "node:child_process";
+import fs from "node:fs";
+import path from "node:path";
+import { test } from "node:test";
+import v8 from "node:v8";
+import { fileURLToPath } from "node:url";
+import { run } from "../../page/src/worker/wasm-host.js";
+
+const TOP = fileURLToPath(new URL("../..", import.meta.url));
+function fileOfModule() {
+  if (process.env.MODULE) return process.env.MODULE;
+  const { status, stdout } = spawnSync("build/module.py", { cwd: TOP, encoding: "utf8" });
+  return status === 0 ? path.join(TOP, stdout.trim()) : "";
+}
+v8.setFlagsFromString("--experimental-wasm-memory64");
+const file = fileOfModule(), skip = file ? false : "needs a module of these sources";
+const module = file ? new WebAssembly.Module(fs.readFileSync(file)) : null;
+const bytesOf = text => new TextEncoder().encode(text);
+const textOf = bytes => new TextDecoder().decode(bytes);
+/** `N0CALL-7>APRS:>Hi`, as the README has it, and a message with a number. */
+const FRAME = "c00082a0a4a64040e09c60868298986f03f03e4869c0";
+const line = (clock, receiver, frame = FRAME) => `2024-05-01T${clock}Z ${receiver} ${frame}\n`;
+const RX1 = line("12:00:00", "RX1"), RX2 = line("12:00:02", "RX2");
+const done = (command, options, ...texts) => {
+  const { bytes, ...got } = run(module, command, options, texts.map(bytesOf));
+  return { ...got, text: textOf(bytes) };
+};
+
+test("a run gives what it wrote, and how it ended", { skip }, () => {
+  const got = done("check", 30, RX1 + RX2);
+  assert.deepEqual([got.status, got.text, got.written, got.fault],
+    [0, "heard 2 passed 0\n", 17, ""]);
+  assert.equal(done("convert text", 30, RX1).text, "N0CALL-7>APRS:>Hi\n");
+});
+test("several inputs are one book, under the gap that is asked for", { skip }, () => {
+  const rows = gap => done("merge", gap, RX1, RX2).text.split("\n");
+  assert.deepEqual([rows(30)[0], rows(30).at(-2), rows(1)[0], rows(1).at(-2)],
+    ["APRSBOOK 3 30", "END 1", "APRSBOOK 3 1", "END 2"]);
+  const { text } = done("merge", 30, RX1, RX2);
+  assert.equal(done("merge", 30, text, "", RX1).text, text);
+  assert.equal(done("widen", 60, text).text.split("\n")[0], "APRSBOOK 3 60");
+});
+test("a fault names the input, the line and the cause", { skip }, () => {
+  const { status, input, line: at, fault } = done("merge", 30, RX1, RX1 + "torn\n", "torn\n");
+  assert.deepEqual([status, input, at, fault], [1, 1, 2, "Moment"]);
+  assert.equal(done("merge", 30, "APRSBOOK 3 60\nEND 0\n").fault, "other gap");
+});
+test("words go to the function: of a table its name, of a capture receiver and moment", { skip },
+  () => {
+    const head = table => done(`table ${table}`, 30, RX1).text.split("\n")[0].split("\t")[0];
+    assert.deepEqual(["rows", "messages", "stations"].map(head), ["kind", "source", "source"]);
+    const frame = Uint8Array.from(FRAME.match(/../g), it => parseInt(it, 16));
+    const capture = (receiver, moment) =>
+      run(module, "convert capture", [receiver, moment], [frame]);
+    const got = capture("RX9", "2024-05-01T12:00:00Z");
+    assert.equal(textOf(got.bytes), line("12:00:00.000", "RX9"));
+    assert.equal(capture("RX.9", "2024-05-01T12:00:00Z").status, 2);
+  });
+test("an input is let go of once, as soon as it is copied", { skip }, () => {
+  const inputs = [RX1, RX2].map(bytesOf), gone = [];
+  const { status, bytes } = run(module, "merge", 30, inputs, it => gone.push(it));
+  assert.deepEqual([status, gone, textOf(bytes)], [0, inputs, done("merge", 30, RX1, RX2).text]);
+});
