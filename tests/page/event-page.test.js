@@ -169,6 +169,27 @@ test("a part of the time is shown, and what wants doing is of all of it", { skip
   enter("since", "0");
   assert.match(byId("about").textContent, /11 transmissions/);
 });
+test("passing times stand by checkpoints, and are sorted as numbers", { skip }, async () => {
+  const { bring, takeAway } = await import("../../page/src/app/add-layer.js");
+  await bring("points.txt", "Tarn 54.51 -3.475 800\nMoor 10 10 50");
+  await until(() => document.querySelector("#passed-box tbody tr"));
+  const heads = [...document.querySelectorAll("#passed-box thead th")];
+  assert.deepEqual(heads.map(it => [it.textContent, it.className]),
+    [["no.", ""], ["name", ""], ["Tarn", "num"], ["Moor", "num"]]);
+  // half of the way is 1.96 km, of which 0.8 km are within the circle
+  const leader = ["7", "Leader (Q1RUN-7)", "~18:02:57", ""], post = ["", "CP 2", "18:13:20", ""];
+  assert.deepEqual(cells("passed-box", 4), [leader, post]);
+  // the last one first, as of each column of numbers
+  for (const [order, lines] of [["descending", [post, leader]], ["ascending", [leader, post]]]) {
+    heads[2].querySelector("button").click();
+    assert.deepEqual([heads[2].getAttribute("aria-sort"), cells("passed-box", 4)], [order, lines]);
+  }
+  assert.deepEqual(cells("visits-box", 4), [["Tarn", "1", "Leader (Q1RUN-7)", "~18:02:57"],
+    ["Tarn", "2", "CP 2", "18:13:20"]]);
+  assert.match(byId("passed-told").textContent, /^Nobody passed Moor: /);
+  takeAway(/^points/);
+  assert.deepEqual(page.points, []);
+});
 test("the form has messages, bulletins and own lines, and is filled anew", { skip }, () => {
   byId("ics-open").click();
   assert.deepEqual([byId("ics").hidden, byId("ics-incident").value], [false, "Fell race"]);

@@ -20,16 +20,19 @@ import queue
 import random
 import re
 import shutil
+import signal
 import subprocess
 import sys
 import tempfile
+import time
 from typing import Dict, Iterator, List, NamedTuple, Optional, Tuple
 
 REPOSITORY = pathlib.Path(__file__).resolve().parents[2]
 SOURCES = REPOSITORY / "page/src"
 TESTS = REPOSITORY / "tests/page"
 MOST = 5
-SECONDS = 600  # of the tests of a change: one that doesn't end is seen
+SECONDS = 600  # of tests in a browser, and of types
+TIMES = 10  # as long as a test takes, and a minute: one that doesn't end then is seen
 # the tests in Chromium, each with the rooms of modules that it is of first of all
 BROWSER: Dict[str, str] = {
     "layers": "map", "event_in_chromium": "app lists ics309 net formats geo util",
@@ -107,10 +110,20 @@ def drawn(count: int, seed: int, modules: List[str]) -> List[Change]:
     return changes
 
 
+@functools.lru_cache(maxsize=None)
+def environment() -> Dict[str, str]:
+    """With the file of the module that tests run, which isn't in a copy."""
+    done = subprocess.run([str(REPOSITORY / "build/module.py")], stdout=subprocess.PIPE,
+                          stderr=subprocess.DEVNULL, check=False)
+    file = REPOSITORY / done.stdout.decode().strip()
+    return {**os.environ, **({"MODULE": str(file)} if file.is_file() else {})}
+
+
 class Ran:
     """Which parts of the page's modules a test runs, as the engine of Node counts them."""
 
-    def __init__(self, folder: pathlib.Path) -> None:
+    def __init__(self, folder: pathlib.Path, seconds: float) -> None:
+        self.seconds = seconds
         # of each process the parts of a module: where they begin and end, and how often they ran
         self.modules: Dict[str, List[List[Tuple[int, int, int]]]] = {}
         for path in folder.glob("*.json"):
@@ -137,11 +150,12 @@ class Ran:
 def ran_by(test: pathlib.Path) -> Ran:
     """What a test runs; refuses one that fails by itself, which would see each change."""
     with tempfile.TemporaryDirectory() as folder:
+        begin = time.monotonic()
         done = subprocess.run(["node", "--test", str(test)], stdout=subprocess.DEVNULL,
-                              env={**os.environ, "NODE_V8_COVERAGE": folder}, check=False)
+                              env={**environment(), "NODE_V8_COVERAGE": folder}, check=False)
         if done.returncode:
             sys.exit(f"fails without a change: {test}")
-        return Ran(pathlib.Path(folder))
+        return Ran(pathlib.Path(folder), time.monotonic() - begin)
 
 
 def tests_of(change: Change, ran: Dict[pathlib.Path, Ran]) -> List[pathlib.Path]:
@@ -151,23 +165,18 @@ def tests_of(change: Change, ran: Dict[pathlib.Path, Ran]) -> List[pathlib.Path]
     return sorted(found, key=lambda it: (ran[it].size, it))
 
 
-@functools.lru_cache(maxsize=None)
-def environment() -> Dict[str, str]:
-    """With the file of the module that tests run, which isn't in a copy."""
-    done = subprocess.run([str(REPOSITORY / "build/module.py")], stdout=subprocess.PIPE,
-                          stderr=subprocess.DEVNULL, check=False)
-    file = REPOSITORY / done.stdout.decode().strip()
-    return {**os.environ, **({"MODULE": str(file)} if file.is_file() else {})}
-
-
-def passes(command: List[str], folder: pathlib.Path) -> bool:
-    try:
-        done = subprocess.run(command, cwd=str(folder), stdout=subprocess.DEVNULL,
-                              stderr=subprocess.DEVNULL, timeout=SECONDS, check=False,
-                              env=environment())
-    except subprocess.TimeoutExpired:
-        return False
-    return done.returncode == 0
+def passes(command: List[str], folder: pathlib.Path, seconds: float = SECONDS) -> bool:
+    """Whether a command ends well in time; where it doesn't, what it has begun is ended too."""
+    with subprocess.Popen(command, cwd=str(folder), stdout=subprocess.DEVNULL,
+                          stderr=subprocess.DEVNULL, start_new_session=True,
+                          env=environment()) as process:
+        try:
+            return process.wait(seconds) == 0
+        except BaseException as fault:
+            os.killpg(process.pid, signal.SIGKILL)
+            if isinstance(fault, subprocess.TimeoutExpired):
+                return False
+            raise
 
 
 def browser_tests(module: str) -> List[str]:
@@ -178,13 +187,15 @@ def browser_tests(module: str) -> List[str]:
 
 
 def trials(change: Change, ran: Dict[pathlib.Path, Ran], browser: bool
-           ) -> Iterator[Tuple[str, List[str]]]:
-    """What may see a change, each with its name and its command: the cheapest first."""
+           ) -> Iterator[Tuple[str, List[str], float]]:
+    """What may see a change: its name, its command, and how long that may take at most; the
+    cheapest first."""
     for it in tests_of(change, ran):
-        yield it.name, ["node", "--test", str(it.relative_to(REPOSITORY))]
-    yield "types", ["tsc", "-p", "page"]
+        most = 60 + TIMES * ran[it].seconds
+        yield it.name, ["node", "--test", str(it.relative_to(REPOSITORY))], most
+    yield "types", ["tsc", "-p", "page"], SECONDS
     for name in browser_tests(change.module) if browser else []:
-        yield name, [*PYTEST, name]
+        yield name, [*PYTEST, name], SECONDS
 
 
 class Copies:
@@ -218,8 +229,8 @@ class Copies:
     def seen_by(self, change: Change, ran: Dict[pathlib.Path, Ran], browser: bool) -> str:
         """What sees a change, or nothing."""
         with self.changed(change) as copy:
-            return next((name for name, command in trials(change, ran, browser)
-                         if not passes(command, copy)), "")
+            return next((name for name, command, seconds in trials(change, ran, browser)
+                         if not passes(command, copy, seconds)), "")
 
 
 def reason(change: Change) -> str:

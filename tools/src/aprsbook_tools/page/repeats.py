@@ -1,9 +1,9 @@
 """Who repeated whom, as the page of an event has it and `aprs-net keeper` counts it: by all
 receptions of logs, since a book has one copy of each transmission."""
 import os
-from typing import Iterable, List, Optional, Sequence
+from typing import Iterable, Optional, Sequence
 
-from aprsbook_tools.books.receptions import lines_in, rows_of
+from aprsbook_tools.books.receptions import lines_in, lines_of, rows_of
 from aprsbook_tools.formats import book_file
 from aprsbook_tools.formats.log_file import Line
 from aprsbook_tools.reports import digipeater_stats
@@ -43,8 +43,4 @@ def of_files(paths: Sequence[str]) -> Optional[str]:
     large."""
     if not are_small(paths) or not all(map(is_log, paths)):
         return None
-    lines: List[Line] = []
-    for path in paths:
-        with open(path, "rb") as file:
-            lines += lines_in(file.read(), path)
-    return of_lines(lines)
+    return of_lines(line for path in paths for line in lines_of(path))
