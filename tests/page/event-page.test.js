@@ -287,8 +287,21 @@ test("the edge of the map follows the pointer that took it, and keys", { skip },
   edge.dispatchEvent(pointer("pointermove", { pointerId: 8, clientY: 350 }));
   assert.equal(style.getPropertyValue("--map-high"), "300px");
   assert.match(location.hash, /high=300/);
-  edge.dispatchEvent(new KeyboardEvent("keydown", { key: "Home", bubbles: true }));
-  assert.equal(style.getPropertyValue("--map-high"), "");
+  // the map is 400 pixels high
+  for (const [key, high] of [["ArrowDown", "440px"], ["ArrowUp", "360px"], ["Home", ""]]) {
+    edge.dispatchEvent(new KeyboardEvent("keydown", { key, bubbles: true }));
+    assert.equal(style.getPropertyValue("--map-high"), high);
+  }
+});
+test("on paper colours are those of paper, and the screen's thereafter", { skip }, () => {
+  const { classList } = document.documentElement, { map } = aprsbook, read = map.readColours;
+  let times = 0;
+  map.readColours = () => { times++; };
+  dispatchEvent(new Event("beforeprint"));
+  assert.deepEqual([classList.contains("printed"), times], [true, 1]);
+  dispatchEvent(new Event("afterprint"));
+  assert.deepEqual([classList.contains("printed"), times], [false, 2]);
+  map.readColours = read;
 });
 test("Escape closes a menu first, and then leaves the map that fills the window", { skip }, () => {
   const { map } = aprsbook, menu = byId("looks");

@@ -30,7 +30,7 @@ test("a mouse moves the map by its first button alone, and picks by it", () => {
   const listen = (kind, run) => runs.push({ kind, run });
   globalThis.addEventListener = listen;
   const node = { addEventListener: listen, style: {}, querySelector: () => ({}),
-    getBoundingClientRect: () => ({ left: 0, top: 0 }) };
+    getBoundingClientRect: () => ({ left: 2, top: 1 }) };
   listenToMap({ node, keys: {}, isFull: false, point() {}, tip: () => [], paintSoon() {}, turn() {},
     move: (...by) => said.push(by), tap: (...at) => said.push(at) });
   const say = (type, of) => runs.filter(it => it.kind === type).forEach(it =>
@@ -48,7 +48,8 @@ test("a mouse moves the map by its first button alone, and picks by it", () => {
   say("pointermove", { clientX: 0, clientY: 0 });
   say("pointerdown", { pointerType: "pen", button: 5, clientX: 0, clientY: 0 });
   say("pointermove", { pointerType: "pen", clientX: 3, clientY: 0 });
-  assert.deepEqual(said, [[6, 5], [85, 2], [3, 0]]);
+  // a spot counts from the map's own corner
+  assert.deepEqual(said, [[4, 4], [85, 2], [3, 0]]);
 });
 test("the map opens on what is near most, and not on a few places far away", () => {
   const near = line(Array.from({ length: 40 }, (_, k) => [54.5 + k / 1000, -3.5]));

@@ -72,6 +72,11 @@ test("lines are shown as a stream tells them, and nothing is asked for", { skip 
   enter("follow", "logs.txt");
   assert.equal(asked.length, length);
   assert.deepEqual([byId("title").textContent, byId("silent").value], ["Fell race", "20"]);
+  // ages count to now, and what a desk may set shows what is set
+  assert.equal(aprsbook.page.follows, true);
+  const [title, silent] = document.querySelectorAll("#desk input");
+  assert.deepEqual([title.placeholder, silent.placeholder,
+    document.querySelector("#desk textarea").value], ["Fell race", "20", NET.roster]);
 });
 test("lines that don't go on with what is there have the log asked for", { skip }, async () => {
   const log = line("18:00:00", "HILL") + line("18:30:00", "HILL") + line("18:40:00", "HILL");

@@ -24,7 +24,9 @@ test("a page that slept, or doesn't load again, says so, and not that nothing wa
     "nothing was heard for 60 min before that");
   // three questions may fail
   assert.deepEqual(words({ each: 600, answered: AT - 1799 }), []);
-  assert.deepEqual(words({ answered: AT - 119, each: 10 }), []);
+  assert.deepEqual(words({ answered: AT - 120, each: 10 }), []);
+  assert.deepEqual(words({ answered: AT - 121, each: 10 }),
+    ["this was loaded 2 min ago, at 2024-06-21 17:57:59 UTC"]);
 });
 test("a wrong clock of this computer is said, and one that may be a receiver's", () => {
   assert.deepEqual(words({ ahead: 365 * 86400, end: AT - 5 }),
@@ -95,7 +97,10 @@ test("a page stays where its server answers with a fault, or with another page",
     it ? Object.defineProperty(globalThis, name, it) : delete globalThis[name]));
   const said = async it => {
     answer = it;
+    alive.answered = 0;
     await again();
+    // that of a page of its own is an answer
+    assert.equal(alive.answered > 0, Boolean(it?.tree?.getElementById("data")));
     return [alive.refused, alive.away > 0, loaded];
   };
   assert.deepEqual(await said(answer), ["the server answers 500", false, 0]);
