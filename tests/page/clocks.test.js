@@ -44,7 +44,11 @@ test("clocks that differ are found by what both receivers heard", () => {
   const rows = rowsOf(lines.map(it => it.text));
   const count = n => rows.heard.filter(it => it === n).length;
   const heard = rows.lists.map((names, n) => ({ names, heard: count(n) }));
-  const clocks = clocksOf(atOnce(pairsOf(rows, -Infinity, heard)), 30);
+  const pairs = atOnce(pairsOf(rows, -Infinity, heard));
+  // each pair heard eight transmissions, be they one row or two
+  assert.deepEqual(pairs.map(it => [it.a, it.b, Math.abs(Math.round(it.by)), it.of]),
+    [["A", "B", 1, 8], ["A", "C", 3600, 8], ["B", "C", 3599, 8]]);
+  const clocks = clocksOf(pairs, 30);
   assert.equal(Math.round(clocks.get("C").by), 3600);
   assert.ok(Math.abs(clocks.get("A")?.by ?? 0) < 5 && FEWEST === 2);
 });

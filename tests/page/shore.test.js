@@ -1,9 +1,9 @@
 import assert from "node:assert/strict";
 import { test } from "node:test";
 import zlib from "node:zlib";
-import { degreesOf, RADIUS } from "../../page/src/geo/sphere.js";
+import { degreesOf, RADIUS, vectorOf } from "../../page/src/geo/sphere.js";
 import { Projection } from "../../page/src/geo/projection.js";
-import { Numbers } from "../../page/src/map/layers/coastline.js";
+import { Land, Numbers } from "../../page/src/map/layers/coastline.js";
 import { Shore, shoreOf } from "../../page/src/map/layers/fine-coastline.js";
 
 /** Numbers as the tool packs them. */
@@ -38,6 +38,21 @@ test("numbers are unpacked as they were packed", () => {
   const read = new Numbers(packed(numbers));
   assert.deepEqual(numbers.map(() => read.next()), numbers);
   assert.equal(read.at, read.bytes.length);
+});
+test("rings of land are in view as far as they may reach into the map", () => {
+  const land = new Land(), view = viewOf(54.5, -3.5, 50);
+  const isInView = (x, y, wide) => {
+    land.rings = [{ middle: vectorOf(...degreesOf(view.at(x, y))), wide: wide / view.scale }];
+    return land.inView(view).length > 0;
+  };
+  // a corner is 361 pixels from the middle; a ring of 10 pixels reaches at most 16
+  const spots = [[0, 0], [600, 0], [0, 400], [600, 400], [-70, 200], [670, 200], [300, -170],
+    [300, 570]];
+  assert.deepEqual(spots.map(it => isInView(...it, 10)), spots.map(() => true));
+  const beside = [[-80, 200], [680, 200], [300, -180], [300, 580]];
+  assert.deepEqual(beside.map(it => isInView(...it, 10)), beside.map(() => false));
+  // one that is no pixel wide is never seen
+  assert.equal(isInView(300, 200, 0.9), false);
 });
 test("a fine coast has its box, its rings, and which of their sides are no coast", () => {
   const { box, off, rings } = shoreOf(packed(SHORE));
