@@ -5,11 +5,12 @@ import os from "node:os";
 import path from "node:path";
 import { test } from "node:test";
 import zlib from "node:zlib";
-import { boxAround, carriedIn } from "../../page/src/intake/embedded-tiles.js";
+import { boxAround, carriedIn, nearIn } from "../../page/src/intake/embedded-tiles.js";
 import { patience, ServedFile } from "../../page/src/intake/served-tiles.js";
 import { openMbtiles } from "../../page/src/formats/mbtiles.js";
 import { entriesOf, numberOf, openPmtiles } from "../../page/src/formats/pmtiles.js";
 import { openSqlite } from "../../page/src/formats/sqlite.js";
+import { vectorOf } from "../../page/src/geo/sphere.js";
 import { tilesOf } from "../../page/src/map/layers/tile-layer.js";
 
 const PNG = [0x89, 0x50, 0x4e, 0x47, 13, 10, 26, 10];
@@ -23,6 +24,10 @@ test("a saved page carries whole levels around the places, in so many bytes", as
   assert.ok(box.north > 54.64 && box.south < 54.46 && box.west < -3.55 && box.east > -3.35);
   assert.equal(boxAround([]), null);
   assert.equal(boxAround([{ north: 0, east: 0 }, { north: 0, east: 3 }]), null);
+  const near = Array.from({ length: 40 }, (_, k) => vectorOf(54.5 + k / 1000, -3.5));
+  const found = nearIn([near, [vectorOf(10, 20)]].map(it => Float64Array.from(it.flat())));
+  assert.deepEqual(found.map(it => [it.north.toFixed(3), it.east.toFixed(3)]),
+    near.map((_, k) => [(54.5 + k / 1000).toFixed(3), "-3.500"]));
   // over the date line it is narrow
   const over = boxAround([{ north: 1, east: 179.99 }, { north: 1, east: -179.99 }]);
   assert.ok(over.east - over.west < 0.3 && over.east > 180);

@@ -81,6 +81,16 @@ test("the lists have what the tables say", { skip }, () => {
   assert.deepEqual(cells("receivers", 5), [["COAST", "18:16:40", "50 min", "2", "1"],
     ["HILL", "18:00:00", "66 min", "1", ""], ["RX1", "19:06:40", "0 s", "9", "9"]]);
 });
+test("columns of numbers are told from those of words, in each list", { skip }, () => {
+  byId("one").hidden || byId("one-close").click();
+  [...document.querySelectorAll(".pick")].find(it => it.textContent === "Leader (Q1RUN-7)").click();
+  const numbers = id => [...document.querySelectorAll(`#${id} thead th.num`)]
+    .map(it => it.textContent);
+  assert.deepEqual(["messages", "bulletins", "things", "places", "frames", "receivers", "expected"]
+    .map(numbers), [["first", "last"], ["first", "last"], ["last heard", "age", "sent"], ["heard"],
+    ["heard"], ["last heard", "age", "heard", "alone", "clock"], ["last heard", "age"]]);
+  byId("one-close").click();
+});
 test("who heard whom, who repeated whom, and when", { skip }, () => {
   assert.deepEqual(cells("heard", 5), [["all", "2", "1", "9", "11"], ["Q1BASE", "1", "", "4", "5"],
     ["Q1MED", "", "", "1", "1"], ["Q1RUN-7", "1", "1", "1", "2"], ["Q1WX", "", "", "2", "2"],
@@ -141,6 +151,12 @@ test("what is picked is told: where, what it says, its graphs, places and frames
   const spans = [...rules].map(it => /^M([\d.]+) ([\d.]+)H([\d.]+)$/.exec(it.getAttribute("d")));
   assert.ok(rules.length > 1 && spans.every(it => it && Number(it[1]) < Number(it[3]) &&
     Number(it[3]) <= wide && Number(it[2]) <= high), `${spans}`);
+  // its time is as wide as the rules: both reports are 20 minutes behind its begin
+  const [, begin, , end] = spans[0].map(Number);
+  const points = svg.querySelector(".line").getAttribute("d").slice(1).split("L")
+    .map(it => Number(it.split(" ")[0]));
+  assert.deepEqual(points.map(it => it.toFixed(1)), [1200, 1260].map(it =>
+    (begin + (end - begin) * it / 4000).toFixed(1)));
   assert.equal(facts().weather, "calm, 20 \u00b0C, humidity 70 % at 18:21:00");
   pick("Q1WX");
 });

@@ -200,6 +200,7 @@ test("an object is a square, and an item an arch as wide and as high", () => {
   const item = painted("item");
   assert.deepEqual([item.of("arc")[0].slice(0, 3), item.of("lineTo").slice(0, 2)],
     [[100, 50, 9.5], [[109.5, 59], [90.5, 59]]]);
+  assert.deepEqual([item.of("closePath").length, painted("object").of("closePath").length], [1, 0]);
 });
 test("a track fades, has arrows on its way, and is pale beside one that is picked", () => {
   const [mark] = marksOf([0, 1, 2, 3].map(k => place(600 * k, "Q1A", 54.5, -3.7 + k * 0.12)));

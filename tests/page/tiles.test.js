@@ -81,12 +81,16 @@ test("a page that is drawn anew with other tiles of its own shows these", async 
   const tiles = new TileLayer(), view = viewOf(300, 200, 0), drawn = [];
   const { createImageBitmap } = globalThis;
   globalThis.createImageBitmap = async blob => ({ width: 256, height: 256, of: blob.size });
-  const pen = new Proxy({}, { set: () => true,
-    get: (_, op) => (...of) => op === "drawImage" && drawn.push(of[0].of) });
+  let saved = 0;
+  const pen = new Proxy({}, { set: () => true, get: (_, op) => (...of) => {
+    if (op === "drawImage") drawn.push(of[0].of);
+    saved += op === "save" ? 1 : op === "restore" ? -1 : 0;
+  } });
   const paint = async () => {
     drawn.length = 0;
     for (let k = 0; k < 20; k++) {
       tiles.paint({ pen, again() {} }, view);
+      assert.equal(saved, 0);
       await pause();
     }
     return new Set(drawn);
