@@ -9,7 +9,7 @@ import { boxAround, carriedIn, nearIn } from "../../page/src/intake/embedded-til
 import { patience, ServedFile } from "../../page/src/intake/served-tiles.js";
 import { openMbtiles } from "../../page/src/formats/mbtiles.js";
 import { entriesOf, numberOf, openPmtiles } from "../../page/src/formats/pmtiles.js";
-import { openSqlite } from "../../page/src/formats/sqlite.js";
+import { openSqlite, valuesOf } from "../../page/src/formats/sqlite.js";
 import { vectorOf } from "../../page/src/geo/sphere.js";
 import { tilesOf } from "../../page/src/map/layers/tile-layer.js";
 
@@ -82,6 +82,13 @@ test("directories are read as they are written", () => {
   assert.deepEqual([entriesOf(directory(small)), directory(small).length], [small, 5]);
   for (let cut = 0; cut < directory(entries).length; cut++)
     assert.throws(() => entriesOf(directory(entries).subarray(0, cut)), /cut short/);
+});
+test("a record of a database has as many values as its head says", () => {
+  // a head of five bytes: a small number, nothing, two letters and 1
+  const head = [5, 1, 0, 17, 9], values = [251, 97, 98];
+  assert.deepEqual(valuesOf(Uint8Array.from([...head, ...values])), [-5, null, "ab", 1]);
+  assert.deepEqual(valuesOf(Uint8Array.from([...head, ...values, 7, 7])), [-5, null, "ab", 1]);
+  assert.deepEqual(valuesOf(Uint8Array.of(1)), []);
 });
 /** An archive of pictures of levels 0 to 3 with leaves of ten, and a run of three equal ones. */
 function archive({ type = 2, version = 3, packing = 2, packed = 1 } = {}) {

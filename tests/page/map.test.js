@@ -51,6 +51,16 @@ test("a mouse moves the map by its first button alone, and picks by it", () => {
   // a spot counts from the map's own corner
   assert.deepEqual(said, [[4, 4], [85, 2], [3, 0]]);
 });
+test("what is fitted has room beside it for names, and above it", () => {
+  const view = Object.assign(new Projection(), { width: 600, height: 400 });
+  const sizeOf = places => {
+    view.fit([line(places)]);
+    const { left, right, top, bottom } = view.box([line(places)]);
+    return [right - left, bottom - top].map(Math.round);
+  };
+  assert.equal(sizeOf([[54.5, -3.6], [54.5, -3.4]])[0], 470);
+  assert.equal(sizeOf([[54.4, -3.5], [54.6, -3.5]])[1], 310);
+});
 test("the map opens on what is near most, and not on a few places far away", () => {
   const near = line(Array.from({ length: 40 }, (_, k) => [54.5 + k / 1000, -3.5]));
   const far = line([[10, 20], [-40, 170]]), isIn = capOf([near, far]);

@@ -259,3 +259,10 @@ test("tabs of one net hear each other, and the lock is asked for by its address"
   await still();
   assert.deepEqual([leads, asked], [1, ["aprsbook http://localhost/a/"]]);
 });
+test("a stream that ended begins again after half of its time to one and a half", t => {
+  const waits = [], stream = new Stream({ alive() {} });
+  t.mock.method(globalThis, "setTimeout", (_, wait) => { waits.push(wait); });
+  for (let k = 0; k < 50; k++) stream.end();
+  assert.equal(waits.length, 50);
+  assert.ok(waits.every(it => it >= patience.again / 2 && it <= 1.5 * patience.again));
+});
