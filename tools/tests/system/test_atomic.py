@@ -202,6 +202,13 @@ def test_a_log_is_never_replaced_by_anything(tmp_path: pathlib.Path, name: str) 
     assert fault.value.status == 2 and path.read_bytes().startswith(b"2024")
 
 
+def test_what_cannot_be_read_is_no_log(tmp_path: pathlib.Path) -> None:
+    (tmp_path / "folder").mkdir()
+    for name in "folder", "missing":
+        path = str(tmp_path / name)
+        assert not atomic.is_log(path) and atomic.is_log(f"{path}.log")
+
+
 def test_an_input_is_never_replaced(tmp_path: pathlib.Path) -> None:
     path, link, hard = (tmp_path / it for it in ("net.book", "link", "hard"))
     path.write_bytes(b"APRSBOOK 3 30\nEND 0\n")
