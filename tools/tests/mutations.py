@@ -47,6 +47,7 @@ SURVIVORS: Dict[Tuple[str, str], str] = {
         "of a view without an end one more row is read",
     ("serving/states.py", "while size > 0:"): "where no byte is left none is read either",
     ("formats/pmtiles.py", "KEPT ="): "how many directories are held is no promise",
+    ("serving/pushing.py", "ANSWER ="): "how much of an answer is read at most is no promise",
     ("serving/page_answers.py", "PART ="): "how much of a file is in memory at once is no promise",
     ("serving/server.py", "IDLE = "): "how long is waited for who is slow is no promise",
     ("frame_sources/writer.py", "while self.is_alive() and"):

@@ -1,12 +1,15 @@
-"""Who pushes: where it goes on in a log, by the state that the server has, and how long it waits."""
+"""Who pushes: where it goes on in a log, by what the server has, and how long it waits."""
 import itertools
 import pathlib
 from typing import List
 
+import pytest
+
 from aprsbook_tools.formats import ax25, kiss, log_file, moments
 from aprsbook_tools.serving import pushing
-from aprsbook_tools.serving.pushing import Log, Place, pauses
+from aprsbook_tools.serving.pushing import Away, Log, Place, Pusher, Server, pauses
 from aprsbook_tools.serving.states import EMPTY, State
+from aprsbook_tools.system.clock import CLOCK
 
 DAY = "2024-06-21"
 NOON = moments.milliseconds(f"{DAY}T12:00:00Z")
@@ -61,3 +64,34 @@ def test_pauses_grow_to_ten_seconds() -> None:
     for _ in range(50):
         for wanted, pause in zip([1, 2, 4, 8, 10, 10, 10], itertools.islice(pauses(), 7)):
             assert 0.5 * wanted <= pause < 1.5 * wanted
+
+
+class Flaky(Pusher):
+    """Its server is away for some rounds, and then there; after the last round it is ended."""
+
+    def __init__(self, rounds: List[bool], say: pushing.Say) -> None:
+        super().__init__(Server("http://127.0.0.1:9/", ""), "HILL", "nowhere", 1, say)
+        self.rounds, self.forgotten = iter(rounds), 0
+
+    def push(self) -> None:
+        is_there = next(self.rounds, None)
+        if is_there is None:
+            raise KeyboardInterrupt
+        if not is_there:
+            raise Away("nobody answers")
+
+    def forget(self) -> None:
+        self.forgotten += 1
+
+
+def test_a_server_that_is_away_is_told_once(monkeypatch: pytest.MonkeyPatch) -> None:
+    said: List[str] = []
+    waits: List[float] = []
+    monkeypatch.setattr(CLOCK, "wait", waits.append)
+    its = Flaky([True, False, False, False, True, True, False], said.append)
+    with pytest.raises(KeyboardInterrupt):
+        pushing.push_on(its, 0.25, said.append)
+    away = "nobody answers; it is tried again"
+    assert said == [away, "the server is there again", away] and its.forgotten == 4
+    assert [it == 0.25 for it in waits] == [True, False, False, False, True, True, False]
+    assert 2 <= waits[3] < 6 and waits[6] < 1.5  # it begins with short pauses again
