@@ -6,6 +6,7 @@ from typing import Iterator, Sequence
 
 import pytest
 
+from aprsbook_tools.errors import ExitStatus, Fault
 from aprsbook_tools.serving.line_file import Addition, Batch, LineFile, Taken
 from aprsbook_tools.serving.store import Store
 
@@ -36,3 +37,13 @@ def test_a_file_that_is_refused_takes_no_other_with_it(
     assert [type(it) for it in found] == [OSError, Taken, OSError]
     assert (tmp_path / "2024-06-21/B.log").read_bytes() == b"".join(it + b"\n" for it in LINES)
     store.end()
+
+
+def test_a_folder_is_of_one_store(tmp_path: pathlib.Path) -> None:
+    """Until it has ended: two would write one journal."""
+    store = Store(str(tmp_path), 1 << 20, lambda text: None, lambda path: None)
+    with pytest.raises(Fault, match="another `aprs-net serve`") as fault:
+        Store(str(tmp_path), 1 << 20, lambda text: None, lambda path: None)
+    assert fault.value.status == ExitStatus.OUTPUT
+    store.end()
+    Store(str(tmp_path), 1 << 20, lambda text: None, lambda path: None).end()
