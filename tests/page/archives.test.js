@@ -5,12 +5,14 @@ import os from "node:os";
 import path from "node:path";
 import { test } from "node:test";
 import zlib from "node:zlib";
+import "./document.js";
 import { boxAround, carriedIn, nearIn } from "../../page/src/intake/embedded-tiles.js";
 import { patience, ServedFile } from "../../page/src/intake/served-tiles.js";
 import { openMbtiles } from "../../page/src/formats/mbtiles.js";
 import { entriesOf, numberOf, openPmtiles } from "../../page/src/formats/pmtiles.js";
 import { openSqlite, valuesOf } from "../../page/src/formats/sqlite.js";
 import { vectorOf } from "../../page/src/geo/sphere.js";
+import { TileSources } from "../../page/src/map/layers/tile-sources.js";
 import { tilesOf } from "../../page/src/map/layers/tile-layer.js";
 
 const PNG = [0x89, 0x50, 0x4e, 0x47, 13, 10, 26, 10];
@@ -255,4 +257,16 @@ test("a database that can't be drawn says why", { skip: !hasPython }, async () =
   const torn = openMbtiles(made("index").slice(0, 40960));
   await assert.rejects(torn.then(it => it.read(5, 31, 31)), /cut short/);
   await assert.rejects(openMbtiles(made("index").slice(0, 4096)), /cut short|damaged/);
+});
+test("an archive of tiles that is opened is said, and painted", async () => {
+  let paints = 0;
+  const tiles = { archives: new Map(), size: 0, damaged: new Set(),
+    open(name, it) { this.archives.set(name, it); } };
+  const sources = new TileSources({ tiles, images: { all: [] } },
+    { tell() {}, paintSoon() { paints++; } });
+  const said = () => [document.getElementById("own-map").textContent, paints];
+  assert.equal(await sources.open("a.txt", new Blob(["x"])), false);
+  assert.deepEqual(said(), ["", 0]);
+  assert.equal(await sources.open("a.pmtiles", archive()), true);
+  assert.deepEqual(said(), ["Own map: a.pmtiles.", 1]);
 });

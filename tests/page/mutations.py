@@ -55,6 +55,11 @@ SURVIVORS: Dict[Tuple[str, str], str] = {
     ("main-node.js", "while (left > 0)"): "where no byte may follow none is read either",
     ("net/clock-offsets.js", "const below = list"): "a zero stands among others in either way",
     ("app/net-panel.js", "const note = input"): "a field is a letter wider",
+    ("app/net-panel.js", "const name = input"): "a field is a letter wider",
+    ("lists/table-view.js", "const { column, down } = this.order"): "of an order the sign counts",
+    ("util/time.js", "const ZONES"): "a time is looked at in a part more",
+    ("map/symbols.js", "motorcycle"): "a hub of a wheel is drawn from its other side",
+    ("net/book-slices.js", "if (begin < at) pieces"): "a piece of no bytes is one more",
 }
 
 
