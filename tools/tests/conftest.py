@@ -23,7 +23,7 @@ SAMPLES = HERE / "samples"  # what other programs wrote themselves
 EXAMPLES = HERE.parent.parent / "examples"
 EVENING = sorted(str(it) for it in EXAMPLES.glob("evening/*.log"))
 KEPT = "PYTHONPYCACHEPREFIX"  # says where Python keeps what it has compiled
-SHARING = {"test_cluster": 2, "test_hostile": 1, "test_serving": 1}
+SHARING = {"test_cluster": 3, "test_hostile": 1, "test_serving": 1}
 
 settings.register_profile("net", deadline=None, max_examples=100)
 settings.load_profile("net")
@@ -39,12 +39,15 @@ def pytest_configure(config: pytest.Config) -> None:
 
 
 def pytest_collection_modifyitems(items: List[pytest.Item]) -> None:
-    """Tests that share a server or a cluster are done by so many processes of pytest-xdist, each of
-    which begins its own."""
+    """Tests that share a server, a cluster or a page are done by so many processes of pytest-xdist,
+    each of which begins its own."""
     for stem, count in SHARING.items():
         own = [it for it in items if it.path.stem == stem]
         for number, it in enumerate(own):
             it.add_marker(pytest.mark.xdist_group(f"{stem} {number * count // len(own)}"))
+    for it in items:
+        if "both" in getattr(it, "fixturenames", ()):  # what the page says of cases of a kind
+            it.add_marker(pytest.mark.xdist_group(it.name.partition("[")[2]))
 
 
 def environment(**more: str) -> Dict[str, str]:

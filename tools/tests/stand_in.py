@@ -19,6 +19,9 @@ PROGRAM = os.path.basename(sys.argv[0])
 COLUMNS = ("source transmissions last receiver stamp latitude longitude ambiguity compressed "
            "symbol text status_last status_receiver status_stamp status_text").split()
 SOURCE = 16  # characters of a row
+# a line without a fault; its parts are looked at where it isn't one
+LINE = re.compile(r"(?:19|20)\d\d-\d\d-\d\dT\d\d:\d\d:\d\d(?:\.\d{3})?Z [A-Za-z0-9_-]{1,16} "
+                  r"(?:[0-9A-Fa-f]{2})*")
 
 
 def fail(words: str, status: int = 1) -> NoReturn:
@@ -52,13 +55,16 @@ def read(path: str, gap: int, widen: bool) -> Set[str]:
     for number, line in enumerate(text.split("\n")[:-1], 1):
         if len(line) > 8192:
             fail(f"{path}: line {number}: LongLine")
+        if LINE.fullmatch(line):
+            continue
         if not re.match(r"(19|20)\d\d-\d\d-\d\dT\d\d:\d\d:\d\d(\.\d{3})?Z ", line):
             fail(f"{path}: line {number}: Moment")
         if not re.match(r"[^ ]+ [A-Za-z0-9_-]{1,16} ", line):
             fail(f"{path}: line {number}: Receiver")
         if not re.fullmatch(r"[^ ]+ [^ ]+ ([0-9A-Fa-f]{2})*", line):
             fail(f"{path}: line {number}: Hex")
-    return {re.sub(r"(:\d\d)Z", r"\1.000Z", line) for line in text.splitlines()}
+    return {line if line[19] == "." else line.replace("Z", ".000Z", 1)
+            for line in text.splitlines()}
 
 
 def stations(rows: List[str]) -> str:

@@ -290,7 +290,7 @@ def test_a_large_log_in_pieces(club: Club, fan: str) -> None:
 @pytest.mark.parametrize("packed", [False, True])
 @pytest.mark.parametrize("at", [3, -3])
 def test_a_fault_in_a_piece_is_named_as_in_the_whole_log(club: Club, at: int, packed: bool) -> None:
-    lines = write_large(club, "HILL.log", 4)
+    lines = write_large(club, "HILL.log", 2)  # the first piece, the last, and one between
     lines[at] = b"noise\n"
     club.path("HILL.log").write_bytes(b"".join(lines))
     if packed:

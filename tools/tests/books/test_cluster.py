@@ -94,7 +94,6 @@ class Hosts:
     def begin(self) -> None:
         host, port = self.address[6:].split(":")
         self.scheduler = self.start(SCHEDULER, "--host", host, "--port", port, "--no-dashboard")
-        self.man(3)
 
     def man(self, count: int) -> None:
         """There are so many workers."""
@@ -146,12 +145,20 @@ class Hosts:
 
 
 @pytest.fixture(scope="module")
-def hosts(tmp_path_factory: pytest.TempPathFactory) -> Iterator[Hosts]:
+def unmanned(tmp_path_factory: pytest.TempPathFactory) -> Iterator[Hosts]:
+    """A scheduler, with the workers that tests before have left."""
     result = Hosts(tmp_path_factory.mktemp("hosts"))
     try:
         yield result
     finally:
         result.end()
+
+
+@pytest.fixture
+def hosts(unmanned: Hosts) -> Hosts:
+    """A scheduler with three workers."""
+    unmanned.man(3)
+    return unmanned
 
 
 def test_the_bytes_of_one_merge(hosts: Hosts) -> None:
@@ -206,7 +213,6 @@ def test_a_worker_is_killed(hosts: Hosts) -> None:
     hosts.workers.pop(0).kill()
     hosts.ends(run, 0)
     hosts.is_book("killed.book")
-    hosts.man(3)
 
 
 def test_two_of_three_workers_are_frozen(hosts: Hosts) -> None:
@@ -283,6 +289,7 @@ def test_the_scheduler_is_killed(hosts: Hosts) -> None:
     time.sleep(0.5)
     hosts.workers.clear()
     hosts.begin()
+    hosts.man(3)
     hosts.ends(run, 0)
     hosts.is_book("boss.book")
 
@@ -320,18 +327,19 @@ def test_a_faulty_book(hosts: Hosts) -> None:
     assert not (hosts.folder / "books.book").exists()
 
 
-def test_no_scheduler(hosts: Hosts) -> None:
-    run = hosts.start(*command("cluster", "--scheduler", "tcp://127.0.0.1:9", "--work", "work",
-                               "none.book", *hosts.logs))
-    assert "no scheduler is there" in hosts.ends(run, ExitStatus.MISSING)
+def test_no_scheduler(unmanned: Hosts) -> None:
+    """After twenty seconds, by a clock that runs ten times as fast."""
+    begin = [command()[0], HERE / "hurried.py", 10, "cluster"]
+    run = unmanned.start(*begin, "--scheduler", "tcp://127.0.0.1:9", "--work", "work", "none.book",
+                         *unmanned.logs)
+    assert "no scheduler is there" in unmanned.ends(run, ExitStatus.MISSING)
 
 
-def test_no_workers(hosts: Hosts) -> None:
-    for it in hosts.workers:
+def test_no_workers(unmanned: Hosts) -> None:
+    for it in unmanned.workers:
         it.kill()
         it.wait()
-    hosts.workers.clear()
-    run = hosts.start(*command("cluster", "--patience", 3, "--scheduler", hosts.address, "--work",
-                               "none", "none.book", *hosts.logs))
-    assert "the scheduler has no workers" in hosts.ends(run, ExitStatus.MISSING)
-    hosts.man(3)
+    unmanned.workers.clear()
+    run = unmanned.start(*command("cluster", "--patience", 3, "--scheduler", unmanned.address,
+                                  "--work", "none", "none.book", *unmanned.logs))
+    assert "the scheduler has no workers" in unmanned.ends(run, ExitStatus.MISSING)

@@ -78,7 +78,7 @@ class Cluster(Engine):
         self.is_unmanned = not workers
 
     def connect(self) -> Any:
-        client = self.dask.Client(self.address, timeout=CONNECT, set_as_default=False)
+        client = self.dask.Client(self.address, timeout=CLOCK.real(CONNECT), set_as_default=False)
         if not self.is_found and sys.stderr is not None and sys.stderr.isatty():
             with contextlib.suppress(Exception):  # a scheduler may have none
                 self.say(f"its dashboard is {client.dashboard_link}")
