@@ -126,3 +126,13 @@ def test_the_command(tmp_path: pathlib.Path) -> None:
     tried("token", "--remove", path, status=2)
     tried("token", path, "king", "HILL", status=2)
     assert b"no such" in tried("token", tmp_path / "none", status=1).stderr.lower()
+
+
+@pytest.mark.parametrize("end", ["", "\n"])
+def test_a_token_stands_on_a_line_of_its_own(tmp_path: pathlib.Path, end: str) -> None:
+    """Also where an editor has left the last line without its end."""
+    path = tmp_path / "tokens"
+    path.write_text(f"receiver HILL {'x' * 32}{end}")
+    path.chmod(0o600)
+    token = tokens.add(str(path), "desk", "BASE")
+    assert path.read_text() == f"receiver HILL {'x' * 32}\ndesk BASE {token}\n"
