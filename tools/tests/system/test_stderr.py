@@ -7,6 +7,9 @@ from typing import List
 import pytest
 from conftest import EVENING, command, environment
 
+from aprsbook_tools import stderr
+from aprsbook_tools.stderr import Level
+
 HILL = pathlib.Path([it for it in EVENING if "hill" in it][0])
 CUT = HILL.read_bytes()[:1000]  # of which something has to be said
 WHOLE = CUT[:CUT.rfind(b"\n") + 1]
@@ -45,3 +48,17 @@ def test_the_reader_of_standard_error_has_gone() -> None:
                           env=environment())
     os.close(writes)
     assert done.returncode == 0 and done.stdout == WHOLE
+
+
+@pytest.mark.parametrize("level, said", [
+    (Level.QUIET, "wrong"), (Level.PLAIN, "wrong good"), (Level.VERBOSE, "wrong good done")])
+def test_how_much_is_said(level: Level, said: str, capsys: pytest.CaptureFixture[str]) -> None:
+    stderr.set_level(level)
+    try:
+        stderr.warn("wrong")
+        stderr.note("good")
+        stderr.detail("done")
+        assert stderr.is_quiet() == (level == Level.QUIET)
+    finally:
+        stderr.set_level(Level.PLAIN)
+    assert capsys.readouterr().err == "".join(f"aprs-net: {it}\n" for it in said.split())
