@@ -47,7 +47,7 @@ def pytest_collection_modifyitems(items: List[pytest.Item]) -> None:
             it.add_marker(pytest.mark.xdist_group(f"{stem} {number * count // len(own)}"))
     for it in items:
         if "both" in getattr(it, "fixturenames", ()):  # what the page says of cases of a kind
-            it.add_marker(pytest.mark.xdist_group(it.name.partition("[")[2]))
+            it.add_marker(pytest.mark.xdist_group(it.name.partition("[")[2].rstrip("]")))
 
 
 def environment(**more: str) -> Dict[str, str]:
