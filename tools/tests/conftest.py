@@ -38,6 +38,7 @@ def pytest_configure(config: pytest.Config) -> None:
         config.add_cleanup(lambda: shutil.rmtree(folder, ignore_errors=True))
 
 
+@pytest.hookimpl(tryfirst=True)  # before pytest-xdist reads the marks
 def pytest_collection_modifyitems(items: List[pytest.Item]) -> None:
     """Tests that share a server, a cluster or a page are done by so many processes of pytest-xdist,
     each of which begins its own."""
