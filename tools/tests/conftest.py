@@ -28,6 +28,10 @@ SHARING = {"test_cluster": 3, "test_hostile": 1, "test_serving": 1}
 settings.register_profile("net", deadline=None, max_examples=100)
 settings.load_profile("net")
 
+Hook = Callable[[List[pytest.Item]], None]
+# a hook that comes before pytest-xdist reads the marks
+first: Callable[[Hook], Hook] = pytest.hookimpl(tryfirst=True)
+
 
 def pytest_configure(config: pytest.Config) -> None:
     """What Python compiles of the sources is kept for all processes that tests begin: to compile is
@@ -38,7 +42,7 @@ def pytest_configure(config: pytest.Config) -> None:
         config.add_cleanup(lambda: shutil.rmtree(folder, ignore_errors=True))
 
 
-@pytest.hookimpl(tryfirst=True)  # before pytest-xdist reads the marks
+@first
 def pytest_collection_modifyitems(items: List[pytest.Item]) -> None:
     """Tests that share a server, a cluster or a page are done by so many processes of pytest-xdist,
     each of which begins its own."""
