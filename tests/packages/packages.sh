@@ -91,7 +91,7 @@ rm installed/bin/other
 mkdir copy
 # with the pages, where they are built
 (cd "$repository" && { git ls-files && find tools/src/aprsbook_tools -name event.html &&
-    ls out/aprsbook.html 2> /dev/null || true; } | tar -cf - -T -) | tar -xf - -C copy
+    find . -path ./crates -prune -o -path ./out/aprsbook.html -print; } | tar -cf - -T -) | tar -xf - -C copy
 find copy -exec touch -h -t 202001020304 {} +
 # twice WORD..: packs the programs here, and in another folder, day, umask and time zone
 twice() {

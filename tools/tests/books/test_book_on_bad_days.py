@@ -1,6 +1,7 @@
 """aprs-net book on bad days: a signal, two runs at once, faulty inputs, and programs that fail.
 
 Each test is run with a stand-in for aprsbook, and with aprsbook itself where it is there."""
+import contextlib
 import fcntl
 import glob
 import gzip
@@ -19,6 +20,14 @@ from clubs import ALL, Club, runs_of
 from conftest import HERE, started, wait_for
 
 
+def is_running(number: int) -> bool:
+    """Whether a process of this number is there."""
+    with contextlib.suppress(ProcessLookupError):
+        os.kill(number, 0)
+        return True
+    return False
+
+
 @pytest.mark.parametrize("words", [[], ["--days", "days"], ["--work", "work"]])
 def test_a_signal_ends_what_runs_at_once(club: Club, words: List[str]) -> None:
     if club.bin is None:
@@ -34,8 +43,7 @@ def test_a_signal_ends_what_runs_at_once(club: Club, words: List[str]) -> None:
     run.terminate()
     assert run.wait(20) == -signal.SIGTERM and runs_of(club) == count
     for number in club.runs.read_text().split():
-        with pytest.raises(ProcessLookupError):
-            os.kill(int(number), 0)
+        wait_for(lambda: not is_running(int(number)), "the end of a program")
     left = {it for it in club.names() - before if not club.path(it).is_dir()}
     assert not left and not [it for it in club.names() if "aprs-net" in it]
 

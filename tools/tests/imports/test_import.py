@@ -542,6 +542,7 @@ class Endless(io.RawIOBase):
     def readinto(self, buffer: Any) -> int:
         size = min(len(buffer), self.left)
         assert size <= 1 << 20
+        buffer[:size] = bytes(size)  # it may have what another reader left
         self.left -= size
         return size
 

@@ -30,7 +30,7 @@ def spooled(paths: Sequence[str]) -> Iterator[List[str]]:
 
 
 @contextlib.contextmanager
-def plain(paths: Sequence[str], most_copied: int = 0) -> Iterator[List[str]]:
+def plain(paths: Sequence[str], most_copied: int = -1) -> Iterator[List[str]]:
     """The files that programs read for these: those below folders too, and compressed ones
     unpacked. Where there are no paths, or `-` alone, a program reads standard input. Inputs of no
     more bytes than `most_copied` are copied: whoever reads them twice reads one state."""
