@@ -2,7 +2,8 @@
 a connection that ended after a while is made again at once."""
 import os
 import select
-from typing import Any, Callable, Optional, Tuple
+import signal
+from typing import Any, Callable, List, Optional, Tuple
 
 from aprsbook_tools import signals
 from aprsbook_tools.errors import said
@@ -25,9 +26,16 @@ class Waiting:
     def __init__(self) -> None:
         self.asked = False
         self.waits = False
+        self.wakes: List[int] = []  # what a signal makes readable
 
     def heed(self) -> None:
-        """Takes SIGINT, SIGTERM and SIGHUP as asking for the end."""
+        """Takes SIGINT, SIGTERM and SIGHUP as asking for the end, also one that comes right before
+        a wait begins."""
+        if os.name != "nt" and not self.wakes:
+            wakes, sender = os.pipe()
+            os.set_blocking(sender, False)
+            signal.set_wakeup_fd(sender, warn_on_full_buffer=False)
+            self.wakes = [wakes]
         signals.heed(self.ask, "SIGINT", "SIGTERM", "SIGHUP")
 
     def ask(self, *_: object) -> None:
@@ -49,7 +57,8 @@ class Waiting:
         if os.name == "nt" and file == 0:
             return True
         real = None if seconds is None else CLOCK.real(seconds)
-        return bool(self.during(lambda: select.select([file], [], [], real)[0]))
+        read = [file, *self.wakes]
+        return bool(self.during(lambda: file in select.select(read, [], [], real)[0]))
 
     def pause(self, seconds: float) -> None:
         if seconds > 0:
