@@ -25,8 +25,8 @@ run:
 test:
 	@build/gate.py test
 
-# the gate: every proof from nothing, every edit that must fail, and these tests with the program that this
-# made, but those of aprs-net
+# the gate: every proof from nothing, edits that must fail, and these tests with the program that this made, but
+# those of aprs-net
 prove:
 	@build/gate.py prove
 
@@ -38,9 +38,9 @@ build:
 check:
 	@$(if $(CRATE),cd crates/$(CRATE) && rt check && cd ../.. && build/edits.py $(CRATE),build/gate.py check)
 
-# every edit that must fail, over what was proved before
+# every edit that must fail, anew, over what was proved before
 edits:
-	build/edits.py
+	build/edits.py --anew
 
 # the runs for other programs, each call proved: out/aprsbook.wasm for web pages, and the library for C
 # and other languages, out/aprsbook.h, out/libaprsbook.a and out/libaprsbook.so

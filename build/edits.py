@@ -1,11 +1,15 @@
 #!/usr/bin/env python3
 """Tries the edits that must fail, many in one check: those of edits/ and of crates/*/must-fail.
 
-usage: build/edits.py [--jobs N] [--alone] [--anew] [--only WORD] [CRATE..]
+usage: build/edits.py [--jobs N] [--alone] [--anew | --lot N [--seed WORD]] [--only WORD] [CRATE..]
 
 --jobs N   so many checks side by side, each with one job; --alone tries each edit in a check of its own;
---anew tries also what an earlier run refused of the same files; --only WORD tries the edits whose
-names have this word. Without a CRATE all crates that have edits are tried.
+--only WORD tries the edits whose names have this word. Without a CRATE all crates that have edits are tried.
+
+What is refused is noted in edits/CRATE/refused.txt, with a checksum of what this rests on: the kit, the
+edit, the functions that it changes, and all that the crate and those below it say but for bodies. Comments
+don't count. What is noted so isn't tried again, but with --anew, which tries all, and with --lot: that
+tries anew those of must-fail/, and of the others one in N, drawn by chance, or by the word of an earlier draw.
 
 A crate's edits of different functions are put into one copy of it, which is checked over what was
 proved of the crate before (`make build`). A goal of a function rests on the function's own code, and
@@ -14,17 +18,15 @@ goal of a function that it changes. What isn't refused so, and what shares no ch
 is tried alone. Before them the copy is checked as it stands, and has to be proved, unless build/prove.sh
 noted that it proved these very files.
 
-What was refused is kept in out/edits, by the kit and a checksum of the crate, of what it can know of those
-below it, and of the edit, each without its comments.
 Prints a line for each crate and each edit that isn't refused, and last `N passed, M failed`. Needs rt.
 """
 import argparse
 import concurrent.futures
 import functools
 import hashlib
-import json
 import os
 import pathlib
+import random
 import re
 import shutil
 import subprocess
@@ -39,7 +41,8 @@ import wrong_bodies
 from wrong_bodies import Edit, Function
 
 TOP = crates.TOP
-KEPT = TOP / "out" / "edits"
+# the file of a crate's verdicts, in its folder of edits/
+NOTED = "refused.txt"
 # where a check says that something is wrong
 SAID = re.compile(r"(note: )?(?:\./)?((?:src|proofs|specs)/\S+?):(\d+):(\d+): ?(.*)")
 # what is said of a declaration for want of another, and not of a goal of its own
@@ -174,45 +177,58 @@ def kit() -> str:
     return said.stdout.strip()
 
 
-def meaning_of(crate: str) -> str:
-    """A checksum over a crate, and over what its proofs can know of those below: their definitions, and
-    their sources but for bodies. Comments don't count."""
-    def source(text: bytes) -> bytes:
+def said_by(crate: str) -> str:
+    """A checksum over all that a proof of this crate can know but for bodies: its definitions and proofs,
+    the definitions of those below, and the clauses of all."""
+    def clauses(text: bytes) -> bytes:
         return crates.without_comments(wrong_bodies.without_bodies(text))
 
     lower = crates.below(crate)
-    own = crates.sum_of([crate], crates.without_comments)
+    own = crates.sum_of([crate], crates.without_comments, ["specs", "proofs"])
     definitions = crates.sum_of(lower, crates.without_comments, ["specs"])
-    return f"{own} {definitions} {crates.sum_of(lower, source, ['src'])}"
+    return f"{own} {definitions} {crates.sum_of([*lower, crate], clauses, ['src'])}"
 
 
-class Kept:
-    """What earlier runs refused of a crate's edits."""
+class Verdicts:
+    """The edits of a crate that were refused, by what these verdicts rest on."""
 
-    def __init__(self, crate: str, is_anew: bool) -> None:
-        self.path = KEPT / f"{crate}.json"
-        self.sum = f"{kit()} {meaning_of(crate)}"
-        self.refused: Set[str] = set()
-        if self.path.is_file() and not is_anew:
-            try:
-                known = json.loads(self.path.read_text(encoding="utf-8"))
-                if known["sum"] == self.sum:
-                    self.refused = set(known["refused"])
-            except (ValueError, KeyError, TypeError):
-                # a file that a killed run left half written says nothing
-                pass
+    def __init__(self, crate: str) -> None:
+        self.crate, self.path = crate, TOP / "edits" / crate / NOTED
+        self.said = f"{kit()} {said_by(crate)}"
+        lines = self.path.read_text(encoding="utf-8").splitlines() if self.path.is_file() else []
+        self.noted = dict(it.split(" ", 1) for it in lines if " " in it)
 
-    @staticmethod
-    def name_of(edit: Edit) -> str:
-        """The edit by what it says."""
-        return hashlib.sha256(edit.text.encode()).hexdigest()
+    def sum_of(self, edit: Edit) -> str:
+        """A checksum of what the verdict on this edit rests on."""
+        folder, bodies = TOP / "crates" / self.crate, ""
+        if edit.is_alone:
+            bodies = crates.sum_of([self.crate], crates.without_comments, ["src"])
+        for it in sorted(edit.changed):
+            lines = (folder / it.file).read_text(encoding="utf-8").split("\n")
+            body = "\n".join(lines[it.first - 1:it.last]) + "\n"
+            bodies += crates.without_comments(body.encode()).decode()
+        return hashlib.sha256(f"{self.said}\n{edit.text}\n{bodies}".encode()).hexdigest()[:24]
 
-    def keep(self, edit: Edit) -> None:
-        """Keeps that this edit is refused."""
-        self.refused.add(self.name_of(edit))
+    def has(self, edit: Edit) -> bool:
+        """Whether this edit is noted as refused, of these very sources."""
+        return self.noted.get(edit.name) == self.sum_of(edit)
+
+    def note(self, edit: Edit, is_refused: bool) -> None:
+        """Notes what became of an edit."""
+        self.noted.pop(edit.name, None)
+        if is_refused:
+            self.noted[edit.name] = self.sum_of(edit)
+        self.write()
+
+    def write(self) -> None:
+        """Writes the verdicts, in order, where they aren't those of the file."""
+        names = {it.name for it in paths_of(self.crate)}
+        text = "".join(f"{name} {it}\n" for name, it in sorted(self.noted.items()) if name in names)
+        if self.path.is_file() and self.path.read_text(encoding="utf-8") == text:
+            return
         self.path.parent.mkdir(parents=True, exist_ok=True)
         new = self.path.with_suffix(".new")
-        new.write_text(json.dumps({"sum": self.sum, "refused": sorted(self.refused)}))
+        new.write_text(text, encoding="utf-8")
         new.replace(self.path)
 
 
@@ -225,7 +241,7 @@ class Trial:
         self.told: Dict[str, Told] = {}
         self.checks = 0
         self.lock = threading.Lock()
-        self.kept = Kept(crate, asked.anew)
+        self.verdicts = Verdicts(crate)
         for path in paths_of(crate):
             if asked.only not in path.name:
                 continue
@@ -244,8 +260,7 @@ class Trial:
         """Notes what is told of an edit."""
         with self.lock:
             self.told[edit.name] = told
-            if told.is_refused:
-                self.kept.keep(edit)
+            self.verdicts.note(edit, told.is_refused)
 
     def try_lot(self, lot: Sequence[Edit]) -> None:
         """Tries these in one check, without those that don't compile."""
@@ -265,11 +280,24 @@ class Trial:
         check, texts = self.checked([edit])
         self.note(edit, judged_alone(edit, check, texts, self.crate))
 
+    def known(self) -> List[Edit]:
+        """The edits that are noted as refused, without those that are tried anew."""
+        if self.asked.anew:
+            return []
+        known = [it for it in self.edits if self.verdicts.has(it)]
+        if not self.asked.lot:
+            return known
+        folder = TOP / "edits" / self.crate
+        known = [it for it in known if (folder / it.name).is_file()]
+        drawn = random.Random(f"{self.asked.seed} {self.crate}")
+        return drawn.sample(known, len(known) - -(-len(known) // self.asked.lot))
+
     def run(self) -> None:
-        """Tries what no earlier run refused: in lots, and the rest alone."""
-        known = [it for it in self.edits if self.kept.name_of(it) in self.kept.refused]
-        self.told.update((it.name, Told(True, "by an earlier run")) for it in known)
+        """Tries what isn't known: in lots, and the rest alone."""
+        known = self.known()
+        self.told.update((it.name, Told(True, "as noted")) for it in known)
         left = [it for it in self.edits if it not in known]
+        self.verdicts.write()
         if not left:
             return
         if not crates.is_proved(self.crate) and self.checked([])[0].status:
@@ -301,9 +329,10 @@ def tried(crate: str, asked: argparse.Namespace, turns: threading.Semaphore) -> 
     passed = sum(it.is_refused for it in trial.told.values())
     failed = len(trial.told) - passed
     took = time.monotonic() - began
+    drawn = f" (lot {asked.seed})" if asked.lot else ""
     print(
         f"{crate}: {passed} of {len(trial.told)} edits are refused,"
-        f" by {trial.checks} checks in {took:.0f} s", flush=True,
+        f" by {trial.checks} checks in {took:.0f} s{drawn}", flush=True,
     )
     for name, told in sorted(trial.told.items()):
         if not told.is_refused:
@@ -317,7 +346,10 @@ def main(words: Optional[List[str]] = None) -> int:
     parser.add_argument("crates", nargs="*", metavar="CRATE")
     parser.add_argument("--jobs", type=int, default=os.cpu_count() or 1)
     parser.add_argument("--alone", action="store_true")
-    parser.add_argument("--anew", action="store_true")
+    which = parser.add_mutually_exclusive_group()
+    which.add_argument("--anew", action="store_true")
+    which.add_argument("--lot", type=int, default=0, metavar="N")
+    parser.add_argument("--seed", default=f"{random.SystemRandom().getrandbits(32):08x}", metavar="WORD")
     parser.add_argument("--only", default="", metavar="WORD")
     asked = parser.parse_args(words)
     names = asked.crates or [it for it in crates.rows() if paths_of(it)]

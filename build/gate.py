@@ -1,9 +1,10 @@
 #!/usr/bin/env python3
 """Proves and tries everything of this repository, side by side.
 
-usage: build/gate.py prove    the gate: every proof from nothing, every edit that must fail, every test but
-                              those of aprs-net
-       build/gate.py check    the same over what was proved before
+usage: build/gate.py prove    the gate: every proof from nothing, every test but those of aprs-net, and of the
+                              edits that must fail those of must-fail/, one in LOT of the others,
+                              drawn by chance, and each that isn't noted as refused
+       build/gate.py check    the same over what was proved before, but for the edits that are noted
        build/gate.py build    the proofs of the program and of what it stands on, over those before
        build/gate.py test     every test, and no proof; with programs of these sources those of programs
 
@@ -27,9 +28,11 @@ from jobs import Job
 
 TOP = crates.TOP
 ASIDE = TOP / "out" / "before"
-# how long a job takes, in lines that are proved: an edit, the link of a program, and a make of tests;
-# what a line of a test takes
-EDIT, LINK, TEST, LINE_OF_TEST = 160, 2_500, 4_000, 3
+# how long a job takes, in lines that are proved: an edit, the first check for edits, the link of a program,
+# and a make of tests; what a line of a test takes
+EDIT, CHECK, LINK, TEST, LINE_OF_TEST = 160, 600, 2_500, 4_000, 3
+# one in so many of the edits that are noted as refused is tried anew by the gate
+LOT = 12
 # the target that makes the page of an event, where that can be done
 PAGE = "event-page-here"
 # the crate of the program that is installed, by whatever name it is called
@@ -73,13 +76,14 @@ def proofs(names: Sequence[str]) -> Iterator[Job]:
             yield Job("stored runs", ["build/stored_run.sh"], frozenset([name]))
 
 
-def trials() -> Iterator[Job]:
+def trials(lot: Sequence[str]) -> Iterator[Job]:
     """The edits of each crate, once it is proved."""
     for name in crates.rows():
         count = len(edits.paths_of(name))
         if count:
-            command = ["build/edits.py", "--jobs", jobs.JOBS, name]
-            yield Job(f"edits of {name}", command, frozenset([name]), count * EDIT, 2)
+            command = ["build/edits.py", *lot, "--jobs", jobs.JOBS, name]
+            size = CHECK + count // LOT * EDIT
+            yield Job(f"edits of {name}", command, frozenset([name]), size, 2)
 
 
 def make(target: str, *after: str) -> Job:
@@ -106,15 +110,20 @@ def build() -> List[Job]:
     return list(proofs([*crates.below(PROGRAM), PROGRAM]))
 
 
-def prove() -> List[Job]:
-    """The gate."""
+def check() -> List[Job]:
+    """The gate, over what was proved and refused before."""
+    return prove(())
+
+
+def prove(lot: Sequence[str] = ("--lot", str(LOT))) -> List[Job]:
+    """The gate, with such a lot of the edits."""
     every = [it for it in crates.rows() if not is_tried(it)]
     release = Job("release", ["build/objects.sh", "--compare"], frozenset([PROGRAM]))
     # of aprs-net the types alone: its tests wait for clocks and servers, and are those of `make test`
     tools = Job("types of tools", ["tests/sources/tools.sh"], frozenset(), TEST)
     of_programs = [make("tried", PROGRAM, PAGE), release]
     of_sources = [*tests_of_crates(), *tests_of_sources(), tools]
-    return [*proofs(every), *trials(), *of_sources, *of_programs]
+    return [*proofs(every), *trials(lot), *of_sources, *of_programs]
 
 
 def test() -> List[Job]:
@@ -169,7 +178,7 @@ def run(plan: List[Job]) -> int:
 
 def main(words: Sequence[str]) -> int:
     """Does what the words ask for."""
-    plans = {"prove": prove, "check": prove, "build": build, "test": test}
+    plans = {"prove": prove, "check": check, "build": build, "test": test}
     if len(words) != 1 or words[0] not in plans:
         print(__doc__, file=sys.stderr)
         return 2
