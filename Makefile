@@ -110,12 +110,11 @@ reading:
 # what is tried with the program: 0 to 100 inputs, 200,000 receptions, lines without an end, tables of
 # random logs, the README from its top, the old club's book, gaps, outputs that take nothing, what happens
 # to books, folds, the units, and each awk; and with all programs: what they complain of, the history, the
-# tables, the version, the packages, and the same on other machines
+# tables, the version and the packages
 of_programs = $(1:%=programs/%)
 TRIED = documents/readme $(call of_programs,old_book gaps full_output books fold) packages/units \
     programs/awks
-TRIED_ALL = $(call of_programs,complaints history table) documents/version packages/packages \
-    programs/everywhere
+TRIED_ALL = $(call of_programs,complaints history table) documents/version packages/packages
 passes = { $(1) || { echo 'failed: $(1)' >&2; exit 1; }; } &&
 tries = $(call passes,tests/programs/arguments.py $(PROGRAM)) \
     $(call passes,tests/programs/ample.py $(PROGRAM)) \
@@ -124,15 +123,18 @@ tries = $(call passes,tests/programs/arguments.py $(PROGRAM)) \
     $(foreach it,$(TRIED),$(call passes,tests/$(it).sh $(PROGRAM))) \
     $(foreach it,$(TRIED_ALL),$(call passes,tests/$(it).sh $(PROGRAM) $(HISTORY) $(TABLE)))
 
-# these, and the recipes that need only a POSIX system, with the programs that build/programs.sh finds; each
-# says what it leaves out because a tool isn't there
-.PHONY: tried
-tried:
+# these, and the recipes that need only a POSIX system, with the programs that build/programs.sh finds; then
+# what they answer on other machines; each says what it leaves out because a tool isn't there
+.PHONY: tried tried-here tried-elsewhere
+tried: tried-here tried-elsewhere
+tried-here tried-elsewhere:
 	@programs=$$(build/programs.sh) && set -- $$programs && \
-	    $(MAKE) --no-print-directory tried-with PROGRAM=$$1 HISTORY=$$2 TABLE=$$3
-.PHONY: tried-with
-tried-with:
+	    $(MAKE) --no-print-directory $@-with PROGRAM=$$1 HISTORY=$$2 TABLE=$$3
+.PHONY: tried-here-with tried-elsewhere-with
+tried-here-with:
 	@$(tries) $(call passes,examples/cookbook.sh --posix $(PROGRAM)) true
+tried-elsewhere-with:
+	@tests/programs/everywhere.sh $(PROGRAM) $(HISTORY) $(TABLE)
 
 # the same, with the programs for other machines, where all programs are newer than their sources
 recipes:
@@ -144,6 +146,7 @@ recipes:
 cookbook: build
 	@$(MAKE) --no-print-directory elsewhere
 	@$(tries) $(call passes,examples/cookbook.sh $(PROGRAM)) true
+	@$(MAKE) --no-print-directory tried-elsewhere-with
 	tests/sources/tools.sh --all $(PROGRAM)
 	$(MAKE) --no-print-directory clib wasm page
 	tests/library/clib.sh $(PROGRAM)

@@ -121,7 +121,7 @@ def prove(lot: Sequence[str] = ("--lot", str(LOT))) -> List[Job]:
     release = Job("release", ["build/objects.sh", "--compare"], frozenset([PROGRAM]))
     # of aprs-net the types alone: its tests wait for clocks and servers, and are those of `make test`
     tools = Job("types of tools", ["tests/sources/tools.sh"], frozenset(), TEST)
-    of_programs = [make("tried", PROGRAM, PAGE), release]
+    of_programs = [make("tried-here", PROGRAM, PAGE), make("tried-elsewhere", PROGRAM), release]
     of_sources = [*tests_of_crates(), *tests_of_sources(), tools]
     return [*proofs(every), *trials(lot), *of_sources, *of_programs]
 
@@ -134,7 +134,9 @@ def test() -> List[Job]:
     found = subprocess.run(["build/programs.sh"], cwd=TOP, capture_output=True, check=False)
     if found.returncode:
         print(f"left out: the tests of programs ({found.stderr.decode().strip()})", flush=True)
-    of_programs = [make("tools", PAGE)] if found.returncode else [make("tried", PAGE), make("tools", PAGE)]
+    of_programs = [make("tools", PAGE)]
+    if not found.returncode:
+        of_programs += [make("tried-here", PAGE), make("tried-elsewhere")]
     of_crates = list(tests_of_crates()) if has_kit else []
     return [*of_crates, *tests_of_sources(), *of_programs]
 
