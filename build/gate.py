@@ -19,7 +19,7 @@ import pathlib
 import shutil
 import subprocess
 import sys
-from typing import Iterator, List, Sequence
+from typing import Callable, Dict, Iterator, List, Sequence
 
 import crates
 import edits
@@ -180,7 +180,9 @@ def run(plan: List[Job]) -> int:
 
 def main(words: Sequence[str]) -> int:
     """Does what the words ask for."""
-    plans = {"prove": prove, "check": check, "build": build, "test": test}
+    plans: Dict[str, Callable[[], List[Job]]] = {
+        "prove": prove, "check": check, "build": build, "test": test,
+    }
     if len(words) != 1 or words[0] not in plans:
         print(__doc__, file=sys.stderr)
         return 2
