@@ -11,7 +11,7 @@ import pathlib
 import re
 import shutil
 import sys
-from typing import Callable, Dict, List, NamedTuple, Sequence
+from typing import Callable, Dict, List, NamedTuple, Optional, Pattern, Sequence
 
 TOP = pathlib.Path(__file__).resolve().parent.parent
 # what a check reads of a crate
@@ -56,12 +56,16 @@ def files_of(crate: str, parts: Sequence[str] = PARTS) -> List[pathlib.Path]:
 
 def sum_of(
     crates: Sequence[str], of: Callable[[bytes], bytes] = bytes, parts: Sequence[str] = PARTS,
+    without: Optional[Pattern[str]] = None,
 ) -> str:
-    """A checksum over the rows of these crates, and over what is read of each file of these parts."""
+    """A checksum over the rows of these crates, and over what is read of each file of these parts, but
+    those whose paths have such a text."""
     every, found = rows(), hashlib.sha256()
     for crate in crates:
         found.update(every[crate].line.encode())
         for path in files_of(crate, parts):
+            if without and without.search(str(path.relative_to(TOP))):
+                continue
             content = hashlib.sha256(of(path.read_bytes())).hexdigest()
             found.update(f"{path.relative_to(TOP)} {content}\n".encode())
     return found.hexdigest()

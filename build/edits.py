@@ -7,8 +7,8 @@ usage: build/edits.py [--jobs N] [--alone] [--anew | --lot N [--seed WORD]] [--o
 --only WORD tries the edits whose names have this word. Without a CRATE all crates that have edits are tried.
 
 What is refused is noted in edits/CRATE/refused.txt, with a checksum of what this rests on: the kit, the
-edit, the functions that it changes, and all that the crate and those below it say but for bodies. Comments
-don't count. What is noted so isn't tried again, but with --anew, which tries all, and with --lot: that
+edit, the functions that it changes, and all that the crate and those below it say but for bodies, comments
+and examples. What is noted so isn't tried again, but with --anew, which tries all, and with --lot: that
 tries anew those of must-fail/, and of the others one in N, drawn by chance, or by the word of an earlier draw.
 
 A crate's edits of different functions are put into one copy of it, which is checked over what was
@@ -34,13 +34,15 @@ import sys
 import tempfile
 import threading
 import time
-from typing import Dict, List, NamedTuple, Optional, Sequence, Set, Tuple
+from typing import Dict, List, NamedTuple, Optional, Sequence, Tuple
 
 import crates
 import wrong_bodies
 from wrong_bodies import Edit, Function
 
 TOP = crates.TOP
+# files of worked examples
+EXAMPLES = re.compile(r"[Ee]xamples?\b|/Worked")
 # the file of a crate's verdicts, in its folder of edits/
 NOTED = "refused.txt"
 # where a check says that something is wrong
@@ -179,14 +181,14 @@ def kit() -> str:
 
 def said_by(crate: str) -> str:
     """A checksum over all that a proof of this crate can know but for bodies: its definitions and proofs,
-    the definitions of those below, and the clauses of all."""
+    the definitions of those below, and the clauses of all. No proof rests on an example."""
     def clauses(text: bytes) -> bytes:
         return crates.without_comments(wrong_bodies.without_bodies(text))
 
-    lower = crates.below(crate)
-    own = crates.sum_of([crate], crates.without_comments, ["specs", "proofs"])
-    definitions = crates.sum_of(lower, crates.without_comments, ["specs"])
-    return f"{own} {definitions} {crates.sum_of([*lower, crate], clauses, ['src'])}"
+    plain, lower = crates.without_comments, crates.below(crate)
+    own = crates.sum_of([crate], plain, ["specs", "proofs"], EXAMPLES)
+    definitions = crates.sum_of(lower, plain, ["specs"], EXAMPLES)
+    return f"{own} {definitions} {crates.sum_of([*lower, crate], clauses, ['src'], EXAMPLES)}"
 
 
 class Verdicts:
