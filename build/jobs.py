@@ -108,7 +108,8 @@ def ways(jobs: Sequence[Job]) -> Dict[str, int]:
 
 
 class Runner:
-    """Jobs that run on so many processors, what has the longest way before it first."""
+    """Jobs that run on so many processors, what has the longest way before it first, on half of what is free
+    where it can use that."""
 
     def __init__(self, jobs: Sequence[Job], processors: int) -> None:
         self.waiting = list(jobs)
@@ -147,10 +148,11 @@ class Runner:
         with self.changed:
             while self.waiting or self.free < self.processors:
                 ready = self.ready()
+                half = self.free // 2
                 while ready and self.free:
                     job = ready.pop(0)
-                    share = max(1, self.free // (len(ready) + 1))
-                    processors = min(job.most, share, self.free)
+                    share = max(1, self.free // (len(ready) + 1), half)
+                    processors, half = min(job.most, share, self.free), 0
                     self.waiting.remove(job)
                     self.free -= processors
                     threads.append(threading.Thread(target=self.work, args=(job, processors)))

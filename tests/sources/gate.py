@@ -83,6 +83,11 @@ class Runs(unittest.TestCase):
         self.assertEqual(run(plan, 8)[0], (4, 0))
         self.assertEqual(run(plan, 3)[0], (3, 0))
 
+    def test_the_longest_way_has_half(self) -> None:
+        plan = [Job(it, ["echo", "{jobs} passed, 0 failed"], size=size, most=4)
+                for it, size in (("b", 1), ("a", 9), ("c", 1), ("d", 1))]
+        self.assertIn("a: 2 passed", run(plan, 4)[1])
+
 
 class Aside(unittest.TestCase):
     """What is set aside of earlier proofs comes back where nothing whole stands in its place."""
