@@ -131,6 +131,23 @@ noted k q es es' known new x some e made =
     ap entry_known (e ∙ ap (λ b. cond b (Some new) (entry_at q es)) t)
     ∙ ap (λ b. cond b (Some (greater_known (known_at q es) x)) (known_at q es)) (sym t))
 
+pub first_noted : (k q : List ℕ) (es es' : Entries) (new : Option Received) (x : Received)
+    → entry_at k es ≡ None
+    → entry_at q es' ≡ cond (is_eq (bytes_cmp k q)) (Some new) (entry_at q es) → new ≡ Some x
+    → known_at q es' ≡ cond (is_eq (bytes_cmp k q)) (Some (greater_known (known_at q es) x))
+    (known_at q es)
+first_noted k q es es' new x none e made =
+    by_test (is_eq (bytes_cmp k q))
+    (λ t.
+    ap entry_known (e ∙ ap (λ b. cond b (Some new) (entry_at q es)) t)
+    ∙ made
+    ∙ ap (λ o. Some (greater_known (entry_known o) x))
+    (sym none ∙ ap (λ b. entry_at b es) (same_of k q t))
+    ∙ ap (λ b. cond b (Some (greater_known (known_at q es) x)) (known_at q es)) (sym t))
+    (λ t.
+    ap entry_known (e ∙ ap (λ b. cond b (Some new) (entry_at q es)) t)
+    ∙ ap (λ b. cond b (Some (greater_known (known_at q es) x)) (known_at q es)) (sym t))
+
 -- ---- the same of a map's entries
 
 some_alike : {X Y : Type 0} (f : X → Y) (o : Option X) → is_some (option_map f o) ≡ is_some o
@@ -170,28 +187,41 @@ module _ {K X : Type 0} (bytes : K → List ℕ) (received : X → Received) (k 
   known_got o e = sym (known_alike received o)
       ∙ ap entry_known (ap (option_map (option_map received)) e ∙ entry_of)
 
+  inserted_at : (es' : List (K × Option X)) (key : K) (new : Option X) → bytes key ≡ k
+      → es' ≡ insert_entry (λ a b. bytes_cmp (bytes a) (bytes b)) es key new → (q : List ℕ)
+      → entry_at q (plain_entries bytes received es')
+      ≡ cond (is_eq (bytes_cmp k q)) (Some (option_map received new)) (entry_at q now)
+  inserted_at es' key new own put q =
+      sym (plain_got bytes received q es')
+      ∙ ap (λ l. option_map (option_map received) (got bytes q l)) put
+      ∙ ap (option_map (option_map received)) (got_insert bytes key q es new)
+      ∙ ap (λ b. option_map (option_map received)
+      (cond (is_eq (bytes_cmp b q)) (Some new) (got bytes q es))) own
+      ∙ cond_alike (option_map received) (is_eq (bytes_cmp k q)) new (got bytes q es)
+      ∙ ap (λ o. cond (is_eq (bytes_cmp k q)) (Some (option_map received new)) o)
+      (plain_got bytes received q es ∙ ap (entry_at q) view)
+
   module _ (es' : List (K × Option X)) (key : K) (own : bytes key ≡ k)
       (put : es' ≡ insert_entry (λ a b. bytes_cmp (bytes a) (bytes b)) es key None) where
-    inserted_at : (q : List ℕ) → entry_at q (plain_entries bytes received es')
-        ≡ cond (is_eq (bytes_cmp k q)) (Some None) (entry_at q now)
-    inserted_at q =
-        sym (plain_got bytes received q es')
-        ∙ ap (λ l. option_map (option_map received) (got bytes q l)) put
-        ∙ ap (option_map (option_map received)) (got_insert bytes key q es None)
-        ∙ ap (λ b. option_map (option_map received)
-        (cond (is_eq (bytes_cmp b q)) (Some None) (got bytes q es))) own
-        ∙ cond_alike (option_map received) (is_eq (bytes_cmp k q)) None (got bytes q es)
-        ∙ ap (λ o. cond (is_eq (bytes_cmp k q)) (Some None) o)
-        (plain_got bytes received q es ∙ ap (entry_at q) view)
-
     pub placed_same : false ≡ is_some (got bytes k es) → (q : List ℕ)
         → known_at q (plain_entries bytes received es') ≡ known_at q now
     placed_same e q =
         placed k q now (plain_entries bytes received es')
-        (none_of (entry_at k now) (e ∙ some_of)) (inserted_at q)
+        (none_of (entry_at k now) (e ∙ some_of)) (inserted_at es' key None own put q)
 
     pub placed_made : HasEntry k (plain_entries bytes received es')
-    placed_made = placed_there k now (plain_entries bytes received es') (inserted_at k)
+    placed_made =
+        placed_there k now (plain_entries bytes received es') (inserted_at es' key None own put k)
+
+  pub first_at : (es' : List (K × Option X)) (key : K) (new : X) (x : Received) → bytes key ≡ k
+      → es' ≡ insert_entry (λ a b. bytes_cmp (bytes a) (bytes b)) es key (Some new)
+      → received new ≡ x → None ≡ got bytes k es → (q : List ℕ)
+      → known_at q (plain_entries bytes received es') ≡ cond (is_eq (bytes_cmp k q))
+      (Some (greater_known (known_at q now) x)) (known_at q now)
+  first_at es' key new x own put made none q =
+      first_noted k q now (plain_entries bytes received es') (Some (received new)) x
+      (sym (ap (option_map (option_map received)) none ∙ entry_of))
+      (inserted_at es' key (Some new) own put q) (ap Some made)
 
   pub noted_at : (es' : List (K × Option X)) (known new : Option X) (x : Received) (q : List ℕ)
       → Some known ≡ got bytes k es → es' ≡ set_value (at bytes k) es new

@@ -95,8 +95,8 @@ impl<X: Kept, A: Allocator + Copy> Index<X, A> {
             keep(known, x);
             return Ok(());
         }
-        self.reserve(bytes)?;
-        self.note(bytes, x);
+        let key = Vec::from_slice(self.alloc, bytes)?;
+        self.map.insert(key, Some(X::kept_from(x)))?;
         Ok(())
     }
 
