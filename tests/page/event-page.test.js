@@ -177,6 +177,24 @@ test("a name keeps its side in a map of one size", { skip }, () => {
     map.paint();
   }
 });
+test("a tap beside all marks puts together what fanned out, and it is seen", { skip }, () => {
+  const { layers: { stations }, map } = aprsbook;
+  let painted = 0;
+  const surface = { view: map.view, paintSoon: () => painted++, closer() {} };
+  map.fit();
+  map.paint();
+  const lie = stations.marks.map(it => [it.x, it.y]);
+  // two of them lie in one place
+  Object.assign(stations.marks[1], { x: lie[0][0], y: lie[0][1] });
+  const { key } = stations.marks[0].thing;
+  stations.tap(...lie[0], surface);
+  assert.deepEqual([stations.fan.keys.includes(key), stations.fan.keys.length, painted],
+    [true, 2, 1]);
+  stations.tap(-500, -500, surface);
+  assert.deepEqual([stations.fan.isOpen, painted], [false, 2]);
+  map.paint();
+  assert.deepEqual(stations.marks.map(it => [it.x, it.y]), lie);
+});
 test("what is chosen of the look is kept for the next page", { skip }, () => {
   const keptOf = name => localStorage.getItem(`aprsbook ${name}`);
   for (const [field, value, name, other] of [["place-form", "utm", "form", ""],
