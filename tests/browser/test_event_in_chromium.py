@@ -113,6 +113,20 @@ def test_times_of_two_years(page: Chromium, folder: pathlib.Path) -> None:
                 "it.scrollWidth > it.clientWidth).length"), 0)
 
 
+def test_a_tool_that_is_on(page: Chromium, folder: pathlib.Path) -> None:
+    """A tool of the map that is on is told from the others by its colour, the system's too."""
+    page.open(page_of(folder / "tools.html", place(0, "Q1A", 54.5, -3.5)))
+    look = "(it => [it.borderTopColor, it.color, it.outline])(getComputedStyle(%s))"
+    measure, play = (look % f"document.getElementById('{it}')" for it in ("measure", "play"))
+    is_(page.js(measure), page.js(play))
+    page.js("document.getElementById('measure').click()")
+    on, off = page.js(measure), page.js(play)
+    assert on[0] != off[0] and on[1] != off[1], (on, off)
+    page.call("Emulation.setEmulatedMedia", features=[{"name": "forced-colors", "value": "active"}])
+    assert page.js(measure)[2] != page.js(play)[2]
+    page.call("Emulation.setEmulatedMedia", features=[])
+
+
 def test_marks_without_a_font(page: Chromium, folder: pathlib.Path) -> None:
     """A message of marks that no font has pushes no column out of its box."""
     lines = place(0, "Q1A", 54.5, -3.5)
