@@ -1,7 +1,10 @@
-"""A browser for each file of tests of the page, and a folder for each test."""
+"""A browser for each file of tests of the page, and a folder for each test. With RAN, a folder, in
+the environment it is written there what each test in Chromium runs of the page's script."""
+import os
 import pathlib
 import sys
 import tempfile
+import time
 from typing import Dict, Iterator, Type
 
 import pytest
@@ -10,9 +13,13 @@ sys.dont_write_bytecode = True
 sys.path.append(str(pathlib.Path(__file__).resolve().parent))
 pytest.importorskip("selenium", reason="needs Debian's python3-selenium")
 from browser import Browser, Chromium  # noqa: E402 (it lies beside this)
+from counting import Counting  # noqa: E402
 from firefox import Firefox  # noqa: E402
 
+RAN = os.environ.get("RAN")
 KINDS: Dict[str, Type[Browser]] = {"Chromium": Chromium, "Firefox": Firefox}
+if RAN:
+    KINDS["Chromium"] = Counting
 
 
 def pytest_configure(config: pytest.Config) -> None:
@@ -25,6 +32,16 @@ def pytest_generate_tests(metafunc: pytest.Metafunc) -> None:
         marks = list(metafunc.definition.iter_markers("browsers"))
         names = marks[0].args if marks else tuple(KINDS)
         metafunc.parametrize("page", names, indirect=True, scope="module")
+
+
+@pytest.fixture(autouse=True)
+def counted(request: pytest.FixtureRequest) -> Iterator[None]:
+    """Writes what a test ran, where that is wanted."""
+    begin, test = time.monotonic(), request.node
+    yield
+    page = test.funcargs.get("page")
+    if RAN and isinstance(page, Counting):
+        page.write(pathlib.Path(RAN), test.path.name, test.name, time.monotonic() - begin)
 
 
 @pytest.fixture(scope="module")

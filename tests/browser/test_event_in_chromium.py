@@ -102,6 +102,31 @@ def test_contained(page: Chromium, folder: pathlib.Path) -> None:
             (width, []))
 
 
+def test_times_of_two_years(page: Chromium, folder: pathlib.Path) -> None:
+    """On a phone a time with its date stays in its column of the form ICS-309."""
+    said = "".join(message("Q1A", "Q1B", "?", "unanswered", it, id="1") for it in (1, 1500))
+    said = said.replace("2024-06-22", "2025-06-22")
+    page.open(page_of(folder / "years.html", place(0, "Q1A", 54.5, -3.5), said), 390, 800)
+    page.js("document.getElementById('ics-open').click()")
+    is_(page.js(texts % "#ics-sheets .time"), ["2024-06-21 00:01:00", "2025-06-22 01:00:00"])
+    is_(page.js("[...document.querySelectorAll('#ics-sheets .time')].filter(it => "
+                "it.scrollWidth > it.clientWidth).length"), 0)
+
+
+def test_a_tool_that_is_on(page: Chromium, folder: pathlib.Path) -> None:
+    """A tool of the map that is on is told from the others by its colour, the system's too."""
+    page.open(page_of(folder / "tools.html", place(0, "Q1A", 54.5, -3.5)))
+    look = "(it => [it.borderTopColor, it.color, it.outline])(getComputedStyle(%s))"
+    measure, play = (look % f"document.getElementById('{it}')" for it in ("measure", "play"))
+    is_(page.js(measure), page.js(play))
+    page.js("document.getElementById('measure').click()")
+    on, off = page.js(measure), page.js(play)
+    assert on[0] != off[0] and on[1] != off[1], (on, off)
+    page.call("Emulation.setEmulatedMedia", features=[{"name": "forced-colors", "value": "active"}])
+    assert page.js(measure)[2] != page.js(play)[2]
+    page.call("Emulation.setEmulatedMedia", features=[])
+
+
 def test_marks_without_a_font(page: Chromium, folder: pathlib.Path) -> None:
     """A message of marks that no font has pushes no column out of its box."""
     lines = place(0, "Q1A", 54.5, -3.5)

@@ -52,6 +52,19 @@ test("clocks that differ are found by what both receivers heard", () => {
   assert.equal(Math.round(clocks.get("C").by), 3600);
   assert.ok(Math.abs(clocks.get("A")?.by ?? 0) < 5 && FEWEST === 2);
 });
+test("by how much a clock is ahead is the middle of all, in whatever order they came", () => {
+  const middleOf = shifts => {
+    const lines = shifts.flatMap((by, k) => [["A", 0], ["B", by]].map(([receivers, shift]) =>
+      ({ at: 100 * k + shift, text: row("position", 100 * k + shift, "Q1A",
+        { receivers, latitude: 54, longitude: -3, text: `no. ${k}` }) })));
+    const rows = rowsOf(lines.sort((a, b) => a.at - b.at).map(it => it.text));
+    const heard = rows.lists.map(names => ({ names, heard: shifts.length }));
+    return atOnce(pairsOf(rows, -Infinity, heard)).map(it => [it.by, it.of]);
+  };
+  // of A from B, be B ahead or behind, or both in turn
+  assert.deepEqual([[9, 1, 2, 5, 7], [7, 5, 2, 1, 9], [-9, -1, -2, -5, -7], [9, -4, -2, 5, 7]]
+    .map(middleOf), [-5, -5, 5, -5].map(it => [[it, 5]]));
+});
 test("of many receivers those that heard most are compared, in steps", () => {
   const names = Array.from({ length: 2000 }, (_, k) => `R${String(k).padStart(4, "0")}`);
   const heard = [{ names, heard: 20 }, { names: ["R1999", "R0007"], heard: 1 }];

@@ -1,6 +1,7 @@
 import assert from "node:assert/strict";
 import { test } from "node:test";
 import { byId, enter, open, pen, skip, textsOf, until } from "./window.js";
+import { vectorOf } from "../../page/src/geo/sphere.js";
 import { message, messageTable, place, row, table } from "./tables.js";
 
 const COURSE = '<gpx><wpt lat="54.5" lon="-3.5"><name>Start</name></wpt>' +
@@ -159,6 +160,65 @@ test("what is picked is told: where, what it says, its graphs, places and frames
     (begin + (end - begin) * it / 4000).toFixed(1)));
   assert.equal(facts().weather, "calm, 20 \u00b0C, humidity 70 % at 18:21:00");
   pick("Q1WX");
+});
+test("a name keeps its side in a map of one size", { skip }, () => {
+  const { map, layers: { stations } } = aprsbook, { view } = map, { width, height } = view;
+  const { by } = stations.sides, sideNow = () => (map.paint(), by.get(key));
+  map.fit();
+  map.paint();
+  const { key } = stations.marks.find(it => it.thing.name === "Q1MED").thing, first = by.get(key);
+  assert.equal(first, 0);
+  for (const other of [{ width: width + 1 }, { height: height + 1 }]) {
+    by.set(key, 1);
+    assert.equal(sideNow(), 1);
+    Object.assign(view, other);
+    assert.equal(sideNow(), first);
+    Object.assign(view, { width, height });
+    map.paint();
+  }
+});
+test("a tap beside all marks puts together what fanned out, and it is seen", { skip }, () => {
+  const { layers: { stations }, map } = aprsbook;
+  let painted = 0;
+  const surface = { view: map.view, paintSoon: () => painted++, closer() {} };
+  map.fit();
+  map.paint();
+  const lie = stations.marks.map(it => [it.x, it.y]);
+  // two of them lie in one place
+  Object.assign(stations.marks[1], { x: lie[0][0], y: lie[0][1] });
+  const { key } = stations.marks[0].thing;
+  stations.tap(...lie[0], surface);
+  assert.deepEqual([stations.fan.keys.includes(key), stations.fan.keys.length, painted],
+    [true, 2, 1]);
+  stations.tap(-500, -500, surface);
+  assert.deepEqual([stations.fan.isOpen, painted], [false, 2]);
+  map.paint();
+  assert.deepEqual(stations.marks.map(it => [it.x, it.y]), lie);
+});
+test("what is chosen of the look is kept for the next page", { skip }, () => {
+  const keptOf = name => localStorage.getItem(`aprsbook ${name}`);
+  for (const [field, value, name, other] of [["place-form", "utm", "form", ""],
+    ["miles", true, "miles", false], ["call", "Q1NET", "call", ""]]) {
+    enter(field, value);
+    assert.equal(keptOf(name), value === true ? "on" : value);
+    enter(field, other);
+    assert.equal(keptOf(name), "");
+  }
+});
+test("what is far from the others is counted until the map is moved", { skip }, () => {
+  const { map } = aprsbook, { layers } = map, said = () => byId("far").textContent;
+  map.layers = [...layers, { leads: true, places: () => [vectorOf(10, 10)], paint() {} }];
+  const far = "1 place far from the others not in view; \u201call\u201d shows all.";
+  for (const leave of [() => map.move(60, 0), () => map.zoom(2), () => map.fit(true)]) {
+    map.fit();
+    assert.equal(said(), far);
+    leave();
+    map.turn();
+    assert.equal(said(), "");
+  }
+  map.layers = layers;
+  map.fit();
+  assert.equal(said(), "");
 });
 test("miles, local time and forms of places stand wherever one is written", { skip }, () => {
   enter("miles", true);

@@ -94,6 +94,22 @@ test("the arrow keys go on where the rows that are built end", () => {
   assert.ok(length < 100);
   assert.equal(document.activeElement, list.body.rows[length].querySelector(".pick"));
 });
+test("the keys for the end and the begin reach the last row and the first, built or not", () => {
+  const list = nameList(element()), reached = key => {
+    const target = document.activeElement;
+    list.body.dispatchEvent({ type: "keydown", key, target, preventDefault() {} });
+    return [document.activeElement === pickOf(list, "Q1A-0"),
+      document.activeElement === pickOf(list, "Q1A-99"), list.body.rows.length];
+  };
+  list.show(names(100));
+  // so high that nothing more has to be built
+  scroll(list.box, 0);
+  list.body.rows[3].querySelector(".pick").focus();
+  assert.deepEqual(reached("Home"), [true, false, 26]);
+  assert.deepEqual(reached("ArrowDown"), [false, false, 26]);
+  assert.deepEqual(reached("End"), [false, true, 100]);
+  assert.deepEqual(reached("Home"), [true, false, 100]);
+});
 test("texts are sorted by the numbers in them", () => {
   const list = nameList(element());
   list.show(["Q1A-10", "Q1A-2", "Q1A-1"]);

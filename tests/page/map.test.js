@@ -51,6 +51,47 @@ test("a mouse moves the map by its first button alone, and picks by it", () => {
   // a spot counts from the map's own corner
   assert.deepEqual(said, [[4, 4], [85, 2], [3, 0]]);
 });
+test("keys move the map by as much in each direction, zoom, fit and fill it", () => {
+  const runs = [], said = [], tell = name => (...of) => { said.push([name, ...of]); };
+  const listen = (kind, run) => runs.push({ kind, run });
+  globalThis.addEventListener = listen;
+  const node = { addEventListener: listen, style: {}, querySelector: () => ({}) };
+  listenToMap({ node, keys: { m: tell("measure") }, isFull: false, paintSoon() {}, turn() {},
+    move: tell("move"), zoom: tell("zoom"), fit: tell("fit"), fill: tell("fill") });
+  const press = (key, of) => runs.filter(it => it.kind === "keydown").forEach(it =>
+    it.run({ type: "keydown", key, target: node, preventDefault() {}, ...of }));
+  const all = ["ArrowLeft", "ArrowRight", "ArrowUp", "ArrowDown", "+", "=", "-", "0", "f", "m", "x"];
+  for (const key of all) press(key);
+  assert.deepEqual(said, [["move", 60, 0], ["move", -60, 0], ["move", 0, 60], ["move", 0, -60],
+    ["zoom", 1.3], ["zoom", 1.3], ["zoom", 1 / 1.3], ["fit"], ["fill", true], ["measure"]]);
+  // what the browser does with a key isn't the map's
+  for (const held of ["ctrlKey", "altKey", "metaKey"]) press("+", { [held]: true });
+  assert.equal(said.length, 10);
+});
+test("what is under a pointer is told beside it, and no more where it leaves", () => {
+  const runs = [], pointed = [], tip = { style: {}, hidden: true, nodes: [],
+    replaceChildren(...nodes) { this.nodes = nodes; } };
+  const listen = (kind, run) => runs.push({ kind, run });
+  globalThis.addEventListener = listen;
+  const node = { addEventListener: listen, style: {}, querySelector: () => tip,
+    getBoundingClientRect: () => ({ left: 2, top: 1 }) };
+  listenToMap({ node, keys: {}, isFull: false, view: { width: 600 }, paintSoon() {}, turn() {},
+    point: at => pointed.push(at), tip: x => x < 500 ? [] : ["Q1A", "Q1B"] });
+  const say = (type, of) => runs.filter(it => it.kind === type).forEach(it =>
+    it.run({ type, pointerId: 1, pointerType: "mouse", ...of }));
+  const told = () => [tip.hidden, tip.nodes, node.style.cursor];
+  say("pointermove", { clientX: 102, clientY: 31 });
+  assert.deepEqual(told(), [true, [], ""]);
+  say("pointermove", { clientX: 592, clientY: 31 });
+  assert.deepEqual(told(), [false, ["Q1A", "Q1B"], "pointer"]);
+  // within the map
+  assert.deepEqual(tip.style, { left: "430px", top: "44px" });
+  say("pointerleave", {});
+  assert.deepEqual([told()[0], pointed], [true, [[100, 30], [590, 30], null]]);
+  // a finger can't hover, so its place stays
+  say("pointerleave", { pointerType: "touch" });
+  assert.equal(pointed.length, 3);
+});
 test("what is fitted has room beside it for names, and above it", () => {
   const view = Object.assign(new Projection(), { width: 600, height: 400 });
   const sizeOf = places => {

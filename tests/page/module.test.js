@@ -3,6 +3,7 @@
 import assert from "node:assert/strict";
 import { spawnSync } from "node:child_process";
 import fs from "node:fs";
+import os from "node:os";
 import path from "node:path";
 import { test } from "node:test";
 import v8 from "node:v8";
@@ -10,6 +11,7 @@ import { fileURLToPath } from "node:url";
 import { run } from "../../page/src/worker/wasm-host.js";
 
 const TOP = fileURLToPath(new URL("../..", import.meta.url));
+const COMMAND = new URL("../../page/src/main-node.js", import.meta.url).href;
 function fileOfModule() {
   if (process.env.MODULE) return process.env.MODULE;
   const { status, stdout } = spawnSync("build/module.py", { cwd: TOP, encoding: "utf8" });
@@ -48,6 +50,29 @@ test("a fault names the input, the line and the cause", { skip }, () => {
   assert.deepEqual([status, input, at, fault], [1, 1, 2, "Moment"]);
   assert.equal(done("merge", 30, "APRSBOOK 3 60\nEND 0\n").fault, "other gap");
 });
+test("the command says a fault by its input, line and cause, and ends with its status", { skip },
+  t => {
+    const folder = fs.mkdtempSync(path.join(os.tmpdir(), "aprsbook-"));
+    t.after(() => fs.rmSync(folder, { recursive: true }));
+    const parts = { version: "", helps: {}, module: fs.readFileSync(file).toString("base64"),
+      rows: { aprsbook: [{ words: ["merge"], options: ["gap"], required: [], many: true }] } };
+    fs.writeFileSync(path.join(folder, "command.mjs"), `import fs from "node:fs";
+      import { command } from ${JSON.stringify(COMMAND)};
+      command(JSON.parse(fs.readFileSync("parts.json", "utf8")));`);
+    fs.writeFileSync(path.join(folder, "parts.json"), JSON.stringify(parts));
+    const logs = { "a.log": RX1, "torn.log": RX1 + "torn\n", "60.book": "APRSBOOK 3 60\nEND 0\n" };
+    for (const [name, text] of Object.entries(logs))
+      fs.writeFileSync(path.join(folder, name), text);
+    const ended = names => {
+      const { status, stdout, stderr } = spawnSync(process.execPath,
+        ["command.mjs", "merge", ...names], { cwd: folder, encoding: "utf8" });
+      return [status, stdout.split("\n")[0], stderr];
+    };
+    assert.deepEqual(ended(["a.log"]), [0, "APRSBOOK 3 30", ""]);
+    assert.deepEqual(ended(["a.log", "torn.log"]), [1, "", "aprsbook: torn.log: line 2: Moment\n"]);
+    // of no line alone
+    assert.deepEqual(ended(["a.log", "60.book"]), [1, "", "aprsbook: 60.book: other gap\n"]);
+  });
 test("words go to the function: of a table its name, of a capture receiver and moment", { skip },
   () => {
     const head = table => done(`table ${table}`, 30, RX1).text.split("\n")[0].split("\t")[0];

@@ -1,13 +1,16 @@
 #!/usr/bin/env python3
 """Changes lines of the page, drawn by lot, one at a time, and says which changes no test sees.
 
-usage: tests/page/mutations.py [--lines 60] [--seed 20261129] [--list] [--browser] [MODULE..]
+usage: tests/page/mutations.py [--lines 60] [--seed 20261129] [--list] [--browser] [--ran FOLDER]
+                               [MODULE..]
 
 A comparison, a constant, an operator or a truth is turned, or a call is left out. Each change is
 tried in a copy, with the tests that run what is changed, the nearest ones first, and with the types
-(tsc); with --browser in Chromium too, where these pass. At most 5 of 60 may pass; each that does is
-explained in SURVIVORS below, by module and text of its line. The status is 1 if more do. With
-MODULE the lines are of these alone. Needs node, tsc and, for what is drawn, node-jsdom.
+(tsc); with --browser those that pass are tried in Chromium and Firefox too, with the tests there
+that run what is changed. What these run is kept in FOLDER, and taken from there the next time. At
+most 5 of 60 may pass; each that does is explained in SURVIVORS below, by module and text of its
+line, and isn't tried in browsers. The status is 1 if more do. With MODULE the lines are of these
+alone. Needs node, tsc and, for what is drawn, node-jsdom; in browsers what tests/browser needs.
 """
 import argparse
 import concurrent.futures
@@ -20,24 +23,20 @@ import queue
 import random
 import re
 import shutil
-import signal
 import subprocess
 import sys
 import tempfile
 import time
-from typing import Dict, Iterator, List, NamedTuple, Optional, Tuple
+from typing import Callable, Dict, Iterator, List, NamedTuple, Optional, Tuple
+
+from in_browsers import InBrowsers, passes
 
 REPOSITORY = pathlib.Path(__file__).resolve().parents[2]
 SOURCES = REPOSITORY / "page/src"
 TESTS = REPOSITORY / "tests/page"
 MOST = 5
-SECONDS = 600  # of tests in a browser, and of types
+SECONDS = 600  # of types
 TIMES = 10  # as long as a test takes, and a minute: one that doesn't end then is seen
-# the tests in Chromium, each with the rooms of modules that it is of first of all
-BROWSER: Dict[str, str] = {
-    "layers": "map", "event_in_chromium": "app lists ics309 net formats geo util",
-    "page_alone": "intake worker", "served": "desks"}
-PYTEST = ["/usr/bin/python3", "-m", "pytest", "-qx", "-p", "no:cacheprovider", "-k", "Chromium"]
 # what is turned into what, in the order in which it is looked for
 TURNS: List[Tuple[str, str]] = [
     (r" <= ", " < "), (r" >= ", " > "), (r" < ", " <= "), (r" > ", " >= "), (r" === ", " !== "),
@@ -60,6 +59,9 @@ SURVIVORS: Dict[Tuple[str, str], str] = {
     ("util/time.js", "const ZONES"): "a time is looked at in a part more",
     ("map/symbols.js", "motorcycle"): "a hub of a wheel is drawn from its other side",
     ("net/book-slices.js", "if (begin < at) pieces"): "a piece of no bytes is one more",
+    ("map/symbols.js", "cloud:"): "a bow that is round is turned by a degree",
+    ("worker/wasm-host.js", "const NAME_ROOM"): "a fault has no longer name",
+    ("formats/file-kinds.js", "Moment:"): "another year is as good an example of a moment",
 }
 
 
@@ -170,37 +172,14 @@ def tests_of(change: Change, ran: Dict[pathlib.Path, Ran]) -> List[pathlib.Path]
     return sorted(found, key=lambda it: (ran[it].size, it))
 
 
-def passes(command: List[str], folder: pathlib.Path, seconds: float = SECONDS) -> bool:
-    """Whether a command ends well in time; where it doesn't, what it has begun is ended too."""
-    with subprocess.Popen(command, cwd=str(folder), stdout=subprocess.DEVNULL,
-                          stderr=subprocess.DEVNULL, start_new_session=True,
-                          env=environment()) as process:
-        try:
-            return process.wait(seconds) == 0
-        except BaseException as fault:
-            os.killpg(process.pid, signal.SIGKILL)
-            if isinstance(fault, subprocess.TimeoutExpired):
-                return False
-            raise
-
-
-def browser_tests(module: str) -> List[str]:
-    """The files of tests in Chromium, those first that are of such a module."""
-    room = module.split("/")[0]
-    names = sorted(BROWSER, key=lambda it: room not in BROWSER[it].split())
-    return [f"tests/browser/test_{it}.py" for it in names]
-
-
-def trials(change: Change, ran: Dict[pathlib.Path, Ran], browser: bool
+def trials(change: Change, ran: Dict[pathlib.Path, Ran]
            ) -> Iterator[Tuple[str, List[str], float]]:
-    """What may see a change: its name, its command, and how long that may take at most; the
-    cheapest first."""
+    """What may see a change without a browser: its name, its command, and how long that may take at
+    most; the cheapest first."""
     for it in tests_of(change, ran):
         most = 60 + TIMES * ran[it].seconds
         yield it.name, ["node", "--test", str(it.relative_to(REPOSITORY))], most
     yield "types", ["tsc", "-p", "page"], SECONDS
-    for name in browser_tests(change.module) if browser else []:
-        yield name, [*PYTEST, name], SECONDS
 
 
 class Copies:
@@ -211,7 +190,7 @@ class Copies:
         ignored = shutil.ignore_patterns("__pycache__")
         for number in range(count):
             copy = folder / str(number)
-            for it in "page", "tests", "examples", "completions", "build", "tools/src":
+            for it in "page", "tests", "examples", "completions", "build", "bench", "tools":
                 shutil.copytree(REPOSITORY / it, copy / it, ignore=ignored)
             shutil.copy(REPOSITORY / "package.json", copy)
             self.free.put(copy)
@@ -231,36 +210,46 @@ class Copies:
             path.write_text(text, encoding="utf-8")
             self.free.put(copy)
 
-    def seen_by(self, change: Change, ran: Dict[pathlib.Path, Ran], browser: bool) -> str:
-        """What sees a change, or nothing."""
-        with self.changed(change) as copy:
-            return next((name for name, command, seconds in trials(change, ran, browser)
-                         if not passes(command, copy, seconds)), "")
-
 
 def reason(change: Change) -> str:
     return next((why for (module, begin), why in SURVIVORS.items()
                  if module == change.module and change.before.strip().startswith(begin)), "")
 
 
-def tried(changes: List[Change], jobs: int, browser: bool) -> List[Change]:
+def left_of(changes: List[Change], seen_by: Callable[[Change], str],
+            pool: concurrent.futures.Executor) -> List[Change]:
     """Tries changes, and says what sees each; those that nothing sees."""
     left = []
-    with tempfile.TemporaryDirectory() as folder, \
-            concurrent.futures.ThreadPoolExecutor(jobs) as pool:
-        tests = sorted(TESTS.glob("*.test.js"))
-        ran = dict(zip(tests, pool.map(ran_by, tests)))
-        for name in browser_tests("") if browser else []:
-            if not passes([*PYTEST, name], REPOSITORY):
-                sys.exit(f"fails without a change: {name}")
-        copies = Copies(pathlib.Path(folder), jobs)
-        for change, name in zip(changes, pool.map(
-                lambda it: copies.seen_by(it, ran, browser), changes)):
-            print(f"seen by {name}:" if name else "survives:", f"{change.module}:{change.line + 1}",
-                  change.after.strip() or "(left out)", flush=True)
-            if not name:
-                left.append(change)
+    for change, name in zip(changes, pool.map(seen_by, changes)):
+        print(f"seen by {name}:" if name else "survives:", f"{change.module}:{change.line + 1}",
+              change.after.strip() or "(left out)", flush=True)
+        if not name:
+            left.append(change)
     return left
+
+
+def tried(changes: List[Change], copies: Copies, pool: concurrent.futures.Executor
+          ) -> List[Change]:
+    """What no test sees that needs no browser."""
+    tests = sorted(TESTS.glob("*.test.js"))
+    ran = dict(zip(tests, pool.map(ran_by, tests)))
+
+    def seen_by(change: Change) -> str:
+        with copies.changed(change) as copy:
+            return next((name for name, command, seconds in trials(change, ran)
+                         if not passes(command, copy, seconds, environment())), "")
+    return left_of(changes, seen_by, pool)
+
+
+def tried_in_browsers(changes: List[Change], copies: Copies, pool: concurrent.futures.Executor,
+                      ran: pathlib.Path) -> List[Change]:
+    """What no test in a browser sees."""
+    browsers = InBrowsers(ran)
+
+    def seen_by(change: Change) -> str:
+        with copies.changed(change) as copy:
+            return browsers.seen_by(copy, change.module, change.line)
+    return left_of(changes, seen_by, pool)
 
 
 def main() -> int:
@@ -269,11 +258,22 @@ def main() -> int:
     parser.add_argument("--seed", type=int, default=20261129)
     parser.add_argument("--jobs", type=int, default=2)
     parser.add_argument("--list", action="store_true", help="the changes alone")
-    parser.add_argument("--browser", action="store_true", help="with the tests in Chromium")
+    parser.add_argument("--browser", action="store_true", help="with the tests in browsers")
+    parser.add_argument("--ran", type=pathlib.Path, help="where it is kept what these run")
     parser.add_argument("modules", nargs="*", metavar="MODULE")
     args = parser.parse_args()
     changes = drawn(args.lines, args.seed, args.modules)
-    left = tried(changes, args.jobs, args.browser) if not args.list else []
+    left: List[Change] = []
+    if not args.list:
+        with tempfile.TemporaryDirectory() as folder, \
+                concurrent.futures.ThreadPoolExecutor(args.jobs) as pool:
+            copies = Copies(pathlib.Path(folder), args.jobs)
+            left = tried(changes, copies, pool)
+            open_ones = [it for it in left if not reason(it)]
+            if open_ones and args.browser:
+                ran = args.ran or pathlib.Path(folder, "ran")
+                open_ones = tried_in_browsers(open_ones, copies, pool, ran)
+                left = [it for it in left if reason(it) or it in open_ones]
     for change in left if not args.list else changes:
         print(f"{change.module}:{change.line + 1}\n- {change.before}\n+ {change.after}\n"
               f"  {reason(change)}")

@@ -35,12 +35,6 @@ const tell = (kind, data) => streams.at(-1).on[kind]({ data });
 /** Tells lines of a file that begin at a place of it. */
 const tellLines = (name, begin, text) =>
   tell("lines", `${name} ${begin} ${begin + text.length}\n${text.slice(0, -1)}`);
-// what waits long doesn't keep a test from its end
-const { setTimeout } = globalThis;
-globalThis.setTimeout = (run, wait, ...of) => {
-  const timer = setTimeout(run, wait, ...of);
-  return wait >= 2000 ? timer.unref() : timer;
-};
 
 if (!skip) {
   const window = open(null, { reads: true, hash: "#logs=logs.txt" });

@@ -1,5 +1,6 @@
 // What the modules that read logs ask of the page and of a browser, by hand: workers run the
 // stand-in for the module. It stands before those modules in a test.
+import "./timers.js";
 import { resolveObjectURL } from "node:buffer";
 import { bytesIn } from "../../page/src/worker/sources.js";
 import { run } from "../browser/stand_in.js";

@@ -20,6 +20,10 @@ test("marks that cover one another are one pile, the top one first", () => {
   assert.deepEqual(keys(false), ["dba", "c"]);
   // dots are smaller
   assert.deepEqual(keys(true), ["d", "c", "ba"]);
+  // less than 5 pixels apart, and marks less than 9
+  const areOne = (by, small) => pilesOf([mark("a", 50, 50), mark("b", 50 + by, 50)], small).length;
+  assert.deepEqual([areOne(4.9, true), areOne(5, true), areOne(8.9, false), areOne(9, false)],
+    [1, 2, 1, 2]);
   // over the border of a cell too
   assert.equal(pilesOf([mark("a", 8.9, 8.9), mark("b", 9.1, 9.1)], false).length, 1);
 });

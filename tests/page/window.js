@@ -1,6 +1,7 @@
 // A browser's window by jsdom (Debian: node-jsdom), for tests of what is drawn: the page's own
 // shell, a map of 600 by 400 pixels, and a pen that keeps what it was told. `skip` says why there is
 // none. It stands before the modules that draw.
+import "./timers.js";
 import fs from "node:fs";
 import Module, { createRequire } from "node:module";
 
@@ -89,9 +90,6 @@ export function open(data, { hash = "", reads = false } = {}) {
   for (const name of ["addEventListener", "removeEventListener", "dispatchEvent",
     "requestAnimationFrame"])
     globalThis[name] = window[name].bind(window);
-  // what goes on for ever doesn't keep a test from its end
-  const { setInterval } = globalThis;
-  globalThis.setInterval = (...of) => setInterval(...of).unref();
   globalThis.window = window;
   globalThis.devicePixelRatio = 1;
   return window;

@@ -13,7 +13,7 @@ export PYTHONDONTWRITEBYTECODE=1
 # where others import it, and else that from here on
 others=$(git ls-files '*.py' 2> /dev/null | grep -v '^tools/') ||
     others=$(find bench build examples tests -name '*.py')
-by_name=build:tests/programs:tests/browser:tools/src
+by_name=build:tests/programs:tests/browser:tests/page:tools/src
 # python_with MODULES: the first Python 3 that has them
 python_with() {
     for python in python3 /usr/bin/python3; do

@@ -72,7 +72,6 @@ export class SharedStream {
   }
   /** Listens to the server itself. */
   listen() {
-    clearTimeout(this.timer);
     if (this.listens) return;
     this.listens = true;
     this.stream.begin();
