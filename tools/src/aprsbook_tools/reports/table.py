@@ -375,12 +375,15 @@ def is_escaped(lines: str) -> bool:
     return "\\" in lines
 
 
+def named(make: Any, rows: Iterable[Tuple[Any, ...]]) -> Iterator[Any]:
+    """Tuples of a size as named tuples of that size, which costs less than to make those."""
+    return map(tuple.__new__, itertools.repeat(make), rows)
+
+
 def read(kind: Type[T], lines: Iterable[str], names: Sequence[str] = (),
          wanted: Wanted = ALL) -> Iterator[T]:
     """The table's lines as dataclasses of a kind, or as named tuples of some of its columns."""
-    make: Callable[..., Any] = kind
-    if names:
-        make = cast(Any, collections.namedtuple(kind.__name__, names))
+    make = cast(Any, collections.namedtuple(kind.__name__, names)) if names else None
     names = names or columns_of(kind)
     own = [converter(it, it(""), is_escaped if it is text_of else None)
            for it in map(readers_of(kind).__getitem__, names)]
@@ -389,7 +392,7 @@ def read(kind: Type[T], lines: Iterable[str], names: Sequence[str] = (),
             values = [convert(it) for convert, it in zip(own, shown)]
         except ValueError as fault:
             raise Fault(f"the table of {WORDS[kind]}: {fault}") from fault
-        yield from map(make, *values)
+        yield from named(make, zip(*values)) if make else map(kind, *values)
 
 
 def lines_of(kind: Type[Any], inputs: Sequence[str], gap: Optional[int] = None,
