@@ -67,12 +67,14 @@ def time_of(args: argparse.Namespace) -> table.Time:
     return table.Time(since, until)
 
 
-def items_of(kind: Type[T], args: argparse.Namespace, names: Sequence[str] = ()) -> Iterator[T]:
+def items_of(kind: Type[T], args: argparse.Namespace, names: Sequence[str] = (),
+             having: str = "") -> Iterator[T]:
     """The table of the inputs, as a kind with these columns, or with all of them, of the time that
-    is asked for; counted for who waits at a terminal."""
+    is asked for, and of those lines that have a column; counted for who waits at a terminal."""
     arguments.check_range(args)
     with merged_inputs.plain(args.inputs) as files:
-        items = table.of(kind, files, gap_of(args), names=names, time=time_of(args))
+        wanted = table.Wanted(time_of(args), having)
+        items = table.of(kind, files, gap_of(args), names=names, wanted=wanted)
         yield from progress.counted(items, table.WORDS[kind])
 
 

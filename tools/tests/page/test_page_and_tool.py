@@ -273,7 +273,8 @@ def test_kml(both: List[Any]) -> None:
 def test_roster(both: List[Any]) -> None:
     for case, said in both:
         roster = read_roster(case.roster)
-        stations = heard_of(table.tuples(Row, case.rows_text.splitlines(), COLUMNS))
+        stations = heard_of(
+            table.columns(Row, case.rows_text.splitlines(), names=COLUMNS))
         told = []
         for it in roster.expected:
             last = last_of(it, stations)  # by clocks that are right

@@ -4,7 +4,7 @@ import pathlib
 from typing import List
 
 import pytest
-from standing import Programs, place, row
+from standing import Programs, place, row, table_text
 
 from aprsbook_tools.books import receptions
 from aprsbook_tools.books.receptions import Reception
@@ -79,8 +79,10 @@ def test_who_repeats_whom() -> None:
         heard("18:01", "Q1A", "Q1DIG*", "RX2"),
         heard("18:02", "Q1A"),
     ]
-    rows = [it.row for it in some]
+    rows = [(it.row, 1) for it in some]
     assert digipeater_stats.repeats_of(rows) == [("Q1DIG", "Q1A", 2), ("Q1TOP", "Q1DIG", 1)]
+    rows = [(some[0].row, 3), (some[1].row, 7), (some[0].row, 2)]
+    assert digipeater_stats.repeats_of(rows) == [("Q1DIG", "Q1A", 7), ("Q1TOP", "Q1DIG", 5)]
 
 
 def late(*frames: "tuple[float, str]", receiver: str = "RX1") -> "list[list[object]]":
@@ -162,15 +164,15 @@ def test_each_line_has_a_moment_of_its_own(
     """A book has one row for the copies of a frame: it doesn't say who was heard direct."""
     given = []
 
-    def of(kind: type, inputs: List[str], gap: int, log: bytes, names: "tuple[str, ...]"
-           ) -> "list[table.Row]":
+    def lines_of(kind: type, inputs: List[str], gap: int, log: bytes) -> List[str]:
         given.append((gap, [log_file.read_line(line) for line in log.splitlines()]))
-        return [
+        rows = [
             row("status", "18:00", f"Q1A-{line[20]}", first=line[:24], last=line[:24])
             for line in log.decode().splitlines()[1:]
         ]
+        return table_text(table.Row, rows).splitlines()
 
-    monkeypatch.setattr(table, "of", of)
+    monkeypatch.setattr(table, "lines_of", lines_of)
     (programs.folder / "a.log").write_text("\r\n".join(LINES[1:]) + "\r\n2024-06-21T18:0")
     (programs.folder / "b.log.gz").write_bytes(gzip.compress((LINES[0] + "\n").encode()))
     (programs.folder / "a.log.gz").write_bytes(gzip.compress((LINES[1] + "\n").encode()))

@@ -3,6 +3,7 @@ import dataclasses
 import pathlib
 from typing import List
 
+import pytest
 from standing import Programs, at, place, row, table_text
 
 from aprsbook_tools.reports import last_heard, receiver_clocks, table
@@ -115,10 +116,17 @@ def test_a_text_of_nine_rows_says_nothing_of_a_clock() -> None:
     rows = [*beacons("X", "BA"), *beacons("Y", "BA"), *beacons("Z", "CDEFGHIJK"),
             *beacons("W", "LMNOPQRS")]
     pairs, names = receiver_clocks.Pairs(), last_heard.COLUMNS
-    shown = table.tuples(table.Row, table_text(table.Row, rows).splitlines(), names)
-    assert len([*pairs.noted(shown, names)]) == len(rows)
+    shown = table.columns(table.Row, table_text(table.Row, rows).splitlines(), names=names)
+    assert sum(len(it[0]) for it in pairs.noted(shown, names)) == len(rows)
     assert pairs.apart.pop(("A", "B")) == [60_000] * 2
     assert len(pairs.apart) == 8 * 7 // 2 and pairs.apart["L", "S"] == [-7 * 60_000]
+
+
+@pytest.mark.parametrize("size", [1, 2, 3, 7, 100])
+def test_a_text_goes_on_where_rows_come_in_parts(monkeypatch: pytest.MonkeyPatch, size: int
+                                                 ) -> None:
+    monkeypatch.setattr(table, "BATCH", size)
+    test_a_text_of_nine_rows_says_nothing_of_a_clock()
 
 
 def test_a_time_is_that_of_clocks_that_are_right(programs: Programs, tmp_path: pathlib.Path

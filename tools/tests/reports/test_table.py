@@ -2,20 +2,21 @@
 from typing import List, Sequence
 
 import pytest
-from standing import at, row, table_text
+from standing import at, place, row, table_text
 
 from aprsbook_tools.errors import Fault
 from aprsbook_tools.reports import table
-from aprsbook_tools.reports.table import REST, Row, Station, Time
+from aprsbook_tools.reports.table import REST, Row, Station, Time, Wanted
 
 SHORT = "source", "destination", REST
 ROWS = [row("status", f"18:{number:02}", f"Q1{number}", text=f"{number}") for number in range(4)]
 LINES = table_text(Row, ROWS).splitlines()
 
 
-def shown(lines: Sequence[str], *names: str, time: Time = table.ALWAYS) -> List[List[str]]:
+def shown(lines: Sequence[str], *names: str, time: Time = table.ALWAYS, having: str = ""
+          ) -> List[List[str]]:
     """The rows of these columns."""
-    return [[*it] for it in table.tuples(Row, lines, names, time)]
+    return [[*it] for it in table.tuples(Row, lines, names, Wanted(time, having))]
 
 
 def test_columns_by_their_names() -> None:
@@ -34,7 +35,27 @@ def test_rows_of_a_time() -> None:
     assert shown(LINES, "source", time=Time(at("19:00"))) == []
     stations = [Station(source="Q1A", last=at("18:00"), heard=at("18:05")), Station(source="Q1B")]
     text = table_text(Station, stations).splitlines()
-    assert [it.source for it in table.read(Station, text, time=Time(at("18:04")))] == ["Q1A"]
+    assert [it.source for it in table.read(Station, text, wanted=Wanted(Time(at("18:04"))))] == ["Q1A"]
+
+
+def test_rows_that_have_a_column() -> None:
+    rows = [place("18:00", "Q1A", 0.0, -3.5), ROWS[0], place("18:02", "Q1A", 54.5, -3.5)]
+    lines = table_text(Row, rows).splitlines()
+    for names in [("first", "latitude"), ("first", "latitude", REST)]:
+        found = shown(lines, *names, having="latitude")
+        assert [it[0] for it in found] == [at("18:00"), at("18:02")]
+        found = shown(lines, *names, time=Time(at("18:01")), having="latitude")
+        assert [it[0] for it in found] == [at("18:02")]
+
+
+def test_what_is_kept_of_a_column_is_bounded() -> None:
+    """And each text is read as it is."""
+    convert = table.converter(int, 0)
+    for number in range(0, 3 * table.KNOWN, 3):
+        assert [*convert([str(number), "", str(number)])] == [number, 0, number]
+    closure = convert.__closure__ or ()
+    [known] = [it.cell_contents for it in closure if isinstance(it.cell_contents, table.Known)]
+    assert len(known) <= table.KNOWN + 2
 
 
 @pytest.mark.parametrize("names", [("source", "text"), SHORT])

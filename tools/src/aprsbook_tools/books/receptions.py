@@ -6,7 +6,7 @@ one second: no two are copies of one transmission then. The row's moment says wh
 """
 import io
 from dataclasses import dataclass
-from typing import Iterator, List, Sequence
+from typing import Iterable, Iterator, List, Sequence
 
 from aprsbook_tools import stderr
 from aprsbook_tools.books import inputs, one_name
@@ -64,18 +64,18 @@ def lines_of(path: str) -> List[Line]:
     return lines_in(octets, path)
 
 
-def rows_of(lines: Sequence[Line], names: Sequence[str] = ()) -> Iterator[Row]:
-    """The row of each line that holds a frame, or these columns of it. Its moment says which line
+def table_of(lines: Iterable[Line]) -> Iterator[str]:
+    """The table of rows that has one of each line that holds a frame. Its moment says which line
     that is."""
-    log = b"".join(
-        line._replace(moment=APART * number).write() for number, line in enumerate(lines)
-    )
-    return table.of(Row, [], 1, log, names)
+    log = b"".join(Line(APART * number, it.receiver, it.digits).write()
+                   for number, it in enumerate(lines))
+    return table.lines_of(Row, [], 1, log)
 
 
 def receptions_of(paths: Sequence[str]) -> List[Reception]:
     """The receptions of logs, by moment. What two files have, as a log and its compressed copy, is
     one reception."""
     lines = sorted({line for path in logs_of(paths) for line in lines_of(path)})
-    rows = {moments.milliseconds(row.first) // APART: row for row in rows_of(lines)}
+    rows = {moments.milliseconds(row.first) // APART: row
+            for row in table.read(Row, table_of(lines))}
     return [Reception(lines[number].moment, rows[number]) for number in sorted(rows)]

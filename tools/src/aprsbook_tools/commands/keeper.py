@@ -53,7 +53,7 @@ def hours(it: Asked) -> List[List[Cell]]:
 
 
 def repeats(it: Asked) -> List[List[Cell]]:
-    rows = (of.row for of in it.receptions)
+    rows = ((of.row, 1) for of in it.receptions)
     return [[*of] for of in digipeater_stats.repeats_of(rows)]
 
 

@@ -189,7 +189,7 @@ def run(args: argparse.Namespace) -> int:
         raise Fault("--segments goes with --matrix", ExitStatus.ARGUMENTS)
     roster = roster_of(args.roster)
     points = read_checkpoints(args.points, user_text.read(args.points))
-    things = things_of(table_output.items_of(Row, args, COLUMNS))
+    things = things_of(table_output.items_of(Row, args, COLUMNS, "latitude"))
     visits = all_visits(things, points, args.apart * 60_000, args.fastest)
     say_what_is_wild(things, args.fastest)
     say_who_is_near(things, points, visits)

@@ -24,7 +24,7 @@ def add_arguments(parser: argparse.ArgumentParser) -> None:
 
 def run(args: argparse.Namespace) -> int:
     roster = roster_of(args.roster)
-    things = each_thing(table_output.items_of(Row, args, COLUMNS))
+    things = each_thing(table_output.items_of(Row, args, COLUMNS, "latitude"))
     places = ([it.now] if args.last else [*it.places] for it in things)
     form = table_output.format_of(args)
     if form in track_files.POINTS:

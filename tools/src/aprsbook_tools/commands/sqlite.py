@@ -50,7 +50,7 @@ def tables_of(book: str, gap: Optional[int], time: Time) -> Iterator[Dict[str, I
             command = programs.with_gap(["aprsbook-table", name], gap, [book])
             file = files.enter_context(tempfile.TemporaryFile())
             lines[name] = lines_of(pool.submit(programs.run, *command, into=file), file)
-        yield {name: table.columns(databases.TABLES[name], it, time)
+        yield {name: table.columns(databases.TABLES[name], it, table.Wanted(time))
                for name, it in lines.items()}
 
 

@@ -27,7 +27,7 @@ def add_arguments(parser: argparse.ArgumentParser) -> None:
 
 def run(args: argparse.Namespace) -> int:
     roster = roster_of(args.roster)
-    things = each_thing(table_output.items_of(Row, args, COLUMNS))
+    things = each_thing(table_output.items_of(Row, args, COLUMNS, "latitude"))
     form = table_output.format_of(args)
     if form in track_files.TRACKS:
         table_output.put_lines(args, track_files.TRACKS[form](things, roster, args.title))

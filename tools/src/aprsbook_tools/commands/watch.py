@@ -91,7 +91,7 @@ def alerts_in(book: str, args: argparse.Namespace, roster: Roster, now: int) -> 
         messages = table.of(Message, [book], args.gap)
         found += alerts.unanswered(messages, roster, now, args.unanswered)
     if args.silent:
-        stations = last_heard.heard_of(last_heard.rows_of([book], args.gap))
+        stations = last_heard.heard_of(last_heard.tables_of([book], args.gap))
         found += alerts.silent(stations, roster, now, args.silent)
     return found
 

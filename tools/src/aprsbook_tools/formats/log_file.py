@@ -25,7 +25,7 @@ BLOCK = 65536  # bytes that are read at a time
 HELD = 10_000  # frames: so many are held while there is no room
 RECEIVER = f"[A-Za-z0-9_-]{{1,{limits.MOST_NAME}}}"  # the name of a receiver
 FORM = re.compile(
-    rb"([0-9TZ.:-]{20,24}) (%s) ((?:[0-9A-Fa-f]{2})*)" % RECEIVER.encode())
+    rb"([0-9TZ.:-]{20,24}) (%s) ([0-9A-Fa-f]*)" % RECEIVER.encode())
 MOMENT = b"0000-00-00T00:00:00.000Z "  # a line begins so, with other digits
 DIGITS = bytes.maketrans(b"123456789", b"000000000")
 REST = re.compile(rb"[A-Za-z0-9_-]{0,16}(?:(?<! ) [0-9A-Fa-f]*)?\r?")
@@ -55,7 +55,7 @@ def of_frame(moment: int, receiver: str, framed: bytes) -> Line:
 def read_line(text: bytes) -> Optional[Line]:
     """A line, without its line feed; None where it is no whole line of a log."""
     found = FORM.fullmatch(text)
-    if not found or len(text) > LINE:
+    if not found or len(found[3]) % 2 or len(text) > LINE:
         return None
     try:
         return Line(moments.milliseconds(found[1].decode()), found[2].decode(), found[3])

@@ -1,5 +1,6 @@
 """Moments: milliseconds since 1970-01-01T00:00:00Z, and their text in logs, books and tables."""
 import datetime
+import functools
 import re
 
 from aprsbook_tools.formats import limits
@@ -8,8 +9,21 @@ DAY = 86_400_000  # milliseconds
 END = limits.LAST_MILLISECOND + 1  # the first moment that is none: 2100-01-01
 
 FORM = re.compile(
-    r"(\d{4})-(\d\d)-(\d\d)T(\d\d):(\d\d):(\d\d)(?:\.(\d{3}))?Z", re.ASCII)
+    r"(\d{4}-\d\d-\d\dT\d\d:\d\d):(\d\d)(?:\.(\d{3}))?Z", re.ASCII)
 EPOCH = datetime.datetime(1970, 1, 1)
+
+
+@functools.lru_cache(maxsize=4096)
+def minute_of(text: str) -> int:
+    """The first millisecond of a minute, as 2024-06-21T18:00; ValueError where there is none."""
+    when = datetime.datetime.fromisoformat(text)
+    return (when - EPOCH) // datetime.timedelta(milliseconds=1)
+
+
+@functools.lru_cache(maxsize=512)
+def day_text(day: int) -> str:
+    """The date of the day so many days after the first."""
+    return f"{EPOCH + datetime.timedelta(days=day):%Y-%m-%d}"
 
 
 def milliseconds(text: str) -> int:
@@ -17,9 +31,10 @@ def milliseconds(text: str) -> int:
     found = FORM.fullmatch(text)
     if not found:
         raise ValueError(f"{text} is no moment, such as 2024-06-21T18:00:00Z")
-    year, month, day, hour, minute, second, milli = (int(part or 0) for part in found.groups())
-    when = datetime.datetime(year, month, day, hour, minute, second, 1000 * milli)
-    result = (when - EPOCH) // datetime.timedelta(milliseconds=1)
+    minute, second, milli = found.groups()
+    result = minute_of(minute) + 1000 * int(second) + int(milli or 0)
+    if second > "59":
+        raise ValueError("second must be in 0..59")
     if not 0 <= result < END:
         raise ValueError(f"{text} isn't from 1970 to 2099")
     return result
@@ -29,8 +44,10 @@ def text_of(moment: int) -> str:
     """The 24 bytes of a moment; ValueError outside of 1970 to 2099."""
     if not 0 <= moment < END:
         raise ValueError("a moment's years are 1970 to 2099")
-    when = EPOCH + datetime.timedelta(milliseconds=moment)
-    return f"{when:%Y-%m-%dT%H:%M:%S}.{moment % 1000:03}Z"
+    day, rest = divmod(moment, DAY)
+    seconds, milli = divmod(rest, 1000)
+    minutes, second = divmod(seconds, 60)
+    return f"{day_text(day)}T{minutes // 60:02}:{minutes % 60:02}:{second:02}.{milli:03}Z"
 
 
 def datetime_of(text: str) -> datetime.datetime:

@@ -1,26 +1,26 @@
 """Who repeated whom, as the page of an event has it and `aprs-net keeper` counts it: by all
 receptions of logs, since a book has one copy of each transmission."""
+import collections
 import os
 from typing import Iterable, Optional, Sequence
 
-from aprsbook_tools.books.receptions import lines_in, lines_of, rows_of
+from aprsbook_tools.books.receptions import lines_in, lines_of, table_of
 from aprsbook_tools.formats import book_file
 from aprsbook_tools.formats.log_file import Line
-from aprsbook_tools.reports import digipeater_stats
+from aprsbook_tools.reports import digipeater_stats, table
 from aprsbook_tools.reports.table import Row
 
 COLUMNS = ("source", "via", "gate", "receiver")  # that are read
 MOST = 1 << 26  # bytes of logs: the page that reads logs counts of no more either
 
 
-def text_of(rows: Iterable[Row]) -> str:
-    """A line for each digipeater and whom it repeated: both, and how many frames."""
-    return "".join("\t".join(map(str, it)) + "\n" for it in digipeater_stats.repeats_of(rows))
-
-
 def of_lines(lines: Iterable[Line]) -> str:
-    """The same of the lines of logs, in which each counts once."""
-    return text_of(rows_of(sorted(set(lines)), COLUMNS))
+    """A line for each digipeater and whom it repeated: both, and how many frames. It is of the
+    lines of logs, in which each counts once."""
+    counts = collections.Counter(table.tuples(Row, table_of(dict.fromkeys(lines)), COLUMNS))
+    rows = table.read(Row, ["\t".join(COLUMNS), *map("\t".join, counts)], COLUMNS)
+    repeats = digipeater_stats.repeats_of(zip(rows, counts.values()))
+    return "".join("\t".join(map(str, it)) + "\n" for it in repeats)
 
 
 def of_log(octets: bytes) -> Optional[str]:

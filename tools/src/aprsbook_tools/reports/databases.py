@@ -24,6 +24,7 @@ TABLES: Dict[str, Type[Any]] = {
 SENT = {f"a{number}": "real" for number in range(1, 6)}
 MAGIC = b"SQLite format 3\0"
 WAIT = 10.0  # seconds for another program's writing
+CACHE = 32_768  # KiB of memory, in which indices are sorted
 # each place, but for 0, 0, which GPS without a fix says, and the last one of each thing; a kill at
 # 0, 0 is where the thing was
 VIEWS = {
@@ -99,10 +100,10 @@ def insert(base: sqlite3.Connection, name: str, tables: Iterable[Columns], count
     for columns in tables:
         values, bound = [], []
         for shown, convert, null in zip(columns, converters, nulls):
-            is_full = any(shown)
-            converted = convert(shown) if is_full else [""]
-            alike = "null" if null and not is_full else literal(converted)
-            values.append(alike or ("nullif(?, '')" if null else "?"))
+            is_empty = not any(shown)
+            converted = [""] if is_empty else convert(shown)
+            alike = "null" if null and is_empty else literal(converted)
+            values.append(alike or ("nullif(?, '')" if null and "" in shown else "?"))
             bound += [] if alike else [converted]
         rows: Iterable[Any] = zip(*bound) if bound else [()] * len(columns[0])
         base.executemany(f"insert into {name} values ({', '.join(values)})", rows)
@@ -134,6 +135,7 @@ def transaction(path: str, real: str) -> Iterator[sqlite3.Connection]:
     try:
         base = sqlite3.connect(real, timeout=WAIT, isolation_level=None)
         try:
+            base.execute(f"pragma cache_size = -{CACHE}")
             base.execute("begin immediate")
             yield base
             base.execute("commit")

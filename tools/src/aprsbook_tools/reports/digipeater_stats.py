@@ -68,14 +68,14 @@ def hours_of(receptions: Sequence[Reception]) -> List[Tuple[str, int, int, int]]
     return [(*key, n, direct) for key, (n, direct) in sorted(frames.items())]
 
 
-def repeats_of(rows: Iterable[Row]) -> List[Tuple[str, str, int]]:
-    """Digipeater, whom it repeated (a station, or the digipeater before it), frames: of rows, one
-    for each reception, those that one receiver heard, of the receiver that heard most."""
+def repeats_of(rows: Iterable[Tuple[Row, int]]) -> List[Tuple[str, str, int]]:
+    """Digipeater, whom it repeated (a station, or the digipeater before it), frames: of rows, each
+    with how many receptions it stands for, those of the receiver that heard most."""
     counts: Dict[Tuple[str, str], "Counter[str]"] = defaultdict(Counter)
-    for row in filter(is_own, rows):
-        path = [row.source, *digipeaters_of(row)]
+    for row, count in rows:
+        path = [row.source, *digipeaters_of(row)] if is_own(row) else []
         for before, digipeater in zip(path, path[1:]):
-            counts[digipeater, before][row.receiver] += 1
+            counts[digipeater, before][row.receiver] += count
     return [(*key, max(of.values())) for key, of in sorted(counts.items())]
 
 

@@ -6,17 +6,18 @@ import argparse
 import collections
 import dataclasses
 import re
-from typing import Dict, Iterable, Iterator, List, Optional, Sequence, Tuple
+from typing import Counter, DefaultDict, Dict, Iterable, Iterator, List, Optional, Sequence, Tuple
 
 from aprsbook_tools import arguments, progress, table_output
 from aprsbook_tools.books import merged_inputs
 from aprsbook_tools.formats import book_file
 from aprsbook_tools.reports import receiver_clocks, table
-from aprsbook_tools.reports.table import REST, Row, Time, text_of
+from aprsbook_tools.reports.table import REST, Columns, Row, Time, text_of
 
 # those that are read
 COLUMNS = ("first", "last", "receivers", "receiver", "source", "destination", "gate", REST)
 CALL = re.compile(r"[A-Za-z0-9]{1,9}(?:-[A-Za-z0-9]{1,2})?", re.ASCII)  # also one of APRS-IS
+NEVER = ("", "")
 
 
 @dataclasses.dataclass(frozen=True)
@@ -37,80 +38,79 @@ class Heard:
         return self.moment or self.last, self.receiver, self.call
 
 
-class Count:
-    """What one list of receivers heard of a station: transmissions, and the last of them."""
-
-    __slots__ = ("sent", "passed", "last", "receiver")
+class Counts:
+    """What each list of receivers heard of each station: how many transmissions of its own and of
+    others that it passed on, and when and by whom the last of all was heard."""
 
     def __init__(self) -> None:
-        self.sent, self.passed, self.last, self.receiver = 0, 0, "", ""
+        self.sent: Counter[Tuple[str, str]] = collections.Counter()
+        self.passed: Counter[Tuple[str, str]] = collections.Counter()
+        self.last: Dict[Tuple[str, str], Tuple[str, str]] = {}
+
+    def note(self, columns: Columns) -> None:
+        """Takes rows. A frame that a gate passed on is its sender's, and the gate was heard too."""
+        _, last, receivers, receiver, source, _, gate, _ = columns
+        moments = [*zip(last, receiver)]
+        self.count(self.sent, [*zip(source, receivers)], moments)
+        if any(gate):
+            gated = table.kept([[*zip(gate, receivers)], moments], gate)
+            self.count(self.passed, *gated)
+
+    def count(self, counts: "Counter[Tuple[str, str]]", heard: Sequence[Tuple[str, str]],
+              moments: Sequence[Tuple[str, str]]) -> None:
+        """Counts stations with who heard them, and when and by whom they were heard last."""
+        counts.update(heard)
+        known = self.last.get
+        for key, moment in zip(heard, moments):
+            if moment > known(key, NEVER):
+                self.last[key] = moment
+
+    def stations(self, ahead: Dict[str, float]) -> List[Heard]:
+        """The stations by callsign, where some receivers' clocks are so wrong."""
+        own: DefaultDict[str, List[Heard]] = collections.defaultdict(list)
+        for (shown, receivers), (last, receiver) in self.last.items():
+            key, moment = (shown, receivers), receiver_clocks.moment_of(last, receivers, ahead)
+            call = text_of(shown)
+            own[call].append(
+                Heard(call, self.sent[key], last, receiver, self.passed[key], moment))
+        # within a frame that is passed on may stand anything
+        return [joined(own[call]) for call in sorted(own) if CALL.fullmatch(call)]
 
 
-# of each station, by lists of receivers
-Counts = Dict[str, Dict[str, Count]]
-
-
-def counts_of(rows: Iterable[Tuple[str, ...]]) -> Counts:
-    """What was heard of each station. A frame that a gate passed on is its sender's, and the gate
-    was heard too."""
-    counts: Counts = collections.defaultdict(lambda: collections.defaultdict(Count))
-    for _, last, receivers, receiver, source, _, gate, _ in rows:
-        count = counts[source][receivers]
-        count.sent += 1
-        if last > count.last or last == count.last and receiver > count.receiver:
-            count.last, count.receiver = last, receiver
-        if gate:
-            count = counts[gate][receivers]
-            count.passed += 1
-            if last > count.last or last == count.last and receiver > count.receiver:
-                count.last, count.receiver = last, receiver
-    return counts
-
-
-def station_of(call: str, counts: Dict[str, Count], ahead: Dict[str, float]) -> Heard:
-    """A station of these counts, where some receivers' clocks are so wrong."""
-    own = [Heard(call, 0, it.last, it.receiver, 0,
-                 receiver_clocks.moment_of(it.last, receivers, ahead))
-           for receivers, it in counts.items()]
+def joined(own: Sequence[Heard]) -> Heard:
+    """A station, of what each list of receivers heard of it."""
     last = max(own, key=lambda it: it.order)
-    return dataclasses.replace(last, transmissions=sum(it.sent for it in counts.values()),
-                               passed=sum(it.passed for it in counts.values()))
+    return dataclasses.replace(last, transmissions=sum(it.transmissions for it in own),
+                               passed=sum(it.passed for it in own))
 
 
-def stations_of(counts: Counts, ahead: Dict[str, float]) -> List[Heard]:
-    """The stations of these counts, by callsign."""
-    calls = {text_of(shown): shown for shown in counts}
-    # within a frame that is passed on may stand anything
-    return [station_of(call, counts[shown], ahead)
-            for call, shown in sorted(calls.items()) if CALL.fullmatch(call)]
-
-
-def heard_of(rows: Iterable[Tuple[str, ...]], gap: int = book_file.GAP) -> List[Heard]:
+def heard_of(tables: Iterable[Columns], gap: int = book_file.GAP) -> List[Heard]:
     """The stations of rows, by callsign. The rows have COLUMNS as they are shown, and stand in the
     order of their book. Wrong clocks are said."""
-    pairs = receiver_clocks.Pairs()
-    counts = counts_of(pairs.noted(rows, COLUMNS))
-    for of in counts.values():
-        for receivers, it in of.items():
-            pairs.together[receivers] += it.sent
-    return stations_of(counts, receiver_clocks.told(pairs.wrong(gap)))
+    pairs, counts = receiver_clocks.Pairs(), Counts()
+    for columns in pairs.noted(tables, COLUMNS):
+        counts.note(columns)
+    for (_, receivers), count in counts.sent.items():
+        pairs.together[receivers] += count
+    return counts.stations(receiver_clocks.told(pairs.wrong(gap)))
 
 
-def rows_of(files: Sequence[str], gap: Optional[int]) -> Iterator[Tuple[str, ...]]:
+def tables_of(files: Sequence[str], gap: Optional[int]) -> Iterator[Columns]:
     """What is read of the table of files, or of standard input where there are none."""
-    lines = table.lines_of(Row, files, gap)
-    return progress.counted(table.tuples(Row, lines, COLUMNS), table.WORDS[Row])
+    columns = table.columns(Row, table.lines_of(Row, files, gap), names=COLUMNS)
+    return progress.counted(columns, table.WORDS[Row], size=lambda it: len(it[0]))
 
 
 def of_time(book: str, gap: Optional[int], time: Time) -> List[Heard]:
     """The stations of those rows of a book that are of a time by clocks that are right."""
-    ahead = receiver_clocks.of_book(book, gap)
-    first, _, receivers, *_ = range(len(COLUMNS))
+    ahead, counts = receiver_clocks.of_book(book, gap), Counts()
 
-    def is_within(row: Tuple[str, ...]) -> bool:
-        moment = receiver_clocks.moment_of(row[first], row[receivers], ahead)
-        return time.since <= moment < time.until
-    return stations_of(counts_of(filter(is_within, rows_of([book], gap))), ahead)
+    def is_within(first: str, receivers: str) -> bool:
+        return time.since <= receiver_clocks.moment_of(first, receivers, ahead) < time.until
+    for columns in tables_of([book], gap):
+        first, _, receivers, *_ = columns
+        counts.note(table.kept(columns, [*map(is_within, first, receivers)]))
+    return counts.stations(ahead)
 
 
 def of_inputs(args: argparse.Namespace) -> List[Heard]:
@@ -121,4 +121,4 @@ def of_inputs(args: argparse.Namespace) -> List[Heard]:
         with merged_inputs.book(args.inputs, gap) as book:
             return of_time(book, gap, time)
     with merged_inputs.plain(args.inputs) as files:
-        return heard_of(rows_of(files, gap), gap or book_file.GAP)
+        return heard_of(tables_of(files, gap), gap or book_file.GAP)

@@ -6,18 +6,21 @@ more to go by, since it reads logs.
 """
 import collections
 import itertools
+import operator
+import re
 from typing import (
     Counter, DefaultDict, Dict, Iterable, Iterator, List, NamedTuple, Optional, Sequence, Tuple)
 
 from aprsbook_tools import stderr
 from aprsbook_tools.formats import book_file, moments
 from aprsbook_tools.reports import clock_offsets, table
-from aprsbook_tools.reports.table import REST, Row
+from aprsbook_tools.reports.table import REST, Columns, Row
 
 # what is read of each row: when and by whom it was heard, and its text, but for its digipeaters
 COLUMNS = ("first", "receivers", "source", "destination", "gate", REST)
 MOST = 8  # rows of one text: what is sent more often has no partner that would be sure
 FEWEST = 2  # transmissions that both heard: fewer say nothing of a clock
+RUN = re.compile(b"\1+")  # rows each of which has the text of the one behind it
 
 
 class Pair(NamedTuple):
@@ -29,32 +32,33 @@ class Pair(NamedTuple):
 
 
 class Pairs:
-    """What each two receivers heard, row by row in the order of a book. `together`, which whoever
+    """What each two receivers heard, of rows in the order of a book. `together`, which whoever
     reads the rows counts, is the rows of each list of receivers."""
 
     def __init__(self) -> None:
         self.apart: DefaultDict[Tuple[str, str], List[int]] = collections.defaultdict(list)
         self.together: Counter[str] = collections.Counter()
+        # the last rows of one text, which may go on: when and by whom each was heard, and its text
+        self.open: List[Tuple[str, str]] = []
+        self.texts: List[Tuple[str, ...]] = []
 
-    def noted(self, rows: Iterable[Tuple[str, ...]], names: Sequence[str]
-              ) -> Iterator[Tuple[str, ...]]:
-        """The rows as they come, which have these columns."""
-        first, receivers, source, destination, gate, text = map(names.index, COLUMNS)
-        group: List[Tuple[str, str]] = []
-        before: Tuple[str, ...] = ("",) * len(names)
-        said = ""
-        for row in rows:
-            if row[text] == said and row[source] == before[source] \
-                    and row[destination] == before[destination] and row[gate] == before[gate]:
-                group = group or [(before[first], before[receivers])]
-                if len(group) <= MOST:
-                    group.append((row[first], row[receivers]))
-            elif group:
-                self.compare(group)
-                group = []
-            before, said = row, row[text]
-            yield row
-        self.compare(group)
+    def noted(self, tables: Iterable[Columns], names: Sequence[str]) -> Iterator[Columns]:
+        """The columns of rows as they come, which have these names."""
+        first, receivers, *text = map(names.index, COLUMNS)
+        for columns in tables:
+            self.note([*zip(columns[first], columns[receivers])],
+                      [*zip(*(columns[at] for at in text))])
+            yield columns
+        self.compare(self.open)
+
+    def note(self, heard: List[Tuple[str, str]], texts: List[Tuple[str, ...]]) -> None:
+        """Takes the next rows: when and by whom each was heard, and its text."""
+        heard, texts = self.open + heard, self.texts + texts
+        alike = bytes(map(operator.eq, texts, texts[1:]))
+        last = alike.rfind(b"\0") + 1
+        for run in RUN.finditer(alike, 0, last):
+            self.compare(heard[run.start():run.end() + 1])
+        self.open, self.texts = heard[last:][:MOST + 1], texts[last:][:MOST + 1]
 
     def compare(self, group: Sequence[Tuple[str, str]]) -> None:
         """Takes rows of one text: when each was heard first, and by whom."""
@@ -122,9 +126,9 @@ def moment_of(moment_: str, receivers: str, ahead: Dict[str, float]) -> str:
 def of_book(book: str, gap: Optional[int]) -> Dict[str, float]:
     """The receivers of a book whose clocks are wrong, and by how much, which is said."""
     pairs = Pairs()
-    rows = table.tuples(Row, table.lines_of(Row, [book], gap), COLUMNS)
-    receivers = COLUMNS.index("receivers")
-    pairs.together.update(row[receivers] for row in pairs.noted(rows, COLUMNS))
+    tables = table.columns(Row, table.lines_of(Row, [book], gap), names=COLUMNS)
+    for columns in pairs.noted(tables, COLUMNS):
+        pairs.together.update(columns[COLUMNS.index("receivers")])
     return told(pairs.wrong(gap or book_file.GAP))
 
 

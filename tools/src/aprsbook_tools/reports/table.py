@@ -228,6 +228,7 @@ class Time(NamedTuple):
 
 ALWAYS = Time()
 BATCH = 500  # lines
+KNOWN = 2_000  # texts of a column whose values are kept
 FIELDS = operator.methodcaller("count", "\t")  # of a line, without the first
 REST = "*"  # in place of a column's name: what stands behind all others that are read
 
@@ -255,14 +256,24 @@ def places_of(kind: Type[Any], names: Sequence[str], head: Sequence[str]) -> Lis
     return [head.index(it) if it in head else len(head) for it in names]
 
 
-class Layout:
-    """Where columns stand in the lines of a table, of which those of a time are wanted. REST, which
-    may be the last name, is all that stands behind the others."""
+class Wanted(NamedTuple):
+    """Which lines of a table are wanted: those of a time that have something in a column."""
+    time: Time = ALWAYS
+    having: str = ""  # one of the columns that are read, or nothing
 
-    def __init__(self, kind: Type[Any], head: str, names: Sequence[str], time: Time) -> None:
-        self.kind, self.time, self.head = kind, time, head.split("\t")
+
+ALL = Wanted()
+
+
+class Layout:
+    """Where columns stand in the lines of a table, of which some are wanted. REST, which may be the
+    last name, is all that stands behind the others."""
+
+    def __init__(self, kind: Type[Any], head: str, names: Sequence[str], wanted: Wanted) -> None:
+        self.kind, self.time, self.head = kind, wanted.time, head.split("\t")
+        self.having = names.index(wanted.having) if wanted.having else -1
         self.at = places_of(kind, [it for it in names if it != REST], self.head)
-        self.times = places_of(kind, MOMENTS[kind], self.head) if time != ALWAYS else []
+        self.times = places_of(kind, MOMENTS[kind], self.head) if self.time != ALWAYS else []
         self.most = max([*self.at, *self.times]) + 1
         self.is_short = REST in names
         self.at += [self.most] if self.is_short else []
@@ -275,7 +286,9 @@ class Layout:
             columns_ = [*map(column_at, self.at)]
             if self.times:
                 are = [*map(self.is_within, zip(*map(column_at, self.times)))]
-                columns_ = [[*itertools.compress(it, are)] for it in columns_]
+                columns_ = kept(columns_, are)
+            if self.having >= 0:
+                columns_ = kept(columns_, columns_[self.having])
             if columns_[0]:
                 yield columns_
             number_ += len(batch)
@@ -307,31 +320,51 @@ class Layout:
         return any(self.time.since <= it < self.time.until for it in moments if it)
 
 
+def kept(columns: Columns, are: Sequence[Any]) -> Columns:
+    """The columns of those rows for which there is something."""
+    return [[*itertools.compress(it, are)] for it in columns]
+
+
 def tuples(kind: Type[Any], lines: Iterable[str], names: Sequence[str],
-           time: Time = ALWAYS) -> Iterator[Tuple[str, ...]]:
-    """These columns of the table's lines, as they are shown, of those of a time."""
-    for shown in columns(kind, lines, time, names):
+           wanted: Wanted = ALL) -> Iterator[Tuple[str, ...]]:
+    """These columns of the table's lines, as they are shown, of those that are wanted."""
+    for shown in columns(kind, lines, wanted, names):
         yield from zip(*shown)
 
 
-def columns(kind: Type[Any], lines: Iterable[str], time: Time = ALWAYS,
+def columns(kind: Type[Any], lines: Iterable[str], wanted: Wanted = ALL,
             names: Sequence[str] = ()) -> Iterator[Columns]:
-    """All columns of the table's lines, or those of these names, as they are shown, of the lines of
-    a time: of many lines at once."""
+    """All columns of the table's lines, or those of these names, as they are shown, of the lines
+    that are wanted: of many lines at once."""
     lines = iter(lines)
-    yield from Layout(kind, next(lines, ""), names or columns_of(kind), time).columns(lines)
+    yield from Layout(kind, next(lines, ""), names or columns_of(kind), wanted).columns(lines)
+
+
+class Known(Dict[str, Any]):
+    """The values of texts, each of which is read once."""
+
+    def __init__(self, read: Callable[[str], Any]) -> None:
+        super().__init__()
+        self.read = read
+
+    def __missing__(self, shown: str) -> Any:
+        value = self[shown] = self.read(shown)
+        return value
 
 
 def converter(read: Callable[[str], Any], empty: Any, changes: Optional[Changes] = None
               ) -> ConvertColumn:
     """What converts a column that is shown: what is alike is read once, and one that is empty is
     `empty`. All stand as they are where nothing changes one of them."""
+    known = Known(read)
+
     def convert(values: Sequence[str]) -> Sequence[Any]:
         if not any(values):
             return [empty] * len(values)
         if changes is not None and not changes("\n".join(values)):
             return values
-        known = {it: read(it) for it in {*values}}
+        if len(known) > KNOWN:
+            known.clear()
         known[""] = empty
         return [*map(known.__getitem__, values)]
     return convert
@@ -342,21 +375,24 @@ def is_escaped(lines: str) -> bool:
     return "\\" in lines
 
 
+def named(make: Any, rows: Iterable[Tuple[Any, ...]]) -> Iterator[Any]:
+    """Tuples of a size as named tuples of that size, which costs less than to make those."""
+    return map(tuple.__new__, itertools.repeat(make), rows)
+
+
 def read(kind: Type[T], lines: Iterable[str], names: Sequence[str] = (),
-         time: Time = ALWAYS) -> Iterator[T]:
+         wanted: Wanted = ALL) -> Iterator[T]:
     """The table's lines as dataclasses of a kind, or as named tuples of some of its columns."""
-    make: Callable[..., Any] = kind
-    if names:
-        make = cast(Any, collections.namedtuple(kind.__name__, names))
+    make = cast(Any, collections.namedtuple(kind.__name__, names)) if names else None
     names = names or columns_of(kind)
     own = [converter(it, it(""), is_escaped if it is text_of else None)
            for it in map(readers_of(kind).__getitem__, names)]
-    for shown in columns(kind, lines, time, names):
+    for shown in columns(kind, lines, wanted, names):
         try:
             values = [convert(it) for convert, it in zip(own, shown)]
         except ValueError as fault:
             raise Fault(f"the table of {WORDS[kind]}: {fault}") from fault
-        yield from map(make, *values)
+        yield from named(make, zip(*values)) if make else map(kind, *values)
 
 
 def lines_of(kind: Type[Any], inputs: Sequence[str], gap: Optional[int] = None,
@@ -369,10 +405,10 @@ def lines_of(kind: Type[Any], inputs: Sequence[str], gap: Optional[int] = None,
 
 
 def of(kind: Type[T], inputs: Sequence[str], gap: Optional[int] = None,
-       given: programs.Given = None, names: Sequence[str] = (), time: Time = ALWAYS
+       given: programs.Given = None, names: Sequence[str] = (), wanted: Wanted = ALL
        ) -> Iterator[T]:
     """The same as a kind, or as named tuples of some of its columns."""
-    return read(kind, lines_of(kind, inputs, gap, given), names, time)
+    return read(kind, lines_of(kind, inputs, gap, given), names, wanted)
 
 
 def rows(inputs: Sequence[str], gap: Optional[int] = None) -> Iterator[Row]:

@@ -109,7 +109,7 @@ def put(args: argparse.Namespace, kind: Type[Any], roster: Roster) -> None:
     arguments.check_range(args)
     with merged_inputs.plain(args.inputs) as files:
         lines = table.lines_of(kind, files, table_output.gap_of(args))
-        shown = table.columns(kind, lines, table_output.time_of(args))
+        shown = table.columns(kind, lines, table.Wanted(table_output.time_of(args)))
         counted = progress.counted(shown, table.WORDS[kind], size=lambda columns: len(columns[0]))
         names = tactical.names_of(kind, roster)
         form = table_output.format_of(args)

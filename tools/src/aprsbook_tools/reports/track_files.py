@@ -114,25 +114,22 @@ def with_tracks(
 def description_of(place: Place) -> str:
     """By whom a place was heard, how much of it is left out, and its comment."""
     row = place.row
-    words = [f"heard by {', '.join(row.receivers)}"]
+    words = f"heard by {', '.join(row.receivers)}"
     if not place.is_exact:
-        words.insert(0, f"digits left out: {row.ambiguity}")
-    if row.text:
-        words.append(row.text)
-    return "; ".join(words)
+        words = f"digits left out: {row.ambiguity}; {words}"
+    return f"{words}; {row.text}" if row.text else words
 
 
 def point_of(tag: str, place: Place, name: str = "", more: str = "") -> str:
     """A point of GPX: a waypoint, or one of a track."""
-    north, east = map(degrees, place.spot)
+    row, (north, east) = place.row, place.spot
+    lon = degrees(east)
     # its longitudes end below 180
-    east = east.replace("180.", "-180.") if east.startswith("180.") else east
-    height = place.row.altitude_m
+    lon = lon.replace("180.", "-180.") if lon.startswith("180.") else lon
+    height = f"<ele>{row.altitude_m:.1f}</ele>" if row.altitude_m is not None else ""
     return (
-        f'<{tag} lat="{north}" lon="{east}">'
-        + (f"<ele>{height:.1f}</ele>" if height is not None else "")
-        + f"<time>{place.row.first}</time>{name}<desc>{markup(description_of(place))}</desc>"
-        + f"{more}</{tag}>\n"
+        f'<{tag} lat="{degrees(north)}" lon="{lon}">{height}<time>{row.first}</time>{name}'
+        f"<desc>{markup(description_of(place))}</desc>{more}</{tag}>\n"
     )
 
 

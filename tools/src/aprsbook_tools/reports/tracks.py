@@ -6,6 +6,7 @@ from dataclasses import dataclass
 from typing import Any, Callable, Iterable, Iterator, List, NamedTuple, Tuple, cast
 
 from aprsbook_tools.geo import Spot
+from aprsbook_tools.reports import table
 from aprsbook_tools.reports.table import Row
 from aprsbook_tools.system import sorting
 
@@ -107,8 +108,8 @@ def each_thing(rows: Iterable[Row]) -> Iterator[Thing]:
     the places are in memory, by the moment when each was first heard; those of one moment as they
     stand."""
     places = sorting.in_order(sortable(rows))
-    for (kind, name), own in itertools.groupby(places, key=lambda it: it[:2]):
-        rows = (SortedRow(*values) for *_, values in own)
+    for (kind, name), own in itertools.groupby(places, key=operator.itemgetter(0, 1)):
+        rows = table.named(SortedRow, map(operator.itemgetter(-1), own))
         found = settled(filter(None, map(spoken_of, rows)))
         if found:
             yield Thing(KINDS[kind], name, found)

@@ -8,22 +8,22 @@ from typing import IO, Any, Iterable, Iterator, List, Tuple
 
 RUN = 20_000  # items that are sorted at once
 BLOCK = 1_000  # items that are read at once of a run
+SIZE = 8  # bytes before a block, that say how many it has
 
 
 def items_of(run: IO[bytes]) -> Iterator[Tuple[Any, ...]]:
     """What was written into a run."""
     run.seek(0)
-    while True:
-        try:
-            block: List[Tuple[Any, ...]] = marshal.load(run)
-        except EOFError:
-            return
+    for size in iter(lambda: run.read(SIZE), b""):
+        block: List[Tuple[Any, ...]] = marshal.loads(run.read(int.from_bytes(size, "little")))
         yield from block
 
 
 def written(items: List[Tuple[Any, ...]], run: IO[bytes]) -> IO[bytes]:
+    """Writes them into a run, in blocks: `marshal` reads a file byte by byte."""
     for at in range(0, len(items), BLOCK):
-        marshal.dump(items[at:at + BLOCK], run)
+        block = marshal.dumps(items[at:at + BLOCK])
+        run.write(len(block).to_bytes(SIZE, "little") + block)
     return run
 
 
