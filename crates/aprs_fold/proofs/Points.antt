@@ -1,11 +1,11 @@
 -- A point of the loop in which the rows of several streams are taken.
-use Rattle.aprs_fold.proofs.Common.{◌≡◌, ◌<◌, ℕ, List, length, Option, sym, subst, arith, Counted, Row}
+use Rattle.aprs_fold.proofs.Common.{◌≡◌, ◌≢◌, ◌<◌, ℕ, List, length, Option, sym, subst, arith, Counted, Row}
 use Rattle.aprs_bookfile.specs.declared.row_stream.RowStream.{RowStream}
 use Rattle.aprs_fold.specs.Fronts.{IsFirst}
 use Rattle.aprs_fold.specs.Inputs.{AreAsked, IsRefused}
-use Rattle.aprs_fold.specs.Streams.{AreReading, IsReadyAt}
+use Rattle.aprs_fold.specs.Streams.{AreReading, IsOfInputs, IsReadyAt}
 use Rattle.aprs_fold.specs.declared.fault.FoldFault.{FoldFault}
-use Rattle.aprs_fold.specs.declared.fault.FoldFault.TheVariants.{Memory, Write}
+use Rattle.aprs_fold.specs.declared.fault.FoldFault.TheVariants.{Input, OtherGap, Memory, Write}
 use Rattle.aprs_fold.proofs.Reading.{AreReading-asked, AreReading-len, AreReading-ready}
 
 -- want of memory refuses no input
@@ -14,6 +14,13 @@ pub memory_refuses : {R : Type 0} (remaining : R → Option (List ℕ)) (limit g
     → IsRefused remaining limit gap fault old new
 memory_refuses remaining limit gap old new fault e =
     subst (λ (f : FoldFault). IsRefused remaining limit gap f old new) (sym e) tt
+
+-- a fault of the inputs is no refusal of the output
+pub unwritten : (fault : FoldFault) → IsOfInputs fault → fault ≢ Write
+unwritten (Input index fault) is e = absurd (cc)
+unwritten (OtherGap index) is e = absurd (cc)
+unwritten Memory is e = absurd (cc)
+unwritten Write is e = is
 
 -- So far these rows were taken of each input.
 pub record Point {R A : Type 0} (remaining : R → Option (List ℕ)) (limit gap : ℕ)

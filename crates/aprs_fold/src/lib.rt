@@ -2,6 +2,7 @@
 //! sources, which is found by bisection, or what is new to one of them.
 #![tactic(auto)]
 
+mod check;
 mod examples;
 mod fault;
 mod fold;
@@ -14,6 +15,7 @@ mod taking;
 mod taking_new;
 mod tournament;
 
+pub use check::check_books;
 pub use examples::books::{books_are_one_book, books_have_ranges};
 pub use examples::inputs::{headers_tell_the_gap, refusals_name_an_input};
 pub use examples::lent_lines::{
