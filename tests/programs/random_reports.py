@@ -203,6 +203,13 @@ def mic_e(n: random.Random) -> Heard:
                  + said.encode())
 
 
+def passed_on(n: random.Random, frame: Heard) -> Heard:
+    """As a gate passes it on, now and then with a letter of its destination too few or too many."""
+    to = n.choice([frame.destination] * 4 + [frame.destination[1:], frame.destination + b"0"])
+    way = n.choice([b"", b"-1", b"-15", b",TCPIP*", b"-2,TCPIP,WU2Z-10*", b"-A-1"])
+    return Heard(b"APRS  ", b"}WU2Z-9>" + to + way + b":" + frame.info)
+
+
 KINDS = [position] * 4 + [named, named, message, message, status, bare_weather, telemetry, telemetry, raw]
 
 
@@ -214,6 +221,8 @@ def heard(n: random.Random) -> Heard:
     frame = Heard(b"APRS  ", text.encode("latin-1"))
     if n.random() < 0.1:
         frame = mic_e(n)
+        if n.random() < 0.3:
+            frame = passed_on(n, frame)
     info = bytearray(frame.info[:200])
     if n.random() < 0.1:
         info[n.randrange(len(info))] = n.randrange(256)

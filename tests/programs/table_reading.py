@@ -521,7 +521,8 @@ def reading(destination: bytes, info: bytes) -> Line:
     """What the columns say of a frame to this destination, those that have something to say."""
     passed = re.match(rb"\}([^:>]*)>([^:,]*),?([^:]*):", info, re.DOTALL)
     if passed:
-        line = report(info[passed.end() :]) or other(info[passed.end() :])
+        inner = info[passed.end() :]
+        line = report(inner) or mic_e(passed[2].split(b"-")[0], inner) or other(inner)
         line.update(source=shown(passed[1]), destination=shown(passed[2]))
         line.update(via=shown(passed[3]), gate="N0CALL")
         return line

@@ -1,4 +1,9 @@
 //! Worked examples of the definitions, and near misses, by topic. Their functions do nothing.
 
+mod answers;
+mod classes;
+mod columns;
 mod net;
+mod orders;
 mod tables;
+mod traffic;

@@ -1,4 +1,5 @@
 -- Words of the worked examples. No public clause but theirs cites this module.
+use denote.Ref.{Bor}
 use Rattle.std.specs.List.{join_with_byte}
 use Rattle.std.specs.Prelude.{List, ℕ, map, codes, ◌≡◌, ◌∷◌, ◌++◌, ◌*◌, [], if◌then◌else◌}
 use Rattle.std.specs.Str.{bytes_eq}
@@ -105,3 +106,9 @@ at_the_jeep = (codes "latitude", codes "33.4273333") ∷ (codes "longitude", cod
 abbrev pub at_compressed : List (List ℕ × List ℕ)
 at_compressed = (codes "latitude", codes "49.5000000") ∷ (codes "longitude", codes "-72.7500039")
     ∷ (codes "compressed", codes "yes") ∷ []
+
+-- ---- single fields
+
+-- Bytes that a field is given.
+abbrev pub lent_bytes : List ℕ → Bor (List ℕ)
+lent_bytes bytes = record { ref_ptr = (0, 0); now = bytes }

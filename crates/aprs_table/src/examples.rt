@@ -1,5 +1,6 @@
 //! Worked examples of the lines of a table, by topic.
 
+pub(crate) mod cells;
 pub(crate) mod columns;
 pub(crate) mod kinds;
 pub(crate) mod places;

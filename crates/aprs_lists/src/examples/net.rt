@@ -1,9 +1,7 @@
 //! Worked examples of runs of copies and of first answers, and near misses.
-ghost use Rattle.std.specs.Prelude.{◌≡◌, [], ◌∷◌, None, Some, codes, true, false};
-ghost use Rattle.aprs_transmissions.specs.Order.{IsBelow};
-ghost use Rattle.aprs_lists.specs.Answers.{first_in_time, reply_cmp};
-ghost use Rattle.aprs_lists.specs.Copies.{copy_cmp};
-ghost use Rattle.aprs_lists.specs.NetExamples.{ack_at, other_at, rej_at, reply_at, said, sent};
+ghost use Rattle.std.specs.Prelude.{◌≡◌, [], ◌∷◌, None, Some};
+ghost use Rattle.aprs_lists.specs.Answers.{first_in_time};
+ghost use Rattle.aprs_lists.specs.NetExamples.{ack_at, rej_at, reply_at, said, sent};
 ghost use Rattle.aprs_lists.specs.Runs.{runs_of};
 
 /// A copy goes on a run if it begins at most the gap after the end of those before, also where one
@@ -22,14 +20,6 @@ pub fn copies_within_the_gap_are_one_run()
         ≡ sent 0 0 (Some 20) ∷ sent 20 20 (Some 40) ∷ sent 40 40 None ∷ [] }
 {}
 
-/// Copies go by message, first moment, gate, where none comes first, and last moment.
-pub fn copies_are_in_order()
-    ensures first { IsBelow copy_cmp (said 0 9) (said 1 2) }
-    ensures last { IsBelow copy_cmp (said 0 1) (said 0 2) }
-    ensures direct { IsBelow copy_cmp (said 0 9) (other_at 0 1) }
-    ensures misses_same { IsBelow copy_cmp (said 0 1) (said 0 1) → ⊥ }
-{}
-
 /// The first answer counts from the start on and before the end of its time.
 pub fn first_answers_are_in_time()
     ensures none { first_in_time (ack_at 100) None [] ≡ None }
@@ -40,6 +30,4 @@ pub fn first_answers_are_in_time()
     ensures first_of_two { first_in_time (ack_at 100) None (ack_at 99 ∷ rej_at 101 ∷ ack_at 102 ∷ [])
         ≡ Some (rej_at 101) }
     ensures of_another_form { first_in_time (ack_at 100) None (reply_at 100 ∷ []) ≡ None }
-    ensures ack_before_rej { IsBelow reply_cmp (ack_at 100) (rej_at 100) }
-    ensures misses_later { IsBelow reply_cmp (ack_at 101) (rej_at 100) → ⊥ }
 {}

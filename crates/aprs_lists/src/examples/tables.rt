@@ -13,52 +13,11 @@ ghost use Rattle.aprs_table.specs.Cells.{stamp_field};
 ghost use Rattle.aprs_summary.specs.declared.lists.message.MessageState.TheVariants.{Unnumbered, Unanswered, Acknowledged, Rejected};
 ghost use Rattle.aprs_summary.specs.declared.lists.reply_ack.ReplyAck.TheVariants.{NotAwaited, Awaited, Heard};
 ghost use Rattle.aprs_lists.specs.Activity.{frames_passed, heard_last, latest, passes_on};
-ghost use Rattle.aprs_lists.specs.Class.{class_text};
-ghost use Rattle.aprs_lists.specs.Examples.{ack_at, active_rows, heard_at, hi_to, row_by, message_to, rej_at, reply_at, sent_as, text_to};
+ghost use Rattle.aprs_lists.specs.Examples.{ack_at, active_rows, heard_at, row_by, message_to, rej_at, reply_at, sent_as, text_to};
 ghost use Rattle.aprs_lists.specs.Lines.{tabbed_line};
 ghost use Rattle.aprs_lists.specs.Stations.{no_position, no_status, position_in, status_in};
 ghost use Rattle.aprs_lists.specs.Things.{named_fields, placed_fields, thing_line_in};
 ghost use Rattle.aprs_lists.specs.Told.{earlier_answer, listed_outcome, listed_settled, message_number, sent_told};
-
-/// Bulletins, announcements and those of the weather service have addressees of their own.
-#[tactic(auto, unfolding(crate::specs::Class::is_bulletin_of, crate::specs::Class::is_ack_text, crate::specs::Class::is_ended_number))]
-pub fn addressees_have_classes()
-    ensures bulletin { class_text (hi_to (codes "BLN0")) ≡ codes "bulletin" }
-    ensures last_bulletin { class_text (hi_to (codes "BLN9WX")) ≡ codes "bulletin" }
-    ensures announcement { class_text (hi_to (codes "BLNA")) ≡ codes "announcement" }
-    ensures last_announcement { class_text (hi_to (codes "BLNZ")) ≡ codes "announcement" }
-    ensures weather { class_text (hi_to (codes "NWS-WARN")) ≡ codes "weather-bulletin" }
-    ensures misses_mark { class_text (hi_to (codes "BLN")) ≡ codes "message" }
-    ensures misses_small { class_text (hi_to (codes "BLNa")) ≡ codes "message" }
-    ensures misses_slash { class_text (hi_to (codes "BLN/")) ≡ codes "message" }
-    ensures misses_letters { class_text (hi_to (codes "BLM1")) ≡ codes "message" }
-    ensures misses_dash { class_text (hi_to (codes "NWSX")) ≡ codes "message" }
-    ensures before_text { class_text (message_to (codes "BLN1") (codes "?APRSD") None)
-        ≡ codes "bulletin" }
-{}
-
-/// The texts of telemetry, queries and answers begin so. An answer has no id.
-#[tactic(auto, unfolding(crate::specs::Class::is_bulletin_of, crate::specs::Class::is_ack_text, crate::specs::Class::is_ended_number))]
-pub fn texts_have_classes()
-    ensures names { class_text (text_to (codes "PARM.a")) ≡ codes "telemetry" }
-    ensures units { class_text (text_to (codes "UNIT.")) ≡ codes "telemetry" }
-    ensures factors { class_text (text_to (codes "EQNS.0")) ≡ codes "telemetry" }
-    ensures bits { class_text (text_to (codes "BITS.1")) ≡ codes "telemetry" }
-    ensures query { class_text (text_to (codes "?APRSD")) ≡ codes "query" }
-    ensures ping { class_text (text_to (codes "?PING?")) ≡ codes "query" }
-    ensures answer { class_text (text_to (codes "ack05}F1")) ≡ codes "answer" }
-    ensures short_answer { class_text (text_to (codes "ack5}")) ≡ codes "answer" }
-    ensures message { class_text (text_to (codes "Hi{05}F1")) ≡ codes "message" }
-    ensures misses_dot { class_text (text_to (codes "PARM")) ≡ codes "message" }
-    ensures misses_query { class_text (text_to (codes "?APR")) ≡ codes "message" }
-    ensures misses_question { class_text (text_to (codes "? Who")) ≡ codes "message" }
-    ensures misses_number { class_text (text_to (codes "ack}F1")) ≡ codes "message" }
-    ensures misses_three { class_text (text_to (codes "ack123}")) ≡ codes "message" }
-    ensures misses_three_after { class_text (text_to (codes "ack05}F12")) ≡ codes "message" }
-    ensures misses_rej { class_text (text_to (codes "rej05}")) ≡ codes "message" }
-    ensures misses_id { class_text (message_to (codes "N0CALL-8") (codes "ack05}") (Some (codes "1")))
-        ≡ codes "message" }
-{}
 
 /// A message's number is its id, or else that of its text.
 pub fn messages_have_numbers()

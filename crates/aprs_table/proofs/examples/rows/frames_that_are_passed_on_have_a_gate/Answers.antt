@@ -8,7 +8,6 @@ returns c = record {
   message = refl;
   position = refl;
   within = refl;
-  mic_e = refl;
   nothing = refl;
   not_passed = refl;
 }
