@@ -14,14 +14,15 @@ REPOSITORY = pathlib.Path(__file__).resolve().parents[2]
 sys.path.append(str(REPOSITORY / "build"))
 import page as build  # noqa: E402 (it lies there)
 
-FILES = "layers", "event_in_chromium", "page_alone", "served", "page_reads"
 # has no test of the same name in Chromium
 FIREFOX_ALONE = "test_event_in_firefox.py"
+FILES = ("test_layers.py", "test_event_in_chromium.py", "test_page_alone.py", "test_served.py",
+         "test_page_reads.py", FIREFOX_ALONE)
 PYTEST = ["/usr/bin/python3", "-m", "pytest", "-qx", "-p", "no:cacheprovider"]
 EVENT_PAGE = "tools/src/aprsbook_tools/data/event.html"
 RUNS = "30"  # random ones, of the module
 SECONDS = 3600  # of a file of tests at most, and of a build
-TIMES = 10  # as long as tests take, and two minutes: what doesn't end then is seen
+LEAST, TIMES = 600, 10  # seconds, and as long as tests take: what doesn't end then is seen
 LETTERS = "ABCDEFGHIJKLMNOPQRSTUVWXYZabcdefghijklmnopqrstuvwxyz0123456789+/"
 
 
@@ -174,14 +175,13 @@ class InBrowsers:
                    for words in pages)
 
     def count(self, ran: pathlib.Path) -> None:
-        """Runs all in Chromium, and refuses what fails by itself, which would see each change."""
+        """Runs all, and refuses what fails by itself, which would see each change."""
         self.builds(REPOSITORY)
         part = ran.with_suffix(".part")
         part.mkdir(parents=True, exist_ok=True)
+        env = {**self.env(REPOSITORY), "RAN": str(part.resolve())}
         for name in FILES:
-            command = [*PYTEST, "-k", "Chromium", f"tests/browser/test_{name}.py"]
-            env = {**self.env(REPOSITORY), "RAN": str(part.resolve())}
-            if not passes(command, REPOSITORY, SECONDS, env):
+            if not passes([*PYTEST, f"tests/browser/{name}"], REPOSITORY, SECONDS, env):
                 sys.exit(f"fails without a change: {name}")
         part.rename(ran)
 
@@ -205,7 +205,7 @@ class InBrowsers:
         running = self.running(module, line)
         also = {(it.file, it.name.replace("Chromium", "Firefox")) for it in running}
         firefox = [it for it in self.firefox if running and (it in also or it[0] == FIREFOX_ALONE)]
-        seconds = 120 + TIMES * sum(it.seconds for it in running)
+        seconds = LEAST + TIMES * sum(it.seconds for it in running)
         for browser, tests in (("Chromium", [(it.file, it.name) for it in running]),
                                ("Firefox", firefox)):
             for file in dict.fromkeys(file for file, _ in tests):
