@@ -285,7 +285,7 @@ def test_roster(both: List[Any]) -> None:
 
 def test_who_repeated_whom(both: List[Any]) -> None:
     for case, said in both:
-        assert repeats.text_of(case.rows) == said["repeats"], case
+        assert repeats.text_of((it, 1) for it in case.rows) == said["repeats"], case
     assert any(said["repeats"] for _, said in both) or both[0][0].log
 
 

@@ -2,7 +2,7 @@
 receptions of logs, since a book has one copy of each transmission."""
 import collections
 import os
-from typing import Iterable, Optional, Sequence
+from typing import Iterable, Optional, Sequence, Tuple
 
 from aprsbook_tools.books.receptions import lines_in, lines_of, table_of
 from aprsbook_tools.formats import book_file
@@ -14,13 +14,17 @@ COLUMNS = ("source", "via", "gate", "receiver")  # that are read
 MOST = 1 << 26  # bytes of logs: the page that reads logs counts of no more either
 
 
+def text_of(rows: Iterable[Tuple[Row, int]]) -> str:
+    """A line for each digipeater and whom it repeated: both, and how many frames; of rows, each
+    with how many receptions it stands for."""
+    return "".join("\t".join(map(str, it)) + "\n" for it in digipeater_stats.repeats_of(rows))
+
+
 def of_lines(lines: Iterable[Line]) -> str:
-    """A line for each digipeater and whom it repeated: both, and how many frames. It is of the
-    lines of logs, in which each counts once."""
+    """The same of the lines of logs, in which each counts once."""
     counts = collections.Counter(table.tuples(Row, table_of(dict.fromkeys(lines)), COLUMNS))
     rows = table.read(Row, ["\t".join(COLUMNS), *map("\t".join, counts)], COLUMNS)
-    repeats = digipeater_stats.repeats_of(zip(rows, counts.values()))
-    return "".join("\t".join(map(str, it)) + "\n" for it in repeats)
+    return text_of(zip(rows, counts.values()))
 
 
 def of_log(octets: bytes) -> Optional[str]:

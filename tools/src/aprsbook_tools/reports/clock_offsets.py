@@ -3,7 +3,6 @@ import collections
 import dataclasses
 import heapq
 import itertools
-import statistics
 from typing import (
     Callable, DefaultDict, Dict, Iterable, List, Mapping, Protocol, Sequence, Set, Tuple)
 
@@ -14,6 +13,12 @@ LEAST = 3  # frames on each side of a step: one of them may be another transmiss
 COPIES = 20_000  # milliseconds: digipeaters repeat a transmission within so many
 # the columns that tell of a reception, and not of the transmission
 RECEPTION = frozenset(["first", "last", "receivers", "receiver", "via"])
+
+
+def median(values: Iterable[int]) -> float:
+    import statistics  # most reports that import this module need none
+
+    return statistics.median(values)
 
 
 @dataclasses.dataclass(frozen=True, order=True)
@@ -40,7 +45,7 @@ class Span:
 
     @property
     def ahead(self) -> float:
-        return statistics.median(it.ahead for it in self.frames) / 1000
+        return median(it.ahead for it in self.frames) / 1000
 
     def words(self) -> List[str]:
         """The span as a line of a table: by each clock, from when to when."""
@@ -129,8 +134,7 @@ def joined(parts: Sequence[Sequence[Both]], step: int) -> List[Sequence[Both]]:
     result: List[List[Both]] = []
     for part in parts:
         if result:
-            differences = [statistics.median(it.ahead for it in side)
-                           for side in (result[-1], part)]
+            differences = [median(it.ahead for it in side) for side in (result[-1], part)]
             if abs(differences[0] - differences[1]) <= step:
                 result[-1].extend(part)
                 continue

@@ -3,12 +3,11 @@ repeats late."""
 import re
 from collections import Counter, defaultdict
 from dataclasses import dataclass
-from statistics import median
 from typing import Dict, Iterable, List, Optional, Sequence, Tuple
 
 from aprsbook_tools.books.receptions import Reception
 from aprsbook_tools.geo import Spot, bearing, metres_between
-from aprsbook_tools.reports.clock_offsets import transmission
+from aprsbook_tools.reports.clock_offsets import median, transmission
 from aprsbook_tools.reports.table import Row
 from aprsbook_tools.reports.tracks import place_of
 

@@ -227,7 +227,7 @@ class Time(NamedTuple):
 
 
 ALWAYS = Time()
-BATCH = 500  # lines
+BATCH = 200  # lines
 KNOWN = 2_000  # texts of a column whose values are kept
 FIELDS = operator.methodcaller("count", "\t")  # of a line, without the first
 REST = "*"  # in place of a column's name: what stands behind all others that are read

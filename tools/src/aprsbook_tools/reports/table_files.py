@@ -49,8 +49,8 @@ def decimals(write: Callable[[Cell], str]) -> ConvertColumn:
     def text_of(shown: str) -> str:
         if SAME.fullmatch(shown):
             return shown
-        return write(float(shown)) if shown else ""
-    return lambda values: [text_of(it) for it in values] if any(values) else values
+        return write(float(shown))
+    return table.converter(text_of, "")
 
 
 def converters(kind: Type[Any], names: Sequence[str], write: Convert, changes: Changes,
@@ -87,7 +87,7 @@ def lines_of(form: str, kind: Type[Any], tables: Iterable[Columns], names: Seque
         for columns in tables:
             texts = [convert(it) for convert, it in zip(own, columns)]
             rows = zip(*without_empty(texts, between))
-            yield "".join([between.join(row) + "\n" for row in rows])
+            yield "\n".join(map(between.join, rows)) + "\n"
     else:
         own = converters(kind, names, lambda cell: cell, is_escaped, lambda cell: cell)
         rows_ = (row for rows in converted(tables, own) for row in rows)
