@@ -1,6 +1,6 @@
 -- What a fold writes is the book of all that its inputs stand for.
 use Rattle.aprs_runs.proofs.Common.{◌≡◌, ◌∙◌, ◌<◌, ℕ, List, Received, [], ◌∷◌, ◌++◌, append_assoc, map, Option, Some, None, Ok, inl, inr, refl, sym, ap, subst, arith, SameMembers, Row, millis_of, Counted, Sends, in_either}
-use Rattle.std.specs.Prelude.{Err, IfSome, OnOk, Result}
+use Rattle.std.specs.Prelude.{◌≢◌, Err, IfSome, OnOk, Result}
 use Rattle.aprs_io.specs.Input.{Gets}
 use Rattle.aprs_io.specs.declared.input.InputEnd.{InputEnd}
 use Rattle.aprs_transmissions.specs.Gap.{IsGap}
@@ -16,14 +16,17 @@ use Rattle.aprs_bookfile.proofs.BookRows.{rows_sound}
 use Rattle.aprs_bookfile.proofs.Versions.{some_millis}
 use Rattle.aprs_fold.specs.Inputs.{all_of, AreAsked, AreBooks}
 use Rattle.aprs_fold.specs.Range.{all_sources, book_of_sources}
+use Rattle.aprs_fold.specs.declared.fault.FoldFault.{FoldFault}
+use Rattle.aprs_fold.specs.declared.fault.FoldFault.TheVariants as Fold
 use Rattle.aprs_fold.specs.declared.range.SourceRange.{SourceRange}
 use Rattle.aprs_fold.proofs.Kept.{all_within}
-use Rattle.aprs_runs.specs.Fold.{AreBookFiles, IsTextOfSources}
+use Rattle.aprs_runs.specs.Fold.{run_fault_of, AreBookFiles, IsTextOfSources}
 use Rattle.aprs_runs.specs.Inputs.{IsBookFileOf}
 use Rattle.aprs_runs.specs.Merge.{IsBookOfAll, IsTextOfBook}
 use Rattle.aprs_runs.specs.Outcome.{IsToldOf, WritesFor}
 use Rattle.aprs_runs.specs.Several.{GiveUnion, GotOf}
 use Rattle.aprs_runs.specs.declared.fault.RunFault.{RunFault}
+use Rattle.aprs_runs.specs.declared.fault.RunFault.TheVariants as Run
 use Rattle.aprs_runs.proofs.Merges.{HoldsOfEach, some_each}
 use Rattle.aprs_runs.proofs.OneMerge.{book_of_union}
 use Rattle.aprs_runs.proofs.Outcomes.{text_went}
@@ -135,6 +138,16 @@ module _ {R : Type 0} (remaining : R → Option (List ℕ)) (limit gap : ℕ) wh
         },
       )
 
+  -- each is a book file
+  pub files_checked : (first now : List (Counted R)) (rows : List (List Row))
+      → AreBooks remaining limit gap first now rows → (inputs : List (List ℕ))
+      → map (λ (r : Counted R). remaining r.device) first ≡ some_each inputs
+      → HoldsOfEach limit inputs (map (λ (r : Counted R). remaining r.device) now)
+      (AreBookFiles gap)
+  files_checked first now rows books inputs e =
+      let files = files_of first now rows inputs e books in
+      (files.0, files.1, files.2, files.3.files)
+
   -- what was written
   module _ {W : Type 0} (contents : W → Option (List ℕ)) (range : SourceRange)
       (is_gap : IsGap gap) where
@@ -203,6 +216,16 @@ fold_of_all limit gap contents old new gots (Ok u) range is h = (
     h.1.3,
   ),
 )
+
+-- ---- a check
+
+-- the run has no refusal of the output where the check has none
+pub run_unwritten : (own : FoldFault) (fault : RunFault) → fault ≡ run_fault_of own → own ≢ Fold.Write
+    → fault ≢ Run.Write
+run_unwritten (Fold.Input index why) fault is unlike e = absurd (let f = sym is ∙ e in cc)
+run_unwritten (Fold.OtherGap index) fault is unlike e = absurd (let f = sym is ∙ e in cc)
+run_unwritten Fold.Memory fault is unlike e = absurd (let f = sym is ∙ e in cc)
+run_unwritten Fold.Write fault is unlike e = unlike refl
 
 -- ---- what was got where it ended early
 

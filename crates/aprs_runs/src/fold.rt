@@ -1,7 +1,7 @@
-//! The fold of several book files.
-ghost use Rattle.std.specs.Prelude.{◌≡◌, ◌≤◌, IfErr, OnOk};
+//! The fold of several book files, and their check alone.
+ghost use Rattle.std.specs.Prelude.{◌≡◌, ◌≢◌, ◌≤◌, IfErr, OnOk};
 ghost use Rattle.aprs_bookfile.specs.RowReader.{most_stream};
-ghost use Rattle.aprs_fold.specs.Inputs.{AreAsked};
+ghost use Rattle.aprs_fold.specs.Inputs.{AreAsked, IsRefused};
 ghost use Rattle.aprs_fold.specs.Range.{all_sources};
 ghost use Rattle.aprs_runs.specs.Fold as Spec;
 ghost use Rattle.aprs_runs.specs.Merge.{IsTextOfBook};
@@ -9,7 +9,7 @@ ghost use Rattle.aprs_runs.specs.Outcome.{IsToldOf, WritesFor};
 ghost use Rattle.aprs_runs.specs.Several.{GiveUnion, OfEach};
 
 use crate::fault::{InputFault, RunFault};
-use aprs_fold::{FoldFault, SourceRange, fold_books};
+use aprs_fold::{FoldFault, SourceRange, check_books, fold_books};
 use aprs_io::Counted;
 use aprs_transmissions::Gap;
 use std::alloc::Allocator;
@@ -80,6 +80,35 @@ pub fn fold_range_run<R: Read, W: Write, A: Allocator + Copy>(
     ensures asks { AreAsked R.remaining limit inputs.old inputs.new }
 {
     match fold_books(alloc, limit, gap, range, inputs, w) {
+        Ok(()) => Ok(()),
+        Err(fault) => Err(run_fault_of(fault)),
+    }
+}
+
+/// Reads the inputs to their ends, and refuses them as `fold_range_run` does, but writes nothing.
+/// Memory is taken for each input (16 KiB, its longest line and its longest row); no rows are
+/// joined. Requires that `limit` is at most 9,223,372,036,854,775,807.
+pub fn check_books_run<R: Read, A: Allocator + Copy>(
+    alloc: A,
+    limit: u64,
+    gap: Gap,
+    inputs: &mut [Counted<R>],
+) -> Result<(), RunFault>
+    requires { limit ≤ most_stream }
+
+    // However it ends, so much was got of each input. At `Ok` each is a book file.
+    ensures checks { OfEach limit R.remaining inputs.old inputs.new (λ gots.
+        OnOk result (Spec.AreBookFiles gap gots)) }
+
+    // At `Input` that input is refused for its fault. No output was there to be refused.
+    ensures refuses { IfErr result (λ fault. (own : FoldFault) × (fault ≡ Spec.run_fault_of own)
+        × IsRefused R.remaining limit gap own inputs.old inputs.new) }
+    ensures unwritten { IfErr result (λ fault. fault ≢ RunFault.Write) }
+
+    // No input is asked after its end or a fault.
+    ensures asks { AreAsked R.remaining limit inputs.old inputs.new }
+{
+    match check_books(alloc, limit, gap, inputs) {
         Ok(()) => Ok(()),
         Err(fault) => Err(run_fault_of(fault)),
     }

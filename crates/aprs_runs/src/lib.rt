@@ -20,7 +20,7 @@ mod widen;
 
 pub use example::{book_files_stand_for_their_sets, logs_stand_for_their_receptions};
 pub use fault::{InputFault, RunFault, status_of};
-pub use fold::{fold_range_run, fold_run};
+pub use fold::{check_books_run, fold_range_run, fold_run};
 pub use head::{ShortInput, read_head};
 pub use history::history_run;
 pub use input::{BOOK_MARK, read_log, read_short};

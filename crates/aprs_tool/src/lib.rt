@@ -12,7 +12,7 @@ pub use aprs_convert::Form;
 pub use aprs_fold::{MAX_BOOK, SourceRange};
 pub use aprs_io::{Counted, DeviceFault, WriteFault, send};
 pub use aprs_runs::{
-    InputFault, RunFault, book_files_stand_for_their_sets, check_run, convert_run,
+    InputFault, RunFault, book_files_stand_for_their_sets, check_books_run, check_run, convert_run,
     faultless_inputs_have_no_fault, fold_range_run, fold_run, histories_tell_places, history_run,
     listings_tell_positions, logs_stand_for_their_receptions, merge_run, news_run,
     same_receptions_same_bytes, same_receptions_same_history, same_receptions_same_table, show_run,
