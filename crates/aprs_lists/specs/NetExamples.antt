@@ -20,7 +20,8 @@ said first last = record { message = hi; first = first; gate = None; last = last
 
 -- A copy of it that N0CALL of this SSID passed on.
 abbrev pub copy_by : ℕ → ℕ → ℕ → Copy
-copy_by ssid first last = record { message = hi; first = first; gate = Some (n0call ssid); last = last }
+copy_by ssid first last =
+    record { message = hi; first = first; gate = Some (n0call ssid); last = last }
 
 -- A copy of it that N0CALL-1 passed on.
 abbrev pub other_at : ℕ → ℕ → Copy

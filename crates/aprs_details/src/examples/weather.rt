@@ -1,7 +1,7 @@
 //! Worked examples of weather, and near misses.
 ghost use Rattle.std.specs.Prelude.{codes, None, Some, true, neg_ℤ, pos, ℕ, List, false, ◌≡◌, ◌∷◌, []};
 ghost use Rattle.aprs_details.specs.Details.{is_weather_station};
-ghost use Rattle.aprs_details.specs.Examples.{Gives, of_station, plain_place, weather_alone, shown_weather, compressed_place, windy, weather, Misses, number_in, bytes_where, bytes_with, compressed_weather, of_car, moves};
+ghost use Rattle.aprs_details.specs.Examples.{Gives, of_station, plain_place, weather_alone, shown_weather, compressed_place, windy, weather, Misses, number_in, bytes_where, bytes_with, compressed_weather, of_car, moves, sent_with};
 ghost use Rattle.aprs_details.specs.Weather.{weather_of_info, temperature_of, humidity_of, luminosity_of, has_three, width_of, fits_letter, weather_of_fields, weather_of_comment};
 
 /// Weather with a plain position and a compressed one, as the standard shows it.
@@ -255,6 +255,14 @@ pub fn symbols_tell_weather_stations()
     ensures station { of_station (plain_place, codes "220/004g005/A=001234")
         ≡ record (weather_alone None (windy (Some 220) (Some 4))) {
           altitude = Some (pos 3761232);
+        } }
+    ensures station_with_a_range { of_station (plain_place, codes "RNG0050")
+        ≡ record (weather_alone None (weather None None None None None None None None None None)) {
+          range = Some 5000;
+        } }
+    ensures station_with_a_transmitter { of_station (plain_place, codes "PHG5132")
+        ≡ record (weather_alone None (weather None None None None None None None None None None)) {
+          phg = sent_with 25 20 3 90;
         } }
     ensures misses_car { of_car (codes "220/004g005") ≡ moves (Some 220) (Some 4) None }
 {}

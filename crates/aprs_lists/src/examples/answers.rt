@@ -9,7 +9,8 @@ ghost use Rattle.aprs_lists.specs.Told.{told_found};
 /// Answers count from the first moment less the gap on, and before the next run begins.
 pub fn answers_count_in_the_time_of_a_run()
     ensures at_the_start { (told_found 30 (ack_at 70 ∷ []) (sent 100 200 None)).answered ≡ Some 70 }
-    ensures before_the_start { (told_found 30 (ack_at 69 ∷ []) (sent 100 200 None)).answered ≡ None }
+    ensures before_the_start { (told_found 30 (ack_at 69 ∷ []) (sent 100 200 None)).answered
+        ≡ None }
     ensures from_the_first_moment { (told_found 30 (ack_at 0 ∷ []) (sent 10 200 None)).answered
         ≡ Some 0 }
     ensures long_after { (told_found 30 (ack_at 999 ∷ []) (sent 100 200 None)).answered ≡ Some 999 }
@@ -23,14 +24,15 @@ pub fn answers_count_in_the_time_of_a_run()
 
 /// An answer is for the number of the message, and comes from its addressee.
 pub fn answers_are_for_a_message()
-    ensures acknowledged { (told_found 30 (answer_by 8 (codes "1") 110 ∷ []) (sent 100 200 None)).state
-        ≡ Acknowledged }
-    ensures misses_number { (told_found 30 (answer_by 8 (codes "2") 110 ∷ []) (sent 100 200 None)).state
-        ≡ Unanswered }
-    ensures misses_station { (told_found 30 (answer_by 9 (codes "1") 110 ∷ []) (sent 100 200 None)).state
-        ≡ Unanswered }
+    ensures acknowledged { (told_found 30 (answer_by 8 (codes "1") 110 ∷ [])
+        (sent 100 200 None)).state ≡ Acknowledged }
+    ensures misses_number { (told_found 30 (answer_by 8 (codes "2") 110 ∷ [])
+        (sent 100 200 None)).state ≡ Unanswered }
+    ensures misses_station { (told_found 30 (answer_by 9 (codes "1") 110 ∷ [])
+        (sent 100 200 None)).state ≡ Unanswered }
     ensures misses_callsign { (told_found 30 (ack_at 110 ∷ [])
-        (run_of (message_to (codes "N0CALL-16") (codes "Hi") (Some (codes "1"))))).state ≡ Unanswered }
+        (run_of (message_to (codes "N0CALL-16") (codes "Hi") (Some (codes "1"))))).state
+        ≡ Unanswered }
     ensures of_the_text { (told_found 30 (answer_by 8 (codes "05") 110 ∷ [])
         (run_of (message_to (codes "N0CALL-8") (codes "Hi{05}") None))).outcome ≡ Acknowledged }
     ensures misses_text { (told_found 30 (answer_by 8 (codes "06") 110 ∷ [])
@@ -40,7 +42,8 @@ pub fn answers_are_for_a_message()
 /// An ack or rej makes the state, and a reply-ack what came of the number for reply-acks. The
 /// earlier of the two makes the outcome.
 pub fn answers_have_two_forms()
-    ensures by_reply { (told_found 30 (reply_at 110 ∷ []) (sent 100 200 None)).outcome ≡ Acknowledged }
+    ensures by_reply { (told_found 30 (reply_at 110 ∷ []) (sent 100 200 None)).outcome
+        ≡ Acknowledged }
     ensures by_reply_alone { (told_found 30 (reply_at 110 ∷ []) (sent 100 200 None)).state
         ≡ Unanswered }
     ensures of_an_id { (told_found 30 (reply_at 110 ∷ []) (sent 100 200 None)).reply_ack
@@ -49,8 +52,8 @@ pub fn answers_have_two_forms()
         (run_of (message_to (codes "N0CALL-8") (codes "Hi{1}") None))).reply_ack ≡ Heard 110 }
     ensures by_an_ack { (told_found 30 (ack_at 110 ∷ [])
         (run_of (message_to (codes "N0CALL-8") (codes "Hi{1}") None))).reply_ack ≡ Awaited }
-    ensures earlier_reply { (told_found 30 (rej_at 120 ∷ reply_at 110 ∷ []) (sent 100 200 None)).settled
-        ≡ Some 110 }
-    ensures earlier_rej { (told_found 30 (rej_at 110 ∷ reply_at 120 ∷ []) (sent 100 200 None)).outcome
-        ≡ Rejected }
+    ensures earlier_reply { (told_found 30 (rej_at 120 ∷ reply_at 110 ∷ [])
+        (sent 100 200 None)).settled ≡ Some 110 }
+    ensures earlier_rej { (told_found 30 (rej_at 110 ∷ reply_at 120 ∷ [])
+        (sent 100 200 None)).outcome ≡ Rejected }
 {}

@@ -116,6 +116,6 @@ pub fn answers_have_a_class()
         (codes "ACK05}", codes "message") ∷  -- capitals
         (codes "Hi{05}F1", codes "message") ∷ [])  -- a message that acknowledges
     }
-    ensures misses_id { class_text (message_to (codes "N0CALL-8") (codes "ack05}") (Some (codes "1")))
-        ≡ codes "message" }
+    ensures misses_id { class_text
+        (message_to (codes "N0CALL-8") (codes "ack05}") (Some (codes "1"))) ≡ codes "message" }
 {}

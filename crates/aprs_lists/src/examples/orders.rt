@@ -21,7 +21,8 @@ pub fn copies_are_in_order()
 /// reply-ack.
 pub fn questions_are_in_order()
     ensures source { IsBelow asked_cmp (asked 7 9 (codes "2") true) (asked 8 1 (codes "1") false) }
-    ensures answerer { IsBelow asked_cmp (asked 7 8 (codes "2") true) (asked 7 9 (codes "1") false) }
+    ensures answerer { IsBelow asked_cmp (asked 7 8 (codes "2") true)
+        (asked 7 9 (codes "1") false) }
     ensures number { IsBelow asked_cmp (asked 7 8 (codes "1") true) (asked 7 8 (codes "2") false) }
     ensures form { IsBelow asked_cmp (asked 7 8 (codes "1") false) (asked 7 8 (codes "1") true) }
     ensures misses_same { IsBelow asked_cmp (asked 7 8 (codes "1") true)
