@@ -82,13 +82,13 @@ def wrong_limits() -> Iterator[str]:
 
 def wrong_kinds() -> Iterator[str]:
     """Each kind of line that the page doesn't name."""
-    asked = ["crates/aprs_listing/src/history.rt", "put_[a-z]*_line"]
+    asked = ["crates/aprs_table/src/history.rt", "put_[a-z]*_line"]
     words = subprocess.run(
         ["build/rattle_text.py", "--calls", *asked], capture_output=True, text=True, check=True
     ).stdout.split()
     page = "\n".join(read(path) for path in glob.glob("page/src/**/*.js", recursive=True))
     if not words:
-        yield "found no kinds in crates/aprs_listing/src/history.rt"
+        yield "found no kinds in crates/aprs_table/src/history.rt"
     for word in dict.fromkeys(words):
         if not re.search(rf"[\"'`]{word}[\"'`]|\b{word}\s*:", page):
             yield f"the page doesn't name the kind {word}"

@@ -31,9 +31,9 @@ arguments=aprs_arguments/src/arguments.rt
 } > "$scratch/program/commands"
 calls $arguments PossibleValue::new > "$scratch/program/forms"
 arms aprs_report/src/report.rt 'impl<' > "$scratch/program/kinds"
-heard=aprs_listing/src/heard_line.rt
+heard=aprs_lists/src/listing/heard_line.rt
 {
-    calls aprs_listing/src/listing.rt 'put_\w+'
+    calls aprs_lists/src/listing.rt 'put_\w+'
     calls $heard 'put_\w+'
 } > "$scratch/program/listed"
 sed -n 's/.*if live { b"\([a-z]*\)" } else { b"\([a-z]*\)" }.*/\1 \2/p' crates/aprs_report/src/kinds/object.rt |
@@ -58,7 +58,7 @@ echo 'aprsbook: PLACE: line N: CAUSE' >> "$scratch/program/messages"
 calls aprs_host/src/note.rt put_two | sed -n 's/^\(: is [a-z]*\).*/aprsbook: PLACE\1/p' \
     >> "$scratch/program/messages"
 # those of the program of histories, which has no capture and widens nothing
-calls aprs_listing/src/history.rt 'put_[a-z]*_line' > "$scratch/program/history_lines"
+calls aprs_table/src/history.rt 'put_[a-z]*_line' > "$scratch/program/history_lines"
 # the tables, and the columns as their definition has them
 sed -n 's/.*if name == b"\([a-z]*\)".*/\1/p' crates/aprs_arguments/src/jobs.rt \
     > "$scratch/program/tables"

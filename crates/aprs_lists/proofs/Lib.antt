@@ -15,3 +15,5 @@ pub mod TrafficGiven
 pub mod TextNumber
 pub mod NetTable
 pub mod OneNet
+pub mod HeardLines
+pub mod Listings

@@ -7,14 +7,14 @@ use Rattle.aprs_lists.specs.Things.{IsThingsTable, named_fields, report_table_li
 use Rattle.aprs_report.specs.Object.{live_text}
 
 -- an object or an item that shows this report
-abbrev listed : Thing × Received → Named
+abbrev pub listed : Thing × Received → Named
 listed r = record {
   is_item = r.0.is_item;
   name = record { ref_ptr = (0, 0); now = r.0.name };
   heard = r.1;
 }
 
-all_shown : (reports : List (Thing × Received)) → map shown_report (map listed reports) ≡ reports
+pub all_shown : (reports : List (Thing × Received)) → map shown_report (map listed reports) ≡ reports
 all_shown [] = refl
 all_shown (r ∷ reports) = ap (λ l. r ∷ l) (all_shown reports)
 

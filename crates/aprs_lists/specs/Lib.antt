@@ -1,4 +1,4 @@
--- Definitions that contracts of these tables cite.
+-- Definitions that contracts of these tables and of the listing cite.
 pub mod Answers
 pub mod Chosen
 pub mod Copies
@@ -8,6 +8,7 @@ pub mod Activity
 pub mod Class
 pub mod Examples
 pub mod Lines
+pub mod Listing
 pub mod Messages
 pub mod Net
 pub mod Said

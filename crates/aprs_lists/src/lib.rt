@@ -1,5 +1,5 @@
-//! The tables of what is listed of a book: its messages, its stations, its objects and items; and
-//! the messages of a net, each a run of copies with its first answer.
+//! The texts of what is last known in a book. They are its listing, which has stations, objects,
+//! items and messages, and a table of each; and the messages of a net, each with its first answer.
 #![tactic(auto)]
 
 mod activity;
@@ -7,6 +7,7 @@ mod class;
 mod examples;
 mod laws;
 mod line;
+mod listing;
 mod messages;
 mod net;
 mod said;
@@ -17,6 +18,7 @@ mod told;
 mod traffic;
 
 pub use laws::{first_answers_are_found, listed_lines_have_all_fields, runs_are_found};
+pub use listing::write_listing;
 pub use messages::write_messages;
 pub use net::write_net_messages;
 pub use stations::{HeardStations, write_stations};

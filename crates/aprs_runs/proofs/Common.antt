@@ -33,7 +33,8 @@ pub use Rattle.aprs_transmissions.specs.Row.{Row}
 pub use Rattle.aprs_transmissions.specs.Sound.{Sound}
 pub use Rattle.aprs_transmissions.specs.Witnesses.{witnesses}
 pub use Rattle.aprs_transmissions.specs.declared.merge_fault.MergeFault.{MergeFault}
-pub use Rattle.aprs_listing.specs.Listing.{known_line, line_with, message_line, named_line, report_line, station_lines}
+pub use Rattle.aprs_lists.specs.Listing.{known_line, message_line, named_line, report_line, station_lines}
+pub use Rattle.aprs_table.specs.SpacedLine.{spaced_line}
 pub use Rattle.aprs_log.proofs.LogTexts.{answers-log_fault, answers-log_text, log_fault-answers, log_text-answers}
 pub use Rattle.aprs_log.specs.LogAnswers.{Answers, end_with, fault_at, is_lf, log_answers, prepend_line, receptions_of, short_tail_cause, tail_cause}
 pub use Rattle.aprs_log.specs.LogText.{IsLogText, ReportAll, text_of_lines}

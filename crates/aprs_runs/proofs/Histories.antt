@@ -5,7 +5,7 @@ use Rattle.aprs_ax25.specs.FrameFault.{parts_of}
 use Rattle.aprs_report.specs.Reader.{reading_of}
 use Rattle.aprs_report.specs.Reading.{Value, position, object, item, message, ack, rej, status, raw}
 use Rattle.aprs_transmissions.specs.Key.{Key, key_of}
-use Rattle.aprs_listing.specs.History.{history_line, history_text, row_fields, told_line}
+use Rattle.aprs_table.specs.History.{history_line, history_text, row_fields, told_line}
 use Rattle.aprs_runs.specs.HistoryOf.{IsHistoryOf, TellsNamed, TellsPlace}
 use Rattle.aprs_runs.specs.ToldBook.{IsHistory}
 

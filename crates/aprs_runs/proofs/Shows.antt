@@ -1,11 +1,11 @@
 -- Lemmas on the text of a listing.
-use Rattle.aprs_runs.proofs.Common.{◌≡◌, ◌≢◌, ℕ, List, [], ◌∷◌, ◌++◌, Option, inl, inr, refl, ap, ap₂, sym, ◌∙◌, append_assoc, subst, codes, flat_map, flat_map-append, decimal, Call, call_cmp, call_text, known_once, BookOf, BookValue, millis_of, LastKnown, Passes, ◌∈◌, Ordered, Received, reports_position, known_line, line_with, message_line, named_line, station_lines}
+use Rattle.aprs_runs.proofs.Common.{◌≡◌, ◌≢◌, ℕ, List, [], ◌∷◌, ◌++◌, Option, inl, inr, refl, ap, ap₂, sym, ◌∙◌, append_assoc, subst, codes, flat_map, flat_map-append, decimal, Call, call_cmp, call_text, known_once, BookOf, BookValue, millis_of, LastKnown, Passes, ◌∈◌, Ordered, Received, reports_position, known_line, spaced_line, message_line, named_line, station_lines}
 use Rattle.std.specs.declared.cmp.Ordering.TheVariants.{Less}
 use Rattle.aprs_transmissions.proofs.Orders.{call_total, not_both}
 use Rattle.aprs_summary.specs.Stations.{ComesBefore, IsSource}
 use Rattle.aprs_summary.specs.declared.lists.station.Station.{Station}
 use Rattle.aprs_runs.specs.Show.{IsListingOf, TellsPosition}
-use Rattle.aprs_listing.specs.Listing.{IsShown}
+use Rattle.aprs_lists.specs.Listing.{IsShown}
 
 below_itself : (c : Call) → call_cmp c c ≡ Less → ⊥
 below_itself c h = not_both call_total c c h h
@@ -79,10 +79,10 @@ tells_position_of gap S text call known l source best =
       after = known_line x.status ++ (flat_map station_lines cut.after ++ rest);
       others = cut.others;
       text_is = l.text_is ∙ ap (λ l. flat_map station_lines l ++ rest) cut.whole
-          ∙ parts cut.before cut.after x (line_with (codes "station")
+          ∙ parts cut.before cut.after x (spaced_line (codes "station")
           (call_text call ∷ decimal x.transmissions ∷ [])) (known_line known)
           (known_line x.status) rest
-          (ap₂ (λ (c : Call) (p : Option Received). line_with (codes "station")
+          (ap₂ (λ (c : Call) (p : Option Received). spaced_line (codes "station")
           (call_text c ∷ decimal x.transmissions ∷ [])
           ++ (known_line p ++ known_line x.status)) cut.is same);
     }

@@ -2,7 +2,7 @@
 use Rattle.std.specs.Prelude.{ℕ, List}
 use Rattle.aprs_log.specs.Reception.{Received}
 use Rattle.aprs_transmissions.specs.BookValue.{BookValue}
-use Rattle.aprs_listing.specs.Listing.{IsShown}
+use Rattle.aprs_lists.specs.Listing.{IsShown}
 use Rattle.aprs_runs.specs.HistoryOf.{IsHistoryOf}
 use Rattle.aprs_runs.specs.Show.{IsListingOf}
 use Rattle.aprs_runs.specs.TableOf.{IsTableOf}

@@ -12,9 +12,10 @@ use Rattle.aprs_transmissions.specs.Gap.{millis_of}
 use Rattle.aprs_transmissions.specs.Lists.{SameMembers}
 use Rattle.aprs_transmissions.specs.Row.{Row}
 use Rattle.aprs_summary.specs.Reports.{reports_item, reports_object, reports_position}
-use Rattle.aprs_listing.specs.History.{history_line, history_text, row_fields}
-use Rattle.aprs_listing.specs.OneLine.{HasOneLineEach}
-use Rattle.aprs_listing.specs.Listing.{heard_fields, known_line, line_with_text, name_fields, place_fields, word}
+use Rattle.aprs_table.specs.History.{history_line, history_text, row_fields}
+use Rattle.aprs_table.specs.OneLine.{HasOneLineEach}
+use Rattle.aprs_lists.specs.Listing.{heard_fields, known_line, name_fields}
+use Rattle.aprs_table.specs.SpacedLine.{line_with_text, place_fields, word}
 use Rattle.aprs_report.specs.Object.{live_text}
 
 -- The text is the history of the book of S under this gap, in seconds, and has one line for each of

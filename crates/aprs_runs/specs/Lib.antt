@@ -21,8 +21,9 @@ pub mod Extract
 pub mod Widen
 pub mod Examples
 -- What public clauses cite of lower crates.
-pub use Rattle.aprs_listing.specs.Listing
-pub use Rattle.aprs_listing.specs.History
+pub use Rattle.aprs_lists.specs.Listing
+pub use Rattle.aprs_table.specs.SpacedLine
+pub use Rattle.aprs_table.specs.History
 pub use Rattle.aprs_io.specs.Shown
 pub use Rattle.aprs_convert.specs.Monitor
 pub use Rattle.aprs_convert.specs.Conversion

@@ -17,7 +17,8 @@ use Rattle.aprs_summary.specs.Stations.{AreStations, IsSource}
 use Rattle.aprs_summary.specs.declared.lists.message.MessageRow.{MessageRow}
 use Rattle.aprs_summary.specs.declared.lists.named.Named.{Named}
 use Rattle.aprs_summary.specs.declared.lists.station.Station.{Station}
-use Rattle.aprs_listing.specs.Listing.{known_line, line_with, show_text, station_lines}
+use Rattle.aprs_lists.specs.Listing.{known_line, show_text, station_lines}
+use Rattle.aprs_table.specs.SpacedLine.{spaced_line}
 
 -- ---- the listing of a set
 
@@ -44,7 +45,7 @@ pub record TellsPosition (text : List ℕ) (call : Call) (known : Option Receive
   pub after : List ℕ
   pub others : (x : Station) → x ∈ before → x.call ≢ call
   pub text_is : text ≡ flat_map station_lines before
-      ++ (line_with (codes "station") (call_text call ∷ decimal transmissions ∷ [])
+      ++ (spaced_line (codes "station") (call_text call ∷ decimal transmissions ∷ [])
       ++ (known_line known ++ after))
 
 -- The listing of any set has, for each source in the set, the position that is the set's greatest

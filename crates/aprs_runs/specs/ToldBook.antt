@@ -4,8 +4,8 @@ use Rattle.std.specs.Prelude.{◌≡◌, ℕ, List, Option, None, Some, Result, 
 use Rattle.aprs_io.specs.Device.{Sends}
 use Rattle.aprs_io.specs.declared.device.Counted.{Counted}
 use Rattle.aprs_transmissions.specs.BookValue.{BookValue}
-use Rattle.aprs_listing.specs.History.{history_text}
-use Rattle.aprs_listing.specs.OneLine.{HasOneLineEach}
+use Rattle.aprs_table.specs.History.{history_text}
+use Rattle.aprs_table.specs.OneLine.{HasOneLineEach}
 use Rattle.aprs_arguments.specs.declared.jobs.Table.{Table}
 use Rattle.aprs_arguments.specs.declared.jobs.Table.TheVariants as table
 use Rattle.aprs_table.specs.Table.{table_text}

@@ -1,8 +1,0 @@
-use Rattle.aprs_listing.proofs.Common.{Ok, take, flat_map, Puts}
-use Rattle.aprs_listing.specs.Listing.{word_byte}
-use Rattle.aprs_listing.proofs.field.put_word.Given as goal
-
-abbrev pub invariant-loop-b : goal.invariant-loop-b
-invariant-loop-b g l =
-    Puts {E = Unit {0}} g.W.Write.contents (Ok tt) l.initial.out l.out
-    (flat_map word_byte (take l.b-index l.bytes))

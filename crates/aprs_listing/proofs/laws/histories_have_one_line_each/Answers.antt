@@ -1,5 +1,0 @@
-use Rattle.aprs_listing.proofs.OneLines.{lines_of_told}
-use Rattle.aprs_listing.proofs.laws.histories_have_one_line_each.Goals as goal
-
-pub returns : goal.returns
-returns c = lines_of_told

@@ -1,0 +1,12 @@
+use Rattle.aprs_table.proofs.Chains.{◌before◌, refused}
+use Rattle.aprs_table.proofs.spaced_line.put_text.Goals as goal
+
+pub returns-in_err-put : goal.returns-in_err-put
+returns-in_err-put g c = refused c.from_residual.ensures.0 c.in_err-put.ensures _
+
+pub returns-in_err-put_shown : goal.returns-in_err-put_shown
+returns-in_err-put_shown g c = c.in_ok-put.ensures
+    before refused c.from_residual-in_err-put_shown.ensures.0 c.in_err-put_shown.ensures _
+
+pub returns : goal.returns
+returns g c = c.in_ok-put.ensures before c.in_ok-put_shown.ensures before c.put-2.ensures
