@@ -141,6 +141,15 @@ test("a view of the whole earth has all of its parallels and meridians", () => {
   view.scale = 1e5;
   assert.equal(rangeOf(view).wide, false);
 });
+test("all meridians are in a view that has a pole, be it at its very edge", () => {
+  const { at } = Object.assign(new Projection(), { width: 600, height: 400, scale: 1e5 });
+  const isWideAt = (x, y) => rangeOf(Object.assign(new Projection(), { width: 600, height: 400,
+    scale: 1e5, at, put([, , up]) { return up > 0.99 && Object.assign(this, { x, y }); } })).wide;
+  for (const [x, y] of [[300, 200], [0, 200], [600, 200], [300, 0], [300, 400]])
+    assert.equal(isWideAt(x, y), true, `${x} ${y}`);
+  for (const [x, y] of [[-1, 200], [601, 200], [300, -1], [300, 401]])
+    assert.equal(isWideAt(x, y), false, `${x} ${y}`);
+});
 test("who is in need has a whole mark among many dots", () => {
   const marksOf = (many, urgent) => Array.from({ length: many }, (_, k) => ({ x: 9 * k, y: 9,
     place: { state: "live" }, picked: false,

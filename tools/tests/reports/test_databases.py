@@ -273,3 +273,13 @@ def test_columns_that_are_empty_are_one() -> None:
     columns = [["a", "b"], ["", ""], ["", ""], ["", "c"], ["", ""]]
     rows = [",".join(it) for it in zip(*table_files.without_empty(columns, ","))]
     assert rows == [",".join(it) for it in zip(*columns)] == ["a,,,,", "b,,,c,"]
+
+
+@pytest.mark.parametrize("kinds, sizes", [
+    ("a", [1]), ("aab", [2, 1]), ("abbc", [1, 2, 1]), ("abca", [4]), ("", [])])
+def test_rows_of_a_kind_are_put_in_at_once(kinds: str, sizes: List[int]) -> None:
+    """Where there are few kinds one behind another; all rows stand in their order."""
+    columns = [[*kinds], [str(at) for at, _ in enumerate(kinds)]]
+    parts = [*databases.parts_of(columns)]
+    assert [len(it[0]) for it in parts if it[0]] == sizes
+    assert [cell for it in parts for cell in it[1]] == columns[1]

@@ -1,6 +1,7 @@
 """A database of SQLite with the tables of a book, in which numbers are numbers."""
 import contextlib
 import dataclasses
+import itertools
 import os
 import sqlite3
 from typing import (
@@ -25,6 +26,7 @@ SENT = {f"a{number}": "real" for number in range(1, 6)}
 MAGIC = b"SQLite format 3\0"
 WAIT = 10.0  # seconds for another program's writing
 CACHE = 32_768  # KiB of memory, in which indices are sorted
+FEW = 3  # parts of some rows: more of them cost more than they save
 # each place, but for 0, 0, which GPS without a fix says, and the last one of each thing; a kill at
 # 0, 0 is where the thing was
 VIEWS = {
@@ -91,13 +93,23 @@ def literal(values: Sequence[Any]) -> str:
     return "'" + first.replace("'", "''") + "'"
 
 
+def parts_of(columns: Columns) -> Iterator[Columns]:
+    """The columns in parts that are alike in the first one, the kind of a row: then more of the
+    others are empty. They stay whole where these would be many."""
+    counts = [len([*group]) for _, group in itertools.groupby(columns[0])]
+    begin = 0
+    for count in counts if len(counts) <= FEW else [len(columns[0])]:
+        yield [it[begin:begin + count] for it in columns]
+        begin += count
+
+
 def insert(base: sqlite3.Connection, name: str, tables: Iterable[Columns], count: int) -> None:
     """Puts columns, of which so many are of names, into a table. Nulls, and what is one text in all
     rows, stand in the statement: to bind costs most, and to bind a null most of all."""
     readers = table.readers_of(TABLES[name])
     converters = [converter_of(*it) for it in readers.items()] + [converter_of("", str)] * count
     nulls = [is_null(*it) for it in readers.items()] + [False] * count
-    for columns in tables:
+    for columns in itertools.chain.from_iterable(map(parts_of, tables)):
         values, bound = [], []
         for shown, convert, null in zip(columns, converters, nulls):
             is_empty = not any(shown)
