@@ -35,7 +35,8 @@ def test_rows_of_a_time() -> None:
     assert shown(LINES, "source", time=Time(at("19:00"))) == []
     stations = [Station(source="Q1A", last=at("18:00"), heard=at("18:05")), Station(source="Q1B")]
     text = table_text(Station, stations).splitlines()
-    assert [it.source for it in table.read(Station, text, wanted=Wanted(Time(at("18:04"))))] == ["Q1A"]
+    late = table.read(Station, text, wanted=Wanted(Time(at("18:04"))))
+    assert [it.source for it in late] == ["Q1A"]
 
 
 def test_rows_that_have_a_column() -> None:
