@@ -12,7 +12,7 @@ use crate::work::{Work, run_work};
 use aprs_arguments::{FoldJob, JobFault};
 use aprs_fold::{BookRange, MAX_BOOK, SourceRange};
 use aprs_io::Counted;
-use aprs_runs::{InputFault, RunFault, fold_range_run};
+use aprs_runs::{InputFault, RunFault, check_books_run, fold_range_run};
 use aprs_transmissions::Gap;
 use std::alloc::{Allocator, Global};
 use std::env;
@@ -170,7 +170,7 @@ impl<'a> Program<'a> {
             Err(complaint) => return self.report(complaint),
         };
         if is_check {
-            return self.fold_into(gap, &range, paths, inputs, io::sink());
+            return self.check_books(gap, paths, inputs);
         }
         if has_bounds(&range) {
             inputs = match parts_of(self.rt.alloc(), inputs, &range) {
@@ -178,22 +178,35 @@ impl<'a> Program<'a> {
                 Err(complaint) => return self.report(complaint),
             };
         }
-        let output = Retried::new(self.rt.stdout());
-        self.fold_into(gap, &range, paths, inputs, output)
+        self.fold_into_output(gap, &range, paths, inputs)
     }
 
-    /// Folds the inputs, which have these paths, writes the rows of the range of their book to this
-    /// output, and reports a fault. Returns the exit status.
-    fn fold_into<W: Write + Drop>(
+    /// Reads the inputs, which have these paths, as whole books of this gap, and reports a fault.
+    /// Returns the exit status.
+    fn check_books(
+        &self,
+        gap: Gap,
+        paths: &[String],
+        mut inputs: Vec<Counted<HostInput>>,
+    ) -> ExitCode {
+        let outcome = check_books_run(self.rt.alloc(), MAX_BOOK, gap, inputs.as_mut_slice());
+        match complaint_after(paths, &outcome, true) {
+            Some(complaint) => self.report(complaint),
+            None => ExitCode::SUCCESS,
+        }
+    }
+
+    /// Folds the inputs, which have these paths, writes the rows of the range of their book to
+    /// standard output, and reports a fault. Returns the exit status.
+    fn fold_into_output(
         &self,
         gap: Gap,
         range: &SourceRange,
         paths: &[String],
         mut inputs: Vec<Counted<HostInput>>,
-        output: W,
     ) -> ExitCode {
         let alloc = self.rt.alloc();
-        let mut w = Counted::new(output);
+        let mut w = Counted::new(Retried::new(self.rt.stdout()));
         let outcome = fold_range_run(alloc, MAX_BOOK, gap, range, inputs.as_mut_slice(), &mut w);
         let flushed = w.into_inner().flush().is_ok();
         if let Err(RunFault::Input { index, fault }) = outcome {
@@ -296,7 +309,5 @@ fn fault_of_file(alloc: Global, gap: Gap, file: File) -> Option<RunFault> {
     let mut file = file;
     file.rewind().ok()?;
     let mut inputs = [Counted::new(HostInput::File(file))];
-    let mut w = Counted::new(io::sink());
-    let range = SourceRange::all();
-    fold_range_run(alloc, MAX_BOOK, gap, &range, &mut inputs, &mut w).err()
+    check_books_run(alloc, MAX_BOOK, gap, &mut inputs).err()
 }

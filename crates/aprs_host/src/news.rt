@@ -8,11 +8,11 @@ use crate::opening::{open_all, open_standard};
 use crate::retried::Retried;
 use aprs_fold::{MAX_BOOK, SourceRange};
 use aprs_io::Counted;
-use aprs_runs::{RunFault, news_run};
+use aprs_runs::{RunFault, check_books_run, news_run};
 use aprs_transmissions::Gap;
 use std::alloc::Global;
 use std::fs::File;
-use std::io::{self, Write};
+use std::io::Write;
 use std::process::ExitCode;
 
 impl Program<'_> {
@@ -37,10 +37,9 @@ impl Program<'_> {
             Err(complaint) => return self.report(complaint),
         };
         if is_check {
-            return self.news_into(gap, range, paths.as_slice(), inputs, io::sink());
+            return self.check_news(gap, paths.as_slice(), inputs);
         }
-        let output = Retried::new(self.rt.stdout());
-        self.news_into(gap, range, paths.as_slice(), inputs, output)
+        self.news_into_output(gap, range, paths.as_slice(), inputs)
     }
 
     /// The inputs of these paths, and standard input after the old book where this is alone. Where
@@ -70,25 +69,39 @@ impl Program<'_> {
         parts_of(alloc, inputs, range)
     }
 
-    /// Folds the inputs, which have these paths, writes what is new to the first to this output,
-    /// and tells what it was compared with where its digest was taken, or reports a fault. Returns
-    /// the exit status.
-    fn news_into<W: Write + Drop>(
+    /// Folds the inputs, which have these paths, writes what is new to the first to standard output,
+    /// and reports a fault. Returns the exit status.
+    fn news_into_output(
         &self,
         gap: Gap,
         range: &SourceRange,
         paths: &[String],
         mut inputs: Vec<Counted<HostInput>>,
-        output: W,
     ) -> ExitCode {
         let alloc = self.rt.alloc();
-        let mut w = Counted::new(output);
+        let mut w = Counted::new(Retried::new(self.rt.stdout()));
         let outcome = news_run(alloc, MAX_BOOK, gap, range, inputs.as_mut_slice(), &mut w);
         let flushed = w.into_inner().flush().is_ok();
         if let Err(RunFault::Input { index, fault }) = outcome {
             return self.report_input(gap, input_name(paths, index), inputs, index, fault);
         }
-        if let Some(complaint) = complaint_after(paths, &outcome, flushed) {
+        match complaint_after(paths, &outcome, flushed) {
+            Some(complaint) => self.report(complaint),
+            None => ExitCode::SUCCESS,
+        }
+    }
+
+    /// Reads the inputs, which have these paths, as whole books of this gap. Tells what the news of
+    /// the others would be compared with, if the first is a file, or reports a fault. Returns the
+    /// exit status.
+    fn check_news(
+        &self,
+        gap: Gap,
+        paths: &[String],
+        mut inputs: Vec<Counted<HostInput>>,
+    ) -> ExitCode {
+        let outcome = check_books_run(self.rt.alloc(), MAX_BOOK, gap, inputs.as_mut_slice());
+        if let Some(complaint) = complaint_after(paths, &outcome, true) {
             return self.report(complaint);
         }
         match first_of(inputs) {
