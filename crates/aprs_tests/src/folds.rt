@@ -8,7 +8,8 @@ use aprs_fixtures::{
 };
 use aprs_kiss::Counted;
 use aprs_tool::{
-    InputFault, MAX_BOOK, RunFault, SourceRange, fold_range_run, fold_run, news_run, status_of,
+    InputFault, MAX_BOOK, RunFault, SourceRange, check_books_run, fold_range_run, fold_run,
+    news_run, status_of,
 };
 use linked_list_allocator::LocalHeap;
 use std::alloc::{Allocator, Global};
@@ -189,6 +190,27 @@ fn folds_end_at_each_byte_of_a_device(rt: HostRuntime) {
         assert!(rt; is_written_up_to(rt.alloc(), Run::Fold, good), "{good}");
         assert!(rt; is_written_up_to(rt.alloc(), Run::News, good), "{good}");
     }
+}
+
+/// Which of two inputs, each without its last byte, a check refuses.
+fn refused_of(alloc: Global, first: &[u8], other: &[u8]) -> Option<usize> {
+    let mut inputs = [
+        Counted::new(first.split_last()?.1),
+        Counted::new(other.split_last()?.1),
+    ];
+    match check_books_run(alloc, MAX_BOOK, Gap::STANDARD, inputs.as_mut_slice()) {
+        Err(RunFault::Input { index, .. }) => Some(index),
+        _ => None,
+    }
+}
+
+#[test]
+fn a_check_refuses_what_a_fold_comes_to_first(rt: HostRuntime) -> Result<(), Fail> {
+    let (late, early) = (minutes(rt.alloc(), 0, 9)?, minutes(rt.alloc(), 0, 3)?);
+    let (late, early) = (late.as_slice(), early.as_slice());
+    assert!(rt; refused_of(rt.alloc(), late, early) == Some(1));
+    assert!(rt; refused_of(rt.alloc(), early, late) == Some(0));
+    Ok(())
 }
 
 /// What a run writes of two texts, in memory for any.
