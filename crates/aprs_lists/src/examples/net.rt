@@ -35,10 +35,11 @@ pub fn first_answers_are_in_time()
     ensures none { first_in_time (ack_at 100) None [] ≡ None }
     ensures at_the_start { first_in_time (ack_at 100) None (ack_at 100 ∷ []) ≡ Some (ack_at 100) }
     ensures before_the_start { first_in_time (ack_at 100) None (ack_at 99 ∷ []) ≡ None }
-    ensures before_the_end { first_in_time (ack_at 100) (Some 200) (ack_at 199 ∷ []) ≡ Some (ack_at 199) }
+    ensures before_the_end { first_in_time (ack_at 100) (Some 200) (ack_at 199 ∷ [])
+        ≡ Some (ack_at 199) }
     ensures at_the_end { first_in_time (ack_at 100) (Some 200) (ack_at 200 ∷ []) ≡ None }
-    ensures first_of_two { first_in_time (ack_at 100) None (ack_at 99 ∷ rej_at 101 ∷ ack_at 102 ∷ [])
-        ≡ Some (rej_at 101) }
+    ensures first_of_two { first_in_time (ack_at 100) None
+        (ack_at 99 ∷ rej_at 101 ∷ ack_at 102 ∷ []) ≡ Some (rej_at 101) }
     ensures of_another_form { first_in_time (ack_at 100) None (reply_at 100 ∷ []) ≡ None }
     ensures ack_before_rej { IsBelow reply_cmp (ack_at 100) (rej_at 100) }
     ensures misses_later { IsBelow reply_cmp (ack_at 101) (rej_at 100) → ⊥ }

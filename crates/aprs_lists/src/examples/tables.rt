@@ -56,8 +56,8 @@ pub fn texts_have_classes()
     ensures misses_three { class_text (text_to (codes "ack123}")) ≡ codes "message" }
     ensures misses_three_after { class_text (text_to (codes "ack05}F12")) ≡ codes "message" }
     ensures misses_rej { class_text (text_to (codes "rej05}")) ≡ codes "message" }
-    ensures misses_id { class_text (message_to (codes "N0CALL-8") (codes "ack05}") (Some (codes "1")))
-        ≡ codes "message" }
+    ensures misses_id { class_text
+        (message_to (codes "N0CALL-8") (codes "ack05}") (Some (codes "1"))) ≡ codes "message" }
 {}
 
 /// A message's number is its id, or else that of its text.
