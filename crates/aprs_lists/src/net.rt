@@ -74,7 +74,8 @@ impl<'s, 't> Model for RunLines<'s, 't> {
 
     ghost Value = { List ℕ };
 
-    ghost view = { λ l. flat_map (found_line (millis_of l.gap) (map reply_of l.answers.now)) l.runs };
+    ghost view = { λ l. flat_map
+        (found_line (millis_of l.gap) (map reply_of l.answers.now)) l.runs };
 
     ghost invariant = { λ l. Ordered (IsUpTo (on reply_of reply_cmp)) l.answers.now };
 }

@@ -49,7 +49,8 @@ pub(crate) fn put_message<W: Write>(
     out: &mut Outlet<'_, W>,
     line: &MessageLine<'_>,
 ) -> Result<(), WriteFault>
-    ensures { Puts W.contents result out.old out.new (Spec.told_message_line (Spec.told_of line.now)) }
+    ensures { Puts W.contents result out.old out.new
+        (Spec.told_message_line (Spec.told_of line.now)) }
 {
     let source = Cell::Call(line.source.copy());
     let said = [

@@ -45,8 +45,9 @@ pub fn first_answer<'s, 't>(
 ) -> Option<&'s Answer<'t>>
     requires ordered { Ordered (IsUpTo (on Spec.reply_of Spec.reply_cmp)) answers.now }
     requires least { least.now.is_rejection ≡ false }
-    ensures first { Spec.IsFirstAnswer (map Spec.reply_of answers.now) (Spec.reply_of least.now).asked
-        least.now.moment until (option_map Spec.reply_of (option_copied result)) }
+    ensures first { Spec.IsFirstAnswer (map Spec.reply_of answers.now)
+        (Spec.reply_of least.now).asked least.now.moment until
+        (option_map Spec.reply_of (option_copied result)) }
     ensures found { option_map Spec.reply_of (option_copied result)
         ≡ Spec.first_in_time (Spec.reply_of least.now) until (map Spec.reply_of answers.now) }
 {

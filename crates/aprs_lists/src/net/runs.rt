@@ -126,7 +126,8 @@ fn next_begin(first: &MessageCopy<'_>, rest: &[MessageCopy<'_>]) -> Option<Momen
 
 /// Whether both copies are of one message.
 fn is_same(copy: &MessageCopy<'_>, other: &MessageCopy<'_>) -> bool
-    ensures { result ≡ Spec.is_same (message_named copy.now.message) (message_named other.now.message) }
+    ensures { result
+        ≡ Spec.is_same (message_named copy.now.message) (message_named other.now.message) }
 {
     copy.message.cmp(&other.message).is_eq()
 }

@@ -3,7 +3,7 @@ use Rattle.aprs_details.specs.Frequency.{frequency_view}
 use Rattle.aprs_details.specs.declared.frequency.Frequency.{Frequency}
 use Rattle.aprs_table.specs.Cells.{frequency_cells}
 use Rattle.aprs_table.proofs.Lines.{tabbed}
-use Rattle.aprs_table.proofs.row.put_frequency.Goals as goal
+use Rattle.aprs_table.proofs.row.told_cells.put_frequency.Goals as goal
 
 pub returns-in-Some : goal.returns-in-Some
 returns-in-Some g c =

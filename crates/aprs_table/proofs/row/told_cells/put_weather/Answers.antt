@@ -2,7 +2,7 @@ use Rattle.aprs_table.proofs.Common.{◌∙◌, ap, sym, Option, Puts-is}
 use Rattle.aprs_details.specs.declared.weather.Weather.{Weather}
 use Rattle.aprs_table.specs.Cells.{weather_cells, weather_in}
 use Rattle.aprs_table.proofs.Lines.{tabbed}
-use Rattle.aprs_table.proofs.row.put_weather.Goals as goal
+use Rattle.aprs_table.proofs.row.told_cells.put_weather.Goals as goal
 
 pub returns-in-Some : goal.returns-in-Some
 returns-in-Some g c =

@@ -3,7 +3,7 @@ use Rattle.aprs_details.specs.Telemetry.{telemetry_view}
 use Rattle.aprs_details.specs.declared.telemetry.Telemetry.{Telemetry}
 use Rattle.aprs_table.specs.Cells.{measured_cells}
 use Rattle.aprs_table.proofs.Lines.{tabbed}
-use Rattle.aprs_table.proofs.row.put_telemetry.Goals as goal
+use Rattle.aprs_table.proofs.row.told_cells.put_telemetry.Goals as goal
 
 pub returns-in-Some : goal.returns-in-Some
 returns-in-Some g c =

@@ -2,7 +2,7 @@ use Rattle.aprs_table.proofs.Common.{◌∙◌, ap, sym, Option, Puts-is}
 use Rattle.aprs_details.specs.declared.extension.Transmitter.{Transmitter}
 use Rattle.aprs_table.specs.Cells.{phg_cells}
 use Rattle.aprs_table.proofs.Lines.{tabbed}
-use Rattle.aprs_table.proofs.row.put_phg.Goals as goal
+use Rattle.aprs_table.proofs.row.told_cells.put_phg.Goals as goal
 
 pub returns-in-Some : goal.returns-in-Some
 returns-in-Some g c =

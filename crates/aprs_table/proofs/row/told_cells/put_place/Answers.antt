@@ -2,7 +2,7 @@ use Rattle.aprs_table.proofs.Common.{Puts-is}
 use Rattle.aprs_table.specs.Told.{told_view}
 use Rattle.aprs_table.proofs.Chains.{◌before◌, refused}
 use Rattle.aprs_table.proofs.Lines.{place_groups}
-use Rattle.aprs_table.proofs.row.put_place.Goals as goal
+use Rattle.aprs_table.proofs.row.told_cells.put_place.Goals as goal
 
 pub returns-in_err-put_name : goal.returns-in_err-put_name
 returns-in_err-put_name g c = Puts-is
