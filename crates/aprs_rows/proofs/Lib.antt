@@ -3,7 +3,6 @@ pub mod Common
 pub mod Cases
 pub mod Counts
 pub mod Digits
-pub mod ByteOrders
 pub mod Fronts
 pub mod KeyPrefixes
 pub mod InStore

@@ -1,6 +1,5 @@
 //! One row in bytes, and the order of rows.
 
-pub(crate) mod bytes_order;
 pub(crate) mod judge;
 pub(crate) mod key_prefix;
 pub(crate) mod name_room;

@@ -6,7 +6,6 @@ ghost use Rattle.aprs_transmissions.specs.Key.{key_of, key_cmp};
 ghost use Rattle.aprs_rows.specs.KeyPrefix.{HasKeyPrefix};
 ghost use Rattle.aprs_rows.specs.KeyPrefixSteps.{octets_number};
 
-use crate::row::bytes_order::bytes_order;
 use aprs_ax25::{Frame, FrameRef};
 use std::cmp::Ordering;
 
@@ -53,7 +52,7 @@ pub(crate) fn key_order(
     ensures { result ≡ key_cmp (key_of (frame_bytes frame.now)) (key_of (frame_bytes other.now)) }
 {
     match head.cmp(&other_head) {
-        Ordering::Equal => bytes_order(frame.info(), other.info()),
+        Ordering::Equal => frame.info().cmp(other.info()),
         unequal => unequal,
     }
 }

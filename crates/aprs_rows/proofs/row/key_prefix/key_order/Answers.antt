@@ -4,7 +4,7 @@ use Rattle.aprs_rows.proofs.row.key_prefix.key_order.Goals as goal
 
 pub returns-in-Equal : goal.returns-in-Equal
 returns-in-Equal c =
-    c.bytes_order.ensures ∙ (λ t. bytes_cmp (c.info.ensures.value t) (c.info-in-Equal.ensures.value t))
+    c.cmp-in-Equal.ensures ∙ (λ t. bytes_cmp (c.info.ensures.value t) (c.info-in-Equal.ensures.value t))
     ∙ infos_decide _ _ _ _ c.requires.head c.requires.other (sym c.in-Equal.ensures)
 
 pub returns-in_default : goal.returns-in_default
