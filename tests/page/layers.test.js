@@ -154,7 +154,7 @@ test("marks lie above one another by what matters, and are of colours", () => {
   const by = byColour([a, { ...b, colour: "t2" }, c]);
   assert.deepEqual([...by].map(([colour, list]) => [colour, list.length]), [["t1", 2], ["t2", 1]]);
 });
-test("a mark has its kind's shape, a beak where it goes, a ring of digits left out", { skip }, () => {
+test("a mark has its kind's shape, a beak where it goes, a ring of open digits", { skip }, () => {
   const context = contextOf(), view = viewOf();
   const painted = (fields, of = {}) => {
     const [mark] = marksOf([place(0, "Q1A", 54, -3, fields)]);
@@ -194,7 +194,8 @@ test("an object is a square, and an item an arch as wide and as high", { skip },
   const painted = (kind, fields) => {
     const [mark] = marksOf([row(kind, 0, "Q1A", { name: "X", latitude: 54, longitude: -3,
       symbol: "/-", ...fields })]);
-    return told(() => new MarkPainter(pen, viewOf(), COLOURS, new Writer(pen, COLOURS)).paint(mark));
+    const painter = new MarkPainter(pen, viewOf(), COLOURS, new Writer(pen, COLOURS));
+    return told(() => painter.paint(mark));
   };
   assert.deepEqual(painted("object").of("rect"), [[91, 41, 18, 18]]);
   const item = painted("item");
