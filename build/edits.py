@@ -93,23 +93,28 @@ class View:
         if (TOP / "HANDLES").is_file():
             shutil.copy(TOP / "HANDLES", place)
 
-    def check(self, edits: Sequence[Edit], jobs: int = 1) -> Tuple[Check, Dict[str, str]]:
+    def check(self, edits: Sequence[Edit]) -> Tuple[Check, Dict[str, str]]:
         """Checks the crate with these edits. Returns what was said, and the texts that were read."""
-        shutil.rmtree(self.folder / "out", ignore_errors=True)
-        crates.linked(TOP / "crates" / self.crate / "out", self.folder / "out")
         files = {file for edit in edits for file in edit.lines}
         before = {it: (self.folder / it).read_text(encoding="utf-8") for it in files}
         texts = wrong_bodies.with_edits(before, edits)
+        return self.checked(texts), texts
+
+    def checked(self, texts: Dict[str, str], options: Sequence[str] = ()) -> Check:
+        """Checks the crate with these texts of its files. Returns what was said."""
+        shutil.rmtree(self.folder / "out", ignore_errors=True)
+        crates.linked(TOP / "crates" / self.crate / "out", self.folder / "out")
+        before = {it: (self.folder / it).read_text(encoding="utf-8") for it in texts}
         for file, text in texts.items():
             (self.folder / file).write_text(text, encoding="utf-8")
-        command = ["rt", "check", "--jobs", str(jobs)]
+        command = ["rt", "check", "--jobs", "1", *options]
         ran = subprocess.run(
             command, cwd=self.folder, stdin=subprocess.DEVNULL, stdout=subprocess.PIPE,
             stderr=subprocess.STDOUT, encoding="utf-8", errors="replace", check=False,
         )
         for file, text in before.items():
             (self.folder / file).write_text(text, encoding="utf-8")
-        return Check(ran.stdout.rstrip("\n").split("\n"), ran.returncode), texts
+        return Check(ran.stdout.rstrip("\n").split("\n"), ran.returncode)
 
 
 def is_proof_of(file: str, function: Function) -> bool:
