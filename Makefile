@@ -65,6 +65,7 @@ words:
 	tests/sources/memory.sh
 	tests/sources/edits.py
 	tests/sources/wrong_bodies.py
+	tests/sources/pairs.py
 	tests/documents/map.sh
 	tests/sources/unused.py
 	tests/documents/reading.sh

@@ -1,15 +1,15 @@
 #!/usr/bin/env python3
 """Tries the edits that must fail, many in one check: those of edits/ and of crates/*/must-fail.
 
-usage: build/edits.py [--jobs N] [--alone] [--anew | --lot N [--seed WORD]] [--only WORD] [CRATE..]
+usage: build/edits.py [--jobs N] [--alone] [--anew | --must-fail] [--only WORD] [CRATE..]
 
 --jobs N   so many checks side by side, each with one job; --alone tries each edit in a check of its own;
 --only WORD tries the edits whose names have this word. Without a CRATE all crates that have edits are tried.
 
 What is refused is noted in edits/CRATE/refused.txt, with a checksum of what this rests on: the kit, the
 edit, the functions that it changes, and all that the crate and those below it say but for bodies, comments
-and examples. What is noted so isn't tried again, but with --anew, which tries all, and with --lot: that
-tries anew those of must-fail/, and of the others one in N, drawn by chance, or by the word of an earlier draw.
+and examples. What is noted so isn't tried again, but with --anew, which tries all, and with --must-fail,
+which tries anew those of must-fail/.
 
 A crate's edits of different functions are put into one copy of it, which is checked over what was
 proved of the crate before (`make build`). A goal of a function rests on the function's own code, and
@@ -26,7 +26,6 @@ import functools
 import hashlib
 import os
 import pathlib
-import random
 import re
 import shutil
 import subprocess
@@ -94,23 +93,28 @@ class View:
         if (TOP / "HANDLES").is_file():
             shutil.copy(TOP / "HANDLES", place)
 
-    def check(self, edits: Sequence[Edit], jobs: int = 1) -> Tuple[Check, Dict[str, str]]:
+    def check(self, edits: Sequence[Edit]) -> Tuple[Check, Dict[str, str]]:
         """Checks the crate with these edits. Returns what was said, and the texts that were read."""
-        shutil.rmtree(self.folder / "out", ignore_errors=True)
-        crates.linked(TOP / "crates" / self.crate / "out", self.folder / "out")
         files = {file for edit in edits for file in edit.lines}
         before = {it: (self.folder / it).read_text(encoding="utf-8") for it in files}
         texts = wrong_bodies.with_edits(before, edits)
+        return self.checked(texts), texts
+
+    def checked(self, texts: Dict[str, str], options: Sequence[str] = ()) -> Check:
+        """Checks the crate with these texts of its files. Returns what was said."""
+        shutil.rmtree(self.folder / "out", ignore_errors=True)
+        crates.linked(TOP / "crates" / self.crate / "out", self.folder / "out")
+        before = {it: (self.folder / it).read_text(encoding="utf-8") for it in texts}
         for file, text in texts.items():
             (self.folder / file).write_text(text, encoding="utf-8")
-        command = ["rt", "check", "--jobs", str(jobs)]
+        command = ["rt", "check", "--jobs", "1", *options]
         ran = subprocess.run(
             command, cwd=self.folder, stdin=subprocess.DEVNULL, stdout=subprocess.PIPE,
             stderr=subprocess.STDOUT, encoding="utf-8", errors="replace", check=False,
         )
         for file, text in before.items():
             (self.folder / file).write_text(text, encoding="utf-8")
-        return Check(ran.stdout.rstrip("\n").split("\n"), ran.returncode), texts
+        return Check(ran.stdout.rstrip("\n").split("\n"), ran.returncode)
 
 
 def is_proof_of(file: str, function: Function) -> bool:
@@ -287,12 +291,8 @@ class Trial:
         if self.asked.anew:
             return []
         known = [it for it in self.edits if self.verdicts.has(it)]
-        if not self.asked.lot:
-            return known
-        folder = TOP / "edits" / self.crate
-        known = [it for it in known if (folder / it.name).is_file()]
-        drawn = random.Random(f"{self.asked.seed} {self.crate}")
-        return drawn.sample(known, len(known) - -(-len(known) // self.asked.lot))
+        anew = {it.name for it in must_fail(self.crate)} if self.asked.must_fail else set()
+        return [it for it in known if it.name not in anew]
 
     def run(self) -> None:
         """Tries what isn't known: in lots, and the rest alone."""
@@ -313,10 +313,14 @@ class Trial:
             list(pool.map(self.try_alone, alone))
 
 
+def must_fail(crate: str) -> List[pathlib.Path]:
+    """The files of a crate's edits that the gate always tries."""
+    return sorted((TOP / "crates" / crate / "must-fail").glob("*.edit"))
+
+
 def paths_of(crate: str) -> List[pathlib.Path]:
     """The files of a crate's edits."""
-    folders = TOP / "edits" / crate, TOP / "crates" / crate / "must-fail"
-    return [it for folder in folders for it in sorted(folder.glob("*.edit"))]
+    return [*sorted((TOP / "edits" / crate).glob("*.edit")), *must_fail(crate)]
 
 
 def tried(crate: str, asked: argparse.Namespace, turns: threading.Semaphore) -> Tuple[int, int]:
@@ -331,10 +335,9 @@ def tried(crate: str, asked: argparse.Namespace, turns: threading.Semaphore) -> 
     passed = sum(it.is_refused for it in trial.told.values())
     failed = len(trial.told) - passed
     took = time.monotonic() - began
-    drawn = f" (lot {asked.seed})" if asked.lot else ""
     print(
         f"{crate}: {passed} of {len(trial.told)} edits are refused,"
-        f" by {trial.checks} checks in {took:.0f} s{drawn}", flush=True,
+        f" by {trial.checks} checks in {took:.0f} s", flush=True,
     )
     for name, told in sorted(trial.told.items()):
         if not told.is_refused:
@@ -350,8 +353,7 @@ def main(words: Optional[List[str]] = None) -> int:
     parser.add_argument("--alone", action="store_true")
     which = parser.add_mutually_exclusive_group()
     which.add_argument("--anew", action="store_true")
-    which.add_argument("--lot", type=int, default=0, metavar="N")
-    parser.add_argument("--seed", default=f"{random.SystemRandom().getrandbits(32):08x}", metavar="WORD")
+    which.add_argument("--must-fail", action="store_true")
     parser.add_argument("--only", default="", metavar="WORD")
     asked = parser.parse_args(words)
     names = asked.crates or [it for it in crates.rows() if paths_of(it)]

@@ -2,8 +2,8 @@
 """Proves and tries everything of this repository, side by side.
 
 usage: build/gate.py prove    the gate: every proof from nothing, every test but those of aprs-net, and of the
-                              edits that must fail those of must-fail/, one in LOT of the others,
-                              drawn by chance, and each that isn't noted as refused
+                              edits that must fail those of must-fail/, those of a crate that is drawn
+                              by chance, and each that isn't noted as refused
        build/gate.py check    the same over what was proved before, but for the edits that are noted
        build/gate.py build    the proofs of the program and of what it stands on, over those before
        build/gate.py test     every test, and no proof; with programs of these sources those of programs
@@ -16,6 +16,7 @@ import contextlib
 import fcntl
 import os
 import pathlib
+import random
 import shutil
 import subprocess
 import sys
@@ -31,8 +32,6 @@ ASIDE = TOP / "out" / "before"
 # how long a job takes, in lines that are proved: an edit, the first check for edits, the link of a program,
 # and a make of tests; what a line of a test takes
 EDIT, CHECK, LINK, TEST, LINE_OF_TEST = 160, 600, 2_500, 4_000, 3
-# one in so many of the edits that are noted as refused is tried anew by the gate
-LOT = 12
 # the target that makes the page of an event, where that can be done
 PAGE = "event-page-here"
 # the crate of the program that is installed, by whatever name it is called
@@ -76,14 +75,14 @@ def proofs(names: Sequence[str]) -> Iterator[Job]:
             yield Job("stored runs", ["build/stored_run.sh"], frozenset([name]))
 
 
-def trials(lot: Sequence[str]) -> Iterator[Job]:
-    """The edits of each crate, once it is proved."""
-    for name in crates.rows():
-        count = len(edits.paths_of(name))
-        if count:
-            command = ["build/edits.py", *lot, "--jobs", jobs.JOBS, name]
-            size = CHECK + count // LOT * EDIT
-            yield Job(f"edits of {name}", command, frozenset([name]), size, 2)
+def trials(option: Sequence[str], drawn: str) -> Iterator[Job]:
+    """The edits of each crate, once it is proved, by this option; of the crate that is drawn all."""
+    for name in filter(edits.paths_of, crates.rows()):
+        every = name == drawn
+        count = len(edits.paths_of(name) if every else edits.must_fail(name))
+        command = ["build/edits.py", *(["--anew"] if every else option), "--jobs", jobs.JOBS, name]
+        title = f"edits of {name}" + " (every one)" * every
+        yield Job(title, command, frozenset([name]), CHECK + count * EDIT, 2)
 
 
 def make(target: str, *after: str) -> Job:
@@ -112,18 +111,24 @@ def build() -> List[Job]:
 
 def check() -> List[Job]:
     """The gate, over what was proved and refused before."""
-    return prove(())
+    return every_job(trials((), ""))
 
 
-def prove(lot: Sequence[str] = ("--lot", str(LOT))) -> List[Job]:
-    """The gate, with such a lot of the edits."""
+def prove() -> List[Job]:
+    """The gate, with all edits of a crate that is drawn by chance."""
+    drawn = random.choice(list(filter(edits.paths_of, crates.rows())))
+    return every_job(trials(["--must-fail"], drawn))
+
+
+def every_job(of_edits: Iterator[Job]) -> List[Job]:
+    """The gate, with these of the edits."""
     every = [it for it in crates.rows() if not is_tried(it)]
     release = Job("release", ["build/objects.sh", "--compare"], frozenset([PROGRAM]))
     # of aprs-net the types alone: its tests wait for clocks and servers, and are those of `make test`
     tools = Job("types of tools", ["tests/sources/tools.sh"], frozenset(), TEST)
     of_programs = [make("tried-here", PROGRAM, PAGE), make("tried-elsewhere", PROGRAM), release]
     of_sources = [*tests_of_crates(), *tests_of_sources(), tools]
-    return [*proofs(every), *trials(lot), *of_sources, *of_programs]
+    return [*proofs(every), *of_edits, *of_sources, *of_programs]
 
 
 def test() -> List[Job]:

@@ -1,29 +1,41 @@
 #!/usr/bin/env python3
 """Changes each definition of a crate in small ways, on a copy, and tells which changes no worked
-example and no law refuses: such a definition is pinned by nothing, since its body can be changed
-with it.
+example refuses: such a definition is pinned by none, since its body can be changed with it.
 
-usage: build/pairs.py CRATE [WORD..]          changes the definitions, with one of these words
-       build/pairs.py --list CRATE [WORD..]   shows the changes, and tries none
-       build/pairs.py --draw NUMBER CRATE     tries so many of them, drawn by lot
-       build/pairs.py --edits CRATE FILE..    tries changes by hand: lines `file:`, `old:`, `new:`,
-                                              as in an edit that must fail, also of several files
+usage: build/pairs.py [--jobs N] [--list] [--draw NUMBER] [--edit FILE]... CRATE [WORD..]
 
-A change is one more or one less in a number, `||` for `&&`, `<` for `<=` and the reverse, `false`
-for `true` and the reverse, or the answers of two cases exchanged. For each is told what refuses it:
-the examples and laws by their files and names, then what else fails. `lemma alone` stands before
-the rest where no example and no law is among them: then the examples show nothing. Or it STANDS.
-The last line counts the three. Changes by hand that stand there are tried on the whole crate, where
-any goal refuses them. One check a change, with one job. Needs rt, and the crate proved.
+Changes the definitions of the crate, or those changes that have one of these words. --list shows the changes, and
+tries none; --draw tries so many of them, drawn by lot; --edit tries a change by hand, a file with lines `file:`,
+`old:`, `new:` as an edit that must fail, in place of the small ones. --jobs N makes so many checks side by side.
+
+A change is one more or one less in a number, another last character in a text, `||` for `&&`, `<` for `<=` and the
+reverse, `false` for `true` and the reverse, or the answers of two cases exchanged. Where the changed word needs an
+import, it gets one.
+
+Several changes are tried in one check of the examples. Each has there an example's clause of its own: one that cites
+what it changes, and nothing that another one changes. Where that clause is refused, so is the change. Changes that
+are left are put together otherwise, then tried alone with the laws, and at last on the whole crate: where that alone
+refuses one, a lemma does. For each is told what refuses it, or that it STANDS. The last line counts them. Needs rt,
+and the crate proved.
 """
+import argparse
+import concurrent.futures
+import enum
 import os
+import pathlib
 import random
 import re
-import shutil
-import subprocess
 import sys
 import tempfile
-from typing import Iterator, List, NamedTuple, Tuple
+import threading
+from typing import Dict, FrozenSet, Iterator, List, NamedTuple, Optional, Sequence, Set, Tuple
+
+sys.dont_write_bytecode = True
+import crates
+import edits
+import wrong_bodies
+from rattle_text import START, Key
+from statement import Statement, functions_of
 
 # modules of specs/ that hold examples and laws alone
 NOT_CHANGED = re.compile(r"^(Lib|\w*Examples?|\w*Laws?)\.antt$")
@@ -34,25 +46,50 @@ WORDS = {
 }
 WORD = re.compile(
     r"(?<![\w.#'◌{])(&&|nat_le|nat_lt|≤|<|true|false|Less|Greater|0x[0-9A-Fa-f]+|\d+)(?![\w'◌])"
+    r"|(?:octet|codes) \"([^\"\\]+)\""
 )
-# files and names of examples and laws, among all that is not proved
-EXAMPLE = re.compile(r"[Ee]xample|Laws?(?![a-z])|(?<![a-z])laws?(?![a-z])")
 CASE = re.compile(r"^(\w[\w']*)( .*?)? = (.*)$")
+# what a check says of a clause that doesn't hold, and of a line that doesn't compile
+UNPROVED = re.compile(r"^fn \S*?::(\w+): no proof: .*? did not prove (.*)$")
+REJECTED = re.compile(r"^(?:\./)?(specs/\S+?):(\d+):\d+: error: (.*)$")
+# at most so many changes in one check
+MOST = 12
+
+Clause = Tuple[str, str]  # an example's function, and its clause
+Lines = Dict[Tuple[str, int], str]  # what stands in place of a line of a file
 
 
 class Change(NamedTuple):
-    """What is changed: the edits, each of a file, and what is said of them."""
+    """What is said otherwise, in which lines, of which definition."""
 
     said: str
-    edits: List[Tuple[str, str, str]]
+    lines: Lines
+    key: Optional[Key]
 
 
-def otherwise(word: str) -> List[str]:
-    """What stands in place of the word, in a change each."""
+class End(enum.Enum):
+    """How a change ended, as it is said of one."""
+
+    REFUSED = ""
+    BY_A_LEMMA = "a lemma alone: "
+    STANDS = "STANDS"
+    REJECTED = "DOESN'T COMPILE: "
+
+
+# ---- changes
+
+
+def otherwise(found: "re.Match[str]") -> List[Tuple[int, int, str]]:
+    """Where other words stand in place of what was found, and which, in a change each."""
+    if found[2]:
+        last = found.end(2) - 1
+        other = chr(ord(found.string[last]) + 1)
+        return [(last, last + 1, other if other not in '"\\' else "a")]
+    start, end, word = found.start(1), found.end(1), found[1]
     if word in WORDS:
-        return [WORDS[word]]
+        return [(start, end, WORDS[word])]
     number = int(word, 0)
-    return [str(number + 1)] + [str(number - 1)] * (number > 0)
+    return [(start, end, str(it)) for it in (number + 1, number - 1) if it >= 0]
 
 
 def can_be_exchanged(this: "re.Match[str]", following: "re.Match[str]") -> bool:
@@ -64,168 +101,249 @@ def can_be_exchanged(this: "re.Match[str]", following: "re.Match[str]") -> bool:
     return this[1] == following[1] and this[3] != following[3] and free
 
 
-def changes_of(path: str) -> Iterator[Change]:
-    """The changes of the definitions in a file, each by the whole text before and after."""
-    with open(path, encoding="utf-8") as file:
-        lines = file.read().split("\n")
-    before = "\n".join(lines)
+def is_changed(line: str, numbered: Sequence[str]) -> bool:
+    """Whether a line of a definition says what can be said otherwise. Numbers of faults and their names are held
+    to docs/formats.md by tests/documents/numbers.sh."""
+    if any(line.startswith((f"{it}_number ", f"{it}_name ")) for it in numbered):
+        return False
+    if re.match(r"--|(pub )?(use|mod|module|infix)|\s*--|.* : .*Type|\s*→ .*Type \d$", line):
+        return False
+    return " : " not in line or re.match(r"  pub ", line) is not None
 
-    def with_lines(changed: List[str], said: str) -> Change:
-        return Change(f"{os.path.basename(path)}: {said}", [(path, before, "\n".join(changed))])
 
-    # numbers of faults and their names are held to docs/formats.md by tests/documents/numbers.sh
+def changes_of(crate: str, file: str) -> Iterator[Change]:
+    """The changes of the definitions in a file of specs/."""
+    text = (crates.TOP / "crates" / crate / file).read_text(encoding="utf-8")
+    lines, key = text.split("\n"), None
+    module = pathlib.Path(file).stem
     numbered = [
-        it for it in re.findall(r"^(\w+)_number ", before, re.M) if f"\n{it}_name " in before
+        it for it in re.findall(r"^(\w+)_number ", text, re.M) if f"\n{it}_name " in text
     ]
     for at, line in enumerate(lines):
-        if any(line.startswith((f"{it}_number ", f"{it}_name ")) for it in numbered):
-            continue
-        if re.match(r"--|(pub )?(use|mod|module|infix)|\s*--|.* : .*Type|\s*→ .*Type \d$", line):
-            continue
-        if " : " in line and not re.match(r"  pub ", line):
+        start = START.match(line)
+        key = Key(crate, module, start[1]) if start else key
+        if not is_changed(line, numbered):
             continue
         code = line.split("  --")[0]
         for found in WORD.finditer(code):
-            word = found.group(1)
-            for other in otherwise(word):
-                new = code[: found.start(1)] + other + code[found.end(1):]
-                yield with_lines(lines[:at] + [new] + lines[at + 1:], f"{new.strip()}  ({word})")
+            for begin, end, other in otherwise(found):
+                new = code[:begin] + other + code[end:]
+                yield Change(f"{module}: {new.strip()}  ({code[begin:end]})", {(file, at): new}, key)
         this, following = CASE.match(line), CASE.match(lines[at + 1] if at + 1 < len(lines) else "")
         if this and following and can_be_exchanged(this, following):
-            swapped = [
-                f"{this[1]}{this[2] or ''} = {following[3]}",
-                f"{following[1]}{following[2] or ''} = {this[3]}",
-            ]
-            said = f"{swapped[0]} (exchanged with the next)"
-            yield with_lines(lines[:at] + swapped + lines[at + 2:], said)
+            swapped = [f"{it[1]}{it[2] or ''} = {of[3]}"
+                       for it, of in ((this, following), (following, this))]
+            said = f"{module}: {swapped[0]} (exchanged with the next)"
+            yield Change(said, {(file, at + k): it for k, it in enumerate(swapped)}, key)
 
 
-def edits_in(path: str, crate: str) -> Change:
-    """The change that a file of edits holds."""
-    edits: List[Tuple[str, str, str]] = []
-    file, old = "", ""
-    with open(path, encoding="utf-8") as text:
-        for line in text.read().split("\n"):
-            if line.startswith("file: "):
-                file = f"crates/{crate}/{line[6:]}"
-            elif line.startswith("old: "):
-                old = line[5:]
-            elif line.startswith("new: "):
-                edits.append((file, old, line[5:]))
-    return Change(os.path.basename(path), edits)
+def change_by_hand(path: pathlib.Path, crate: str) -> Change:
+    """The change that a file of an edit holds."""
+    edit = wrong_bodies.edit_of(path, crates.TOP / "crates" / crate)
+    before = {it: (crates.TOP / "crates" / crate / it).read_text(encoding="utf-8") for it in edit.lines}
+    lines: Lines = {}
+    for file, text in wrong_bodies.with_edits(before, [edit]).items():
+        old, new = before[file].split("\n"), text.split("\n")
+        lines.update({(file, at): it for at, it in enumerate(new) if old[at] != it})
+    return Change(path.name, lines, None)
 
 
-def lower_crates(crate: str) -> List[str]:
-    """The crate and those of this repository below it, the crate first."""
-    stands_on = {}
-    with open("crates.txt", encoding="utf-8") as file:
-        for line in file:
-            if not line.startswith("#") and ":" in line:
-                name, _, others = line.partition(":")
-                stands_on[name.split()[0]] = others.split()
-    found = [crate]
-    for name in found:
-        found += [it for it in stands_on[name] if it in stands_on and it not in found]
+def with_imports(text: str) -> str:
+    """A file that imports also the words that stand in place of its own, from where these come."""
+    code = "\n".join(it for it in text.split("\n") if not it.startswith(("use ", "--")))
+    for word, other in WORDS.items():
+        old, new = (it if it[0].isalpha() else f"◌{it}◌" for it in (word, other))
+        is_used = re.search(rf"(?<![\w◌]){re.escape(other)}(?![\w◌])", code)
+        if not is_used or re.search(rf"^use .*[{{ ]{re.escape(new)}[,}}]", text, re.M):
+            continue
+        text = re.sub(rf"^(use .*[{{ ]{re.escape(old)})(?=[,}}])", rf"\1, {new}", text, 1, re.M)
+    return text
+
+
+# ---- what examples cite
+
+
+def cited_by_examples(crate: str) -> Dict[Clause, FrozenSet[Key]]:
+    """The definitions of this crate that each clause of its examples cites, directly or through others."""
+    facts, found = Statement(), {}
+    for path in sorted(pathlib.Path(f"crates/{crate}/src").rglob("example*/*.rt")):
+        for call in functions_of(str(path), lambda *_: True):
+            for name, text in call.clauses:
+                cited = facts.closure(facts.roots([(name, text)], call.scope))
+                found[call.name.split("::")[-1], name] = frozenset(
+                    it for it in cited if it.crate == crate)
     return found
 
 
-def refusals(said: str) -> List[str]:
-    """The files and names that a failed check names, those of examples and laws first, or else
-    its last line."""
-    names = re.findall(r"^\S*?((?:proofs|specs|src)/\S+?):\d+:\d+: error.*", said, re.M)
-    names += re.findall(r"^fn \S*?::(\S+): not proved", said, re.M)
-    unproved = r"^fn \S*?::(\S+): no proof: .* did not prove `(?:returns-clause-)?([^`]+)`"
-    names += [".".join(found) for found in re.findall(unproved, said, re.M)]
-    ordered = sorted(set(names), key=lambda name: (not EXAMPLE.search(name), name))
-    return ordered or [said.strip().split("\n")[-1]]
+def put_together(changes: Sequence[Change], cited: Dict[Clause, FrozenSet[Key]]) -> List[List[Change]]:
+    """Changes in lots, in each of which every one has a clause of its own. Those that no example cites are each
+    alone."""
+    lots: List[List[Change]] = []
+    for change in changes:
+        for lot in lots:
+            if len(lot) < MOST and all(own_clauses(it, [*lot, change], cited) for it in [*lot, change]):
+                lot.append(change)
+                break
+        else:
+            lots.append([change])
+    return lots
 
 
-def verdict(folder: str, whole: bool) -> List[str]:
-    """What refuses the crate in this folder as it stands; empty where nothing does."""
-    only: List[str] = []
-    for module in () if whole else ("example", "examples", "laws"):
-        if os.path.exists(f"{folder}/src/{module}.rt"):
-            only += ["--only", module]
-    command = ["nice", "rt", "check", "--jobs", "1"] + only
-    run = subprocess.run(command, cwd=folder, capture_output=True, text=True, check=False)
-    return refusals(run.stdout + run.stderr) if run.returncode else []
+def own_clauses(change: Change, lot: Sequence[Change], cited: Dict[Clause, FrozenSet[Key]]) -> Set[Clause]:
+    """The clauses that cite what this change of a lot changes, and nothing that another one does."""
+    others = {it.key for it in lot if it is not change}
+    if change.key in others:
+        return set()
+    return {it for it, keys in cited.items() if change.key in keys and not others & keys}
 
 
-class Told(NamedTuple):
-    """How many changes examples and laws refused, how many a lemma alone, and how many stand."""
-
-    refused: int
-    alone: int
-    stand: int
+# ---- checks
 
 
-def tried(crate: str, changes: List[Change], whole: bool) -> Told:
-    """Tries the changes on a copy of the crate, and tells of each."""
-    told = Told(0, 0, 0)
-    with tempfile.TemporaryDirectory() as place:
-        shutil.copy("HANDLES", place)
-        copied = lower_crates(crate)
-        with open("crates.txt", encoding="utf-8") as given, open(
-            f"{place}/crates.txt", "w", encoding="utf-8"
-        ) as kept_lines:
-            kept_lines.writelines(line for line in given if re.split("[ :]", line)[0] in copied)
-        for name in copied:
-            shutil.copytree(f"crates/{name}", f"{place}/crates/{name}")
-        for change in changes:
-            kept = {path for path, _, _ in change.edits}
-            for path, old, new in change.edits:
-                with open(f"{place}/{path}", encoding="utf-8") as file:
-                    text = file.read()
-                if text.count(old) != 1:
-                    sys.exit(f"build/pairs.py: {path} has `{old}` {text.count(old)} times")
-                with open(f"{place}/{path}", "w", encoding="utf-8") as file:
-                    file.write(text.replace(old, new))
-            refused = verdict(f"{place}/crates/{crate}", False)
-            if not refused and whole:
-                refused = verdict(f"{place}/crates/{crate}", True)
-            shown = ", ".join(refused[:6])
-            if not refused:
-                told, shown = told._replace(stand=told.stand + 1), "STANDS"
-            # a name has no blanks, as a last line has
-            elif EXAMPLE.search(refused[0]) and " " not in refused[0]:
-                told = told._replace(refused=told.refused + 1)
-            else:
-                told, shown = told._replace(alone=told.alone + 1), f"lemma alone: {shown}"
-            print(f"{change.said}: {shown}", flush=True)
-            for path in kept:
-                shutil.copy(path, f"{place}/{path}")
-    print(f"{told.refused} refused, {told.alone} by a lemma alone, {told.stand} stand")
-    return told
+class Copies:
+    """Copies of a crate, one for each check that runs at a time."""
+
+    def __init__(self, crate: str, place: pathlib.Path, count: int) -> None:
+        self.crate = crate
+        self.free = [edits.View(crate, place / str(it)) for it in range(count)]
+        self.turns, self.lock = threading.Semaphore(count), threading.Lock()
+
+    def check(self, lot: Sequence[Change], only: Sequence[str]) -> List[str]:
+        """What a check of the crate with these changes says; nothing where all is proved."""
+        lines: Lines = {}
+        for it in lot:
+            lines.update(it.lines)
+        with self.turns:
+            with self.lock:
+                view = self.free.pop()
+            try:
+                texts = {file: self.text_of(file, lines) for file, _ in lines}
+                check = view.checked(texts, [word for it in only for word in ("--only", it)])
+            finally:
+                with self.lock:
+                    self.free.append(view)
+        return check.lines if check.status else []
+
+    def text_of(self, file: str, lines: Lines) -> str:
+        """A file with its changed lines."""
+        text = (crates.TOP / "crates" / self.crate / file).read_text(encoding="utf-8")
+        kept = text.split("\n")
+        return with_imports("\n".join(lines.get((file, at), it) for at, it in enumerate(kept)))
 
 
-def main(words: List[str]) -> int:
+def refused_clauses(said: Sequence[str]) -> Set[Clause]:
+    """The clauses of examples that a check didn't prove."""
+    found = set()
+    for line in said:
+        unproved = UNPROVED.match(line)
+        for name in re.findall(r"`returns(?:-clause-)?([^`]*)`", unproved[2]) if unproved else ():
+            found.add((unproved[1], name or "ensures") if unproved else ("", ""))
+    return found
+
+
+def rejection(change: Change, said: Sequence[str]) -> str:
+    """What a check says of a line of this change that doesn't compile, or nothing."""
+    for line in said:
+        rejected = REJECTED.match(line)
+        if rejected and (rejected[1], int(rejected[2]) - 1) in change.lines:
+            return rejected[3]
+    return ""
+
+
+def first_refusals(said: Sequence[str]) -> str:
+    """The first few names that a failed check gives."""
+    names = [it[1] for line in said for it in [re.match(r"^fn \S*?::(\w+): no(?:t| proof)", line)] if it]
+    names += [it[1] for line in said for it in [re.match(r"^(?:\./)?(proofs/\S+?):.*error", line)] if it]
+    return ", ".join(dict.fromkeys(names[:6])) or said[-1][:200]
+
+
+class Trial:
+    """The changes of a crate, and what is told of each."""
+
+    def __init__(self, copies: Copies, cited: Dict[Clause, FrozenSet[Key]]) -> None:
+        self.copies, self.cited = copies, cited
+        self.ends: Dict[int, End] = {}
+
+    def tell(self, change: Change, end: End, by: str = "") -> None:
+        """Tells how a change ended, and by what."""
+        self.ends[id(change)] = end
+        print(f"{change.said}: {end.value}{by}", flush=True)
+
+    def left(self, changes: Sequence[Change]) -> List[Change]:
+        """Those of which nothing is told yet."""
+        return [it for it in changes if id(it) not in self.ends]
+
+    def try_lot(self, lot: Sequence[Change]) -> None:
+        """Tries a lot in one check of the examples, without what doesn't compile."""
+        said = self.copies.check(lot, ["examples"])
+        hurt = [it for it in lot if rejection(it, said)]
+        for change in hurt:
+            self.tell(change, End.REJECTED, rejection(change, said))
+        if hurt:
+            rest = [it for it in lot if it not in hurt]
+            if rest:
+                self.try_lot(rest)
+            return
+        failed = refused_clauses(said)
+        for change in lot:
+            own = sorted(own_clauses(change, lot, self.cited) & failed)
+            if own:
+                self.tell(change, End.REFUSED, ", ".join(".".join(it) for it in own[:3]))
+
+    def try_alone(self, change: Change) -> None:
+        """Tries a change by examples and laws, and then on the whole crate."""
+        source = crates.TOP / "crates" / self.copies.crate / "src"
+        modules = [it for it in ("examples", "laws") if (source / f"{it}.rt").is_file()]
+        said = self.copies.check([change], modules) if modules else []
+        if said:
+            why = rejection(change, said)
+            self.tell(change, End.REJECTED if why else End.REFUSED, why or first_refusals(said))
+        elif self.copies.check([change], []):
+            self.tell(change, End.BY_A_LEMMA)
+        else:
+            self.tell(change, End.STANDS)
+
+    def run(self, changes: Sequence[Change], jobs: int) -> None:
+        """Tries all, twice in lots, and the rest alone."""
+        with concurrent.futures.ThreadPoolExecutor(jobs) as pool:
+            for seed in (1, 2):
+                mixed = random.Random(seed).sample(self.left(changes), len(self.left(changes)))
+                lots = [it for it in put_together(mixed, self.cited)
+                        if own_clauses(it[0], it, self.cited)]
+                list(pool.map(self.try_lot, lots))
+            list(pool.map(self.try_alone, self.left(changes)))
+
+
+def main(words: Optional[List[str]] = None) -> int:
     """Does what the words ask for."""
-    if len(words) < 1 or words[0].startswith("--") and len(words) < 2:
-        print(__doc__)
-        return 2
-    way = words.pop(0) if words[0].startswith("--") else ""
-    drawn = int(words.pop(0)) if way == "--draw" else 0
-    crate, rest = words[0], words[1:]
-    if way == "--edits":
-        return 1 if tried(crate, [edits_in(path, crate) for path in rest], True).stand else 0
-    changes = [
-        change
-        for name in sorted(os.listdir(f"crates/{crate}/specs"))
-        if name.endswith(".antt") and not NOT_CHANGED.match(name)
-        for change in changes_of(f"crates/{crate}/specs/{name}")
-        if not rest or any(word in change.said for word in rest)
+    parser = argparse.ArgumentParser(description="Changes definitions, and tells what refuses that.")
+    parser.add_argument("crate", metavar="CRATE")
+    parser.add_argument("words", nargs="*", metavar="WORD")
+    parser.add_argument("--jobs", type=int, default=1, metavar="N")
+    parser.add_argument("--list", action="store_true")
+    parser.add_argument("--draw", type=int, default=0, metavar="NUMBER")
+    parser.add_argument("--edit", action="append", default=[], type=pathlib.Path, metavar="FILE")
+    asked = parser.parse_args(words)
+    folder = pathlib.Path("crates", asked.crate, "specs")
+    names = [it.name for it in sorted(folder.glob("*.antt")) if not NOT_CHANGED.match(it.name)]
+    changes = [change_by_hand(it, asked.crate) for it in asked.edit] or [
+        change for name in names for change in changes_of(asked.crate, f"specs/{name}")
+        if not asked.words or any(word in change.said for word in asked.words)
     ]
-    if way == "--list":
-        print("\n".join(change.said for change in changes))
+    if asked.draw:
+        changes = random.Random(asked.crate).sample(changes, min(asked.draw, len(changes)))
+    if asked.list:
+        print("\n".join(it.said for it in changes))
         return 0
-    if drawn:
-        changes = random.Random(crate).sample(changes, min(drawn, len(changes)))
-    # lemmas that are examples are checked with the whole crate alone
-    whole = os.path.exists(f"crates/{crate}/proofs/Examples.antt")
-    told = tried(crate, changes, whole)
-    return 1 if told.alone or told.stand else 0
+    with tempfile.TemporaryDirectory(prefix="pairs-") as place:
+        trial = Trial(Copies(asked.crate, pathlib.Path(place), asked.jobs), cited_by_examples(asked.crate))
+        trial.run(changes, asked.jobs)
+    ends = list(trial.ends.values())
+    print(f"{ends.count(End.REFUSED)} refused, {ends.count(End.BY_A_LEMMA)} by a lemma alone,"
+          f" {ends.count(End.STANDS)} stand, {ends.count(End.REJECTED)} don't compile")
+    return 1 if End.BY_A_LEMMA in ends or End.STANDS in ends else 0
 
 
 if __name__ == "__main__":
-    os.chdir(os.path.join(os.path.dirname(os.path.abspath(__file__)), ".."))
-    sys.exit(main(sys.argv[1:]))
+    os.chdir(crates.TOP)
+    sys.exit(main())

