@@ -1,5 +1,5 @@
-//! What tests share: frames, receptions, books, texts. Also arenas that are almost full, and devices
-//! that fail.
+//! What tests share: frames, receptions, books, texts. Also arenas that are almost full, and
+//! devices that fail.
 #![tactic(auto)]
 
 mod books;

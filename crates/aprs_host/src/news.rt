@@ -69,8 +69,8 @@ impl Program<'_> {
         parts_of(alloc, inputs, range)
     }
 
-    /// Folds the inputs, which have these paths, writes what is new to the first to standard output,
-    /// and reports a fault. Returns the exit status.
+    /// Folds the inputs, which have these paths, writes what is new to the first to standard
+    /// output, and reports a fault. Returns the exit status.
     fn news_into_output(
         &self,
         gap: Gap,

@@ -3,12 +3,13 @@
 ghost use Rattle.std.specs.Prelude.{◌≡◌, [], Some, None, true, false, pos, codes};
 ghost use Rattle.aprs_report.specs.declared.place.Place.TheVariants.{Base91};
 ghost use Rattle.aprs_report.specs.Place.{latitude_of, longitude_of};
+ghost use Rattle.aprs_report.specs.Stamp.{stamp_bytes};
 ghost use Rattle.aprs_report.specs.Reading.{object, item, message, ack, rej, status, raw};
 ghost use Rattle.aprs_report.specs.Examples.{Example, minus, fraction, plain, compressed_position, stamp_with, leader, leader_by, leader_item, here, example_symbol, object_field, object_ending, item_field, item_ending, message_field, symbol_field, with_symbol, compressed_field, stamped, unnumbered};
 
 /// Examples of plain positions. `plain` is a house (symbol `/-`) at these hundredths of minutes
 /// north and east (`minus`: south and west), with this number of digits left out. `raw` is a
-/// field that has the form of no report.
+/// field that has the form of no report. The last two are angles, as fractions of degrees.
 pub fn plain_examples()
     ensures full { Example (codes "!4903.50N/07201.75W-") (plain (pos 294350) (minus 432175) 0) }
     ensures to_tenths { Example (codes "!4903.5 N/07201.75W-")
@@ -30,6 +31,9 @@ pub fn plain_examples()
     ensures digits_left { Example (codes "!49  .  N/07299.99W-")
         (plain (pos 294000) (minus 432000) 4) }
     ensures sixty_to_tens { Example (codes "!496 .  N/07201.75W-") raw }
+
+    ensures north { latitude_of here ≡ fraction (pos 294350) 6000 }
+    ensures west { longitude_of here ≡ fraction (minus 432175) 6000 }
 {}
 
 /// Examples of compressed positions. `compressed_position` is a car (symbol `>` of this table) at
@@ -77,7 +81,7 @@ pub fn symbol_examples()
 {}
 
 /// Examples of positions by their first byte: `/` and `@` have a stamp, and after `@` the station
-/// takes messages.
+/// takes messages. The last one is a stamp's text.
 pub fn stamped_examples()
     ensures no_messages { Example (codes "/092345z4903.50N/07201.75W>") (stamped false 122) }
     ensures messages { Example (codes "@092345z4903.50N/07201.75W>") (stamped true 122) }
@@ -86,6 +90,8 @@ pub fn stamped_examples()
     ensures no_stamp { Example (codes "/4903.50N/07201.75W>") raw }
     ensures before_digits { Example (codes "@09234/z4903.50N/07201.75W>") raw }
     ensures after_digits { Example (codes "@:92345z4903.50N/07201.75W>") raw }
+
+    ensures text { stamp_bytes (stamp_with 47) ≡ codes "092345/" }
 {}
 
 /// Examples of names. Those of objects and addressees have spaces to `~`, and those of items have

@@ -1,6 +1,6 @@
 //! Where a position is, and how it is written.
 
-ghost use Rattle.std.specs.Prelude.{◌≡◌};
+ghost use Rattle.std.specs.Prelude.{◌≡◌, ◌<◌, ◌^◌, unsigned_abs};
 ghost use Rattle.std.specs.Option.{option_map};
 ghost use Rattle.aprs_report.specs.Reader.{plain_of, compressed_of, place_of};
 
@@ -59,9 +59,13 @@ pub enum Place {
 impl Place {
     ghost use Rattle.aprs_report.specs.Place.{latitude_of, longitude_of};
 
-    /// The latitude in degrees, south negative. Takes no memory.
+    /// The latitude in degrees, south negative (APRS Protocol Reference 1.0.1, chapters 6 and 9).
+    /// The clauses after `exact` bound both numbers, whatever the place. Takes no memory.
     pub fn lat(&self) -> Fraction
-        ensures { result ≡ latitude_of self.now }
+        ensures exact { result ≡ latitude_of self.now }
+        ensures numerator { unsigned_abs result.numerator < 2 ^ 38 }
+        ensures some { 0 < unsigned_abs result.denominator }
+        ensures few { unsigned_abs result.denominator < 2 ^ 34 }
     {
         match *self {
             Place::Plain { lat, .. } => Fraction {
@@ -75,9 +79,13 @@ impl Place {
         }
     }
 
-    /// The longitude in degrees, west negative. Takes no memory.
+    /// The longitude in degrees, west negative (APRS Protocol Reference 1.0.1, chapters 6 and 9).
+    /// The clauses after `exact` bound both numbers, whatever the place. Takes no memory.
     pub fn lon(&self) -> Fraction
-        ensures { result ≡ longitude_of self.now }
+        ensures exact { result ≡ longitude_of self.now }
+        ensures numerator { unsigned_abs result.numerator < 2 ^ 38 }
+        ensures some { 0 < unsigned_abs result.denominator }
+        ensures few { unsigned_abs result.denominator < 2 ^ 34 }
     {
         match *self {
             Place::Plain { lon, .. } => Fraction {

@@ -19,6 +19,20 @@ pub struct Stamp {
     pub mark: u8,
 }
 
+impl Stamp {
+    ghost use Rattle.aprs_report.specs.Stamp.{stamp_bytes};
+
+    /// The six digits and the mark, as a report has them (APRS Protocol Reference 1.0.1, chapter
+    /// 6). Takes no memory.
+    pub fn text(&self) -> [u8; 7]
+        ensures { result ≡ stamp_bytes self.now }
+    {
+        let mut text = [self.mark; 7];
+        text[..6].copy_from_slice(&self.digits);
+        text
+    }
+}
+
 /// Whether each byte is a digit, `0` to `9`.
 fn all_digits(bytes: &[u8]) -> bool
     ensures { result ≡ list_all is_digit bytes.now }

@@ -8,10 +8,10 @@ use Rattle.aprs_ax25.specs.CallText.{before_dash}
 use Rattle.aprs_io.specs.Cut.{Cut, cut_at, first_cut, has_byte, is_byte}
 
 -- before a dash
-pub letters_before : (text : List ℕ) (cut : Cut) → Some cut ≡ cut_at 45 text
+pub with_dash : (text : List ℕ) (cut : Cut) → Some cut ≡ cut_at 45 text
     → cut.before ≡ before_dash text
 unfolding cut_at
-letters_before text cut e = go (has_byte 45 text) e
+with_dash text cut e = go (has_byte 45 text) e
   where
     go : (t : Bool) → Some cut ≡ cond t (Some (first_cut 45 text)) None
         → cut.before ≡ before_dash text
@@ -23,9 +23,9 @@ none_if true x e = absurd cc
 none_if false x e = refl
 
 -- without one
-pub letters_alone : (text : List ℕ) → None ≡ cut_at 45 text → text ≡ before_dash text
+pub no_dash : (text : List ℕ) → None ≡ cut_at 45 text → text ≡ before_dash text
 unfolding cut_at
-letters_alone text e =
+no_dash text e =
     let has : has_byte 45 text ≡ false = none_if (has_byte 45 text) (first_cut 45 text) e in
     let le : length text ≤ position_or_len (is_byte 45) text = grind (arith, nat_tests) in
     sym (take_all (position_or_len (is_byte 45) text) text le)

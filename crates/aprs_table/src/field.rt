@@ -5,7 +5,6 @@ ghost use Rattle.aprs_io.specs.Outlet.{Puts};
 ghost use Rattle.aprs_table.specs.FieldText.{field_text};
 ghost use Rattle.aprs_table.specs.SpacedLine as Spec;
 
-use crate::cell::stamp_text;
 use aprs_ax25::Callsign;
 use aprs_io::{Outlet, WriteFault, push_all, put_shown, shown_byte};
 use aprs_log::Moment;
@@ -76,14 +75,12 @@ pub fn put_field<W: Write>(out: &mut Outlet<'_, W>, field: &Field<'_>) -> Result
 fn stamp_or_dash(stamp: &Option<Stamp>) -> ArrayVec<u8, 7>
     ensures { result.items ≡ Spec.stamp_text stamp.now }
 {
+    let mut text = ArrayVec::new();
     match stamp {
-        Some(stamp) => stamp_text(stamp),
-        None => {
-            let mut text = ArrayVec::new();
-            text.push(b'-');
-            text
-        }
+        Some(stamp) => push_all(&mut text, &stamp.text()),
+        None => text.push(b'-'),
     }
+    text
 }
 
 /// The fraction's numerator, `/` and its denominator, in decimal. There is room for two numbers

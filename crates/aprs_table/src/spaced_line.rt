@@ -22,6 +22,7 @@ pub fn put_spaced_line<W: Write>(
         (map field_text fields.now ++ map field_text others.now)) }
 {
     put_start(out, kind, fields, others)?;
+    // No text follows.
     out.put(b"\n")
 }
 

@@ -1,6 +1,6 @@
-//! Tests of the library as callers use it, by topic: devices, frames, reports, the texts of logs, books
-//! and listings, books and stores, runs, ranges of sources in book files, a program's words, the memory
-//! that all calls take, and interrupted writes.
+//! Tests of the library as callers use it, by topic: devices, frames, reports, the texts of logs,
+//! books and listings, books and stores, runs, ranges of sources in book files, a program's words,
+//! the memory that all calls take, and interrupted writes.
 #![tactic(auto)]
 
 #[cfg(test)]

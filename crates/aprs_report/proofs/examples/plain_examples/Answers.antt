@@ -21,4 +21,6 @@ returns c = record {
   sixty_minutes = computed refl;
   digits_left = computed refl;
   sixty_to_tens = computed refl;
+  north = refl;
+  west = refl;
 }

@@ -13,4 +13,5 @@ returns c = record {
   no_stamp = computed refl;
   before_digits = computed refl;
   after_digits = computed refl;
+  text = refl;
 }
