@@ -5,11 +5,13 @@ use Rattle.std.specs.List.{list_all}
 use Rattle.aprs_ax25.specs.Callsign.{is_callsign_byte}
 use Rattle.aprs_ax25.specs.FrameFault.{ends_field, has_callsign}
 
--- The octet is a capital or a digit, shifted left by one bit.
+-- The octet is a capital or a digit, shifted left by one bit: it is shifted back, and bit 0, which
+-- has to be 0, would come as bit 7.
 abbrev pub is_callsign_octet : ℕ → Bool
 is_callsign_octet octet = is_callsign_byte (octet / 2 + 128 * (octet % 2))
 
--- After a letter the octets are letters and then spaces; otherwise they are spaces alone.
+-- The octets are spaces alone; or, where one before them was a letter or digit (`after_letter`),
+-- they may be letters and digits first.
 abbrev pub letters_then_spaces : Bool → List ℕ → Bool
 letters_then_spaces after_letter [] = true
 letters_then_spaces after_letter (octet ∷ more) =

@@ -55,7 +55,7 @@ has_call_fault Ssid text = is_none (ssid_of (from_dash text))
 abbrev pub call_fault : List ℕ → Option CallFault
 call_fault text = find (λ fault. has_call_fault fault text) (Length ∷ Character ∷ Ssid ∷ [])
 
--- The letters and the SSID of a callsign's text, or its first fault.
+-- The letters and digits and the SSID of a callsign's text, or its first fault.
 abbrev pub AreCallParts : List ℕ → Result (Bor (List ℕ) × ℕ) CallFault → Type 0
 AreCallParts text r = MatchResult r
     (λ p. (call_fault text ≡ None) × (p.0.now ≡ before_dash text)

@@ -292,8 +292,8 @@ fn up_to_six(bytes: &[u8]) -> ArrayVec<u8, 6>
 /// Six spaces, shifted left by one bit.
 const SPACES: [u8; 6] = [64; 6];
 
-/// Puts letters at the end of `out`, with spaces after them up to six, each shifted left by one
-/// bit.
+/// Puts the letters and digits of a callsign at the end of `out`, with spaces after them up to six
+/// bytes, each shifted left by one bit.
 fn push_letters_and_spaces(out: &mut ArrayVec<u8, MAX_UI_FRAME>, letters: &[u8])
     requires room { array_vec_len out.old + 6 ≤ MAX_UI_FRAME }
     requires six { length letters.now ≤ 6 }

@@ -1,4 +1,15 @@
 //! The book.
+//!
+//! Words of the contracts here:
+//! - `Holds S book`: the book is that of the receptions S, under its gap.
+//! - `TakesIn`, `MergesInto`, `WidensTo` say, of whatever sets the books were, of which set the new
+//!   one is: with the reception, of both sets, or of the same set.
+//! - `AreJoined`: the third book is that of what the first two hold, under their one gap.
+//! - `IsSoundBook`: the rows ascend, rows of one key lie further apart than the gap, and each is
+//!   sound by itself.
+//! - `FitsInPlace`: exactly one row is near to the reception, and it lists its receiver.
+//! - `AreIndexesOf`: the indexes have of each station, object and item its greatest report in the
+//!   rows.
 ghost use Rattle.std.specs.Prelude.{◌≡◌, ◌↔◌, [], ◌∷◌, ◌++◌, ◌<◌, ◌≤◌, length, IsTrue, IsOk, IfOk, OnOk, OnErr, IsOkUnless, MatchOption, Err, None};
 ghost use Rattle.aprs_transmissions.specs.Gap.{standard_gap, millis_of};
 ghost use Rattle.aprs_transmissions.specs.BookValue.{Holds, IsSoundBook, HaveOneGap, AreJoined, widened_to};

@@ -1,4 +1,4 @@
-//! Books written as texts, and read back.
+//! A caller's `Book`, written as the text of a book file, and read back.
 #![tactic(auto)]
 
 mod read;

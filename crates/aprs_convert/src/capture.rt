@@ -1,4 +1,14 @@
 //! A KISS stream, captured as a log.
+//!
+//! Words of the contracts here:
+//! - A plan says what a run writes of an input, and with which fault it ends, by what was got of
+//!   it.
+//! - `RunsAsPlanned`: the run wrote that text and ended so, or wrote a prefix of it at `Write`.
+//! - `stream_plan`: a log line for each UI frame in the stream, and a fault at `Read` and
+//!   `TooLong`.
+//! - `StandsAfter reader bytes`: since the last frame end the reader was fed these bytes.
+//! - `judgements_of` a stream has a data frame, or a fault, for each nonempty piece; `rest_of` has
+//!   the bytes after the last frame end.
 ghost use Rattle.std.specs.Prelude.{◌≡◌, ◌≤◌, ◌++◌, ℕ, List, OnOk, OnErr};
 ghost use Rattle.std.specs.List.{flat_map};
 ghost use Rattle.std.specs.Io.KnownBytes.{Appends};

@@ -1,4 +1,11 @@
 //! What a check reports of a log.
+//!
+//! Words of the contracts here:
+//! - `Runs Told`: of what was got of the input, the run wrote the text and ended with the fault
+//!   that `Told` says, or wrote a prefix at `Write`. Neither device was asked after its end or a
+//!   fault.
+//! - `Checks`: the text is a line for each line that is passed over, and the totals if there is no
+//!   fault.
 ghost use Rattle.std.specs.Prelude.{◌≡◌, ◌≤◌, ◌++◌, codes};
 ghost use Rattle.arrayvec.specs.ArrayVec.{array_vec_len};
 ghost use Rattle.aprs_io.specs.Input.{most_input};

@@ -1,4 +1,10 @@
 //! A log's lines, converted as they are read.
+//!
+//! Words of the contracts here:
+//! - A plan says what a run writes of an input, and with which fault it ends, by what was got of
+//!   it.
+//! - `RunsAsPlanned`: the run wrote that text and ended so, or wrote a prefix of it at `Write`.
+//! - `lines_plan form`: for each line that is heard what the form gives, and the log's first fault.
 ghost use Rattle.std.specs.Prelude.{◌≤◌};
 ghost use Rattle.aprs_io.specs.Input.{most_input};
 ghost use Rattle.aprs_convert.specs.Plan.{RunsAsPlanned, lines_plan};

@@ -1,4 +1,10 @@
 //! Runs over one input.
+//!
+//! Words of the contracts here:
+//! - `Runs Told`: of what was got of the input, the run wrote the text and ended with the fault
+//!   that `Told` says, or wrote a prefix at `Write`. Neither device was asked after its end or a
+//!   fault.
+//! - `Converts form`: the text is what the form gives for each reception, up to the fault.
 ghost use Rattle.std.specs.Prelude.{◌≤◌};
 ghost use Rattle.aprs_io.specs.Input.{most_input};
 ghost use Rattle.aprs_convert.specs.Conversion.{Converts};

@@ -40,7 +40,8 @@ AreAt path_of inputs paths = ⊥
 abbrev pub opened : {Z : Type 0} → List (String Z) → List Asked
 opened paths = map (λ path. (string_bytes path, None)) paths
 
--- The same of the inputs of these paths, or of standard input where there is none.
+-- What an opener was asked for and answered, where it opened the input of each of these paths, or
+-- standard input if there is no path.
 abbrev pub opened_inputs : {Z : Type 0} → List (String Z) → List Asked
 opened_inputs [] = (standard_input, None) ∷ []
 opened_inputs (path ∷ paths) = opened (path ∷ paths)

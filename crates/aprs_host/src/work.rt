@@ -84,9 +84,9 @@ pub fn run_work<R: Read, W: Write, A: Allocator + Copy>(
 }
 
 /// Does the work over one input with the limit `MAX_INPUT` (1,073,741,824 bytes). One byte more may
-/// be read to see whether the input is longer, which is a fault. What it writes, when it ends with
-/// which fault and what memory it takes is as `check_run`, `convert_run` and `widen_run` of
-/// `aprs_tool` say.
+/// be read to see whether the input is longer, which is a fault. `check_run`, `convert_run` and
+/// `widen_run` of `aprs_runs` do it. `Does` says what these promise: what is written, which fault
+/// the run ends with, and what the devices are asked.
 pub fn run_single<R: Read, W: Write, A: Allocator + Copy>(
     alloc: A,
     single: Single,
@@ -103,9 +103,8 @@ pub fn run_single<R: Read, W: Write, A: Allocator + Copy>(
 }
 
 /// Does the work over several inputs, each with the limit `MAX_INPUT` (1,073,741,824 bytes). One
-/// byte more of an input may be read to see whether it is longer, which is a fault. What it
-/// writes, when it ends with which fault and what memory it takes is as
-/// `merge_run`, `show_run`, `history_run` and `table_run` of `aprs_tool` say.
+/// byte more of an input may be read to see whether it is longer, which is a fault. `merge_run`,
+/// `show_run`, `history_run` and `table_run` of `aprs_runs` do it, and say what memory it takes.
 pub fn run_gathering<R: Read, W: Write, A: Allocator + Copy>(
     alloc: A,
     gathering: Gathering,
@@ -113,11 +112,17 @@ pub fn run_gathering<R: Read, W: Write, A: Allocator + Copy>(
     inputs: &mut [Counted<R>],
     w: &mut Counted<W>,
 ) -> Result<(), RunFault>
+    // `gots` is what was got of each input. At `Ok` and `Write` they stand for sets; of any union
+    // of these, what was written is the text that is asked for, whole at `Ok`, a prefix at `Write`.
     ensures writes { OfEach most_input R.remaining inputs.old inputs.new (λ gots.
         WritesFor (IsToldOf (GiveUnion gap gots) (Spec.IsOutputOf gathering gap)) W.contents result
         w.old w.new) }
+    // At `Input` that input is the first that isn't taken, for this fault; at `Memory` all inputs
+    // stand for sets. At both nothing was written.
     ensures refuses { OfEach most_input R.remaining inputs.old inputs.new (λ gots.
         RefusesFor (GiveUnion gap gots) (IsFirstRefused gap gots) result w.old w.new) }
+    // No input is asked after its end or a fault, and none after the refused one. The output isn't
+    // asked after a fault, nor at all where an input is refused or at `Memory`.
     ensures asks { Spec.AsksAll gathering result inputs.old inputs.new }
     ensures calls { CallsOutput result w.old w.new }
 {

@@ -1,4 +1,11 @@
 //! The answers to a whole stream, however it is cut.
+//!
+//! Words of the contracts here:
+//! - `hears`: what a listener becomes by one answer. `FoldsTo hears old answers new`: the listener
+//!   took these answers, one after another.
+//! - `StandsAfter reader bytes`: since the last frame end the reader was fed these bytes.
+//! - `judgements_of` a stream has, for each nonempty piece, its data frame or why it is passed
+//!   over. `rest_of` has the bytes after the last frame end.
 ghost use Rattle.std.specs.Prelude.{◌++◌, ℕ, List};
 ghost use Rattle.std.specs.List.{FoldsTo};
 ghost use Rattle.aprs_kiss.specs.Judgement.{Judgement};

@@ -1,4 +1,16 @@
 //! A reader of a KISS stream that comes in chunks of any size.
+//!
+//! Words of the contracts here:
+//! - A piece is what stands before a frame end, FEND, and after the one before it.
+//! - `StandsAfter reader bytes`: since the last frame end the reader was fed these bytes.
+//! - `judgements_of` a stream has, for each nonempty piece, its data frame or why it is passed
+//!   over. `rest_of` has the bytes after the last frame end.
+//! - `judgements_in` an answer, and `judgements_of_outcome`, have the one that is reported, or
+//!   none.
+//! - `EndsPiece`: the stream's last byte is the frame end of a nonempty piece.
+//! - `IsPlain`: none of the bytes is FEND or FESC. `spelled_bytes` are those that a piece stands
+//!   for.
+//! - `IsOpen`, `IsClosed`: an escape has begun in this state, or none has.
 ghost use Rattle.std.specs.Prelude.{◌≡◌, ◌≢◌, ◌≤◌, ◌<◌, ◌+◌, ◌∷◌, ◌++◌, ◌↔◌, ℕ, List, [], false, IsTrue, IfNone, IfSome, OnSome, IfOk, length, take};
 ghost use Rattle.std.specs.Bool.{OnTrue, OnFalse};
 ghost use Rattle.std.specs.Borrow.{sem};

@@ -1,4 +1,14 @@
 //! A reader of a log's lines.
+//!
+//! Words of the contracts here:
+//! - Answers are the lines of a log in order, and the fault after them, if there is one.
+//! - `Awaits known end r answers`: these may be the answers of r from now on. Its device has
+//!   `known` left now, and `end` when all is read.
+//! - `Starts`: nothing was read or returned yet, and the reader holds the head alone.
+//! - `Advances`: the reader gives its next answer: a line, the end or a fault. With it before those
+//!   that may follow now, they are what could have followed before.
+//! - `Moves`: no answer was given, and what may follow now could have followed before.
+//! - `lent_device` is the device that the reader borrows, and `loan_of` names this loan.
 ghost use Rattle.std.specs.Prelude.{◌≡◌, ◌≢◌, ◌+◌, ◌≤◌, ◌<◌, ◌++◌, ℕ, List, length, Option, None, Some, IfSome};
 ghost use Rattle.aprs_io.specs.Input.{most_input};
 ghost use Rattle.aprs_log.specs.States.{KeepsMemory};

@@ -8,7 +8,8 @@ use Rattle.aprs_ax25.specs.FrameFault.{parts_of}
 use Rattle.aprs_transmissions.specs.Key.{Key, key_of}
 use Rattle.aprs_rows.specs.declared.row.key_prefix.KeyPrefix.{KeyPrefix}
 
--- The number of a callsign, base 256: its letters, padded with spaces to six, and its SSID.
+-- The number of a callsign, base 256: its letters and digits, padded with spaces to six, and its
+-- SSID.
 abbrev pub call_number : Call → ℕ
 call_number call = from_be_bytes w64 (0 ∷ letters_and_spaces call.letters ++ call.ssid ∷ [])
 

@@ -5,8 +5,8 @@ use Rattle.std.specs.Ordering.{nat_cmp, on, then_cmp}
 use Rattle.std.specs.declared.cmp.Ordering.{Ordering}
 use Rattle.aprs_rows.specs.declared.row.key_prefix.KeyPrefix.{KeyPrefix}
 
--- The number of a callsign, of the seven octets of an address: the letters are the first six,
--- shifted right by one bit, and the SSID is bits 1 to 4 of the last.
+-- The number of a callsign, of the seven octets of an address: letters, digits and spaces are the
+-- first six, shifted right by one bit, and the SSID is bits 1 to 4 of the last.
 abbrev pub octets_number : List ℕ → ℕ
 octets_number octets =
     from_be_bytes w64

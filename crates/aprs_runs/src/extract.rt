@@ -63,11 +63,17 @@ pub(crate) fn extract_run<R: Read, W: Write, A: Allocator + Copy>(
     w: &mut Counted<W>,
 ) -> Result<(), RunFault>
     requires { limit ≤ most_input }
+    // `gots` is what was got of each input. At `Ok` and `Write` they stand for sets; of any union
+    // of these, what was written is the extract, whole at `Ok`, a prefix of it at `Write`.
     ensures writes { OfEach limit R.remaining inputs.old inputs.new (λ gots.
         WritesFor (IsToldOf (GiveUnion gap gots) (IsExtractOf extract gap)) W.contents result w.old
         w.new) }
+    // At `Input` that input is the first that isn't taken, for this fault; at `Memory` all inputs
+    // stand for sets. At both nothing was written.
     ensures refuses { OfEach limit R.remaining inputs.old inputs.new (λ gots.
         RefusesFor (GiveUnion gap gots) (IsFirstRefused gap gots) result w.old w.new) }
+    // No input is asked after its end or a fault, and none after the refused one. The output isn't
+    // asked after a fault, nor at all where an input is refused or at `Memory`.
     ensures asks { AsksEach result inputs.old inputs.new }
     ensures calls { CallsOutput result w.old w.new }
 {

@@ -1,4 +1,11 @@
 //! The book of inputs, as it is gathered.
+//!
+//! Words of the contracts here:
+//! - `WritesTold Told`: a text of which `Told` holds, of the book, was written whole, or a prefix
+//!   of it at `Write`. At `Memory` nothing was.
+//! - `WritesText`: so was the book's own text. At `Memory` nothing was, and the book has rows.
+//! - `IsExtract`, `IsSummarized`, `IsHistory`, `IsNetTable`, `IsStationsTable`: the text is this of
+//!   the book.
 ghost use Rattle.std.specs.Prelude.{◌≡◌, ◌≢◌, [], IfOk, OnOk, OnErr};
 ghost use Rattle.aprs_transmissions.specs.BookValue.{BookValue};
 ghost use Rattle.aprs_transmissions.specs.Coalescing.{AreInOrder};

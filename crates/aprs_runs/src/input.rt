@@ -1,4 +1,15 @@
 //! The rows of an input, which is a log or a book file.
+//!
+//! Words of the contracts here:
+//! - Of an input a text is got, at most `limit` bytes, and how it then ended. `OfGot` and
+//!   `HoldsOfGot` say something of these two; `OfGot` only where the input's bytes are known.
+//! - An input stands for a set of receptions: a log for those of its lines, a book file for each
+//!   set whose book it is.
+//! - `TakesInput`: rows that were the book of any set are now that of it and the input's; or the
+//!   input is refused for this fault.
+//! - `ReadsRows`, `ReadsLog`: the input has no fault, and its rows or receptions joined the book;
+//!   or it is refused for this fault. Where an allocation failed, a faultless one may be refused.
+//! - `AsksRows`: the input was read to its end, or to the fault, and no further.
 ghost use Rattle.std.specs.Prelude.{◌≡◌, ◌<◌, ◌≤◌, [], ◌∷◌, ◌++◌, false, length, map, IfSome, OnOk};
 ghost use Rattle.std.specs.List.{list_any};
 ghost use Rattle.std.specs.Result.{result_err};

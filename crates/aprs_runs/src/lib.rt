@@ -1,5 +1,5 @@
-//! What each command does, from its inputs to its output and its exit status: check, convert,
-//! merge, widen, show, history, table, fold.
+//! What each command does, from its inputs, logs or book files, to its output and its exit status:
+//! check, convert, merge, widen, show, history, table, fold.
 #![tactic(auto)]
 
 mod example;

@@ -82,11 +82,14 @@ pub(crate) fn read_all<R: Read, A: Allocator + Copy>(
 ) -> Result<Gathered<A>, (usize, InputFault)>
     requires { limit ≤ most_input }
 
+    // What was gathered is the book of any set that the inputs stand for together; or the input of
+    // that number is the first that isn't taken, for this fault.
     ensures reads { OfEach limit R.remaining inputs.old inputs.new (ReadsEach gap result) }
     ensures gap { IfOk result (λ gathered. gathered.gap ≡ gap) }
     // Without an input there are no rows.
     ensures some { IfOk result (λ gathered. gathered.rows ≢ [] → 0 < length inputs.old) }
 
+    // All inputs were read to their ends, or those before the refused one, and that to its fault.
     ensures calls { ReadsAll result inputs.old inputs.new }
 {
     let mut gathered = Gathered::new(alloc, gap);

@@ -1,4 +1,13 @@
 //! Conversions and checks as runs over one input.
+//!
+//! Words of the contracts here:
+//! - `AnswersAs`: a fault of the log or stream is told as that of input 0, `Write` as itself.
+//! - `Runs Told`: of what was got of the input, the run wrote the text and ended with the fault
+//!   that `Told` says, or wrote a prefix at `Write`. Neither device was asked after its end or a
+//!   fault.
+//! - `Converts form`: the text is what the form gives for each reception, up to the fault.
+//! - `Checks`: the text is a line for each line that is passed over, and the totals if there is no
+//!   fault.
 ghost use Rattle.std.specs.Prelude.{◌≤◌};
 ghost use Rattle.aprs_io.specs.Input.{most_input};
 ghost use Rattle.aprs_convert.specs.Check.{Checks};

@@ -1,4 +1,13 @@
 //! A book that inputs are merged into, and the book of one input.
+//!
+//! Words of the contracts here:
+//! - `Holds S book`: the book is that of the receptions S, under its gap.
+//! - Of an input a text is got, at most `limit` bytes, and how it then ended. `OfGot` says
+//!   something of these two, where the input's bytes are known.
+//! - `TakesInput`: rows that were the book of any set are now that of it and the input's
+//!   receptions; or the input isn't taken, for this fault.
+//! - `ReadsInput`: the book is that of the input, or the input is refused for this fault.
+//! - `AsksInput`: the input was read to its end, or to the fault, and no further.
 ghost use Rattle.std.specs.Prelude.{◌≡◌, ◌≤◌, List, IfOk, IfErr, OnOk};
 ghost use Rattle.aprs_io.specs.Device.{device_of};
 ghost use Rattle.aprs_io.specs.Input.{most_input};

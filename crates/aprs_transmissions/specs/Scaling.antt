@@ -4,12 +4,12 @@ use Rattle.aprs_log.specs.Reception.{Received}
 use Rattle.aprs_transmissions.specs.Row.{Row}
 use Rattle.aprs_transmissions.specs.Book.{BookOf}
 
--- The same reception, its moment counted in units of which one of the old has `factor`.
+-- The reception with its moment in a finer unit: a unit of before is `factor` of these.
 abbrev pub scaled_heard : ℕ → Received → Received
 scaled_heard factor s =
     record { moment = s.moment * factor; receiver = s.receiver; frame = s.frame }
 
--- The same row, its moments counted in a finer unit, of which one of the old has `factor`.
+-- The row with its moments in a finer unit: a unit of before is `factor` of these.
 abbrev pub scaled_row : ℕ → Row → Row
 scaled_row factor x = record {
   first = x.first * factor;
@@ -17,7 +17,7 @@ scaled_row factor x = record {
   greatest = scaled_heard factor x.greatest;
 }
 
--- The same rows, all their moments counted in units of which one of the old has `factor`.
+-- The rows with all their moments in a finer unit: a unit of before is `factor` of these.
 abbrev pub scaled_rows : ℕ → List Row → List Row
 scaled_rows factor rows = map (scaled_row factor) rows
 

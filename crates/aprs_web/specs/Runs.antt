@@ -60,23 +60,28 @@ GathersTo TellsOf gap inputs outcome text = (gots : List (GotOf most_input))
     × (inputs ≡ map (λ g. g.text ++ g.rest) gots)
     × Gives (GiveUnion gap gots) TellsOf (IsFirstRefused gap gots) outcome text
 
--- A merge of these inputs under this gap ends so, and writes this text.
+-- A merge of these inputs under this gap ends so, and writes this text: their book at `Ok`, a
+-- prefix of it at `Write`, and else nothing.
 abbrev pub Merges : ℕ → List (List ℕ) → Outcome → List ℕ → Type 0
 Merges gap = GathersTo (IsTextOfBook gap) gap
 
--- The listing of these inputs under this gap ends so, and this is its text.
+-- The run for the listing of these inputs under this gap ends so, and writes this text: the listing
+-- at `Ok`, a prefix of it at `Write`, and else nothing.
 abbrev pub Shows : ℕ → List (List ℕ) → Outcome → List ℕ → Type 0
 Shows gap = GathersTo (IsListingOf gap) gap
 
--- The history of these inputs under this gap ends so, and this is its text.
+-- The run for the history of these inputs under this gap ends so, and writes this text: the history
+-- at `Ok`, a prefix of it at `Write`, and else nothing.
 abbrev pub TellsHistory : ℕ → List (List ℕ) → Outcome → List ℕ → Type 0
 TellsHistory gap = GathersTo (IsHistoryOf gap) gap
 
--- This table of these inputs under this gap ends so, and this is its text.
+-- The run for this table of these inputs under this gap ends so, and writes this text: the table at
+-- `Ok`, a prefix of it at `Write`, and else nothing.
 abbrev pub TellsTable : Table → ℕ → List (List ℕ) → Outcome → List ℕ → Type 0
 TellsTable t gap = GathersTo (IsTableOf t gap) gap
 
--- The widening of this input to this gap ends so, and writes this text.
+-- The widening of this input to this gap ends so, and writes this text: the input's book under this
+-- gap at `Ok`, a prefix of it at `Write`, and else nothing.
 abbrev pub Widens : ℕ → List ℕ → Outcome → List ℕ → Type 0
 Widens gap input outcome text = (after : Option (List ℕ)) × OfGot most_input (Some input) after
     (λ got ending. Gives (GivesSetWithin gap got ending) (IsTextOfBook gap)

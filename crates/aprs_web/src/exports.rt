@@ -2,6 +2,15 @@
 //! into `output`, and the name of an input's fault into `name`, each if it fits. An input of more
 //! than 1,073,741,824 bytes is at fault. Where memory for the output is refused (status 3), a
 //! prefix of the text is put there.
+//!
+//! Words of the contracts here:
+//! - `TellsRun Does`: a run ended and wrote a text as `Does` says, and the answer, `output` and
+//!   `name` tell just that. `TellsNoRun`: the answer is status 2, and both are as before.
+//! - `WritesOver Told`: the run over this input ended so, and wrote the text that `Told` says of
+//!   it.
+//! - `Merges`, `Shows`, `TellsHistory`, `TellsTable`, `Widens`: the run over the inputs ended so,
+//!   and wrote its text, a prefix of it where memory for it was refused, or nothing.
+//! - `AskForSeveral`: the seconds are a gap, and the lengths add up to that of `inputs`.
 ghost use Rattle.std.specs.Prelude.{◌≡◌, ℕ, None, Some, IfNone, IfSome};
 ghost use Rattle.aprs_arguments.specs.Arguments.{named_table};
 ghost use Rattle.aprs_arguments.specs.declared.jobs.Table.{Table};

@@ -1,4 +1,13 @@
 //! The runs, with what they write in memory.
+//!
+//! Words of the contracts here:
+//! - `WritesOver Told`: the run over this input ended so, and wrote the text that `Told` says of
+//!   it.
+//! - `Merges`, `Shows`, `TellsHistory`, `TellsTable`, `Widens`: the run ended so. At `Ok` the text
+//!   is the book, listing, history or table of the inputs' set, and at `Write` a prefix of it. At
+//!   `Input` that input is refused, and there is no text. At `Memory` there is none either.
+//! - `input_texts lengths inputs`: the inputs, which lie one after the other and have these
+//!   lengths.
 ghost use Rattle.std.specs.Prelude.{◌≡◌, []};
 ghost use Rattle.aprs_convert.specs.Check.{Checks};
 ghost use Rattle.aprs_convert.specs.Conversion.{Converts};

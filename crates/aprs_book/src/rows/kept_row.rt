@@ -127,7 +127,7 @@ impl<A: Allocator + Copy> KeptRow<A> {
     }
 
     /// Whether a row of these parts has the key of this row, and begins at most the gap after this
-    /// row ends.
+    /// row ends, or earlier.
     pub(crate) fn is_too_near_to(&self, gap: Millis, parts: &RowParts<A>) -> bool
         ensures { result ≡ is_too_near gap self.now parts.now }
     {

@@ -24,7 +24,8 @@ pub(crate) enum Slot {
 }
 
 /// The slot of a reception among the rows whose keys have the prefix of its key, by binary search.
-/// The rows have to be sound; so at most two of them are near to it.
+/// The rows have to be sound; so at most two of them are near to it. By `IsSlot` this is the place
+/// at which the reception makes a row of its own, grows one, or makes two rows one.
 pub(crate) fn find_slot<A: Allocator + Copy>(
     gap: Millis,
     rows: &VecDeque<KeptRow<A>, A>,

@@ -13,7 +13,9 @@ use std::alloc::Allocator;
 use std::marker::Model;
 use std::mem::take;
 
-/// Names, and the room that is left for texts of names. All memory was taken before.
+/// Names, and the room that is left for texts of names. All memory was taken before. Contracts see
+/// the names that were gathered and aren't united yet, and the bytes that are left beside them:
+/// those of the room, less the bytes of each name and one for a comma after it.
 #[derive(Drop)]
 pub(crate) struct NameRoom<'a, A: Allocator> {
     names: Vec<&'a [u8], A>,
@@ -37,7 +39,8 @@ impl<'a, A: Allocator> Model for NameRoom<'a, A> {
 }
 
 impl<'a, A: Allocator + Copy> NameRoom<'a, A> {
-    /// No names, and all of the room. Takes memory for as many as can be in it.
+    /// No names, and all of the room. Takes memory for as many names as can be in it: each takes
+    /// two bytes at least, with its comma. Without room this doesn't fail.
     pub(crate) fn new(alloc: A, room: &'a mut [u8]) -> Result<NameRoom<'a, A>, Memory>
         ensures room { IfOk result (λ r. r ≡ record { names = []; left = length room.old }) }
         ensures some { OnErr result (0 < length room.old) }
@@ -49,7 +52,8 @@ impl<'a, A: Allocator + Copy> NameRoom<'a, A> {
         Ok(NameRoom { names, text, room })
     }
 
-    /// How many bytes the whole room has, with those that names took: at least what is left.
+    /// How many bytes the room has, with those of the names that aren't united yet. So it is at
+    /// least what is left, and more where names were gathered.
     pub(crate) fn left(&self) -> usize
         ensures { self.now.left ≤ result }
     {

@@ -7,8 +7,8 @@ use crate::row::row_view::RowView;
 use aprs_log::Moment;
 use aprs_transmissions::Gap;
 
-/// Whether what begins at `first` is near to what ended at `last`: it begins at most the gap after
-/// that, or before it.
+/// Whether what begins at `first` doesn't begin too late to be near to what ends at `last`: at most
+/// the gap after it, or before it. It looks one way only: what lies long before it passes too.
 pub(crate) fn is_near(gap: Gap, last: Moment, first: Moment) -> bool
     ensures { result ≡ nat_le first (last + millis_of gap) }
 {
@@ -16,7 +16,8 @@ pub(crate) fn is_near(gap: Gap, last: Moment, first: Moment) -> bool
 }
 
 /// Whether `row` is near to a row of this first moment and the greatest reception of `latest`: it
-/// has the key of that, and neither begins more than the gap after the other ends.
+/// has the key of that, and neither begins more than the gap after the other ends. By `IsByTest`
+/// this is nearness whatever receivers the row of `latest` has.
 pub(crate) fn are_near(gap: Gap, first: Moment, latest: &RowView<'_>, row: &RowView<'_>) -> bool
     ensures { IsByTest result (millis_of gap) first latest.now row.now }
 {

@@ -1,4 +1,16 @@
 //! Rows of several lists in order, taken out in the order of all.
+//!
+//! Words of the contracts here:
+//! - A front is the next row of one list, and the rows after it. `fronts` are the one that stands
+//!   beside the heap, and those in it.
+//! - `IsRun`: rows in order, each sound by itself, with names of receivers and a UI frame
+//!   (`IsTold`).
+//! - `IsTakenOut`: this row was taken out and the others remain, none of which it comes after.
+//! - `IsByTest`: whether a row is near to that of this first moment and the greatest reception of
+//!   `latest`. `NoneIsNear`: the first row in order isn't, or there is none.
+//! - `TakesFirst`: the row is the first of the front beside the heap, and those after it stay.
+//! - `SettlesFirst`: the others are a heap still, and the front beside them comes first of all.
+//! - `IsAfterTop`: the heap's first front doesn't come after this one.
 ghost use Rattle.std.specs.Prelude.{◌≡◌, ◌≢◌, ◌++◌, ◌+◌, true, false, [], None, All, IfSome, IfNone, OnSome, OnOk, OnErr};
 ghost use Rattle.std.specs.BinaryHeap.{heap_items, IsHeap, IsUpperBound};
 ghost use Rattle.std.specs.List.Sorted.{IsPermutation};
@@ -71,7 +83,8 @@ impl<'a, A: Allocator + Copy> Merger<'a, A> {
         Ok(())
     }
 
-    /// Each row that is still to come has names of receivers and a UI frame. Does nothing.
+    /// Each row that is still to come has names of receivers and a UI frame. Does nothing: who
+    /// calls it may then rely on that.
     pub(crate) fn told(&self)
         ensures { All IsTold self.now }
     {

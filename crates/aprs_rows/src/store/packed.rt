@@ -91,7 +91,7 @@ impl<A: Allocator + Copy> PackedRows<A> {
     }
 
     /// Each row is sound by itself, and its receivers' names with commas between have fewer than
-    /// 4,294,967,296 bytes. Does nothing.
+    /// 4,294,967,296 bytes. Does nothing: who calls it may then rely on that.
     pub fn sound(&self)
         ensures sound { AreSoundRows self.now }
         ensures short { AreShort self.now }

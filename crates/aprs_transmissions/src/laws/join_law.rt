@@ -1,4 +1,14 @@
 //! Laws of joining, and what follows for many values joined one after another.
+//!
+//! Words of the contracts here:
+//! - `JoinLaws valid alike joined`: two valid values that are alike have exactly one joined value.
+//!   It is the same in whatever order and grouping, and a value joined with itself is itself.
+//! - `FoldsFreely`: valid values joined one after another give the same in any order, with any
+//!   repeats.
+//! - `IsAny`: each value is valid. `AreAny`: any two values are alike.
+//! - `IsUnited`: the list ascends, and has the members of both lists and no others.
+//! - Witnesses of rows are receptions that would give just these rows. `Joined gap a b c`: c is the
+//!   book of the witnesses of a and b.
 ghost use Rattle.std.specs.Prelude.{ℕ, ◌<◌};
 ghost use Rattle.aprs_log.specs.Reception.{bytes_cmp};
 ghost use Rattle.aprs_transmissions.specs.Lists.{Ordered};
