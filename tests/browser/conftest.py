@@ -38,17 +38,18 @@ def pytest_generate_tests(metafunc: pytest.Metafunc) -> None:
         metafunc.parametrize("page", names, indirect=True, scope="module")
 
 
-@pytest.hookimpl(hookwrapper=True)
+@pytest.hookimpl(hookwrapper=True)  # type: ignore[misc]
 def pytest_runtest_call(item: pytest.Item) -> Generator[None, Any, None]:
     """Begins a browser anew that was lost in a test, for that test and those after it."""
     outcome = yield
     page = getattr(item, "funcargs", {}).get("page")
-    item.stash[IS_LOST] = bool(outcome.excinfo and isinstance(page, Browser) and page.is_lost())
-    if item.stash[IS_LOST]:
+    item.stash[IS_LOST] = False
+    if outcome.excinfo and isinstance(page, Browser) and page.is_lost():
+        item.stash[IS_LOST] = True
         page.begin_anew()
 
 
-@pytest.hookimpl(tryfirst=True)
+@pytest.hookimpl(tryfirst=True)  # type: ignore[misc]
 def pytest_runtest_protocol(item: pytest.Item, nextitem: Optional[pytest.Item]) -> bool:
     """Runs a test again, once, whose browser was lost, and says so."""
     of: Dict[str, Any] = {"nodeid": item.nodeid, "location": item.location}
