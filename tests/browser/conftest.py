@@ -1,13 +1,15 @@
-"""A browser for each file of tests of the page, and a folder for each test. With RAN, a folder, in
-the environment it is written there what each test in Chromium runs of the page's script."""
+"""A browser for each file of tests of the page, and a folder for each test. A test whose browser is
+lost meanwhile is run again, once. With RAN, a folder, in the environment it is written there what
+each test in Chromium runs of the page's script."""
 import os
 import pathlib
 import sys
 import tempfile
 import time
-from typing import Dict, Iterator, Type
+from typing import Any, Dict, Generator, Iterator, Optional, Type
 
 import pytest
+from _pytest.runner import runtestprotocol
 
 sys.dont_write_bytecode = True
 sys.path.append(str(pathlib.Path(__file__).resolve().parent))
@@ -20,6 +22,8 @@ RAN = os.environ.get("RAN")
 KINDS: Dict[str, Type[Browser]] = {"Chromium": Chromium, "Firefox": Firefox}
 if RAN:
     KINDS["Chromium"] = Counting
+# of a test, whether its browser was lost
+IS_LOST = pytest.StashKey[bool]()
 
 
 def pytest_configure(config: pytest.Config) -> None:
@@ -32,6 +36,32 @@ def pytest_generate_tests(metafunc: pytest.Metafunc) -> None:
         marks = list(metafunc.definition.iter_markers("browsers"))
         names = marks[0].args if marks else tuple(KINDS)
         metafunc.parametrize("page", names, indirect=True, scope="module")
+
+
+@pytest.hookimpl(hookwrapper=True)  # type: ignore[misc]
+def pytest_runtest_call(item: pytest.Item) -> Generator[None, Any, None]:
+    """Begins a browser anew that was lost in a test, for that test and those after it."""
+    outcome = yield
+    page = getattr(item, "funcargs", {}).get("page")
+    item.stash[IS_LOST] = False
+    if outcome.excinfo and isinstance(page, Browser) and page.is_lost():
+        item.stash[IS_LOST] = True
+        page.begin_anew()
+
+
+@pytest.hookimpl(tryfirst=True)  # type: ignore[misc]
+def pytest_runtest_protocol(item: pytest.Item, nextitem: Optional[pytest.Item]) -> bool:
+    """Runs a test again, once, whose browser was lost, and says so."""
+    of: Dict[str, Any] = {"nodeid": item.nodeid, "location": item.location}
+    item.ihook.pytest_runtest_logstart(**of)
+    reports = runtestprotocol(item, log=False, nextitem=nextitem)
+    if item.stash.get(IS_LOST, False):
+        item.warn(pytest.PytestWarning(f"run again, since the browser was lost: {item.nodeid}"))
+        reports = runtestprotocol(item, log=False, nextitem=nextitem)
+    for it in reports:
+        item.ihook.pytest_runtest_logreport(report=it)
+    item.ihook.pytest_runtest_logfinish(**of)
+    return True
 
 
 @pytest.fixture(autouse=True)

@@ -2,15 +2,15 @@
 import json
 import pathlib
 import re
-from typing import Any, Dict
+from typing import Dict
 
 from browser import Chromium
 
 
 class Counting(Chromium):
     """What workers run isn't counted: each has an engine of its own."""
-    def __init__(self, *given: Any) -> None:
-        super().__init__(*given)
+    def begin(self) -> None:
+        super().begin()
         self.call("Profiler.enable")
         self.call("Profiler.startPreciseCoverage", callCount=True, detailed=True)
         # of each script, by its length, a byte for each letter: 1 where it ran

@@ -10,8 +10,10 @@ import tempfile
 import time
 from typing import Any, List, Tuple
 
-from browser import Browser, KEYS, Place
+from browser import ANSWER, Browser, KEYS, Place, SCRIPT, patience
 
+# seconds in which it begins to listen, and in which it ends
+BEGIN, LONGEST_END = 60, 10
 SETTINGS = """user_pref("marionette.port", {port});
 user_pref("datareporting.policy.dataSubmissionEnabled", false);
 user_pref("browser.shell.checkDefaultBrowser", false);
@@ -23,7 +25,7 @@ user_pref("browser.download.dir", "{folder}");
 class Firefox(Browser):
     name = "Firefox"
 
-    def __init__(self, width: int = 1280, height: int = 900) -> None:
+    def begin(self) -> None:
         self.folder = tempfile.mkdtemp()
         with socket.create_server(("127.0.0.1", 0)) as free:
             port = free.getsockname()[1]
@@ -32,12 +34,13 @@ class Firefox(Browser):
         program = "firefox-esr" if shutil.which("firefox-esr") else "firefox"
         self.process = subprocess.Popen(
             [program, "--headless", "--marionette", "--profile", self.folder, "--no-remote",
-             f"--window-size={width},{height}"],
+             "--window-size=1280,900"],
             stdout=subprocess.DEVNULL, stderr=subprocess.DEVNULL)
-        self.rest, self.last = b"", 0
+        self.rest, self.last, self.socket = b"", 0, socket.socket()
         self.socket = connected(port)
         self.receive()
         self.call("WebDriver:NewSession", capabilities={})
+        self.limit(SCRIPT * patience())
 
     @staticmethod
     def is_there() -> bool:
@@ -45,11 +48,12 @@ class Firefox(Browser):
 
     def close(self) -> None:
         try:
+            self.socket.settimeout(LONGEST_END)
             self.call("Marionette:Quit", flags=["eForceQuit"])
         except (OSError, RuntimeError):
             pass
         try:
-            self.process.wait(10)
+            self.process.wait(LONGEST_END)
         except subprocess.TimeoutExpired:
             self.process.kill()
             self.process.wait()
@@ -83,6 +87,9 @@ class Firefox(Browser):
     def run(self, script: str) -> Any:
         return self.call("WebDriver:ExecuteAsyncScript", script=script, args=[],
                          newSandbox=False, sandbox=None)["value"]
+
+    def limit(self, seconds: float) -> None:
+        self.call("WebDriver:SetTimeouts", script=round(1000 * seconds))
 
     def open(self, url: str, width: int = 1280, height: int = 860, scheme: str = "light") -> None:
         self.call("WebDriver:Navigate", url="about:blank")
@@ -119,9 +126,10 @@ class Firefox(Browser):
 def connected(port: int) -> socket.socket:
     """A connection to a browser that begins to listen there."""
     address: Tuple[str, int] = ("127.0.0.1", port)
-    for _ in range(300):
+    end = time.monotonic() + BEGIN * patience()
+    while time.monotonic() < end:
         try:
-            return socket.create_connection(address, 120)
+            return socket.create_connection(address, ANSWER * patience())
         except OSError:
             time.sleep(0.2)
     raise RuntimeError("the browser doesn't begin")

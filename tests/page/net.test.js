@@ -185,6 +185,18 @@ test("of rows that were heard last at one moment the one that began later decide
   // what began at one moment too counts as it stands in the table
   assert.deepEqual(turned, { Q1A, Q1B: ["one", "RX1", 2, 6], Q1C });
 });
+test("a receiver heard something last at its own moment, as far as a book tells it", () => {
+  const lines = [row("status", 0, "Q1A", { receivers: "A,B,C", last: moment(5) }),
+    row("status", 2, "Q1B", { receivers: "A" }),
+    // by both, and last by the one that isn't the last of their names
+    row("status", 9, "Q1B", { receivers: "D,E", receiver: "D", last: moment(30) })];
+  const own = of => of.map(it => [it.name, it.last - Date.parse(moment(0)) / 1000]).sort();
+  const all = [["A", 2], ["B", 0], ["C", 5], ["D", 30], ["E", 9]];
+  assert.deepEqual(own(netOfLines(lines).receivers), all);
+  // also of those that heard nothing in the part of the time that is shown
+  const late = netOfLines(lines, [], { since: Date.parse(moment(6)) / 1000 });
+  assert.deepEqual([own(late.receivers), own(late.whole.ears)], [all.slice(3), all]);
+});
 test("a net is the same in whatever order its table stands, also since a moment", () => {
   const lines = [];
   for (let k = 0; k < 7; k++)

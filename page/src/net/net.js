@@ -2,7 +2,7 @@
 // The net that the tables tell of: what is shown of a part of the time, and what stays in sight.
 
 import { clocksOf, isOff, pairsOf } from "./clock-offsets.js";
-import { heardOf, receiversOf } from "./receivers.js";
+import { heardOf, lastsOf, receiversOf } from "./receivers.js";
 import { kindIn, nameIn } from "./rows.js";
 import { thingsOf } from "./things.js";
 import { each, eachSince } from "../util/tasks.js";
@@ -55,29 +55,21 @@ export function* allOf(rows, messages, gap) {
 }
 
 /**
- * When each station was last heard, when each receiver heard something last, and which stations
- * were ever in need.
+ * When each station was last heard, and which ones were ever in need.
  * @param {Rows} rows
- * @returns {Generator<unknown, Pick<Whole, "stations" | "ears"> & { urgent: Set<number> }>}
+ * @returns {Generator<unknown, { stations: Heard[], urgent: Set<number> }>}
  */
 function* lastOf(rows) {
   const last = new Float64Array(rows.things.length).fill(-Infinity), urgent = new Set();
-  const heard = new Float64Array(rows.lists.length).fill(-Infinity), ears = new Map();
   yield* eachSince(rows, -Infinity, k => {
-    const n = rows.station[k], list = rows.heard[k], at = rows.heardAt(k), gate = rows.gate[k] - 1;
+    const n = rows.station[k], at = rows.heardAt(k), gate = rows.gate[k] - 1;
     if (at > last[n]) last[n] = at;
     if (gate >= 0 && at > last[gate]) last[gate] = at;
-    if (rows.first[k] > heard[list]) heard[list] = rows.first[k];
     if (rows.urgent[k]) urgent.add(n);
-  });
-  rows.lists.forEach((names, n) => {
-    for (const name of heard[n] > -Infinity ? names : [])
-      ears.set(name, Math.max(ears.get(name) ?? -Infinity, heard[n]));
   });
   const stations = rows.things.map((key, n) =>
     ({ key, kind: kindIn(key), name: nameIn(key), heardAt: last[n] }));
-  return { stations: stations.filter(it => it.heardAt > -Infinity), urgent,
-    ears: [...ears].map(([name, last]) => ({ name, last })) };
+  return { stations: stations.filter(it => it.heardAt > -Infinity), urgent };
 }
 /**
  * What wants doing of all the time, of which a part is shown. Of most stations it is enough when
@@ -85,11 +77,13 @@ function* lastOf(rows) {
  * @param {All} all @returns {Generator<unknown, Whole>}
  */
 function* wholeOf({ rows, messages }) {
-  const { stations, ears, urgent } = yield* lastOf(rows);
+  const { stations, urgent } = yield* lastOf(rows);
+  const lists = yield* heardOf(rows, -Infinity), lasts = yield* lastsOf(rows, -Infinity, lists);
   const picks = urgent.size ? rows.order.filter(k => urgent.has(rows.station[k])) : [];
   const things = yield* thingsOf(rows, picks, run => each(picks, run));
   const needy = things.filter(it => it.lastUrgent >= 0);
-  return { stations, ears, needy, messages: messages.filter(it => it.isTraffic) };
+  return { stations, ears: [...lasts].map(([name, last]) => ({ name, last })), needy,
+    messages: messages.filter(it => it.isTraffic) };
 }
 /**
  * All of the net that was heard since a moment, but who heard whom.
