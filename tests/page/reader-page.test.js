@@ -28,6 +28,7 @@ if (!skip) {
   await import("../../page/src/main-reader.js");
   await until(() => !byId("choose").disabled);
 }
+const { options } = skip ? {} : await import("../../page/src/intake/options.js");
 const { aprsbook, aprsfiles } = globalThis;
 const rows = () => [...document.querySelectorAll("#files tbody tr")];
 const verdicts = () => Object.fromEntries(rows().map(it =>
@@ -147,9 +148,20 @@ test("a gap that is none is said, and files go when they are taken away", { skip
   await until(() => byId("status").textContent.includes("gap"));
   assert.equal(byId("status").textContent,
     "the gap has to be a whole number of seconds, from 1 to 3600");
+  // what is written counts once it is chosen; a number that is none is as if nothing were written
+  assert.deepEqual([options.isGap, options.gap], [false, 30]);
+  byId("gap").value = "60";
+  assert.equal(options.gap, 30);
   enter("gap", "60");
   await until(() => aprsbook.data.gap === 60);
-  assert.equal(aprsbook.data.gap, 60);
+  assert.deepEqual([options.isGap, options.gap, aprsbook.data.gap], [true, 60, 60]);
+  enter("silent", "0");
+  assert.deepEqual([options.silent, aprsbook.data.silent], [30, 30]);
+  for (const [title, shown] of [["", "APRS net"], ["Fell <race>", "Fell <race>"]]) {
+    enter("name", title);
+    await until(() => aprsbook.data.title === shown);
+    assert.deepEqual([options.title, byId("title").textContent], [shown, shown]);
+  }
   for (let k = 0; k < 2; k++) {
     document.querySelector("#files tbody td:last-child button").click();
   }
