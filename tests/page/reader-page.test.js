@@ -182,7 +182,10 @@ test("a log that has grown takes its older one's place, and what is new is marke
     await aprsfiles.add([fileOf("hill.log", first + more)]);
     assert.deepEqual(verdicts(), { "hill.log": "heard 2 passed 0" });
     assert.deepEqual([rows()[0] === row, rows().length, aprsfiles.files.length], [true, 1, 1]);
-    assert.match(byId("looked").textContent, /^1 new since .*: mark as seen$/);
+    const [, clock] = /^1 new since (\S+): mark as seen$/.exec(byId("looked").textContent);
+    // since a moment ago, also where that was before midnight
+    const ago = (Date.now() - Date.parse(`1970-01-01T${clock}Z`)) % 86400000;
+    assert.ok(ago < 60000, `${clock} was ${ago} ms ago`);
     // ages still count to the last transmission: nobody says that the net goes on
     assert.equal(aprsbook.page.follows, false);
     // and it stays new in another drawing, until the reader says that it is seen
@@ -232,6 +235,20 @@ test("logs beside the page are followed as a list names them, those of this serv
     assert.deepEqual([...new Set(asked)], ["http://localhost/logs.txt", "http://localhost/hill2.log"]);
     assert.equal(aprsbook.alive.refused,
       "logs.txt: no log of this server: https://elsewhere.example/x.log");
+    // one that fails, comes and fails again has been away since the last time
+    const { followOne, pace } = await import("../../page/src/intake/follow.js");
+    const { now } = Date, [file] = aprsfiles.files.filter(it => it.name === "hill2.log");
+    const awayAt = async (hour, text) => {
+      texts["/hill2.log"] = text;
+      Date.now = () => Date.UTC(2024, 5, 21, hour);
+      await followOne("hill2.log", "http://localhost/hill2.log");
+      return file.away;
+    };
+    const since = hour => `the server answers 404, since 2024-06-21 ${hour}:00:00 UTC`;
+    assert.deepEqual([await awayAt(19, ""), await awayAt(20, ""), await awayAt(21, log),
+      await awayAt(22, "")], [since(19), since(19), "", since(22)]);
+    Date.now = now;
+    assert.deepEqual(pace, { each: 15, limit: 10000 });
     // with no list nothing is asked for any more
     const { length } = asked;
     enter("follow", "");
